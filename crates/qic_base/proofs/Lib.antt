@@ -1,0 +1,4 @@
+pub mod FieldLaws
+pub mod LostSetLaws
+pub mod Steps
+pub mod Writing

@@ -1,0 +1,16 @@
+-- A source of bytes: what is left of it, what its calls keep, and how often it failed (this project's profile).
+use Rattle.std.specs.Prelude.{◌≡◌, ◌↔◌, ℕ, ◌≤◌, List, [], length, take, Option}
+
+-- All that a source means to the code above it.
+pub record Meaning (S : Type 0) : Type 1 where
+  -- the bytes left; None where the source doesn't tell them
+  pub left : S → Option (List ℕ)
+  -- what each call keeps, of the source before and after
+  pub keeps : S → S → Type 0
+  pub faults : S → ℕ
+
+-- A read that answers n gave the first n of the bytes left, and none exactly at their end.
+pub record Gives (bytes into : List ℕ) (n : ℕ) : Type 0 where
+  pub there : n ≤ length bytes
+  pub front : take n into ≡ take n bytes
+  pub ended : (n ≡ 0) ↔ (bytes ≡ [])

@@ -1,0 +1,75 @@
+-- A tape: the cartridge that it holds, its size as told, and how often it failed; and what a call did to it
+-- (this project's profile).
+use Rattle.std.specs.Prelude.{◌≡◌, ℕ, ◌≤◌, Bool, true, false, List, [], Option, Some, None, is_some, IfSome, IsSomeAnd, Result, Ok, Err}
+use Rattle.std.specs.Option.{option_map}
+use Rattle.qic_base.specs.declared.tape.SectorView.{SectorView}
+use Rattle.qic_base.specs.declared.tape.SectorView.TheVariants.{Blank, Defect, Lost, Holds}
+use Rattle.qic_base.specs.declared.tape.SectorRead.{SectorRead}
+use Rattle.qic_base.specs.declared.tape.SectorRead.TheVariants as read
+use Rattle.qic_base.specs.declared.tape.SectorWrite.{SectorWrite}
+use Rattle.qic_base.specs.declared.tape.SectorWrite.TheVariants as write
+use Rattle.qic_base.specs.Cartridge.{Cartridge, IsCartridge, IsPlace}
+use Rattle.qic_base.specs.Cause.{Rose}
+use Rattle.qic_base.specs.Step.{Step, effects}
+
+-- All that a tape means to the code above it.
+pub record Meaning (S : Type 0) : Type 1 where
+  -- None: the tape doesn't tell its cartridge; Some None: there is no cartridge
+  pub told : S → Option (Option Cartridge)
+  -- the segments per track that the last `info` that succeeded, or the last `renew`, told: none where that was no
+  -- cartridge or a `renew` that failed, and none at first
+  pub size : S → Option ℕ
+  pub faults : S → ℕ
+
+-- From old on, the steps were done, all of them, and nothing else.
+pub record Done {S : Type 0} (m : Meaning S) (old new : S) (steps : List Step) : Type 0 where
+  pub told : m.told new ≡ option_map (effects steps) (m.told old)
+  pub later : m.faults old ≤ m.faults new
+
+-- From old on, a fault of the tape broke the steps off. Of what stands then it is said that the tape tells as before,
+-- and, where there was no step to do, that nothing changed.
+pub record Broke {S : Type 0} (m : Meaning S) (old new : S) (steps : List Step) : Type 0 where
+  pub cause : Rose (m.faults old) (m.faults new)
+  pub later : m.faults old ≤ m.faults new
+  pub tells : is_some (m.told new) ≡ is_some (m.told old)
+  pub nothing : steps ≡ [] → m.told new ≡ m.told old
+
+-- What a call with these steps did, by its answer.
+abbrev pub Does : {S T E : Type 0} (m : Meaning S) (old new : S) (steps : List Step) (result : Result T E) → Type 0
+Does m old new steps (Ok x) = Done m old new steps
+Does m old new steps (Err e) = Broke m old new steps
+
+-- a fact of the cartridge, where the tape tells that it is there
+abbrev pub Tells : {S : Type 0} (m : Meaning S) (s : S) (P : Cartridge → Type 0) → Type 0
+Tells m s P = IfSome (m.told s) (λ held. IfSome held P)
+
+-- the place lies on the cartridge, by the size that the tape told
+abbrev pub IsPlaceOf : {S : Type 0} (m : Meaning S) (s : S) (segment sector : ℕ) → Type 0
+IsPlaceOf m s segment sector = IsSomeAnd (m.size s) (λ n. IsPlace n segment sector)
+
+-- A read of a sector with this view: its bytes exactly where it holds some, and else the bytes that were there.
+abbrev pub Reads : SectorView → (old new : List ℕ) → SectorRead → Type 0
+Reads Blank old new answer = (answer ≡ read.Blank) × (new ≡ old)
+Reads Defect old new answer = (answer ≡ read.Lost) × (new ≡ old)
+Reads Lost old new answer = (answer ≡ read.Lost) × (new ≡ old)
+Reads (Holds bytes) old new answer = (answer ≡ read.Good) × (new ≡ bytes)
+
+-- A write is taken by each sector that was formatted or is a defect.
+abbrev pub write_answer : SectorView → SectorWrite
+write_answer Blank = write.Blank
+write_answer Defect = write.Taken
+write_answer Lost = write.Taken
+write_answer (Holds bytes) = write.Taken
+
+-- Whether a sector with this view is a defect after it was spoiled.
+abbrev pub spoil_answer : SectorView → Bool
+spoil_answer Blank = true
+spoil_answer Defect = true
+spoil_answer Lost = false
+spoil_answer (Holds bytes) = false
+
+-- A told cartridge is whole, and where the size is a number it is there with that number.
+abbrev pub IsToldRight : Option (Option Cartridge) → Option ℕ → Type 0
+IsToldRight None size = Unit {0}
+IsToldRight (Some None) size = size ≡ None
+IsToldRight (Some (Some c)) size = IsCartridge c × IfSome size (λ n. c.info.segments_per_track ≡ n)

@@ -1,0 +1,21 @@
+//! The outside of the tape program, and the words that every layer shares.
+#![tactic(auto)]
+
+mod field;
+mod lost_set;
+mod memory;
+mod name;
+mod sink;
+mod source;
+mod tape;
+
+pub use field::{read_u16, read_u32, read_u64, write_u16, write_u32, write_u64};
+pub use lost_set::LostSet;
+pub use memory::NoMemory;
+pub use name::Name;
+pub use sink::{Sink, SinkFailed};
+pub use source::{Source, SourceFailed};
+pub use tape::{SectorRead, SectorView, SectorWrite, Tape, TapeFailed, TapeInfo};
+
+/// The greatest number of segments per track; the least is 3 (this project's profile).
+pub const LONGEST: u16 = 150;

@@ -1,0 +1,81 @@
+//! The sectors of a segment that cannot be read, as a set of places.
+
+ghost use Rattle.std.specs.Prelude.{◌≡◌, ◌<◌, ◌↔◌, IsTrue, length};
+ghost use Rattle.qic_base.specs.LostSet.{IsLost, lost_places};
+
+use std::marker::Model;
+
+/// A set of places 0 to 31 among a segment's usable sectors. Contracts see its mask, in which
+/// bit `p` stands for place `p`.
+#[derive(Clone, Copy, Debug, PartialEq, Eq)]
+pub struct LostSet {
+    bits: u32,
+}
+
+impl Model for LostSet {
+    ghost use Rattle.std.specs.Prelude.{ℕ};
+
+    ghost Value = { ℕ };
+
+    ghost view = { λ set. set.bits };
+
+    ghost inverse = { λ mask. record { bits = mask } };
+}
+
+impl LostSet {
+    /// The places whose bits are 1.
+    pub fn from_mask(mask: u32) -> LostSet
+        ensures { result ≡ mask }
+    {
+        LostSet { bits: mask }
+    }
+
+    /// The mask: bit `p` is 1 where place `p` is in the set.
+    pub fn mask(&self) -> u32
+        ensures { result ≡ self.now }
+    {
+        self.bits
+    }
+
+    /// Whether the place is in the set; no place from 32 on is.
+    pub fn contains(&self, place: u8) -> bool
+        ensures lost { IsTrue result ↔ IsLost self.now place }
+        ensures within { IsTrue result → place < 32 }
+    {
+        let bits = self.bits;
+        place < 32 && bits >> place & 1 == 1
+    }
+
+    /// How many places are in the set, 0 to 32.
+    pub fn count(&self) -> u8
+        ensures { result ≡ length (lost_places self.now 32) }
+    {
+        self.bits.count_ones() as u8
+    }
+}
+
+#[cfg(test)]
+mod tests {
+    use super::*;
+
+    #[test]
+    fn a_mask_names_its_places(rt: HostRuntime) {
+        let lost = LostSet::from_mask(0x8000_0021);
+        assert_eq!(rt; lost.mask(), 0x8000_0021);
+        assert_eq!(rt; lost.count(), 3);
+        for (place, want) in [
+            (0, true),
+            (1, false),
+            (5, true),
+            (30, false),
+            (31, true),
+            (32, false),
+            (37, false),
+            (255, false),
+        ] {
+            assert_eq!(rt; lost.contains(place), want, "at {place}");
+        }
+        assert_eq!(rt; LostSet::from_mask(0).count(), 0);
+        assert_eq!(rt; LostSet::from_mask(u32::MAX).count(), 32);
+    }
+}

@@ -1,0 +1,130 @@
+ghost use Rattle.std.specs.Prelude.{◌≡◌, ◌↔◌, ◌≢◌, ℕ, ◌<◌, [], ◌∷◌, None, Some, IfOk, IfErr, IfSome, IsSome, OnErr, OnOk, MatchResult};
+ghost use Rattle.std.specs.Option.{option_map};
+ghost use Rattle.qic_base.specs.Cartridge.{IsLength, view_at};
+ghost use Rattle.qic_base.specs.Step.{WriteSector, FormatSegment, SetReferenced, SetProtected, Renew, Wear, Spoil};
+ghost use Rattle.qic_base.specs.Tape.{Meaning, Does, Tells, IsPlaceOf, IsToldRight, Reads, write_answer, spoil_answer};
+
+/// A call of a tape failed.
+#[derive(Clone, Copy, Debug, PartialEq, Eq)]
+pub struct TapeFailed;
+
+/// What a drive can tell of a cartridge by looking at it: its segments per track, in an answer of `info` 3 to
+/// `LONGEST`, and its marks.
+#[derive(Clone, Copy, Debug, PartialEq, Eq)]
+pub struct TapeInfo {
+    pub segments_per_track: u16,
+    pub protected: bool,
+    pub referenced: bool,
+}
+
+/// What a sector is: never formatted; never readable, whatever is written; formatted, and not readable now; or
+/// readable, with its 1,024 bytes.
+#[derive(Clone, Copy, Debug, PartialEq, Eq)]
+pub enum SectorView {
+    Blank,
+    Defect,
+    Lost,
+    Holds([u8; 1024]),
+}
+
+/// What a read of a sector found.
+#[derive(Clone, Copy, Debug, PartialEq, Eq)]
+pub enum SectorRead {
+    Good,
+    Lost,
+    Blank,
+}
+
+/// What became of a write: a sector that was never formatted takes none.
+#[derive(Clone, Copy, Debug, PartialEq, Eq)]
+pub enum SectorWrite {
+    Taken,
+    Blank,
+}
+
+/// A drive's cartridge, or an empty drive, as the drive's heads and switches reach it.
+/// Segments are counted from 0 over all 28 tracks, sectors of a segment from 0 to 31.
+pub trait Tape {
+    ghost means: { Meaning Self };
+
+    /// What the cartridge is. None exactly where there is none.
+    fn info(&mut self) -> Result<Option<TapeInfo>, TapeFailed>
+        ensures did { Does means self.old self.new [] result }
+        ensures info { IfOk result (λ info.
+            IfSome (means.told self.old) (λ held. info ≡ option_map (λ c. c.info) held)) }
+        ensures size { IfOk result (λ info.
+            means.size self.new ≡ option_map (λ i. i.segments_per_track) info) }
+        ensures failed { OnErr result (means.size self.new ≡ means.size self.old) };
+
+    /// Reads a sector. `into` is unchanged unless the answer is `Good`.
+    fn read_sector(
+        &mut self,
+        segment: u32,
+        sector: u8,
+        into: &mut [u8; 1024],
+    ) -> Result<SectorRead, TapeFailed>
+        requires { IsPlaceOf means self.old segment sector }
+        ensures did { Does means self.old self.new [] result }
+        ensures view { IfOk result (λ answer. Tells means self.old (λ c.
+            Reads (view_at c segment sector) into.old into.new answer)) }
+        ensures unchanged { result ≢ Ok SectorRead.Good → into.new ≡ into.old }
+        ensures size { means.size self.new ≡ means.size self.old };
+
+    /// Writes a sector.
+    fn write_sector(
+        &mut self,
+        segment: u32,
+        sector: u8,
+        from: &[u8; 1024],
+    ) -> Result<SectorWrite, TapeFailed>
+        requires { IsPlaceOf means self.old segment sector }
+        ensures did { Does means self.old self.new (WriteSector segment sector from.now ∷ []) result }
+        ensures answer { IfOk result (λ answer. Tells means self.old (λ c.
+            answer ≡ write_answer (view_at c segment sector))) }
+        ensures size { means.size self.new ≡ means.size self.old };
+
+    /// Formats a segment: each of its sectors that is no defect holds 1,024 zero bytes.
+    fn format_segment(&mut self, segment: u32) -> Result<(), TapeFailed>
+        requires { IsPlaceOf means self.old segment 0 }
+        ensures did { Does means self.old self.new (FormatSegment segment ∷ []) result }
+        ensures size { means.size self.new ≡ means.size self.old };
+
+    /// Sets the referenced mark.
+    fn set_referenced(&mut self) -> Result<(), TapeFailed>
+        requires { IsSome (means.size self.old) }
+        ensures did { Does means self.old self.new (SetReferenced ∷ []) result }
+        ensures size { means.size self.new ≡ means.size self.old };
+
+    /// Sets or clears the write protect mark.
+    fn set_protected(&mut self, on: bool) -> Result<(), TapeFailed>
+        requires { IsSome (means.size self.old) }
+        ensures did { Does means self.old self.new (SetProtected on ∷ []) result }
+        ensures size { means.size self.new ≡ means.size self.old };
+
+    /// Puts in a new cartridge, never formatted, with neither mark.
+    fn renew(&mut self, segments_per_track: u16) -> Result<(), TapeFailed>
+        requires { IsLength segments_per_track }
+        ensures did { Does means self.old self.new (Renew segments_per_track ∷ []) result }
+        ensures size { OnOk result (means.size self.new ≡ Some segments_per_track) }
+        ensures failed { OnErr result (means.size self.new ≡ None) };
+
+    /// Makes a readable sector unreadable until it is written again.
+    fn wear(&mut self, segment: u32, sector: u8) -> Result<(), TapeFailed>
+        requires { IsPlaceOf means self.old segment sector }
+        ensures did { Does means self.old self.new (Wear segment sector ∷ []) result }
+        ensures size { means.size self.new ≡ means.size self.old };
+
+    /// Makes a defect of a sector that was never formatted. Answers whether it is a defect now.
+    fn spoil(&mut self, segment: u32, sector: u8) -> Result<bool, TapeFailed>
+        requires { IsPlaceOf means self.old segment sector }
+        ensures did { Does means self.old self.new (Spoil segment sector ∷ []) result }
+        ensures answer { IfOk result (λ answer. Tells means self.old (λ c.
+            answer ≡ spoil_answer (view_at c segment sector))) }
+        ensures size { means.size self.new ≡ means.size self.old };
+
+    /// The size is a number of segments per track.
+    ghost size_fits: { (s : Self) → IfSome (means.size s) IsLength };
+
+    /// A told cartridge is whole, and of the size.
+    ghost told_right: { (s : Self) → IsToldRight (means.told s) (means.size s) };
+}
