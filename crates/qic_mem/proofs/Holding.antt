@@ -1,0 +1,121 @@
+-- What a change of the kept views does to the cartridge that stands in them.
+use Rattle.std.proofs.Common.{◌≡◌, ℕ, ◌+◌, ◌*◌, ◌-◌, ◌<◌, ◌≤◌, List, ◌++◌, length, take, drop, map, Bool, true, false, Option, Some, None, refl, sym, ap, ◌∙◌, arith, IfSome, IsSomeAnd}
+use Rattle.std.specs.Prelude.{slice_set}
+use Rattle.std.specs.Option.{option_map, ForSome}
+use Rattle.std.proofs.Math.Seq.{take-set-lt, take-append-add}
+use Rattle.std.proofs.lemmas.List.{get_or-take, take-take, drop-take, length-take, length-drop, length-append, length-map}
+use Rattle.std.proofs.lemmas.Option.{unwrap_or-slice_get}
+use Rattle.qic_base.specs.declared.tape.SectorView.{SectorView}
+use Rattle.qic_base.specs.declared.tape.SectorView.TheVariants.{Blank}
+use Rattle.qic_base.specs.declared.tape.TapeInfo.{TapeInfo}
+use Rattle.qic_base.specs.Cartridge.{Cartridge, IsPlace, place_of, view_at}
+use Rattle.qic_base.specs.Step.{WriteSector, FormatSegment, Wear, Spoil, effect, written_view, formatted_view, worn_view, spoiled_view}
+use Rattle.qic_mem.specs.Held.{held, size_told, Fits}
+use Rattle.qic_mem.specs.Plan.{Plan, plan_after}
+use Rattle.qic_mem.specs.Tape.{TapeState}
+use Rattle.qic_mem.specs.Views.{view_in, changed_at, formatted_from}
+
+-- the place is told to lie on the cartridge
+abbrev pub IsOn : Bool → Option TapeInfo → ℕ → ℕ → Type 0
+IsOn told info segment sector = IsSomeAnd (size_told told info) (λ n. IsPlace n segment sector)
+
+-- the first n views have the same view at a place below n
+view_in-take : (views : List SectorView) (n place : ℕ) → place < n → view_in (take n views) place ≡ view_in views place
+view_in-take views n place below =
+    unwrap_or-slice_get (take n views) place Blank ∙ get_or-take n views place Blank below ∙ sym (unwrap_or-slice_get views place Blank)
+
+changed_at-take : (views : List SectorView) (n place : ℕ) (change : SectorView → SectorView) → place < n → take n (changed_at views place change) ≡ changed_at (take n views) place change
+changed_at-take views n place change below =
+    take-set-lt n views place (change (view_in views place)) below
+    ∙ ap (λ view. slice_set (take n views) place (change view)) (sym (view_in-take views n place below))
+
+-- a place on the cartridge is below its number of sectors
+place_below : (n segment sector : ℕ) → IsPlace n segment sector → place_of segment sector < 896 * n
+place_below n segment sector on = let a = on.on_tape in let b = on.in_segment in omega arith
+
+-- what is true of the kept view is true of the cartridge's
+pub view-held : (P : SectorView → Type 0) (told : Bool) (info : Option TapeInfo) (views : List SectorView) (segment sector place : ℕ) → IsOn told info segment sector → place ≡ place_of segment sector → P (view_in views place) → IfSome (held info views) (λ c. P (view_at c segment sector))
+view-held P false info views segment sector place on at p = absurd on
+view-held P true None views segment sector place on at p = absurd on
+view-held P true (Some i) views segment sector place on at p =
+    rw (view_in-take views (896 * i.segments_per_track) (place_of segment sector) (place_below i.segments_per_track segment sector on)) (rw at at p)
+
+change-held : (told : Bool) (info : Option TapeInfo) (views : List SectorView) (segment sector : ℕ) (change : SectorView → SectorView) → IsOn told info segment sector → held info (changed_at views (place_of segment sector) change) ≡ option_map (λ (c : Cartridge). record c { views = changed_at c.views (place_of segment sector) change }) (held info views)
+change-held false info views segment sector change on = absurd on
+change-held true None views segment sector change on = absurd on
+change-held true (Some i) views segment sector change on =
+    ap (λ vs. Some (record { info = i; views = vs })) (changed_at-take views (896 * i.segments_per_track) (place_of segment sector) change (place_below i.segments_per_track segment sector on))
+
+option_map-write : (segment sector : ℕ) (bytes : List ℕ) (h : Option Cartridge) → option_map (λ (c : Cartridge). record c { views = changed_at c.views (place_of segment sector) (written_view bytes) }) h ≡ effect (WriteSector segment sector bytes) h
+option_map-write segment sector bytes None = refl
+option_map-write segment sector bytes (Some c) = refl
+
+option_map-wear : (segment sector : ℕ) (h : Option Cartridge) → option_map (λ (c : Cartridge). record c { views = changed_at c.views (place_of segment sector) worn_view }) h ≡ effect (Wear segment sector) h
+option_map-wear segment sector None = refl
+option_map-wear segment sector (Some c) = refl
+
+option_map-spoil : (segment sector : ℕ) (h : Option Cartridge) → option_map (λ (c : Cartridge). record c { views = changed_at c.views (place_of segment sector) spoiled_view }) h ≡ effect (Spoil segment sector) h
+option_map-spoil segment sector None = refl
+option_map-spoil segment sector (Some c) = refl
+
+pub write-held : (told : Bool) (info : Option TapeInfo) (views after : List SectorView) (segment sector place : ℕ) (bytes : List ℕ) → IsOn told info segment sector → place ≡ place_of segment sector → after ≡ changed_at views place (written_view bytes) → held info after ≡ effect (WriteSector segment sector bytes) (held info views)
+write-held told info views after segment sector place bytes on at written =
+    rw (written, at) (change-held told info views segment sector (written_view bytes) on ∙ option_map-write segment sector bytes (held info views))
+
+pub wear-held : (told : Bool) (info : Option TapeInfo) (views after : List SectorView) (segment sector place : ℕ) → IsOn told info segment sector → place ≡ place_of segment sector → after ≡ changed_at views place worn_view → held info after ≡ effect (Wear segment sector) (held info views)
+wear-held told info views after segment sector place on at worn =
+    rw (worn, at) (change-held told info views segment sector worn_view on ∙ option_map-wear segment sector (held info views))
+
+pub spoil-held : (told : Bool) (info : Option TapeInfo) (views after : List SectorView) (segment sector place : ℕ) → IsOn told info segment sector → place ≡ place_of segment sector → after ≡ changed_at views place spoiled_view → held info after ≡ effect (Spoil segment sector) (held info views)
+spoil-held told info views after segment sector place on at spoiled =
+    rw (spoiled, at) (change-held told info views segment sector spoiled_view on ∙ option_map-spoil segment sector (held info views))
+
+take-append-at : {A : Type 0} (xs ys : List A) (k n : ℕ) → length xs ≡ k → take (k + n) (xs ++ ys) ≡ xs ++ take n ys
+take-append-at xs ys k n long = rw (← long) (take-append-add xs ys n)
+
+length-front : (views : List SectorView) (first : ℕ) → first + 32 ≤ length views → length (take first views ++ map formatted_view (take 32 (drop first views))) ≡ first + 32
+length-front views first within = simp (length-append, length-map, length-take, length-drop) (omega arith)
+
+-- the first views of a formatted list are those of the first views, formatted
+formatted_from-take : (views : List SectorView) (first more : ℕ) → first + 32 ≤ length views → take (first + 32 + more) (formatted_from views first) ≡ formatted_from (take (first + 32 + more) views) first
+formatted_from-take views first more within =
+    let front : List SectorView = take first views ++ map formatted_view (take 32 (drop first views)) in
+    let rest : List SectorView = drop (first + 32) views in
+    let long : length front ≡ first + 32 = length-front views first within in
+    let left : take (first + 32 + more) (front ++ rest) ≡ front ++ take more rest = take-append-at front rest (first + 32) more long in
+    let begins : take first (take (first + 32 + more) views) ≡ take first views = take-take first (first + 32 + more) views (omega arith) in
+    let ends : drop (first + 32) (take (first + 32 + more) views) ≡ take more rest = drop-take (first + 32) more views in
+    let sum : first + 32 + more ≡ first + (32 + more) = omega arith in
+    let dropped : drop first (take (first + (32 + more)) views) ≡ take (32 + more) (drop first views) = drop-take first (32 + more) views in
+    let middle : take 32 (drop first (take (first + 32 + more) views)) ≡ take 32 (drop first views) =
+    rw (sum, dropped) (take-take 32 (32 + more) (drop first views) (omega arith)) in
+    left ∙ sym (ap (λ vs. vs ++ map formatted_view (take 32 (drop first (take (first + 32 + more) views))) ++ drop (first + 32) (take (first + 32 + more) views)) begins
+    ∙ ap (λ vs. take first views ++ map formatted_view vs ++ drop (first + 32) (take (first + 32 + more) views)) middle
+    ∙ ap (λ vs. front ++ vs) ends)
+
+format-held-at : (i : TapeInfo) (views : List SectorView) (segment : ℕ) → IsPlace i.segments_per_track segment 0 → 896 * i.segments_per_track ≤ length views → held (Some i) (formatted_from views (place_of segment 0)) ≡ effect (FormatSegment segment) (held (Some i) views)
+format-held-at i views segment on within =
+    let a = on.on_tape in
+    let n : ℕ = 896 * i.segments_per_track in
+    let first : ℕ = 32 * segment in
+    let more : ℕ = n - (first + 32) in
+    let split : first + 32 + more ≡ n = omega arith in
+    let start : place_of segment 0 ≡ first = omega arith in
+    let next : 32 * (segment + 1) ≡ first + 32 = omega arith in
+    let formatted : take n (formatted_from views first) ≡ formatted_from (take n views) first =
+    rw (← split) (formatted_from-take views first more (omega arith)) in
+    ap (λ vs. Some (record { info = i; views = vs })) (rw (start, next) formatted)
+
+pub format-held : (told : Bool) (info : Option TapeInfo) (room : ℕ) (views after : List SectorView) (segment place : ℕ) → ForSome info (Fits room) → length views ≡ 896 * room → IsOn told info segment 0 → place ≡ place_of segment 0 → after ≡ formatted_from views place → held info after ≡ effect (FormatSegment segment) (held info views)
+format-held false info room views after segment place fits long on at formatted = absurd on
+format-held true None room views after segment place fits long on at formatted = absurd on
+format-held true (Some i) room views after segment place fits long on at formatted =
+    rw (formatted, at) (format-held-at i views segment on (let within = (fits i refl).within in omega arith))
+
+abbrev state : Option Cartridge → Option ℕ → ℕ → Plan → TapeState
+state cartridge size room plan = record { cartridge = cartridge; size = size; room = room; plan = plan }
+
+-- two states with the same cartridge and the same counts
+pub state-same : (size : Option ℕ) (room : ℕ) (held kept : Option Cartridge) (plan before : Plan) (failed : Bool) → held ≡ kept → plan ≡ plan_after before failed → failed ≡ false → state held size room plan ≡ state kept size room (plan_after before false)
+state-same size room held kept plan before failed same counted went =
+    ap (λ h. state h size room plan) same ∙ ap (λ p. state kept size room p) (counted ∙ ap (plan_after before) went)
