@@ -1,0 +1,5 @@
+pub mod Ring
+pub mod Algebra
+pub mod Columns
+pub mod Places
+pub mod Blocks

@@ -1,0 +1,91 @@
+-- The changes at three places of a segment that make its columns codewords. A place's degree is the
+-- number of places behind it; degrees from 32 on are those of no place.
+use Rattle.std.specs.Prelude.{◌≡◌, ◌≢◌, ℕ, ◌+◌, ◌-◌, ◌<◌, ◌≤◌, true, List, [], ◌∷◌, length, slice_index, slice_index_or, slice_set, bit_xor, All}
+use Rattle.gf256_qic.specs.Field.{product, power, inverse}
+use Rattle.gf256_qic.specs.Code.{value_at, column, IsSector}
+use Rattle.erasure_solve.specs.Lost.{is_lost}
+use Rattle.erasure_solve.specs.Rows.{IsZero, AddsRow}
+use Rattle.erasure_solve.specs.declared.values.Values.{Values}
+use Rattle.erasure_solve.specs.declared.change.Changes.{Changes}
+
+-- x / ((x + y) * (x + z))
+unfoldable pub scale : ℕ → ℕ → ℕ → ℕ
+scale x y z = product x (product (inverse (bit_xor x y)) (inverse (bit_xor x z)))
+
+-- the first of three bytes, at places of the powers x, y and z, whose terms add up to the values s at
+-- r^-1, t at 1 and u at r
+unfoldable pub change : ℕ → ℕ → ℕ → ℕ → ℕ → ℕ → ℕ
+change x y z s t u =
+    product (scale x y z) (bit_xor (product (product y z) s) (bit_xor (product (bit_xor y z) t) u))
+
+-- the factors of the values in it
+abbrev pub change_factors : ℕ → ℕ → ℕ → List ℕ
+change_factors x y z =
+    product (scale x y z) (product y z) ∷ product (scale x y z) (bit_xor y z) ∷ scale x y z ∷ []
+
+-- the values, each times its factor
+pub record IsWeighed (values : Values) (factors row : List ℕ) : Type 0 where
+  pub each : (j : ℕ) → j < 1024 →
+      slice_index row j ≡ bit_xor
+      (bit_xor
+      (product (slice_index factors 0) (slice_index values.at_inverse j))
+      (product (slice_index factors 1) (slice_index values.at_one j)))
+      (product (slice_index factors 2) (slice_index values.at_generator j))
+
+-- the changes at the place of degree d, where the other two have e and f
+pub record IsChange (sectors : List (List ℕ)) (d e f : ℕ) (row : List ℕ) : Type 0 where
+  pub each : (j : ℕ) → j < 1024 →
+      slice_index row j ≡ change (power 2 d) (power 2 e) (power 2 f)
+      (value_at 0xC3 (column j sectors)) (value_at 0x01 (column j sectors)) (value_at 0x02 (column j sectors))
+
+-- three different degrees: those of the lost places, and for the rest degrees of no place
+pub record AreDegrees (mask count : ℕ) (degrees : List ℕ) : Type 0 where
+  pub size : length degrees ≡ 3
+  pub small : (k : ℕ) → k < 3 → slice_index degrees k < 35
+  pub apart : (k l : ℕ) → k < 3 → l < 3 → k ≢ l → slice_index degrees k ≢ slice_index degrees l
+  pub within : (k : ℕ) → k < 3 → slice_index degrees k < 32 → slice_index degrees k < count
+  pub of_lost : (k place : ℕ) → k < 3 → slice_index degrees k + place + 1 ≡ count →
+      is_lost mask place ≡ true
+  pub all : (place : ℕ) → place < count → is_lost mask place ≡ true →
+      (k : ℕ) × (k < 3) × (slice_index degrees k + place + 1 ≡ count)
+
+-- the changes that make the sectors a code block
+pub record Found (mask : ℕ) (sectors : List (List ℕ)) (changes : Changes) : Type 0 where
+  pub sectors_fit : All IsSector sectors
+  pub degrees : AreDegrees mask (length sectors)
+      (changes.first.degree ∷ changes.second.degree ∷ changes.third.degree ∷ [])
+  pub first : IsChange sectors
+      changes.first.degree changes.second.degree changes.third.degree changes.first.bytes
+  pub second : IsChange sectors
+      changes.second.degree changes.first.degree changes.third.degree changes.second.bytes
+  pub third : IsChange sectors
+      changes.third.degree changes.first.degree changes.second.degree changes.third.bytes
+
+-- a change that can be made
+pub record Fits (degree : ℕ) (row : List ℕ) : Type 0 where
+  pub nothing : 32 ≤ degree → IsZero row
+
+pub record Agree (changes : Changes) : Type 0 where
+  pub first : Fits changes.first.degree changes.first.bytes
+  pub second : Fits changes.second.degree changes.second.bytes
+  pub third : Fits changes.third.degree changes.third.bytes
+
+-- the places of the changes are among count
+pub record AreWithin (changes : Changes) (count : ℕ) : Type 0 where
+  pub first : changes.first.degree < 32 → changes.first.degree < count
+  pub second : changes.second.degree < 32 → changes.second.degree < count
+  pub third : changes.third.degree < 32 → changes.third.degree < count
+
+-- the sector at the place of a degree was changed, if there is one
+pub record Applied (degree : ℕ) (row : List ℕ) (old new : List (List ℕ)) : Type 0 where
+  pub beyond : 32 ≤ degree → new ≡ old
+  pub within : degree < 32 →
+      (sector : List ℕ) × (new ≡ slice_set old (length old - 1 - degree) sector)
+      × AddsRow row (slice_index_or old (length old - 1 - degree) sector) sector
+
+pub record AllApplied (changes : Changes) (old new : List (List ℕ)) : Type 0 where
+  pub once : List (List ℕ)
+  pub twice : List (List ℕ)
+  pub first : Applied changes.first.degree changes.first.bytes old once
+  pub second : Applied changes.second.degree changes.second.bytes once twice
+  pub third : Applied changes.third.degree changes.third.bytes twice new

@@ -1,0 +1,24 @@
+-- The places of a segment that are lost, and what can be said of the sectors there.
+use Rattle.std.specs.Prelude.{◌≡◌, ℕ, ◌/◌, ◌%◌, ◌^◌, ◌≤◌, ◌==◌, Bool, List, length}
+use Rattle.qic_base.specs.LostSet.{lost_places}
+use Rattle.gf256_qic.specs.Code.{IsCodeBlock, AgreesOutside}
+
+-- whether the mask names the place (this project's profile)
+abbrev pub is_lost : ℕ → ℕ → Bool
+is_lost mask place = mask / 2 ^ place % 2 == 1
+
+-- how many places the mask names (this project's profile)
+abbrev pub lost_count : ℕ → ℕ
+lost_count mask = length (lost_places mask 32)
+
+-- each code block (QIC-80-MC) that agrees with the sectors that are not lost is this one
+abbrev pub IsOnlyBlock : (ℕ → Bool) → List (List ℕ) → List (List ℕ) → Type 0
+IsOnlyBlock lost sectors block =
+    (other : List (List ℕ)) → IsCodeBlock other → AgreesOutside lost sectors other → block ≡ other
+
+-- at most one code block agrees with sectors of which at most three are lost (QIC-80-MC)
+abbrev pub OneSolution : Type 0
+OneSolution =
+    (mask : ℕ) (sectors block other : List (List ℕ)) → lost_count mask ≤ 3 →
+    IsCodeBlock block → AgreesOutside (is_lost mask) sectors block →
+    IsCodeBlock other → AgreesOutside (is_lost mask) sectors other → block ≡ other
