@@ -1,0 +1,147 @@
+-- Which commands a drive refuses. Standard: this project's profile of QIC-117.
+use Rattle.std.specs.Prelude.{Bool, true, ◌&&◌, not, ◌==◌, List, [], ◌∷◌, Option, find, option_map}
+use Rattle.std.specs.List.{list_any}
+use Rattle.qic117_commands.specs.declared.command.Command.{Command}
+use Rattle.qic117_commands.specs.declared.command.Command.TheVariants.{Reset, ReportNextBit, Pause, MicroStepPause, AlternateTimeout, ReportStatus, ReportError, LogicalForward, PhysicalReverse, PhysicalForward, SeekTrack, SeekLoadPoint, EnterFormat, WriteReference, EnterVerify, StopTape, MicroStepUp, MicroStepDown, SoftSelect, SoftDeselect, SkipReverse, SkipForward, SelectRate, Diagnostic1, Diagnostic2, EnterPrimary, VendorUnique, ReportTapeStatus, ExtendedSkipReverse, ExtendedSkipForward, CalibrateLength, ReportFormatSegments, SetFormatSegments, PhantomSelect, PhantomDeselect}
+use Rattle.qic117_commands.specs.declared.error_code.ErrorCode.{ErrorCode}
+use Rattle.qic117_commands.specs.declared.error_code.ErrorCode.TheVariants.{NotReady, NoCartridge, WriteProtected, UndefinedCommand, IllegalDiagnostic, NewCartridge, IllegalInPrimary, IllegalInFormat, IllegalInVerify, NotAtLogicalBot, NotReferenced}
+use Rattle.qic117_commands.specs.declared.view.DriveView.{DriveView}
+use Rattle.qic117_commands.specs.Commands.{number_of}
+use Rattle.qic117_commands.specs.Views.{is_stopped, is_streaming, is_seeking, is_primary, is_format, is_verify}
+
+-- a row of the table: the code that it refuses with, the commands that it speaks of, and where it holds
+pub record Row : Type 0 where
+  pub code : ErrorCode
+  pub covers : Command → Bool
+  pub holds : DriveView → Bool
+
+-- the commands of a list
+abbrev pub among : List Command → Command → Bool
+among commands command = list_any (λ listed. number_of listed == number_of command) commands
+
+-- all commands but those of a list
+abbrev pub all_but : List Command → Command → Bool
+all_but commands command = not (among commands command)
+
+-- no drive of this profile has them: they are refused like a number that no command has
+unfoldable pub is_unsupported : Command → Bool
+is_unsupported =
+    among
+    (Pause
+    ∷ MicroStepPause
+    ∷ AlternateTimeout
+    ∷ PhysicalReverse
+    ∷ PhysicalForward
+    ∷ MicroStepUp
+    ∷ MicroStepDown
+    ∷ SoftSelect
+    ∷ SoftDeselect
+    ∷ SelectRate
+    ∷ VendorUnique
+    ∷ ExtendedSkipReverse
+    ∷ ExtendedSkipForward
+    ∷ CalibrateLength
+    ∷ PhantomSelect
+    ∷ PhantomDeselect
+    ∷ [])
+
+-- they would enter a diagnostic mode
+unfoldable pub is_diagnostic : Command → Bool
+is_diagnostic = among (Diagnostic1 ∷ Diagnostic2 ∷ [])
+
+-- they ask for a cartridge in the drive
+unfoldable pub needs_cartridge : Command → Bool
+needs_cartridge =
+    among
+    (LogicalForward
+    ∷ SeekTrack
+    ∷ SeekLoadPoint
+    ∷ EnterFormat
+    ∷ WriteReference
+    ∷ EnterVerify
+    ∷ StopTape
+    ∷ SkipReverse
+    ∷ SkipForward
+    ∷ EnterPrimary
+    ∷ ReportTapeStatus
+    ∷ ReportFormatSegments
+    ∷ SetFormatSegments
+    ∷ [])
+
+-- they wait until a seek is over
+unfoldable pub waits_for_seek : Command → Bool
+waits_for_seek = all_but (Reset ∷ ReportNextBit ∷ ReportStatus ∷ ReportError ∷ [])
+
+-- they wait until the tape stands
+unfoldable pub waits_for_stop : Command → Bool
+waits_for_stop =
+    all_but
+    (Reset ∷ ReportNextBit ∷ ReportStatus ∷ ReportError ∷ LogicalForward ∷ StopTape ∷ [])
+
+-- what each mode forbids
+unfoldable pub illegal_in_primary : Command → Bool
+illegal_in_primary = among (WriteReference ∷ SetFormatSegments ∷ [])
+
+unfoldable pub illegal_in_format : Command → Bool
+illegal_in_format = among (EnterFormat ∷ SkipReverse ∷ SkipForward ∷ [])
+
+unfoldable pub illegal_in_verify : Command → Bool
+illegal_in_verify =
+    among (EnterFormat ∷ WriteReference ∷ EnterVerify ∷ SetFormatSegments ∷ [])
+
+-- they prepare for writing, which a protected cartridge forbids
+unfoldable pub needs_writable : Command → Bool
+needs_writable = among (EnterFormat ∷ [])
+
+-- they wait until the host has read the error word since the cartridge was put in
+unfoldable pub needs_known_cartridge : Command → Bool
+needs_known_cartridge =
+    among
+    (LogicalForward
+    ∷ SeekTrack
+    ∷ SeekLoadPoint
+    ∷ EnterFormat
+    ∷ EnterVerify
+    ∷ SkipReverse
+    ∷ SkipForward
+    ∷ [])
+
+-- they find their place by the reference bursts
+unfoldable pub needs_reference : Command → Bool
+needs_reference =
+    among (LogicalForward ∷ SeekTrack ∷ EnterVerify ∷ SkipReverse ∷ SkipForward ∷ [])
+
+-- in Format mode they begin at the start of a track
+unfoldable pub needs_logical_bot : Command → Bool
+needs_logical_bot = among (LogicalForward ∷ [])
+
+-- the tape stands in Format mode, past the start of its track
+abbrev pub stands_past_bot : DriveView → Bool
+stands_past_bot view =
+    is_format view.mode && not (view.offset == 0) && is_stopped view.motion
+
+-- the rows, in order (this project's profile)
+abbrev pub refusal_rows : List Row
+refusal_rows =
+    record { code = UndefinedCommand; covers = is_unsupported; holds = λ view. true }
+    ∷ record { code = IllegalDiagnostic; covers = is_diagnostic; holds = λ view. true }
+    ∷ record { code = NoCartridge; covers = needs_cartridge; holds = λ view. not view.present }
+    ∷ record { code = NotReady; covers = waits_for_seek; holds = λ view. is_seeking view.motion }
+    ∷ record { code = NotReady; covers = waits_for_stop; holds = λ view. is_streaming view.motion }
+    ∷ record { code = IllegalInPrimary; covers = illegal_in_primary; holds = λ view. is_primary view.mode }
+    ∷ record { code = IllegalInFormat; covers = illegal_in_format; holds = λ view. is_format view.mode }
+    ∷ record { code = IllegalInVerify; covers = illegal_in_verify; holds = λ view. is_verify view.mode }
+    ∷ record { code = WriteProtected; covers = needs_writable; holds = λ view. view.protected }
+    ∷ record { code = NewCartridge; covers = needs_known_cartridge; holds = λ view. view.fresh }
+    ∷ record { code = NotReferenced; covers = needs_reference; holds = λ view. not view.referenced }
+    ∷ record { code = NotAtLogicalBot; covers = needs_logical_bot; holds = stands_past_bot }
+    ∷ []
+
+-- a row refuses a command in a drive: it speaks of the command, and holds of the drive
+abbrev pub refuses : DriveView → Command → Row → Bool
+refuses view command row = row.covers command && row.holds view
+
+-- the code of the first row that refuses (this project's profile)
+unfoldable pub first_refusal : DriveView → Command → Option ErrorCode
+first_refusal view command =
+    option_map (λ row. row.code) (find (refuses view command) refusal_rows)
