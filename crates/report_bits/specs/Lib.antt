@@ -1,0 +1,4 @@
+pub mod Digits
+pub mod Left
+pub mod Report
+pub mod Shows
