@@ -1,0 +1,104 @@
+-- The volume table: the data area of segment 2, 29 sectors of eight slots (Linux ftape headers: the volume table
+-- entry of 128 bytes and its offsets; QIC-80-MC: the signature `VTBL`; the place of the table, its faults and the rule of
+-- a volume's length are this project's profile).
+use Rattle.std.specs.Prelude.{◌≡◌, ℕ, ◌+◌, ◌-◌, ◌*◌, ◌/◌, ◌%◌, ◌<◌, ◌≤◌, ◌==◌, ◌&&◌, ◌||◌, Bool, true, false, not, List, [], length, take, drop, Option, Some, None, slice_get, slice_index, slice_range, if◌then◌else◌, nat_lt, nat_le, codes, zero, suc}
+use Rattle.qic_base.specs.Field.{little_endian, number_at}
+use Rattle.cartridge_spec.specs.Segment.{sector_at}
+
+-- what a used slot says of a volume
+pub record Entry : Type 0 where
+  -- its first and its last segment
+  pub start : ℕ
+  pub end : ℕ
+  -- 44 bytes
+  pub name : List ℕ
+  -- the date word
+  pub date : ℕ
+  pub flags : ℕ
+  pub sequence : ℕ
+  -- bytes of the directory, and of the data
+  pub directory : ℕ
+  pub size : ℕ
+
+-- slot i of the table's 29 data sectors, 0 to 231
+unfoldable pub slot : List (List ℕ) → ℕ → List ℕ
+slot area i = take 128 (drop (128 * (i % 8)) (sector_at area (i / 8)))
+
+-- the four signature bytes of a slot, as a number
+abbrev pub signature : List ℕ → ℕ
+signature bytes = number_at bytes 0 4
+
+abbrev pub is_free : List ℕ → Bool
+is_free bytes = signature bytes == 0
+
+abbrev pub is_used : List ℕ → Bool
+is_used bytes = signature bytes == little_endian (codes "VTBL")
+
+-- the fields of a used slot
+abbrev pub entry_in : List ℕ → Entry
+entry_in bytes = record {
+  start = number_at bytes 4 2;
+  end = number_at bytes 6 2;
+  name = slice_range bytes 8 52;
+  date = number_at bytes 52 4;
+  flags = slice_index bytes 56;
+  sequence = slice_index bytes 57;
+  directory = number_at bytes 92 4;
+  size = number_at bytes 96 8;
+}
+
+-- the data show these volumes: a used slot for each, in order, and free slots behind them
+pub record Shows (area : List (List ℕ)) (entries : List Entry) : Type 0 where
+  pub room : length entries ≤ 232
+  pub used : (i : ℕ) → i < length entries → is_used (slot area i) ≡ true
+  pub shown : (i : ℕ) → i < length entries → slice_get entries i ≡ Some (entry_in (slot area i))
+  pub free : (i : ℕ) → length entries ≤ i → i < 232 → is_free (slot area i) ≡ true
+
+-- the two ways in which a slot is at fault
+pub data TableFault : Type 0 where
+  ForeignSlot : ℕ → TableFault
+  BadRange : ℕ → TableFault
+
+-- some slot below i is free
+unfoldable pub some_free_below : List (List ℕ) → ℕ → Bool
+some_free_below area zero = false
+some_free_below area (suc i) = is_free (slot area i) || some_free_below area i
+
+-- the end of the slot before this one lies at or behind its start
+abbrev pub overlaps_before : List (List ℕ) → ℕ → Bool
+overlaps_before area i = nat_lt 0 i && nat_le (entry_in (slot area i)).start (entry_in (slot area (i - 1))).end
+
+-- a volume does not lie behind the table, forwards, on the cartridge and behind the volume before it
+abbrev pub has_bad_range : List (List ℕ) → (last i : ℕ) → Bool
+has_bad_range area last i =
+    nat_lt (entry_in (slot area i)).start 3
+    || nat_lt (entry_in (slot area i)).end (entry_in (slot area i)).start
+    || nat_lt last (entry_in (slot area i)).end
+    || overlaps_before area i
+
+-- the fault of slot i, on a cartridge whose last segment is this
+unfoldable pub slot_fault : List (List ℕ) → (last i : ℕ) → Option TableFault
+slot_fault area last i =
+    if is_free (slot area i) then None
+    else if not (is_used (slot area i)) || some_free_below area i then Some (ForeignSlot i)
+    else if has_bad_range area last i then Some (BadRange i)
+    else None
+
+-- the first slot at fault
+pub record IsFirstFault (area : List (List ℕ)) (last : ℕ) (fault : TableFault) : Type 0 where
+  pub place : ℕ
+  pub within : place < 232
+  pub here : slot_fault area last place ≡ Some fault
+  pub before : (i : ℕ) → i < place → slot_fault area last i ≡ None
+
+-- no slot is at fault
+abbrev pub HasNoFault : List (List ℕ) → ℕ → Type 0
+HasNoFault area last = (i : ℕ) → i < 232 → slot_fault area last i ≡ None
+
+-- the bytes that the segments of a volume hold: until a map tells otherwise each segment has 29 data sectors
+abbrev pub capacity_of : Entry → ℕ
+capacity_of e = 29696 * (e.end + 1 - e.start)
+
+-- a volume's length: its data size, where that fits and there is no directory, and else all that its segments hold
+abbrev pub length_of : Entry → ℕ
+length_of e = if e.directory == 0 && nat_le e.size (capacity_of e) then e.size else capacity_of e

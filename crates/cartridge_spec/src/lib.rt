@@ -1,0 +1,2 @@
+//! What a cartridge says: definitions alone, which several crates cite.
+#![tactic(auto)]
