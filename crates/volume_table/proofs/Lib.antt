@@ -1,0 +1,4 @@
+pub mod SlotLaws
+pub mod SoFar
+pub mod TableLaws
+pub mod Totals

@@ -1,0 +1,18 @@
+-- Laws of the volume table (this project's profile).
+use Rattle.std.specs.Prelude.{◌≡◌, ◌⊎◌, ℕ, List}
+use Rattle.cartridge_spec.specs.Table.{Entry, Shows, TableFault, HasNoFault, IsFirstFault}
+
+-- two lists that the same data show are equal
+abbrev pub VolumesAreDetermined : Type 0
+VolumesAreDetermined =
+    (area : List (List ℕ)) (one other : List Entry) → Shows area one → Shows area other → one ≡ other
+
+-- data with no slot at fault show a list
+abbrev pub SoundDataShowVolumes : Type 0
+SoundDataShowVolumes =
+    (area : List (List ℕ)) (last : ℕ) → HasNoFault area last → (entries : List Entry) × Shows area entries
+
+-- data have a first slot at fault, or none is
+abbrev pub DataAreSoundOrFaulty : Type 0
+DataAreSoundOrFaulty =
+    (area : List (List ℕ)) (last : ℕ) → ((fault : TableFault) × IsFirstFault area last fault) ⊎ HasNoFault area last

@@ -1,0 +1,18 @@
+//! Laws of the volume table that are proved of its definitions; the functions do nothing.
+
+ghost use Rattle.volume_table.specs.Laws.{DataAreSoundOrFaulty, SoundDataShowVolumes, VolumesAreDetermined};
+
+/// The bytes of a table show at most one list of volumes.
+pub fn volumes_are_determined()
+    ensures { VolumesAreDetermined }
+{}
+
+/// The bytes of a table with no slot at fault show a list of volumes.
+pub fn sound_data_show_volumes()
+    ensures { SoundDataShowVolumes }
+{}
+
+/// The bytes of a table have a first slot at fault, or no slot at fault.
+pub fn data_are_sound_or_faulty()
+    ensures { DataAreSoundOrFaulty }
+{}

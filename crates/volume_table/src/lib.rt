@@ -1,0 +1,12 @@
+//! The volume table: which volumes stand on a cartridge, as the slots of segment 2 tell it.
+#![tactic(auto)]
+
+mod entry;
+mod fault;
+pub mod laws;
+mod slots;
+mod table;
+
+pub use entry::Entry;
+pub use fault::TableFault;
+pub use table::Table;

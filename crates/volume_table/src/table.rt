@@ -1,0 +1,206 @@
+//! The list of volumes that a volume table shows.
+
+ghost use Rattle.std.specs.Prelude.{◌≡◌, ◌<◌, ◌≤◌, ◌↔◌, [], length, slice_get, IsTrue, IsOk, IfOk, OnOk, OnErr, IfErr};
+ghost use Rattle.cartridge_spec.specs.Table.{Shows, HasNoFault, IsFirstFault};
+
+use crate::entry::Entry;
+use crate::fault::TableFault;
+use crate::slots::{SLOTS, read_slots};
+use qic_base::NoMemory;
+use std::alloc::Global;
+use std::marker::Model;
+
+/// The volumes on a cartridge, at most 232, in the order of their slots. Contracts see the list
+/// of their entries.
+#[derive(Debug, Drop)]
+pub struct Table {
+    entries: Vec<Entry>,
+}
+
+impl Model for Table {
+    ghost use Rattle.std.specs.Prelude.{List, ◌≤◌, map};
+    ghost use Rattle.std.specs.Vec.{vec_len, vec_capacity};
+    ghost use Rattle.cartridge_spec.specs.Table.{Entry as Volume};
+    ghost use Rattle.volume_table.specs.Entry.{entry_of};
+
+    ghost Value = { List Volume };
+
+    ghost view = { λ table. map entry_of table.entries.items };
+
+    ghost invariant = { λ table. (232 ≤ vec_capacity table.entries)
+        × (vec_len table.entries ≤ 232) };
+}
+
+impl Table {
+    ghost use Rattle.volume_table.specs.Entry.{entry_of};
+    ghost use Rattle.volume_table.specs.Fault.{fault_of};
+
+    /// An empty table with room for all 232 entries: no later call takes memory.
+    pub fn new(alloc: Global) -> Result<Table, NoMemory>
+        ensures { IfOk result (λ table. table ≡ []) }
+    {
+        let entries = Vec::with_capacity(alloc, SLOTS as usize)?;
+        Ok(Table { entries })
+    }
+
+    /// Reads the table's data area, 29 sectors, of a cartridge whose last segment is `last`. A
+    /// refusal names the first slot that is at fault, and leaves the table empty.
+    pub fn decode(&mut self, area: &[[u8; 1024]], last: u32) -> Result<(), TableFault>
+        requires { length area.now ≡ 29 }
+        ensures shown { OnOk result (Shows area.now self.new) }
+        ensures sound { OnOk result (HasNoFault area.now last) }
+        ensures succeeds { HasNoFault area.now last → IsOk result }
+        ensures fault { IfErr result (λ fault. IsFirstFault area.now last (fault_of fault)) }
+        ensures emptied { OnErr result (self.new ≡ []) }
+    {
+        self.entries.clear();
+        let outcome = read_slots(&mut self.entries, area, last);
+        if outcome.is_err() {
+            self.entries.clear();
+        }
+        outcome
+    }
+
+    /// The number of volumes, 0 to 232.
+    pub fn len(&self) -> u8
+        ensures count { result ≡ length self.now }
+        ensures few { result ≤ 232 }
+    {
+        self.entries.len() as u8
+    }
+
+    /// Whether there is no volume.
+    pub fn is_empty(&self) -> bool
+        ensures { IsTrue result ↔ (self.now ≡ []) }
+    {
+        self.entries.is_empty()
+    }
+
+    /// The entry of a volume, counted from 0.
+    pub fn entry(&self, index: u8) -> &Entry
+        requires { index < length self.now }
+        ensures { slice_get self.now index ≡ Some (entry_of result.now) }
+    {
+        &self.entries[index as usize]
+    }
+}
+
+#[cfg(test)]
+mod tests {
+    use super::*;
+    use crate::slots::SIGNATURE;
+    use qic_base::{Name, write_u16, write_u32};
+    use std::test::Fail;
+
+    fn set_slot(area: &mut [[u8; 1024]], slot: u8, signature: u32, start: u16, end: u16)
+        requires sectors { length area.old ≡ 29 }
+        requires within { slot < 232 }
+    {
+        let place = 128 * (slot as usize % 8);
+        let sector = &mut area[slot as usize / 8];
+        write_u32(sector, place, signature);
+        write_u16(sector, place + 4, start);
+        write_u16(sector, place + 6, end);
+    }
+
+    /// Slot `i` below `volumes` names segment `3 + i` alone.
+    fn set_volumes(area: &mut [[u8; 1024]], volumes: u8)
+        requires sectors { length area.old ≡ 29 }
+        requires within { volumes ≤ 232 }
+    {
+        for slot in 0..volumes {
+            set_slot(
+                area,
+                slot,
+                SIGNATURE,
+                3 + u16::from(slot),
+                3 + u16::from(slot),
+            );
+        }
+    }
+
+    #[test]
+    fn a_slot_of_the_table_is_read(rt: HostRuntime) -> Result<(), Fail> {
+        let mut area = vec![in rt.alloc(); [0u8; 1024]; 29]?;
+        assert_eq!(rt; area.len(), 29);
+        let sector = &mut area[0];
+        sector[..9].copy_from_slice(b"\x56\x54\x42\x4C\x03\x00\x03\x00\x61");
+        sector[9..52].copy_from_slice(&[b' '; 43]);
+        sector[52..58].copy_from_slice(b"\xC0\x65\x52\x30\x01\x01");
+        sector[96..104].copy_from_slice(b"\x0A\x00\x00\x00\x00\x00\x00\x00");
+        let mut name = [b' '; 44];
+        name[0] = b'a';
+        let want = Entry {
+            start: 3,
+            end: 3,
+            name: Name::from_bytes(&name),
+            date: 0x3052_65C0,
+            flags: 1,
+            sequence: 1,
+            directory: 0,
+            size: 10,
+        };
+        let mut table = Table::new(rt.alloc())?;
+        assert!(rt; table.is_empty());
+        assert_eq!(rt; table.decode(&area, 83), Ok(()));
+        assert_eq!(rt; table.len(), 1);
+        assert_eq!(rt; *table.entry(0), want);
+        Ok(())
+    }
+
+    #[test]
+    fn a_full_table_is_read(rt: HostRuntime) -> Result<(), Fail> {
+        let mut area = vec![in rt.alloc(); [0u8; 1024]; 29]?;
+        assert_eq!(rt; area.len(), 29);
+        set_volumes(&mut area, 232);
+        let mut table = Table::new(rt.alloc())?;
+        assert_eq!(rt; table.decode(&area, 4199), Ok(()));
+        assert_eq!(rt; table.len(), 232);
+        for index in 0..232 {
+            let entry = table.entry(index);
+            assert_eq!(rt;
+                (entry.start, entry.end),
+                (3 + u16::from(index), 3 + u16::from(index))
+            );
+        }
+        Ok(())
+    }
+
+    #[test]
+    fn the_first_fault_is_named(rt: HostRuntime) -> Result<(), Fail> {
+        let foreign = |slot: u8| Err(TableFault::ForeignSlot { slot });
+        let bad = |slot: u8| Err(TableFault::BadRange { slot });
+        let used = SIGNATURE;
+        let mut table = Table::new(rt.alloc())?;
+        for (volumes, slot, signature, start, end, want) in [
+            (1, 0, 0x4D42_5456, 3, 3, foreign(0)),
+            (1, 0, used, 2, 3, bad(0)),
+            (1, 0, used, 4, 3, bad(0)),
+            (1, 0, used, 3, 501, bad(0)),
+            (1, 0, used, 3, 500, Ok(())),
+            (200, 116, 1, 119, 119, foreign(116)),
+            (100, 116, used, 119, 119, foreign(116)),
+            (200, 116, used, 118, 118, bad(116)),
+            (200, 116, used, 119, 120, bad(117)),
+            (200, 116, 0, 119, 119, foreign(117)),
+            (117, 116, used, 119, 119, Ok(())),
+            (232, 231, 0x4C42_5400, 234, 234, foreign(231)),
+            (232, 231, used, 233, 234, bad(231)),
+            (232, 231, used, 234, 501, bad(231)),
+            (232, 231, 0, 234, 234, Ok(())),
+        ] {
+            let mut area = vec![in rt.alloc(); [0u8; 1024]; 29]?;
+            assert_eq!(rt; area.len(), 29);
+            assert!(rt; volumes <= SLOTS && slot < SLOTS);
+            set_volumes(&mut area, volumes);
+            set_slot(&mut area, slot, signature, start, end);
+            assert_eq!(rt;
+                table.decode(&area, 500),
+                want,
+                "slot {slot}: {signature} {start} {end}"
+            );
+            assert_eq!(rt; table.is_empty(), want.is_err());
+        }
+        Ok(())
+    }
+}
