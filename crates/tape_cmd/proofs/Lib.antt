@@ -1,0 +1,9 @@
+pub mod Listings
+pub mod MachineLaws
+pub mod MachineTotals
+pub mod Readables
+pub mod Machines
+pub mod StatusWord
+pub mod Table
+pub mod Texts
+pub mod Trains

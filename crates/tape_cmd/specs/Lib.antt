@@ -1,0 +1,4 @@
+pub mod Dialogue
+pub mod Laws
+pub mod Machine
+pub mod Text

@@ -1,0 +1,167 @@
+ghost use Rattle.std.specs.Prelude.{◌≡◌, ◌+◌, ◌-◌, ◌<◌, ◌≤◌, ◌^◌, [], ◌∷◌, ◌++◌, length, map, take, decimal, IsTrue, nat_le, ◌&&◌};
+ghost use Rattle.tape_cmd.specs.Text.{digit, two_digits, four_digits, date_text, is_filler, trimmed, printable, name_text};
+
+use itoa::Buffer;
+use qic_base::Name;
+use std::marker::Model;
+
+/// The greatest low part of a date word that is a date (Linux ftape headers).
+const GREATEST_LOW_PART: u32 = 0x01EA_6DFF;
+
+/// A line of printed text, of at most 160 bytes.
+#[derive(Debug, Drop)]
+pub struct Line {
+    bytes: [u8; 160],
+    len: usize,
+}
+
+impl Model for Line {
+    ghost use Rattle.std.specs.Prelude.{List, ℕ, take, ◌≤◌};
+
+    ghost Value = { List ℕ };
+
+    ghost view = { λ l. take l.len l.bytes };
+
+    ghost invariant = { λ l. l.len ≤ 160 };
+}
+
+fn is_filler(byte: u8) -> bool
+    ensures { result ≡ is_filler byte }
+{
+    byte == 0x20 || byte == 0x00
+}
+
+/// How many bytes stand before the filling at the end.
+fn trimmed_len(bytes: &[u8]) -> usize
+    ensures within { result ≤ length bytes.now }
+    ensures trimmed { take result bytes.now ≡ trimmed bytes.now }
+{
+    let mut len = bytes.len();
+    while len > 0 && is_filler(bytes[len - 1]) {
+        len -= 1;
+    }
+    len
+}
+
+fn printable(byte: u8) -> u8
+    ensures { result ≡ printable byte }
+{
+    if (0x20..=0x7E).contains(&byte) {
+        byte
+    } else {
+        b'?'
+    }
+}
+
+fn make_printable(bytes: &mut [u8])
+    ensures { bytes.new ≡ map printable bytes.old }
+{
+    for byte in bytes {
+        *byte = printable(*byte);
+    }
+}
+
+fn put(buffer: &mut [u8], at: usize, from: &[u8])
+    requires { at + length from.now ≤ length buffer.old }
+    ensures { take (at + length from.now) buffer.new ≡ take at buffer.old ++ from.now }
+{
+    buffer[at..at + from.len()].copy_from_slice(from);
+}
+
+fn digit(n: u32) -> u8
+    ensures { result ≡ digit n }
+{
+    b'0' + (n % 10) as u8
+}
+
+impl Line {
+    /// The empty line.
+    pub fn new() -> Line
+        ensures { result ≡ [] }
+    {
+        Line {
+            bytes: [0; 160],
+            len: 0,
+        }
+    }
+
+    /// The bytes of the line so far.
+    pub fn bytes(&self) -> &[u8]
+        ensures { result.now ≡ self.now }
+    {
+        &self.bytes[..self.len]
+    }
+
+    /// A text as it stands.
+    pub fn push_text(&mut self, text: &[u8])
+        requires { length self.old + length text.now ≤ 160 }
+        ensures { self.new ≡ self.old ++ text.now }
+    {
+        put(&mut self.bytes, self.len, text);
+        self.len += text.len();
+    }
+
+    /// A number in decimal digits, without leading zeros.
+    pub fn push_number(&mut self, n: u64)
+        requires { length self.old + 20 ≤ 160 }
+        ensures number { self.new ≡ self.old ++ decimal n }
+        ensures short { length self.new ≤ length self.old + 20 }
+    {
+        let mut buffer = Buffer::new();
+        self.push_text(buffer.format(n).as_bytes());
+    }
+
+    fn push_two_digits(&mut self, n: u32)
+        requires { length self.old + 2 ≤ 160 }
+        ensures digits { self.new ≡ self.old ++ two_digits n }
+        ensures long { length self.new ≡ length self.old + 2 }
+    {
+        self.push_text(&[digit(n / 10), digit(n)]);
+    }
+
+    /// The date of a date word, or `?` where it is none.
+    pub fn push_date(&mut self, word: u32)
+        requires { length self.old + 19 ≤ 160 }
+        ensures date { self.new ≡ self.old ++ date_text word }
+        ensures short { length self.new ≤ length self.old + 19 }
+    {
+        let low = word % (1 << 25);
+        if low > GREATEST_LOW_PART {
+            self.push_text(b"?");
+            return;
+        }
+        let year = 1970 + word / (1 << 25);
+        self.push_two_digits(year / 100);
+        self.push_two_digits(year);
+        self.push_text(b"-");
+        self.push_two_digits(low / 60 / 60 / 24 / 31 + 1);
+        self.push_text(b"-");
+        self.push_two_digits(low / 60 / 60 / 24 % 31 + 1);
+        self.push_text(b"T");
+        self.push_two_digits(low / 60 / 60 % 24);
+        self.push_text(b":");
+        self.push_two_digits(low / 60 % 60);
+        self.push_text(b":");
+        self.push_two_digits(low % 60);
+    }
+
+    fn push_padded(&mut self, text: &[u8; 44])
+        requires { length self.old + 44 ≤ 160 }
+        ensures name { self.new ≡ self.old ++ name_text text.now }
+        ensures short { length self.new ≤ length self.old + 44 }
+    {
+        let mut shown = *text;
+        let len = trimmed_len(text);
+        make_printable(&mut shown);
+        self.push_text(&shown[..len]);
+    }
+
+    /// A name without the filling at its end; `?` stands for each byte that a line can't show.
+    pub fn push_name(&mut self, name: &Name)
+        requires { length self.old + 44 ≤ 160 }
+        ensures name { self.new ≡ self.old ++ name_text name.now }
+        ensures short { length self.new ≤ length self.old + 44 }
+    {
+        self.push_padded(name.bytes());
+    }
+}
