@@ -1,7 +1,7 @@
 -- The volume table: the data area of segment 2, 29 sectors of eight slots (Linux ftape headers: the volume table
 -- entry of 128 bytes and its offsets; QIC-80-MC: the signature `VTBL`; the place of the table, its faults and the rule of
 -- a volume's length are this project's profile).
-use Rattle.std.specs.Prelude.{◌≡◌, ℕ, ◌+◌, ◌-◌, ◌*◌, ◌/◌, ◌%◌, ◌<◌, ◌≤◌, ◌==◌, ◌&&◌, ◌||◌, Bool, true, false, not, List, [], length, take, drop, Option, Some, None, slice_get, slice_index, slice_range, if◌then◌else◌, nat_lt, nat_le, codes, zero, suc}
+use Rattle.std.specs.Prelude.{◌≡◌, ℕ, ◌+◌, ◌-◌, ◌*◌, ◌/◌, ◌%◌, ◌<◌, ◌≤◌, ◌==◌, ◌&&◌, ◌||◌, Bool, true, false, not, List, length, take, drop, Option, Some, None, slice_get, slice_index, slice_range, if◌then◌else◌, nat_lt, nat_le, codes, zero, suc}
 use Rattle.qic_base.specs.Field.{little_endian, number_at}
 use Rattle.cartridge_spec.specs.Segment.{sector_at}
 
