@@ -16,7 +16,7 @@ use Rattle.volume_table.proofs.TableLaws.{volumes_are_determined}
 use Rattle.tape_cmd.specs.declared.status.Status.{Status}
 use Rattle.tape_cmd.specs.declared.status.Status.TheVariants.{Done, Usage, NoCartridge, SinkFault, TapeFault, NoMemory, Unbuilt}
 use Rattle.tape_cmd.specs.Text.{list_text}
-use Rattle.tape_cmd.specs.Machine.{ListVolumes, Spells, SpellsNone, HasTable, Lists, IsUnbuilt, ListStep, Step, IsListed, HoldsUnbuilt, Listed, IsFault, NoneRose, Stepped, Told, Answers, CarriesOut, PrintsFront, PrintsList}
+use Rattle.tape_cmd.specs.Machine.{ListVolumes, Spells, SpellsNone, HasTable, Lists, IsUnbuilt, ListStep, Step, IsListed, HoldsUnbuilt, Listed, IsFault, IsSilent, NoneRose, Stepped, Told, Answers, CarriesOut, PrintsFront, PrintsList}
 
 -- two tables of one cartridge are equal
 tables_equal : (c : Cartridge) (a b : List (List ℕ)) → HasTable c a → HasTable c b → a ≡ b
@@ -177,6 +177,16 @@ list_kept t k a b x y Unbuilt listed = Done-told listed.0
 list_kept t k a b x y TapeFault listed = listed.0.nothing refl
 list_kept t k a b x y Usage listed = absurd listed
 list_kept t k a b x y NoMemory listed = absurd listed
+
+-- a refusal of `list` and a fault of the tape leave the sink as it was
+pub list_silent : {T K : Type 0} (t : tapes.Meaning T) (k : sinks.Meaning K) (a b : T) (x y : K) (status : Status) → Listed t k a b x y status → IsSilent status → y ≡ x
+list_silent t k a b x y Done listed silent = absurd silent
+list_silent t k a b x y SinkFault listed silent = absurd silent
+list_silent t k a b x y NoCartridge listed silent = listed.2
+list_silent t k a b x y Unbuilt listed silent = listed.2
+list_silent t k a b x y TapeFault listed silent = listed.1
+list_silent t k a b x y Usage listed silent = absurd listed
+list_silent t k a b x y NoMemory listed silent = absurd listed
 
 -- after a fault of `list` the sink took a front of what the plain machine prints
 pub list_prints_front : {T S K : Type 0} (t : tapes.Meaning T) (s : sources.Meaning S) (k : sinks.Meaning K) (words : List (List ℕ))

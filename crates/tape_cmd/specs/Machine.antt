@@ -120,6 +120,16 @@ IsFault NoCartridge = ⊥
 IsFault NoMemory = ⊥
 IsFault Unbuilt = ⊥
 
+-- an answer that prints nothing: each but that of a command carried out, and of a sink that failed on the way
+abbrev pub IsSilent : Status → Type 0
+IsSilent Done = ⊥
+IsSilent SinkFault = ⊥
+IsSilent Usage = Unit {0}
+IsSilent NoCartridge = Unit {0}
+IsSilent TapeFault = Unit {0}
+IsSilent NoMemory = Unit {0}
+IsSilent Unbuilt = Unit {0}
+
 -- the objects of the outside, before a run and after it
 pub record Outside (T S K : Type 0) : Type 0 where
   pub tape : T

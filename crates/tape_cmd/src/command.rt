@@ -1,6 +1,6 @@
 ghost use Rattle.std.specs.Prelude.{◌≡◌, ◌↔◌, ◌⊎◌, [], ◌∷◌, length, map, codes, string_bytes, IfOk, IfSome, IsTrue, None};
 ghost use Rattle.qic_base.specs.Cause.{Rose};
-ghost use Rattle.tape_cmd.specs.Machine.{Listed, SpellsNone, HoldsListed, HoldsUnbuilt, Answers, CarriesOut, PrintsFront, PrintsList};
+ghost use Rattle.tape_cmd.specs.Machine.{Listed, SpellsNone, HoldsListed, HoldsUnbuilt, Answers, CarriesOut, IsSilent, PrintsFront, PrintsList};
 
 use crate::Status;
 use crate::listing::write_list;
@@ -88,6 +88,9 @@ pub fn run<T: Tape, S: Source, K: Sink>(
     // What is printed at Done is a list also where the tape doesn't tell its cartridge.
     ensures printed { result ≡ Status.Done →
         PrintsList T.means K.means unit.old.tape sink.old sink.new }
+
+    // A refusal, want of memory and a fault of the tape print nothing, over any tape.
+    ensures silent { IsSilent result → sink.new ≡ sink.old }
 
     // `list` leaves the cartridge and reads no input. Words of no command touch nothing.
     ensures kept { T.means.told unit.new.tape ≡ T.means.told unit.old.tape }

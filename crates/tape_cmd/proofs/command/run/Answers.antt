@@ -1,6 +1,6 @@
 use Rattle.std.proofs.Common.{map, string_bytes, refl}
 use Rattle.tape_cmd.specs.Machine.{ListVolumes}
-use Rattle.tape_cmd.proofs.Machines.{list_prints, SinkLaws, list_answers, list_carries, list_kept, list_prints_front, list_no_usage, usage_answers, usage_carries, spells_none}
+use Rattle.tape_cmd.proofs.Machines.{list_prints, SinkLaws, list_answers, list_carries, list_kept, list_silent, list_prints_front, list_no_usage, usage_answers, usage_carries, spells_none}
 use Rattle.tape_cmd.proofs.command.run.Goals as goal
 
 pub returns-then-not-is_list-clause-answer : goal.returns-then-not-is_list-clause-answer
@@ -70,3 +70,7 @@ returns-clause-untouched g c usage =
 pub returns-clause-printed : goal.returns-clause-printed
 returns-clause-printed g c done =
     list_prints g.T.Tape.means g.K.Sink.means c.args.unit.now.tape c.list.new.unit.tape c.args.sink.now c.list.new.sink c.list.result c.list.ensures done
+
+pub returns-clause-silent : goal.returns-clause-silent
+returns-clause-silent g c silent =
+    list_silent g.T.Tape.means g.K.Sink.means c.args.unit.now.tape c.list.new.unit.tape c.args.sink.now c.list.new.sink c.list.result c.list.ensures silent
