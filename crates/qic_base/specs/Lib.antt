@@ -1,8 +1,12 @@
 pub mod Cartridge
 pub mod Cause
+pub mod Date
+pub mod Disk
 pub mod Field
 pub mod LostSet
+pub mod Name
 pub mod Sink
 pub mod Source
 pub mod Step
+pub mod Stop
 pub mod Tape

@@ -1,6 +1,6 @@
--- A tape: the cartridge that it holds, its size as told, and how often it failed; and what a call did to it
--- (this project's profile).
-use Rattle.std.specs.Prelude.{◌≡◌, ℕ, ◌≤◌, Bool, true, false, List, [], Option, Some, None, is_some, IfSome, IsSomeAnd, Result, Ok, Err}
+-- A tape: the cartridge that it holds, its size as told, how often it failed, and what a stop may have left; and what
+-- a call did to it (this project's profile).
+use Rattle.std.specs.Prelude.{◌≡◌, ℕ, ◌≤◌, ◌⊎◌, Bool, true, false, List, Option, Some, None, is_some, IsSome, IfSome, IsSomeAnd, Result, Ok, Err}
 use Rattle.std.specs.Option.{option_map}
 use Rattle.qic_base.specs.declared.tape.SectorView.{SectorView}
 use Rattle.qic_base.specs.declared.tape.SectorView.TheVariants.{Blank, Defect, Lost, Holds}
@@ -11,6 +11,7 @@ use Rattle.qic_base.specs.declared.tape.SectorWrite.TheVariants as write
 use Rattle.qic_base.specs.Cartridge.{Cartridge, IsCartridge, IsPlace}
 use Rattle.qic_base.specs.Cause.{Rose}
 use Rattle.qic_base.specs.Step.{Step, effects}
+use Rattle.qic_base.specs.Stop.{Torn}
 
 -- All that a tape means to the code above it.
 pub record Meaning (S : Type 0) : Type 1 where
@@ -20,19 +21,39 @@ pub record Meaning (S : Type 0) : Type 1 where
   -- cartridge or a `renew` that failed, and none at first
   pub size : S → Option ℕ
   pub faults : S → ℕ
+  -- whether the tape tells what a stop leaves
+  pub tells_stops : S → Bool
+  -- a clock, which never falls
+  pub moment : S → ℕ
+  -- A stop at some moment from this one on, up to now, might have left this. Where the tape doesn't tell its stops nothing
+  -- is meant by it.
+  pub left_since : S → ℕ → Option Cartridge → Type 0
+
+-- From old on time went by, and each stop since then, inside these steps or between them, left what their fronts leave.
+pub record Stops {S : Type 0} (m : Meaning S) (old new : S) (steps : List Step) : Type 0 where
+  pub telling : m.tells_stops new ≡ m.tells_stops old
+  pub clock : m.moment old ≤ m.moment new
+  pub kept : (t : ℕ) (left : Option Cartridge) → t ≤ m.moment old → m.left_since old t left → m.left_since new t left
+  -- a stop since t was one before this, or is one since any later moment that came before this
+  pub parted : (t u : ℕ) (left : Option Cartridge) → t ≤ u → u ≤ m.moment old →
+      m.left_since new t left → m.left_since old t left ⊎ m.left_since new u left
+  pub since : (t : ℕ) (held left : Option Cartridge) → m.told old ≡ Some held → t ≤ m.moment old →
+      m.left_since new t left → m.left_since old t left ⊎ Torn steps held left
 
 -- From old on, the steps were done, all of them, and nothing else.
 pub record Done {S : Type 0} (m : Meaning S) (old new : S) (steps : List Step) : Type 0 where
   pub told : m.told new ≡ option_map (effects steps) (m.told old)
   pub later : m.faults old ≤ m.faults new
+  pub stops : Stops m old new steps
 
--- From old on, a fault of the tape broke the steps off. Of what stands then it is said that the tape tells as before,
--- and, where there was no step to do, that nothing changed.
+-- From old on, a fault of the tape broke the steps off: what stands then is what a stop before, inside or after one of
+-- them leaves.
 pub record Broke {S : Type 0} (m : Meaning S) (old new : S) (steps : List Step) : Type 0 where
   pub cause : Rose (m.faults old) (m.faults new)
   pub later : m.faults old ≤ m.faults new
   pub tells : is_some (m.told new) ≡ is_some (m.told old)
-  pub nothing : steps ≡ [] → m.told new ≡ m.told old
+  pub torn : (held left : Option Cartridge) → m.told old ≡ Some held → m.told new ≡ Some left → Torn steps held left
+  pub stops : Stops m old new steps
 
 -- What a call with these steps did, by its answer.
 abbrev pub Does : {S T E : Type 0} (m : Meaning S) (old new : S) (steps : List Step) (result : Result T E) → Type 0
@@ -73,3 +94,11 @@ abbrev pub IsToldRight : Option (Option Cartridge) → Option ℕ → Type 0
 IsToldRight None size = Unit {0}
 IsToldRight (Some None) size = size ≡ None
 IsToldRight (Some (Some c)) size = IsCartridge c × IfSome size (λ n. c.info.segments_per_track ≡ n)
+
+-- A tape that tells its stops tells its cartridge; a stop now leaves just that, and a stop since an earlier moment might
+-- have left it too, and all that one since a later moment might have left.
+pub record IsLeftNow {S : Type 0} (m : Meaning S) (s : S) : Type 0 where
+  pub telling : m.tells_stops s ≡ true → IsSome (m.told s)
+  pub counts : (t : ℕ) (left : Option Cartridge) → m.tells_stops s ≡ true → t ≤ m.moment s → m.told s ≡ Some left → m.left_since s t left
+  pub only : (left : Option Cartridge) → m.tells_stops s ≡ true → m.left_since s (m.moment s) left → m.told s ≡ Some left
+  pub earlier : (t u : ℕ) (left : Option Cartridge) → t ≤ u → u ≤ m.moment s → m.left_since s u left → m.left_since s t left

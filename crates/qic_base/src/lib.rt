@@ -1,7 +1,11 @@
 //! The outside of the tape program, and the words that every layer shares.
 #![tactic(auto)]
 
+mod date;
+mod disk;
 mod field;
+mod foreign;
+pub mod laws;
 mod lost_set;
 mod memory;
 mod name;
@@ -9,7 +13,10 @@ mod sink;
 mod source;
 mod tape;
 
+pub use date::{BadDate, stamp};
+pub use disk::{Disk, DiskFailed};
 pub use field::{read_u16, read_u32, read_u64, write_u16, write_u32, write_u64};
+pub use foreign::ForeignField;
 pub use lost_set::LostSet;
 pub use memory::NoMemory;
 pub use name::Name;

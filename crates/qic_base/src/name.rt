@@ -1,6 +1,7 @@
 //! The 44 bytes of text that a volume or a cartridge is called by.
 
-ghost use Rattle.std.specs.Prelude.{◌≡◌};
+ghost use Rattle.std.specs.Prelude.{◌≡◌, ◌↔◌, IsTrue, IsSome, IfSome};
+ghost use Rattle.qic_base.specs.Name.{IsNameText, IsPrintable, filled};
 
 use std::marker::Model;
 
@@ -21,12 +22,35 @@ impl Model for Name {
     ghost inverse = { λ bytes. record { text = bytes } };
 }
 
+fn is_printable(byte: &u8) -> bool
+    ensures { IsTrue result ↔ IsPrintable byte.now }
+{
+    (0x20..=0x7E).contains(byte)
+}
+
 impl Name {
     /// Keeps the bytes as they are, whatever they hold.
     pub fn from_bytes(bytes: &[u8; 44]) -> Name
         ensures { result ≡ bytes.now }
     {
         Name { text: *bytes }
+    }
+
+    /// The name with this text, filled up with spaces. None where the text is not 1 to 44 bytes of 0x20 to 0x7E, or
+    /// begins or ends with a space.
+    pub fn from_text(text: &[u8]) -> Option<Name>
+        ensures named { IsSome result ↔ IsNameText text.now }
+        ensures bytes { IfSome result (λ name. name ≡ filled text.now) }
+    {
+        if text.is_empty() || text.len() > 44 || !text.iter().all(is_printable) {
+            return None;
+        }
+        if text[0] == b' ' || text[text.len() - 1] == b' ' {
+            return None;
+        }
+        let mut padded = [b' '; 44];
+        padded[..text.len()].copy_from_slice(text);
+        Some(Name { text: padded })
     }
 
     /// All 44 bytes, the filling included.
@@ -49,5 +73,25 @@ mod tests {
         let name = Name::from_bytes(&bytes);
         assert_eq!(rt; *name.bytes(), bytes);
         assert_ne!(rt; name, Name::from_bytes(&[b' '; 44]));
+    }
+
+    #[test]
+    fn a_name_is_made_from_text(rt: HostRuntime) {
+        let mut evening = [b' '; 44];
+        evening[..8].copy_from_slice(b"made - 1");
+        assert_eq!(rt;
+            Name::from_text(b"made - 1"),
+            Some(Name::from_bytes(&evening))
+        );
+        assert_eq!(rt;
+            Name::from_text(&[b'~'; 44]),
+            Some(Name::from_bytes(&[b'~'; 44]))
+        );
+        assert_eq!(rt; Name::from_text(&[b'~'; 45]), None);
+        assert_eq!(rt; Name::from_text(b""), None);
+        assert_eq!(rt; Name::from_text(b" a"), None);
+        assert_eq!(rt; Name::from_text(b"a "), None);
+        assert_eq!(rt; Name::from_text(&[b'a', 0x1F, b'a']), None);
+        assert_eq!(rt; Name::from_text(&[b'a', 0x7F, b'a']), None);
     }
 }

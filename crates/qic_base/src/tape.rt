@@ -2,7 +2,7 @@ ghost use Rattle.std.specs.Prelude.{◌≡◌, ◌↔◌, ◌≢◌, ℕ, ◌<�
 ghost use Rattle.std.specs.Option.{option_map};
 ghost use Rattle.qic_base.specs.Cartridge.{IsLength, view_at};
 ghost use Rattle.qic_base.specs.Step.{WriteSector, FormatSegment, SetReferenced, SetProtected, Renew, Wear, Spoil};
-ghost use Rattle.qic_base.specs.Tape.{Meaning, Does, Tells, IsPlaceOf, IsToldRight, Reads, write_answer, spoil_answer};
+ghost use Rattle.qic_base.specs.Tape.{Meaning, Does, Tells, IsPlaceOf, IsToldRight, IsLeftNow, Reads, write_answer, spoil_answer};
 
 /// A call of a tape failed.
 #[derive(Clone, Copy, Debug, PartialEq, Eq)]
@@ -127,4 +127,8 @@ pub trait Tape {
 
     /// A told cartridge is whole, and of the size.
     ghost told_right: { (s : Self) → IsToldRight (means.told s) (means.size s) };
+
+    /// A tape that tells its stops tells its cartridge, and a stop now leaves just that; earlier moments count what later
+    /// ones do.
+    ghost left_now: { (s : Self) → IsLeftNow means s };
 }
