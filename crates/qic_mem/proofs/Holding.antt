@@ -8,12 +8,10 @@ use Rattle.std.proofs.lemmas.Option.{unwrap_or-slice_get}
 use Rattle.qic_base.specs.declared.tape.SectorView.{SectorView}
 use Rattle.qic_base.specs.declared.tape.SectorView.TheVariants.{Blank}
 use Rattle.qic_base.specs.declared.tape.TapeInfo.{TapeInfo}
-use Rattle.qic_base.specs.Cartridge.{Cartridge, IsPlace, place_of, view_at}
+use Rattle.qic_base.specs.Cartridge.{Cartridge, IsPlace, place_of, view_at, with_segment}
 use Rattle.qic_base.specs.Step.{WriteSector, FormatSegment, Wear, Spoil, effect, written_view, formatted_view, worn_view, spoiled_view}
 use Rattle.qic_mem.specs.Held.{held, size_told, Fits}
-use Rattle.qic_mem.specs.Plan.{Plan, plan_after}
-use Rattle.qic_mem.specs.Tape.{TapeState}
-use Rattle.qic_mem.specs.Views.{view_in, changed_at, formatted_from}
+use Rattle.qic_mem.specs.Sectors.{view_in, changed_at, changed_from}
 
 -- the place is told to lie on the cartridge
 abbrev pub IsOn : Bool → Option TapeInfo → ℕ → ℕ → Type 0
@@ -73,15 +71,15 @@ spoil-held told info views after segment sector place on at spoiled =
 take-append-at : {A : Type 0} (xs ys : List A) (k n : ℕ) → length xs ≡ k → take (k + n) (xs ++ ys) ≡ xs ++ take n ys
 take-append-at xs ys k n long = rw (← long) (take-append-add xs ys n)
 
-length-front : (views : List SectorView) (first : ℕ) → first + 32 ≤ length views → length (take first views ++ map formatted_view (take 32 (drop first views))) ≡ first + 32
-length-front views first within = simp (length-append, length-map, length-take, length-drop) (omega arith)
+length-front : (views : List SectorView) (first : ℕ) (change : SectorView → SectorView) → first + 32 ≤ length views → length (take first views ++ map change (take 32 (drop first views))) ≡ first + 32
+length-front views first change within = simp (length-append, length-map, length-take, length-drop) (omega arith)
 
--- the first views of a formatted list are those of the first views, formatted
-formatted_from-take : (views : List SectorView) (first more : ℕ) → first + 32 ≤ length views → take (first + 32 + more) (formatted_from views first) ≡ formatted_from (take (first + 32 + more) views) first
-formatted_from-take views first more within =
-    let front : List SectorView = take first views ++ map formatted_view (take 32 (drop first views)) in
+-- the first views of a changed list are those of the first views, changed
+changed_from-take : (views : List SectorView) (first more : ℕ) (change : SectorView → SectorView) → first + 32 ≤ length views → take (first + 32 + more) (changed_from views first change) ≡ changed_from (take (first + 32 + more) views) first change
+changed_from-take views first more change within =
+    let front : List SectorView = take first views ++ map change (take 32 (drop first views)) in
     let rest : List SectorView = drop (first + 32) views in
-    let long : length front ≡ first + 32 = length-front views first within in
+    let long : length front ≡ first + 32 = length-front views first change within in
     let left : take (first + 32 + more) (front ++ rest) ≡ front ++ take more rest = take-append-at front rest (first + 32) more long in
     let begins : take first (take (first + 32 + more) views) ≡ take first views = take-take first (first + 32 + more) views (omega arith) in
     let ends : drop (first + 32) (take (first + 32 + more) views) ≡ take more rest = drop-take (first + 32) more views in
@@ -89,12 +87,12 @@ formatted_from-take views first more within =
     let dropped : drop first (take (first + (32 + more)) views) ≡ take (32 + more) (drop first views) = drop-take first (32 + more) views in
     let middle : take 32 (drop first (take (first + 32 + more) views)) ≡ take 32 (drop first views) =
     rw (sum, dropped) (take-take 32 (32 + more) (drop first views) (omega arith)) in
-    left ∙ sym (ap (λ vs. vs ++ map formatted_view (take 32 (drop first (take (first + 32 + more) views))) ++ drop (first + 32) (take (first + 32 + more) views)) begins
-    ∙ ap (λ vs. take first views ++ map formatted_view vs ++ drop (first + 32) (take (first + 32 + more) views)) middle
+    left ∙ sym (ap (λ vs. vs ++ map change (take 32 (drop first (take (first + 32 + more) views))) ++ drop (first + 32) (take (first + 32 + more) views)) begins
+    ∙ ap (λ vs. take first views ++ map change vs ++ drop (first + 32) (take (first + 32 + more) views)) middle
     ∙ ap (λ vs. front ++ vs) ends)
 
-format-held-at : (i : TapeInfo) (views : List SectorView) (segment : ℕ) → IsPlace i.segments_per_track segment 0 → 896 * i.segments_per_track ≤ length views → held (Some i) (formatted_from views (place_of segment 0)) ≡ effect (FormatSegment segment) (held (Some i) views)
-format-held-at i views segment on within =
+segment-held-at : (i : TapeInfo) (views : List SectorView) (segment : ℕ) (change : SectorView → SectorView) → IsPlace i.segments_per_track segment 0 → 896 * i.segments_per_track ≤ length views → held (Some i) (changed_from views (place_of segment 0) change) ≡ option_map (λ c. with_segment c segment change) (held (Some i) views)
+segment-held-at i views segment change on within =
     let a = on.on_tape in
     let n : ℕ = 896 * i.segments_per_track in
     let first : ℕ = 32 * segment in
@@ -102,20 +100,21 @@ format-held-at i views segment on within =
     let split : first + 32 + more ≡ n = omega arith in
     let start : place_of segment 0 ≡ first = omega arith in
     let next : 32 * (segment + 1) ≡ first + 32 = omega arith in
-    let formatted : take n (formatted_from views first) ≡ formatted_from (take n views) first =
-    rw (← split) (formatted_from-take views first more (omega arith)) in
-    ap (λ vs. Some (record { info = i; views = vs })) (rw (start, next) formatted)
+    let changes : take n (changed_from views first change) ≡ changed_from (take n views) first change =
+    rw (← split) (changed_from-take views first more change (omega arith)) in
+    ap (λ vs. Some (record { info = i; views = vs })) (rw (start, next) changes)
 
-pub format-held : (told : Bool) (info : Option TapeInfo) (room : ℕ) (views after : List SectorView) (segment place : ℕ) → ForSome info (Fits room) → length views ≡ 896 * room → IsOn told info segment 0 → place ≡ place_of segment 0 → after ≡ formatted_from views place → held info after ≡ effect (FormatSegment segment) (held info views)
-format-held false info room views after segment place fits long on at formatted = absurd on
-format-held true None room views after segment place fits long on at formatted = absurd on
-format-held true (Some i) room views after segment place fits long on at formatted =
-    rw (formatted, at) (format-held-at i views segment on (let within = (fits i refl).within in omega arith))
+-- the cartridge with one segment changed stands in the changed views
+pub segment-held : (told : Bool) (info : Option TapeInfo) (room : ℕ) (views after : List SectorView) (segment place : ℕ) (change : SectorView → SectorView) → ForSome info (Fits room) → length views ≡ 896 * room → IsOn told info segment 0 → place ≡ place_of segment 0 → after ≡ changed_from views place change → held info after ≡ option_map (λ c. with_segment c segment change) (held info views)
+segment-held false info room views after segment place change fits long on at changes = absurd on
+segment-held true None room views after segment place change fits long on at changes = absurd on
+segment-held true (Some i) room views after segment place change fits long on at changes =
+    rw (changes, at) (segment-held-at i views segment change on (let within = (fits i refl).within in omega arith))
 
-abbrev state : Option Cartridge → Option ℕ → ℕ → Plan → TapeState
-state cartridge size room plan = record { cartridge = cartridge; size = size; room = room; plan = plan }
+option_map-format : (segment : ℕ) (h : Option Cartridge) → option_map (λ c. with_segment c segment formatted_view) h ≡ effect (FormatSegment segment) h
+option_map-format segment None = refl
+option_map-format segment (Some c) = refl
 
--- two states with the same cartridge and the same counts
-pub state-same : (size : Option ℕ) (room : ℕ) (held kept : Option Cartridge) (plan before : Plan) (failed : Bool) → held ≡ kept → plan ≡ plan_after before failed → failed ≡ false → state held size room plan ≡ state kept size room (plan_after before false)
-state-same size room held kept plan before failed same counted went =
-    ap (λ h. state h size room plan) same ∙ ap (λ p. state kept size room p) (counted ∙ ap (plan_after before) went)
+pub format-held : (told : Bool) (info : Option TapeInfo) (room : ℕ) (views after : List SectorView) (segment place : ℕ) → ForSome info (Fits room) → length views ≡ 896 * room → IsOn told info segment 0 → place ≡ place_of segment 0 → after ≡ changed_from views place formatted_view → held info after ≡ effect (FormatSegment segment) (held info views)
+format-held told info room views after segment place fits long on at formatted =
+    segment-held told info room views after segment place formatted_view fits long on at formatted ∙ option_map-format segment (held info views)

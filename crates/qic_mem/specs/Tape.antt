@@ -1,44 +1,112 @@
--- What a tape in memory shows: its cartridge, its size as told, its room in segments per track, and its chosen failures
--- (this project's profile).
-use Rattle.std.specs.Prelude.{ℕ, Bool, List, Option, Some, None, IfSome, if◌then◌else◌}
-use Rattle.std.specs.Option.{option_map}
-use Rattle.qic_base.specs.Cartridge.{Cartridge, new_cartridge, IsLength}
-use Rattle.qic_base.specs.Step.{Step, effects}
-use Rattle.qic_base.specs.Tape.{Meaning, IsToldRight}
+-- What a tape in memory shows: its cartridge, its size as told, its room in segments per track, its chosen failures, what
+-- they leave, and the calls that it recorded (this project's profile).
+use Rattle.std.specs.Prelude.{◌≡◌, ◌⊎◌, ℕ, ◌≤◌, Bool, true, ◌||◌, Option, Some, None, is_some, IfSome, IsTrue, if◌then◌else◌}
+use Rattle.std.specs.Option.{option_map, ForSome}
+use Rattle.std.proofs.Common.{refl, sym, ap, ◌∙◌}
+use Rattle.qic_base.specs.Cartridge.{Cartridge, IsLength}
+use Rattle.qic_base.specs.Step.{Step}
+use Rattle.qic_base.specs.Tape.{Meaning, IsToldRight, IsLeftNow}
 use Rattle.qic_mem.specs.declared.tape.MemTape.{MemTape}
-use Rattle.qic_mem.specs.Held.{held, size_told, size_told-fits, held-right}
-use Rattle.qic_mem.specs.Plan.{Plan, plan_after}
+use Rattle.qic_mem.specs.declared.tape.outcome.Outcome.{Outcome}
+use Rattle.qic_mem.specs.declared.tape.outcome.Outcome.TheVariants.{Old}
+use Rattle.qic_mem.specs.declared.tape.outcome.End.{End}
+use Rattle.qic_mem.specs.declared.tape.outcome.End.TheVariants.{Done, Failed}
+use Rattle.qic_mem.specs.Change.{is_past}
+use Rattle.qic_mem.specs.Drive.{drive_state, drive-size_fits, drive-told_right}
+use Rattle.qic_mem.specs.Log.{TapeLog, replayed, is_full, logged, moment_of, left_of}
+use Rattle.qic_mem.specs.LogLaws.{since-now, now-since, since-earlier}
+use Rattle.qic_mem.specs.Outcome.{ended, size_ended}
+use Rattle.qic_mem.specs.Plan.{Plan, IsChosen, plan_after}
 
 pub record TapeState : Type 0 where
   pub cartridge : Option Cartridge
   pub size : Option ℕ
   pub room : ℕ
   pub plan : Plan
+  pub outcome : Outcome
+  -- None: it keeps no record
+  pub log : Option TapeLog
 
 unfoldable pub tape_state : MemTape → TapeState
-tape_state t = record { cartridge = held t.info t.sectors.views.items; size = size_told t.told t.info; room = t.room; plan = t.plan }
+tape_state t = record {
+  cartridge = (drive_state t.drive).cartridge;
+  size = (drive_state t.drive).size;
+  room = (drive_state t.drive).room;
+  plan = t.plan;
+  outcome = t.outcome;
+  log = t.log;
+}
 
--- it tells its cartridge
+-- it tells its cartridge, and where it keeps a record its stops
 abbrev pub tape_means : Meaning MemTape
-tape_means = record { told = λ t. Some (tape_state t).cartridge; size = λ t. (tape_state t).size; faults = λ t. (tape_state t).plan.faults }
+tape_means = record {
+  told = λ t. Some (tape_state t).cartridge;
+  size = λ t. (tape_state t).size;
+  faults = λ t. (tape_state t).plan.faults;
+  tells_stops = λ t. is_some (tape_state t).log;
+  moment = λ t. moment_of (tape_state t).log;
+  left_since = λ t moment left. left_of (tape_state t).log moment left;
+}
 
--- after a call that did these steps, or that failed and did nothing
-abbrev pub after_call : TapeState → List Step → Bool → TapeState
-after_call s steps failed = record s { cartridge = if failed then s.cartridge else effects steps s.cartridge; plan = plan_after s.plan failed }
+-- a call that changes the cartridge is refused past the room of the record, and a new cartridge past the room for it
+abbrev pub is_refused : TapeState → Step → Bool
+is_refused s step = is_full s.log || is_past s.room step
+
+-- such a call fails exactly at its chosen numbers and where it is refused
+abbrev pub Fails : TapeState → Step → Type 0
+Fails s step = IsChosen s.plan ⊎ IsTrue (is_refused s step)
+
+-- how it ends: a chosen failure leaves what was set, and one that is refused leaves all as it was
+abbrev pub end_of : TapeState → Step → Bool → End
+end_of s step failed = if failed then Failed (if is_refused s step then Old else s.outcome) else Done
+
+-- after a call with this step, which failed or not
+abbrev pub after_call : TapeState → Step → Bool → TapeState
+after_call s step failed = record s {
+  cartridge = ended (end_of s step failed) step s.cartridge;
+  size = size_ended step failed s.size;
+  plan = plan_after s.plan failed;
+  log = logged s.log (record { step = step; end = end_of s step failed });
+}
+
+-- after a read of a sector
+abbrev pub after_read : TapeState → Bool → TapeState
+after_read s failed = record s { plan = plan_after s.plan failed }
 
 -- after a call that told what the cartridge is, or that failed and told nothing
 abbrev pub after_info : TapeState → Bool → TapeState
 after_info s failed = record s { size = if failed then s.size else option_map (λ c. c.info.segments_per_track) s.cartridge; plan = plan_after s.plan failed }
 
--- after a call that put in a new cartridge, or that failed: then the old one stays, and the size is none
-abbrev pub after_renew : TapeState → ℕ → Bool → TapeState
-after_renew s n failed = record s { cartridge = if failed then s.cartridge else Some (new_cartridge n); size = if failed then None else Some n; plan = plan_after s.plan failed }
-
 -- the laws of a tape
 pub tape-size_fits : (t : MemTape) → IfSome (tape_means.size t) IsLength
 unfolding tape_state
-tape-size_fits t = size_told-fits t.told t.info t.room t.fits
+tape-size_fits t = drive-size_fits t.drive
 
 pub tape-told_right : (t : MemTape) → IsToldRight (tape_means.told t) (tape_means.size t)
 unfolding tape_state
-tape-told_right t = held-right t.told t.info t.room t.sectors.views.items t.fits t.long t.sectors.whole
+tape-told_right t = drive-told_right t.drive
+
+-- what a stop leaves by a record that gives what stands
+counts_now : (log : Option TapeLog) (held : Option Cartridge) (t : ℕ) (left : Option Cartridge) → ForSome log (λ l. held ≡ replayed l.calls None) → t ≤ moment_of log → Some held ≡ Some left → left_of log t left
+counts_now None held t left stands early told = tt
+counts_now (Some l) held t left stands early told =
+    since-now l.calls t left early (let here : held ≡ replayed l.calls None = stands l refl in cc)
+
+only_now : (log : Option TapeLog) (held left : Option Cartridge) → ForSome log (λ l. held ≡ replayed l.calls None) → is_some log ≡ true → left_of log (moment_of log) left → Some held ≡ Some left
+only_now None held left stands telling was = cc
+only_now (Some l) held left stands telling was =
+    let here : held ≡ replayed l.calls None = stands l refl in
+    ap Some (here ∙ sym (now-since l.calls left was))
+
+counts_earlier : (log : Option TapeLog) (t u : ℕ) (left : Option Cartridge) → t ≤ u → left_of log u left → left_of log t left
+counts_earlier None t u left order was = tt
+counts_earlier (Some l) t u left order was = since-earlier l.calls t u left order was
+
+pub tape-left_now : (t : MemTape) → IsLeftNow tape_means t
+unfolding tape_state
+tape-left_now t = record {
+  telling = λ telling. refl;
+  counts = λ moment left telling early told. counts_now t.log (drive_state t.drive).cartridge moment left t.replayed early told;
+  only = λ left telling was. only_now t.log (drive_state t.drive).cartridge left t.replayed telling was;
+  earlier = λ s u left order early was. counts_earlier t.log s u left order was;
+}

@@ -1,15 +1,18 @@
 //! The outside in memory, with chosen failures: for tests, and for what holds where nothing fails.
 #![tactic(auto)]
 
+pub mod disk;
 mod plan;
 pub mod sink;
 pub mod source;
+pub mod sure_sink;
 pub mod tape;
-mod views;
 
+pub use disk::MemDisk;
 pub use sink::MemSink;
-pub use source::MemSource;
-pub use tape::MemTape;
+pub use source::{MemSource, SureSource};
+pub use sure_sink::SureSink;
+pub use tape::{MemTape, Outcome, SureTape};
 
 #[cfg(test)]
 mod tests {
@@ -83,6 +86,32 @@ mod tests {
         assert_eq!(rt; into[1023], 7);
         tape.wear(83, 31)?;
         assert_eq!(rt; tape.read_sector(83, 31, &mut into)?, SectorRead::Lost);
+        Ok(())
+    }
+
+    #[test]
+    fn what_never_fails_goes_on(rt: HostRuntime) -> Result<(), Fail> {
+        let alloc = rt.alloc();
+        let mut source = SureSource::new(b"hello".to_vec(alloc)?);
+        let mut into = [0; 3];
+        assert_eq!(rt; source.read(&mut into), Ok(3));
+        assert_eq!(rt; into, *b"hel");
+        assert_eq!(rt; SureSink::new().write(&into), Ok(3));
+        Ok(())
+    }
+
+    #[test]
+    fn a_sure_tape_holds_the_longest_cartridge(rt: HostRuntime) -> Result<(), Fail> {
+        let mut tape = SureTape::new(rt.alloc())?;
+        tape.renew(150)?;
+        tape.format_segment(4199)?;
+        assert_eq!(rt;
+            tape.write_sector(4199, 31, &[7; 1024])?,
+            SectorWrite::Taken
+        );
+        let mut into = [1; 1024];
+        assert_eq!(rt; tape.read_sector(4199, 31, &mut into)?, SectorRead::Good);
+        assert_eq!(rt; into[1023], 7);
         Ok(())
     }
 

@@ -1,61 +1,134 @@
-ghost use Rattle.std.specs.Prelude.{◌≡◌, ◌≢◌, ◌↔◌, ◌⊎◌, ◌<◌, ◌*◌, [], ◌∷◌, Some, None, length, is_err, IsErr, IsSome, IfOk, IfSome, OnOk, OnErr};
-ghost use Rattle.std.specs.Option.{option_map, ForSome};
-ghost use Rattle.qic_base.specs.Cartridge.{IsLength, view_at, place_of as place_at};
+ghost use Rattle.std.specs.Prelude.{◌≡◌, ◌≢◌, ◌↔◌, [], ◌∷◌, Some, None, is_err, IsErr, IsSome, IfOk, IfSome, OnOk, OnErr};
+ghost use Rattle.std.specs.Option.{option_map};
+ghost use Rattle.qic_base.specs.Cartridge.{IsLength, view_at};
 ghost use Rattle.qic_base.specs.Step.{WriteSector, FormatSegment, SetReferenced, SetProtected, Renew, Wear, Spoil};
 ghost use Rattle.qic_base.specs.Tape.{Does, Tells, IsPlaceOf, Reads, write_answer, spoil_answer};
-ghost use Rattle.qic_mem.specs.Held.{Fits};
+ghost use Rattle.qic_mem.specs.Change.{step_of, IsReached};
 ghost use Rattle.qic_mem.specs.Plan.{new_plan, IsChosen};
+ghost use Rattle.qic_mem.specs.Replayed.{IsReplayed, IsReplayed-prop};
+
+mod change;
+mod drive;
+mod log;
+mod outcome;
+mod sectors;
+pub mod sure;
 
 use crate::plan::CallPlan;
-use crate::views::Sectors;
+use change::Change;
+use drive::Drive;
+use log::{Call, CallLog, is_full, note};
+use outcome::End;
+pub use outcome::Outcome;
 use qic_base::{NoMemory, SectorRead, SectorWrite, Tape, TapeFailed, TapeInfo};
 use std::alloc::Global;
-
-/// Sectors for each segment per track: 28 tracks of 32 sectors a segment (QIC-80-MC).
-const SECTORS_PER_LENGTH: usize = 896;
+pub use sure::SureTape;
 
 /// A tape in memory, whose chosen calls fail.
 #[derive(Drop)]
 pub struct MemTape {
-    room: u16,
-    info: Option<TapeInfo>,
-    told: bool,
-    sectors: Sectors,
+    drive: Drive,
     plan: CallPlan,
-    ghost long: { length sectors.views.items ≡ 896 * room },
-    ghost fits: { ForSome info (Fits room) },
+    outcome: Outcome,
+    log: Option<CallLog>,
+    ghost replayed: { IsReplayed log drive } by { IsReplayed-prop log drive },
 }
 
 #[tactic(auto, unfolding(crate::specs::Tape::tape_state))]
 impl MemTape {
-    ghost use Rattle.qic_mem.specs.Tape.{tape_state};
+    ghost use Rattle.qic_mem.specs.Tape.{tape_state, tape_means, is_refused, Fails, after_call};
 
     /// An empty drive with room for a cartridge of `room` segments per track, which it takes at
     /// once. `fails` has the numbers of the calls that are to fail, counted from 0 over all calls.
-    /// A `renew` above `room` fails too.
+    /// A `renew` above `room` fails too. It keeps no record, and does not tell its stops.
     pub fn new(alloc: Global, room: u16, fails: Vec<u64>) -> Result<Self, NoMemory>
-        ensures { IfOk result (λ tape. tape_state tape
-            ≡ record { cartridge = None; size = None; room = room; plan = new_plan fails.items }) }
+        ensures { IfOk result (λ tape. tape_state tape ≡ record {
+          cartridge = None;
+          size = None;
+          room = room;
+          plan = new_plan fails.items;
+          outcome = Outcome.Old;
+          log = None;
+        }) }
     {
         Ok(MemTape {
-            room,
-            info: None,
-            told: false,
-            sectors: Sectors::new(alloc, SECTORS_PER_LENGTH * room as usize)?,
+            drive: Drive::new(alloc, room)?,
             plan: CallPlan::new(fails),
+            outcome: Outcome::Old,
+            log: None,
         })
+    }
+
+    /// The same, with a record of its calls but `info` and `read_sector`, by which it tells its stops. It takes the
+    /// room for `calls` of them at once; such a call fails too where the record is full.
+    pub fn recorded(alloc: Global, room: u16, calls: u32, fails: Vec<u64>) -> Result<Self, NoMemory>
+        ensures { IfOk result (λ tape. tape_state tape ≡ record {
+          cartridge = None;
+          size = None;
+          room = room;
+          plan = new_plan fails.items;
+          outcome = Outcome.Old;
+          log = Some (record { room = calls; calls = [] });
+        }) }
+    {
+        Ok(MemTape {
+            drive: Drive::new(alloc, room)?,
+            plan: CallPlan::new(fails),
+            outcome: Outcome::Old,
+            log: Some(CallLog::new(alloc, calls)?),
+        })
+    }
+
+    /// Sets what each chosen failure from now on leaves; `Old` at first.
+    pub fn set_outcome(&mut self, outcome: Outcome)
+        ensures { tape_state self.new ≡ record (tape_state self.old) { outcome = outcome } }
+    {
+        self.outcome = outcome;
+    }
+
+    /// Whether the change finds no room in the record, or is a cartridge longer than the room.
+    fn is_refused(&self, change: &Change) -> bool
+        ensures { result ≡ is_refused (tape_state self.now) (step_of change.now) }
+    {
+        is_full(&self.log) || self.drive.is_past(change)
+    }
+
+    /// Counts a call that makes a change, records it, and makes the change, or leaves what the failure is to leave.
+    fn run(&mut self, change: Change) -> Result<(), TapeFailed>
+        requires { IsReached (tape_state self.old).size (step_of change) }
+        ensures did { Does tape_means self.old self.new (step_of change ∷ []) result }
+        ensures fails { IsErr result ↔ Fails (tape_state self.old) (step_of change) }
+        ensures state { tape_state self.new
+            ≡ after_call (tape_state self.old) (step_of change) (is_err result) }
+    {
+        let refused = self.is_refused(&change);
+        let failed = refused || self.plan.is_next_chosen();
+        self.plan.count(failed);
+        if !failed {
+            self.drive.make(&change);
+            let end = End::Done;
+            note(&mut self.log, Call { change, end });
+            return Ok(());
+        }
+        let left = if refused { Outcome::Old } else { self.outcome };
+        self.drive.fail(&change, left);
+        let end = End::Failed(left);
+        note(&mut self.log, Call { change, end });
+        Err(TapeFailed)
     }
 }
 
 #[tactic(auto, unfolding(crate::specs::Tape::tape_state))]
 impl Tape for MemTape {
-    ghost use Rattle.qic_mem.specs.Tape.{tape_state, tape_means, after_call, after_info, after_renew, tape-size_fits, tape-told_right};
+    ghost use Rattle.qic_mem.specs.Tape.{tape_state, tape_means, Fails, after_call, after_info, after_read, tape-size_fits, tape-told_right, tape-left_now};
 
     ghost means = { tape_means };
 
     ghost size_fits = { tape-size_fits };
 
     ghost told_right = { tape-told_right };
+
+    ghost left_now = { tape-left_now };
 
     fn info(&mut self) -> Result<Option<TapeInfo>, TapeFailed>
         ensures did { Does tape_means self.old self.new [] result }
@@ -72,8 +145,7 @@ impl Tape for MemTape {
         if self.plan.begin() {
             return Err(TapeFailed);
         }
-        self.told = true;
-        Ok(self.info)
+        Ok(self.drive.info())
     }
 
     fn read_sector(
@@ -90,12 +162,12 @@ impl Tape for MemTape {
         ensures size { tape_means.size self.new ≡ tape_means.size self.old }
 
         ensures fails { IsErr result ↔ IsChosen (tape_state self.old).plan }
-        ensures state { tape_state self.new ≡ after_call (tape_state self.old) [] (is_err result) }
+        ensures state { tape_state self.new ≡ after_read (tape_state self.old) (is_err result) }
     {
         if self.plan.begin() {
             return Err(TapeFailed);
         }
-        Ok(self.sectors.read(place_of(segment, sector), into))
+        Ok(self.drive.read(segment, sector, into))
     }
 
     fn write_sector(
@@ -110,14 +182,16 @@ impl Tape for MemTape {
             answer ≡ write_answer (view_at c segment sector))) }
         ensures size { tape_means.size self.new ≡ tape_means.size self.old }
 
-        ensures fails { IsErr result ↔ IsChosen (tape_state self.old).plan }
+        // A call that changes the cartridge fails exactly at its chosen numbers and past the stated rooms, and the whole
+        // state follows.
+        ensures fails { IsErr result
+            ↔ Fails (tape_state self.old) (WriteSector segment sector from.now) }
         ensures state { tape_state self.new ≡ after_call (tape_state self.old)
-            (WriteSector segment sector from.now ∷ []) (is_err result) }
+            (WriteSector segment sector from.now) (is_err result) }
     {
-        if self.plan.begin() {
-            return Err(TapeFailed);
-        }
-        Ok(self.sectors.write(place_of(segment, sector), from))
+        let answer = self.drive.write_answer(segment, sector);
+        self.run(Change::WriteSector(segment, sector, *from))?;
+        Ok(answer)
     }
 
     fn format_segment(&mut self, segment: u32) -> Result<(), TapeFailed>
@@ -125,15 +199,11 @@ impl Tape for MemTape {
         ensures did { Does tape_means self.old self.new (FormatSegment segment ∷ []) result }
         ensures size { tape_means.size self.new ≡ tape_means.size self.old }
 
-        ensures fails { IsErr result ↔ IsChosen (tape_state self.old).plan }
+        ensures fails { IsErr result ↔ Fails (tape_state self.old) (FormatSegment segment) }
         ensures state { tape_state self.new
-            ≡ after_call (tape_state self.old) (FormatSegment segment ∷ []) (is_err result) }
+            ≡ after_call (tape_state self.old) (FormatSegment segment) (is_err result) }
     {
-        if self.plan.begin() {
-            return Err(TapeFailed);
-        }
-        self.sectors.format(place_of(segment, 0));
-        Ok(())
+        self.run(Change::FormatSegment(segment))
     }
 
     fn set_referenced(&mut self) -> Result<(), TapeFailed>
@@ -141,18 +211,11 @@ impl Tape for MemTape {
         ensures did { Does tape_means self.old self.new (SetReferenced ∷ []) result }
         ensures size { tape_means.size self.new ≡ tape_means.size self.old }
 
-        ensures fails { IsErr result ↔ IsChosen (tape_state self.old).plan }
+        ensures fails { IsErr result ↔ Fails (tape_state self.old) SetReferenced }
         ensures state { tape_state self.new
-            ≡ after_call (tape_state self.old) (SetReferenced ∷ []) (is_err result) }
+            ≡ after_call (tape_state self.old) SetReferenced (is_err result) }
     {
-        if self.plan.begin() {
-            return Err(TapeFailed);
-        }
-        self.info = self.info.map(|info| TapeInfo {
-            referenced: true,
-            ..info
-        });
-        Ok(())
+        self.run(Change::SetReferenced)
     }
 
     fn set_protected(&mut self, on: bool) -> Result<(), TapeFailed>
@@ -160,18 +223,11 @@ impl Tape for MemTape {
         ensures did { Does tape_means self.old self.new (SetProtected on ∷ []) result }
         ensures size { tape_means.size self.new ≡ tape_means.size self.old }
 
-        ensures fails { IsErr result ↔ IsChosen (tape_state self.old).plan }
+        ensures fails { IsErr result ↔ Fails (tape_state self.old) (SetProtected on) }
         ensures state { tape_state self.new
-            ≡ after_call (tape_state self.old) (SetProtected on ∷ []) (is_err result) }
+            ≡ after_call (tape_state self.old) (SetProtected on) (is_err result) }
     {
-        if self.plan.begin() {
-            return Err(TapeFailed);
-        }
-        self.info = self.info.map(|info| TapeInfo {
-            protected: on,
-            ..info
-        });
-        Ok(())
+        self.run(Change::SetProtected(on))
     }
 
     fn renew(&mut self, segments_per_track: u16) -> Result<(), TapeFailed>
@@ -180,27 +236,11 @@ impl Tape for MemTape {
         ensures size { OnOk result (tape_means.size self.new ≡ Some segments_per_track) }
         ensures failed { OnErr result (tape_means.size self.new ≡ None) }
 
-        ensures fails { IsErr result
-            ↔ (IsChosen (tape_state self.old).plan
-            ⊎ ((tape_state self.old).room < segments_per_track)) }
+        ensures fails { IsErr result ↔ Fails (tape_state self.old) (Renew segments_per_track) }
         ensures state { tape_state self.new
-            ≡ after_renew (tape_state self.old) segments_per_track (is_err result) }
+            ≡ after_call (tape_state self.old) (Renew segments_per_track) (is_err result) }
     {
-        let failed = self.plan.is_next_chosen() || self.room < segments_per_track;
-        self.plan.count(failed);
-        if failed {
-            self.told = false;
-            return Err(TapeFailed);
-        }
-        self.sectors
-            .clear(SECTORS_PER_LENGTH * segments_per_track as usize);
-        self.info = Some(TapeInfo {
-            segments_per_track,
-            protected: false,
-            referenced: false,
-        });
-        self.told = true;
-        Ok(())
+        self.run(Change::Renew(segments_per_track))
     }
 
     fn wear(&mut self, segment: u32, sector: u8) -> Result<(), TapeFailed>
@@ -208,15 +248,11 @@ impl Tape for MemTape {
         ensures did { Does tape_means self.old self.new (Wear segment sector ∷ []) result }
         ensures size { tape_means.size self.new ≡ tape_means.size self.old }
 
-        ensures fails { IsErr result ↔ IsChosen (tape_state self.old).plan }
+        ensures fails { IsErr result ↔ Fails (tape_state self.old) (Wear segment sector) }
         ensures state { tape_state self.new
-            ≡ after_call (tape_state self.old) (Wear segment sector ∷ []) (is_err result) }
+            ≡ after_call (tape_state self.old) (Wear segment sector) (is_err result) }
     {
-        if self.plan.begin() {
-            return Err(TapeFailed);
-        }
-        self.sectors.wear(place_of(segment, sector));
-        Ok(())
+        self.run(Change::Wear(segment, sector))
     }
 
     fn spoil(&mut self, segment: u32, sector: u8) -> Result<bool, TapeFailed>
@@ -226,19 +262,15 @@ impl Tape for MemTape {
             answer ≡ spoil_answer (view_at c segment sector))) }
         ensures size { tape_means.size self.new ≡ tape_means.size self.old }
 
-        ensures fails { IsErr result ↔ IsChosen (tape_state self.old).plan }
+        ensures fails { IsErr result ↔ Fails (tape_state self.old) (Spoil segment sector) }
         ensures state { tape_state self.new
-            ≡ after_call (tape_state self.old) (Spoil segment sector ∷ []) (is_err result) }
+            ≡ after_call (tape_state self.old) (Spoil segment sector) (is_err result) }
     {
-        if self.plan.begin() {
-            return Err(TapeFailed);
-        }
-        Ok(self.sectors.spoil(place_of(segment, sector)))
+        let answer = self.drive.spoil_answer(segment, sector);
+        self.run(Change::Spoil(segment, sector))?;
+        Ok(answer)
     }
 }
 
-fn place_of(segment: u32, sector: u8) -> usize
-    ensures { result ≡ place_at segment sector }
-{
-    32 * segment as usize + sector as usize
-}
+#[cfg(test)]
+mod tests;

@@ -1,0 +1,102 @@
+-- What a failing call leaves is what a stop inside it may leave.
+use Rattle.std.proofs.Common.{◌≡◌, ℕ, ◌+◌, ◌*◌, ◌-◌, ◌<◌, ◌≤◌, inl, inr, List, [], ◌∷◌, ◌++◌, take, drop, map, length, Option, Some, None, refl, sym, ap, ◌∙◌, arith, IsSomeAnd, get_or, length-append, length-take, length-drop}
+use Rattle.std.specs.Option.{option_map}
+use Rattle.std.proofs.lemmas.List.{length-map, get_or-take, get_or-drop, get_or_append_left, get_or-append_right, get_or-map}
+use Rattle.std.proofs.lemmas.Option.{unwrap_or-slice_get}
+use Rattle.qic_base.specs.declared.tape.SectorView.{SectorView}
+use Rattle.qic_base.specs.declared.tape.SectorView.TheVariants.{Blank, Defect, Lost, Holds}
+use Rattle.qic_base.specs.Cartridge.{Cartridge, IsPlace, view_at, with_segment}
+use Rattle.qic_base.specs.Step.{Step, WriteSector, FormatSegment, SetReferenced, SetProtected, Renew, Wear, Spoil, worn_view}
+use Rattle.qic_base.specs.Stop.{Torn, ClosingView, SegmentBecame, HalfFormatted}
+use Rattle.qic_base.specs.Tape.{IsToldRight}
+use Rattle.qic_mem.specs.declared.tape.outcome.Outcome.{Outcome}
+use Rattle.qic_mem.specs.declared.tape.outcome.Outcome.TheVariants as outcome
+use Rattle.qic_mem.specs.Change.{IsReached}
+use Rattle.qic_mem.specs.Outcome.{left_by}
+use Rattle.qic_mem.proofs.Places.{slice_get-same}
+
+-- a worn sector is one whose segment's formatting has begun
+closing-worn : (view : SectorView) → ClosingView view (worn_view view)
+closing-worn Blank = refl
+closing-worn Defect = refl
+closing-worn Lost = refl
+closing-worn (Holds bytes) = inr refl
+
+-- ---- the views of a cartridge with 32 of them changed
+
+abbrev changed_views : List SectorView → ℕ → (SectorView → SectorView) → List SectorView
+changed_views views segment change = take (32 * segment) views ++ map change (take 32 (drop (32 * segment) views)) ++ drop (32 * (segment + 1)) views
+
+length-changed : (views : List SectorView) (segment : ℕ) (change : SectorView → SectorView) → 32 * (segment + 1) ≤ length views → length (changed_views views segment change) ≡ length views
+length-changed views segment change within = simp (length-append, length-map, length-take, length-drop) (omega arith)
+
+length-part : (views : List SectorView) (segment : ℕ) (change : SectorView → SectorView) → 32 * (segment + 1) ≤ length views → length (take (32 * segment) views ++ map change (take 32 (drop (32 * segment) views))) ≡ 32 * (segment + 1)
+length-part views segment change within = simp (length-append, length-map, length-take, length-drop) (omega arith)
+
+get-below : (views : List SectorView) (segment place : ℕ) (change : SectorView → SectorView) → 32 * (segment + 1) ≤ length views → place < 32 * segment → get_or (changed_views views segment change) place Blank ≡ get_or views place Blank
+get-below views segment place change within below =
+    let front : List SectorView = take (32 * segment) views in
+    let long : length front ≡ 32 * segment = simp length-take (omega arith) in
+    let middle : List SectorView = map change (take 32 (drop (32 * segment) views)) in
+    get_or_append_left (front ++ middle) (drop (32 * (segment + 1)) views) Blank place (omega (arith, length-part views segment change within))
+    ∙ get_or_append_left front middle Blank place (omega arith)
+    ∙ get_or-take (32 * segment) views place Blank below
+
+get-above : (views : List SectorView) (segment place : ℕ) (change : SectorView → SectorView) → 32 * (segment + 1) ≤ length views → 32 * (segment + 1) ≤ place → get_or (changed_views views segment change) place Blank ≡ get_or views place Blank
+get-above views segment place change within above =
+    let sum : 32 * (segment + 1) + (place - 32 * (segment + 1)) ≡ place = omega arith in
+    get_or-append_right (take (32 * segment) views ++ map change (take 32 (drop (32 * segment) views))) (drop (32 * (segment + 1)) views) (32 * (segment + 1)) place Blank (length-part views segment change within) above
+    ∙ get_or-drop (32 * (segment + 1)) views (place - 32 * (segment + 1)) Blank
+    ∙ ap (λ p. get_or views p Blank) sum
+
+get-within : (views : List SectorView) (segment sector : ℕ) (change : SectorView → SectorView) → 32 * (segment + 1) ≤ length views → sector < 32 → get_or (changed_views views segment change) (32 * segment + sector) Blank ≡ change (get_or views (32 * segment + sector) Blank)
+get-within views segment sector change within in_segment =
+    let front : List SectorView = take (32 * segment) views in
+    let part : List SectorView = take 32 (drop (32 * segment) views) in
+    let long : length front ≡ 32 * segment = simp length-take (omega arith) in
+    let some : length part ≡ 32 = simp (length-take, length-drop) (omega arith) in
+    let left : 32 * segment + sector - 32 * segment ≡ sector = omega arith in
+    get_or_append_left (front ++ map change part) (drop (32 * (segment + 1)) views) Blank (32 * segment + sector) (omega (arith, length-part views segment change within))
+    ∙ get_or-append_right front (map change part) (32 * segment) (32 * segment + sector) Blank long (omega arith)
+    ∙ ap (λ p. get_or (map change part) p Blank) left
+    ∙ get_or-map change part sector Blank Blank (omega arith)
+    ∙ ap change (get_or-take 32 (drop (32 * segment) views) sector Blank in_segment ∙ get_or-drop (32 * segment) views sector Blank)
+
+-- a segment whose readable sectors were worn
+segment-worn : (c : Cartridge) (segment : ℕ) → 32 * (segment + 1) ≤ length c.views → SegmentBecame ClosingView segment c (with_segment c segment worn_view)
+segment-worn c segment within =
+    let long : length (changed_views c.views segment worn_view) ≡ length c.views = length-changed c.views segment worn_view within in
+    record {
+      info = refl;
+      sectors = long;
+      within = λ sector in_segment.
+          let new : view_at (with_segment c segment worn_view) segment sector ≡ worn_view (view_at c segment sector) =
+          unwrap_or-slice_get (changed_views c.views segment worn_view) (32 * segment + sector) Blank
+          ∙ get-within c.views segment sector worn_view within in_segment
+          ∙ ap worn_view (sym (unwrap_or-slice_get c.views (32 * segment + sector) Blank)) in
+          rw new (closing-worn (view_at c segment sector));
+      below = λ place under. slice_get-same (changed_views c.views segment worn_view) c.views place Blank long (get-below c.views segment place worn_view within under);
+      above = λ place over. slice_get-same (changed_views c.views segment worn_view) c.views place Blank long (get-above c.views segment place worn_view within over);
+    }
+
+half-worn : (size : Option ℕ) (held : Option Cartridge) (segment : ℕ) → IsToldRight (Some held) size → IsSomeAnd size (λ n. IsPlace n segment 0) → HalfFormatted segment held (option_map (λ c. with_segment c segment worn_view) held)
+half-worn None held segment right on = absurd on
+half-worn (Some n) None segment right on = cc
+half-worn (Some n) (Some c) segment (whole, same) on =
+    inl (segment-worn c segment (let a = on.on_tape in let b = whole.sectors in omega arith))
+
+-- ---- each outcome
+
+torn-lost : (size : Option ℕ) (held : Option Cartridge) (s : Step) → IsToldRight (Some held) size → IsReached size s → Torn (s ∷ []) held (left_by outcome.Lost s held)
+torn-lost size held (WriteSector segment sector bytes) right reached = inr (inl refl)
+torn-lost size held (FormatSegment segment) right reached = inr (inl (half-worn size held segment right reached))
+torn-lost size held SetReferenced right reached = inl refl
+torn-lost size held (SetProtected on) right reached = inl refl
+torn-lost size held (Renew n) right reached = inr (inl refl)
+torn-lost size held (Wear segment sector) right reached = inl refl
+torn-lost size held (Spoil segment sector) right reached = inl refl
+
+pub torn-left : (size : Option ℕ) (held : Option Cartridge) (left : Outcome) (s : Step) → IsToldRight (Some held) size → IsReached size s → Torn (s ∷ []) held (left_by left s held)
+torn-left size held outcome.Old s right reached = inl refl
+torn-left size held outcome.Lost s right reached = torn-lost size held s right reached
+torn-left size held outcome.New s right reached = inr (inr refl)

@@ -1,0 +1,44 @@
+use Rattle.std.proofs.Common.{◌≡◌, ◌∙◌, ◌/◌, ℕ, take, length, true, refl, ap, subst, arith, length-take}
+use Rattle.qic_base.specs.Disk.{AreBytes, WriteAt}
+use Rattle.qic_base.specs.Field.{overwritten}
+use Rattle.qic_mem.specs.Disk.{disk_state}
+use Rattle.qic_mem.specs.Store.{StoreState, store_state, store-bytes, store-seen}
+use Rattle.qic_mem.proofs.Counting.{counted-rose}
+use Rattle.qic_mem.proofs.Crashing.{disk-written, disk-broke, disk-refused}
+use Rattle.qic_mem.proofs.Tearing.{write-torn, nothing-torn}
+use Rattle.qic_mem.proofs.disk.MemDiskDisk.write_at.Goals as goal
+use Rattle.qic_mem.proofs.disk.MemDiskDisk.write_at.Goals.{then-full, else-full}
+
+pub returns-then-full-2-clause-did : goal.returns-then-full-2-clause-did
+unfolding disk_state
+returns-then-full-2-clause-did c =
+    let failed : c.if-full.failed ≡ true = elim c.if-full.branch [ then-full w ↦ w.failed-is ∙ c.if-full-2.true | else-full w ↦ cc (w.if-full.false, c.if-full-2.true) ] in
+    disk-refused _ _ (WriteAt c.args.place c.args.from.now) c.settle.ensures refl
+    (nothing-torn (store_state c.args.self.now.store).bytes c.args.place (length c.args.from.now) (store-bytes c.args.self.now.store))
+    c.count.ensures.never_falls (counted-rose _ _ _ c.count.ensures.counted failed)
+
+pub write_at-requires : goal.write_at-requires
+unfolding disk_state
+write_at-requires c = omega (arith, store-seen c.args.self.now.store, length-take {A = ℕ})
+
+pub returns-then-failed-clause-did : goal.returns-then-failed-clause-did
+unfolding disk_state
+returns-then-failed-clause-did c =
+    let is : (store_state c.write_at.new.self).bytes ≡ overwritten (store_state c.args.self.now.store).bytes c.args.place (take (length c.args.from.now / 2) c.args.from.now) =
+    ap (λ (s : StoreState). s.bytes) c.write_at.ensures in
+    disk-broke _ _ (WriteAt c.args.place c.args.from.now) c.note.ensures is
+    (write-torn _ _ c.args.place (length c.args.from.now) (omega (arith, length-take {A = ℕ})) (omega (arith, store-seen c.args.self.now.store)) (subst AreBytes is (store-bytes c.write_at.new.self)))
+    c.count.ensures.never_falls (counted-rose _ _ _ c.count.ensures.counted c.if-failed.true)
+
+pub write_at-requires-2 : goal.write_at-requires-2
+unfolding disk_state
+write_at-requires-2 c = omega (arith, store-seen c.args.self.now.store)
+
+pub returns-clause-did : goal.returns-clause-did
+unfolding disk_state
+returns-clause-did c =
+    let is : (store_state c.write_at-2.new.self).bytes ≡ overwritten (store_state c.args.self.now.store).bytes c.args.place c.args.from.now =
+    ap (λ (s : StoreState). s.bytes) c.write_at-2.ensures in
+    disk-written _ _ c.args.place c.args.from.now c.note-2.ensures is
+    (write-torn (store_state c.args.self.now.store).bytes c.args.from.now c.args.place (length c.args.from.now) (omega arith) (omega (arith, store-seen c.args.self.now.store)) (subst AreBytes is (store-bytes c.write_at-2.new.self)))
+    c.count.ensures.never_falls

@@ -1,0 +1,11 @@
+use Rattle.std.proofs.Common.{◌≡◌, ◌++◌, take, drop, map}
+use Rattle.std.specs.Prelude.{All}
+use Rattle.qic_base.specs.Cartridge.{IsView}
+use Rattle.qic_base.specs.Step.{formatted_view}
+use Rattle.qic_mem.proofs.tape.sectors.format_views.Given as goal
+
+abbrev pub invariant-loop-view : goal.invariant-loop-view
+invariant-loop-view l = record {
+  formatted : l.views ≡ map formatted_view (take l.view-index l.initial.views) ++ drop l.view-index l.initial.views;
+  whole : All IsView l.initial.views → All IsView l.views;
+}

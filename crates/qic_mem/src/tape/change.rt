@@ -1,0 +1,11 @@
+/// A change that a call of a tape is to make, with all that it was given.
+#[derive(Drop)]
+pub(crate) enum Change {
+    WriteSector(u32, u8, [u8; 1024]),
+    FormatSegment(u32),
+    SetReferenced,
+    SetProtected(bool),
+    Renew(u16),
+    Wear(u32, u8),
+    Spoil(u32, u8),
+}

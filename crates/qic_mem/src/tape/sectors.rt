@@ -1,0 +1,202 @@
+ghost use Rattle.std.specs.Prelude.{◌≡◌, ◌≢◌, ◌<◌, ◌≤◌, ◌+◌, ◌++◌, length, drop, map, replicate, All, IfOk};
+ghost use Rattle.qic_base.specs.Cartridge.{IsView, zero_sector};
+ghost use Rattle.qic_base.specs.Step.{written_view, formatted_view, worn_view, spoiled_view};
+ghost use Rattle.qic_base.specs.Tape.{Reads, write_answer, spoil_answer};
+ghost use Rattle.qic_mem.specs.Sectors.{view_in, changed_at, changed_from, views_prop};
+
+use qic_base::{NoMemory, SectorRead, SectorView, SectorWrite};
+use std::alloc::Global;
+
+/// The views of sectors, one after another.
+#[derive(Drop)]
+pub(crate) struct Sectors {
+    views: Vec<SectorView>,
+    ghost whole: { All IsView views.items } by { views_prop views.items },
+}
+
+impl Sectors {
+    /// This many sectors that were never formatted.
+    pub(crate) fn new(alloc: Global, count: usize) -> Result<Self, NoMemory>
+        ensures { IfOk result (λ s. s.views.items ≡ replicate count SectorView.Blank) }
+    {
+        Ok(Sectors {
+            views: vec![in alloc; SectorView::Blank; count]?,
+        })
+    }
+
+    /// Reads the sector at a place. `into` is unchanged unless the answer is `Good`.
+    pub(crate) fn read(&self, place: usize, into: &mut [u8; 1024]) -> SectorRead
+        requires { place < length self.now.views.items }
+        ensures reads { Reads (view_in self.now.views.items place) into.old into.new result }
+        ensures unchanged { result ≢ SectorRead.Good → into.new ≡ into.old }
+    {
+        read_view(&self.views[place], into)
+    }
+
+    /// What a write to the sector at a place answers.
+    pub(crate) fn write_answer(&self, place: usize) -> SectorWrite
+        requires { place < length self.now.views.items }
+        ensures { result ≡ write_answer (view_in self.now.views.items place) }
+    {
+        match self.views[place] {
+            SectorView::Blank => SectorWrite::Blank,
+            SectorView::Defect | SectorView::Lost | SectorView::Holds(_) => SectorWrite::Taken,
+        }
+    }
+
+    /// Whether the sector at a place is a defect once it is spoiled.
+    pub(crate) fn spoil_answer(&self, place: usize) -> bool
+        requires { place < length self.now.views.items }
+        ensures { result ≡ spoil_answer (view_in self.now.views.items place) }
+    {
+        match self.views[place] {
+            SectorView::Blank | SectorView::Defect => true,
+            SectorView::Lost | SectorView::Holds(_) => false,
+        }
+    }
+
+    /// Writes the sector at a place, where it was formatted and is no defect.
+    pub(crate) fn write(&mut self, place: usize, from: &[u8; 1024])
+        requires { place < length self.old.views.items }
+        ensures { self.new.views.items ≡ changed_at self.old.views.items place (written_view from.now) }
+    {
+        write_view(&mut self.views[place], from);
+    }
+
+    /// Makes the sector at a place unreadable, where it holds bytes.
+    pub(crate) fn wear(&mut self, place: usize)
+        requires { place < length self.old.views.items }
+        ensures { self.new.views.items ≡ changed_at self.old.views.items place worn_view }
+    {
+        wear_view(&mut self.views[place]);
+    }
+
+    /// Makes a defect of the sector at a place, where it was never formatted.
+    pub(crate) fn spoil(&mut self, place: usize)
+        requires { place < length self.old.views.items }
+        ensures { self.new.views.items ≡ changed_at self.old.views.items place spoiled_view }
+    {
+        spoil_view(&mut self.views[place]);
+    }
+
+    /// Formats the 32 sectors from the first on.
+    pub(crate) fn format_segment(&mut self, first: usize)
+        requires { first + 32 ≤ length self.old.views.items }
+        ensures formatted { self.new.views.items ≡ changed_from self.old.views.items first formatted_view }
+        ensures len { length self.new.views.items ≡ length self.old.views.items }
+    {
+        format_views(&mut self.views[first..first + 32]);
+    }
+
+    /// Makes each readable one of the 32 sectors from the first on unreadable.
+    pub(crate) fn wear_segment(&mut self, first: usize)
+        requires { first + 32 ≤ length self.old.views.items }
+        ensures worn { self.new.views.items ≡ changed_from self.old.views.items first worn_view }
+        ensures len { length self.new.views.items ≡ length self.old.views.items }
+    {
+        wear_views(&mut self.views[first..first + 32]);
+    }
+
+    /// Makes the first `count` sectors new ones.
+    pub(crate) fn clear(&mut self, count: usize)
+        requires { count ≤ length self.old.views.items }
+        ensures { self.new.views.items
+            ≡ replicate count SectorView.Blank ++ drop count self.old.views.items }
+    {
+        clear_views(&mut self.views[0..count]);
+    }
+}
+
+fn read_view(view: &SectorView, into: &mut [u8; 1024]) -> SectorRead
+    ensures reads { Reads view.now into.old into.new result }
+    ensures unchanged { result ≢ SectorRead.Good → into.new ≡ into.old }
+{
+    match view {
+        SectorView::Blank => SectorRead::Blank,
+        SectorView::Defect | SectorView::Lost => SectorRead::Lost,
+        SectorView::Holds(bytes) => {
+            *into = *bytes;
+            SectorRead::Good
+        }
+    }
+}
+
+fn write_view(view: &mut SectorView, from: &[u8; 1024])
+    ensures written { view.new ≡ written_view from.now view.old }
+    ensures whole { IsView view.old → IsView view.new }
+{
+    match view {
+        SectorView::Blank | SectorView::Defect => {}
+        SectorView::Lost | SectorView::Holds(_) => *view = holding(from),
+    }
+}
+
+fn holding(bytes: &[u8]) -> SectorView
+    requires { length bytes.now ≡ 1024 }
+    ensures bytes { result ≡ SectorView.Holds bytes.now }
+    ensures whole { IsView result }
+{
+    let mut kept = [0; 1024];
+    kept.copy_from_slice(bytes);
+    SectorView::Holds(kept)
+}
+
+fn wear_view(view: &mut SectorView)
+    ensures worn { view.new ≡ worn_view view.old }
+    ensures whole { IsView view.old → IsView view.new }
+{
+    if let SectorView::Holds(_) = view {
+        *view = SectorView::Lost;
+    }
+}
+
+fn spoil_view(view: &mut SectorView)
+    ensures spoiled { view.new ≡ spoiled_view view.old }
+    ensures whole { IsView view.old → IsView view.new }
+{
+    if let SectorView::Blank = view {
+        *view = SectorView::Defect;
+    }
+}
+
+fn format_views(views: &mut [SectorView])
+    ensures formatted { views.new ≡ map formatted_view views.old }
+    ensures whole { All IsView views.old → All IsView views.new }
+{
+    for view in views.iter_mut() {
+        format_view(view);
+    }
+}
+
+fn format_view(view: &mut SectorView)
+    ensures formatted { view.new ≡ formatted_view view.old }
+    ensures whole { IsView view.old → IsView view.new }
+{
+    match view {
+        SectorView::Defect => {}
+        SectorView::Blank | SectorView::Lost | SectorView::Holds(_) => *view = zero_view(),
+    }
+}
+
+#[tactic(auto, unfolding(qic_base::specs::Cartridge::zero_sector))]
+fn zero_view() -> SectorView
+    ensures zero { result ≡ SectorView.Holds zero_sector }
+    ensures whole { IsView result }
+{
+    holding(&[0; 1024])
+}
+
+fn wear_views(views: &mut [SectorView])
+    ensures worn { views.new ≡ map worn_view views.old }
+    ensures whole { All IsView views.old → All IsView views.new }
+{
+    for view in views.iter_mut() {
+        wear_view(view);
+    }
+}
+
+fn clear_views(views: &mut [SectorView])
+    ensures { views.new ≡ replicate (length views.old) SectorView.Blank }
+{
+    views.fill(SectorView::Blank);
+}

@@ -1,0 +1,190 @@
+ghost use Rattle.std.specs.Prelude.{◌≡◌, ◌≢◌, [], ◌∷◌, Some, None, IsOk, IsSome, IfOk, IfSome, OnOk, OnErr};
+ghost use Rattle.std.specs.Option.{option_map};
+ghost use Rattle.qic_base.specs.Cartridge.{IsLength, view_at};
+ghost use Rattle.qic_base.specs.Step.{WriteSector, FormatSegment, SetReferenced, SetProtected, Renew, Wear, Spoil};
+ghost use Rattle.qic_base.specs.Tape.{Does, Done, Tells, IsPlaceOf, Reads, write_answer, spoil_answer};
+ghost use Rattle.qic_mem.specs.Change.{step_of, IsReached};
+ghost use Rattle.qic_mem.specs.Longest.{HasLongest};
+
+use crate::tape::change::Change;
+use crate::tape::drive::Drive;
+use qic_base::{LONGEST, NoMemory, SectorRead, SectorWrite, Tape, TapeFailed, TapeInfo};
+use std::alloc::Global;
+
+/// A tape in memory whose calls never fail.
+#[derive(Drop)]
+pub struct SureTape {
+    drive: Drive,
+    ghost longest: { HasLongest drive },
+}
+
+#[tactic(auto, unfolding(crate::specs::Sure::sure_state))]
+impl SureTape {
+    ghost use Rattle.qic_base.specs.declared.TheConstants.{LONGEST as longest};
+    ghost use Rattle.qic_mem.specs.Drive.{made};
+    ghost use Rattle.qic_mem.specs.Sure.{sure_state, sure_means};
+
+    /// An empty drive with room for a cartridge of the greatest length, which it takes at once. It does not tell its
+    /// stops.
+    pub fn new(alloc: Global) -> Result<Self, NoMemory>
+        ensures { IfOk result (λ tape. sure_state tape
+            ≡ record { cartridge = None; size = None; room = longest }) }
+    {
+        Ok(SureTape {
+            drive: Drive::new(alloc, LONGEST)?,
+        })
+    }
+
+    fn run(&mut self, change: Change)
+        requires { IsReached (sure_state self.old).size (step_of change) }
+        ensures did { Done sure_means self.old self.new (step_of change ∷ []) }
+        ensures state { sure_state self.new ≡ made (sure_state self.old) (step_of change) }
+    {
+        self.drive.make(&change);
+    }
+}
+
+#[tactic(auto, unfolding(crate::specs::Sure::sure_state))]
+impl Tape for SureTape {
+    ghost use Rattle.qic_mem.specs.Drive.{made, looked_at};
+    ghost use Rattle.qic_mem.specs.Sure.{sure_state, sure_means, sure-size_fits, sure-told_right, sure-left_now};
+
+    ghost means = { sure_means };
+
+    ghost size_fits = { sure-size_fits };
+
+    ghost told_right = { sure-told_right };
+
+    ghost left_now = { sure-left_now };
+
+    fn info(&mut self) -> Result<Option<TapeInfo>, TapeFailed>
+        ensures did { Does sure_means self.old self.new [] result }
+        ensures info { IfOk result (λ info.
+            IfSome (sure_means.told self.old) (λ held. info ≡ option_map (λ c. c.info) held)) }
+        ensures size { IfOk result (λ info.
+            sure_means.size self.new ≡ option_map (λ i. i.segments_per_track) info) }
+        ensures failed { OnErr result (sure_means.size self.new ≡ sure_means.size self.old) }
+
+        // It does not fail, and the whole state follows.
+        ensures succeeds { IsOk result }
+        ensures state { sure_state self.new ≡ looked_at (sure_state self.old) }
+    {
+        Ok(self.drive.info())
+    }
+
+    fn read_sector(
+        &mut self,
+        segment: u32,
+        sector: u8,
+        into: &mut [u8; 1024],
+    ) -> Result<SectorRead, TapeFailed>
+        requires { IsPlaceOf sure_means self.old segment sector }
+        ensures did { Does sure_means self.old self.new [] result }
+        ensures view { IfOk result (λ answer. Tells sure_means self.old (λ c.
+            Reads (view_at c segment sector) into.old into.new answer)) }
+        ensures unchanged { result ≢ Ok SectorRead.Good → into.new ≡ into.old }
+        ensures size { sure_means.size self.new ≡ sure_means.size self.old }
+
+        ensures succeeds { IsOk result }
+        ensures state { sure_state self.new ≡ sure_state self.old }
+    {
+        Ok(self.drive.read(segment, sector, into))
+    }
+
+    fn write_sector(
+        &mut self,
+        segment: u32,
+        sector: u8,
+        from: &[u8; 1024],
+    ) -> Result<SectorWrite, TapeFailed>
+        requires { IsPlaceOf sure_means self.old segment sector }
+        ensures did { Does sure_means self.old self.new (WriteSector segment sector from.now ∷ []) result }
+        ensures answer { IfOk result (λ answer. Tells sure_means self.old (λ c.
+            answer ≡ write_answer (view_at c segment sector))) }
+        ensures size { sure_means.size self.new ≡ sure_means.size self.old }
+
+        ensures succeeds { IsOk result }
+        ensures state { sure_state self.new
+            ≡ made (sure_state self.old) (WriteSector segment sector from.now) }
+    {
+        let answer = self.drive.write_answer(segment, sector);
+        self.run(Change::WriteSector(segment, sector, *from));
+        Ok(answer)
+    }
+
+    fn format_segment(&mut self, segment: u32) -> Result<(), TapeFailed>
+        requires { IsPlaceOf sure_means self.old segment 0 }
+        ensures did { Does sure_means self.old self.new (FormatSegment segment ∷ []) result }
+        ensures size { sure_means.size self.new ≡ sure_means.size self.old }
+
+        ensures succeeds { IsOk result }
+        ensures state { sure_state self.new ≡ made (sure_state self.old) (FormatSegment segment) }
+    {
+        self.run(Change::FormatSegment(segment));
+        Ok(())
+    }
+
+    fn set_referenced(&mut self) -> Result<(), TapeFailed>
+        requires { IsSome (sure_means.size self.old) }
+        ensures did { Does sure_means self.old self.new (SetReferenced ∷ []) result }
+        ensures size { sure_means.size self.new ≡ sure_means.size self.old }
+
+        ensures succeeds { IsOk result }
+        ensures state { sure_state self.new ≡ made (sure_state self.old) SetReferenced }
+    {
+        self.run(Change::SetReferenced);
+        Ok(())
+    }
+
+    fn set_protected(&mut self, on: bool) -> Result<(), TapeFailed>
+        requires { IsSome (sure_means.size self.old) }
+        ensures did { Does sure_means self.old self.new (SetProtected on ∷ []) result }
+        ensures size { sure_means.size self.new ≡ sure_means.size self.old }
+
+        ensures succeeds { IsOk result }
+        ensures state { sure_state self.new ≡ made (sure_state self.old) (SetProtected on) }
+    {
+        self.run(Change::SetProtected(on));
+        Ok(())
+    }
+
+    fn renew(&mut self, segments_per_track: u16) -> Result<(), TapeFailed>
+        requires { IsLength segments_per_track }
+        ensures did { Does sure_means self.old self.new (Renew segments_per_track ∷ []) result }
+        ensures size { OnOk result (sure_means.size self.new ≡ Some segments_per_track) }
+        ensures failed { OnErr result (sure_means.size self.new ≡ None) }
+
+        ensures succeeds { IsOk result }
+        ensures state { sure_state self.new ≡ made (sure_state self.old) (Renew segments_per_track) }
+    {
+        self.run(Change::Renew(segments_per_track));
+        Ok(())
+    }
+
+    fn wear(&mut self, segment: u32, sector: u8) -> Result<(), TapeFailed>
+        requires { IsPlaceOf sure_means self.old segment sector }
+        ensures did { Does sure_means self.old self.new (Wear segment sector ∷ []) result }
+        ensures size { sure_means.size self.new ≡ sure_means.size self.old }
+
+        ensures succeeds { IsOk result }
+        ensures state { sure_state self.new ≡ made (sure_state self.old) (Wear segment sector) }
+    {
+        self.run(Change::Wear(segment, sector));
+        Ok(())
+    }
+
+    fn spoil(&mut self, segment: u32, sector: u8) -> Result<bool, TapeFailed>
+        requires { IsPlaceOf sure_means self.old segment sector }
+        ensures did { Does sure_means self.old self.new (Spoil segment sector ∷ []) result }
+        ensures answer { IfOk result (λ answer. Tells sure_means self.old (λ c.
+            answer ≡ spoil_answer (view_at c segment sector))) }
+        ensures size { sure_means.size self.new ≡ sure_means.size self.old }
+
+        ensures succeeds { IsOk result }
+        ensures state { sure_state self.new ≡ made (sure_state self.old) (Spoil segment sector) }
+    {
+        let answer = self.drive.spoil_answer(segment, sector);
+        self.run(Change::Spoil(segment, sector));
+        Ok(answer)
+    }
+}
