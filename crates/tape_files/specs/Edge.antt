@@ -1,0 +1,31 @@
+-- What real files and streams mean to the code above them: they count their failures, and tell nothing else (this
+-- project's own).
+use Rattle.std.specs.Prelude.{◌≡◌, ℕ, false, true, None, List}
+use Rattle.qic_base.specs.Disk as disks
+use Rattle.qic_base.specs.Sink as sinks
+use Rattle.qic_base.specs.Source as sources
+
+-- a file: the length that it was seen to have, and how often a call of it failed
+pub record FileState : Type 0 where
+  pub seen : ℕ
+  pub faults : ℕ
+
+-- it tells neither its bytes nor what a crash leaves
+abbrev pub file_means : disks.Meaning FileState
+file_means = record {
+  told = λ _. None;
+  seen_len = λ f. f.seen;
+  faults = λ f. f.faults;
+  tells_stops = λ _. false;
+  may_leave = λ _ _. ⊥;
+  moment = λ _. 0;
+  left_since = λ _ _ _. ⊥;
+}
+
+-- a stream: how often a call of it failed
+abbrev pub stream_source_means : sources.Meaning ℕ
+stream_source_means = record { left = λ _. None; keeps = λ _ _. Unit {0}; faults = λ n. n }
+
+-- it says nothing of what it took
+abbrev pub stream_sink_means : sinks.Meaning ℕ
+stream_sink_means = record { written = λ _. None; took = λ _ _ _. Unit {0}; faults = λ n. n }
