@@ -1,0 +1,76 @@
+-- What a function on the disk did, at each of its exits.
+use Rattle.std.proofs.Common.{◌≡◌, ℕ, inl, inr, List, [], ◌++◌, refl, ◌∙◌, ap, Option, Some, None, IfSome, subst, Result, Ok, Err}
+use Rattle.qic_base.specs.Disk.{Meaning, DiskStep, Look, stored, Stored, Failed}
+use Rattle.std.specs.Option.{option_map}
+use Rattle.cart_image.specs.Run.{Looks, Looked, Ran, Halted, Runs, Carried}
+use Rattle.cart_image.proofs.Runs.{Looks-Looks, Ran-Ran, Ran-Halted}
+
+pub told-fact : {X : Type 0} (told : Option X) (P : X → Type 0) (x : X) → told ≡ Some x → IfSome told P → P x
+told-fact {X = X} told P x is fact =
+    let Q : Option X → Type 0 = λ o. IfSome o P in
+    subst Q is fact
+
+-- the exit of a `?`
+
+pub Runs-err : {D T E : Type 0} (m : Meaning D) (a b : D) (steps : List DiskStep) (r : Result T E) (e : E) → r ≡ Err e → Halted m a b steps → Runs m a b steps r
+Runs-err m a b steps (Ok x) e is halted = cc
+Runs-err m a b steps (Err f) e is halted = halted
+
+-- a last call, after others
+pub Runs-after : {D T E : Type 0} (m : Meaning D) (a b c : D) (xs ys : List DiskStep) (r : Result T E) → Ran m a b xs → Runs m b c ys r → Runs m a c (xs ++ ys) r
+Runs-after m a b c xs ys (Ok x) ran runs = Ran-Ran m a b c xs ys ran runs
+Runs-after m a b c xs ys (Err e) ran runs = Ran-Halted m a b c xs ys ran runs
+
+-- looks, one after the other
+pub Looked-after : {D T E : Type 0} (m : Meaning D) (a b c : D) (r : Result T E) → Looks m a b → Looked m b c r → Looked m a c r
+Looked-after m a b c (Ok x) first next = Looks-Looks first next
+Looked-after m a b c (Err e) first next = (next.0, Looks-Looks first next.1, next.2)
+
+-- the steps of a plan, where the disk tells its bytes
+plan_of : (List ℕ → List DiskStep) → Option (List ℕ) → List DiskStep
+plan_of plan None = []
+plan_of plan (Some bytes) = plan bytes
+
+plan_of-told : (plan : List ℕ → List DiskStep) (told : Option (List ℕ)) (bytes : List ℕ) → told ≡ Some bytes → plan_of plan told ≡ plan bytes
+unfolding plan_of
+plan_of-told plan told bytes is = ap (plan_of plan) is
+
+-- a look failed
+pub Carried-failed : {D T E : Type 0} (m : Meaning D) (old mid new : D) (plan : List ℕ → List DiskStep) (r : Result T E) (e : E) → r ≡ Err e → Looks m old mid → Failed m mid new Look → Carried m old new plan r
+Carried-failed m old mid new plan (Ok x) e is looks failed = cc
+Carried-failed m old mid new plan (Err f) e is looks failed =
+    record { steps = plan_of plan (m.told old); planned = plan_of-told plan (m.told old); went = (mid, looks, inl failed) }
+
+-- looks, and then a run that failed
+pub Carried-halted : {D T E : Type 0} (m : Meaning D) (old mid new : D) (plan : List ℕ → List DiskStep) (steps : List DiskStep) (r : Result T E) (e : E) → r ≡ Err e → Looks m old mid → Halted m mid new steps
+    → ((bytes : List ℕ) → m.told old ≡ Some bytes → steps ≡ plan bytes) → Carried m old new plan r
+Carried-halted m old mid new plan steps (Ok x) e is looks halted planned = cc
+Carried-halted m old mid new plan steps (Err f) e is looks halted planned =
+    record { steps = steps; planned = planned; went = (mid, looks, inr halted) }
+
+-- looks, and then a run
+pub Carried-runs : {D T E : Type 0} (m : Meaning D) (old mid new : D) (plan : List ℕ → List DiskStep) (steps : List DiskStep) (r : Result T E) → Looks m old mid → Runs m mid new steps r
+    → ((bytes : List ℕ) → m.told old ≡ Some bytes → steps ≡ plan bytes) → Carried m old new plan r
+Carried-runs m old mid new plan steps (Ok x) looks runs planned = record { steps = steps; planned = planned; went = (mid, looks, runs) }
+Carried-runs m old mid new plan steps (Err e) looks runs planned = record { steps = steps; planned = planned; went = (mid, looks, inr runs) }
+
+-- nothing but looks
+pub Carried-looked : {D T E : Type 0} (m : Meaning D) (old new : D) (r : Result T E) → Looked m old new r → Carried m old new (λ bytes. []) r
+Carried-looked m old new (Ok x) looks = record { steps = []; planned = λ bytes told. refl; went = (new, looks, refl) }
+Carried-looked m old new (Err e) looked = record { steps = []; planned = λ bytes told. refl; went = (looked.0, looked.1, inl looked.2) }
+
+pub planned-by : {X : Type 0} (told : Option (List ℕ)) (s : X) (F : List ℕ → X) (plan : List ℕ → List DiskStep) (steps : List DiskStep) → IfSome told (λ bytes. s ≡ F bytes) → ((bytes : List ℕ) → s ≡ F bytes → steps ≡ plan bytes)
+    → (bytes : List ℕ) → told ≡ Some bytes → steps ≡ plan bytes
+planned-by told s F plan steps fact follows bytes is = follows bytes (told-fact told (λ b. s ≡ F b) bytes is fact)
+
+pub Looked-err : {D T E : Type 0} (m : Meaning D) (a b c : D) (r : Result T E) (e : E) → r ≡ Err e → Looks m a b → ((mid : D) × Looks m b mid × Failed m mid c Look) → Looked m a c r
+Looked-err m a b c (Ok x) e is first next = cc
+Looked-err m a b c (Err f) e is first next = (next.0, Looks-Looks first next.1, next.2)
+
+-- a look leaves the told bytes as they were
+pub told-look : {D : Type 0} {m : Meaning D} {a b : D} → Stored m a b Look → m.told b ≡ m.told a
+told-look {m = m} {a = a} s = s.told ∙ same (m.told a)
+  where
+    same : (told : Option (List ℕ)) → option_map (stored Look) told ≡ told
+    same None = refl
+    same (Some bytes) = refl

@@ -1,0 +1,15 @@
+pub mod Carries
+pub mod Changes
+pub mod Exits
+pub mod Formats
+pub mod Heads
+pub mod Infos
+pub mod Loops
+pub mod Reading
+pub mod Renews
+pub mod Runs
+pub mod Sectors
+pub mod Sizes
+pub mod States
+pub mod Tapes
+pub mod Writes

@@ -1,0 +1,13 @@
+use Rattle.cart_image.proofs.Tapes.{open-settled}
+use Rattle.cart_image.proofs.tape.ImageTape.open.Goals as goal
+
+pub invariant_of-result : goal.invariant_of-result
+invariant_of-result g c =
+    let settled = open-settled g.D.Disk.means c.args.disk (g.met.D.Disk.told_right c.args.disk) c.requires in
+    record {
+      settled = settled.only;
+      shortest = λ n none. cc;
+      longest = λ n none. cc;
+      covers = λ n none. cc;
+      sized = λ n bytes none told. cc;
+    }

@@ -1,0 +1,32 @@
+use Rattle.std.proofs.Common.{[], ◌∷◌}
+use Rattle.qic_base.specs.Step.{Renew}
+use Rattle.cart_image.proofs.Tapes.{Tape-done, Tape-broke, renew-does, new-size, same-number}
+use Rattle.cart_image.proofs.tape.ImageTapeTape.renew.Goals as goal
+
+pub invariant_of-self : goal.invariant_of-self
+invariant_of-self g c =
+    let settled = c.in-Ok.ensures.settled in
+    record {
+      settled = settled.only;
+      shortest = λ n same. (same-number c.args.segments_per_track n _ c.requires c.in-Ok.ensures.seen same).0;
+      longest = λ n same. (same-number c.args.segments_per_track n _ c.requires c.in-Ok.ensures.seen same).1;
+      covers = λ n same. (same-number c.args.segments_per_track n _ c.requires c.in-Ok.ensures.seen same).2;
+      sized = new-size g.D.Disk.means c.args.self.now.disk _ c.args.segments_per_track (renew-does c.args.self.now _ _ c.args.segments_per_track c.requires c.in-Ok.ensures.carried);
+    }
+
+pub invariant_of-self-in-Err : goal.invariant_of-self-in-Err
+invariant_of-self-in-Err g c =
+    let settled = c.in-Err.ensures.settled in
+    record {
+      settled = settled.only;
+      shortest = λ n none. cc;
+      longest = λ n none. cc;
+      covers = λ n none. cc;
+      sized = λ n bytes none told. cc;
+    }
+
+pub returns-in-Ok-clause-did : goal.returns-in-Ok-clause-did
+returns-in-Ok-clause-did g c = Tape-done _ _ (Renew c.args.segments_per_track ∷ []) (renew-does c.args.self.now _ _ c.args.segments_per_track c.requires c.in-Ok.ensures.carried)
+
+pub returns-in-Err-clause-did : goal.returns-in-Err-clause-did
+returns-in-Err-clause-did g c = Tape-broke _ _ (Renew c.args.segments_per_track ∷ []) (renew-does c.args.self.now _ _ c.args.segments_per_track c.requires c.in-Err.ensures.carried)

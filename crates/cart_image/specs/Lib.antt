@@ -1,0 +1,7 @@
+pub mod Image
+pub mod ImageTape
+pub mod Layout
+pub mod Run
+pub mod State
+pub mod Tape
+pub mod Whole
