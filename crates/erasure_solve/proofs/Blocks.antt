@@ -1,11 +1,13 @@
 -- Changed sectors are a code block, and a code block that agrees asks for the changes that were found.
-use Rattle.std.proofs.Common.{◌≡◌, ◌≢◌, ℕ, zero, suc, ◌+◌, ◌-◌, ◌<◌, ◌≤◌, refl, sym, ◌∙◌, ap, subst, arith, inl, inr, bit_xor, List, [], ◌∷◌, length, All, get_or, set, slice_get, slice_index, get_or-set_same, get_or-set_other, Some}
+use Rattle.std.proofs.Common.{◌≡◌, ◌≢◌, ℕ, zero, suc, ◌+◌, ◌-◌, ◌<◌, ◌≤◌, refl, sym, ◌∙◌, ap, subst, arith, inl, inr, bit_xor, List, [], ◌∷◌, length, All, get_or, set, slice_get, slice_index, get_or-set_same, get_or-set_other, Some, false, zero-add, ◌/◌, ◌%◌, ◌^◌}
 use Rattle.std.specs.Int.Bits.{xor_assoc, xor_self, xor_zero_l}
 use Rattle.std.proofs.Math.ListN.{length-set}
+use Rattle.std.proofs.Math.Nat.{zero-div}
 use Rattle.std.proofs.lemmas.Nat.{xor_comm}
-use Rattle.std.proofs.lemmas.Bool.{cases_eq, cases_lt, cases_Bool, false≢true}
+use Rattle.std.proofs.lemmas.Bool.{cases_eq, cases_lt, cases_Bool, false≢true, ne_eqb}
 use Rattle.std.proofs.lemmas.List.{same_lists, map-set}
 use Rattle.std.proofs.lemmas.List.Elements.{All-get_or, All-from_get_or, All-set}
+use Rattle.std.proofs.lemmas.List.FromFn.{get_or-map-range_with_len}
 use Rattle.std.proofs.lemmas.Option.{slice_get-get_or}
 use Rattle.gf256_qic.specs.Field.{product, power}
 use Rattle.gf256_qic.specs.Code.{value_at, column, IsSector, IsCodeword, IsCodeBlock, AgreesOutside, IsSolvable, lost_below}
@@ -17,19 +19,23 @@ use Rattle.gf256_qic.proofs.Distance.{power_apart, power_inverse, power_of_one}
 use Rattle.gf256_qic.proofs.Agreement.{length-column, get_or-column, any_default, columns_agree, one_block}
 use Rattle.gf256_qic.proofs.Parities.{bytes_of_column, block_count}
 use Rattle.erasure_solve.specs.Lost.{is_lost, lost_count}
-use Rattle.erasure_solve.specs.Rows.{AreValues, AreZero, AddsRow}
-use Rattle.erasure_solve.specs.Change.{change, change_factors, IsWeighed, IsChange, AreDegrees, Found, Fits, Agree, Applied, AllApplied}
+use Rattle.erasure_solve.specs.Rows.{AreValues, AddsRow, weighed_byte, weighed_row}
+use Rattle.erasure_solve.specs.Change.{change, change_factors, Changes, IsChange, AreDegrees, Found, Fits, Agree, Applied, AllApplied}
 use Rattle.erasure_solve.specs.declared.values.Values.{Values}
-use Rattle.erasure_solve.specs.declared.change.Changes.{Changes}
 use Rattle.erasure_solve.proofs.Algebra.{Powers, AddUp, only_change, changes_fit, change_byte, change_from}
 use Rattle.erasure_solve.proofs.Places.{lost_below-count}
 
 -- ---- the changes from the values
 
-pub change_of :
-    (values : Values) (ss : List (List ℕ)) (d e f : ℕ) (row : List ℕ) → All IsSector ss → AreValues values ss →
-    IsWeighed values (change_factors (power 2 d) (power 2 e) (power 2 f)) row → IsChange ss d e f row
-change_of values ss d e f row all are weighed = record {
+pub get_or-weighed_row : (values : Values) (factors : List ℕ) (j : ℕ) → j < 1024 →
+    get_or (weighed_row values factors) j 0 ≡ weighed_byte values factors j
+unfolding weighed_row
+get_or-weighed_row values factors j h = get_or-map-range_with_len (weighed_byte values factors) 0 1024 j j 0 h (zero-add j)
+
+pub is_change :
+    (values : Values) (ss : List (List ℕ)) (d e f : ℕ) (factors : List ℕ) → All IsSector ss → AreValues values ss →
+    factors ≡ change_factors (power 2 d) (power 2 e) (power 2 f) → IsChange ss d e f (weighed_row values factors)
+is_change values ss d e f factors all are same = record {
   each = λ j h.
       let two : 2 < 256 = omega arith in
       let x : ℕ = power 2 d in
@@ -43,7 +49,8 @@ change_of values ss d e f row all are weighed = record {
       let k : ℕ = get_or (change_factors x y z) 0 0 in
       let l : ℕ = get_or (change_factors x y z) 1 0 in
       let m : ℕ = get_or (change_factors x y z) 2 0 in
-      weighed.each j h
+      get_or-weighed_row values factors j h
+      ∙ ap (λ (fs : List ℕ). weighed_byte values fs j) same
       ∙ ap (λ v. bit_xor (bit_xor (product k v) (product l (get_or values.at_one j 0))) (product m (get_or values.at_generator j 0)))
       (are.at_inverse.each j h)
       ∙ ap (λ v. bit_xor (bit_xor (product k s) (product l v)) (product m (get_or values.at_generator j 0))) (are.at_one.each j h)
@@ -54,6 +61,14 @@ change_of values ss d e f row all are weighed = record {
 }
 
 -- ---- one change
+
+pub any_default_of : (xs : List (List ℕ)) (i : ℕ) (d e : List ℕ) → i < length xs → get_or xs i d ≡ get_or xs i e
+any_default_of xs i d e h =
+    let here : Some (get_or xs i d) ≡ Some (get_or xs i e) = sym (slice_get-get_or xs i d h) ∙ slice_get-get_or xs i e h in
+    cc
+
+pub none_lost : (i : ℕ) → is_lost 0 i ≡ false
+none_lost i = ne_eqb (0 / 2 ^ i % 2) 1 (λ e. absurd (omega (arith, zero-div (2 ^ i))))
 
 slice_get-set_other : {A : Type 0} (xs : List A) (i j : ℕ) (v : A) → j ≢ i → slice_get (set xs i v) j ≡ slice_get xs j
 slice_get-set_other [] i j v ne = refl
@@ -527,31 +542,6 @@ must_agree mask old changes most found solvable =
       };
     }
 
--- ---- a code block by its values
-
-pub block_from_values : (values : Values) (ss : List (List ℕ)) → 4 ≤ length ss → length ss ≤ 32 → All IsSector ss →
-    AreValues values ss → AreZero values → IsCodeBlock ss
-block_from_values values ss least most all are zero' = record {
-  sectors = all;
-  columns = λ j h.
-      let count : length (column j ss) ≡ length ss = length-column j ss in
-      record {
-        least = omega arith;
-        most = omega arith;
-        bytes = bytes_of_column j ss h all;
-        at_inverse = sym (are.at_inverse.each j h) ∙ zero'.at_inverse.each j h;
-        at_one = sym (are.at_one.each j h) ∙ zero'.at_one.each j h;
-        at_generator = sym (are.at_generator.each j h) ∙ zero'.at_generator.each j h;
-      };
-}
-
-pub values_of_block : (values : Values) (ss : List (List ℕ)) → AreValues values ss → IsCodeBlock ss → AreZero values
-values_of_block values ss are block = record {
-  at_inverse = record { each = λ j h. are.at_inverse.each j h ∙ (block.columns j h).at_inverse };
-  at_one = record { each = λ j h. are.at_one.each j h ∙ (block.columns j h).at_one };
-  at_generator = record { each = λ j h. are.at_generator.each j h ∙ (block.columns j h).at_generator };
-}
-
 -- ---- no other code block agrees
 
 pub only_block : (mask : ℕ) (ss block other : List (List ℕ)) → lost_count mask ≤ 3 →
@@ -568,45 +558,3 @@ only_block mask ss block other few hb ab ho ao =
       others = λ i h kept. sym (ab.others i (omega arith) kept) ∙ ao.others i (omega arith) kept;
     })
     (omega arith)
-
--- ---- what `find` makes
-
-three_elements : (xs : List ℕ) → length xs ≡ 3 → xs ≡ get_or xs 0 0 ∷ get_or xs 1 0 ∷ get_or xs 2 0 ∷ []
-three_elements [] h = absurd (cc)
-three_elements (a ∷ []) h = absurd (omega arith)
-three_elements (a ∷ b ∷ []) h = absurd (omega arith)
-three_elements (a ∷ b ∷ c ∷ []) h = refl
-three_elements (a ∷ b ∷ c ∷ d ∷ xs) h = absurd (omega arith)
-
-pub found_from :
-    (mask : ℕ) (ss : List (List ℕ)) (values : Values) (ds : List ℕ) (changes : Changes) →
-    All IsSector ss → AreValues values ss → AreDegrees mask (length ss) ds →
-    changes.first.degree ≡ get_or ds 0 0 → changes.second.degree ≡ get_or ds 1 0 → changes.third.degree ≡ get_or ds 2 0 →
-    IsWeighed values (change_factors (power 2 (get_or ds 0 0)) (power 2 (get_or ds 1 0)) (power 2 (get_or ds 2 0))) changes.first.bytes →
-    IsWeighed values (change_factors (power 2 (get_or ds 1 0)) (power 2 (get_or ds 0 0)) (power 2 (get_or ds 2 0))) changes.second.bytes →
-    IsWeighed values (change_factors (power 2 (get_or ds 2 0)) (power 2 (get_or ds 0 0)) (power 2 (get_or ds 1 0))) changes.third.bytes →
-    Found mask ss changes
-found_from mask ss values ds changes all are degrees e0 e1 e2 w0 w1 w2 =
-    let same : ds ≡ changes.first.degree ∷ changes.second.degree ∷ changes.third.degree ∷ [] =
-    three_elements ds degrees.size
-    ∙ ap (λ (x : ℕ). x ∷ get_or ds 1 0 ∷ get_or ds 2 0 ∷ []) (sym e0)
-    ∙ ap (λ (x : ℕ). changes.first.degree ∷ x ∷ get_or ds 2 0 ∷ []) (sym e1)
-    ∙ ap (λ (x : ℕ). changes.first.degree ∷ changes.second.degree ∷ x ∷ []) (sym e2) in
-    let at : (d e f d' e' f' : ℕ) (row : List ℕ) → d' ≡ d → e' ≡ e → f' ≡ f → IsChange ss d e f row → IsChange ss d' e' f' row =
-    λ d e f d' e' f' row ed ee ef h.
-    subst (λ (x : ℕ). IsChange ss x e' f' row) (sym ed)
-    (subst (λ (x : ℕ). IsChange ss d x f' row) (sym ee)
-    (subst (λ (x : ℕ). IsChange ss d e x row) (sym ef) h)) in
-    let d : ℕ = get_or ds 0 0 in
-    let e : ℕ = get_or ds 1 0 in
-    let f : ℕ = get_or ds 2 0 in
-    record {
-      sectors_fit = all;
-      degrees = subst (λ (l : List ℕ). AreDegrees mask (length ss) l) same degrees;
-      first = at d e f changes.first.degree changes.second.degree changes.third.degree changes.first.bytes e0 e1 e2
-          (change_of values ss d e f changes.first.bytes all are w0);
-      second = at e d f changes.second.degree changes.first.degree changes.third.degree changes.second.bytes e1 e0 e2
-          (change_of values ss e d f changes.second.bytes all are w1);
-      third = at f d e changes.third.degree changes.first.degree changes.second.degree changes.third.bytes e2 e0 e1
-          (change_of values ss f d e changes.third.bytes all are w2);
-    }

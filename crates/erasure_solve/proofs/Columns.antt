@@ -6,7 +6,7 @@ use Rattle.gf256_qic.specs.Field.{product, power}
 use Rattle.gf256_qic.specs.Code.{value_at, column, IsSector}
 use Rattle.gf256_qic.proofs.Products.{product_one_right}
 use Rattle.gf256_qic.proofs.Powers.{power_none, power_one}
-use Rattle.gf256_qic.proofs.Values.{AllBytes, value_at-none, value_at-first, value_at-append}
+use Rattle.gf256_qic.proofs.Values.{AllBytes, value_at-byte, value_at-none, value_at-first, value_at-append}
 use Rattle.gf256_qic.proofs.Parities.{bytes_of_column, column-append}
 use Rattle.erasure_solve.specs.Rows.{HasValues, AddsSector}
 
@@ -51,6 +51,22 @@ values_more root ss s old new hr all one adds values = record {
       ap (value_at root) (column-append j ss (s ∷ []) ∙ ap (λ c. column j ss ++ c) (column-one j s))
       ∙ value_at-push root (column j ss) (get_or s j 0) hr (bytes_of_column j ss h all) byte);
 }
+
+pub values_more_one :
+    (ss : List (List ℕ)) (s old new : List ℕ) → All IsSector ss → IsSector s →
+    ((j : ℕ) → j < 1024 → get_or new j 0 ≡ bit_xor (get_or old j 0) (get_or s j 0)) →
+    HasValues 1 old ss → HasValues 1 new (ss ++ s ∷ [])
+values_more_one ss s old new all one adds values =
+    values_more 1 ss s old new (omega arith) all one
+    (record {
+      each = λ j h.
+          let byte : value_at 1 (column j ss) < 256 =
+          value_at-byte 1 (column j ss) (omega arith) (bytes_of_column j ss h all) in
+          let same : product (get_or old j 0) 1 ≡ get_or old j 0 =
+          ap (λ v. product v 1) (values.each j h) ∙ product_one_right (value_at 1 (column j ss)) byte ∙ sym (values.each j h) in
+          adds j h ∙ ap (λ v. bit_xor v (get_or s j 0)) (sym same);
+    })
+    values
 
 -- a row of zeros is 0 at each index, and past its end
 pub zeros_are_zero : (n j : ℕ) → get_or {A = ℕ} (replicate n 0) j 0 ≡ 0

@@ -3,3 +3,4 @@ pub mod Algebra
 pub mod Columns
 pub mod Places
 pub mod Blocks
+pub mod Plans

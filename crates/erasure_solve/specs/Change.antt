@@ -5,8 +5,6 @@ use Rattle.gf256_qic.specs.Field.{product, power, inverse}
 use Rattle.gf256_qic.specs.Code.{value_at, column, IsSector}
 use Rattle.erasure_solve.specs.Lost.{is_lost}
 use Rattle.erasure_solve.specs.Rows.{IsZero, AddsRow}
-use Rattle.erasure_solve.specs.declared.values.Values.{Values}
-use Rattle.erasure_solve.specs.declared.change.Changes.{Changes}
 
 -- x / ((x + y) * (x + z))
 unfoldable pub scale : ℕ → ℕ → ℕ → ℕ
@@ -23,14 +21,17 @@ abbrev pub change_factors : ℕ → ℕ → ℕ → List ℕ
 change_factors x y z =
     product (scale x y z) (product y z) ∷ product (scale x y z) (bit_xor y z) ∷ scale x y z ∷ []
 
--- the values, each times its factor
-pub record IsWeighed (values : Values) (factors row : List ℕ) : Type 0 where
-  pub each : (j : ℕ) → j < 1024 →
-      slice_index row j ≡ bit_xor
-      (bit_xor
-      (product (slice_index factors 0) (slice_index values.at_inverse j))
-      (product (slice_index factors 1) (slice_index values.at_one j)))
-      (product (slice_index factors 2) (slice_index values.at_generator j))
+-- what is added to the sector at the place of a degree, byte by byte
+pub record Change : Type 0 where
+  pub degree : ℕ
+  pub bytes : List ℕ
+
+-- the changes at three places of different degrees: the lost ones, and where fewer than three are lost,
+-- degrees of no place
+pub record Changes : Type 0 where
+  pub first : Change
+  pub second : Change
+  pub third : Change
 
 -- the changes at the place of degree d, where the other two have e and f
 pub record IsChange (sectors : List (List ℕ)) (d e f : ℕ) (row : List ℕ) : Type 0 where
@@ -69,12 +70,6 @@ pub record Agree (changes : Changes) : Type 0 where
   pub first : Fits changes.first.degree changes.first.bytes
   pub second : Fits changes.second.degree changes.second.bytes
   pub third : Fits changes.third.degree changes.third.bytes
-
--- the places of the changes are among count
-pub record AreWithin (changes : Changes) (count : ℕ) : Type 0 where
-  pub first : changes.first.degree < 32 → changes.first.degree < count
-  pub second : changes.second.degree < 32 → changes.second.degree < count
-  pub third : changes.third.degree < 32 → changes.third.degree < count
 
 -- the sector at the place of a degree was changed, if there is one
 pub record Applied (degree : ℕ) (row : List ℕ) (old new : List (List ℕ)) : Type 0 where

@@ -5,13 +5,13 @@ ghost use Rattle.std.specs.Prelude.{◌≡◌, ℕ, ◌<◌, ◌≤◌, ◌↔�
 ghost use Rattle.gf256_qic.specs.Code.{IsCodeBlock, AgreesOutside, IsSolvable};
 ghost use Rattle.erasure_solve.specs.Lost.{is_lost, lost_count, IsOnlyBlock};
 
-use change::Changes;
+pub use plan::Plan;
 use qic_base::LostSet;
 use thiserror::Error;
-use values::Values;
 
-mod change;
+mod coefficients;
 pub mod laws;
+mod plan;
 mod values;
 
 const SECTOR: usize = 1024;
@@ -42,15 +42,11 @@ pub fn solve(sectors: &mut [[u8; SECTOR]], lost: LostSet) -> Result<(), SolveFau
         ↔ ((lost_count lost ≤ 3) × ¬ (IsSolvable (is_lost lost) sectors.old)) }
     ensures unchanged { OnErr result (sectors.new ≡ sectors.old) }
 {
-    let count = lost.count();
-    if count > 3 {
-        return Err(SolveFault::TooMany { lost: count });
-    }
-    let changes = Changes::find(sectors, &lost);
-    if !changes.agree() {
+    let plan = Plan::new(sectors.len() as u8, lost)?;
+    if !plan.agrees(sectors) {
         return Err(SolveFault::Mismatch);
     }
-    changes.apply(sectors);
+    plan.fill(sectors);
     Ok(())
 }
 
@@ -59,7 +55,7 @@ pub fn consistent(sectors: &[[u8; SECTOR]]) -> bool
     ensures { IsTrue result ↔ IsCodeBlock sectors.now }
 {
     match sectors.len() {
-        4..=32 => Values::of(sectors).are_zero(),
+        4..=32 => Plan::of(sectors.len() as u8, &LostSet::from_mask(0)).agrees(sectors),
         _ => false,
     }
 }
@@ -111,6 +107,32 @@ mod tests {
         }
         assert!(rt; consistent(&alike(codeword)) && consistent(&alone(codeword)));
         assert!(rt; !consistent(&alike(other)) && !consistent(&alone(other)));
+    }
+
+    #[test]
+    fn one_plan_serves_segment_after_segment(rt: HostRuntime) {
+        let too_many = Plan::new(4, LostSet::from_mask(0b1111)).err();
+        assert_eq!(rt; too_many, Some(SolveFault::TooMany { lost: 4 }));
+        let lost = LostSet::from_mask(0b1011);
+        let Ok(three) = Plan::new(4, lost) else {
+            return assert!(rt; false, "three places can be found");
+        };
+        assert_eq!(rt; three.count(), 4);
+        assert_eq!(rt; three.lost(), lost);
+        for (before, after) in [
+            ([0x00, 0x55, 0xC0, 0xFF], [0x01, 0xC0, 0xC0, 0x01]),
+            ([0x01, 0x02, 0x00, 0x03], [0x00, 0x00, 0x00, 0x00]),
+        ] {
+            let mut sectors = alike(before);
+            assert!(rt; three.agrees(&sectors));
+            three.fill(&mut sectors);
+            assert!(rt; sectors == alike(after));
+        }
+        let Ok(one) = Plan::new(4, LostSet::from_mask(0b0001)) else {
+            return assert!(rt; false, "one place can be found");
+        };
+        assert!(rt; one.agrees(&alike([0x55, 0xC0, 0xC0, 0x01])));
+        assert!(rt; !one.agrees(&alike([0x01, 0xC0, 0xC0, 0x00])));
     }
 
     /// A segment of 32 sectors whose columns are the generator, from each of the places 0 to 28 on.

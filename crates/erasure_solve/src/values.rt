@@ -2,17 +2,10 @@
 
 ghost use Rattle.std.specs.Prelude.{◌≡◌, ◌↔◌, IsTrue, All};
 ghost use Rattle.gf256_qic.specs.Code.{IsSector};
-ghost use Rattle.erasure_solve.specs.Rows.{IsZero, HasValues, AddsSector, AreValues, AreZero};
+ghost use Rattle.erasure_solve.specs.Rows.{IsZero, AddSector, AreValues, AreZero};
 
 use crate::SECTOR;
-use gf256_qic::mul;
-
-/// The roots of the code's generator.
-const INVERSE: u8 = 0xC3;
-
-const ONE: u8 = 0x01;
-
-pub const GENERATOR: u8 = 0x02;
+use gf256_qic::{over_x, times_x};
 
 /// The value of each column of a segment at each root: all 0 where the sectors are a code block.
 #[derive(Drop)]
@@ -28,11 +21,15 @@ impl Values {
         ensures values { AreValues result sectors.now }
         ensures sectors { All IsSector sectors.now }
     {
-        Values {
-            at_inverse: value_row(sectors, INVERSE),
-            at_one: value_row(sectors, ONE),
-            at_generator: value_row(sectors, GENERATOR),
+        let mut values = Values {
+            at_inverse: [0; SECTOR],
+            at_one: [0; SECTOR],
+            at_generator: [0; SECTOR],
+        };
+        for sector in sectors {
+            add_sector(&mut values, sector);
         }
+        values
     }
 
     /// Whether each value is 0.
@@ -50,24 +47,29 @@ pub fn is_zero(row: &[u8; SECTOR]) -> bool
     row.iter().all(|byte| *byte == 0)
 }
 
-/// The values of the sectors' columns at a root.
-fn value_row(sectors: &[[u8; SECTOR]], root: u8) -> [u8; SECTOR]
-    ensures values { HasValues root result sectors.now }
-    ensures sectors { All IsSector sectors.now }
-{
-    let mut row = [0; SECTOR];
-    for sector in sectors {
-        add_sector(&mut row, sector, root);
-    }
-    row
-}
-
-/// The values at a root, one sector further.
-fn add_sector(row: &mut [u8; SECTOR], sector: &[u8; SECTOR], root: u8)
-    ensures values { AddsSector root row.old sector.now row.new }
+/// The values at the three roots 0xC3, 0x01 and 0x02, one sector further.
+fn add_sector(values: &mut Values, sector: &[u8; SECTOR])
+    ensures values { AddSector values.old sector.now values.new }
     ensures sector { IsSector sector.now }
 {
-    for (j, value) in row.iter_mut().enumerate() {
-        *value = mul(*value, root) ^ sector[j];
+    for (j, byte) in sector.iter().enumerate() {
+        values.at_inverse[j] = over_x(values.at_inverse[j]) ^ *byte;
+        values.at_one[j] ^= *byte;
+        values.at_generator[j] = times_x(values.at_generator[j]) ^ *byte;
     }
+}
+
+/// States that arrays of 1,024 bytes are sectors, and does nothing.
+pub fn are_sectors(sectors: &[[u8; SECTOR]])
+    ensures { All IsSector sectors.now }
+{
+    for sector in sectors {
+        is_sector(sector);
+    }
+}
+
+fn is_sector(sector: &[u8; SECTOR])
+    ensures { IsSector sector.now }
+{
+    let _bytes = sector.iter();
 }

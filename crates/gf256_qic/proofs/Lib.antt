@@ -4,5 +4,6 @@ pub mod Products
 pub mod Powers
 pub mod Values
 pub mod Distance
+pub mod Exponents
 pub mod Agreement
 pub mod Parities

@@ -1,10 +1,10 @@
 -- Powers of an element, and the inverse.
-use Rattle.std.proofs.Common.{◌≡◌, ◌≢◌, ℕ, zero, suc, ◌+◌, ◌-◌, ◌*◌, ◌/◌, ◌%◌, ◌^◌, ◌<◌, ◌≤◌, refl, sym, ◌∙◌, ap, arith, bit_xor, true, nat_eq, nat_lt, cond, add-one, zero-add, suc-add}
+use Rattle.std.proofs.Common.{◌≡◌, ◌≢◌, ℕ, zero, suc, ◌+◌, ◌*◌, ◌%◌, ◌^◌, ◌<◌, refl, sym, ◌∙◌, ap, arith, bit_xor, true, nat_eq, add-one, zero-add, suc-add}
 use Rattle.std.specs.Int.{bit_at}
 use Rattle.std.specs.Int.Bits.{xor_shifted}
 use Rattle.std.proofs.Math.Nat.{zero-mul, one-mul, mod-one, mod-lt}
 use Rattle.std.proofs.lemmas.Nat.{xor_comm, mod-pow-add, pow_pos}
-use Rattle.std.proofs.lemmas.Bool.{eqb-true, cond-true, cond-false, lt-ltb, le-ltb}
+use Rattle.std.proofs.lemmas.Bool.{eqb-true}
 use Rattle.gf256_qic.specs.Field.{shifted_copies, remainder, product, power, inverse}
 use Rattle.gf256_qic.proofs.Tables.{all_below, all_below_at}
 use Rattle.gf256_qic.proofs.Products.{product_byte, product_comm, product_assoc, product_one_left, product_one_right, product_sum_right, product_zero_right}
@@ -33,17 +33,6 @@ power_sum a (suc m) n h =
     ap (power a) (suc-add m n) ∙ ap (product a) (power_sum a m n h)
     ∙ sym (product_assoc a (power a m) (power a n) h (power_byte a m h) (power_byte a n h))
 
--- the powers of a square
-pub power_square : (a n : ℕ) → a < 256 → power (product a a) n ≡ power a (n + n)
-power_square a zero h = power_none (product a a) ∙ sym (power_none a)
-power_square a (suc n) h =
-    let twice : suc n + suc n ≡ suc (suc (n + n)) = omega arith in
-    power_more (product a a) n
-    ∙ ap (product (product a a)) (power_square a n h)
-    ∙ product_assoc a a (power a (n + n)) h h (power_byte a (n + n) h)
-    ∙ ap (product a) (sym (power_more a (n + n))) ∙ sym (power_more a (suc (n + n)))
-    ∙ sym (ap (power a) twice)
-
 inverses : all_below 255 (λ k. nat_eq (product (suc k) (inverse (suc k))) 1) ≡ true
 unfolding product shifted_copies remainder power inverse all_below
 inverses = refl
@@ -53,10 +42,6 @@ product_inverse zero h other = absurd (other refl)
 product_inverse (suc k) h other =
     eqb-true (product (suc k) (inverse (suc k))) 1
     (all_below_at 255 (λ x. nat_eq (product (suc x) (inverse (suc x))) 1) inverses k (omega arith))
-
-pub inverse_is : (a : ℕ) → inverse a ≡ power a 254
-unfolding inverse
-inverse_is a = refl
 
 pub inverse_byte : (a : ℕ) → a < 256 → inverse a < 256
 unfolding inverse
@@ -104,39 +89,6 @@ product_shifted a i h =
     ∙ ap (product a)
     (product_comm (power 2 i) 2 (power_byte 2 i two) two ∙ sym (power_more 2 i)
     ∙ sym (ap (power 2) (add-one i)))
-
-doubles : all_below 256 (λ a. nat_eq (cond (nat_lt a 128) (a * 2 % 256) (bit_xor ((a - 128) * 2 % 256) 135)) (product a 2)) ≡ true
-unfolding product shifted_copies remainder all_below
-doubles = refl
-
-pub product_two : (a : ℕ) → a < 256 → cond (nat_lt a 128) (a * 2 % 256) (bit_xor ((a - 128) * 2 % 256) 135) ≡ product a 2
-product_two a h =
-    eqb-true (cond (nat_lt a 128) (a * 2 % 256) (bit_xor ((a - 128) * 2 % 256) 135)) (product a 2)
-    (all_below_at 256
-    (λ x. nat_eq (cond (nat_lt x 128) (x * 2 % 256) (bit_xor ((x - 128) * 2 % 256) 135)) (product x 2))
-    doubles a h)
-
-pub product_two_below : (a : ℕ) → a < 128 → a * 2 % 256 ≡ product a 2
-product_two_below a h =
-    sym (cond-true (nat_lt a 128) (a * 2 % 256) (bit_xor ((a - 128) * 2 % 256) 135) (lt-ltb a 128 h))
-    ∙ product_two a (omega arith)
-
-pub product_two_above : (a : ℕ) → 128 ≤ a → a < 256 → bit_xor ((a - 128) * 2 % 256) 135 ≡ product a 2
-product_two_above a low h =
-    sym (cond-false (nat_lt a 128) (a * 2 % 256) (bit_xor ((a - 128) * 2 % 256) 135) (le-ltb a 128 low))
-    ∙ product_two a h
-
--- ---- square and multiply: how `pow` goes through the exponent's bits
-
-pub power_even : (s n : ℕ) → s < 256 → n % 2 ≡ 0 → power (product s s) (n / 2) ≡ power s n
-power_even s n h even =
-    let halves : n / 2 + n / 2 ≡ n = omega arith in
-    power_square s (n / 2) h ∙ ap (power s) halves
-
-pub power_odd : (s n : ℕ) → s < 256 → n % 2 ≡ 1 → product s (power (product s s) (n / 2)) ≡ power s n
-power_odd s n h odd =
-    let halves : suc (n / 2 + n / 2) ≡ n = omega arith in
-    ap (product s) (power_square s (n / 2) h) ∙ sym (power_more s (n / 2 + n / 2)) ∙ ap (power s) halves
 
 -- no other byte is the inverse
 pub inverse_unique : (a x : ℕ) → a < 256 → x < 256 → a ≢ 0 → product a x ≡ 1 → x ≡ inverse a

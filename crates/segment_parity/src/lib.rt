@@ -1,31 +1,20 @@
-//! The parity of a segment, gathered sector by sector.
+//! The parity of a segment, gathered sector by sector in a register of three bytes a column.
 #![tactic(auto)]
 
-ghost use Rattle.std.specs.Prelude.{◌≡◌, ◌≢◌, ℕ, ◌+◌, ◌<◌, ◌≤◌, List, [], ◌∷◌, ◌++◌, length, slice_index, bit_xor};
-ghost use Rattle.gf256_qic.specs.Field.{product, power};
-ghost use Rattle.gf256_qic.specs.Code.{lagrange, parity_sectors, IsCodeBlock};
-ghost use Rattle.segment_parity.specs.Sums.{pushed, Holds, Weighs, AddsSector};
+ghost use Rattle.std.specs.Prelude.{◌≡◌, ℕ, ◌+◌, ◌<◌, List, [], ◌∷◌, ◌++◌, length, All};
+ghost use Rattle.gf256_qic.specs.Field.{product};
+ghost use Rattle.gf256_qic.specs.Code.{parity_sectors, IsSector, IsCodeBlock};
+ghost use Rattle.segment_parity.specs.Register.{pushed, Holds, Shifted};
 
-use gf256_qic::{inv, mul, pow};
+use gf256_qic::{over_x, times_x};
 
 const SECTOR: usize = 1024;
 
-/// The first root of the code, r^-1.
-const INVERSE: u8 = 0xC3;
-
-/// The second root of the code.
-const ONE: u8 = 0x01;
-
-/// The third root of the code, r.
-const GENERATOR: u8 = 0x02;
-
-/// What the parity of a segment needs of its data sectors so far, 0 to 29 of them (QIC-80-MC).
+/// The parity of the data sectors of a segment so far, 0 to 29 of them (QIC-80-MC).
 #[derive(Drop)]
 pub struct Parity {
+    register: [[u8; SECTOR]; 3],
     count: u8,
-    at_inverse: [u8; SECTOR],
-    at_one: [u8; SECTOR],
-    at_generator: [u8; SECTOR],
 }
 
 impl Parity {
@@ -35,10 +24,8 @@ impl Parity {
         ensures empty { Holds result [] }
     {
         Parity {
+            register: [[0; SECTOR]; 3],
             count: 0,
-            at_inverse: [0; SECTOR],
-            at_one: [0; SECTOR],
-            at_generator: [0; SECTOR],
         }
     }
 
@@ -49,9 +36,7 @@ impl Parity {
         ensures sectors { (ss : List (List ℕ)) → Holds self.old ss →
             Holds self.new (ss ++ sector.now ∷ []) }
     {
-        add_sector(&mut self.at_inverse, sector, INVERSE);
-        add_sector(&mut self.at_one, sector, ONE);
-        add_sector(&mut self.at_generator, sector, GENERATOR);
+        shift_in(&mut self.register, sector);
         self.count += 1;
     }
 
@@ -62,6 +47,19 @@ impl Parity {
         self.count
     }
 
+    /// The three parity sectors of what was pushed so far, in ascending order of index.
+    pub fn so_far(&self) -> &[[u8; SECTOR]; 3]
+        requires { 0 < pushed self.now }
+        ensures parity { (ss : List (List ℕ)) → Holds self.now ss →
+            result.now ≡ parity_sectors ss }
+        ensures codewords { (ss : List (List ℕ)) → Holds self.now ss →
+            IsCodeBlock (ss ++ result.now) }
+        ensures only { (ss ps : List (List ℕ)) → Holds self.now ss →
+            length ps ≡ 3 → IsCodeBlock (ss ++ ps) → ps ≡ result.now }
+    {
+        &self.register
+    }
+
     /// The three parity sectors, in ascending order of index.
     pub fn finish(self) -> [[u8; SECTOR]; 3]
         requires { 0 < pushed self }
@@ -70,48 +68,30 @@ impl Parity {
         ensures only { (ss ps : List (List ℕ)) → Holds self ss →
             length ps ≡ 3 → IsCodeBlock (ss ++ ps) → ps ≡ result }
     {
-        let a = factors(INVERSE, ONE, GENERATOR);
-        let b = factors(ONE, INVERSE, GENERATOR);
-        let c = factors(GENERATOR, INVERSE, ONE);
-        [
-            self.row(a[0], b[0], c[0]),
-            self.row(a[1], b[1], c[1]),
-            self.row(a[2], b[2], c[2]),
-        ]
-    }
-
-    /// The sums at the three roots, each times its factor, added up in each column.
-    fn row(&self, a: u8, b: u8, c: u8) -> [u8; SECTOR]
-        ensures { Weighs self.now a b c result }
-    {
-        let mut row = [0; SECTOR];
-        for (j, byte) in row.iter_mut().enumerate() {
-            *byte = mul(self.at_inverse[j], a)
-                ^ mul(self.at_one[j], b)
-                ^ mul(self.at_generator[j], c);
-        }
-        row
+        self.register
     }
 }
 
-/// The sums at a root, one sector further.
-fn add_sector(sums: &mut [u8; SECTOR], sector: &[u8; SECTOR], root: u8)
-    ensures { AddsSector root sums.old sector.now sums.new }
+/// Shifts each column of the register by one, and adds the feedback's multiples.
+fn shift_in(register: &mut [[u8; SECTOR]; 3], sector: &[u8; SECTOR])
+    ensures columns { All IsSector register.old →
+        Shifted register.old sector.now register.new 1024 }
+    ensures rows { All IsSector register.old → All IsSector register.new }
 {
-    let weight = pow(root, 3);
-    for (j, sum) in sums.iter_mut().enumerate() {
-        *sum = mul(*sum, root) ^ mul(sector[j], weight);
+    for j in 0..SECTOR {
+        let feedback = register[0][j] ^ sector[j];
+        let multiple = times_0xc0(feedback);
+        register[0][j] = register[1][j] ^ multiple;
+        register[1][j] = register[2][j] ^ multiple;
+        register[2][j] = feedback;
     }
 }
 
-/// The coefficients of the polynomial of degree 2 that is 1 at `p`, and 0 at `q` and at `r`.
-fn factors(p: u8, q: u8, r: u8) -> [u8; 3]
-    requires second { p ≢ q }
-    requires third { p ≢ r }
-    ensures { result ≡ lagrange p q r }
+/// The product with 0xC0, which is the sum of 0x02, 0x01 and 0xC3.
+fn times_0xc0(a: u8) -> u8
+    ensures { result ≡ product a 0xC0 }
 {
-    let scale = mul(inv(p ^ q), inv(p ^ r));
-    [mul(scale, 1), mul(scale, q ^ r), mul(scale, mul(q, r))]
+    times_x(a) ^ a ^ over_x(a)
 }
 
 #[cfg(test)]
@@ -135,7 +115,11 @@ mod tests {
     fn a_second_sector_shifts_the_first(rt: HostRuntime) {
         let mut parity = Parity::new();
         parity.push(&[0x01; SECTOR]);
+        let [high, middle, low] = parity.so_far();
+        assert_eq!(rt; [high[0], middle[0], low[0]], [0xC0, 0xC0, 0x01]);
         parity.push(&[0x00; SECTOR]);
+        let [high, middle, low] = parity.so_far();
+        assert_eq!(rt; [high[9], middle[9], low[9]], [0x67, 0xA6, 0xC0]);
         let [high, middle, low] = parity.finish();
         assert_eq!(rt; [high[0], middle[0], low[0]], [0x67, 0xA6, 0xC0]);
         assert_eq!(rt; [high[1023], middle[1023], low[1023]], [0x67, 0xA6, 0xC0]);

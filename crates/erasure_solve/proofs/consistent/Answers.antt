@@ -1,15 +1,23 @@
-use Rattle.std.proofs.Common.{◌≤◌, length, arith}
+use Rattle.std.proofs.Common.{◌≡◌, ℕ, ◌∙◌, ap, sym, subst, arith}
+use Rattle.gf256_qic.specs.Code.{IsSolvable}
 use Rattle.gf256_qic.proofs.Parities.{block_count}
-use Rattle.erasure_solve.proofs.Blocks.{block_from_values, values_of_block}
+use Rattle.erasure_solve.specs.Lost.{is_lost, lost_count}
+use Rattle.erasure_solve.specs.Plan.{planned_lost}
+use Rattle.erasure_solve.proofs.Plans.{none_counted, solvable_whole, whole_solvable}
 use Rattle.erasure_solve.proofs.consistent.Goals as goal
+
+pub of-requires-clause-few : goal.of-requires-clause-few
+of-requires-clause-few c =
+    let none : lost_count c.from_mask.result ≡ 0 = ap (λ (m : ℕ). lost_count m) c.from_mask.ensures ∙ none_counted in
+    omega arith
 
 pub returns-in-4-to-32 : goal.returns-in-4-to-32
 returns-in-4-to-32 c =
-    let least : 4 ≤ length c.args.sectors.now = omega arith in
-    let most : length c.args.sectors.now ≤ 32 = omega arith in (
-      λ yes. block_from_values c.of.result c.args.sectors.now least most c.of.ensures.sectors
-          c.of.ensures.values (c.are_zero.ensures.0 yes),
-      λ block. c.are_zero.ensures.1 (values_of_block c.of.result c.args.sectors.now c.of.ensures.values block),
+    let mask : planned_lost c.of.result ≡ 0 = c.of.ensures.of_lost ∙ c.from_mask.ensures in (
+      λ yes. solvable_whole c.args.sectors.now
+          (subst (λ (m : ℕ). IsSolvable (is_lost m) c.args.sectors.now) mask (c.agrees.ensures.0 yes)),
+      λ block. c.agrees.ensures.1
+          (subst (λ (m : ℕ). IsSolvable (is_lost m) c.args.sectors.now) (sym mask) (whole_solvable c.args.sectors.now block)),
     )
 
 pub returns-in_default : goal.returns-in_default

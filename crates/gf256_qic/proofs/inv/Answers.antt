@@ -1,9 +1,11 @@
-use Rattle.std.proofs.Common.{◌∙◌, ap, sym}
-use Rattle.gf256_qic.specs.Field.{product}
-use Rattle.gf256_qic.proofs.Powers.{product_inverse, inverse_is}
+use Rattle.std.proofs.Common.{ℕ, ◌-◌, ◌∙◌, sym, ap}
+use Rattle.gf256_qic.specs.Field.{product, power}
+use Rattle.gf256_qic.proofs.Exponents.{inverse_by_exponent}
 use Rattle.gf256_qic.proofs.inv.Goals as goal
 
 pub returns : goal.returns
 returns c =
-    ap (product c.args.a) (c.pow.ensures ∙ sym (inverse_is c.args.a))
-    ∙ product_inverse c.args.a c.ranges.a.fits c.requires
+    let m : ℕ = c.logarithm.result in
+    ap (product c.args.a) c.exponential.ensures
+    ∙ ap (λ v. product v (power 2 (255 - m))) (sym c.logarithm.ensures.power)
+    ∙ inverse_by_exponent m c.logarithm.ensures.within

@@ -1,8 +1,8 @@
-use Rattle.gf256_qic.proofs.Powers.{product_two_below, product_two_above}
+use Rattle.std.proofs.Common.{◌∙◌, ap, bit_and, bit_xor, ◌*◌, ◌%◌}
+use Rattle.gf256_qic.proofs.Exponents.{product_two}
 use Rattle.gf256_qic.proofs.times_x.Goals as goal
 
-pub returns-then-a-lt128 : goal.returns-then-a-lt128
-returns-then-a-lt128 c = product_two_below c.args.a c.if-a-lt128.true
-
-pub returns-else-a-lt128 : goal.returns-else-a-lt128
-returns-else-a-lt128 c = product_two_above c.args.a c.if-a-lt128.false c.ranges.a.fits
+pub returns : goal.returns
+returns c =
+    ap (λ m. bit_xor (c.args.a * 2 % 256) (bit_and 135 m)) c.mask.ensures
+    ∙ product_two c.args.a c.ranges.a.fits

@@ -1,6 +1,13 @@
-use Rattle.std.proofs.Common.{replicate}
-use Rattle.segment_parity.proofs.Rows.{holds_none, zeros_are_zero}
+use Rattle.std.proofs.Common.{refl, arith}
+use Rattle.std.proofs.lemmas.List.Elements.{All-nil}
+use Rattle.gf256_qic.specs.Code.{IsSector}
+use Rattle.segment_parity.proofs.Rows.{zeros_are_register}
 use Rattle.segment_parity.proofs.Parity.new.Goals as goal
 
 pub returns-clause-empty : goal.returns-clause-empty
-returns-clause-empty c = holds_none (replicate 1024 0) (zeros_are_zero 1024)
+returns-clause-empty c = record {
+  count = refl;
+  most = omega arith;
+  sectors_fit = All-nil IsSector;
+  register = zeros_are_register;
+}

@@ -1,9 +1,8 @@
-use Rattle.std.proofs.Common.{refl}
 use Rattle.segment_parity.proofs.Rows.{holds_more, sector_from}
 use Rattle.segment_parity.proofs.Parity.push.Goals as goal
 
 pub returns-clause-sectors : goal.returns-clause-sectors
 returns-clause-sectors c = λ ss holds.
-    holds_more c.args.self.now _ c.args.sector.now ss c.requires refl
+    holds_more c.args.self.now c.shift_in.new.register c.args.sector.now ss c.requires c.shift_in.array_long
     (sector_from c.args.sector.now c.told-sector c.fits-sector)
-    c.add_sector.ensures c.add_sector-2.ensures c.add_sector-3.ensures holds
+    c.shift_in.ensures.columns c.shift_in.ensures.rows holds

@@ -1,0 +1,31 @@
+#!/usr/bin/env bash
+# Times crates/code_speed side by side with ISA-L's ec_encode_data (the Debian package libisal-dev), three
+# runs of each in turn, and prints ISA-L's time over ours, the median of the three, for encoding and for
+# solving: 1 is ISA-L's own speed. The words: how many segments a run goes through, and the processor that
+# both the program is built for and this machine has.
+set -eu
+times=${1:-100000}
+processor=${2:-x86-64-v3}
+top=$(cd "$(dirname "$0")/.." && pwd)
+room=$(mktemp -d)
+trap 'rm -r "$room"' EXIT
+
+cc -O2 -o "$room/isal_speed" "$top/bench/isal_speed.c" -lisal
+echo "building code_speed for $processor" >&2
+if ! (cd "$top/crates/code_speed" && rt run "--cpu=$processor" -- 1) >"$room/log" 2>&1; then
+    tail -n 20 "$room/log" >&2
+    exit 1
+fi
+cp "$top/crates/code_speed/out/code_speed" "$room/code_speed"
+
+for run in 1 2 3; do
+    "$room/code_speed" "$times" 2>"$room/ours" >/dev/null
+    "$room/isal_speed" "$times" 2>"$room/theirs"
+    awk -v run="$run" 'NR == FNR { ours[$1] = $2; next }
+        { printf "%s %d %.3f\n", $1, run, $2 / ours[$1] }' "$room/ours" "$room/theirs"
+done >"$room/runs"
+cat "$room/runs" >&2
+for part in encoding solving; do
+    grep "^$part" "$room/runs" | sort -k3 -n | awk -v part="$part" \
+        'NR == 2 { printf "%s: %.2f of the speed of ISA-L\n", part, $3 }'
+done

@@ -1,5 +1,0 @@
-use Rattle.erasure_solve.proofs.Places.{Gathered}
-use Rattle.erasure_solve.proofs.change.degrees.Given as goal
-
-abbrev pub invariant-loop-place : goal.invariant-loop-place
-invariant-loop-place l = Gathered l.lost l.count l.place l.found l.degrees

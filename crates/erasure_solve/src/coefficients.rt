@@ -1,0 +1,110 @@
+//! The coefficients by which the lost byte of a column comes from the column's values.
+
+ghost use Rattle.std.specs.Prelude.{◌≡◌, ◌≢◌, ◌<◌, ◌↔◌, length, IsTrue};
+ghost use Rattle.gf256_qic.specs.Field.{power};
+ghost use Rattle.erasure_solve.specs.Rows.{AddsRow, weighed_row};
+ghost use Rattle.erasure_solve.specs.Change.{change_factors, Fits, Applied};
+
+use crate::SECTOR;
+use crate::values::{Values, is_zero};
+use gf256_qic::{inv, mul, mul_by_shifts, pow};
+
+/// The generator of the field, whose powers tell the places of a column apart.
+const GENERATOR: u8 = 0x02;
+
+/// Degrees from here on are those of no place: a column has at most this many bytes.
+pub const NO_PLACE: u8 = 32;
+
+/// The factors of a column's values at the three roots in what is added to its byte at one place;
+/// the place's degree is the number of bytes behind it.
+#[derive(Drop)]
+pub struct Coefficients {
+    degree: u8,
+    factors: [u8; 3],
+}
+
+impl Coefficients {
+    /// The coefficients at the place of degree `own` that give a column, with those at the other two
+    /// degrees, the value 0 at each root.
+    pub fn at(own: u8, other: u8, third: u8) -> Coefficients
+        requires own { own < 35 }
+        requires other { other < 35 }
+        requires third { third < 35 }
+        requires from_other { own ≢ other }
+        requires from_third { own ≢ third }
+        ensures degree { result.degree ≡ own }
+        ensures factors { let x = power 2 own in let y = power 2 other in let z = power 2 third in
+            result.factors ≡ change_factors x y z }
+    {
+        Coefficients {
+            degree: own,
+            factors: factors(
+                pow(GENERATOR, own),
+                pow(GENERATOR, other),
+                pow(GENERATOR, third),
+            ),
+        }
+    }
+
+    /// Whether the degree is that of a place.
+    pub fn has_place(&self) -> bool
+        ensures { IsTrue result ↔ (self.now.degree < 32) }
+    {
+        self.degree < NO_PLACE
+    }
+
+    /// Whether the change can be made: its degree is that of a place, or it changes nothing.
+    pub fn fits(&self, values: &Values) -> bool
+        ensures { IsTrue result
+            ↔ Fits self.now.degree (weighed_row values.now self.now.factors) }
+    {
+        self.degree < NO_PLACE || is_zero(&weighed(values, &self.factors))
+    }
+
+    /// Changes the sector at the place, if the degree is that of one.
+    pub fn apply(&self, values: &Values, sectors: &mut [[u8; SECTOR]])
+        requires { self.now.degree < 32 → self.now.degree < length sectors.old }
+        ensures { let row = weighed_row values.now self.now.factors in
+            Applied self.now.degree row sectors.old sectors.new }
+    {
+        if self.degree < NO_PLACE {
+            let row = weighed(values, &self.factors);
+            let place = sectors.len() - 1 - self.degree as usize;
+            add_row(&mut sectors[place], &row);
+        }
+    }
+}
+
+/// The factors of a column's values at the three roots in the change at the place of power `x`,
+/// where the other two have the powers `y` and `z`.
+fn factors(x: u8, y: u8, z: u8) -> [u8; 3]
+    requires second { x ≢ y }
+    requires third { x ≢ z }
+    ensures { result ≡ change_factors x y z }
+{
+    let scale = mul(x, mul(inv(x ^ y), inv(x ^ z)));
+    [mul(scale, mul(y, z)), mul(scale, y ^ z), scale]
+}
+
+/// The values at the three roots, each times its factor, added up in each column.
+fn weighed(values: &Values, factors: &[u8; 3]) -> [u8; SECTOR]
+    ensures { result ≡ weighed_row values.now factors.now }
+{
+    let [inverse, one, generator] = *factors;
+    let mut row = [0; SECTOR];
+    for (j, byte) in row.iter_mut().enumerate() {
+        *byte = mul_by_shifts(inverse, values.at_inverse[j])
+            ^ mul_by_shifts(one, values.at_one[j])
+            ^ mul_by_shifts(generator, values.at_generator[j]);
+    }
+    row
+}
+
+/// Adds a row of bytes to a sector.
+fn add_row(sector: &mut [u8; SECTOR], row: &[u8; SECTOR])
+    ensures { AddsRow row.now sector.old sector.new }
+{
+    for (j, byte) in sector.iter_mut().enumerate() {
+        *byte ^= row[j];
+    }
+}

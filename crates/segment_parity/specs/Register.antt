@@ -1,0 +1,33 @@
+-- What a `Parity` stands for, in the words of the code, and how its register takes a sector.
+use Rattle.std.specs.Prelude.{ℕ, ◌<◌, ◌≤◌, ◌≡◌, List, [], length, All, slice_index, slice_index_or, bit_xor}
+use Rattle.gf256_qic.specs.Field.{product}
+use Rattle.gf256_qic.specs.Code.{IsSector, parity_sectors}
+use Rattle.segment_parity.specs.declared.Parity.{Parity}
+
+-- how many sectors were pushed
+abbrev pub pushed : Parity → ℕ
+pushed p = p.count
+
+-- the parity stands for these sectors, in this order: its register has their parity sectors
+pub record Holds (p : Parity) (sectors : List (List ℕ)) : Type 0 where
+  pub count : pushed p ≡ length sectors
+  pub most : length sectors ≤ 29
+  pub sectors_fit : All IsSector sectors
+  pub register : p.register ≡ parity_sectors sectors
+
+-- byte j of the row k, 0 to 2, of a register
+abbrev pub at : List (List ℕ) → ℕ → ℕ → ℕ
+at register k j = slice_index (slice_index_or register k []) j
+
+-- what falls out of a column's register, added to the sector's byte
+abbrev pub feedback : List (List ℕ) → List ℕ → ℕ → ℕ
+feedback register sector j = bit_xor (at register 0 j) (slice_index sector j)
+
+-- the columns below n are shifted by one place, and 0xC0, 0xC0 and 0x01 times the feedback added:
+-- the remainder of the data by x^3 + 0xC0 x^2 + 0xC0 x + 1, one byte further (QIC-80-MC)
+pub record Shifted (old : List (List ℕ)) (sector : List ℕ) (new : List (List ℕ)) (n : ℕ) : Type 0 where
+  pub high : (j : ℕ) → j < n →
+      at new 0 j ≡ bit_xor (at old 1 j) (product (feedback old sector j) 0xC0)
+  pub middle : (j : ℕ) → j < n →
+      at new 1 j ≡ bit_xor (at old 2 j) (product (feedback old sector j) 0xC0)
+  pub low : (j : ℕ) → j < n → at new 2 j ≡ feedback old sector j
