@@ -1,2 +1,4 @@
-//! What a cartridge says: definitions alone, which several crates cite.
+//! What a cartridge says: definitions, which several crates cite, and their laws.
 #![tactic(auto)]
+
+pub mod laws;

@@ -1,0 +1,119 @@
+-- The table's segment says at most one thing, and it says something.
+use Rattle.std.proofs.Common.{◌≡◌, ℕ, zero, suc, ◌<◌, ◌≤◌, refl, sym, ◌∙◌, ap, subst, arith, inl, inr, List, [], ◌∷◌, length, map, take, slice_get, Some}
+use Rattle.std.specs.Option.{option_map}
+use Rattle.std.proofs.lemmas.Bool.{cases_lt}
+use Rattle.std.proofs.lemmas.List.{same_lists, length-map, length-take-le}
+use Rattle.std.proofs.lemmas.List.Elements.{All-from_get_or}
+use Rattle.std.proofs.lemmas.Option.{slice_get-map, get_or_from_slice_get}
+use Rattle.qic_base.specs.declared.tape.SectorView.{SectorView}
+use Rattle.qic_base.specs.declared.tape.SectorView.TheVariants.{Blank, Defect, Lost, Holds}
+use Rattle.gf256_qic.specs.Code.{IsSector}
+use Rattle.cartridge_spec.specs.Says.{Saying, Data, LostSectors, Mismatch, Says, unreadable_data, ReadsAll, TableSaying, AsRead, Solved, TableLost, TableMismatch, TableSays}
+use Rattle.cartridge_spec.specs.SayingLaws.{TableSaysIsFunction, TableSaysAlways, ReadAreSectors}
+use Rattle.cartridge_spec.proofs.Cells.{IsReadable, count_of_readable, readable_from_count}
+use Rattle.cartridge_spec.proofs.Sayings.{says_is_function, code_sector}
+use Rattle.cartridge_spec.proofs.Blocks.{says_always, held_sector}
+
+-- ---- at most one thing
+
+-- data sectors that are all read are all readable
+none_unreadable : (cells : List SectorView) (xs : List (List ℕ)) → ReadsAll cells xs → unreadable_data cells ≡ 0
+none_unreadable cells xs reads = count_of_readable 29 cells (λ i h. ((reads.each i h).0, (reads.each i h).1))
+
+-- the data that are read are one
+one_reading : (cells : List SectorView) (xs ys : List (List ℕ)) → ReadsAll cells xs → ReadsAll cells ys → xs ≡ ys
+one_reading cells xs ys hx hy =
+    let size : length xs ≡ 29 = hx.size in
+    same_lists xs ys (hx.size ∙ sym hy.size) (λ k d lt.
+    let within : k < 29 = omega arith in
+    let rx = hx.each k within in
+    let ry = hy.each k within in
+    let held : Some (Holds rx.0) ≡ Some (Holds ry.0) = sym rx.1 ∙ ry.1 in
+    let same : rx.0 ≡ ry.0 = cc in
+    get_or_from_slice_get xs k rx.0 d rx.2 ∙ same ∙ sym (get_or_from_slice_get ys k ry.0 d ry.2))
+
+-- data that are all read leave nothing to the code
+no_code : {P : Type 0} (cells : List SectorView) (xs : List (List ℕ)) → ReadsAll cells xs → 0 < unreadable_data cells → P
+no_code cells xs reads some =
+    let none : unreadable_data cells ≡ 0 = none_unreadable cells xs reads in
+    absurd (omega arith)
+
+-- how the code's answer is called at the table's segment
+abbrev solved_as : Saying → TableSaying
+solved_as (Data xs) = Solved xs
+solved_as (LostSectors n) = TableLost n
+solved_as Mismatch = TableMismatch
+
+one_solution : (cells : List SectorView) (a b : Saying) → Says cells a → Says cells b → solved_as a ≡ solved_as b
+one_solution cells a b ha hb = ap (λ (saying : Saying). solved_as saying) (says_is_function cells a b ha hb)
+
+pub table_says_is_function : TableSaysIsFunction
+table_says_is_function cells (AsRead xs) (AsRead ys) ha hb = ap AsRead (one_reading cells xs ys ha hb)
+table_says_is_function cells (AsRead xs) (Solved ys) ha hb = no_code cells xs ha hb.0
+table_says_is_function cells (AsRead xs) (TableLost n) ha hb = no_code cells xs ha hb.0
+table_says_is_function cells (AsRead xs) TableMismatch ha hb = no_code cells xs ha hb.0
+table_says_is_function cells (Solved xs) (AsRead ys) ha hb = no_code cells ys hb ha.0
+table_says_is_function cells (Solved xs) (Solved ys) ha hb = one_solution cells (Data xs) (Data ys) ha.1 hb.1
+table_says_is_function cells (Solved xs) (TableLost n) ha hb = one_solution cells (Data xs) (LostSectors n) ha.1 hb.1
+table_says_is_function cells (Solved xs) TableMismatch ha hb = one_solution cells (Data xs) Mismatch ha.1 hb.1
+table_says_is_function cells (TableLost m) (AsRead ys) ha hb = no_code cells ys hb ha.0
+table_says_is_function cells (TableLost m) (Solved ys) ha hb = one_solution cells (LostSectors m) (Data ys) ha.1 hb.1
+table_says_is_function cells (TableLost m) (TableLost n) ha hb =
+    one_solution cells (LostSectors m) (LostSectors n) ha.1 hb.1
+table_says_is_function cells (TableLost m) TableMismatch ha hb = one_solution cells (LostSectors m) Mismatch ha.1 hb.1
+table_says_is_function cells TableMismatch (AsRead ys) ha hb = no_code cells ys hb ha.0
+table_says_is_function cells TableMismatch (Solved ys) ha hb = one_solution cells Mismatch (Data ys) ha.1 hb.1
+table_says_is_function cells TableMismatch (TableLost n) ha hb = one_solution cells Mismatch (LostSectors n) ha.1 hb.1
+table_says_is_function cells TableMismatch TableMismatch ha hb = refl
+
+-- ---- something
+
+-- the bytes of a cell that holds some
+abbrev contents : SectorView → List ℕ
+contents Blank = []
+contents Defect = []
+contents Lost = []
+contents (Holds bytes) = bytes
+
+slice_get-take : (n : ℕ) (cells : List SectorView) (i : ℕ) → i < n → slice_get (take n cells) i ≡ slice_get cells i
+slice_get-take zero cells i h = absurd (omega arith)
+slice_get-take (suc n) [] i h = refl
+slice_get-take (suc n) (cell ∷ cells) zero h = refl
+slice_get-take (suc n) (cell ∷ cells) (suc i) h = slice_get-take n cells i (omega arith)
+
+-- data sectors that are all readable are all read
+reads_all : (cells : List SectorView) → 29 ≤ length cells → unreadable_data cells ≡ 0 →
+    ReadsAll cells (map contents (take 29 cells))
+reads_all cells long none = record {
+  size = length-map (take 29 cells) contents ∙ length-take-le 29 cells long;
+  each = λ i h.
+      let held : IsReadable cells i = readable_from_count 29 cells long none i h in (
+        held.0,
+        held.1,
+        slice_get-map contents (take 29 cells) i
+            ∙ ap (option_map contents) (slice_get-take 29 cells i h ∙ held.1),
+      );
+}
+
+pub table_says_always : TableSaysAlways
+table_says_always cells long views =
+    elim (cases_lt 0 (unreadable_data cells)) [
+      | inl some ↦ solved (says_always cells views).0 some (says_always cells views).1
+      | inr few ↦ (AsRead (map contents (take 29 cells)), reads_all cells long (omega arith))
+    ]
+  where
+    solved : (saying : Saying) → 0 < unreadable_data cells → Says cells saying →
+        (answer : TableSaying) × TableSays cells answer
+    solved (Data xs) some says = (Solved xs, (some, says))
+    solved (LostSectors n) some says = (TableLost n, (some, says))
+    solved Mismatch some says = (TableMismatch, (some, says))
+
+-- ---- sectors
+
+pub read_are_sectors : ReadAreSectors
+read_are_sectors cells sectors views reads = All-from_get_or IsSector sectors [] (λ i lt.
+    let size : length sectors ≡ 29 = reads.size in
+    let within : i < 29 = omega arith in
+    let here = reads.each i within in
+    subst IsSector (sym (get_or_from_slice_get sectors i here.0 [] here.2))
+    (code_sector here.0 (held_sector cells i here.0 views here.1)))

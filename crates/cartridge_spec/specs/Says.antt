@@ -1,0 +1,98 @@
+-- What a segment says: the cells of its usable sectors, the code block that agrees with those that can be read, and the
+-- data in it (QIC-80-MC: three sectors of parity behind the data, so three sectors that are lost are found again).
+use Rattle.std.specs.Prelude.{◌≡◌, ℕ, ◌-◌, ◌<◌, ◌≤◌, ◌^◌, ◌++◌, Bool, true, false, List, length, take, map, count_by, Some, slice_get}
+use Rattle.qic_base.specs.declared.tape.SectorView.{SectorView}
+use Rattle.qic_base.specs.declared.tape.SectorView.TheVariants.{Blank, Defect, Lost, Holds}
+use Rattle.qic_base.specs.Cartridge.{Cartridge, view_at, zero_sector}
+use Rattle.qic_base.specs.LostSet.{IsLost}
+use Rattle.gf256_qic.specs.Code.{IsCodeBlock, parity_sectors}
+use Rattle.cartridge_spec.specs.Shape.{usable_places}
+
+-- a segment without a bad sector
+abbrev pub whole_mask : ℕ
+whole_mask = 2 ^ 32 - 1
+
+-- the views of the usable sectors of a segment, in order of index
+abbrev pub cells_of : Cartridge → (segment mask : ℕ) → List SectorView
+cells_of c segment mask = map (view_at c segment) (usable_places mask)
+
+abbrev pub is_unreadable : SectorView → Bool
+is_unreadable Blank = true
+is_unreadable Defect = true
+is_unreadable Lost = true
+is_unreadable (Holds bytes) = false
+
+abbrev pub unreadable_count : List SectorView → ℕ
+unreadable_count cells = count_by is_unreadable cells
+
+-- each cell that can be read holds its sector of the block
+pub record Agrees (cells : List SectorView) (block : List (List ℕ)) : Type 0 where
+  pub size : length block ≡ length cells
+  pub each : (i : ℕ) (bytes : List ℕ) → slice_get cells i ≡ Some (Holds bytes) → slice_get block i ≡ Some bytes
+
+-- the sectors of a block before its three of parity
+abbrev pub data_of : List (List ℕ) → List (List ℕ)
+data_of block = take (length block - 3) block
+
+-- a code block that agrees with the cells, with this data
+pub record HasBlock (cells : List SectorView) (data_sectors : List (List ℕ)) : Type 0 where
+  pub block : List (List ℕ)
+  pub code : IsCodeBlock block
+  pub agrees : Agrees cells block
+  pub shown : data_sectors ≡ data_of block
+
+-- no code block agrees with the cells
+abbrev pub HasNoBlock : List SectorView → Type 0
+HasNoBlock cells = (block : List (List ℕ)) → IsCodeBlock block → Agrees cells block → ⊥
+
+-- what a segment says
+pub data Saying : Type 0 where
+  -- its data sectors
+  Data : List (List ℕ) → Saying
+  -- so many of its usable sectors are unreadable, more than three
+  LostSectors : ℕ → Saying
+  -- at most three are, and the others are those of no code block
+  Mismatch : Saying
+
+abbrev pub Says : List SectorView → Saying → Type 0
+Says cells (Data sectors) = (unreadable_count cells ≤ 3) × HasBlock cells sectors
+Says cells (LostSectors n) = (unreadable_count cells ≡ n) × (3 < n)
+Says cells Mismatch = (unreadable_count cells ≤ 3) × HasNoBlock cells
+
+-- data sectors were written, followed by their parity: each cell that can be read holds its sector of them
+abbrev pub Written : List SectorView → List (List ℕ) → Type 0
+Written cells sectors = Agrees cells (sectors ++ parity_sectors sectors)
+
+-- each cell that can be read holds zero bytes
+abbrev pub Zero : List SectorView → Type 0
+Zero cells = (i : ℕ) (bytes : List ℕ) → slice_get cells i ≡ Some (Holds bytes) → bytes ≡ zero_sector
+
+-- ---- the volume table's segment (this project's profile)
+
+-- the unreadable ones among its 29 data sectors
+abbrev pub unreadable_data : List SectorView → ℕ
+unreadable_data cells = unreadable_count (take 29 cells)
+
+-- one of its data sectors is among these places
+pub record LosesData (lost : ℕ) : Type 0 where
+  pub place : ℕ
+  pub data_sector : place < 29
+  pub is_lost : IsLost lost place
+
+-- all its data sectors can be read, and hold these
+pub record ReadsAll (cells : List SectorView) (sectors : List (List ℕ)) : Type 0 where
+  pub size : length sectors ≡ 29
+  pub each : (i : ℕ) → i < 29 → (bytes : List ℕ) × (slice_get cells i ≡ Some (Holds bytes)) × (slice_get sectors i ≡ Some bytes)
+
+-- what the table's segment says: its data as they are, where all of them can be read, and else what the code says
+pub data TableSaying : Type 0 where
+  AsRead : List (List ℕ) → TableSaying
+  Solved : List (List ℕ) → TableSaying
+  TableLost : ℕ → TableSaying
+  TableMismatch : TableSaying
+
+abbrev pub TableSays : List SectorView → TableSaying → Type 0
+TableSays cells (AsRead sectors) = ReadsAll cells sectors
+TableSays cells (Solved sectors) = (0 < unreadable_data cells) × Says cells (Data sectors)
+TableSays cells (TableLost n) = (0 < unreadable_data cells) × Says cells (LostSectors n)
+TableSays cells TableMismatch = (0 < unreadable_data cells) × Says cells Mismatch

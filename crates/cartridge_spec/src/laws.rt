@@ -1,0 +1,70 @@
+//! The laws of what segments say. Each is the contract of a function that does nothing, so that other crates can
+//! rest on it; their proofs import the lemmas of this crate's `proofs`.
+
+ghost use Rattle.cartridge_spec.specs.SayingLaws.{SaysIsFunction, SaysAlways, TableSaysIsFunction, TableSaysAlways, ReadAreSectors, CountOfCells, CellsAreViews, PlacesOfWhole, CellsOfWhole, SectorNotionsAgree, WrittenIsSaid, WrittenIsLost, SaidIsWritten, SaidAreSectors, ZeroIsWritten, ZeroSaysZero, ZeroHasNoSignature, ZeroDoesNotRead};
+
+/// The cells of a segment say at most one thing: the code's distance of four leaves one block (QIC-80-MC).
+pub fn says_is_function()
+    ensures { SaysIsFunction }
+{}
+
+/// Cells whose readable ones hold sectors say something.
+pub fn says_always()
+    ensures { SaysAlways }
+{}
+
+/// The table's segment says at most one thing.
+pub fn table_says_is_function()
+    ensures { TableSaysIsFunction }
+{}
+
+/// A segment of 29 cells or more, whose readable ones hold sectors, says something as the table's.
+pub fn table_says_always()
+    ensures { TableSaysAlways }
+{}
+
+/// Data of the table that are read as they are, are sectors.
+pub fn read_are_sectors()
+    ensures { ReadAreSectors }
+{}
+
+/// The cells of a cartridge's segment: as many as its usable sectors, and those that can be read hold sectors.
+pub fn cells_of_segment()
+    ensures count { CountOfCells }
+    ensures views { CellsAreViews }
+{}
+
+/// A segment without a bad sector has the cells of sectors 0 to 31.
+pub fn cells_of_whole_segment()
+    ensures places { PlacesOfWhole }
+    ensures cells { CellsOfWhole }
+{}
+
+/// The code's notion of a sector and the cartridge's are the same.
+pub fn sector_notions_agree()
+    ensures { SectorNotionsAgree }
+{}
+
+/// What was written is what is said, or else the number of unreadable cells is.
+pub fn written_is_said()
+    ensures data_sectors { WrittenIsSaid }
+    ensures lost { WrittenIsLost }
+{}
+
+/// What is said is as if it were written, and consists of sectors, three fewer than the cells.
+pub fn said_is_written()
+    ensures cells { SaidIsWritten }
+    ensures sectors { SaidAreSectors }
+{}
+
+/// A segment of zero bytes is one to which zero bytes were written, with their parity.
+pub fn zero_is_written()
+    ensures { ZeroIsWritten }
+{}
+
+/// A header copy of zero bytes says zero bytes, which have no header's signature.
+pub fn zero_says_no_header()
+    ensures says { ZeroSaysZero }
+    ensures signature { ZeroHasNoSignature }
+    ensures copy { ZeroDoesNotRead }
+{}
