@@ -4,9 +4,11 @@
 mod entry;
 mod fault;
 pub mod laws;
+mod reading;
 mod slots;
 mod table;
 
 pub use entry::Entry;
 pub use fault::TableFault;
+pub use reading::TableReading;
 pub use table::Table;

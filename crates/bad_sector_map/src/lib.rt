@@ -1,0 +1,8 @@
+//! The bad sector map: which sectors of each segment are bad, and what that leaves of the segment.
+#![tactic(auto)]
+
+pub mod laws;
+mod map;
+mod words;
+
+pub use map::BadMap;

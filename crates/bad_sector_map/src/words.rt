@@ -1,0 +1,89 @@
+//! The words of a bad sector map in the header's data area, one of 32 bits for each segment.
+
+ghost use Rattle.std.specs.Prelude.{◌≡◌, ◌+◌, ◌*◌, ◌<◌, ◌≤◌, ◌++◌, ◌∷◌, [], ℕ, length, replicate};
+ghost use Rattle.std.specs.Vec.{vec_len, vec_capacity};
+ghost use Rattle.cartridge_spec.specs.Header.{byte_in, word_in, words_in, IsInMap};
+
+use qic_base::{LONGEST, read_u32, write_u32};
+
+/// The greatest number of segments: 28 tracks of the greatest length.
+pub const SEGMENTS: u32 = 28 * LONGEST as u32;
+
+/// The map's words begin in this sector of the area, 256 to a sector (Linux ftape headers).
+const FIRST_SECTOR: usize = 2;
+
+const WORDS_IN_SECTOR: usize = 256;
+
+/// Adds a word to a list that has room for it, so that no memory is taken.
+fn push_within(words: &mut Vec<u32>, word: u32)
+    requires { vec_len words.old < vec_capacity words.old }
+    ensures items { words.new.items ≡ words.old.items ++ word ∷ [] }
+    ensures len { vec_len words.new ≡ vec_len words.old + 1 }
+    ensures capacity { vec_capacity words.old ≤ vec_capacity words.new }
+{
+    match words.push(word) {
+        Ok(()) => {}
+        Err(_) => unreachable!(),
+    }
+}
+
+/// Makes the list one of so many zero words.
+pub fn clear_words(words: &mut Vec<u32>, segments: u32)
+    requires { segments ≤ vec_capacity words.old }
+    ensures items { words.new.items ≡ replicate segments 0 }
+    ensures capacity { vec_capacity words.old ≤ vec_capacity words.new }
+{
+    words.clear();
+    for _ in 0..segments {
+        push_within(words, 0);
+    }
+}
+
+fn word_at(area: &[[u8; 1024]], segment: u32) -> u32
+    requires sectors { length area.now ≡ 29 }
+    requires within { segment < SEGMENTS }
+    ensures { result ≡ word_in area.now segment }
+{
+    let place = segment as usize;
+    let sector = &area[FIRST_SECTOR + place / WORDS_IN_SECTOR];
+    read_u32(sector, 4 * (place % WORDS_IN_SECTOR))
+}
+
+/// Makes the list that of the words in the area.
+pub fn read_words(words: &mut Vec<u32>, area: &[[u8; 1024]], segments: u32)
+    requires sectors { length area.now ≡ 29 }
+    requires within { segments ≤ SEGMENTS }
+    requires room { segments ≤ vec_capacity words.old }
+    ensures items { words.new.items ≡ words_in area.now segments }
+    ensures len { vec_len words.new ≡ segments }
+    ensures capacity { vec_capacity words.old ≤ vec_capacity words.new }
+{
+    words.clear();
+    for segment in 0..segments {
+        push_within(words, word_at(area, segment));
+    }
+}
+
+fn set_word(area: &mut [[u8; 1024]], segment: usize, word: u32)
+    requires sectors { length area.old ≡ 29 }
+    requires within { segment < SEGMENTS }
+    ensures word { word_in area.new segment ≡ word }
+    ensures others { (k : ℕ) → (IsInMap (segment + 1) k → IsInMap segment k) →
+        byte_in area.new k ≡ byte_in area.old k }
+{
+    let sector = &mut area[FIRST_SECTOR + segment / WORDS_IN_SECTOR];
+    write_u32(sector, 4 * (segment % WORDS_IN_SECTOR), word);
+}
+
+/// Writes the words into the area, the first of them first. All other bytes stay.
+pub fn write_words(words: &[u32], area: &mut [[u8; 1024]])
+    requires sectors { length area.old ≡ 29 }
+    requires within { length words.now ≤ SEGMENTS }
+    ensures words { words_in area.new (length words.now) ≡ words.now }
+    ensures others { (k : ℕ) → ¬ (IsInMap (length words.now) k) →
+        byte_in area.new k ≡ byte_in area.old k }
+{
+    for (segment, word) in words.iter().enumerate() {
+        set_word(area, segment, *word);
+    }
+}

@@ -1,0 +1,4 @@
+pub mod FieldSets
+pub mod ReadingLaws
+pub mod Refusals
+pub mod SpellingLaws

@@ -1,0 +1,4 @@
+pub mod Header
+pub mod Laws
+pub mod Refusal
+pub mod Writing

@@ -1,0 +1,16 @@
+//! The header, which says of a cartridge how long it is, what it is called and which sectors are bad.
+#![tactic(auto)]
+
+mod fault;
+mod fields;
+mod header;
+pub mod laws;
+mod reading;
+#[cfg(test)]
+mod tests;
+mod writing;
+
+pub use fault::HeaderFault;
+pub use header::Header;
+pub use reading::decode;
+pub use writing::encode;

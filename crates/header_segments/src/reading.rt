@@ -1,0 +1,144 @@
+//! A header from bytes.
+
+ghost use Rattle.std.specs.Prelude.{◌≡◌, ◌-◌, ◌*◌, ◌<◌, ◌≤◌, ℕ, List, length, All, replicate, IfOk, OnErr, MatchResult};
+ghost use Rattle.std.specs.Option.{option_map};
+ghost use Rattle.qic_base.specs.Cartridge.{IsLength};
+ghost use Rattle.cartridge_spec.specs.Header.{Holds, Shows, header_fields, profile_fields, tested, field_fault, first_fault, map_fault, has_signature, words_in};
+ghost use Rattle.header_segments.specs.Header.{header_of};
+ghost use Rattle.header_segments.specs.Refusal.{foreign, refusal};
+
+use crate::fault::HeaderFault;
+use crate::fields::{
+    FIRST_DATA, FIRST_HEADER, FORMAT_CODE, SECOND_HEADER, SECTOR_MAXIMUM, SIGNATURE, TRACK_MAXIMUM,
+    TRACKS,
+};
+use crate::header::Header;
+use bad_sector_map::BadMap;
+use qic_base::{ForeignField, Name, read_u16, read_u32};
+
+/// The test of a field of one byte in the first sector: a fault where the byte is another.
+fn byte_fault(area: &[[u8; 1024]], field: ForeignField, at: usize, value: u8) -> Option<HeaderFault>
+    requires sectors { length area.now ≡ 29 }
+    requires within { at < 1024 }
+    ensures { result ≡ option_map foreign (field_fault area.now (tested field at 1 value)) }
+{
+    let found = area[0][at];
+    if found == value {
+        return None;
+    }
+    Some(HeaderFault::Foreign {
+        field,
+        value: u32::from(found),
+    })
+}
+
+/// The test of a field of two bytes in the first sector.
+fn number_fault(
+    area: &[[u8; 1024]],
+    field: ForeignField,
+    at: usize,
+    value: u16,
+) -> Option<HeaderFault>
+    requires sectors { length area.now ≡ 29 }
+    requires within { at < 1023 }
+    ensures { result ≡ option_map foreign (field_fault area.now (tested field at 2 value)) }
+{
+    let found = read_u16(&area[0], at);
+    if found == value {
+        return None;
+    }
+    Some(HeaderFault::Foreign {
+        field,
+        value: u32::from(found),
+    })
+}
+
+/// The first field that does not have the profile's value.
+fn profile_fault(area: &[[u8; 1024]], segments_per_track: u16) -> Option<HeaderFault>
+    requires sectors { length area.now ≡ 29 }
+    requires long { IsLength segments_per_track }
+    ensures { result ≡
+        option_map foreign (first_fault area.now (profile_fields segments_per_track)) }
+{
+    let last = 28 * segments_per_track - 1;
+    byte_fault(area, ForeignField::FormatCode, 4, FORMAT_CODE)
+        .or(number_fault(area, ForeignField::FirstHeader, 6, FIRST_HEADER))
+        .or(number_fault(area, ForeignField::SecondHeader, 8, SECOND_HEADER))
+        .or(number_fault(area, ForeignField::FirstData, 10, FIRST_DATA))
+        .or(number_fault(area, ForeignField::LastData, 12, last))
+        .or(number_fault(area, ForeignField::SegmentsPerTrack, 24, segments_per_track))
+        .or(byte_fault(area, ForeignField::Tracks, 26, TRACKS))
+        .or(byte_fault(area, ForeignField::TrackMaximum, 28, TRACK_MAXIMUM))
+        .or(byte_fault(area, ForeignField::SectorMaximum, 29, SECTOR_MAXIMUM))
+}
+
+/// The first of the segments 0 to 2 that has a bad sector.
+fn marked_fault(map: &BadMap) -> Option<HeaderFault>
+    requires { 3 ≤ length map.now }
+    ensures { (area : List (List ℕ)) (segments : ℕ) → map.now ≡ words_in area segments →
+        result ≡ option_map foreign (map_fault area) }
+{
+    for segment in 0..3 {
+        if map.usable(segment) != u32::MAX {
+            return Some(HeaderFault::Foreign {
+                field: ForeignField::Map,
+                value: segment,
+            });
+        }
+    }
+    None
+}
+
+fn fields_of(area: &[[u8; 1024]]) -> Header
+    requires { length area.now ≡ 29 }
+    ensures { All (Holds area.now) (header_fields (header_of result)) }
+{
+    let sector = &area[0];
+    let mut label = [0; 44];
+    label.copy_from_slice(&sector[30..74]);
+    Header {
+        format_date: read_u32(sector, 14),
+        write_date: read_u32(sector, 18),
+        segments_per_track: read_u16(sector, 24),
+        label: Name::from_bytes(&label),
+        label_date: read_u32(sector, 74),
+    }
+}
+
+/// Why the area is refused, where its map was read already.
+fn fault_in(area: &[[u8; 1024]], segments_per_track: u16, map: &BadMap) -> Option<HeaderFault>
+    requires sectors { length area.now ≡ 29 }
+    requires long { IsLength segments_per_track }
+    requires map { map.now ≡ words_in area.now (28 * segments_per_track) }
+    ensures { result ≡ refusal area.now segments_per_track }
+{
+    if read_u32(&area[0], 0) != SIGNATURE {
+        return Some(HeaderFault::NoSignature);
+    }
+    profile_fault(area, segments_per_track).or(marked_fault(map))
+}
+
+/// Reads the header and the map in a data area of 29 sectors, for a drive that reports these
+/// segments per track. A refusal is the first test that fails, and leaves a map with no marks.
+pub fn decode(
+    area: &[[u8; 1024]],
+    drive_segments: u16,
+    map: &mut BadMap,
+) -> Result<Header, HeaderFault>
+    requires sectors { length area.now ≡ 29 }
+    requires long { IsLength drive_segments }
+    ensures shown { IfOk result (λ header. Shows area.now (header_of header) map.new) }
+    ensures fault { MatchResult result (λ _. refusal area.now drive_segments ≡ None)
+        (λ fault. refusal area.now drive_segments ≡ Some fault) }
+    ensures unmarked { OnErr result (map.new ≡ replicate (28 * drive_segments) 0) }
+{
+    let segments = 28 * u32::from(drive_segments);
+    map.read(area, segments);
+    match fault_in(area, drive_segments, map) {
+        Some(fault) => {
+            map.reset(segments);
+            Err(fault)
+        }
+        None => Ok(fields_of(area)),
+    }
+}
