@@ -1,0 +1,93 @@
+-- Lines and their newlines.
+use Rattle.std.proofs.Common.{◌≡◌, ◌≢◌, ◌⊎◌, inl, inr, ℕ, zero, suc, ◌+◌, ◌<◌, ◌≤◌, List, [], ◌∷◌, ◌++◌, All, length, take, drop, get_or, Option, Some, None, IfSome, refl, sym, ap, ◌∙◌, arith, append_assoc, codes, lit≤}
+use Rattle.std.specs.Option.{option_map}
+use Rattle.std.proofs.lemmas.List.{length-append, get_or_append_left, get_or_at}
+use Rattle.qic_base.specs.Source.{Meaning}
+use Rattle.tape_script.specs.Input.{IsLined}
+use Rattle.tape_script.specs.Reading.{Gave, HasEnded, NoNewline, BeginsWithNo}
+
+NoNewline-tail : (x : ℕ) (xs : List ℕ) → NoNewline (x ∷ xs) → NoNewline xs
+NoNewline-tail x xs none k d here = none (suc k) d (omega arith)
+
+NoNewline-head : (x : ℕ) (xs : List ℕ) → NoNewline (x ∷ xs) → x ≢ 0x0A
+NoNewline-head x xs none = none 0 x (omega arith)
+
+head_is : (x y : ℕ) (xs ys : List ℕ) → x ∷ xs ≡ y ∷ ys → x ≡ y
+head_is x y xs ys e = cc
+
+tail_is : (x y : ℕ) (xs ys : List ℕ) → x ∷ xs ≡ y ∷ ys → xs ≡ ys
+tail_is x y xs ys e = cc
+
+-- the bytes before the first newline are unique
+pub one_before : (xs ys more rest : List ℕ) → NoNewline xs → NoNewline ys → xs ++ 0x0A ∷ more ≡ ys ++ 0x0A ∷ rest → xs ≡ ys
+one_before [] [] more rest a b e = refl
+one_before [] (y ∷ ys) more rest a b e = absurd (NoNewline-head y ys b (sym (head_is 0x0A y more (ys ++ 0x0A ∷ rest) e)))
+one_before (x ∷ xs) [] more rest a b e = absurd (NoNewline-head x xs a (head_is x 0x0A (xs ++ 0x0A ∷ more) rest e))
+one_before (x ∷ xs) (y ∷ ys) more rest a b e =
+    let same : xs ≡ ys = one_before xs ys more rest (NoNewline-tail x xs a) (NoNewline-tail y ys b) (tail_is x y (xs ++ 0x0A ∷ more) (ys ++ 0x0A ∷ rest) e) in
+    let first : x ≡ y = head_is x y (xs ++ 0x0A ∷ more) (ys ++ 0x0A ∷ rest) e in cc
+
+-- what a line's bytes are, where it begins bytes with a newline
+pub before_newline : (P : List ℕ → Type 0) (before more text rest : List ℕ) → NoNewline before → before ++ 0x0A ∷ more ≡ text ++ rest → IsLined P text → P before
+before_newline P before more text rest none e line =
+    let same : before ≡ line.before =
+    one_before before line.before more rest none line.one_line (e ∙ ap (λ xs. xs ++ rest) line.whole ∙ append_assoc line.before (0x0A ∷ []) rest) in
+    rw same line.has
+
+-- no line begins bytes that have no newline, where they are all that is left or as many as a line has at most
+pub no_line_in : (P : List ℕ → Type 0) (bytes left text rest : List ℕ) → NoNewline bytes → (length bytes ≡ 128) ⊎ (left ≡ []) → bytes ++ left ≡ text ++ rest → IsLined P text → ⊥
+no_line_in P bytes left text rest none all e line =
+    let at : ℕ = length line.before in
+    let parts : bytes ++ left ≡ line.before ++ 0x0A ∷ rest = e ∙ ap (λ xs. xs ++ rest) line.whole ∙ append_assoc line.before (0x0A ∷ []) rest in
+    let newline : get_or (bytes ++ left) at 0 ≡ 0x0A = ap (λ xs. get_or xs at 0) parts ∙ get_or_at line.before 0x0A rest 0 at refl in
+    let within : at < length bytes = inside bytes left line.before rest (elim all [ inl full ↦ inl (let s = line.short in omega arith) | inr ended ↦ inr ended ]) parts in
+    none at 0 within (sym (get_or_append_left bytes left 0 at within) ∙ newline) where
+      inside : (bytes left before rest : List ℕ) → (length before < length bytes) ⊎ (left ≡ []) → bytes ++ left ≡ before ++ 0x0A ∷ rest → length before < length bytes
+      inside bytes left before rest (inl here) parts = here
+      inside bytes left before rest (inr none) parts =
+          let l = ap length parts in
+          let a = length-append bytes left in
+          let b = length-append before (0x0A ∷ rest) in
+          let z = ap length none in omega arith
+
+-- ---- over a source
+
+no_begin : (P : List ℕ → Type 0) (o p : Option (List ℕ)) (bytes : List ℕ) → o ≡ option_map (λ rest. bytes ++ rest) p →
+    ((left : List ℕ) → p ≡ Some left → (text rest : List ℕ) → bytes ++ left ≡ text ++ rest → ¬ (P text)) →
+    IfSome o (λ all. (text rest : List ℕ) → all ≡ text ++ rest → ¬ (P text))
+no_begin P o None bytes same none = rw same tt
+no_begin P o (Some left) bytes same none = rw same (none left refl)
+
+ended_is : (p : Option (List ℕ)) (left : List ℕ) → p ≡ Some left → IfSome p (λ bytes. bytes ≡ []) → left ≡ []
+ended_is p left told ended = rw told at ended
+
+pub BeginsWithNo-open : {S : Type 0} (m : Meaning S) (P : List ℕ → Type 0) (a b : S) (bytes : List ℕ) → NoNewline bytes → Gave m a b bytes →
+    (length bytes ≡ 128) ⊎ HasEnded m b → BeginsWithNo m a (λ text. IsLined P text)
+BeginsWithNo-open m P a b bytes none gave all =
+    no_begin (λ text. IsLined P text) (m.left a) (m.left b) bytes gave
+    (λ left told text rest e line. no_line_in P bytes left text rest none
+    (elim all [ inl full ↦ inl full | inr ended ↦ inr (ended_is (m.left b) left told ended) ]) e line)
+
+pub BeginsWithNo-line : {S : Type 0} (m : Meaning S) (P : List ℕ → Type 0) (a b : S) (before : List ℕ) → NoNewline before → Gave m a b (before ++ 0x0A ∷ []) →
+    ¬ (P before) → BeginsWithNo m a (λ text. IsLined P text)
+BeginsWithNo-line m P a b before none gave hasnt =
+    no_begin (λ text. IsLined P text) (m.left a) (m.left b) (before ++ 0x0A ∷ []) gave
+    (λ left told text rest e line. hasnt (before_newline P before left text rest none (sym (append_assoc before (0x0A ∷ []) left) ∙ e) line))
+
+by_option : (P Q : List ℕ → Type 0) (o : Option (List ℕ)) → ((text : List ℕ) → Q text → P text) →
+    IfSome o (λ all. (text rest : List ℕ) → all ≡ text ++ rest → ¬ (P text)) → IfSome o (λ all. (text rest : List ℕ) → all ≡ text ++ rest → ¬ (Q text))
+by_option P Q None weaker none = tt
+by_option P Q (Some bytes) weaker none = λ text rest e q. none text rest e (weaker text q)
+
+pub BeginsWithNo-by : {S : Type 0} (m : Meaning S) (P Q : List ℕ → Type 0) (a : S) → ((text : List ℕ) → Q text → P text) → BeginsWithNo m a P → BeginsWithNo m a Q
+BeginsWithNo-by m P Q a weaker none = by_option P Q (m.left a) weaker none
+
+-- the line `end`
+pub end_no_newline : NoNewline (codes "end")
+end_no_newline zero d here = λ e. cc
+end_no_newline (suc zero) d here = λ e. cc
+end_no_newline (suc (suc zero)) d here = λ e. cc
+end_no_newline (suc (suc (suc k))) d here = absurd (omega arith)
+
+pub end_lined : (text : List ℕ) → text ≡ codes "end\n" → IsLined (λ before. before ≡ codes "end") text
+end_lined text e = record { before = codes "end"; short = lit≤ tt; one_line = end_no_newline; whole = e; has = refl }

@@ -1,0 +1,16 @@
+use Rattle.std.proofs.Common.{◌≡◌, ◌≤◌, ◌-◌, length, take}
+use Rattle.tape_script.specs.Reading.{Gave, NoNewline}
+use Rattle.tape_script.proofs.taking.take_line.Given as goal
+
+abbrev pub invariant-loop-len : goal.invariant-loop-len
+invariant-loop-len g l = record {
+  within : l.len ≤ 128;
+  full : length l.buffer ≡ 128;
+  one_line : NoNewline (take l.len l.buffer);
+  gave : Gave g.S.Source.means l.initial.source l.source (take l.len l.buffer);
+  kept : g.S.Source.means.keeps l.initial.source l.source;
+  later : g.S.Source.means.faults l.initial.source ≤ g.S.Source.means.faults l.source;
+}
+
+abbrev pub decreases-loop-len : goal.decreases-loop-len
+decreases-loop-len g l = 128 - l.len

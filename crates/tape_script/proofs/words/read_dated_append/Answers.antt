@@ -1,0 +1,5 @@
+use Rattle.tape_script.proofs.Commands.{no_dated_append}
+use Rattle.tape_script.proofs.words.read_dated_append.Goals as goal
+
+pub returns-in_err-date : goal.returns-in_err-date
+returns-in_err-date c = rw c.from_residual-in_err-date.ensures (no_dated_append c.args.name.now c.args.date.now c.in_err-date.ensures)

@@ -1,0 +1,84 @@
+-- What a reading of a line took from a source, and what it found (this project's own).
+use Rattle.std.specs.Prelude.{◌≡◌, ◌≢◌, ◌⊎◌, ℕ, ◌≤◌, ◌<◌, List, [], ◌∷◌, ◌++◌, length, take, All, Option, Some, None, IfSome, Result, Ok, Err, codes}
+use Rattle.std.specs.Option.{option_map}
+use Rattle.qic_base.specs.Source.{Meaning}
+use Rattle.tape_script.specs.declared.line.Line.{Line}
+use Rattle.tape_script.specs.declared.line.LineRead.{LineRead}
+use Rattle.tape_script.specs.declared.line.LineRead.TheVariants as read
+use Rattle.tape_script.specs.declared.train.TrainRead.{TrainRead}
+use Rattle.tape_script.specs.declared.train.TrainRead.TheVariants as train
+use Rattle.tape_script.specs.declared.taking.Taken.{Taken}
+use Rattle.tape_script.specs.declared.taking.Taken.TheVariants as taken
+use Rattle.tape_script.specs.Input.{IsLined, IsLine, IsTrain, IsPulse, HasStop}
+
+-- from old to new the source gave these bytes
+abbrev pub Gave : {S : Type 0} → Meaning S → (old new : S) → List ℕ → Type 0
+Gave m old new bytes = m.left old ≡ option_map (λ rest. bytes ++ rest) (m.left new)
+
+-- it gave so many bytes
+abbrev pub GaveSome : {S : Type 0} → Meaning S → (old new : S) → ℕ → Type 0
+GaveSome m old new n = (bytes : List ℕ) × (length bytes ≡ n) × Gave m old new bytes
+
+abbrev pub NoNewline : List ℕ → Type 0
+NoNewline bytes = All (λ b. b ≢ 0x0A) bytes
+
+-- it gave the front of a line: at most 127 bytes, none of them a newline
+abbrev pub GaveFront : {S : Type 0} → Meaning S → (old new : S) → Type 0
+GaveFront m old new = (bytes : List ℕ) × (length bytes ≤ 127) × NoNewline bytes × Gave m old new bytes
+
+-- where it tells its bytes, none are left
+abbrev pub HasEnded : {S : Type 0} → Meaning S → S → Type 0
+HasEnded m s = IfSome (m.left s) (λ bytes. bytes ≡ [])
+
+-- where it tells its bytes, no text with this property begins them
+abbrev pub BeginsWithNo : {S : Type 0} → Meaning S → S → (List ℕ → Type 0) → Type 0
+BeginsWithNo m s P = IfSome (m.left s) (λ bytes. (text rest : List ℕ) → bytes ≡ text ++ rest → ¬ (P text))
+
+-- a line of a script, with its newline
+abbrev pub IsLineText : List ℕ → Line → Type 0
+IsLineText text line = IsLined (λ before. IsLine before line) text
+
+-- the end of the source before any byte; bytes that begin with no line; or a line, with its newline. A failure comes
+-- before the line's newline.
+abbrev pub ReadsLine : {S E : Type 0} → Meaning S → (old new : S) → Result LineRead E → Type 0
+ReadsLine m old new (Ok read.End) = HasEnded m old × Gave m old new []
+ReadsLine m old new (Ok (read.Bad n)) =
+    (0 < n) × (n ≤ 128) × GaveSome m old new n × ((line : Line) → BeginsWithNo m old (λ text. IsLineText text line))
+ReadsLine m old new (Ok (read.Line line n)) =
+    (text : List ℕ) × IsLineText text line × (length text ≡ n) × Gave m old new text
+ReadsLine m old new (Err e) = GaveFront m old new
+
+-- the same for a line of `pulses`
+abbrev pub ReadsTrain : {S E : Type 0} → Meaning S → (old new : S) → Result TrainRead E → Type 0
+ReadsTrain m old new (Ok train.End) = HasEnded m old × Gave m old new []
+ReadsTrain m old new (Ok (train.Bad n)) =
+    (0 < n) × (n ≤ 128) × GaveSome m old new n × BeginsWithNo m old (λ text. text ≡ codes "end\n")
+    × ((pulses : ℕ) → BeginsWithNo m old (λ text. IsPulse text pulses))
+ReadsTrain m old new (Ok train.Stop) = Gave m old new (codes "end\n")
+ReadsTrain m old new (Ok (train.Train pulses n)) =
+    (text : List ℕ) × IsPulse text pulses × (length text ≡ n) × Gave m old new text
+ReadsTrain m old new (Err e) = GaveFront m old new
+
+-- bytes skipped: fewer than asked for exactly at the end of the source
+abbrev pub Skips : {S E : Type 0} → Meaning S → (old new : S) → ℕ → Result ℕ E → Type 0
+Skips m old new asked (Ok n) = (n ≤ asked) × GaveSome m old new n × (n < asked → HasEnded m new)
+Skips m old new asked (Err e) = (n : ℕ) × (n ≤ asked) × GaveSome m old new n
+
+-- ---- bytes and lines of any kind
+
+-- a byte, or the end
+abbrev pub TakesByte : {S E : Type 0} → Meaning S → (old new : S) → Result (Option ℕ) E → Type 0
+TakesByte m old new (Ok None) = HasEnded m old × Gave m old new []
+TakesByte m old new (Ok (Some byte)) = Gave m old new (byte ∷ [])
+TakesByte m old new (Err e) = Gave m old new []
+
+-- the end before any byte; bytes with no newline, where 128 came or the source ended; or a line with its newline, of
+-- which the buffer has the bytes before it
+abbrev pub TakesLine : {S E : Type 0} → Meaning S → (old new : S) → (buffer : List ℕ) → Result Taken E → Type 0
+TakesLine m old new buffer (Ok taken.End) = HasEnded m old × Gave m old new []
+TakesLine m old new buffer (Ok (taken.Open n)) =
+    (0 < n) × (n ≤ 128) × ((bytes : List ℕ) × (length bytes ≡ n) × NoNewline bytes × Gave m old new bytes)
+    × ((n ≡ 128) ⊎ HasEnded m new)
+TakesLine m old new buffer (Ok (taken.Line n)) =
+    (n ≤ 127) × NoNewline (take n buffer) × Gave m old new (take n buffer ++ 0x0A ∷ [])
+TakesLine m old new buffer (Err e) = GaveFront m old new

@@ -1,0 +1,24 @@
+//! Words, scripts, printed texts and the generator of `tape`. No call takes memory.
+#![tactic(auto)]
+
+mod date;
+pub mod laws;
+mod line;
+mod made;
+mod number;
+mod summed;
+mod taking;
+mod text_line;
+mod train;
+mod word;
+mod words;
+mod write;
+
+pub use line::{Line, LineRead};
+pub use made::Made;
+pub use summed::Summed;
+pub use taking::skip;
+pub use text_line::TextLine;
+pub use train::{Train, TrainRead};
+pub use words::{BadWords, Words};
+pub use write::{write_date, write_name, write_number, write_text};

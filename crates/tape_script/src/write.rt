@@ -1,0 +1,49 @@
+//! Printed texts: numbers, dates and names.
+
+ghost use Rattle.std.specs.Prelude.{decimal};
+ghost use Rattle.qic_base.specs.Sink.{Writes};
+ghost use Rattle.tape_script.specs.Text.{date_text, name_text};
+
+use crate::text_line::TextLine;
+use itoa::Buffer;
+use qic_base::{Name, Sink, SinkFailed};
+
+/// Writes the bytes as they are, all of them. A failure leaves a front of them written.
+pub fn write_text<K: Sink>(text: &[u8], sink: &mut K) -> Result<(), SinkFailed>
+    ensures { Writes K.means sink.old sink.new text.now result }
+{
+    let mut at = 0;
+    while at < text.len() {
+        match sink.write(&text[at..]) {
+            Ok(written) => at += written,
+            Err(fault) => return Err(fault),
+        }
+    }
+    Ok(())
+}
+
+/// Writes a number in decimal digits, without leading zeros.
+pub fn write_number<K: Sink>(value: u64, sink: &mut K) -> Result<(), SinkFailed>
+    ensures { Writes K.means sink.old sink.new (decimal value) result }
+{
+    let mut buffer = Buffer::new();
+    write_text(buffer.format(value).as_bytes(), sink)
+}
+
+/// Writes the date of a date word as `YYYY-MM-DDTHH:MM:SS`, or `?` where it is none.
+pub fn write_date<K: Sink>(date: u32, sink: &mut K) -> Result<(), SinkFailed>
+    ensures { Writes K.means sink.old sink.new (date_text date) result }
+{
+    let mut line = TextLine::new();
+    line.push_date(date);
+    write_text(line.bytes(), sink)
+}
+
+/// Writes a name without the filling at its end; `?` stands for each byte that a line can't show.
+pub fn write_name<K: Sink>(name: &Name, sink: &mut K) -> Result<(), SinkFailed>
+    ensures { Writes K.means sink.old sink.new (name_text name.now) result }
+{
+    let mut line = TextLine::new();
+    line.push_name(name);
+    write_text(line.bytes(), sink)
+}
