@@ -1,5 +1,12 @@
+pub mod AnyDrive
+pub mod Cable
+pub mod Deck
+pub mod Hand
+pub mod Laws
 pub mod Reach
 pub mod Record
-pub mod Registers
 pub mod Row
+pub mod Sound
+pub mod Ticks
+pub mod Typed
 pub mod Unit

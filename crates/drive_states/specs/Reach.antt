@@ -1,53 +1,120 @@
--- Which sectors the head can reach, and what a read of one of them does (this project's profile of QIC-117).
-use Rattle.std.specs.Prelude.{◌≡◌, ℕ, ◌+◌, ◌*◌, ◌≤◌, ◌⊎◌, List, [], Result, Ok, Err}
+-- Which sectors the head can reach, and what a sector call does there (this project's profile of QIC-117).
+use Rattle.std.specs.Prelude.{◌≡◌, ℕ, ◌+◌, ◌*◌, ◌≤◌, ◌⊎◌, Bool, true, false, List, [], ◌∷◌, Result, Ok, Err}
 use Rattle.qic_base.specs.Cartridge.{view_at}
+use Rattle.qic_base.specs.Step.{WriteSector, FormatSegment}
 use Rattle.qic_base.specs.Tape.{Meaning, Done, Broke, Tells}
 use Rattle.qic_base.specs.declared.tape.SectorView.TheVariants as view
+use Rattle.qic117_commands.specs.declared.view.Mode.{Mode}
+use Rattle.qic117_commands.specs.declared.view.Mode.TheVariants.{Primary, Format, Verify}
+use Rattle.qic117_commands.specs.Views.{is_format}
 use Rattle.tape_geometry.specs.declared.geometry.FloppyAddr.{FloppyAddr}
 use Rattle.tape_geometry.specs.Geometry.{HasAddress}
+use Rattle.drive_states.specs.declared.deck.Deck.{Deck}
+use Rattle.drive_states.specs.declared.deck.Motion.{Motion}
+use Rattle.drive_states.specs.declared.deck.Motion.TheVariants.{Stopped, Streaming, Seeking}
 use Rattle.drive_states.specs.declared.fault.FdcFault.{FdcFault}
 use Rattle.drive_states.specs.declared.fault.FdcFault.TheVariants.{NoAddress, Protected, Unreadable, Tape}
-use Rattle.drive_states.specs.Record.{Record, Motion, Stopped, Streaming, segments_per_track}
-use Rattle.drive_states.specs.Unit.{UnitView}
+use Rattle.drive_states.specs.Deck.{segments_per_track, is_streaming, passed, run_on}
+use Rattle.drive_states.specs.Unit.{DriveView}
+
+-- which calls a mode has: sectors are read in Primary and Verify, written in Primary, and formatted in Format
+abbrev pub reads_in : Mode → Bool
+reads_in Primary = true
+reads_in Format = false
+reads_in Verify = true
+
+-- the segment that comes next on the track
+abbrev pub segment_of : Deck → ℕ
+segment_of d = d.track * segments_per_track d + d.offset
 
 -- the tape streams, and the sector index is not below the next one
 abbrev pub StreamsTo : Motion → ℕ → Type 0
 StreamsTo Stopped index = ⊥
 StreamsTo (Streaming next) index = next ≤ index
+StreamsTo (Seeking left) index = ⊥
 
 -- the sector is one of the segment under the head, and the head has not passed it
-pub record IsUnder (r : Record) (segment index : ℕ) : Type 0 where
-  pub streams : StreamsTo r.motion index
-  pub here : segment ≡ r.track * segments_per_track r + r.offset
+pub record IsUnder (d : Deck) (segment index : ℕ) : Type 0 where
+  pub streams : StreamsTo d.motion index
+  pub here : segment ≡ segment_of d
 
--- the address is that of a sector that the head has not passed
-pub record Reaches (r : Record) (addr : FloppyAddr) (segment index : ℕ) : Type 0 where
-  pub under : IsUnder r segment index
-  pub address : HasAddress (segments_per_track r) segment index addr
+-- the address is that of a sector that the head has not passed, ..
+pub record HasAddressIn (d : Deck) (addr : FloppyAddr) (segment index : ℕ) : Type 0 where
+  pub under : IsUnder d segment index
+  pub address : HasAddress (segments_per_track d) segment index addr
 
--- the address is that of no such sector
-abbrev pub ReachesNone : Record → FloppyAddr → Type 0
-ReachesNone r addr = (segment index : ℕ) → Reaches r addr segment index → ⊥
+-- .. or of no such sector
+abbrev pub HasNoAddressIn : Deck → FloppyAddr → Type 0
+HasNoAddressIn d addr = (segment index : ℕ) → HasAddressIn d addr segment index → ⊥
 
--- the head has passed a sector
-abbrev pub passed : Record → ℕ → Record
-passed r index = record r { motion = Streaming (index + 1) }
+-- the mode has the call, and the address is that of a sector that the head has not passed
+pub record Reaches (has_call : Mode → Bool) (d : Deck) (addr : FloppyAddr) (segment index : ℕ) : Type 0 where
+  pub mode : has_call d.mode ≡ true
+  pub sector : HasAddressIn d addr segment index
+
+-- there is no such sector
+abbrev pub ReachesNone : (has_call : Mode → Bool) → Deck → FloppyAddr → Type 0
+ReachesNone has_call d addr = (segment index : ℕ) → Reaches has_call d addr segment index → ⊥
+
+-- the mode formats, and the tape streams
+pub record IsFormatting (d : Deck) : Type 0 where
+  pub mode : is_format d.mode ≡ true
+  pub streams : is_streaming d.motion ≡ true
 
 -- the head passed the sector, and the tape was only read
-pub record Passes {T : Type 0} (m : Meaning T) (old new : UnitView T) (index : ℕ) : Type 0 where
-  pub drive : new.drive ≡ passed old.drive index
+pub record Passes {T : Type 0} (m : Meaning T) (old new : DriveView T) (index : ℕ) : Type 0 where
+  pub deck : new.deck ≡ passed old.deck index
+  pub tape : Done m old.tape new.tape []
+
+-- the drive is in what it was in, and the tape was only read
+pub record Stays {T : Type 0} (m : Meaning T) (old new : DriveView T) : Type 0 where
+  pub deck : new.deck ≡ old.deck
   pub tape : Done m old.tape new.tape []
 
 -- A read of a sector under the head, by its answer: the bytes that it held before are in into, those after in now.
-abbrev pub Finds : {T : Type 0} (m : Meaning T) (old new : UnitView T) (segment index : ℕ) (into now : List ℕ) → Result (Unit {0}) FdcFault → Type 0
+abbrev pub Finds : {T : Type 0} (m : Meaning T) (old new : DriveView T) (segment index : ℕ) (into now : List ℕ) → Result (Unit {0}) FdcFault → Type 0
 Finds m old new segment index into now (Ok done) =
     Passes m old new index × Tells m old.tape (λ c. view_at c segment index ≡ view.Holds now)
+Finds m old new segment index into now (Err NoAddress) =
+    Stays m old new × (now ≡ into) × Tells m old.tape (λ c. view_at c segment index ≡ view.Blank)
+Finds m old new segment index into now (Err Protected) = ⊥
 Finds m old new segment index into now (Err Unreadable) =
     Passes m old new index × (now ≡ into)
     × Tells m old.tape (λ c. (view_at c segment index ≡ view.Lost) ⊎ (view_at c segment index ≡ view.Defect))
-Finds m old new segment index into now (Err NoAddress) =
-    (new.drive ≡ old.drive) × Done m old.tape new.tape [] × (now ≡ into)
-    × Tells m old.tape (λ c. view_at c segment index ≡ view.Blank)
 Finds m old new segment index into now (Err Tape) =
-    (new.drive ≡ old.drive) × Broke m old.tape new.tape [] × (now ≡ into)
-Finds m old new segment index into now (Err Protected) = ⊥
+    (new.deck ≡ old.deck) × Broke m old.tape new.tape [] × (now ≡ into)
+
+-- a sector that was formatted, or is a defect
+abbrev pub IsFormatted : {T : Type 0} (m : Meaning T) (tape : T) (segment index : ℕ) → Type 0
+IsFormatted m tape segment index = Tells m tape (λ c. ¬ (view_at c segment index ≡ view.Blank))
+
+-- A write to a sector under the head, by its answer. A protected cartridge is only read, to learn whether the sector
+-- was formatted.
+abbrev pub Writes : {T : Type 0} (m : Meaning T) (old new : DriveView T) (segment index : ℕ) (bytes : List ℕ) → (protected : Bool) → Result (Unit {0}) FdcFault → Type 0
+Writes m old new segment index bytes false (Ok done) =
+    (new.deck ≡ passed old.deck index) × Done m old.tape new.tape (WriteSector segment index bytes ∷ [])
+    × IsFormatted m old.tape segment index
+Writes m old new segment index bytes true (Ok done) = ⊥
+Writes m old new segment index bytes false (Err NoAddress) =
+    (new.deck ≡ old.deck) × Done m old.tape new.tape (WriteSector segment index bytes ∷ [])
+    × Tells m old.tape (λ c. view_at c segment index ≡ view.Blank)
+Writes m old new segment index bytes true (Err NoAddress) =
+    Stays m old new × Tells m old.tape (λ c. view_at c segment index ≡ view.Blank)
+Writes m old new segment index bytes false (Err Protected) = ⊥
+Writes m old new segment index bytes true (Err Protected) =
+    Stays m old new × IsFormatted m old.tape segment index
+Writes m old new segment index bytes protected (Err Unreadable) = ⊥
+Writes m old new segment index bytes false (Err Tape) =
+    (new.deck ≡ old.deck) × Broke m old.tape new.tape (WriteSector segment index bytes ∷ [])
+Writes m old new segment index bytes true (Err Tape) =
+    (new.deck ≡ old.deck) × Broke m old.tape new.tape []
+
+-- A format of the segment under the head, by its answer: the head moves on.
+abbrev pub Formats : {T : Type 0} (m : Meaning T) (old new : DriveView T) → Result (Unit {0}) FdcFault → Type 0
+Formats m old new (Ok done) =
+    (new.deck ≡ run_on old.deck) × Done m old.tape new.tape (FormatSegment (segment_of old.deck) ∷ [])
+Formats m old new (Err NoAddress) = ⊥
+Formats m old new (Err Protected) = ⊥
+Formats m old new (Err Unreadable) = ⊥
+Formats m old new (Err Tape) =
+    (new.deck ≡ old.deck) × Broke m old.tape new.tape (FormatSegment (segment_of old.deck) ∷ [])

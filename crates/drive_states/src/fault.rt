@@ -1,8 +1,8 @@
 /// Why a sector call was refused. The first that holds is answered, but a tape that fails first is answered at once.
 #[derive(Clone, Copy, Debug, PartialEq, Eq)]
 pub enum FdcFault {
-    /// The tape does not stream, the address is not that of a sector of the segment under the head that the head has
-    /// not passed, or that sector was never formatted.
+    /// The mode has no such call, the tape does not stream, the address is not that of a sector of the segment under
+    /// the head that the head has not passed, or that sector was never formatted.
     NoAddress,
     /// The cartridge is write protected.
     Protected,
@@ -10,4 +10,17 @@ pub enum FdcFault {
     Unreadable,
     /// The tape failed.
     Tape,
+}
+
+/// Why what a person did to the cartridge came to nothing. The first that holds is answered.
+#[derive(Clone, Copy, Debug, PartialEq, Eq)]
+pub enum HandFault {
+    /// The drive knows of no cartridge.
+    NoCartridge,
+    /// The cartridge has no such sector.
+    BadPlace,
+    /// The tape failed.
+    Tape,
+    /// The sector was formatted, so it is no defect.
+    NotBlank,
 }

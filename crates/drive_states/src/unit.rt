@@ -1,33 +1,41 @@
-ghost use Rattle.std.specs.Prelude.{◌≡◌, ◌+◌, ℕ, [], None, IfSome, IsOk, OnOk, OnErr};
-ghost use Rattle.std.specs.Option.{option_map};
-ghost use Rattle.qic_base.specs.Tape.{Does};
-ghost use Rattle.drive_states.specs.Reach.{Reaches, ReachesNone, Finds};
-ghost use Rattle.drive_states.specs.Record.{HasLength, power_on};
-ghost use Rattle.drive_states.specs.Row.{after_gap, stepped};
+//! The drive as its cable and a person's hand reach it.
 
-use crate::FdcFault;
-use crate::registers::Registers;
-use qic_base::{SectorRead, Tape, TapeFailed};
+ghost use Rattle.std.specs.Prelude.{◌≡◌, ℕ, [], ◌∷◌, None, OnOk, OnErr, IfOk, IfNone, IfSome};
+ghost use Rattle.qic_base.specs.Cartridge.{IsLength, IsPlace};
+ghost use Rattle.qic_base.specs.Step.{Renew, SetProtected, SetReferenced};
+ghost use Rattle.qic_base.specs.Tape.{Does, IsPlaceOf};
+ghost use Rattle.qic117_commands.specs.Views.{is_primary};
+ghost use Rattle.drive_states.specs.Deck.{is_protected};
+ghost use Rattle.drive_states.specs.Hand.{Replaces, Wears, Spoils, IsPlaced, IsNotReached};
+ghost use Rattle.drive_states.specs.Reach.{reads_in, Reaches, ReachesNone, IsFormatting, Finds, Writes, Formats};
+ghost use Rattle.drive_states.specs.Record.{power_on};
+ghost use Rattle.drive_states.specs.Row.{after_gap, stepped, moved_on, gap_steps, without_reference};
+ghost use Rattle.drive_states.specs.Unit.{IsInserted, IsSoundUnit, held};
+
+use crate::dialogue::Dialogue;
+use crate::fault::{FdcFault, HandFault};
+use crate::hand::empty;
+use crate::under_way::UnderWay;
+use qic_base::{Tape, TapeFailed};
 use std::marker::Model;
 use tape_geometry::FloppyAddr;
 
-/// A drive with its tape, as the cable reaches it: step pulses and gaps, the track-0 line, and sector calls.
+/// A drive with its tape: step pulses and gaps, the track-0 line, sector calls, and what a person does to the cartridge.
 #[derive(Drop)]
 pub struct Unit<T: Tape> {
-    registers: Registers,
-    tape: T,
+    dialogue: Dialogue<T>,
 }
 
 impl<T: Tape> Model for Unit<T> {
-    ghost use Rattle.drive_states.specs.Registers.{record_of, IsSound};
-    ghost use Rattle.drive_states.specs.Unit.{UnitView, Knows};
+    ghost use Rattle.drive_states.specs.Unit.{UnitView, IsSoundUnit};
 
     ghost Value = { UnitView T };
 
-    ghost view = { λ u. record { drive = record_of u.registers; tape = u.tape } };
+    ghost use Rattle.drive_states.specs.Cable.{unit_of};
 
-    ghost invariant = { λ u. IsSound u.registers
-        × Knows u.registers.cartridge (T.means.size u.tape) };
+    ghost view = { λ u. unit_of u.dialogue };
+
+    ghost invariant = { λ u. IsSoundUnit T.means (unit_of u.dialogue) };
 }
 
 impl<T: Tape> Unit<T> {
@@ -36,8 +44,12 @@ impl<T: Tape> Unit<T> {
         ensures { result ≡ record { drive = power_on None; tape = tape } }
     {
         Unit {
-            registers: Registers::power_on(None),
-            tape,
+            dialogue: Dialogue {
+                drive: empty(tape),
+                train: 0,
+                line: false,
+                under_way: UnderWay::Nothing,
+            },
         }
     }
 
@@ -45,72 +57,179 @@ impl<T: Tape> Unit<T> {
     pub fn into_tape(self) -> T
         ensures { result ≡ self.tape }
     {
-        let Unit { registers: _, tape } = self;
-        tape
+        let Unit { dialogue } = self;
+        dialogue.drive.into_tape()
     }
 
     /// Takes the cartridge out and puts it in again. After a failure the drive knows of none.
     pub fn insert(&mut self) -> Result<(), TapeFailed>
         ensures did { Does T.means self.old.tape self.new.tape [] result }
-        ensures told { OnOk result (IfSome (T.means.told self.old.tape) (λ held.
-            self.new.drive.cartridge ≡ option_map (λ c. c.info) held)) }
-        ensures inserted { OnOk result (self.new.drive ≡ power_on self.new.drive.cartridge) }
-        ensures long { OnOk result (HasLength self.new.drive.cartridge) }
+        ensures inserted { OnOk result (IsInserted T.means self.new) }
         ensures failed { OnErr result (self.new.drive ≡ power_on None) }
-        ensures size { OnOk result (T.means.size self.new.tape
-            ≡ option_map (λ i. i.segments_per_track) self.new.drive.cartridge) }
         ensures same_size { OnErr result (T.means.size self.new.tape ≡ T.means.size self.old.tape) }
     {
-        self.registers = Registers::power_on(None);
-        let cartridge = self.tape.info()?;
-        self.registers = Registers::power_on(cartridge);
-        Ok(())
+        let answer = self.dialogue.insert();
+        let _ = self.dialogue.drive.deck();
+        answer
     }
 
     /// One step pulse more; the count stops at 255.
     pub fn step(&mut self)
-        ensures { self.new ≡ record self.old { drive = stepped self.old.drive } }
+        ensures row { self.new ≡ record self.old { drive = stepped self.old.drive } }
+        ensures sound { IsSoundUnit T.means self.new }
     {
-        self.registers.step();
+        self.dialogue.train = self.dialogue.train.saturating_add(1);
     }
 
-    /// Ends the train of pulses and carries it out. Each refusal of the drive is a latched error code.
+    /// Ends the train of pulses and carries out its row. Each refusal of the drive is a latched error code; the Err is a
+    /// tape that failed to write the reference bursts.
     pub fn gap(&mut self) -> Result<(), TapeFailed>
-        ensures ok { IsOk result }
-        ensures row { self.new ≡ record self.old { drive = after_gap self.old.drive } }
+        ensures row { OnOk result (self.new.drive ≡ after_gap self.old.drive) }
+        ensures failed { OnErr result ((gap_steps self.old.drive ≡ SetReferenced ∷ [])
+            × (self.new.drive ≡ without_reference (after_gap self.old.drive))) }
+        ensures did { Does T.means self.old.tape self.new.tape (gap_steps self.old.drive) result }
+        ensures untouched { gap_steps self.old.drive ≡ [] → self.new.tape ≡ self.old.tape }
+        ensures size { T.means.size self.new.tape ≡ T.means.size self.old.tape }
+        ensures sound { IsSoundUnit T.means self.new }
     {
-        self.registers.gap();
-        Ok(())
+        let answer = self.dialogue.gap();
+        let _ = self.dialogue.drive.deck();
+        answer
     }
 
     /// The level that the last train left on the track-0 line.
     pub fn line(&self) -> bool
-        ensures { result ≡ self.now.drive.line }
+        ensures level { result ≡ self.now.drive.line }
+        ensures sound { IsSoundUnit T.means self.now }
     {
-        self.registers.line
+        self.dialogue.line
     }
 
     /// Reads the sector at an address; where it answers Ok or Unreadable, the head has passed it. `into` is unchanged
     /// unless the answer is Ok.
     pub fn read_sector(&mut self, addr: FloppyAddr, into: &mut [u8; 1024]) -> Result<(), FdcFault>
         // Where the head can reach no sector with that address, nothing is done.
-        ensures unreached { ReachesNone self.old.drive addr →
+        ensures unreached { ReachesNone reads_in self.old.drive.deck addr →
             (result ≡ Err FdcFault.NoAddress) × (self.new ≡ self.old) × (into.new ≡ into.old) }
         // Where it can reach one, the answer is what that sector is.
-        ensures reached { (segment index : ℕ) → Reaches self.old.drive addr segment index →
-            Finds T.means self.old self.new segment index into.old into.new result }
+        ensures reached { (segment index : ℕ) → Reaches reads_in self.old.drive.deck addr segment index →
+            Finds T.means (held self.old) (held self.new) segment index into.old into.new result }
+        ensures cable { self.new.drive ≡ record self.old.drive { deck = self.new.drive.deck } }
+        ensures size { T.means.size self.new.tape ≡ T.means.size self.old.tape }
+        ensures sound { IsSoundUnit T.means self.new }
+    {
+        let answer = self.dialogue.drive.read_sector(addr, into);
+        let _ = self.dialogue.drive.deck();
+        answer
+    }
+
+    /// Writes the sector at an address; where it answers Ok, the head has passed it.
+    pub fn write_sector(&mut self, addr: FloppyAddr, from: &[u8; 1024]) -> Result<(), FdcFault>
+        ensures unreached { ReachesNone is_primary self.old.drive.deck addr →
+            (result ≡ Err FdcFault.NoAddress) × (self.new ≡ self.old) }
+        ensures reached { (segment index : ℕ) → Reaches is_primary self.old.drive.deck addr segment index →
+            Writes T.means (held self.old) (held self.new) segment index from.now
+            (is_protected self.old.drive.deck) result }
+        ensures cable { self.new.drive ≡ record self.old.drive { deck = self.new.drive.deck } }
+        ensures size { T.means.size self.new.tape ≡ T.means.size self.old.tape }
+        ensures sound { IsSoundUnit T.means self.new }
+    {
+        let answer = self.dialogue.drive.write_sector(addr, from);
+        let _ = self.dialogue.drive.deck();
+        answer
+    }
+
+    /// Formats the segment under the head, and the head moves on.
+    pub fn format_segment(&mut self) -> Result<(), FdcFault>
+        ensures unreached { ¬ (IsFormatting self.old.drive.deck) →
+            (result ≡ Err FdcFault.NoAddress) × (self.new ≡ self.old) }
+        ensures reached { IsFormatting self.old.drive.deck →
+            Formats T.means (held self.old) (held self.new) result }
+        ensures moved { OnOk result (self.new.drive ≡ moved_on self.old.drive) }
+        ensures failed { OnErr result (self.new.drive ≡ self.old.drive) }
+        ensures size { T.means.size self.new.tape ≡ T.means.size self.old.tape }
+        ensures sound { IsSoundUnit T.means self.new }
+    {
+        let answer = self.dialogue.format_segment();
+        let _ = self.dialogue.drive.deck();
+        answer
+    }
+
+    /// Puts in a new cartridge, never formatted, with neither mark, as `insert` does.
+    pub fn load_blank(&mut self, segments_per_track: u16) -> Result<(), HandFault>
+        requires { IsLength segments_per_track }
+        ensures { Replaces T.means self.old self.new (Renew segments_per_track) result }
+    {
+        let answer = self.dialogue.load_blank(segments_per_track);
+        let _ = self.dialogue.drive.deck();
+        answer
+    }
+
+    /// Sets or clears the write protect mark, and puts the cartridge in again as `insert` does.
+    pub fn protect(&mut self, on: bool) -> Result<(), HandFault>
+        ensures absent { IfNone self.old.drive.deck.cartridge
+            ((result ≡ Err HandFault.NoCartridge) × (self.new ≡ self.old)) }
+        ensures present { IfSome self.old.drive.deck.cartridge (λ info.
+            Replaces T.means self.old self.new (SetProtected on) result) }
+    {
+        if self.dialogue.drive.deck().cartridge.is_none() {
+            return Err(HandFault::NoCartridge);
+        }
+        let answer = self.dialogue.protect(on);
+        let _ = self.dialogue.drive.deck();
+        answer
+    }
+
+    /// Makes a readable sector unreadable until it is written again.
+    pub fn wear(&mut self, segment: u32, sector: u32) -> Result<(), HandFault>
+        ensures absent { IfNone self.old.drive.deck.cartridge (result ≡ Err HandFault.NoCartridge) }
+        ensures misplaced { IfSome self.old.drive.deck.cartridge (λ info.
+            ¬ (IsPlace info.segments_per_track segment sector) → result ≡ Err HandFault.BadPlace) }
+        ensures placed { IfSome self.old.drive.deck.cartridge (λ info.
+            IsPlace info.segments_per_track segment sector →
+            Wears T.means self.old self.new segment sector result) }
+        ensures untouched { IsNotReached result → self.new ≡ self.old }
+        ensures drive { self.new.drive ≡ self.old.drive }
         ensures size { T.means.size self.new.tape ≡ T.means.size self.old.tape }
     {
-        let Some((segment, index)) = self.registers.reach(addr) else {
-            return Err(FdcFault::NoAddress);
+        let sector = self.place(segment, sector)?;
+        match self.dialogue.drive.wear(segment, sector) {
+            Ok(()) => Ok(()),
+            Err(TapeFailed) => Err(HandFault::Tape),
+        }
+    }
+
+    /// Makes a defect of a sector that was never formatted.
+    pub fn spoil(&mut self, segment: u32, sector: u32) -> Result<(), HandFault>
+        ensures absent { IfNone self.old.drive.deck.cartridge (result ≡ Err HandFault.NoCartridge) }
+        ensures misplaced { IfSome self.old.drive.deck.cartridge (λ info.
+            ¬ (IsPlace info.segments_per_track segment sector) → result ≡ Err HandFault.BadPlace) }
+        ensures placed { IfSome self.old.drive.deck.cartridge (λ info.
+            IsPlace info.segments_per_track segment sector →
+            Spoils T.means self.old self.new segment sector result) }
+        ensures untouched { IsNotReached result → self.new ≡ self.old }
+        ensures drive { self.new.drive ≡ self.old.drive }
+        ensures size { T.means.size self.new.tape ≡ T.means.size self.old.tape }
+    {
+        let sector = self.place(segment, sector)?;
+        match self.dialogue.drive.spoil(segment, sector) {
+            Ok(true) => Ok(()),
+            Ok(false) => Err(HandFault::NotBlank),
+            Err(TapeFailed) => Err(HandFault::Tape),
+        }
+    }
+
+    // The index of a sector that the cartridge has.
+    fn place(&self, segment: u32, sector: u32) -> Result<u8, HandFault>
+        ensures placed { IsPlaced self.now.drive.deck.cartridge segment sector result }
+        ensures here { IfOk result (λ index. IsPlaceOf T.means self.now.tape segment index) }
+    {
+        let Some(info) = self.dialogue.drive.deck().cartridge else {
+            return Err(HandFault::NoCartridge);
         };
-        let answer = match self.tape.read_sector(segment, index, into) {
-            Ok(SectorRead::Good) => Ok(()),
-            Ok(SectorRead::Lost) => Err(FdcFault::Unreadable),
-            Ok(SectorRead::Blank) => return Err(FdcFault::NoAddress),
-            Err(TapeFailed) => return Err(FdcFault::Tape),
-        };
-        self.registers.pass(index);
-        answer
+        if segment >= 28 * u32::from(info.segments_per_track) || sector >= 32 {
+            return Err(HandFault::BadPlace);
+        }
+        Ok(sector as u8)
     }
 }

@@ -1,11 +1,11 @@
 -- The record that the drive's registers stand for.
 use Rattle.std.specs.Prelude.{◌≡◌, ℕ, ◌<◌, ◌≤◌, Bool, false, List, [], Option, Some, None}
-use Rattle.drive_states.specs.declared.registers.Motion.{Motion}
-use Rattle.drive_states.specs.declared.registers.Motion.TheVariants.{Stopped, Streaming}
-use Rattle.drive_states.specs.declared.registers.Registers.{Registers}
-use Rattle.drive_states.specs.Record as record_words
-use Rattle.drive_states.specs.Record.{Record, HasLength, segments_per_track}
-use Rattle.drive_states.specs.Row.{is_empty}
+use Rattle.drive_subset.specs.declared.registers.Motion.{Motion}
+use Rattle.drive_subset.specs.declared.registers.Motion.TheVariants.{Stopped, Streaming}
+use Rattle.drive_subset.specs.declared.registers.Registers.{Registers}
+use Rattle.drive_subset.specs.Record as record_words
+use Rattle.drive_subset.specs.Record.{Record, HasLength, segments_per_track}
+use Rattle.drive_subset.specs.Row.{is_empty}
 
 abbrev pub motion_of : Motion → record_words.Motion
 motion_of Stopped = record_words.Stopped

@@ -1,10 +1,10 @@
 ghost use Rattle.std.specs.Prelude.{◌≡◌, ◌+◌, ◌*◌, ◌≤◌, ◌<◌, ◌^◌, false, IfNone, IfSome, Some, None};
-ghost use Rattle.drive_states.specs.Record.{HasLength, power_on, segments_per_track, is_protected, is_referenced, is_at_bot, is_at_eot};
-ghost use Rattle.drive_states.specs.Record.{is_stopped as stops};
+ghost use Rattle.drive_subset.specs.Record.{HasLength, power_on, segments_per_track, is_protected, is_referenced, is_at_bot, is_at_eot};
+ghost use Rattle.drive_subset.specs.Record.{is_stopped as stops};
 ghost use Rattle.report_bits.specs.Report.{IsWidth};
-ghost use Rattle.drive_states.specs.Reach.{Reaches, ReachesNone, StreamsTo, passed};
-ghost use Rattle.drive_states.specs.Registers.{record_of, IsSound, motion_of};
-ghost use Rattle.drive_states.specs.Row.{bit, status_word, latched, refusal, accepted, obeyed, streaming, moved_on, after_gap, stepped, reporting, showing, is_empty};
+ghost use Rattle.drive_subset.specs.Reach.{Reaches, ReachesNone, StreamsTo, passed};
+ghost use Rattle.drive_subset.specs.Registers.{record_of, IsSound, motion_of};
+ghost use Rattle.drive_subset.specs.Row.{bit, status_word, latched, refusal, accepted, obeyed, streaming, moved_on, after_gap, stepped, reporting, showing, is_empty};
 
 use qic_base::TapeInfo;
 use report_bits::{Shifter, Shown};

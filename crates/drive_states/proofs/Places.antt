@@ -1,0 +1,115 @@
+-- Which typed state a command leads to.
+use Rattle.std.proofs.Common.{◌≡◌, ℕ, ◌+◌, ◌*◌, ◌<◌, ◌≤◌, Bool, true, false, ◌&&◌, List, Option, Some, None, Err, is_some, IsSomeAnd, if◌then◌else◌, nat_lt, refl, sym, ◌∙◌, arith, subst}
+use Rattle.std.proofs.lemmas.Bool.Decides.{nat_tests}
+use Rattle.std.proofs.lemmas.Nat.{mul-add-lt}
+use Rattle.std.specs.Option.{option_map_or}
+use Rattle.qic_base.specs.Cartridge.{IsPlace}
+use Rattle.qic_base.specs.declared.tape.TapeInfo.{TapeInfo}
+use Rattle.qic_base.specs.Tape.{Meaning}
+use Rattle.drive_states.specs.declared.fault.FdcFault.{FdcFault}
+use Rattle.qic117_commands.specs.declared.command.Command.TheVariants.{LogicalForward}
+use Rattle.qic117_commands.specs.Refusals.{needs_cartridge}
+use Rattle.tape_geometry.specs.declared.geometry.FloppyAddr.{FloppyAddr}
+use Rattle.tape_geometry.specs.Geometry.{HasAddress}
+use Rattle.drive_states.specs.declared.deck.Deck.{Deck}
+use Rattle.drive_states.specs.declared.deck.Motion.{Motion}
+use Rattle.drive_states.specs.declared.deck.Motion.TheVariants.{Stopped, Streaming, Seeking}
+use Rattle.drive_states.specs.Deck.{segments_per_track, limit, is_stopped, is_streaming, is_seeking, refusal_of, accepted, ticked, run_on}
+use Rattle.drive_states.specs.Reach.{segment_of, Writes}
+use Rattle.drive_states.specs.Sound.{HasLength, IsSound}
+use Rattle.drive_states.specs.Typed.{Place, IsIn, moved, seeking}
+use Rattle.drive_states.specs.Unit.{Knows, DriveView}
+use Rattle.drive_states.proofs.Bounds.{with_cartridge, before_limit, limit_within}
+
+neither : (m : Motion) → is_streaming m ≡ false → is_seeking m ≡ false → m ≡ Stopped
+neither Stopped a b = refl
+neither (Streaming next) a b = cc
+neither (Seeking left) a b = cc
+
+some_length : (c : Option TapeInfo) → HasLength c → is_some c ≡ true → 3 ≤ option_map_or (λ i. i.segments_per_track) c 0
+some_length None long there = cc
+some_length (Some info) long there = long.shortest
+
+-- what stands at the load point before a cartridge's first segment streams
+streams_from_load_point : (d : Deck) → IsSound d → d.at_load_point ≡ true → is_seeking d.motion ≡ false → is_some d.cartridge ≡ true →
+    (is_stopped d.motion && nat_lt d.offset (limit d)) ≡ true
+streams_from_load_point d s at stands there =
+    let p = s.load_point at in
+    let stopped : d.motion ≡ Stopped = neither d.motion p.still stands in
+    let long : 3 ≤ segments_per_track d = some_length d.cartridge s.long there in
+    let room : nat_lt 0 (segments_per_track d) ≡ true = grind (arith, nat_tests) in
+    rw (stopped, p.offset, p.primary) room
+
+moves_on : (d : Deck) (b : Bool) → (is_stopped d.motion && nat_lt d.offset (limit d)) ≡ b →
+    (d.at_load_point ≡ true → b ≡ true) → is_seeking d.motion ≡ false →
+    IsIn record { mode = d.mode; at_load_point = false; seeks = false } (if b then record d { motion = Streaming 0; at_load_point = false } else d)
+moves_on d true e leaves stands = record { mode = refl; at_load_point = refl; seeks = refl }
+moves_on d false e leaves stands = record { mode = refl; at_load_point = not_there d.at_load_point leaves; seeks = stands }
+  where
+    not_there : (b : Bool) → (b ≡ true → false ≡ true) → b ≡ false
+    not_there true h = sym (h refl)
+    not_there false h = refl
+
+pub IsIn-forward : (p q : Place) (d : Deck) → IsSound d → IsIn p d → p.seeks ≡ false → q ≡ moved p → refusal_of d LogicalForward ≡ None → IsIn q (accepted LogicalForward d)
+unfolding needs_cartridge
+IsIn-forward p q d s here stands left taken =
+    let there = with_cartridge d LogicalForward refl taken in
+    let seeks : is_seeking d.motion ≡ false = here.seeks ∙ stands in
+    let at : q ≡ record { mode = d.mode; at_load_point = false; seeks = false } = rw (left, stands, here.mode) refl in
+    rw at (moves_on d (is_stopped d.motion && nat_lt d.offset (limit d)) refl (λ load. streams_from_load_point d s load seeks there) seeks)
+
+stops_seeking : (m : Motion) → is_stopped m ≡ true → is_seeking m ≡ false
+stops_seeking Stopped e = refl
+stops_seeking (Streaming next) e = cc
+stops_seeking (Seeking left) e = cc
+
+-- a seek that is over has come to the state that it sought
+pub IsIn-there : (p : Place) (d : Deck) → IsIn (seeking p) d → p.seeks ≡ false → is_stopped (ticked d).motion ≡ true → IsIn p (ticked d)
+IsIn-there p d here stands stopped = record {
+  mode = here.mode;
+  at_load_point = here.at_load_point;
+  seeks = stops_seeking (ticked d).motion stopped ∙ sym stands;
+}
+
+-- two sectors at one address are one
+pub one_place : (length s i t j : ℕ) (addr : FloppyAddr) → HasAddress length s i addr → HasAddress length t j addr → (s ≡ t) × (i ≡ j)
+one_place length s i t j addr a b = (omega arith, omega arith)
+
+-- the segment under the head is one of the cartridge
+pub IsPlaceOf-here : (d : Deck) (size : Option ℕ) → IsSound d → is_streaming d.motion ≡ true → Knows d.cartridge size → IsSomeAnd size (λ n. IsPlace n (segment_of d) 0)
+IsPlaceOf-here d size s streams known =
+    on d.cartridge size d.track d.offset s.track (before d) known
+  where
+    before : (e : Deck) → d.offset < segments_per_track d
+    before e = let b = before_limit d.motion (limit d) d.offset streams s.motion in let w = limit_within d in omega arith
+
+    on : (c : Option TapeInfo) (size : Option ℕ) (track offset : ℕ) → track < 28 → offset < option_map_or (λ i. i.segments_per_track) c 0 →
+        Knows c size → IsSomeAnd size (λ n. IsPlace n (track * option_map_or (λ i. i.segments_per_track) c 0 + offset) 0)
+    on None size track offset t o known = absurd (omega arith)
+    on (Some info) size track offset t o known =
+        rw known record { on_tape = omega (arith, mul-add-lt track info.segments_per_track offset 28 t o); in_segment = omega arith }
+
+-- what a protected sector was refused for, said of its place
+pub Writes-protected : {T : Type 0} (m : Meaning T) (old new : DriveView T) (s i segment index : ℕ) (bytes : List ℕ) (protected : Bool) (fault : FdcFault) →
+    protected ≡ true → s ≡ segment → i ≡ index → Writes m old new s i bytes true (Err fault) → Writes m old new segment index bytes protected (Err fault)
+Writes-protected m old new s i segment index bytes protected fault marked here at refused =
+    subst (λ (b : Bool). Writes m old new segment index bytes b (Err fault)) (sym marked)
+    (subst (λ (n : ℕ). Writes m old new n index bytes true (Err fault)) here
+    (subst (λ (n : ℕ). Writes m old new s n bytes true (Err fault)) at refused))
+
+streams_still : (m : Motion) → is_streaming m ≡ true → is_seeking m ≡ false
+streams_still Stopped e = cc
+streams_still (Streaming next) e = refl
+streams_still (Seeking left) e = cc
+
+-- a tape that runs on stays in its state
+pub IsIn-run_on : (p : Place) (d : Deck) → IsIn p d → is_streaming d.motion ≡ true → IsIn p (run_on d)
+IsIn-run_on p d here streams = record {
+  mode = here.mode;
+  at_load_point = here.at_load_point;
+  seeks = by_test (nat_lt (d.offset + 1) (limit d)) ∙ sym (streams_still d.motion streams) ∙ here.seeks;
+}
+  where
+    by_test : (b : Bool) → is_seeking (if b then Streaming 0 else Stopped) ≡ false
+    by_test true = refl
+    by_test false = refl

@@ -1,0 +1,64 @@
+-- What the calls of a unit keep true of it.
+use Rattle.std.proofs.Common.{◌≡◌, Bool, true, false, Result, Ok, Err, OnOk, OnErr, refl, sym, subst}
+use Rattle.qic_base.specs.Tape.{Meaning}
+use Rattle.qic117_commands.specs.declared.view.Mode.{Mode}
+use Rattle.tape_geometry.specs.declared.geometry.FloppyAddr.{FloppyAddr}
+use Rattle.drive_states.specs.declared.deck.Deck.{Deck}
+use Rattle.drive_states.specs.declared.deck.Motion.{Motion}
+use Rattle.drive_states.specs.declared.deck.Motion.TheVariants.{Stopped}
+use Rattle.drive_states.specs.declared.under_way.UnderWay.TheVariants.{Nothing}
+use Rattle.drive_states.specs.Deck.{is_streaming}
+use Rattle.drive_states.specs.Reach.{StreamsTo, ReachesNone, IsFormatting}
+use Rattle.drive_states.specs.Record.{Record}
+use Rattle.drive_states.specs.Row.{after_gap, moved_on, without_reference}
+use Rattle.drive_states.specs.Sound.{IsSound, IsSoundRecord}
+use Rattle.drive_states.specs.Unit.{UnitView, Knows, IsSoundUnit}
+use Rattle.drive_states.proofs.Rows.{IsSoundRecord-row, IsSoundRecord-moved_on, IsUnderWay-moved}
+
+-- after a gap
+pub IsSoundUnit-gap : {T E : Type 0} (P : Type 0) (m : Meaning T) (old new : UnitView T) (result : Result (Unit {0}) E) → IsSoundRecord old.drive →
+    OnOk result (new.drive ≡ after_gap old.drive) → OnErr result (P × (new.drive ≡ without_reference (after_gap old.drive))) →
+    OnErr result (new.drive.under_way ≡ Nothing) → IsSound new.drive.deck → Knows new.drive.deck.cartridge (m.size new.tape) → IsSoundUnit m new
+IsSoundUnit-gap P m old new (Ok done) s row failed over sound known = record {
+  drive = subst IsSoundRecord (sym row) (IsSoundRecord-row old.drive old.drive.train s);
+  known = known;
+}
+IsSoundUnit-gap P m old new (Err e) s row failed over sound known = record {
+  drive = record {
+    deck = sound;
+    train = rw failed.1 (IsSoundRecord-row old.drive old.drive.train s).train;
+    under_way = rw over tt;
+  };
+  known = known;
+}
+
+-- after a call that leaves the cable as it was, and a tape that stands too
+pub IsSoundUnit-moved : {T : Type 0} (m : Meaning T) (r : Record) (d : Deck) (tape : T) → IsSoundRecord r →
+    (r.deck.motion ≡ Stopped → d ≡ r.deck) → IsSound d → Knows d.cartridge (m.size tape) → IsSoundUnit m record { drive = record r { deck = d }; tape = tape }
+IsSoundUnit-moved m r d tape s same sound known = record {
+  drive = record { deck = sound; train = s.train; under_way = IsUnderWay-moved r.deck d r.under_way same s.under_way };
+  known = known;
+}
+
+-- a tape that stands reaches no sector
+pub unreached : (has_call : Mode → Bool) (d : Deck) (addr : FloppyAddr) → d.motion ≡ Stopped → ReachesNone has_call d addr
+unreached has_call d addr stopped segment index reaches = stands d.motion stopped reaches.sector.under.streams
+  where
+    stands : (m : Motion) → m ≡ Stopped → StreamsTo m index → ⊥
+    stands m e streams = let no : ⊥ = subst (λ (n : Motion). StreamsTo n index) e streams in no
+
+-- after a segment was formatted, or was not
+pub IsSoundUnit-formatted : {T E : Type 0} (m : Meaning T) (old new : UnitView T) (result : Result (Unit {0}) E) → IsSoundRecord old.drive →
+    (¬ (IsFormatting old.drive.deck) → new.drive ≡ old.drive) → OnOk result (new.drive ≡ moved_on old.drive) → OnErr result (new.drive ≡ old.drive) →
+    Knows new.drive.deck.cartridge (m.size new.tape) → IsSoundUnit m new
+IsSoundUnit-formatted {E = E} m old new result s unreached moved failed known = by_motion (is_streaming old.drive.deck.motion) refl
+  where
+    by_answer : (answer : Result (Unit {0}) E) → OnOk answer (new.drive ≡ moved_on old.drive) → OnErr answer (new.drive ≡ old.drive) → is_streaming old.drive.deck.motion ≡ true → IsSoundUnit m new
+    by_answer (Ok done) ok err streams = record { drive = subst IsSoundRecord (sym ok) (IsSoundRecord-moved_on old.drive s streams); known = known }
+    by_answer (Err e) ok err streams = record { drive = subst IsSoundRecord (sym err) s; known = known }
+
+    by_motion : (b : Bool) → is_streaming old.drive.deck.motion ≡ b → IsSoundUnit m new
+    by_motion true streams = by_answer result moved failed streams
+    by_motion false stands =
+        let none : ¬ (IsFormatting old.drive.deck) = λ formats. let yes = formats.streams in cc in
+        record { drive = subst IsSoundRecord (sym (unreached none)) s; known = known }

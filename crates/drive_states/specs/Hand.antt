@@ -1,0 +1,48 @@
+-- What a person does to the cartridge, past the drive (this project's profile).
+use Rattle.std.specs.Prelude.{◌≡◌, ℕ, ◌⊎◌, true, false, [], ◌∷◌, Option, Some, None, Result, Ok, Err}
+use Rattle.qic_base.specs.Cartridge.{view_at, IsPlace}
+use Rattle.qic_base.specs.Step.{Step, Wear, Spoil}
+use Rattle.qic_base.specs.Tape.{Meaning, Done, Broke, Tells, spoil_answer}
+use Rattle.qic_base.specs.declared.tape.TapeInfo.{TapeInfo}
+use Rattle.drive_states.specs.declared.fault.HandFault.{HandFault}
+use Rattle.drive_states.specs.declared.fault.HandFault.TheVariants.{NoCartridge, BadPlace, Tape, NotBlank}
+use Rattle.drive_states.specs.Record.{power_on}
+use Rattle.drive_states.specs.Unit.{UnitView, IsInserted}
+
+-- A change of the cartridge after which it is put in again. After a fault of the tape the drive knows of none.
+abbrev pub Replaces : {T : Type 0} (m : Meaning T) (old new : UnitView T) (change : Step) → Result (Unit {0}) HandFault → Type 0
+Replaces m old new change (Ok done) = IsInserted m new × Done m old.tape new.tape (change ∷ [])
+Replaces m old new change (Err NoCartridge) = ⊥
+Replaces m old new change (Err BadPlace) = ⊥
+Replaces m old new change (Err Tape) = (new.drive ≡ power_on None) × Broke m old.tape new.tape (change ∷ [])
+Replaces m old new change (Err NotBlank) = ⊥
+
+-- A sector of the cartridge is worn.
+abbrev pub Wears : {T : Type 0} (m : Meaning T) (old new : UnitView T) (segment sector : ℕ) → Result (Unit {0}) HandFault → Type 0
+Wears m old new segment sector (Ok done) = Done m old.tape new.tape (Wear segment sector ∷ [])
+Wears m old new segment sector (Err NoCartridge) = ⊥
+Wears m old new segment sector (Err BadPlace) = ⊥
+Wears m old new segment sector (Err Tape) = Broke m old.tape new.tape (Wear segment sector ∷ [])
+Wears m old new segment sector (Err NotBlank) = ⊥
+
+-- A sector of the cartridge is spoiled, unless it was formatted.
+abbrev pub Spoils : {T : Type 0} (m : Meaning T) (old new : UnitView T) (segment sector : ℕ) → Result (Unit {0}) HandFault → Type 0
+Spoils m old new segment sector (Ok done) =
+    Done m old.tape new.tape (Spoil segment sector ∷ [])
+    × Tells m old.tape (λ c. spoil_answer (view_at c segment sector) ≡ true)
+Spoils m old new segment sector (Err NoCartridge) = ⊥
+Spoils m old new segment sector (Err BadPlace) = ⊥
+Spoils m old new segment sector (Err Tape) = Broke m old.tape new.tape (Spoil segment sector ∷ [])
+Spoils m old new segment sector (Err NotBlank) =
+    Done m old.tape new.tape (Spoil segment sector ∷ [])
+    × Tells m old.tape (λ c. spoil_answer (view_at c segment sector) ≡ false)
+
+-- the place that a call names, by its answer: there is no cartridge, or it has no such sector
+abbrev pub IsPlaced : Option TapeInfo → (segment sector : ℕ) → Result ℕ HandFault → Type 0
+IsPlaced None segment sector result = result ≡ Err NoCartridge
+IsPlaced (Some info) segment sector (Ok index) = (index ≡ sector) × IsPlace info.segments_per_track segment sector
+IsPlaced (Some info) segment sector (Err fault) = (fault ≡ BadPlace) × ¬ (IsPlace info.segments_per_track segment sector)
+
+-- the call came to no sector
+abbrev pub IsNotReached : Result (Unit {0}) HandFault → Type 0
+IsNotReached result = (result ≡ Err NoCartridge) ⊎ (result ≡ Err BadPlace)

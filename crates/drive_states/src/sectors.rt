@@ -1,0 +1,124 @@
+//! The sector calls of the typed drive (this project's profile of QIC-117).
+
+ghost use Rattle.std.specs.Prelude.{◌≡◌, ℕ, List, true, IfNone, IfSome};
+ghost use Rattle.qic117_commands.specs.Views.{is_primary};
+ghost use Rattle.qic_base.specs.Tape.{IsPlaceOf};
+ghost use Rattle.drive_states.specs.Deck.{is_protected};
+ghost use Rattle.drive_states.specs.Reach.{reads_in, Reaches, ReachesNone, IsFormatting, Finds, Writes, Formats};
+ghost use Rattle.drive_states.specs.Reach.{HasAddressIn, HasNoAddressIn};
+ghost use Rattle.drive_states.specs.Sound.{IsSound};
+
+use crate::deck::{Deck, Motion};
+use crate::drive::Drive;
+use crate::fault::FdcFault;
+use crate::states::{Format, Primary, Reads};
+use qic_base::{SectorRead, SectorWrite, Tape, TapeFailed};
+use tape_geometry::{FloppyAddr, Geometry};
+
+impl Deck {
+    // The segment and the sector index of an address that the head can still reach.
+    fn reach(&self, addr: FloppyAddr) -> Option<(u32, u8)>
+        requires { IsSound self.now }
+        ensures reached { IfSome result (λ place. HasAddressIn self.now addr place.0 place.1) }
+        ensures none { IfNone result (HasNoAddressIn self.now addr) }
+    {
+        let info = self.cartridge?;
+        let Motion::Streaming { next } = self.motion else {
+            return None;
+        };
+        let Ok(geometry) = Geometry::new(info.segments_per_track) else {
+            return None;
+        };
+        let Some((segment, index)) = geometry.place(addr) else {
+            return None;
+        };
+        (segment == self.segment() && next <= index).then_some((segment, index))
+    }
+}
+
+impl<M: Reads, T: Tape> Drive<M, T> {
+    /// Reads the sector at an address; where it answers Ok or Unreadable, the head has passed it. `into` is unchanged
+    /// unless the answer is Ok.
+    pub fn read_sector(&mut self, addr: FloppyAddr, into: &mut [u8; 1024]) -> Result<(), FdcFault>
+        ensures unreached { ReachesNone reads_in self.old.deck addr →
+            (result ≡ Err FdcFault.NoAddress) × (self.new ≡ self.old) × (into.new ≡ into.old) }
+        ensures reached { (segment index : ℕ) → Reaches reads_in self.old.deck addr segment index →
+            Finds T.means self.old self.new segment index into.old into.new result }
+        ensures size { T.means.size self.new.tape ≡ T.means.size self.old.tape }
+    {
+        let Some((segment, index)) = self.deck.reach(addr) else {
+            return Err(FdcFault::NoAddress);
+        };
+        let answer = match self.tape.read_sector(segment, index, into) {
+            Ok(SectorRead::Good) => Ok(()),
+            Ok(SectorRead::Lost) => Err(FdcFault::Unreadable),
+            Ok(SectorRead::Blank) => return Err(FdcFault::NoAddress),
+            Err(TapeFailed) => return Err(FdcFault::Tape),
+        };
+        self.deck = self.deck.passed(index);
+        answer
+    }
+}
+
+impl<T: Tape> Drive<Primary, T> {
+    // Why a protected sector under the head isn't written: it was never formatted, the mark, or a fault of the tape
+    // that kept the drive from telling.
+    fn refuse_write(&mut self, segment: u32, index: u8) -> FdcFault
+        requires { IsPlaceOf T.means self.old.tape segment index }
+        ensures refused { (bytes : List ℕ) →
+            Writes T.means self.old self.new segment index bytes true (Err result) }
+        ensures size { T.means.size self.new.tape ≡ T.means.size self.old.tape }
+    {
+        let mut found = [0; 1024];
+        match self.tape.read_sector(segment, index, &mut found) {
+            Ok(SectorRead::Good | SectorRead::Lost) => FdcFault::Protected,
+            Ok(SectorRead::Blank) => FdcFault::NoAddress,
+            Err(TapeFailed) => FdcFault::Tape,
+        }
+    }
+
+    /// Writes the sector at an address; where it answers Ok, the head has passed it.
+    pub fn write_sector(&mut self, addr: FloppyAddr, from: &[u8; 1024]) -> Result<(), FdcFault>
+        ensures unreached { ReachesNone is_primary self.old.deck addr →
+            (result ≡ Err FdcFault.NoAddress) × (self.new ≡ self.old) }
+        ensures reached { (segment index : ℕ) → Reaches is_primary self.old.deck addr segment index →
+            Writes T.means self.old self.new segment index from.now (is_protected self.old.deck) result }
+        ensures size { T.means.size self.new.tape ≡ T.means.size self.old.tape }
+    {
+        let Some((segment, index)) = self.deck.reach(addr) else {
+            return Err(FdcFault::NoAddress);
+        };
+        if self.deck.is_protected() {
+            return Err(self.refuse_write(segment, index));
+        }
+        match self.tape.write_sector(segment, index, from) {
+            Ok(SectorWrite::Taken) => {
+                self.deck = self.deck.passed(index);
+                Ok(())
+            }
+            Ok(SectorWrite::Blank) => Err(FdcFault::NoAddress),
+            Err(TapeFailed) => Err(FdcFault::Tape),
+        }
+    }
+}
+
+impl<T: Tape> Drive<Format, T> {
+    /// Formats the segment under the head, and the head moves on.
+    pub fn format_segment(&mut self) -> Result<(), FdcFault>
+        ensures unreached { ¬ (IsFormatting self.old.deck) →
+            (result ≡ Err FdcFault.NoAddress) × (self.new ≡ self.old) }
+        ensures reached { IsFormatting self.old.deck → Formats T.means self.old self.new result }
+        ensures size { T.means.size self.new.tape ≡ T.means.size self.old.tape }
+    {
+        if !self.deck.is_streaming() {
+            return Err(FdcFault::NoAddress);
+        }
+        match self.tape.format_segment(self.deck.segment()) {
+            Ok(()) => {
+                self.deck = self.deck.run_on();
+                Ok(())
+            }
+            Err(TapeFailed) => Err(FdcFault::Tape),
+        }
+    }
+}

@@ -1,0 +1,5 @@
+pub mod Reach
+pub mod Record
+pub mod Registers
+pub mod Row
+pub mod Unit
