@@ -1,0 +1,140 @@
+-- What no train changes of a drive.
+use Rattle.std.proofs.Common.{◌≡◌, ℕ, ◌+◌, ◌-◌, ◌<◌, ◌⊎◌, inl, inr, Bool, true, false, List, [], ◌∷◌, if◌then◌else◌, ◌==◌, ◌&&◌, nat_lt, nat_le, refl, sym, ap, ◌∙◌, subst, Some, None, Option, arith}
+use Rattle.std.proofs.lemmas.Bool.Decides.{nat_tests}
+use Rattle.std.specs.Option.{option_map, option_map_or}
+use Rattle.qic_base.specs.declared.tape.TapeInfo.{TapeInfo}
+use Rattle.qic117_commands.specs.Commands.{number_of, command_at}
+use Rattle.qic117_commands.specs.Views.{is_format}
+use Rattle.qic117_commands.specs.declared.command.Command.{Command}
+use Rattle.qic117_commands.specs.declared.command.Command.TheVariants.{ReportNextBit, ReportError, LogicalForward, SeekTrack, SeekLoadPoint, EnterFormat, WriteReference, EnterVerify, StopTape, SkipReverse, SkipForward, EnterPrimary, SetFormatSegments}
+use Rattle.qic117_commands.specs.declared.error_code.ErrorCode.{ErrorCode}
+use Rattle.qic117_commands.specs.declared.error_code.ErrorCode.TheVariants.{UndefinedCommand, IllegalInReport}
+use Rattle.drive_states.specs.declared.deck.Deck.{Deck}
+use Rattle.drive_states.specs.declared.deck.Motion.TheVariants.{Streaming}
+use Rattle.drive_states.specs.declared.under_way.Parameter.{Parameter}
+use Rattle.drive_states.specs.declared.under_way.UnderWay.{UnderWay}
+use Rattle.drive_states.specs.declared.under_way.UnderWay.TheVariants.{Nothing, Report, Awaited}
+use Rattle.drive_states.specs.Deck.{view_of, refusal_of, accepted, given, ticked, is_streaming, is_stopped, is_protected, limit, referenced_as, unreferenced}
+use Rattle.drive_states.specs.Record.{Record}
+use Rattle.drive_states.specs.Row.{heard, by_command, by_refusal, given_more, longer, idled, parameter_trains, parameter_values, parameter_code, latched, showing}
+use Rattle.host_driver.specs.Train.{after_train}
+use Rattle.host_driver.proofs.Follows.{counted, after_train-heard, after_train-idled}
+use Rattle.host_driver.proofs.Refusals.{format_writable}
+
+-- the cartridge's length
+abbrev pub length_of : Deck → Option ℕ
+length_of d = option_map (λ info. info.segments_per_track) d.cartridge
+
+-- the cartridge's length and its protect mark stay, it stays known, and Format mode is entered with one that may be written
+pub record Kept (old new : Deck) : Type 0 where
+  pub length : length_of new ≡ length_of old
+  pub protected : is_protected new ≡ is_protected old
+  pub known : old.fresh ≡ false → new.fresh ≡ false
+  pub formats : is_format new.mode ≡ true → (is_format old.mode ≡ true) ⊎ (is_protected old ≡ false)
+
+pub Kept-same : (d : Deck) → Kept d d
+Kept-same d = record { length = refl; protected = refl; known = λ e. e; formats = λ e. inl e }
+
+pub Kept-error : (d : Deck) (error : ℕ) → Kept d (record d { error = error })
+Kept-error d error = record { length = refl; protected = refl; known = λ e. e; formats = λ e. inl e }
+
+length-referenced : (on : Bool) (c : Option TapeInfo) → option_map (λ (i : TapeInfo). i.segments_per_track) (referenced_as on c) ≡ option_map (λ i. i.segments_per_track) c
+length-referenced on None = refl
+length-referenced on (Some info) = refl
+
+protected-referenced : (on : Bool) (c : Option TapeInfo) → option_map_or (λ (i : TapeInfo). i.protected) (referenced_as on c) false ≡ option_map_or (λ i. i.protected) c false
+protected-referenced on None = refl
+protected-referenced on (Some info) = refl
+
+pub Kept-unreferenced : (old d : Deck) → Kept old d → Kept old (unreferenced d)
+Kept-unreferenced old d k = record {
+  length = length-referenced false d.cartridge ∙ k.length;
+  protected = protected-referenced false d.cartridge ∙ k.protected;
+  known = k.known;
+  formats = k.formats;
+}
+
+Kept-streaming : (d : Deck) (b : Bool) → Kept d (if b then record d { motion = Streaming 0; at_load_point = false } else d)
+Kept-streaming d true = record { length = refl; protected = refl; known = λ e. e; formats = λ e. inl e }
+Kept-streaming d false = Kept-same d
+
+pub Kept-accepted : (c : Command) (d : Deck) → refusal_of d c ≡ None → Kept d (accepted c d)
+Kept-accepted ReportError d taken = record { length = refl; protected = refl; known = λ e. refl; formats = λ e. inl e }
+Kept-accepted LogicalForward d taken = Kept-streaming d (is_stopped d.motion && nat_lt d.offset (limit d))
+Kept-accepted SeekLoadPoint d taken = record { length = refl; protected = refl; known = λ e. e; formats = λ e. inl e }
+Kept-accepted EnterFormat d taken = record { length = refl; protected = refl; known = λ e. e; formats = λ e. inr (format_writable (view_of d) taken) }
+Kept-accepted WriteReference d taken = record {
+  length = length-referenced true d.cartridge;
+  protected = protected-referenced true d.cartridge;
+  known = λ e. e;
+  formats = λ e. inl e;
+}
+Kept-accepted EnterVerify d taken = record { length = refl; protected = refl; known = λ e. e; formats = λ e. cc }
+Kept-accepted StopTape d taken = record { length = refl; protected = refl; known = λ e. e; formats = λ e. inl e }
+Kept-accepted EnterPrimary d taken = record { length = refl; protected = refl; known = λ e. e; formats = λ e. cc }
+Kept-accepted c d taken = Kept-same d
+
+pub Kept-given : (c : Command) (parameter : ℕ) (d : Deck) → Kept d (given c parameter d)
+Kept-given SeekTrack parameter d = record { length = refl; protected = refl; known = λ e. e; formats = λ e. inl e }
+Kept-given SkipReverse parameter d = record { length = refl; protected = refl; known = λ e. e; formats = λ e. inl e }
+Kept-given SkipForward parameter d = record { length = refl; protected = refl; known = λ e. e; formats = λ e. inl e }
+Kept-given SetFormatSegments parameter d = record { length = refl; protected = refl; known = λ e. e; formats = λ e. inl e }
+Kept-given c parameter d = Kept-same d
+
+-- and no pulse is counted then
+pub record KeptRecord (old new : Record) : Type 0 where
+  pub deck : Kept old.deck new.deck
+  pub train : new.train ≡ old.train
+
+module _ (b : Record) (pulses : ℕ) where
+  by_refusal-kept : (c : Command) (o : Option ErrorCode) → refusal_of b.deck c ≡ o → KeptRecord b (by_refusal b c o)
+  by_refusal-kept c None e = record { deck = Kept-accepted c b.deck e; train = refl }
+  by_refusal-kept c (Some code) e = record { deck = Kept-error b.deck _; train = refl }
+
+  by_command-kept : (o : Option Command) → KeptRecord b (by_command b pulses o)
+  by_command-kept None = record { deck = Kept-error b.deck _; train = refl }
+  by_command-kept (Some c) = by_refusal-kept c (refusal_of b.deck c) refl
+
+  showing-kept : (levels : List Bool) → KeptRecord b (showing b levels)
+  showing-kept [] = record { deck = Kept-same b.deck; train = refl }
+  showing-kept (level ∷ []) = record { deck = Kept-same b.deck; train = refl }
+  showing-kept (level ∷ next ∷ rest) = record { deck = Kept-same b.deck; train = refl }
+
+  reported-kept : (levels : List Bool) (next : Bool) → KeptRecord b (if next then showing b levels else latched b IllegalInReport pulses)
+  reported-kept levels true = showing-kept levels
+  reported-kept levels false = record { deck = Kept-error b.deck _; train = refl }
+
+  given_more-kept : (a : Parameter) (whole : Bool) →
+      KeptRecord b (if whole then record b { deck = given a.command a.value b.deck; under_way = Nothing } else record b { under_way = Awaited a })
+  given_more-kept a true = record { deck = Kept-given a.command a.value b.deck; train = refl }
+  given_more-kept a false = record { deck = Kept-same b.deck; train = refl }
+
+  taking-kept : (a : Parameter) (value : Bool) →
+      KeptRecord b (if value then given_more b (longer a (pulses - 2)) else latched b (parameter_code a.command) (number_of a.command))
+  taking-kept a true = given_more-kept (longer a (pulses - 2)) ((longer a (pulses - 2)).taken == parameter_trains a.command)
+  taking-kept a false = record { deck = Kept-error b.deck _; train = refl }
+
+  heard-kept : (u : UnderWay) → KeptRecord b (heard b pulses u)
+  heard-kept Nothing = by_command-kept (command_at pulses)
+  heard-kept (Report levels) = reported-kept levels (pulses == number_of ReportNextBit)
+  heard-kept (Awaited a) = taking-kept a (nat_lt (pulses - 2) (parameter_values a.command))
+
+idled-kept : (b : Record) (streams : Bool) → is_streaming b.deck.motion ≡ streams → KeptRecord b (idled b)
+idled-kept b true e = rw e record { deck = record { length = refl; protected = refl; known = λ f. f; formats = λ f. inl f }; train = refl }
+idled-kept b false e = rw e record { deck = Kept-same b.deck; train = refl }
+
+-- no train but a reset does
+pub after_train-kept : (r : Record) (pulses : ℕ) → (pulses ≡ 1 → ⊥) → KeptRecord (record r { train = 0 }) (after_train r pulses)
+after_train-kept r pulses other = by_count (pulses == 0) refl
+  where
+    by_count : (t : Bool) → (pulses == 0) ≡ t → KeptRecord (record r { train = 0 }) (after_train r pulses)
+    by_count true e =
+        let zero : pulses ≡ 0 = grind (arith, nat_tests) in
+        let k = idled-kept (record r { deck = ticked r.deck; train = 0 }) (is_streaming (ticked r.deck).motion) refl in
+        subst (λ (x : Record). KeptRecord (record r { train = 0 }) x) (sym (ap (after_train r) zero ∙ after_train-idled r))
+        record { deck = record { length = k.deck.length; protected = k.deck.protected; known = k.deck.known; formats = k.deck.formats }; train = k.train }
+    by_count false e =
+        let more : 1 < pulses = grind (arith, nat_tests) in
+        let k = heard-kept (counted r) pulses r.under_way in
+        subst (λ (x : Record). KeptRecord (record r { train = 0 }) x) (sym (after_train-heard r pulses more))
+        record { deck = record { length = k.deck.length; protected = k.deck.protected; known = k.deck.known; formats = k.deck.formats }; train = k.train }

@@ -1,0 +1,15 @@
+pub mod Fitting
+pub mod Follows
+pub mod Kept
+pub mod Marks
+pub mod Motions
+pub mod Reaching
+pub mod Refusals
+pub mod Reporting
+pub mod Running
+pub mod Sending
+pub mod Starting
+pub mod Status
+pub mod Taking
+pub mod Trains
+pub mod Wearing

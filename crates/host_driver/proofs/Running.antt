@@ -1,0 +1,96 @@
+-- The tape runs on by a segment.
+use Rattle.std.proofs.Common.{◌≡◌, ◌≢◌, ℕ, ◌+◌, ◌*◌, ◌<◌, ◌≤◌, Bool, true, false, [], if◌then◌else◌, ◌&&◌, nat_lt, nat_le, refl, sym, ap, ◌∙◌, subst, arith}
+use Rattle.std.proofs.lemmas.Bool.Decides.{nat_tests}
+use Rattle.qic117_commands.specs.Views.{is_format}
+use Rattle.drive_states.specs.declared.deck.Deck.{Deck}
+use Rattle.drive_states.specs.declared.deck.Motion.TheVariants.{Stopped, Streaming}
+use Rattle.drive_states.specs.declared.under_way.UnderWay.TheVariants.{Nothing}
+use Rattle.drive_states.specs.Deck.{limit, segments_per_track, is_seeking, is_streaming, ends_early, run_on, ticked}
+use Rattle.drive_states.specs.Reach.{segment_of}
+use Rattle.drive_states.specs.Record.{Record}
+use Rattle.drive_states.specs.Row.{idled, moved_on}
+use Rattle.drive_states.proofs.Marks.{gap_steps-none}
+use Rattle.host_driver.specs.Fits.{GeneratesAll}
+use Rattle.host_driver.specs.Place.{RunsOn, StreamsAt, idled_deck}
+use Rattle.host_driver.specs.Train.{TakesTrain, after_train, train_steps}
+use Rattle.host_driver.proofs.Follows.{after_train-idled}
+use Rattle.host_driver.proofs.Motions.{ticked-still}
+use Rattle.host_driver.proofs.Taking.{limit_of}
+
+-- as many segments are generated as the track has
+pub not_early : (d : Deck) → GeneratesAll d → ends_early d ≡ false
+not_early d g = by_mode (is_format d.mode) refl
+  where
+    by_mode : (b : Bool) → is_format d.mode ≡ b → (b && nat_lt (segments_per_track d) d.format_segments && nat_le (limit d) (d.offset + 1)) ≡ false
+    by_mode false e = refl
+    by_mode true e =
+        let all = g.segments e in
+        let none : nat_lt (segments_per_track d) d.format_segments ≡ false = grind (arith, nat_tests) in
+        rw none refl
+
+pub runs_on : (d : Deck) → GeneratesAll d → RunsOn d (run_on d)
+runs_on d g =
+    let end = limit_of d g in
+    record {
+      within = λ more.
+          let on : nat_lt (d.offset + 1) (limit d) ≡ true = grind (arith, nat_tests) in
+          record { motion = rw on refl; here = omega arith };
+      end = λ over.
+          let off : nat_lt (d.offset + 1) (limit d) ≡ false = grind (arith, nat_tests) in
+          rw off refl;
+    }
+
+-- an empty gap
+pub record Idles (r : Record) : Type 0 where
+  pub takes : TakesTrain r 0
+  pub steps : train_steps r 0 ≡ []
+  pub deck : (after_train r 0).deck ≡ idled_deck r.deck
+  pub under_way : (after_train r 0).under_way ≡ r.under_way
+
+steps-none : (r : Record) → train_steps r 0 ≡ []
+unfolding train_steps
+steps-none r = gap_steps-none (record r { train = 0 }) (λ e. cc)
+
+pub idle_still : (d : Deck) (streams : Bool) → is_streaming d.motion ≡ streams → is_seeking d.motion ≡ false → is_seeking (idled_deck d).motion ≡ false
+idle_still d true e still = rw e (by_limit (nat_lt (d.offset + 1) (limit d)))
+  where
+    by_limit : (b : Bool) → is_seeking (if b then Streaming 0 else Stopped) ≡ false
+    by_limit true = refl
+    by_limit false = refl
+idle_still d false e still = rw e still
+
+pub runs_on_idle : (d : Deck) → GeneratesAll d → is_streaming d.motion ≡ true → RunsOn d (idled_deck d)
+runs_on_idle d g running = rw running (runs_on d g)
+
+-- the record after it
+abbrev after_idle : Record → Record
+after_idle r = record r { deck = idled_deck r.deck; train = 0 }
+
+idled-generates : (b : Record) (streams : Bool) → is_streaming b.deck.motion ≡ streams → GeneratesAll b.deck → idled b ≡ record b { deck = idled_deck b.deck }
+idled-generates b true e g = let no = not_early b.deck g in rw (e, no) refl
+idled-generates b false e g = rw e refl
+
+error-idled : (d : Deck) (streams : Bool) → is_streaming d.motion ≡ streams → GeneratesAll d → d.error ≡ 0 → (idled_deck d).error ≡ 0
+error-idled d true e g none = let no = not_early d g in rw (e, no) none
+error-idled d false e g none = rw e none
+
+generates-idled : (d : Deck) (streams : Bool) → is_streaming d.motion ≡ streams → GeneratesAll d → is_format (idled_deck d).mode ≡ true → (idled_deck d).format_segments ≡ segments_per_track (idled_deck d)
+generates-idled d true e g = rw e g.segments
+generates-idled d false e g = rw e g.segments
+
+pub idles : (r : Record) → is_seeking r.deck.motion ≡ false → r.deck.error ≡ 0 → GeneratesAll r.deck → Idles r
+idles r still none g =
+    let is : after_train r 0 ≡ after_idle r =
+    after_train-idled r ∙ ap (λ (d : Deck). idled (record r { deck = d; train = 0 })) (ticked-still r.deck still)
+    ∙ idled-generates (record r { train = 0 }) (is_streaming r.deck.motion) refl g in
+    record {
+      takes = record {
+        no_reset = λ e. cc;
+        no_error = ap (λ (x : Record). x.deck.error) is ∙ error-idled r.deck (is_streaming r.deck.motion) refl g none;
+        generates = subst (λ (x : Record). is_format x.deck.mode ≡ true → x.deck.format_segments ≡ segments_per_track x.deck) (sym is)
+            (generates-idled r.deck (is_streaming r.deck.motion) refl g);
+      };
+      steps = steps-none r;
+      deck = ap (λ (x : Record). x.deck) is;
+      under_way = ap (λ (x : Record). x.under_way) is;
+    }

@@ -1,0 +1,31 @@
+-- Where the tape stands (this project's profile of QIC-117).
+use Rattle.std.specs.Prelude.{◌≡◌, ℕ, ◌+◌, ◌<◌, ◌≤◌, if◌then◌else◌}
+use Rattle.drive_states.specs.declared.deck.Deck.{Deck}
+use Rattle.drive_states.specs.declared.deck.Motion.TheVariants.{Stopped, Streaming}
+use Rattle.drive_states.specs.Deck.{segments_per_track, is_streaming, run_on}
+use Rattle.drive_states.specs.Reach.{segment_of}
+
+-- the tape streams at a segment, of which the head has yet to reach the sectors from `next` on
+pub record StreamsAt (segment next : ℕ) (d : Deck) : Type 0 where
+  pub motion : d.motion ≡ Streaming next
+  pub here : segment ≡ segment_of d
+
+-- the cartridge and the mode are what they were
+pub record KeepsMode (old new : Deck) : Type 0 where
+  pub cartridge : new.cartridge ≡ old.cartridge
+  pub mode : new.mode ≡ old.mode
+
+-- the tape stands before the segment with an offset on a track, or behind the last
+pub record StandsAt (track offset : ℕ) (d : Deck) : Type 0 where
+  pub motion : d.motion ≡ Stopped
+  pub on_track : d.track ≡ track
+  pub at_offset : d.offset ≡ offset
+
+-- the tape has run on from a segment: it streams at the next one of its track, or stands behind the last
+pub record RunsOn (old new : Deck) : Type 0 where
+  pub within : old.offset + 1 < segments_per_track old → StreamsAt (segment_of old + 1) 0 new
+  pub end : segments_per_track old ≤ old.offset + 1 → new.motion ≡ Stopped
+
+-- an empty gap moves the tape on where it streams
+abbrev pub idled_deck : Deck → Deck
+idled_deck d = if is_streaming d.motion then run_on d else d

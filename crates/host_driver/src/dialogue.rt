@@ -1,0 +1,78 @@
+//! Trains and reports, as the cable carries them.
+
+ghost use Rattle.std.specs.Prelude.{◌≡◌, ◌≢◌, [], ◌∷◌, Ok, IsOk, OnOk, OnErr};
+ghost use Rattle.qic_base.specs.Step.{SetReferenced};
+ghost use Rattle.qic_base.specs.Tape.{Does};
+ghost use Rattle.drive_states.specs.Deck.{refusal_of, ticked};
+ghost use Rattle.drive_states.specs.Unit.{IsSoundUnit};
+ghost use Rattle.drive_states.specs.declared.under_way.UnderWay.TheVariants.{Nothing};
+ghost use Rattle.host_driver.specs.Fits.{GeneratesAll};
+ghost use Rattle.host_driver.specs.Reports.{command_of, width_of, reported_word, after_report};
+ghost use Rattle.host_driver.specs.Train.{TakesTrain, after_train, train_steps};
+ghost use Rattle.drive_states.specs.Row.{without_reference};
+
+use crate::report::Report;
+use drive_states::Unit;
+use qic_base::{Tape, TapeFailed};
+use qic117_commands::Command;
+use report_bits::Collector;
+
+/// Sends a train of pulses, and a gap. Each train of the host is ended here.
+#[tactic(auto, unfolding(crate::specs::Train::after_train, crate::specs::Train::train_steps))]
+pub fn send_train<T: Tape>(unit: &mut Unit<T>, pulses: u8) -> Result<(), TapeFailed>
+    requires no_pulse { unit.old.drive.train ≡ 0 }
+    requires taken { TakesTrain unit.old.drive pulses }
+    ensures row { OnOk result (unit.new.drive ≡ after_train unit.old.drive pulses) }
+    ensures failed { OnErr result
+        (unit.new.drive ≡ without_reference (after_train unit.old.drive pulses)) }
+    ensures did { Does T.means unit.old.tape unit.new.tape
+        (train_steps unit.old.drive pulses) result }
+    ensures ok { train_steps unit.old.drive pulses ≡ [] → IsOk result }
+    ensures untouched { train_steps unit.old.drive pulses ≡ [] →
+        unit.new.tape ≡ unit.old.tape }
+    ensures size { T.means.size unit.new.tape ≡ T.means.size unit.old.tape }
+    ensures sound { IsSoundUnit T.means unit.new }
+{
+    for _pulse in 0..pulses {
+        unit.step();
+    }
+    unit.gap()
+}
+
+/// Sends a train that shows a level, and gives it.
+#[tactic(auto, using(crate::proofs::Trains::same_tape))]
+fn sample<T: Tape>(unit: &mut Unit<T>, pulses: u8) -> Result<bool, TapeFailed>
+    requires no_pulse { unit.old.drive.train ≡ 0 }
+    requires taken { TakesTrain unit.old.drive pulses }
+    requires reads { train_steps unit.old.drive pulses ≡ [] }
+    ensures row { unit.new ≡ record unit.old { drive = after_train unit.old.drive pulses } }
+    ensures level { result ≡ Ok unit.new.drive.line }
+    ensures sound { IsSoundUnit T.means unit.new }
+{
+    send_train(unit, pulses)?;
+    Ok(unit.line())
+}
+
+/// Has the drive report a word.
+pub fn read_report<T: Tape>(unit: &mut Unit<T>, kind: Report) -> Result<u16, TapeFailed>
+    requires no_pulse { unit.old.drive.train ≡ 0 }
+    requires idle { unit.old.drive.under_way ≡ Nothing }
+    requires no_error { unit.old.drive.deck.error ≡ 0 }
+    requires generates { GeneratesAll unit.old.drive.deck }
+    requires sound { IsSoundUnit T.means unit.old }
+    requires taken { refusal_of (ticked unit.old.drive.deck) (command_of kind) ≡ None }
+    ensures word { result ≡ Ok (reported_word kind unit.old.drive) }
+    ensures drive { unit.new ≡ record unit.old { drive = after_report kind unit.old.drive } }
+    ensures sound { IsSoundUnit T.means unit.new }
+{
+    sample(unit, kind.command().number())?;
+    let width = kind.width();
+    let mut collector = Collector::new(width);
+    for _level in 0..width + 1 {
+        collector.push(sample(unit, Command::ReportNextBit.number())?);
+    }
+    match collector.word() {
+        Some(word) => Ok(word),
+        None => unreachable!("the last level of a report is 1"),
+    }
+}

@@ -1,0 +1,129 @@
+//! What the host remembers, its start, and the trains that it sends.
+
+ghost use Rattle.std.specs.Prelude.{◌≡◌, ◌≢◌, ◌↔◌, [], None, Some, IsOk, IfOk, OnOk, OnErr, IsOkUnless};
+ghost use Rattle.qic_base.specs.Tape.{Does};
+ghost use Rattle.drive_states.specs.Deck.{is_protected, is_referenced};
+ghost use Rattle.host_driver.specs.Fits.{Fits, IsAtRest, Agrees, segments_of, deck_of};
+ghost use Rattle.host_driver.specs.Starts.{Starts, KnowsTold, KnowsSize, started_host};
+ghost use Rattle.host_driver.specs.Train.{TakesTrain, after_train, train_steps};
+ghost use Rattle.drive_states.specs.Row.{without_reference};
+
+use crate::dialogue::{read_report, send_train};
+use crate::fault::HostFault;
+use crate::report::Report;
+use bitflags::Flags;
+use drive_states::{Deck, Parameter, Unit};
+use qic_base::{Tape, TapeInfo};
+use qic117_commands::StatusBits;
+use tape_geometry::Geometry;
+
+/// What a host has learnt of a drive by reports, and what it remembers of the drive's place and mode. It doesn't hold the
+/// unit: each call is handed the unit that it drives.
+#[derive(Clone, Copy, Debug)]
+pub struct Host {
+    pub(crate) geometry: Geometry,
+    pub(crate) deck: Deck,
+    /// The parameter that the drive awaits.
+    pub(crate) awaited: Option<Parameter>,
+}
+
+impl Host {
+    /// Puts the cartridge in, and learns by the reports of the status, the error word and the format segments what it is.
+    pub fn start<T: Tape>(unit: &mut Unit<T>) -> Result<Host, HostFault>
+        ensures did { Starts T.means unit.old unit.new result }
+        ensures fits { IfOk result (λ host. Fits T.means host unit.new) }
+        ensures rest { OnOk result (IsAtRest unit.new.drive) }
+        // NoCartridge comes exactly where the drive knows of none: where the tape tells what it holds, where that is none.
+        ensures absent { (result ≡ Err HostFault.NoCartridge) →
+            unit.new.drive.deck.cartridge ≡ None }
+        ensures told { result ≢ Err HostFault.Tape → KnowsTold T.means unit.new }
+        ensures size { result ≢ Err HostFault.Tape → KnowsSize T.means unit.new }
+        ensures agrees { OnOk result (Agrees T.means unit.new) }
+        ensures same_size { result ≡ Err HostFault.Tape →
+            T.means.size unit.new.tape ≡ T.means.size unit.old.tape }
+    {
+        unit.insert()?;
+        let word = read_report(unit, Report::Status)?;
+        let status = StatusBits::from_bits_retain(word as u8);
+        if !status.contains(StatusBits::PRESENT) {
+            return Err(HostFault::NoCartridge);
+        }
+        read_report(unit, Report::Error)?;
+        let segments_per_track = read_report(unit, Report::FormatSegments)?;
+        let Ok(geometry) = Geometry::new(segments_per_track) else {
+            unreachable!("a cartridge has 3 segments per track or more, up to the greatest number")
+        };
+        let protected = status.contains(StatusBits::PROTECTED);
+        Ok(Host::learnt(geometry, protected, status.contains(StatusBits::REFERENCED)))
+    }
+
+    // A host that has learnt a cartridge's length and its marks.
+    fn learnt(geometry: Geometry, protected: bool, referenced: bool) -> Host
+        ensures { result ≡ started_host geometry protected referenced }
+    {
+        let cartridge = TapeInfo {
+            segments_per_track: geometry.segments_per_track(),
+            protected,
+            referenced,
+        };
+        let deck = Deck {
+            fresh: false,
+            ..Deck::power_on(Some(cartridge))
+        };
+        Host {
+            geometry,
+            deck,
+            awaited: None,
+        }
+    }
+
+    /// The cartridge's length.
+    pub fn geometry(&self) -> Geometry
+        ensures { result ≡ segments_of self.now }
+    {
+        self.geometry
+    }
+
+    /// Whether the cartridge is write protected.
+    pub fn protected(&self) -> bool
+        ensures { result ≡ is_protected (deck_of self.now) }
+    {
+        self.deck.is_protected()
+    }
+
+    /// Whether the cartridge has its reference bursts.
+    pub fn referenced(&self) -> bool
+        ensures { result ≡ is_referenced (deck_of self.now) }
+    {
+        match self.deck.cartridge {
+            Some(info) => info.referenced,
+            None => false,
+        }
+    }
+
+    /// Sends a train of pulses and a gap. Each refusal of the drive is ruled out; the fault is a tape that failed to write
+    /// the reference bursts.
+    pub fn send<T: Tape>(&mut self, unit: &mut Unit<T>, pulses: u8) -> Result<(), HostFault>
+        requires fits { Fits T.means self.old unit.old }
+        requires taken { TakesTrain unit.old.drive pulses }
+        ensures row { OnOk result (unit.new.drive ≡ after_train unit.old.drive pulses) }
+        ensures failed { OnErr result
+            (unit.new.drive ≡ without_reference (after_train unit.old.drive pulses)) }
+        ensures did { Does T.means unit.old.tape unit.new.tape
+            (train_steps unit.old.drive pulses) result }
+        ensures fault { IsOkUnless result HostFault.Tape }
+        ensures ok { train_steps unit.old.drive pulses ≡ [] → IsOk result }
+        ensures untouched { train_steps unit.old.drive pulses ≡ [] →
+            unit.new.tape ≡ unit.old.tape }
+        ensures size { T.means.size unit.new.tape ≡ T.means.size unit.old.tape }
+        ensures fits { Fits T.means self.new unit.new }
+    {
+        let sent = send_train(unit, pulses);
+        self.follow(pulses);
+        if sent.is_err() {
+            self.deck = self.deck.unreferenced();
+            return Err(HostFault::Tape);
+        }
+        Ok(())
+    }
+}

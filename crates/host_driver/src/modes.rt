@@ -1,0 +1,84 @@
+//! Modes, and the reference bursts.
+
+ghost use Rattle.std.specs.Prelude.{◌≡◌, ◌↔◌, [], ◌∷◌, true, false, OnOk, OnErr, IsOkUnless};
+ghost use Rattle.qic_base.specs.Step.{SetReferenced};
+ghost use Rattle.qic_base.specs.Tape.{Does};
+ghost use Rattle.qic117_commands.specs.Views.{is_format};
+ghost use Rattle.drive_states.specs.Deck.{is_stopped, is_protected, is_referenced, referenced_as};
+ghost use Rattle.host_driver.specs.Commands.{entry_of};
+ghost use Rattle.host_driver.specs.Fits.{Fits, IsAtRest, Agrees};
+ghost use Rattle.host_driver.specs.Place.{StandsAt};
+
+use crate::fault::HostFault;
+use crate::host::Host;
+use drive_states::Unit;
+use qic_base::Tape;
+use qic117_commands::{Command, Mode};
+
+impl Host {
+    /// Has the drive enter a mode, where the tape stands. Where the present mode refuses that, it enters Primary first.
+    /// Verify needs a cartridge with its reference bursts.
+    pub fn enter<T: Tape>(&mut self, unit: &mut Unit<T>, mode: Mode) -> Result<(), HostFault>
+        requires fits { Fits T.means self.old unit.old }
+        requires rest { IsAtRest unit.old.drive }
+        requires stopped { is_stopped unit.old.drive.deck.motion ≡ true }
+        requires referenced { mode ≡ Mode.Verify → is_referenced unit.old.drive.deck ≡ true }
+        ensures protected { (result ≡ Err HostFault.Protected)
+            ↔ ((mode ≡ Mode.Format) × (is_protected unit.old.drive.deck ≡ true)) }
+        ensures fault { IsOkUnless result HostFault.Protected }
+        ensures refused { OnErr result ((unit.new ≡ unit.old) × (self.new ≡ self.old)) }
+        ensures mode { OnOk result (unit.new.drive.deck.mode ≡ mode) }
+        ensures place { StandsAt unit.old.drive.deck.track unit.old.drive.deck.offset
+            unit.new.drive.deck }
+        ensures cartridge { unit.new.drive.deck.cartridge ≡ unit.old.drive.deck.cartridge }
+        ensures tape { unit.new.tape ≡ unit.old.tape }
+        ensures fits { Fits T.means self.new unit.new }
+        ensures rest { IsAtRest unit.new.drive }
+    {
+        if mode == Mode::Format && self.protected() {
+            return Err(HostFault::Protected);
+        }
+        let command = entry_of(mode);
+        if self.deck.refusal(command).is_none() {
+            return self.command(unit, command);
+        }
+        self.command(unit, Command::EnterPrimary)?;
+        self.command(unit, command)
+    }
+
+    /// Has the drive write the reference bursts, in Format mode where the tape stands, and waits for it. After a failure the
+    /// drive still seeks, and knows the cartridge as not referenced.
+    pub fn reference<T: Tape>(&mut self, unit: &mut Unit<T>) -> Result<(), HostFault>
+        requires fits { Fits T.means self.old unit.old }
+        requires rest { IsAtRest unit.old.drive }
+        requires format { is_format unit.old.drive.deck.mode ≡ true }
+        requires stopped { is_stopped unit.old.drive.deck.motion ≡ true }
+        ensures did { Does T.means unit.old.tape unit.new.tape (SetReferenced ∷ []) result }
+        ensures fault { IsOkUnless result HostFault.Tape }
+        ensures marks { OnOk result (unit.new.drive.deck.cartridge
+            ≡ referenced_as true unit.old.drive.deck.cartridge) }
+        ensures unmarked { OnErr result (unit.new.drive.deck.cartridge
+            ≡ referenced_as false unit.old.drive.deck.cartridge) }
+        ensures place { OnOk result (StandsAt 0 0 unit.new.drive.deck) }
+        ensures mode { unit.new.drive.deck.mode ≡ unit.old.drive.deck.mode }
+        ensures agrees { OnOk result
+            (Agrees T.means unit.old → Agrees T.means unit.new) }
+        ensures size { T.means.size unit.new.tape ≡ T.means.size unit.old.tape }
+        ensures fits { Fits T.means self.new unit.new }
+        ensures rest { OnOk result (IsAtRest unit.new.drive) }
+    {
+        self.send(unit, Command::WriteReference.number())?;
+        self.wait_ready(unit)?;
+        Ok(())
+    }
+}
+
+fn entry_of(mode: Mode) -> Command
+    ensures { result ≡ entry_of mode }
+{
+    match mode {
+        Mode::Primary => Command::EnterPrimary,
+        Mode::Format => Command::EnterFormat,
+        Mode::Verify => Command::EnterVerify,
+    }
+}

@@ -1,0 +1,154 @@
+//! Sectors under the head, and what a person does to one.
+
+ghost use Rattle.std.specs.Prelude.{◌≡◌, ◌≢◌, ◌<◌, ◌+◌, [], ◌∷◌, true, false, IsOkUnless, IfOk, OnOk, OnErr, MatchResult};
+ghost use Rattle.qic_base.specs.Cartridge.{IsPlace, view_at};
+ghost use Rattle.qic_base.specs.Step.{WriteSector, FormatSegment};
+ghost use Rattle.qic_base.specs.Tape.{Does, Tells, Reads, write_answer};
+ghost use Rattle.qic117_commands.specs.Views.{is_primary};
+ghost use Rattle.drive_states.specs.Deck.{segments_per_track, is_protected, run_on};
+ghost use Rattle.drive_states.specs.Hand.{Wears};
+ghost use Rattle.drive_states.specs.Reach.{reads_in, IsUnder, IsFormatting, segment_of};
+ghost use Rattle.host_driver.specs.Fits.{Fits, IsAtRest, Agrees};
+ghost use Rattle.host_driver.specs.Place.{KeepsMode, RunsOn};
+ghost use Rattle.host_driver.specs.Sectors.{deck_after_read, deck_after_write};
+
+use crate::fault::HostFault;
+use crate::host::Host;
+use drive_states::{FdcFault, HandFault, Unit};
+use qic_base::{SectorRead, SectorWrite, Tape};
+
+impl Host {
+    /// Reads a sector of the segment in which the tape streams, one that the head has yet to reach. `into` is unchanged
+    /// unless the answer is `Good`.
+    pub fn read_sector<T: Tape>(
+        &mut self,
+        unit: &mut Unit<T>,
+        segment: u32,
+        sector: u8,
+        into: &mut [u8; 1024],
+    ) -> Result<SectorRead, HostFault>
+        requires fits { Fits T.means self.old unit.old }
+        requires rest { IsAtRest unit.old.drive }
+        requires mode { reads_in unit.old.drive.deck.mode ≡ true }
+        requires under { IsUnder unit.old.drive.deck segment sector }
+        requires sector { sector < 32 }
+        ensures did { Does T.means unit.old.tape unit.new.tape [] result }
+        ensures fault { IsOkUnless result HostFault.Tape }
+        ensures view { IfOk result (λ answer. Tells T.means unit.old.tape (λ c.
+            Reads (view_at c segment sector) into.old into.new answer)) }
+        ensures unchanged { result ≢ Ok SectorRead.Good → into.new ≡ into.old }
+        ensures head { MatchResult result
+            (λ answer. unit.new.drive.deck ≡ deck_after_read answer sector unit.old.drive.deck)
+            (λ fault. unit.new.drive.deck ≡ unit.old.drive.deck) }
+        ensures under { IsUnder unit.new.drive.deck segment (sector + 1) }
+        ensures same { KeepsMode unit.old.drive.deck unit.new.drive.deck }
+        ensures agrees { Agrees T.means unit.old → Agrees T.means unit.new }
+        ensures size { T.means.size unit.new.tape ≡ T.means.size unit.old.tape }
+        ensures fits { Fits T.means self.new unit.new }
+        ensures rest { IsAtRest unit.new.drive }
+    {
+        let answer = match unit.read_sector(self.geometry.address(segment, sector), into) {
+            Ok(()) => SectorRead::Good,
+            Err(FdcFault::Unreadable) => SectorRead::Lost,
+            Err(FdcFault::NoAddress) => return Ok(SectorRead::Blank),
+            Err(FdcFault::Protected) => unreachable!("only a write minds the protect mark"),
+            Err(FdcFault::Tape) => return Err(HostFault::Tape),
+        };
+        self.deck = self.deck.passed(sector);
+        Ok(answer)
+    }
+
+    /// Writes a sector of the segment in which the tape streams, one that the head has yet to reach, in Primary mode. The
+    /// cartridge is not protected.
+    pub fn write_sector<T: Tape>(
+        &mut self,
+        unit: &mut Unit<T>,
+        segment: u32,
+        sector: u8,
+        from: &[u8; 1024],
+    ) -> Result<SectorWrite, HostFault>
+        requires fits { Fits T.means self.old unit.old }
+        requires rest { IsAtRest unit.old.drive }
+        requires mode { is_primary unit.old.drive.deck.mode ≡ true }
+        requires writable { is_protected unit.old.drive.deck ≡ false }
+        requires under { IsUnder unit.old.drive.deck segment sector }
+        requires sector { sector < 32 }
+        ensures did { Does T.means unit.old.tape unit.new.tape
+            (WriteSector segment sector from.now ∷ []) result }
+        ensures fault { IsOkUnless result HostFault.Tape }
+        ensures answer { IfOk result (λ answer. Tells T.means unit.old.tape (λ c.
+            answer ≡ write_answer (view_at c segment sector))) }
+        ensures head { MatchResult result
+            (λ answer. unit.new.drive.deck ≡ deck_after_write answer sector unit.old.drive.deck)
+            (λ fault. unit.new.drive.deck ≡ unit.old.drive.deck) }
+        ensures under { IsUnder unit.new.drive.deck segment (sector + 1) }
+        ensures same { KeepsMode unit.old.drive.deck unit.new.drive.deck }
+        ensures agrees { Agrees T.means unit.old → Agrees T.means unit.new }
+        ensures size { T.means.size unit.new.tape ≡ T.means.size unit.old.tape }
+        ensures fits { Fits T.means self.new unit.new }
+        ensures rest { IsAtRest unit.new.drive }
+    {
+        match unit.write_sector(self.geometry.address(segment, sector), from) {
+            Ok(()) => {
+                self.deck = self.deck.passed(sector);
+                Ok(SectorWrite::Taken)
+            }
+            Err(FdcFault::NoAddress) => Ok(SectorWrite::Blank),
+            Err(FdcFault::Protected | FdcFault::Unreadable) => {
+                unreachable!("the cartridge may be written, and a write reads nothing")
+            }
+            Err(FdcFault::Tape) => Err(HostFault::Tape),
+        }
+    }
+
+    /// Formats the segment in which the tape streams, in Format mode, and the tape runs on.
+    pub fn format_here<T: Tape>(&mut self, unit: &mut Unit<T>) -> Result<(), HostFault>
+        requires fits { Fits T.means self.old unit.old }
+        requires rest { IsAtRest unit.old.drive }
+        requires formatting { IsFormatting unit.old.drive.deck }
+        ensures did { Does T.means unit.old.tape unit.new.tape
+            (FormatSegment (segment_of unit.old.drive.deck) ∷ []) result }
+        ensures fault { IsOkUnless result HostFault.Tape }
+        ensures deck { OnOk result (unit.new.drive.deck ≡ run_on unit.old.drive.deck) }
+        ensures next { OnOk result (RunsOn unit.old.drive.deck unit.new.drive.deck) }
+        ensures failed { OnErr result (unit.new.drive.deck ≡ unit.old.drive.deck) }
+        ensures same { KeepsMode unit.old.drive.deck unit.new.drive.deck }
+        ensures agrees { Agrees T.means unit.old → Agrees T.means unit.new }
+        ensures size { T.means.size unit.new.tape ≡ T.means.size unit.old.tape }
+        ensures fits { Fits T.means self.new unit.new }
+        ensures rest { IsAtRest unit.new.drive }
+    {
+        match unit.format_segment() {
+            Ok(()) => {
+                self.deck = self.deck.run_on();
+                Ok(())
+            }
+            Err(FdcFault::Tape) => Err(HostFault::Tape),
+            Err(FdcFault::NoAddress | FdcFault::Protected | FdcFault::Unreadable) => {
+                unreachable!("the drive is in Format mode, and its tape streams")
+            }
+        }
+    }
+
+    /// Makes a readable sector unreadable until it is written again, by a person's hand.
+    pub fn wear<T: Tape>(
+        &mut self,
+        unit: &mut Unit<T>,
+        segment: u32,
+        sector: u32,
+    ) -> Result<(), HandFault>
+        requires fits { Fits T.means self.old unit.old }
+        requires rest { IsAtRest unit.old.drive }
+        ensures misplaced { ¬ (IsPlace (segments_per_track unit.old.drive.deck) segment sector) →
+            (result ≡ Err HandFault.BadPlace) × (unit.new ≡ unit.old) }
+        ensures placed { IsPlace (segments_per_track unit.old.drive.deck) segment sector →
+            Wears T.means unit.old unit.new segment sector result }
+        ensures drive { unit.new.drive ≡ unit.old.drive }
+        ensures host { self.new ≡ self.old }
+        ensures agrees { Agrees T.means unit.old → Agrees T.means unit.new }
+        ensures size { T.means.size unit.new.tape ≡ T.means.size unit.old.tape }
+        ensures fits { Fits T.means self.new unit.new }
+    {
+        unit.wear(segment, sector)
+    }
+}

@@ -1,0 +1,75 @@
+//! Reports, and the wait for a seek.
+
+ghost use Rattle.std.specs.Prelude.{◌≡◌, ◌≤◌, Ok, None, true, false, IfOk};
+ghost use Rattle.drive_states.specs.Deck.{refusal_of, is_streaming};
+ghost use Rattle.drive_states.specs.Row.{report_word};
+ghost use Rattle.drive_states.specs.Unit.{IsSoundUnit};
+ghost use Rattle.drive_states.specs.declared.under_way.UnderWay.TheVariants.{Nothing};
+ghost use Rattle.drive_states.specs.Deck.{is_stopped, ticked};
+ghost use Rattle.host_driver.specs.Fits.{Fits, GeneratesAll, IsAtRest};
+ghost use Rattle.host_driver.specs.Reports.{command_of, reports_until_ready, after_report};
+ghost use Rattle.host_driver.specs.Train.{ready_deck};
+ghost use Rattle.host_driver.specs.declared.report.Report.TheVariants.{Status};
+
+use crate::dialogue::read_report;
+use crate::fault::HostFault;
+use crate::host::Host;
+use crate::report::Report;
+use bitflags::Flags;
+use drive_states::{Motion, Unit};
+use qic_base::{Tape, TapeFailed};
+use qic117_commands::StatusBits;
+
+impl Host {
+    /// Has the drive report a word, and leaves it as it is. No row may refuse the report: a tape that streams reports its
+    /// status and its error word alone.
+    #[tactic(auto, using(crate::proofs::Reporting::resting))]
+    pub fn report<T: Tape>(&mut self, unit: &mut Unit<T>, kind: Report) -> Result<u16, HostFault>
+        requires fits { Fits T.means self.old unit.old }
+        requires rest { IsAtRest unit.old.drive }
+        requires taken { refusal_of unit.old.drive.deck (command_of kind) ≡ None }
+        ensures word { result ≡ Ok (report_word (command_of kind) unit.old.drive.deck) }
+        ensures unit { unit.new
+            ≡ record unit.old { drive = record unit.old.drive { line = true } } }
+        ensures host { self.new ≡ self.old }
+        ensures fits { Fits T.means self.new unit.new }
+        ensures rest { IsAtRest unit.new.drive }
+    {
+        Ok(read_report(unit, kind)?)
+    }
+
+    /// Waits until the drive is ready: the number of reports of the status until one shows that, 1 to 17.
+    pub fn wait_ready<T: Tape>(&mut self, unit: &mut Unit<T>) -> Result<u8, HostFault>
+        requires fits { Fits T.means self.old unit.old }
+        requires idle { unit.old.drive.under_way ≡ Nothing }
+        requires still { is_streaming unit.old.drive.deck.motion ≡ false }
+        ensures reports { result ≡ Ok (reports_until_ready unit.old.drive.deck.motion) }
+        ensures most { IfOk result (λ reports. reports ≤ 17) }
+        ensures deck { unit.new.drive.deck ≡ ready_deck unit.old.drive.deck }
+        ensures tape { unit.new.tape ≡ unit.old.tape }
+        ensures fits { Fits T.means self.new unit.new }
+        ensures rest { IsAtRest unit.new.drive }
+    {
+        let mut before = 0;
+        while !is_ready(unit)? {
+            before += 1;
+        }
+        self.deck.motion = Motion::Stopped;
+        Ok(before + 1)
+    }
+}
+
+// Whether the drive is ready, by a report of its status.
+fn is_ready<T: Tape>(unit: &mut Unit<T>) -> Result<bool, TapeFailed>
+    requires no_pulse { unit.old.drive.train ≡ 0 }
+    requires idle { unit.old.drive.under_way ≡ Nothing }
+    requires no_error { unit.old.drive.deck.error ≡ 0 }
+    requires generates { GeneratesAll unit.old.drive.deck }
+    requires sound { IsSoundUnit T.means unit.old }
+    ensures ready { result ≡ Ok (is_stopped (ticked unit.old.drive.deck).motion) }
+    ensures drive { unit.new ≡ record unit.old { drive = after_report Status unit.old.drive } }
+    ensures sound { IsSoundUnit T.means unit.new }
+{
+    let status = read_report(unit, Report::Status)?;
+    Ok(StatusBits::from_bits_retain(status as u8).contains(StatusBits::STOPPED))
+}
