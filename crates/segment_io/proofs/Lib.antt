@@ -1,0 +1,5 @@
+pub mod Effects
+pub mod GatheredCells
+pub mod Going
+pub mod NamedWrites
+pub mod SolvedCells

@@ -1,0 +1,264 @@
+-- The writes of the places of a set, place by place, and those of all places.
+use Rattle.std.proofs.Common.{◌≡◌, ℕ, zero, suc, ◌+◌, ◌-◌, ◌/◌, ◌%◌, ◌^◌, ◌<◌, ◌≤◌, refl, sym, ◌∙◌, ap, subst, arith, inl, inr, List, [], ◌∷◌, ◌++◌, length, map, take, drop, get_or, Bool, false, add-zero, add-one, append_assoc}
+use Rattle.std.specs.Prelude.{if◌then◌else◌, ◌==◌}
+use Rattle.std.specs.List.{range_with_len}
+use Rattle.std.proofs.lemmas.Bool.{cases_eq, eq-eqb, ne_eqb}
+use Rattle.std.proofs.lemmas.List.{append-nil, map-append, map_push, length_push, length-append, get_or_at, get_or-take, length-take-le, map-id, take_at}
+use Rattle.std.proofs.lemmas.List.FromFn.{fill_by_all, map-range_with_len_more}
+use Rattle.std.proofs.lemmas.Nat.Bits.{bit_at_above, bit_at_ones, ones_shr}
+use Rattle.std.proofs.lemmas.Nat.{pow_pos}
+use Rattle.std.proofs.lemmas.Option.{unwrap_or-slice_get}
+use Rattle.qic_base.specs.LostSet.{IsLost, lost_places}
+use Rattle.qic_base.specs.Step.{Step, WriteSector}
+use Rattle.qic_base.proofs.LostSetLaws.{lost_places-lost, lost_places-kept, lost_places-above}
+use Rattle.cartridge_spec.specs.Segment.{sector_at}
+use Rattle.cartridge_spec.specs.Shape.{usable_places, usable_count}
+use Rattle.cartridge_spec.specs.Writes.{writes_of}
+use Rattle.gf256_qic.specs.Code.{parity_sectors}
+use Rattle.gf256_qic.proofs.Parities.{length-parity_sectors}
+use Rattle.segment_io.specs.Writes.{data_in, block_in, segment_writes, named_writes, named_write, usable_write}
+
+-- ---- the places of a set
+
+pub none_below : (mask : ℕ) → lost_places mask 0 ≡ []
+unfolding lost_places
+none_below mask = refl
+
+-- the places below a number come first among those below a larger one
+pub record Front {A : Type 0} (front whole : List A) : Type 0 where
+  pub rest : List A
+  pub parts : whole ≡ front ++ rest
+
+pub front_of_places : (mask n more : ℕ) → Front (lost_places mask n) (lost_places mask (n + more))
+front_of_places mask n zero = record {
+  rest = [];
+  parts = ap (lost_places mask) (add-zero n) ∙ sym (append-nil (lost_places mask n));
+}
+front_of_places mask n (suc more) =
+    let front : Front (lost_places mask n) (lost_places mask (n + more)) = front_of_places mask n more in
+    let next : lost_places mask (n + suc more) ≡ lost_places mask (n + more + 1) = ap (lost_places mask) (omega arith) in
+    elim (cases_eq ((mask / 2 ^ (n + more)) % 2) 1) [
+      | inl lost ↦ record {
+        rest = front.rest ++ (n + more) ∷ [];
+        parts = next ∙ lost_places-lost mask (n + more) lost
+            ∙ ap (λ (l : List ℕ). l ++ (n + more) ∷ []) front.parts
+            ∙ append_assoc (lost_places mask n) front.rest ((n + more) ∷ []);
+      }
+      | inr kept ↦ record {
+        rest = front.rest;
+        parts = next ∙ lost_places-kept mask (n + more) kept ∙ front.parts;
+      }
+    ]
+
+pub front_of_all : (mask n : ℕ) → n ≤ 32 → Front (lost_places mask n) (lost_places mask 32)
+front_of_all mask n h =
+    let whole : n + (32 - n) ≡ 32 = omega arith in
+    subst (λ (k : ℕ). Front (lost_places mask n) (lost_places mask k)) whole (front_of_places mask n (32 - n))
+
+-- what stands at the place of a sector that is in the set
+pub place_of_sector : (mask i : ℕ) → IsLost mask i → i < 32 → get_or (lost_places mask 32) (length (lost_places mask i)) 0 ≡ i
+place_of_sector mask i lost h =
+    let front : Front (lost_places mask (i + 1)) (lost_places mask 32) = front_of_all mask (i + 1) (omega arith) in
+    let parts : lost_places mask 32 ≡ lost_places mask i ++ (i ∷ front.rest) =
+    front.parts ∙ ap (λ (l : List ℕ). l ++ front.rest) (lost_places-lost mask i lost)
+    ∙ append_assoc (lost_places mask i) (i ∷ []) front.rest in
+    ap (λ (l : List ℕ). get_or l (length (lost_places mask i)) 0) parts
+    ∙ get_or_at (lost_places mask i) i front.rest 0 (length (lost_places mask i)) refl
+
+-- how many are below a number
+pub count_more : (mask i : ℕ) → IsLost mask i → length (lost_places mask (i + 1)) ≡ length (lost_places mask i) + 1
+count_more mask i lost = ap (λ (l : List ℕ). length l) (lost_places-lost mask i lost) ∙ length_push (lost_places mask i) i
+
+pub count_same : (mask i : ℕ) → (IsLost mask i → ⊥) → length (lost_places mask (i + 1)) ≡ length (lost_places mask i)
+count_same mask i kept = ap (λ (l : List ℕ). length l) (lost_places-kept mask i kept)
+
+pub count_front : (mask n : ℕ) → n ≤ 32 → length (lost_places mask n) ≤ usable_count mask
+count_front mask n h =
+    let front : Front (lost_places mask n) (lost_places mask 32) = front_of_all mask n h in
+    let long : usable_count mask ≡ length (lost_places mask n) + length front.rest =
+    ap (λ (l : List ℕ). length l) front.parts ∙ length-append (lost_places mask n) front.rest in
+    omega arith
+
+pub count_below : (mask n : ℕ) → length (lost_places mask n) ≤ n
+count_below mask zero = let none : length (lost_places mask 0) ≡ 0 = ap (λ (l : List ℕ). length l) (none_below mask) in omega arith
+count_below mask (suc n) =
+    let rest : length (lost_places mask n) ≤ n = count_below mask n in
+    let next : length (lost_places mask (suc n)) ≡ length (lost_places mask (n + 1)) =
+    ap (λ (k : ℕ). length (lost_places mask k)) (sym (add-one n)) in
+    elim (cases_eq ((mask / 2 ^ n) % 2) 1) [
+      | inl lost ↦ omega (arith, count_more mask n lost)
+      | inr kept ↦ omega (arith, count_same mask n kept)
+    ]
+
+-- the places of a set below 2^n are below n
+pub places_within : (mask n : ℕ) → n ≤ 32 → mask < 2 ^ n → lost_places mask 32 ≡ lost_places mask n
+places_within mask n h low =
+    let whole : n + (32 - n) ≡ 32 = omega arith in
+    ap (lost_places mask) (sym whole)
+    ∙ lost_places-above mask n (32 - n) (λ place is. below place is)
+  where
+    below : (place : ℕ) → IsLost mask place → place < n
+    below place is = elim (cases_eq (n - place) 0) [
+      | inl past ↦ let none : mask / 2 ^ place % 2 ≡ 0 = bit_at_above mask n place low (omega arith) in absurd (omega arith)
+      | inr lower ↦ omega arith
+    ]
+
+-- ---- the writes of named places
+
+-- the write of a place
+abbrev pub write_at : (segment usable : ℕ) → List (List ℕ) → ℕ → Step
+write_at segment usable sectors place = WriteSector segment (get_or (usable_places usable) place 0) (sector_at sectors place)
+
+-- those of the places below a number
+abbrev pub writes_below : (segment usable places : ℕ) → List (List ℕ) → ℕ → List Step
+writes_below segment usable places sectors n = map (write_at segment usable sectors) (lost_places places n)
+
+writes_of_map : (segment : ℕ) (f : ℕ → ℕ) (g : ℕ → List ℕ) (places : List ℕ) →
+    writes_of segment (map f places) (map g places) ≡ map (λ p. WriteSector segment (f p) (g p)) places
+writes_of_map segment f g [] = refl
+writes_of_map segment f g (p ∷ places) =
+    ap (λ (steps : List Step). WriteSector segment (f p) (g p) ∷ steps) (writes_of_map segment f g places)
+
+pub named_writes_are : (segment usable places : ℕ) (sectors : List (List ℕ)) →
+    named_writes segment usable places sectors ≡ writes_below segment usable places sectors 32
+named_writes_are segment usable places sectors =
+    writes_of_map segment (λ p. get_or (usable_places usable) p 0) (λ p. sector_at sectors p) (lost_places places 32)
+
+-- no place yet
+pub writes_below_none : (segment usable places : ℕ) (sectors : List (List ℕ)) → writes_below segment usable places sectors 0 ≡ []
+unfolding lost_places
+writes_below_none segment usable places sectors = refl
+
+-- one place more, that of a usable sector
+pub writes_below_more : (segment usable places : ℕ) (sectors : List (List ℕ)) (index place : ℕ) →
+    IsLost usable index → index < 32 → place ≡ length (lost_places usable index) →
+    writes_below segment usable places sectors (place + 1)
+    ≡ writes_below segment usable places sectors place ++ named_write segment index places place sectors
+writes_below_more segment usable places sectors index place is h at =
+    let here : get_or (usable_places usable) place 0 ≡ index =
+    ap (λ (k : ℕ). get_or (lost_places usable 32) k 0) at ∙ place_of_sector usable index is h in
+    elim (cases_eq ((places / 2 ^ place) % 2) 1) [
+      | inl named ↦
+          ap (map (write_at segment usable sectors)) (lost_places-lost places place named)
+          ∙ map_push (write_at segment usable sectors) (lost_places places place) place
+          ∙ ap (λ (i : ℕ). writes_below segment usable places sectors place ++ WriteSector segment i (sector_at sectors place) ∷ []) here
+          ∙ ap (λ (b : ℕ). writes_below segment usable places sectors place
+          ++ (if b == 1 then WriteSector segment index (sector_at sectors place) ∷ [] else [])) (sym named)
+      | inr kept ↦
+          let none : (places / 2 ^ place % 2 == 1) ≡ false = ne_eqb (places / 2 ^ place % 2) 1 kept in
+          ap (map (write_at segment usable sectors)) (lost_places-kept places place kept)
+          ∙ sym (append-nil (writes_below segment usable places sectors place))
+          ∙ ap (λ (b : Bool). writes_below segment usable places sectors place
+          ++ (if b then WriteSector segment index (sector_at sectors place) ∷ [] else [])) (sym none)
+    ]
+
+-- the next index
+pub writes_below_next : (segment usable places : ℕ) (sectors : List (List ℕ)) (index place : ℕ) → index < 32 →
+    place ≡ length (lost_places usable index) →
+    writes_below segment usable places sectors (length (lost_places usable (index + 1)))
+    ≡ writes_below segment usable places sectors place ++ usable_write segment usable index places place sectors
+writes_below_next segment usable places sectors index place h at =
+    elim (cases_eq ((usable / 2 ^ index) % 2) 1) [
+      | inl is ↦
+          let next : length (lost_places usable (index + 1)) ≡ place + 1 = count_more usable index is ∙ ap (λ (n : ℕ). n + 1) (sym at) in
+          ap (writes_below segment usable places sectors) next
+          ∙ writes_below_more segment usable places sectors index place is h at
+          ∙ ap (λ (b : ℕ). writes_below segment usable places sectors place
+          ++ (if b == 1 then named_write segment index places place sectors else [])) (sym is)
+      | inr kept ↦
+          let none : (usable / 2 ^ index % 2 == 1) ≡ false = ne_eqb (usable / 2 ^ index % 2) 1 kept in
+          ap (writes_below segment usable places sectors) (count_same usable index kept ∙ sym at)
+          ∙ sym (append-nil (writes_below segment usable places sectors place))
+          ∙ ap (λ (b : Bool). writes_below segment usable places sectors place
+          ++ (if b then named_write segment index places place sectors else [])) (sym none)
+    ]
+
+-- those below a number come first
+pub front_of_writes : (segment usable places : ℕ) (sectors : List (List ℕ)) (n : ℕ) → n ≤ 32 →
+    Front (writes_below segment usable places sectors n) (named_writes segment usable places sectors)
+front_of_writes segment usable places sectors n h =
+    let front : Front (lost_places places n) (lost_places places 32) = front_of_all places n h in
+    record {
+      rest = map (write_at segment usable sectors) front.rest;
+      parts = named_writes_are segment usable places sectors
+          ∙ ap (map (write_at segment usable sectors)) front.parts
+          ∙ map-append (write_at segment usable sectors) (lost_places places n) front.rest;
+    }
+
+-- and those below the number of usable sectors are all, where no place is past these
+pub writes_below_all : (segment usable places : ℕ) (sectors : List (List ℕ)) → places < 2 ^ usable_count usable →
+    writes_below segment usable places sectors (usable_count usable) ≡ named_writes segment usable places sectors
+writes_below_all segment usable places sectors low =
+    ap (map (write_at segment usable sectors)) (sym (places_within places (usable_count usable) (count_below usable 32) low))
+    ∙ sym (named_writes_are segment usable places sectors)
+
+-- ---- the writes of all places
+
+places_of_ones : (n k : ℕ) → k ≤ n → lost_places (2 ^ n - 1) k ≡ map (λ (i : ℕ). i) (range_with_len 0 k)
+places_of_ones n zero h = none_below (2 ^ n - 1)
+places_of_ones n (suc k) h =
+    ap (lost_places (2 ^ n - 1)) (sym (add-one k))
+    ∙ lost_places-lost (2 ^ n - 1) k (bit_at_ones n k (omega arith))
+    ∙ ap (λ (l : List ℕ). l ++ k ∷ []) (places_of_ones n k (omega arith))
+    ∙ sym (map-range_with_len_more (λ (i : ℕ). i) 0 k k (omega arith))
+    ∙ ap (λ (m : ℕ). map (λ (i : ℕ). i) (range_with_len 0 m)) (add-one k)
+
+-- the set of the first places
+all_places : (n : ℕ) → n ≤ 32 → lost_places (2 ^ n - 1) 32 ≡ range_with_len 0 n
+all_places n h =
+    let positive : 0 < 2 ^ n = pow_pos n in
+    places_within (2 ^ n - 1) n h (omega arith)
+    ∙ places_of_ones n n (omega arith)
+    ∙ map-id (range_with_len 0 n)
+
+-- the writes of all usable sectors, ascending
+pub writes_of_all : (segment usable : ℕ) (sectors : List (List ℕ)) → usable_count usable ≤ length sectors →
+    named_writes segment usable (2 ^ usable_count usable - 1) sectors
+    ≡ writes_of segment (usable_places usable) (take (usable_count usable) sectors)
+writes_of_all segment usable sectors room =
+    let n : ℕ = usable_count usable in
+    let places : lost_places (2 ^ n - 1) 32 ≡ range_with_len 0 n = all_places n (count_below usable 32) in
+    let indexes : map (λ (p : ℕ). get_or (usable_places usable) p 0) (range_with_len 0 n) ≡ usable_places usable =
+    sym (fill_by_all (λ (p : ℕ). get_or (usable_places usable) p 0) (usable_places usable) n 0 refl (λ k h. refl)) in
+    let long : length (take n sectors) ≡ n = length-take-le n sectors room in
+    let bytes : map (λ (p : ℕ). sector_at sectors p) (range_with_len 0 n) ≡ take n sectors =
+    sym (fill_by_all (λ (p : ℕ). sector_at sectors p) (take n sectors) n [] long
+    (λ k h. get_or-take n sectors k [] h ∙ sym (unwrap_or-slice_get sectors k []))) in
+    ap (λ (ps : List ℕ). writes_of segment (map (λ (p : ℕ). get_or (usable_places usable) p 0) ps) (map (λ (p : ℕ). sector_at sectors p) ps)) places
+    ∙ ap (λ (ps : List ℕ). writes_of segment ps (map (λ (p : ℕ). sector_at sectors p) (range_with_len 0 n))) indexes
+    ∙ ap (writes_of segment (usable_places usable)) bytes
+
+-- the block of data sectors and their parity is as long as there are usable sectors
+pub length-block_in : (usable : ℕ) (sectors : List (List ℕ)) → 4 ≤ usable_count usable → usable_count usable ≤ length sectors →
+    length (block_in usable sectors) ≡ usable_count usable
+length-block_in usable sectors least room =
+    let three : length (parity_sectors (data_in usable sectors)) ≡ 3 = length-parity_sectors (data_in usable sectors) in
+    let shown : length (data_in usable sectors) ≡ usable_count usable - 3 =
+    length-take-le (usable_count usable - 3) sectors (omega arith) in
+    length-append (data_in usable sectors) (parity_sectors (data_in usable sectors)) ∙ omega arith
+
+-- the mask of the first places, from the mask of all
+pub first_places : (n : ℕ) → n ≤ 32 → (2 ^ 32 - 1) / 2 ^ (32 - n) ≡ 2 ^ n - 1
+first_places n h =
+    ones_shr 32 (32 - n) (omega arith) ∙ ap (λ (k : ℕ). 2 ^ k - 1) (let same : 32 - (32 - n) ≡ n = omega arith in same)
+
+-- so the writes of all usable sectors are those of the block, where it stands before what was there
+pub writes_of_block : (segment usable : ℕ) (sectors : List (List ℕ)) → 4 ≤ usable_count usable → usable_count usable ≤ length sectors →
+    named_writes segment usable (2 ^ usable_count usable - 1) (block_in usable sectors ++ drop (usable_count usable) sectors)
+    ≡ segment_writes segment usable sectors
+writes_of_block segment usable sectors least room =
+    let n : ℕ = usable_count usable in
+    let now : List (List ℕ) = block_in usable sectors ++ drop n sectors in
+    let long : length (block_in usable sectors) ≡ n = length-block_in usable sectors least room in
+    let enough : n ≤ length now = omega (arith, length-append (block_in usable sectors) (drop n sectors)) in
+    writes_of_all segment usable now enough
+    ∙ ap (writes_of segment (usable_places usable)) (take_at (block_in usable sectors) (drop n sectors) n long)
+
+-- the sectors with the parity in its places, by their number
+pub block_shown : (usable count : ℕ) (sectors : List (List ℕ)) → count ≡ usable_count usable → 4 ≤ count →
+    take (count - 3) sectors ++ parity_sectors (take (count - 3) sectors) ++ drop (count - 3 + 3) sectors
+    ≡ block_in usable sectors ++ drop (usable_count usable) sectors
+block_shown usable count sectors all least =
+    let whole : count - 3 + 3 ≡ usable_count usable = omega arith in
+    ap (λ (n : ℕ). take (n - 3) sectors ++ parity_sectors (take (n - 3) sectors) ++ drop (count - 3 + 3) sectors) all
+    ∙ ap (λ (n : ℕ). block_in usable sectors ++ drop n sectors) whole

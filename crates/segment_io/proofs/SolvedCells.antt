@@ -1,0 +1,176 @@
+-- What gathered cells say: the lost places are as many as the unreadable cells, and the code blocks of the sectors that
+-- are not lost are those of the cells.
+use Rattle.std.proofs.Common.{◌≡◌, ℕ, zero, suc, ◌+◌, ◌-◌, ◌<◌, ◌≤◌, refl, sym, ◌∙◌, ap, subst, ◌↔◌, Result, Err, arith, inl, inr, Bool, true, false, cond, List, [], ◌∷◌, length, take, slice_get, Some}
+use Rattle.std.proofs.lemmas.Bool.{cases_lt, ne_eqb}
+use Rattle.std.proofs.lemmas.List.{length-take-le}
+use Rattle.std.proofs.lemmas.Option.{slice_get_within}
+use Rattle.qic_base.specs.LostSet.{IsLost, lost_places}
+use Rattle.qic_base.proofs.LostSetLaws.{lost_places-above}
+use Rattle.qic_base.specs.declared.tape.SectorView.{SectorView}
+use Rattle.qic_base.specs.declared.tape.SectorView.TheVariants.{Blank, Defect, Lost, Holds}
+use Rattle.gf256_qic.specs.Code.{IsCodeBlock, AgreesOutside, IsSolvable, lost_below}
+use Rattle.erasure_solve.specs.Lost.{is_lost, lost_count}
+use Rattle.erasure_solve.proofs.Places.{lost_from, is_lost_from, lost_below-places}
+use Rattle.cartridge_spec.specs.Says.{Agrees, unreadable_count, HasNoBlock, Says, Data, LostSectors, Mismatch, data_of}
+use Rattle.cartridge_spec.proofs.Cells.{unreadable_at, readable_at, lost_below-cells, IsReadable}
+use Rattle.segment_io.specs.Gathered.{IsUnreadableAt, NamesUnreadable, Gathered}
+use Rattle.segment_io.specs.declared.fault.SegFault.{SegFault}
+use Rattle.segment_io.specs.declared.fault.SegFault.TheVariants as fault
+use Rattle.segment_io.specs.Reading.{HasSolved}
+use Rattle.segment_io.proofs.GatheredCells.{lost_within}
+
+slice_get-take : {A : Type 0} (n : ℕ) (xs : List A) (i : ℕ) → i < n → slice_get (take n xs) i ≡ slice_get xs i
+slice_get-take zero xs i h = absurd (omega arith)
+slice_get-take (suc n) [] i h = refl
+slice_get-take (suc n) (x ∷ xs) zero h = refl
+slice_get-take (suc n) (x ∷ xs) (suc i) h = slice_get-take n xs i (omega arith)
+
+-- ---- which places are lost
+
+-- the test of the cells finds the unreadable ones
+unreadable_from_test : (cells : List SectorView) (i : ℕ) → unreadable_at cells i ≡ true → IsUnreadableAt cells i
+unfolding unreadable_at
+unreadable_from_test [] i h = absurd (cc)
+unreadable_from_test (Blank ∷ cells) zero h = tt
+unreadable_from_test (Defect ∷ cells) zero h = tt
+unreadable_from_test (Lost ∷ cells) zero h = tt
+unreadable_from_test (Holds bytes ∷ cells) zero h = absurd (cc)
+unreadable_from_test (cell ∷ cells) (suc i) h = unreadable_from_test cells i h
+
+-- a cell that holds bytes isn't unreadable
+readable_only : (cells : List SectorView) (i : ℕ) (bytes : List ℕ) → slice_get cells i ≡ Some (Holds bytes) → IsUnreadableAt cells i → ⊥
+readable_only [] i bytes at u = u
+readable_only (Blank ∷ cells) zero bytes at u = absurd (cc)
+readable_only (Defect ∷ cells) zero bytes at u = absurd (cc)
+readable_only (Lost ∷ cells) zero bytes at u = absurd (cc)
+readable_only (Holds held ∷ cells) zero bytes at u = u
+readable_only (cell ∷ cells) (suc i) bytes at u = readable_only cells i bytes at u
+
+-- so its place isn't lost
+kept_at : (cells : List SectorView) (lost i : ℕ) (bytes : List ℕ) → NamesUnreadable cells lost →
+    slice_get cells i ≡ Some (Holds bytes) → is_lost lost i ≡ false
+kept_at cells lost i bytes names at = ne_eqb _ _ (λ is. readable_only cells i bytes at ((names i).0 is))
+
+-- both tests agree
+same_test : (cells : List SectorView) (lost i : ℕ) → NamesUnreadable cells lost → i < length cells →
+    is_lost lost i ≡ unreadable_at cells i
+same_test cells lost i names h = by_test (unreadable_at cells i) refl
+  where
+    by_test : (b : Bool) → unreadable_at cells i ≡ b → is_lost lost i ≡ unreadable_at cells i
+    by_test true is = is_lost_from lost i ((names i).1 (unreadable_from_test cells i is)) ∙ sym is
+    by_test false is =
+        let held : IsReadable cells i = readable_at cells i h is in
+        kept_at cells lost i held.0 names held.1 ∙ sym is
+
+abbrev one_if : Bool → ℕ
+one_if b = cond b 1 0
+
+-- sets that agree below a number have as many lost places below it
+lost_below-same : (p q : ℕ → Bool) (n : ℕ) → ((i : ℕ) → i < n → p i ≡ q i) → lost_below p n ≡ lost_below q n
+unfolding lost_below
+lost_below-same p q zero same = refl
+lost_below-same p q (suc n) same =
+    let rest : lost_below p n ≡ lost_below q n = lost_below-same p q n (λ i h. same i (omega arith)) in
+    let here : p n ≡ q n = same n (omega arith) in
+    let one : one_if (p n) ≡ one_if (q n) = ap one_if here in
+    omega arith
+
+-- as many places are lost as cells are unreadable
+pub count_of_lost : (cells : List SectorView) (lost : ℕ) → length cells ≤ 32 → NamesUnreadable cells lost →
+    lost_count lost ≡ unreadable_count cells
+count_of_lost cells lost few names =
+    let n : ℕ = length cells in
+    let whole : n + (32 - n) ≡ 32 = omega arith in
+    ap (λ (k : ℕ). length (lost_places lost k)) (sym whole)
+    ∙ ap (λ (l : List ℕ). length l) (lost_places-above lost n (32 - n) (λ place is. lost_within cells lost place names is))
+    ∙ sym (lost_below-places lost n)
+    ∙ lost_below-same (is_lost lost) (unreadable_at cells) n (λ i h. same_test cells lost i names h)
+    ∙ lost_below-cells cells
+
+-- ---- which code blocks agree
+
+pub agrees_with_cells : (cells : List SectorView) (lost n : ℕ) (sectors block : List (List ℕ)) → length cells ≡ n → n ≤ length sectors →
+    Gathered cells lost sectors → AgreesOutside (is_lost lost) (take n sectors) block → Agrees cells block
+agrees_with_cells cells lost n sectors block count room g agrees =
+    let long : length (take n sectors) ≡ n = length-take-le n sectors room in
+    record {
+      size = sym agrees.size ∙ long ∙ sym count;
+      each = λ i bytes at.
+          let within : i < length cells = slice_get_within cells i (Holds bytes) at in
+          sym (agrees.others i (omega arith) (kept_at cells lost i bytes g.unreadable at))
+          ∙ slice_get-take n sectors i (omega arith)
+          ∙ g.readable i bytes at;
+    }
+
+pub agrees_with_sectors : (cells : List SectorView) (lost n : ℕ) (sectors block : List (List ℕ)) → length cells ≡ n → n ≤ length sectors →
+    Gathered cells lost sectors → Agrees cells block → AgreesOutside (is_lost lost) (take n sectors) block
+agrees_with_sectors cells lost n sectors block count room g agrees =
+    let long : length (take n sectors) ≡ n = length-take-le n sectors room in
+    record {
+      size = long ∙ sym count ∙ sym agrees.size;
+      others = λ i h kept.
+          let within : i < length cells = omega arith in
+          let held : IsReadable cells i = readable_at cells i within (sym (same_test cells lost i g.unreadable within) ∙ kept) in
+          slice_get-take n sectors i (omega arith)
+          ∙ g.readable i held.0 held.1
+          ∙ sym (agrees.each i held.0 held.1);
+    }
+
+-- ---- what the cells say
+
+pub says_data : (cells : List SectorView) (lost n : ℕ) (sectors solved : List (List ℕ)) → length cells ≡ n → n ≤ 32 → n ≤ length sectors →
+    Gathered cells lost sectors → lost_count lost ≤ 3 → IsCodeBlock (take n solved) →
+    AgreesOutside (is_lost lost) (take n sectors) (take n solved) → HasSolved cells solved
+says_data cells lost n sectors solved count few room g at_most code agrees =
+    let same : lost_count lost ≡ unreadable_count cells = count_of_lost cells lost (omega arith) g.unreadable in
+    let first : take n solved ≡ take (length cells) solved = ap (λ (k : ℕ). take k solved) (sym count) in
+    let agreeing : Agrees cells (take n solved) = agrees_with_cells cells lost n sectors (take n solved) count room g agrees in
+    let saying : Says cells (Data (data_of (take n solved))) =
+    (omega arith, record { block = take n solved; code = code; agrees = agreeing; shown = refl }) in
+    record {
+      says = subst (λ (block : List (List ℕ)). Says cells (Data (data_of block))) first saying;
+      agrees = subst (Agrees cells) first agreeing;
+    }
+
+pub says_lost : (cells : List SectorView) (lost n : ℕ) → length cells ≤ 32 → NamesUnreadable cells lost →
+    lost_count lost ≡ n → 3 < n → Says cells (LostSectors n)
+says_lost cells lost n few names count many = (sym (count_of_lost cells lost few names) ∙ count, many)
+
+pub says_mismatch : (cells : List SectorView) (lost n : ℕ) (sectors : List (List ℕ)) → length cells ≡ n → n ≤ 32 → n ≤ length sectors →
+    Gathered cells lost sectors → lost_count lost ≤ 3 → (IsSolvable (is_lost lost) (take n sectors) → ⊥) → Says cells Mismatch
+says_mismatch cells lost n sectors count few room g at_most unsolvable =
+    let same : lost_count lost ≡ unreadable_count cells = count_of_lost cells lost (omega arith) g.unreadable in (
+      omega arith,
+      λ block code agrees. unsolvable (record {
+        block = block;
+        codewords = code;
+        agrees = agrees_with_sectors cells lost n sectors block count room g agrees;
+      }),
+    )
+
+-- ---- an answer of lost sectors
+
+abbrev pub AnswersLost : {A : Type 0} → Result A SegFault → (segment count : ℕ) → Type 0
+AnswersLost result segment count =
+    (named n : ℕ) → (result ≡ Err (fault.Lost named n)) ↔ ((named ≡ segment) × (count ≡ n) × (3 < n))
+
+pub answers_lost : {A : Type 0} (result : Result A SegFault) (segment count lost : ℕ) → result ≡ Err (fault.Lost segment lost) →
+    count ≡ lost → 3 < lost → AnswersLost result segment count
+answers_lost result segment count lost is all many named n = (
+  λ e.
+      let same : Err (fault.Lost segment lost) ≡ Err (fault.Lost named n) = sym is ∙ e in
+      let one : segment ≡ named = cc in
+      let two : lost ≡ n = cc in
+      (sym one, all ∙ two, omega arith),
+  λ h.
+      let one : named ≡ segment = h.0 in
+      let two : lost ≡ n = sym all ∙ h.1 in
+      cc,
+)
+
+pub answers_not_lost : {A : Type 0} (result : Result A SegFault) (segment count : ℕ) →
+    ((named n : ℕ) → result ≡ Err (fault.Lost named n) → ⊥) → count ≤ 3 → AnswersLost result segment count
+answers_not_lost result segment count other few named n = (
+  λ e. absurd (other named n e),
+  λ h. absurd (omega (arith, h.1, h.2)),
+)

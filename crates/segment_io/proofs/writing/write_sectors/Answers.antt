@@ -1,0 +1,93 @@
+use Rattle.std.proofs.Common.{◌≡◌, ℕ, ◌+◌, ◌≤◌, ◌++◌, true, false, List, [], length, ap, subst, sym, ◌∙◌, arith}
+use Rattle.std.proofs.lemmas.Result.{err_from_is_err_and}
+use Rattle.qic_base.specs.LostSet.{lost_places}
+use Rattle.qic_base.specs.Step.{Step}
+use Rattle.qic_base.specs.Tape.{Done, Broke, Does}
+use Rattle.qic_base.proofs.Steps.{Done-Done, Done-Broke, Broke-front}
+use Rattle.qic117_commands.specs.Views.{is_primary}
+use Rattle.drive_states.specs.Deck.{is_protected}
+use Rattle.cartridge_spec.specs.Shape.{usable_count}
+use Rattle.segment_io.specs.Writes.{named_writes, usable_write}
+use Rattle.segment_io.proofs.Going.{under_first, keeps_both, mode_kept, protect_kept, done_moved, agrees_moved}
+use Rattle.segment_io.proofs.NamedWrites.{none_below, count_below, writes_below, writes_below_none, writes_below_next, writes_below_all, front_of_writes, Front}
+use Rattle.segment_io.proofs.writing.write_sectors.Goals as goal
+
+pub loop-index-init : goal.loop-index-init
+loop-index-init g c = record {
+  places = sym (ap (λ (l : List ℕ). length l) (none_below c.args.usable));
+  size = c.sectors-sectors.ensures.size;
+  written = subst (λ (steps : List Step). Done g.T.Tape.means c.args.unit.now.tape c.go_to.new.unit.tape steps)
+      (sym (writes_below_none c.args.segment c.args.usable c.args.places c.sectors-sectors.result.now))
+      (done_moved g.T.Tape.means c.args.unit.now.tape c.go_to.new.unit.tape c.go_to.ensures.tape);
+  under = under_first c.args.segment c.go_to.new.unit.drive.deck c.go_to.ensures.place;
+  mode = mode_kept is_primary true c.args.unit.now.drive.deck c.go_to.new.unit.drive.deck c.go_to.ensures.same c.requires.mode;
+  writable = protect_kept c.args.unit.now.drive.deck c.go_to.new.unit.drive.deck c.go_to.ensures.same c.requires.writable;
+  same = c.go_to.ensures.same;
+  agrees = agrees_moved g.T.Tape.means c.args.unit.now c.go_to.new.unit c.go_to.ensures.same c.go_to.ensures.tape;
+  told_size = ap g.T.Tape.means.size c.go_to.ensures.tape;
+  fits = c.go_to.ensures.fits;
+  rest = c.go_to.ensures.rest;
+}
+
+pub loop-index-preserved : goal.loop-index-preserved
+loop-index-preserved g c =
+    let before = c.loop-index.invariant in
+    let more = c.in_ok-write_usable.ensures in
+    let sectors : List (List ℕ) = c.sectors-sectors.result.now in
+    let written : List Step = writes_below c.args.segment c.args.usable c.args.places sectors c.loop-index.place in
+    let here : List Step = usable_write c.args.segment c.args.usable c.loop-index.index c.args.places c.loop-index.place sectors in
+    let next : writes_below c.args.segment c.args.usable c.args.places sectors c.write_usable.new.place ≡ written ++ here =
+    ap (writes_below c.args.segment c.args.usable c.args.places sectors) more.place
+    ∙ writes_below_next c.args.segment c.args.usable c.args.places sectors c.loop-index.index c.loop-index.place
+    (omega arith) before.places in
+    record {
+      places = more.place;
+      size = before.size;
+      written = subst (λ (steps : List Step). Done g.T.Tape.means c.args.unit.now.tape c.write_usable.new.unit.tape steps) (sym next)
+          (Done-Done {xs = written} {ys = here} before.written more.did);
+      under = more.under;
+      mode = mode_kept is_primary true c.loop-index.unit.drive.deck c.write_usable.new.unit.drive.deck more.same before.mode;
+      writable = protect_kept c.loop-index.unit.drive.deck c.write_usable.new.unit.drive.deck more.same before.writable;
+      same = keeps_both c.args.unit.now.drive.deck c.loop-index.unit.drive.deck c.write_usable.new.unit.drive.deck before.same more.same;
+      agrees = λ agrees. more.agrees (before.agrees agrees);
+      told_size = more.size ∙ before.told_size;
+      fits = more.fits;
+      rest = more.rest;
+    }
+
+-- broken off at an index: a front of the writes
+pub returns-in_err-write_usable-clause-did : goal.returns-in_err-write_usable-clause-did
+returns-in_err-write_usable-clause-did g c =
+    let before = c.loop-index.invariant in
+    let sectors : List (List ℕ) = c.sectors-sectors.result.now in
+    let k : ℕ = length (lost_places c.args.usable (c.loop-index.index + 1)) in
+    let low : k ≤ 32 = omega (arith, count_below c.args.usable (c.loop-index.index + 1)) in
+    let written : List Step = writes_below c.args.segment c.args.usable c.args.places sectors c.loop-index.place in
+    let here : List Step = usable_write c.args.segment c.args.usable c.loop-index.index c.args.places c.loop-index.place sectors in
+    let next : writes_below c.args.segment c.args.usable c.args.places sectors k ≡ written ++ here =
+    writes_below_next c.args.segment c.args.usable c.args.places sectors c.loop-index.index c.loop-index.place
+    (omega arith) before.places in
+    let front : Front (writes_below c.args.segment c.args.usable c.args.places sectors k) (named_writes c.args.segment c.args.usable c.args.places sectors) =
+    front_of_writes c.args.segment c.args.usable c.args.places sectors k low in
+    let B : List Step → Type 0 = λ steps. Broke g.T.Tape.means c.args.unit.now.tape c.write_usable.new.unit.tape steps in
+    let broke : B (writes_below c.args.segment c.args.usable c.args.places sectors k) =
+    subst B (sym next) (Done-Broke {xs = written} {ys = here} before.written c.in_err-write_usable.ensures.did) in
+    let whole : B (named_writes c.args.segment c.args.usable c.args.places c.args.work.now) =
+    subst (λ (ss : List (List ℕ)). B (named_writes c.args.segment c.args.usable c.args.places ss)) c.sectors-sectors.ensures.value
+    (subst B (sym front.parts) (Broke-front {xs = writes_below c.args.segment c.args.usable c.args.places sectors k} front.rest broke)) in
+    let p = err_from_is_err_and c.from_residual-in_err-write_usable.result c.from_residual-in_err-write_usable.ensures.1 in
+    rw p.1 whole
+
+pub returns-clause-did : goal.returns-clause-did
+returns-clause-did g c =
+    let before = c.loop-index.invariant in
+    let sectors : List (List ℕ) = c.sectors-sectors.result.now in
+    let last : c.loop-index.index ≡ 32 = omega arith in
+    let all : c.loop-index.place ≡ usable_count c.args.usable =
+    before.places ∙ ap (λ (n : ℕ). length (lost_places c.args.usable n)) last in
+    let steps : writes_below c.args.segment c.args.usable c.args.places sectors c.loop-index.place
+    ≡ named_writes c.args.segment c.args.usable c.args.places c.args.work.now =
+    ap (writes_below c.args.segment c.args.usable c.args.places sectors) all
+    ∙ writes_below_all c.args.segment c.args.usable c.args.places sectors c.requires.within
+    ∙ ap (named_writes c.args.segment c.args.usable c.args.places) c.sectors-sectors.ensures.value in
+    subst (λ (ss : List Step). Done g.T.Tape.means c.args.unit.now.tape c.loop-index.unit.tape ss) steps before.written

@@ -1,0 +1,24 @@
+-- What the reading of a segment's usable sectors leaves (this project's own).
+use Rattle.std.specs.Prelude.{◌≡◌, ◌↔◌, ℕ, List, Some, IsSomeAnd, map, slice_get}
+use Rattle.qic_base.specs.LostSet.{IsLost, lost_places}
+use Rattle.qic_base.specs.Cartridge.{Cartridge, view_at}
+use Rattle.qic_base.specs.declared.tape.SectorView.{SectorView}
+use Rattle.qic_base.specs.declared.tape.SectorView.TheVariants.{Holds}
+use Rattle.cartridge_spec.specs.Segment.{IsUnreadable}
+
+-- the cell at a place is unreadable
+abbrev pub IsUnreadableAt : List SectorView → ℕ → Type 0
+IsUnreadableAt cells i = IsSomeAnd (slice_get cells i) IsUnreadable
+
+-- the places in a set are just those of the unreadable cells
+abbrev pub NamesUnreadable : List SectorView → (lost : ℕ) → Type 0
+NamesUnreadable cells lost = (i : ℕ) → IsLost lost i ↔ IsUnreadableAt cells i
+
+-- and the bytes of each other cell are in the sectors at its place
+pub record Gathered (cells : List SectorView) (lost : ℕ) (sectors : List (List ℕ)) : Type 0 where
+  pub unreadable : NamesUnreadable cells lost
+  pub readable : (i : ℕ) (bytes : List ℕ) → slice_get cells i ≡ Some (Holds bytes) → slice_get sectors i ≡ Some bytes
+
+-- the cells of the usable sectors below an index
+abbrev pub cells_below : Cartridge → (segment usable index : ℕ) → List SectorView
+cells_below c segment usable index = map (view_at c segment) (lost_places usable index)

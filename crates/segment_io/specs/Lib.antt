@@ -1,0 +1,5 @@
+pub mod Gathered
+pub mod Laws
+pub mod Lending
+pub mod Reading
+pub mod Writes

@@ -1,0 +1,163 @@
+//! A segment written.
+
+ghost use Rattle.std.specs.Prelude.{◌≡◌, ◌<◌, ◌+◌, ◌*◌, ◌^◌, ◌++◌, true, false, length, take, drop, IsOkUnless, OnOk};
+ghost use Rattle.qic_base.specs.LostSet.{lost_places};
+ghost use Rattle.qic_base.specs.Tape.{Does};
+ghost use Rattle.qic117_commands.specs.Views.{is_primary};
+ghost use Rattle.cartridge_spec.specs.Shape.{Carries, usable_count};
+ghost use Rattle.drive_states.specs.Deck.{segments_per_track, is_protected, is_referenced};
+ghost use Rattle.drive_states.specs.Reach.{IsUnder};
+ghost use Rattle.host_driver.specs.Fits.{Agrees, Fits, IsAtRest};
+ghost use Rattle.host_driver.specs.Place.{KeepsMode};
+ghost use Rattle.segment_io.specs.Writes.{block_in, segment_writes, named_writes, named_write, usable_write};
+
+use crate::fault::SegFault;
+use crate::parity::put_parity;
+use crate::shape::count_usable;
+use crate::workspace::Workspace;
+use crate::{SECTOR, SECTORS};
+use drive_states::Unit;
+use host_driver::Host;
+use qic_base::{LostSet, Tape};
+
+/// Writes all usable sectors of a segment, ascending: the data in the workspace, at the places before the last three,
+/// and their parity, which is put into those three.
+pub fn write_segment<T: Tape>(
+    host: &mut Host,
+    unit: &mut Unit<T>,
+    segment: u32,
+    usable: u32,
+    work: &mut Workspace,
+) -> Result<(), SegFault>
+    requires fits { Fits T.means host.old unit.old }
+    requires rest { IsAtRest unit.old.drive }
+    requires mode { is_primary unit.old.drive.deck.mode ≡ true }
+    requires writable { is_protected unit.old.drive.deck ≡ false }
+    requires referenced { is_referenced unit.old.drive.deck ≡ true }
+    requires on_tape { segment < 28 * segments_per_track unit.old.drive.deck }
+    requires carries { Carries usable }
+    ensures did { Does T.means unit.old.tape unit.new.tape
+        (segment_writes segment usable work.old) result }
+    ensures fault { IsOkUnless result SegFault.Tape }
+    ensures parity { work.new ≡ block_in usable work.old ++ drop (usable_count usable) work.old }
+    ensures same { KeepsMode unit.old.drive.deck unit.new.drive.deck }
+    ensures agrees { Agrees T.means unit.old → Agrees T.means unit.new }
+    ensures size { T.means.size unit.new.tape ≡ T.means.size unit.old.tape }
+    ensures fits { Fits T.means host.new unit.new }
+    ensures rest { IsAtRest unit.new.drive }
+{
+    let count = count_usable(usable);
+    put_parity(&mut work.sectors, count - 3);
+    let all = LostSet::from_mask(u32::MAX >> (32 - count));
+    write_sectors(host, unit, segment, usable, all, work)
+}
+
+/// Writes the usable sectors at these places, ascending, from the workspace. The places are below the number of usable
+/// sectors.
+pub fn write_sectors<T: Tape>(
+    host: &mut Host,
+    unit: &mut Unit<T>,
+    segment: u32,
+    usable: u32,
+    places: LostSet,
+    work: &Workspace,
+) -> Result<(), SegFault>
+    requires fits { Fits T.means host.old unit.old }
+    requires rest { IsAtRest unit.old.drive }
+    requires mode { is_primary unit.old.drive.deck.mode ≡ true }
+    requires writable { is_protected unit.old.drive.deck ≡ false }
+    requires referenced { is_referenced unit.old.drive.deck ≡ true }
+    requires on_tape { segment < 28 * segments_per_track unit.old.drive.deck }
+    requires carries { Carries usable }
+    requires within { places < 2 ^ usable_count usable }
+    ensures did { Does T.means unit.old.tape unit.new.tape
+        (named_writes segment usable places work.now) result }
+    ensures fault { IsOkUnless result SegFault.Tape }
+    ensures same { KeepsMode unit.old.drive.deck unit.new.drive.deck }
+    ensures agrees { Agrees T.means unit.old → Agrees T.means unit.new }
+    ensures size { T.means.size unit.new.tape ≡ T.means.size unit.old.tape }
+    ensures fits { Fits T.means host.new unit.new }
+    ensures rest { IsAtRest unit.new.drive }
+{
+    host.go_to(unit, segment)?;
+    let sectors = work.sectors();
+    let mut place = 0;
+    for index in 0..SECTORS {
+        write_usable(
+            host, unit, segment, usable, index, places, &mut place, sectors,
+        )?;
+    }
+    Ok(())
+}
+
+// Writes the sector with this index from its place, where it is usable and the set has that place.
+#[tactic(auto, using(crate::proofs::NamedWrites::count_below))]
+fn write_usable<T: Tape>(
+    host: &mut Host,
+    unit: &mut Unit<T>,
+    segment: u32,
+    usable: u32,
+    index: u8,
+    places: LostSet,
+    place: &mut u8,
+    sectors: &[[u8; SECTOR]],
+) -> Result<(), SegFault>
+    requires fits { Fits T.means host.old unit.old }
+    requires rest { IsAtRest unit.old.drive }
+    requires mode { is_primary unit.old.drive.deck.mode ≡ true }
+    requires writable { is_protected unit.old.drive.deck ≡ false }
+    requires under { IsUnder unit.old.drive.deck segment index }
+    requires index { index < 32 }
+    requires room { length sectors.now ≡ 32 }
+    requires place { place.old ≡ length (lost_places usable index) }
+    ensures did { Does T.means unit.old.tape unit.new.tape
+        (usable_write segment usable index places place.old sectors.now) result }
+    ensures fault { IsOkUnless result SegFault.Tape }
+    ensures place { OnOk result (place.new ≡ length (lost_places usable (index + 1))) }
+    ensures under { IsUnder unit.new.drive.deck segment (index + 1) }
+    ensures same { KeepsMode unit.old.drive.deck unit.new.drive.deck }
+    ensures agrees { Agrees T.means unit.old → Agrees T.means unit.new }
+    ensures size { T.means.size unit.new.tape ≡ T.means.size unit.old.tape }
+    ensures fits { Fits T.means host.new unit.new }
+    ensures rest { IsAtRest unit.new.drive }
+{
+    if !LostSet::from_mask(usable).contains(index) {
+        return Ok(());
+    }
+    let here = *place;
+    *place += 1;
+    write_named(host, unit, segment, index, places, here, sectors)
+}
+
+// Writes the sector with this index from its place, where the set has that.
+fn write_named<T: Tape>(
+    host: &mut Host,
+    unit: &mut Unit<T>,
+    segment: u32,
+    index: u8,
+    places: LostSet,
+    place: u8,
+    sectors: &[[u8; SECTOR]],
+) -> Result<(), SegFault>
+    requires fits { Fits T.means host.old unit.old }
+    requires rest { IsAtRest unit.old.drive }
+    requires mode { is_primary unit.old.drive.deck.mode ≡ true }
+    requires writable { is_protected unit.old.drive.deck ≡ false }
+    requires under { IsUnder unit.old.drive.deck segment index }
+    requires index { index < 32 }
+    requires room { place < length sectors.now }
+    ensures did { Does T.means unit.old.tape unit.new.tape
+        (named_write segment index places place sectors.now) result }
+    ensures fault { IsOkUnless result SegFault.Tape }
+    ensures under { IsUnder unit.new.drive.deck segment (index + 1) }
+    ensures same { KeepsMode unit.old.drive.deck unit.new.drive.deck }
+    ensures agrees { Agrees T.means unit.old → Agrees T.means unit.new }
+    ensures size { T.means.size unit.new.tape ≡ T.means.size unit.old.tape }
+    ensures fits { Fits T.means host.new unit.new }
+    ensures rest { IsAtRest unit.new.drive }
+{
+    if places.contains(place) {
+        host.write_sector(unit, segment, index, &sectors[place as usize])?;
+    }
+    Ok(())
+}
