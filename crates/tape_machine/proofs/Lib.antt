@@ -1,0 +1,10 @@
+pub mod Endings
+pub mod Ends
+pub mod MachineLaws
+pub mod PlainLaws
+pub mod Totals
+pub mod Runs
+pub mod Tables
+pub mod Hands
+pub mod Listings
+pub mod Learning

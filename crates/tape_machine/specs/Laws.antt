@@ -1,0 +1,21 @@
+-- The laws of the plain machine, as facts (this project's own).
+use Rattle.std.specs.Prelude.{◌≡◌, ℕ, List, Option}
+use Rattle.qic_base.specs.Cartridge.{Cartridge}
+use Rattle.tape_machine.specs.declared.status.Status.{Status}
+use Rattle.tape_machine.specs.Machine.{Step}
+
+-- two outcomes of a step are one: what is held then, the output, how many bytes were taken, and the status
+pub record IsSameOutcome (held other : Option Cartridge) (output printed : List ℕ) (taken read : ℕ) (status answer : Status) : Type 0 where
+  pub same_held : held ≡ other
+  pub same_output : output ≡ printed
+  pub same_taken : taken ≡ read
+  pub same_status : status ≡ answer
+
+-- The machine is a function: over the same words, held cartridge and input two steps have the same outcome.
+abbrev pub MachineIsFunction : Type 0
+MachineIsFunction =
+    (words : List (List ℕ)) (held : Option Cartridge) (input : List ℕ)
+    (held' other : Option Cartridge) (output printed : List ℕ) (taken read : ℕ) (status answer : Status) →
+    Step words held input held' output taken status →
+    Step words held input other printed read answer →
+    IsSameOutcome held' other output printed taken read status answer
