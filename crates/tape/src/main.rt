@@ -4,7 +4,7 @@
 mod cartridge;
 
 use cartridge::example_cartridge;
-use drive_states::Unit;
+use drive_subset::Unit;
 use qic_mem::{MemSink, MemSource};
 use std::env::Env;
 use std::io::Write;

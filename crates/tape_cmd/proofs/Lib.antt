@@ -2,6 +2,7 @@ pub mod Listings
 pub mod MachineLaws
 pub mod MachineTotals
 pub mod Readables
+pub mod Reading
 pub mod Machines
 pub mod StatusWord
 pub mod Table

@@ -9,14 +9,14 @@ use Rattle.qic_base.specs.declared.tape.SectorView.TheVariants.{Holds}
 use Rattle.qic_base.specs.Sink as sinks
 use Rattle.qic_base.specs.Source as sources
 use Rattle.qic_base.specs.Tape as tapes
-use Rattle.qic_base.proofs.Steps.{Done-told}
+use Rattle.qic_base.proofs.Steps.{Done-told, Broke-told, Stops-nothing, Stops-left}
 use Rattle.cartridge_spec.specs.Segment.{IsUnreadable, sector_at}
 use Rattle.cartridge_spec.specs.Table.{Entry}
 use Rattle.volume_table.proofs.TableLaws.{volumes_are_determined}
 use Rattle.tape_cmd.specs.declared.status.Status.{Status}
 use Rattle.tape_cmd.specs.declared.status.Status.TheVariants.{Done, Usage, NoCartridge, SinkFault, TapeFault, NoMemory, Unbuilt}
 use Rattle.tape_cmd.specs.Text.{list_text}
-use Rattle.tape_cmd.specs.Machine.{ListVolumes, Spells, SpellsNone, HasTable, Lists, IsUnbuilt, ListStep, Step, IsListed, HoldsUnbuilt, Listed, IsFault, IsSilent, NoneRose, Stepped, Told, Answers, CarriesOut, PrintsFront, PrintsList}
+use Rattle.tape_cmd.specs.Machine.{ListVolumes, Spells, SpellsNone, HasTable, Lists, IsUnbuilt, ListStep, Step, IsListed, HoldsUnbuilt, Listed, IsFault, IsSilent, NoneRose, Stepped, Told, Answers, CarriesOut, PrintsFront, PrintsList, LeavesHeld}
 
 -- two tables of one cartridge are equal
 tables_equal : (c : Cartridge) (a b : List (List ℕ)) → HasTable c a → HasTable c b → a ≡ b
@@ -174,9 +174,36 @@ list_kept t k a b x y Done listed = Done-told listed.0
 list_kept t k a b x y SinkFault listed = Done-told listed.0
 list_kept t k a b x y NoCartridge listed = Done-told listed.0
 list_kept t k a b x y Unbuilt listed = Done-told listed.0
-list_kept t k a b x y TapeFault listed = listed.0.nothing refl
+list_kept t k a b x y TapeFault listed = Broke-told listed.0
 list_kept t k a b x y Usage listed = absurd listed
 list_kept t k a b x y NoMemory listed = absurd listed
+
+-- stops in calls that only read leave what stood
+reads_leave : {T : Type 0} (t : tapes.Meaning T) (a b : T) → tapes.IsLeftNow t a → tapes.IsLeftNow t b → tapes.Stops t a b [] → t.told b ≡ t.told a → LeavesHeld t a b
+reads_leave t a b before after stops kept = record {
+  since = λ held left telling told is. Stops-left held left before telling told stops is;
+  now = λ held left telling told is.
+      let here : t.told b ≡ Some left = after.only left (stops.telling ∙ telling) is in
+      let same : Some left ≡ Some held = sym here ∙ kept ∙ told in
+      cc;
+}
+
+pub nothing_leaves : {T : Type 0} (t : tapes.Meaning T) (a : T) → tapes.IsLeftNow t a → LeavesHeld t a a
+nothing_leaves t a law = reads_leave t a a law law (Stops-nothing t a) refl
+
+-- `list` only reads
+list_stops : {T K : Type 0} (t : tapes.Meaning T) (k : sinks.Meaning K) (a b : T) (x y : K) (status : Status) → Listed t k a b x y status → tapes.Stops t a b []
+list_stops t k a b x y Done listed = listed.0.stops
+list_stops t k a b x y SinkFault listed = listed.0.stops
+list_stops t k a b x y NoCartridge listed = listed.0.stops
+list_stops t k a b x y Unbuilt listed = listed.0.stops
+list_stops t k a b x y TapeFault listed = listed.0.stops
+list_stops t k a b x y Usage listed = absurd listed
+list_stops t k a b x y NoMemory listed = absurd listed
+
+pub list_leaves : {T K : Type 0} (t : tapes.Meaning T) (k : sinks.Meaning K) (a b : T) (x y : K) (status : Status) → tapes.IsLeftNow t a → tapes.IsLeftNow t b → Listed t k a b x y status → LeavesHeld t a b
+list_leaves t k a b x y status before after listed =
+    reads_leave t a b before after (list_stops t k a b x y status listed) (list_kept t k a b x y status listed)
 
 -- a refusal of `list` and a fault of the tape leave the sink as it was
 pub list_silent : {T K : Type 0} (t : tapes.Meaning T) (k : sinks.Meaning K) (a b : T) (x y : K) (status : Status) → Listed t k a b x y status → IsSilent status → y ≡ x

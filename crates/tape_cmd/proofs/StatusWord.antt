@@ -2,8 +2,8 @@
 use Rattle.std.proofs.Common.{◌≡◌, ℕ, ◌/◌, ◌%◌, ◌==◌, ◌<◌, ◌≤◌, Bool, true, false, refl, arith, Some, None}
 use Rattle.std.proofs.lemmas.Bool.Decides.{nat_tests}
 use Rattle.qic_base.specs.declared.tape.TapeInfo.{TapeInfo}
-use Rattle.drive_states.specs.Record.{power_on, HasLength}
-use Rattle.drive_states.specs.Row.{status_word}
+use Rattle.drive_subset.specs.Record.{power_on, HasLength}
+use Rattle.drive_subset.specs.Row.{status_word}
 use Rattle.tape_cmd.specs.Dialogue.{told_info}
 
 -- stopped, and no cartridge

@@ -5,9 +5,9 @@ use Rattle.qic_base.specs.declared.tape.SectorView.{SectorView}
 use Rattle.qic_base.specs.declared.tape.SectorView.TheVariants as view
 use Rattle.qic_base.specs.declared.tape.TapeInfo.{TapeInfo}
 use Rattle.cartridge_spec.specs.Segment.{IsUnreadable}
-use Rattle.drive_states.specs.Reach.{Reaches}
-use Rattle.drive_states.specs.Record.{HasLength}
-use Rattle.drive_states.specs.Row.{after_gap}
+use Rattle.drive_subset.specs.Reach.{Reaches}
+use Rattle.drive_subset.specs.Record.{HasLength}
+use Rattle.drive_subset.specs.Row.{after_gap}
 use Rattle.tape_cmd.specs.Dialogue.{after_train, learnt_drive, at_table}
 
 behind : (offset n : ℕ) → offset < n → nat_lt offset n ≡ true

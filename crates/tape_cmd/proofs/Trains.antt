@@ -6,9 +6,9 @@ use Rattle.report_bits.specs.Digits.{digits}
 use Rattle.report_bits.specs.Report.{Collected, levels_of, report_of, word_of}
 use Rattle.report_bits.proofs.DigitFacts.{length-digits}
 use Rattle.report_bits.proofs.ReportFacts.{word_of-levels_of}
-use Rattle.drive_states.specs.Record.{Record}
-use Rattle.drive_states.specs.Row.{refusal}
-use Rattle.drive_states.specs.Unit.{UnitView}
+use Rattle.drive_subset.specs.Record.{Record}
+use Rattle.drive_subset.specs.Row.{refusal}
+use Rattle.drive_subset.specs.Unit.{UnitView}
 use Rattle.tape_cmd.specs.declared.dialogue.Report.{Report}
 use Rattle.tape_cmd.specs.declared.dialogue.Report.TheVariants.{Status, Error, FormatSegments}
 use Rattle.tape_cmd.specs.Dialogue.{after_train, train_of, width_of, reported_word, after_report, IsAtRest}

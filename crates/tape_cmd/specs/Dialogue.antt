@@ -2,8 +2,8 @@
 -- project's own).
 use Rattle.std.specs.Prelude.{◌≡◌, ℕ, ◌/◌, ◌%◌, ◌==◌, true, false, [], Some}
 use Rattle.qic_base.specs.declared.tape.TapeInfo.{TapeInfo}
-use Rattle.drive_states.specs.Record.{Record, Streaming, power_on, segments_per_track}
-use Rattle.drive_states.specs.Row.{after_gap, status_word}
+use Rattle.drive_subset.specs.Record.{Record, Streaming, power_on, segments_per_track}
+use Rattle.drive_subset.specs.Row.{after_gap, status_word}
 use Rattle.tape_cmd.specs.declared.dialogue.Report.{Report}
 use Rattle.tape_cmd.specs.declared.dialogue.Report.TheVariants.{Status, Error, FormatSegments}
 

@@ -192,3 +192,9 @@ PrintsFront t s k words old new status =
 abbrev pub PrintsList : {T K : Type 0} (t : tapes.Meaning T) (k : sinks.Meaning K) (tape : T) (sink sink' : K) → Type 0
 PrintsList t k tape sink sink' =
     (entries : List Entry) × IfSome (t.told tape) (IsListed entries) × k.took sink (list_text entries) sink'
+
+-- The headline's clauses on stops, for a command that changes no cartridge: where the tape tells its stops, each cartridge
+-- that a stop since the run's start might have left, and each that a stop now may leave, is the one that stood.
+pub record LeavesHeld {T : Type 0} (t : tapes.Meaning T) (old new : T) : Type 0 where
+  pub since : (held left : Option Cartridge) → t.tells_stops old ≡ true → t.told old ≡ Some held → t.left_since new (t.moment old) left → left ≡ held
+  pub now : (held left : Option Cartridge) → t.tells_stops old ≡ true → t.told old ≡ Some held → t.left_since new (t.moment new) left → left ≡ held

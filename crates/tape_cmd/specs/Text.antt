@@ -1,5 +1,6 @@
 -- The texts that the program prints (this project's own).
-use Rattle.std.specs.Prelude.{ℕ, ◌+◌, ◌/◌, ◌%◌, ◌^◌, ◌==◌, ◌&&◌, ◌||◌, Bool, List, [], ◌∷◌, ◌++◌, length, map, if◌then◌else◌, nat_lt, nat_le, codes, decimal}
+use Rattle.std.specs.Prelude.{ℕ, ◌+◌, ◌/◌, ◌%◌, ◌==◌, ◌&&◌, ◌||◌, Bool, List, [], ◌∷◌, ◌++◌, length, map, if◌then◌else◌, nat_lt, nat_le, codes, decimal}
+use Rattle.qic_base.specs.Date.{low_part, greatest_low_part, year_of, month_of, day_of, hour_of, minute_of, second_of}
 use Rattle.cartridge_spec.specs.Table.{Entry, length_of}
 
 abbrev pub digit : ℕ → ℕ
@@ -12,33 +13,10 @@ two_digits n = digit (n / 10) ∷ digit n ∷ []
 abbrev pub four_digits : ℕ → List ℕ
 four_digits n = two_digits (n / 100) ++ two_digits n
 
--- The date word: its high 7 bits are the year less 1970, its low 25 bits are
--- second + 60 * (minute + 60 * (hour + 24 * (day + 31 * month))), day and month counted from 0 (Linux ftape headers).
-abbrev pub low_part : ℕ → ℕ
-low_part word = word % 2 ^ 25
-
-abbrev pub year_of : ℕ → ℕ
-year_of word = 1970 + word / 2 ^ 25
-
-abbrev pub month_of : ℕ → ℕ
-month_of word = low_part word / 60 / 60 / 24 / 31 + 1
-
-abbrev pub day_of : ℕ → ℕ
-day_of word = low_part word / 60 / 60 / 24 % 31 + 1
-
-abbrev pub hour_of : ℕ → ℕ
-hour_of word = low_part word / 60 / 60 % 24
-
-abbrev pub minute_of : ℕ → ℕ
-minute_of word = low_part word / 60 % 60
-
-abbrev pub second_of : ℕ → ℕ
-second_of word = low_part word % 60
-
 -- `YYYY-MM-DDTHH:MM:SS`, or `?` where the month would be above 12
 unfoldable pub date_text : ℕ → List ℕ
 date_text word =
-    if nat_lt 0x01EA6DFF (low_part word) then codes "?"
+    if nat_lt greatest_low_part (low_part word) then codes "?"
     else four_digits (year_of word) ++ codes "-" ++ two_digits (month_of word) ++ codes "-" ++ two_digits (day_of word)
     ++ codes "T" ++ two_digits (hour_of word) ++ codes ":" ++ two_digits (minute_of word) ++ codes ":" ++ two_digits (second_of word)
 

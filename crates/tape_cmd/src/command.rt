@@ -1,11 +1,11 @@
 ghost use Rattle.std.specs.Prelude.{◌≡◌, ◌↔◌, ◌⊎◌, [], ◌∷◌, length, map, codes, string_bytes, IfOk, IfSome, IsTrue, None};
 ghost use Rattle.qic_base.specs.Cause.{Rose};
-ghost use Rattle.tape_cmd.specs.Machine.{Listed, SpellsNone, HoldsListed, HoldsUnbuilt, Answers, CarriesOut, IsSilent, PrintsFront, PrintsList};
+ghost use Rattle.tape_cmd.specs.Machine.{Listed, SpellsNone, HoldsListed, HoldsUnbuilt, Answers, CarriesOut, IsSilent, PrintsFront, PrintsList, LeavesHeld};
 
 use crate::Status;
 use crate::listing::write_list;
 use crate::volumes::read_volumes;
-use drive_states::Unit;
+use drive_subset::Unit;
 use qic_base::{NoMemory, Sink, SinkFailed, Source, Tape};
 use std::alloc::Global;
 use volume_table::Table;
@@ -91,6 +91,9 @@ pub fn run<T: Tape, S: Source, K: Sink>(
 
     // A refusal, want of memory and a fault of the tape print nothing, over any tape.
     ensures silent { IsSilent result → sink.new ≡ sink.old }
+
+    // A stop at any moment since the run began, and one now, leaves the cartridge that stood.
+    ensures stops { LeavesHeld T.means unit.old.tape unit.new.tape }
 
     // `list` leaves the cartridge and reads no input. Words of no command touch nothing.
     ensures kept { T.means.told unit.new.tape ≡ T.means.told unit.old.tape }

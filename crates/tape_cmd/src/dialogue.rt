@@ -1,11 +1,11 @@
 ghost use Rattle.std.specs.Prelude.{◌≡◌, ◌<◌, ◌≤◌, ◌^◌, [], Some, None, Ok, IsOk, IfOk, IfSome, OnOk};
 ghost use Rattle.std.specs.Option.{option_map};
 ghost use Rattle.qic_base.specs.Tape.{Does};
-ghost use Rattle.drive_states.specs.Record.{HasLength};
-ghost use Rattle.drive_states.specs.Row.{refusal};
+ghost use Rattle.drive_subset.specs.Record.{HasLength};
+ghost use Rattle.drive_subset.specs.Row.{refusal};
 ghost use Rattle.tape_cmd.specs.Dialogue.{after_train, after_report, train_of, width_of, reported_word, IsAtRest, learnt_drive, told_info};
 
-use drive_states::Unit;
+use drive_subset::Unit;
 use qic_base::{Tape, TapeFailed, TapeInfo};
 use report_bits::Collector;
 

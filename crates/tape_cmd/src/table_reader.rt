@@ -3,11 +3,11 @@ ghost use Rattle.qic_base.specs.Cartridge.{view_at};
 ghost use Rattle.qic_base.specs.Tape.{Does, Tells};
 ghost use Rattle.qic_base.specs.declared.tape.SectorView.TheVariants.{Holds};
 ghost use Rattle.cartridge_spec.specs.Segment.{HasSectors, HasUnreadable, IsUnreadable};
-ghost use Rattle.drive_states.specs.Record.{HasLength};
+ghost use Rattle.drive_subset.specs.Record.{HasLength};
 ghost use Rattle.tape_cmd.specs.Dialogue.{learnt_drive, at_table};
 
 use crate::dialogue::send;
-use drive_states::{FdcFault, FloppyAddr, Unit};
+use drive_subset::{FdcFault, FloppyAddr, Unit};
 use qic_base::{Tape, TapeFailed, TapeInfo};
 
 const LOGICAL_FORWARD: u8 = 10;
@@ -63,6 +63,7 @@ fn read_table_sector<T: Tape>(
 }
 
 /// Reads the data sectors of segment 2 up to the first that is unreadable. False where one is.
+#[tactic(auto, using(qic_base::proofs::Steps::joins))]
 fn read_table_sectors<T: Tape>(
     unit: &mut Unit<T>,
     info: TapeInfo,
@@ -87,6 +88,7 @@ fn read_table_sectors<T: Tape>(
 }
 
 /// Reads the data sectors of the volume table. False where one of them is unreadable.
+#[tactic(auto, using(qic_base::proofs::Steps::joins))]
 pub fn read_table<T: Tape>(
     unit: &mut Unit<T>,
     info: TapeInfo,

@@ -4,7 +4,7 @@ ghost use Rattle.tape_cmd.specs.Machine.{Learns};
 use crate::Status;
 use crate::dialogue::start;
 use crate::table_reader::read_table;
-use drive_states::Unit;
+use drive_subset::Unit;
 use qic_base::{Tape, TapeFailed, TapeInfo};
 use volume_table::Table;
 
@@ -18,6 +18,7 @@ fn last_segment(info: TapeInfo) -> u32
 }
 
 /// Reads the list of volumes. A status other than `Done` says why there is none.
+#[tactic(auto, using(qic_base::proofs::Steps::joins))]
 pub fn read_volumes<T: Tape>(
     unit: &mut Unit<T>,
     area: &mut [[u8; 1024]],

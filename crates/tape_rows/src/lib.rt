@@ -2,6 +2,6 @@
 #![tactic(auto)]
 
 #[cfg(test)]
-mod dialogue;
-#[cfg(test)]
 mod listing;
+#[cfg(test)]
+mod script;

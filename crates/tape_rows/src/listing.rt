@@ -1,7 +1,7 @@
 ghost use Rattle.std.specs.Prelude.{◌≡◌, IfOk, Some};
 ghost use Rattle.qic_mem.specs.Tape.{tape_state};
 
-use drive_states::Unit;
+use drive_subset::Unit;
 use qic_base::{Tape, write_u16, write_u32};
 use qic_mem::{MemSink, MemSource, MemTape};
 use std::test::Fail;

@@ -1,6 +1,6 @@
 use Rattle.std.proofs.Common.{map, string_bytes, refl}
 use Rattle.tape_cmd.specs.Machine.{ListVolumes}
-use Rattle.tape_cmd.proofs.Machines.{list_prints, SinkLaws, list_answers, list_carries, list_kept, list_silent, list_prints_front, list_no_usage, usage_answers, usage_carries, spells_none}
+use Rattle.tape_cmd.proofs.Machines.{list_prints, SinkLaws, list_answers, list_carries, list_kept, list_silent, list_prints_front, list_no_usage, list_leaves, nothing_leaves, usage_answers, usage_carries, spells_none}
 use Rattle.tape_cmd.proofs.command.run.Goals as goal
 
 pub returns-then-not-is_list-clause-answer : goal.returns-then-not-is_list-clause-answer
@@ -74,3 +74,17 @@ returns-clause-printed g c done =
 pub returns-clause-silent : goal.returns-clause-silent
 returns-clause-silent g c silent =
     list_silent g.T.Tape.means g.K.Sink.means c.args.unit.now.tape c.list.new.unit.tape c.args.sink.now c.list.new.sink c.list.result c.list.ensures silent
+
+pub returns-then-not-is_list-clause-stops : goal.returns-then-not-is_list-clause-stops
+returns-then-not-is_list-clause-stops g c = nothing_leaves g.T.Tape.means c.args.unit.now.tape (g.met.T.Tape.left_now c.args.unit.now.tape)
+
+pub returns-in_default-clause-stops : goal.returns-in_default-clause-stops
+returns-in_default-clause-stops g c = nothing_leaves g.T.Tape.means c.args.unit.now.tape (g.met.T.Tape.left_now c.args.unit.now.tape)
+
+pub returns-in_default-new-clause-stops : goal.returns-in_default-new-clause-stops
+returns-in_default-new-clause-stops g c = nothing_leaves g.T.Tape.means c.args.unit.now.tape (g.met.T.Tape.left_now c.args.unit.now.tape)
+
+pub returns-clause-stops : goal.returns-clause-stops
+returns-clause-stops g c =
+    list_leaves g.T.Tape.means g.K.Sink.means c.args.unit.now.tape c.list.new.unit.tape c.args.sink.now c.list.new.sink c.list.result
+    (g.met.T.Tape.left_now c.args.unit.now.tape) (g.met.T.Tape.left_now c.list.new.unit.tape) c.list.ensures

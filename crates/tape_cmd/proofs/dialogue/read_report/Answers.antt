@@ -1,7 +1,7 @@
 use Rattle.std.proofs.Common.{◌≡◌, ◌<◌, false, get_or, length, ap, ◌∙◌, arith}
 use Rattle.report_bits.specs.Report.{Collected, levels_of, report_of}
-use Rattle.drive_states.specs.Record.{Record}
-use Rattle.drive_states.specs.Unit.{UnitView}
+use Rattle.drive_subset.specs.Record.{Record}
+use Rattle.drive_subset.specs.Unit.{UnitView}
 use Rattle.tape_cmd.specs.Dialogue.{width_of, reported_word, after_report}
 use Rattle.tape_cmd.proofs.Trains.{after_train-report, length-levels_of, next-level, taken-room, sampled, collected, collected-all, train-after_report, over}
 use Rattle.tape_cmd.proofs.dialogue.read_report.Goals as goal

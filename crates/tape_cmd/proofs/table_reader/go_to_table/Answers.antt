@@ -1,5 +1,5 @@
 use Rattle.std.proofs.Common.{◌≡◌, ap, ◌∙◌}
-use Rattle.drive_states.specs.Record.{Record}
+use Rattle.drive_subset.specs.Record.{Record}
 use Rattle.tape_cmd.proofs.Table.{after_train-forward, after_gap-first, after_gap-second}
 use Rattle.tape_cmd.specs.Dialogue.{at_table}
 use Rattle.tape_cmd.proofs.table_reader.go_to_table.Goals as goal

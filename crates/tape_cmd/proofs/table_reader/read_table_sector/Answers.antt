@@ -1,8 +1,8 @@
 use Rattle.std.proofs.Common.{ap, ◌∙◌}
 use Rattle.qic_base.specs.Cartridge.{view_at}
 use Rattle.qic_base.proofs.Steps.{Tells-map}
-use Rattle.drive_states.specs.Reach.{passed}
-use Rattle.drive_states.specs.Record.{Record}
+use Rattle.drive_subset.specs.Reach.{passed}
+use Rattle.drive_subset.specs.Record.{Record}
 use Rattle.tape_cmd.proofs.Table.{reaches, blank_unreadable, unreadable_unreadable}
 use Rattle.tape_cmd.proofs.table_reader.read_table_sector.Goals as goal
 

@@ -1,6 +1,7 @@
 use Rattle.std.proofs.Common.{◌≡◌, true, false, nat_lt, arith, append_assoc}
 use Rattle.std.proofs.lemmas.Bool.Decides.{nat_tests}
-use Rattle.tape_cmd.specs.Text.{date_text, low_part}
+use Rattle.qic_base.specs.Date.{low_part}
+use Rattle.tape_cmd.specs.Text.{date_text}
 use Rattle.tape_cmd.proofs.line.Line.push_date.Goals as goal
 
 pub returns-then-low-gt-GREATEST_LOW_PART-clause-date : goal.returns-then-low-gt-GREATEST_LOW_PART-clause-date
