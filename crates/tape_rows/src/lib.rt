@@ -3,5 +3,3 @@
 
 #[cfg(test)]
 mod listing;
-#[cfg(test)]
-mod script;

@@ -1,0 +1,5 @@
+//! Worked examples of words, lines and printed texts, as tests.
+#![tactic(auto)]
+
+#[cfg(test)]
+mod script;
