@@ -1,5 +1,0 @@
-//! Worked examples of words, lines and printed texts, as tests.
-#![tactic(auto)]
-
-#[cfg(test)]
-mod script;
