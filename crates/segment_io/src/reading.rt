@@ -42,6 +42,7 @@ pub fn collect<T: Tape>(
     ensures fault { IsOkUnless result SegFault.Tape }
     ensures gathered { IfOk result (λ lost. Tells T.means unit.old.tape (λ c.
         Gathered (cells_of c segment usable) lost work.new)) }
+    ensures room { length work.new ≡ 32 }
     ensures same { KeepsMode unit.old.drive.deck unit.new.drive.deck }
     ensures agrees { Agrees T.means unit.old → Agrees T.means unit.new }
     ensures size { T.means.size unit.new.tape ≡ T.means.size unit.old.tape }
@@ -194,6 +195,7 @@ pub fn read_segment<T: Tape>(
         (named ≡ segment) × (3 < n) }
     ensures mismatch { (named : ℕ) → result ≡ Err (SegFault.Mismatch named) →
         named ≡ segment }
+    ensures room { length work.new ≡ 32 }
     ensures same { KeepsMode unit.old.drive.deck unit.new.drive.deck }
     ensures agrees { Agrees T.means unit.old → Agrees T.means unit.new }
     ensures size { T.means.size unit.new.tape ≡ T.means.size unit.old.tape }

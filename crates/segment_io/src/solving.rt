@@ -37,6 +37,7 @@ pub fn solve_collected(
         × ¬ (IsSolvable (is_lost lost) (take (usable_count usable) work.old))) }
     ensures no_tape { result ≢ Err SegFault.Tape }
     ensures unchanged { OnErr result (work.new ≡ work.old) }
+    ensures room { length work.new ≡ 32 }
 {
     match solve_first(&mut work.sectors, count_usable(usable), lost) {
         Ok(()) => Ok(()),
