@@ -1,0 +1,11 @@
+pub mod Clearing
+pub mod Copies
+pub mod Empty
+pub mod Formatted
+pub mod Fresh
+pub mod Halfway
+pub mod Places
+pub mod Standing
+pub mod Stops
+pub mod Views
+pub mod Writing
