@@ -1,0 +1,19 @@
+use Rattle.mount_laws.proofs.Whole.{stopped_is_cartridge}
+use Rattle.mount_laws.proofs.Keeping.{stopped_mounts, stopped_stands}
+use Rattle.mount_laws.proofs.Stops.{stopped_settling, stopped_settles_alike}
+use Rattle.mount_laws.proofs.laws.stopped_settling.Goals as goal
+
+pub returns-clause-table : goal.returns-clause-table
+returns-clause-table c = stopped_settling
+
+pub returns-clause-alike : goal.returns-clause-alike
+returns-clause-alike c = stopped_settles_alike
+
+pub returns-clause-mounts : goal.returns-clause-mounts
+returns-clause-mounts c = stopped_mounts
+
+pub returns-clause-stands : goal.returns-clause-stands
+returns-clause-stands c = stopped_stands
+
+pub returns-clause-whole : goal.returns-clause-whole
+returns-clause-whole c = stopped_is_cartridge

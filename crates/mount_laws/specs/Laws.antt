@@ -1,0 +1,150 @@
+-- What the mounting of a cartridge gives, and what the settling of its volume table leaves, as facts.
+use Rattle.std.specs.Prelude.{◌≡◌, ◌≢◌, ◌⊎◌, ℕ, ◌<◌, ◌≤◌, ◌++◌, false, List, [], Option, Some, IsSomeAnd}
+use Rattle.qic_base.specs.declared.tape.SectorView.{SectorView}
+use Rattle.qic_base.specs.declared.tape.SectorView.TheVariants.{Blank, Defect, Lost, Holds}
+use Rattle.qic_base.specs.Cartridge.{Cartridge, IsCartridge, view_at}
+use Rattle.qic_base.specs.Step.{effects}
+use Rattle.qic_base.specs.Stop.{Torn}
+use Rattle.gf256_qic.specs.Code.{parity_sectors}
+use Rattle.cartridge_spec.specs.Segment.{sector_at}
+use Rattle.cartridge_spec.specs.Header.{Header}
+use Rattle.cartridge_spec.specs.Table.{Entry}
+use Rattle.cartridge_spec.specs.Says.{unreadable_count, unreadable_data, Written}
+use Rattle.cartridge_spec.specs.Volumes.{Mounting, LostTable, Mounted, Mounts, Plain, IsArea, Stands, TableIs, table_cells, entries_of, settled}
+use Rattle.cartridge_spec.specs.Writes.{changed_by}
+use Rattle.mount_laws.specs.Settling.{settling_steps}
+
+-- ---- mounting
+
+-- the mounting of a cartridge gives at most one thing
+abbrev pub MountsIsFunction : Type 0
+MountsIsFunction = (c : Cartridge) (a b : Mounting) → Mounts c a → Mounts c b → a ≡ b
+
+-- and it gives something
+abbrev pub MountsAlways : Type 0
+MountsAlways = (c : Cartridge) → IsCartridge c → (m : Mounting) × Mounts c m
+
+-- the data of a table are 29 sectors
+abbrev pub TableIsArea : Type 0
+TableIsArea = (c : Cartridge) (area : List (List ℕ)) → IsCartridge c → TableIs c area → IsArea area
+
+-- ---- a cartridge that stands for a plain one
+
+-- what the mounting of such a one gives: the plain one's header, map, table and entries
+abbrev pub mounted_as : Plain → Mounting
+mounted_as plain = Mounted plain.header plain.words plain.table_area (entries_of plain)
+
+-- the data of its table can be read, or be found by the code
+abbrev pub CanBeRead : Cartridge → Type 0
+CanBeRead c = (unreadable_data (table_cells c) ≡ 0) ⊎ (unreadable_count (table_cells c) ≤ 3)
+
+-- it is mounted so where its table can be read
+abbrev pub StandingMounts : Type 0
+StandingMounts =
+    (c : Cartridge) (plain : Plain) → Stands c plain → CanBeRead c → Mounts c (mounted_as plain)
+
+-- and its mounting gives nothing else, but that its table is lost
+abbrev pub StandingMountsOnlySo : Type 0
+StandingMountsOnlySo =
+    (c : Cartridge) (plain : Plain) (m : Mounting) → Stands c plain → Mounts c m →
+    (m ≡ mounted_as plain) ⊎ ((n : ℕ) × (m ≡ LostTable n))
+
+-- ---- settling
+
+-- all steps settle the table whose data are these
+abbrev pub SettlingSettles : Type 0
+SettlingSettles =
+    (c : Cartridge) (area : List (List ℕ)) → TableIs c area → changed_by (settling_steps area c) c ≡ settled area c
+
+-- and so do they on what a drive holds
+abbrev pub SettlingEffects : Type 0
+SettlingEffects =
+    (c : Cartridge) (area : List (List ℕ)) → TableIs c area → effects (settling_steps area c) (Some c) ≡ Some (settled area c)
+
+-- ---- a stop among the steps
+
+-- all but the table's segment is as it was, and that says these data
+pub record KeepsTable (area : List (List ℕ)) (c d : Cartridge) : Type 0 where
+  pub info : d.info ≡ c.info
+  pub others : (segment sector : ℕ) → sector < 32 → segment ≢ 2 → view_at d segment sector ≡ view_at c segment sector
+  pub table : TableIs d area
+
+-- a stop before the first, inside one or behind any of them leaves such a one, ..
+abbrev pub StoppedSettling : Type 0
+StoppedSettling =
+    (c : Cartridge) (area : List (List ℕ)) (left : Option Cartridge) → TableIs c area →
+    Torn (settling_steps area c) (Some c) left → IsSomeAnd left (KeepsTable area c)
+
+-- .. which is settled as if there had been no stop
+abbrev pub StoppedSettlesAlike : Type 0
+StoppedSettlesAlike =
+    (c : Cartridge) (area : List (List ℕ)) (left : Option Cartridge) → TableIs c area →
+    Torn (settling_steps area c) (Some c) left → IsSomeAnd left (λ d. settled area d ≡ settled area c)
+
+-- one that was mounted so is mounted so again, ..
+abbrev pub StoppedMounts : Type 0
+StoppedMounts =
+    (c : Cartridge) (header : Header) (words : List ℕ) (area : List (List ℕ)) (entries : List Entry) (left : Option Cartridge) →
+    Mounts c (Mounted header words area entries) → Torn (settling_steps area c) (Some c) left →
+    IsSomeAnd left (λ d. Mounts d (Mounted header words area entries))
+
+-- .. and one that stood for a plain cartridge stands for it
+abbrev pub StoppedStands : Type 0
+StoppedStands =
+    (c : Cartridge) (plain : Plain) (area : List (List ℕ)) (left : Option Cartridge) → Stands c plain → TableIs c area →
+    Torn (settling_steps area c) (Some c) left → IsSomeAnd left (λ d. Stands d plain)
+
+-- what is left is a cartridge
+abbrev pub StoppedIsCartridge : Type 0
+StoppedIsCartridge =
+    (c : Cartridge) (area : List (List ℕ)) (left : Option Cartridge) → IsCartridge c → TableIs c area →
+    Torn (settling_steps area c) (Some c) left → IsSomeAnd left IsCartridge
+
+-- ---- a settled cartridge
+
+abbrev pub SettledIsCartridge : Type 0
+SettledIsCartridge = (c : Cartridge) (area : List (List ℕ)) → IsCartridge c → TableIs c area → IsCartridge (settled area c)
+
+-- it differs in no more than that
+abbrev pub SettledKeepsTable : Type 0
+SettledKeepsTable = (c : Cartridge) (area : List (List ℕ)) → TableIs c area → KeepsTable area c (settled area c)
+
+abbrev pub SettledMounts : Type 0
+SettledMounts =
+    (c : Cartridge) (header : Header) (words : List ℕ) (area : List (List ℕ)) (entries : List Entry) →
+    Mounts c (Mounted header words area entries) → Mounts (settled area c) (Mounted header words area entries)
+
+abbrev pub SettledStands : Type 0
+SettledStands =
+    (c : Cartridge) (plain : Plain) (area : List (List ℕ)) → Stands c plain → TableIs c area → Stands (settled area c) plain
+
+-- where it is not protected, each sector of the table's segment that can be read holds its part of the data or their parity
+abbrev pub SettledIsWritten : Type 0
+SettledIsWritten =
+    (c : Cartridge) (area : List (List ℕ)) → TableIs c area → c.info.protected ≡ false → Written (table_cells (settled area c)) area
+
+-- settling it again leaves it as it is
+abbrev pub SettledTwice : Type 0
+SettledTwice = (c : Cartridge) (area : List (List ℕ)) → TableIs c area → settled area (settled area c) ≡ settled area c
+
+-- a sector that takes what is written to it: it was formatted, and is no defect
+abbrev pub IsLive : SectorView → Type 0
+IsLive Blank = ⊥
+IsLive Defect = ⊥
+IsLive Lost = Unit {0}
+IsLive (Holds bytes) = Unit {0}
+
+-- each sector of the table's segment does
+abbrev pub IsTableLive : Cartridge → Type 0
+IsTableLive c = (i : ℕ) → i < 32 → IsLive (view_at c 2 i)
+
+-- then each of them holds its part, ..
+abbrev pub SettledIsWhole : Type 0
+SettledIsWhole =
+    (c : Cartridge) (area : List (List ℕ)) (i : ℕ) → TableIs c area → c.info.protected ≡ false → IsTableLive c → i < 32 →
+    view_at (settled area c) 2 i ≡ Holds (sector_at (area ++ parity_sectors area) i)
+
+-- .. and no step settles it again
+abbrev pub SettledNeedsNoSteps : Type 0
+SettledNeedsNoSteps =
+    (c : Cartridge) (area : List (List ℕ)) → TableIs c area → IsTableLive c → settling_steps area (settled area c) ≡ []

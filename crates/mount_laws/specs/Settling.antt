@@ -1,0 +1,43 @@
+-- The settling of the volume table's segment: which of its sectors are written, and what with (this project's profile).
+use Rattle.std.specs.Prelude.{ℕ, ◌++◌, Bool, false, not, List, [], filter, map, nat_lt, if◌then◌else◌}
+use Rattle.std.specs.List.{range_with_len}
+use Rattle.std.specs.Str.{bytes_eq}
+use Rattle.qic_base.specs.Cartridge.{Cartridge, view_at}
+use Rattle.qic_base.specs.Step.{Step}
+use Rattle.qic_base.specs.declared.tape.SectorView.{SectorView}
+use Rattle.qic_base.specs.declared.tape.SectorView.TheVariants.{Blank, Defect, Lost, Holds}
+use Rattle.gf256_qic.specs.Code.{parity_sectors}
+use Rattle.cartridge_spec.specs.Segment.{sector_at}
+use Rattle.cartridge_spec.specs.Says.{is_unreadable}
+use Rattle.cartridge_spec.specs.Writes.{writes_of}
+
+-- the places 0 to 31 where a test is true, ascending
+unfoldable pub places_where : (ℕ → Bool) → List ℕ
+places_where test = filter test (range_with_len 0 32)
+
+-- ---- on a cartridge
+
+-- the sector can be read, and holds these bytes
+abbrev pub holds : SectorView → List ℕ → Bool
+holds Blank bytes = false
+holds Defect bytes = false
+holds Lost bytes = false
+holds (Holds held) bytes = bytes_eq held bytes
+
+-- a sector of segment 2 is to be written: one of data where it is unreadable, one of parity where it is unreadable or
+-- differs from the parity of the data
+abbrev pub is_unsettled : Cartridge → (block : List (List ℕ)) (sector : ℕ) → Bool
+is_unsettled c block sector =
+    if nat_lt sector 29 then is_unreadable (view_at c 2 sector)
+    else not (holds (view_at c 2 sector) (sector_at block sector))
+
+-- some sectors of segment 2, with their parts of a block
+abbrev pub block_writes : List (List ℕ) → (places : List ℕ) → List Step
+block_writes block places = writes_of 2 places (map (sector_at block) places)
+
+-- the writes that settle the volume table, whose data are these: none on a protected cartridge, and else the sectors that
+-- are to be written, ascending
+abbrev pub settling_steps : (area : List (List ℕ)) → Cartridge → List Step
+settling_steps area c =
+    if c.info.protected then []
+    else block_writes (area ++ parity_sectors area) (places_where (is_unsettled c (area ++ parity_sectors area)))
