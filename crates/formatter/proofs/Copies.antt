@@ -1,0 +1,43 @@
+-- The writes of a header copy, as parts of the block.
+use Rattle.std.proofs.Common.{◌≡◌, ℕ, ◌-◌, refl, sym, ◌∙◌, ap, arith, List, [], ◌++◌, length, take, drop}
+use Rattle.std.specs.List.{range_with_len}
+use Rattle.std.proofs.Math.ListN.{drop_of_length-le}
+use Rattle.std.proofs.lemmas.List.{append-nil, length-drop, take_at}
+use borrow.Rule.Slice.PartMut.{put_mid, post_of}
+use Rattle.gf256_qic.specs.Code.{parity_sectors}
+use Rattle.qic_base.specs.LostSet.{lost_places}
+use Rattle.cartridge_spec.specs.Shape.{usable_places, usable_count}
+use Rattle.format_plan.proofs.Places.{copy_writes_by_places}
+use Rattle.format_plan.specs.Formatting.{copy_writes, block_of}
+use Rattle.segment_io.specs.Writes.{named_writes}
+
+-- all 32 sectors are usable
+all_places : usable_places 4294967295 ≡ range_with_len 0 32
+unfolding lost_places
+all_places = refl
+
+pub all_count : usable_count 4294967295 ≡ 32
+all_count = ap (λ (l : List ℕ). length l) all_places
+
+pub copy_is : (copy : ℕ) (sectors : List (List ℕ)) → length sectors ≡ 32 →
+    named_writes copy 4294967295 4294967294 sectors ++ named_writes copy 4294967295 1 sectors ≡ copy_writes copy sectors
+copy_is copy sectors size = sym (copy_writes_by_places copy sectors size)
+
+-- ---- the block
+
+-- what is put behind the first 29 of 32
+pub put_last : (xs ys : List (List ℕ)) → length xs ≡ 32 → put_mid 29 (length xs - 29) xs ys ≡ take 29 xs ++ ys
+put_last xs ys size =
+    let rest : post_of 29 (length xs - 29) xs ≡ [] = drop_of_length-le (drop 29 xs) {i = length xs - 29} (omega (arith, length-drop 29 xs)) in
+    ap (λ (l : List (List ℕ)). take 29 xs ++ (ys ++ l)) rest ∙ ap (λ (l : List (List ℕ)). take 29 xs ++ l) (append-nil ys)
+
+-- the data sectors are the first 29 of the block
+pub block_data : (area : List (List ℕ)) → length area ≡ 29 → take 29 (block_of area) ≡ area
+block_data area size = take_at area (parity_sectors area) 29 size
+
+-- the workspace whose 32 sectors were lent
+pub lent : (left old : List (List ℕ)) → length left ≡ 32 → take 32 (left ++ drop (length left) old) ≡ left
+lent left old size = take_at left (drop (length left) old) 32 size
+
+pub lent_room : (left old : List (List ℕ)) → length left ≡ 32 → length (take 32 (left ++ drop (length left) old)) ≡ 32
+lent_room left old size = ap (λ (l : List (List ℕ)). length l) (lent left old size) ∙ size

@@ -1,0 +1,5 @@
+pub mod Copies
+pub mod Marks
+pub mod Parts
+pub mod Places
+pub mod Told

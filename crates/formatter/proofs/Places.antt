@@ -1,0 +1,126 @@
+-- Where the head stands on its way over the segments of a track.
+use Rattle.std.proofs.Common.{◌≡◌, ℕ, ◌+◌, ◌*◌, ◌%◌, ◌<◌, ◌≤◌, Bool, true, false, if◌then◌else◌, min, refl, sym, ◌∙◌, ap, arith, Option, Some, None, IsSomeAnd}
+use Rattle.std.specs.Option.{option_map_or}
+use Rattle.std.proofs.lemmas.Nat.{mod-mul-add}
+use Rattle.qic_base.specs.Tape.{Meaning}
+use Rattle.qic_base.specs.declared.tape.TapeInfo.{TapeInfo}
+use Rattle.qic117_commands.specs.Views.{is_format}
+use Rattle.drive_states.specs.declared.deck.Deck.{Deck}
+use Rattle.drive_states.specs.declared.deck.Motion.{Motion}
+use Rattle.drive_states.specs.declared.deck.Motion.TheVariants.{Stopped, Streaming, Seeking}
+use Rattle.drive_states.specs.Deck.{segments_per_track, is_stopped, is_streaming, limit, referenced_as}
+use Rattle.drive_states.specs.Reach.{segment_of, StreamsTo, IsUnder}
+use Rattle.drive_states.specs.Sound.{IsSound, IsInMotion}
+use Rattle.drive_states.specs.Unit.{UnitView, Knows}
+use Rattle.host_driver.specs.declared.host.Host.{Host}
+use Rattle.host_driver.specs.Fits.{Fits, segments_of}
+use Rattle.host_driver.specs.Place.{StreamsAt, KeepsMode, RunsOn, idled_deck}
+
+-- ---- what a host knows
+
+pub length_known : {T : Type 0} {m : Meaning T} {h : Host} {u : UnitView T} → Fits m h u → segments_of h ≡ segments_per_track u.drive.deck
+length_known {h = h} {u = u} f = by_cartridge u.drive.deck.cartridge f.cartridge
+  where
+    by_cartridge : (o : Option TapeInfo) → IsSomeAnd o (λ info. info.segments_per_track ≡ segments_of h) → segments_of h ≡ option_map_or (λ (c : TapeInfo). c.segments_per_track) o 0
+    by_cartridge None there = absurd there
+    by_cartridge (Some info) there = sym there
+
+pub length_kept : (a b : Deck) → b.cartridge ≡ a.cartridge → segments_per_track b ≡ segments_per_track a
+length_kept a b same = ap (λ (o : Option TapeInfo). option_map_or (λ (c : TapeInfo). c.segments_per_track) o 0) same
+
+-- ---- where it stands
+
+limit_within : (d : Deck) → limit d ≤ segments_per_track d
+limit_within d = by_mode (is_format d.mode)
+  where
+    by_mode : (b : Bool) → (if b then min d.format_segments (segments_per_track d) else segments_per_track d) ≤ segments_per_track d
+    by_mode true = omega arith
+    by_mode false = omega arith
+
+-- a tape that streams is before the end of its track
+pub streams_within : (d : Deck) → IsSound d → is_streaming d.motion ≡ true → d.offset < segments_per_track d
+streams_within d sound streams =
+    let below : d.offset < limit d = by_motion d.motion sound.motion streams in
+    let most : limit d ≤ segments_per_track d = limit_within d in
+    omega arith
+  where
+    by_motion : (m : Motion) → IsInMotion (limit d) d.offset m → is_streaming m ≡ true → d.offset < limit d
+    by_motion Stopped h e = cc
+    by_motion (Streaming next) h e = h.0
+    by_motion (Seeking left) h e = cc
+
+-- two places on tracks of n segments that are one have one offset
+pub same_offset : (n a i b j : ℕ) → i < n → j < n → a * n + i ≡ b * n + j → i ≡ j
+same_offset n a i b j low high same = sym (mod-mul-add a n i low) ∙ ap (λ (k : ℕ). k % n) same ∙ mod-mul-add b n j high
+
+-- of n segments from one on, so many are behind the head: it streams at the next, or stands behind the last
+pub record IsBefore (n first offset : ℕ) (d : Deck) : Type 0 where
+  pub streams : offset < n → StreamsAt (first + offset) 0 d
+  pub stops : n ≤ offset → is_stopped d.motion ≡ true
+
+pub before_first : (n first : ℕ) (d : Deck) → 0 < n → StreamsAt first 0 d → IsBefore n first 0 d
+before_first n first d some at = record {
+  streams = λ within. record { motion = at.motion; here = let same : first + 0 ≡ first = omega arith in same ∙ at.here };
+  stops = λ past. absurd (omega arith);
+}
+
+pub streaming_under : (segment index : ℕ) (d : Deck) → IsUnder d segment index → is_streaming d.motion ≡ true
+streaming_under segment index d under = by_motion d.motion under.streams
+  where
+    by_motion : (m : Motion) → StreamsTo m index → is_streaming m ≡ true
+    by_motion Stopped h = absurd h
+    by_motion (Streaming next) h = refl
+    by_motion (Seeking left) h = absurd h
+
+-- the tape runs on from a segment of the track
+pub before_next : (n track offset : ℕ) (old new : Deck) → segments_per_track old ≡ n → IsSound old → offset < n →
+    is_streaming old.motion ≡ true → track * n + offset ≡ segment_of old → RunsOn old new → IsBefore n (track * n) (offset + 1) new
+before_next n track offset old new length sound within streams here runs =
+    let inside : old.offset < segments_per_track old = streams_within old sound streams in
+    let low : old.offset < n = omega arith in
+    let place : track * n + offset ≡ old.track * n + old.offset = here ∙ ap (λ (k : ℕ). old.track * k + old.offset) length in
+    let same : offset ≡ old.offset = same_offset n track offset old.track old.offset within low place in
+    record {
+      streams = λ more.
+          let at : StreamsAt (segment_of old + 1) 0 new = runs.within (omega arith) in
+          record { motion = at.motion; here = let next : track * n + (offset + 1) ≡ segment_of old + 1 = omega arith in next ∙ at.here };
+      stops = λ past. ap is_stopped (runs.end (omega arith));
+    }
+
+-- a gap more, where the tape streams
+pub idled_cartridge : (d : Deck) → (idled_deck d).cartridge ≡ d.cartridge
+idled_cartridge d = by_motion (is_streaming d.motion) refl
+  where
+    by_motion : (b : Bool) → is_streaming d.motion ≡ b → (idled_deck d).cartridge ≡ d.cartridge
+    by_motion true e = rw e refl
+    by_motion false e = rw e refl
+
+pub idled_mode : (d : Deck) → (idled_deck d).mode ≡ d.mode
+idled_mode d = by_motion (is_streaming d.motion) refl
+  where
+    by_motion : (b : Bool) → is_streaming d.motion ≡ b → (idled_deck d).mode ≡ d.mode
+    by_motion true e = rw e refl
+    by_motion false e = rw e refl
+
+pub idled_keeps : (old new : Deck) → new ≡ idled_deck old → KeepsMode old new
+idled_keeps old new is = record {
+  cartridge = ap (λ (d : Deck). d.cartridge) is ∙ idled_cartridge old;
+  mode = ap (λ (d : Deck). d.mode) is ∙ idled_mode old;
+}
+
+-- with the reference bursts the length is what it was
+pub length_referenced : (a b : Deck) → b.cartridge ≡ referenced_as true a.cartridge → segments_per_track b ≡ segments_per_track a
+length_referenced a b marks =
+    ap (λ (o : Option TapeInfo). option_map_or (λ (c : TapeInfo). c.segments_per_track) o 0) marks ∙ by_cartridge a.cartridge
+  where
+    by_cartridge : (o : Option TapeInfo) → option_map_or (λ (c : TapeInfo). c.segments_per_track) (referenced_as true o) 0 ≡ option_map_or (λ (c : TapeInfo). c.segments_per_track) o 0
+    by_cartridge None = refl
+    by_cartridge (Some info) = refl
+
+-- and so is the tape's size
+pub size_known : {T : Type 0} {m : Meaning T} {h : Host} {u : UnitView T} → Fits m h u → m.size u.tape ≡ Some (segments_per_track u.drive.deck)
+size_known {m = m} {h = h} {u = u} f = by_cartridge u.drive.deck.cartridge f.cartridge f.sound.known
+  where
+    by_cartridge : (o : Option TapeInfo) → IsSomeAnd o (λ info. info.segments_per_track ≡ segments_of h) → Knows o (m.size u.tape) → m.size u.tape ≡ Some (option_map_or (λ (c : TapeInfo). c.segments_per_track) o 0)
+    by_cartridge None there known = absurd there
+    by_cartridge (Some info) there known = known

@@ -1,0 +1,19 @@
+use Rattle.std.proofs.Common.{◌≡◌, ℕ, ◌++◌, List, length, take, ap, sym, ◌∙◌, arith}
+use Rattle.std.proofs.lemmas.List.{length-take-le}
+use Rattle.formatter.proofs.Copies.{put_last}
+use Rattle.formatter.proofs.header.put_parity.Goals as goal
+
+pub slice_bounds-parity_of-end-2 : goal.slice_bounds-parity_of-end-2
+slice_bounds-parity_of-end-2 c =
+    let long : length c.args.sectors.now ≡ 32 = c.requires in
+    sym (length-take-le 29 c.args.sectors.now (omega arith))
+
+pub returns-clause-area : goal.returns-clause-area
+returns-clause-area c =
+    let long : length c.args.sectors.now ≡ 32 = c.requires in
+    record { size = length-take-le 29 c.args.sectors.now (omega arith); sectors = c.parity_of-parity.ensures.sectors }
+
+pub returns-clause-parity : goal.returns-clause-parity
+returns-clause-parity c =
+    put_last c.args.sectors.now c.copy_from_slice.new.self c.requires
+    ∙ ap (λ (l : List (List ℕ)). take 29 c.args.sectors.now ++ l) (c.copy_from_slice.ensures.after ∙ c.parity_of-parity.ensures.parity)

@@ -1,0 +1,51 @@
+use Rattle.std.proofs.Common.{◌≡◌, ℕ, ◌^◌, ◌<◌, List, subst, sym, arith}
+use Rattle.std.proofs.lemmas.Result.{err_from_is_err_and}
+use Rattle.qic_base.specs.Step.{Step}
+use Rattle.qic_base.specs.Tape.{Done, Broke, Does}
+use Rattle.qic_base.proofs.Steps.{Broke-front}
+use Rattle.cartridge_spec.specs.Shape.{usable_count}
+use Rattle.format_plan.specs.Formatting.{copy_writes}
+use Rattle.segment_io.specs.Writes.{named_writes}
+use Rattle.formatter.proofs.Parts.{does_after}
+use Rattle.formatter.proofs.Copies.{all_count, copy_is}
+use Rattle.formatter.proofs.header.write_copy.Goals as goal
+
+pub write_sectors-requires-clause-carries : goal.write_sectors-requires-clause-carries
+write_sectors-requires-clause-carries g c = let all : usable_count 4294967295 ≡ 32 = all_count in omega arith
+
+pub write_sectors-requires-2-clause-carries : goal.write_sectors-requires-2-clause-carries
+write_sectors-requires-2-clause-carries g c = let all : usable_count 4294967295 ≡ 32 = all_count in omega arith
+
+pub write_sectors-requires-clause-within : goal.write_sectors-requires-clause-within
+write_sectors-requires-clause-within g c =
+    subst (λ (n : ℕ). c.from_mask-others.result < 2 ^ n) (sym all_count)
+    (let mask : c.from_mask-others.result ≡ 4294967294 = c.from_mask-others.ensures in omega arith)
+
+pub write_sectors-requires-2-clause-within : goal.write_sectors-requires-2-clause-within
+write_sectors-requires-2-clause-within g c =
+    subst (λ (n : ℕ). c.from_mask-last.result < 2 ^ n) (sym all_count)
+    (let mask : c.from_mask-last.result ≡ 1 = c.from_mask-last.ensures in omega arith)
+
+-- sector 0 wasn't tried
+pub returns-in_err-write_sectors-clause-did : goal.returns-in_err-write_sectors-clause-did
+returns-in_err-write_sectors-clause-did g c =
+    let B : List Step → Type 0 = λ steps. Broke g.T.Tape.means c.args.unit.now.tape c.write_sectors.new.unit.tape steps in
+    let first : B (named_writes c.args.copy 4294967295 4294967294 c.args.work.now) =
+    subst (λ (mask : ℕ). B (named_writes c.args.copy 4294967295 mask c.args.work.now)) c.from_mask-others.ensures c.in_err-write_sectors.ensures.did in
+    let whole : B (copy_writes c.args.copy c.args.work.now) =
+    subst B (copy_is c.args.copy c.args.work.now c.requires.room)
+    (Broke-front {xs = named_writes c.args.copy 4294967295 4294967294 c.args.work.now} (named_writes c.args.copy 4294967295 1 c.args.work.now) first) in
+    let p = err_from_is_err_and c.from_residual.result c.from_residual.ensures.1 in
+    rw p.1 whole
+
+pub returns-clause-did : goal.returns-clause-did
+returns-clause-did g c =
+    let first : Done g.T.Tape.means c.args.unit.now.tape c.write_sectors.new.unit.tape (named_writes c.args.copy 4294967295 4294967294 c.args.work.now) =
+    subst (λ (mask : ℕ). Done g.T.Tape.means c.args.unit.now.tape c.write_sectors.new.unit.tape (named_writes c.args.copy 4294967295 mask c.args.work.now)) c.from_mask-others.ensures
+    c.in_ok-write_sectors.ensures.did in
+    let next : Does g.T.Tape.means c.write_sectors.new.unit.tape c.write_sectors-2.new.unit.tape (named_writes c.args.copy 4294967295 1 c.args.work.now) c.write_sectors-2.result =
+    subst (λ (mask : ℕ). Does g.T.Tape.means c.write_sectors.new.unit.tape c.write_sectors-2.new.unit.tape (named_writes c.args.copy 4294967295 mask c.args.work.now) c.write_sectors-2.result) c.from_mask-last.ensures
+    c.write_sectors-2.ensures.did in
+    subst (λ (steps : List Step). Does g.T.Tape.means c.args.unit.now.tape c.write_sectors-2.new.unit.tape steps c.write_sectors-2.result)
+    (copy_is c.args.copy c.args.work.now c.requires.room)
+    (does_after g.T.Tape.means c.args.unit.now.tape c.write_sectors.new.unit.tape c.write_sectors-2.new.unit.tape (named_writes c.args.copy 4294967295 4294967294 c.args.work.now) (named_writes c.args.copy 4294967295 1 c.args.work.now) c.write_sectors-2.result first next)

@@ -1,0 +1,142 @@
+//! The header of a fresh cartridge, and its two copies.
+
+ghost use Rattle.std.specs.Prelude.{◌≡◌, ◌<◌, ◌*◌, true, false, length, take, All, OnOk, IsOkUnless};
+ghost use Rattle.qic_base.specs.Cartridge.{IsLength, IsSector};
+ghost use Rattle.qic_base.specs.Tape.{Does};
+ghost use Rattle.cartridge_spec.specs.Header.{Spells};
+ghost use Rattle.cartridge_spec.specs.Volumes.{IsArea};
+ghost use Rattle.header_segments.specs.Header.{header_of};
+ghost use Rattle.qic117_commands.specs.Views.{is_primary};
+ghost use Rattle.drive_states.specs.Deck.{segments_per_track, is_stopped, is_protected, is_referenced};
+ghost use Rattle.host_driver.specs.Fits.{Agrees, Fits, IsAtRest};
+ghost use Rattle.host_driver.specs.Place.{KeepsMode};
+ghost use Rattle.gf256_qic.specs.Code.{parity_sectors};
+ghost use Rattle.format_plan.specs.Formatting.{copy_writes, block_of, IsFreshArea};
+ghost use Rattle.formatter.specs.Formats.{WritesHeader};
+
+use crate::SECTOR;
+use crate::fault::FormatFault;
+use bad_sector_map::BadMap;
+use drive_states::Unit;
+use header_segments::{Header, encode};
+use host_driver::Host;
+use qic_base::{LostSet, Name, Tape};
+use qic117_commands::Mode;
+use segment_io::{SegFault, Workspace, write_sectors};
+use segment_parity::Parity;
+use tape_geometry::Geometry;
+
+/// The data sectors of a header copy.
+const DATA_SECTORS: usize = 29;
+
+/// Writes both header copies of a cartridge that was just formatted, copy 0 first.
+#[tactic(auto, using(crate::proofs::Copies::lent_room))]
+pub(crate) fn write_header<T: Tape>(
+    host: &mut Host,
+    unit: &mut Unit<T>,
+    work: &mut Workspace,
+    map: &BadMap,
+    label: &Name,
+    date: u32,
+) -> Result<(), FormatFault>
+    requires fits { Fits T.means host.old unit.old }
+    requires rest { IsAtRest unit.old.drive }
+    requires writable { is_protected unit.old.drive.deck ≡ false }
+    requires referenced { is_referenced unit.old.drive.deck ≡ true }
+    requires stopped { is_stopped unit.old.drive.deck.motion ≡ true }
+    requires words { length map.now ≡ 28 * segments_per_track unit.old.drive.deck }
+    ensures did { WritesHeader T.means (segments_per_track unit.old.drive.deck) label.now date
+        map.now unit.old.tape unit.new.tape result }
+    ensures fault { IsOkUnless result FormatFault.Tape }
+    ensures room { length work.new ≡ 32 }
+    ensures cartridge { unit.new.drive.deck.cartridge ≡ unit.old.drive.deck.cartridge }
+    ensures agrees { Agrees T.means unit.old → Agrees T.means unit.new }
+    ensures size { T.means.size unit.new.tape ≡ T.means.size unit.old.tape }
+    ensures fits { Fits T.means host.new unit.new }
+    ensures rest { IsAtRest unit.new.drive }
+{
+    spell(host.geometry(), label, date, map, work.sectors_mut());
+    host.enter(unit, Mode::Primary)?;
+    write_copy(host, unit, 0, work)?;
+    write_copy(host, unit, 1, work)?;
+    Ok(())
+}
+
+// Makes the sectors those of a header copy: the data and their parity.
+fn spell(geometry: Geometry, label: &Name, date: u32, map: &BadMap, sectors: &mut [[u8; SECTOR]])
+    requires words { length map.now ≡ 28 * geometry }
+    requires room { length sectors.old ≡ 32 }
+    ensures fresh { IsFreshArea geometry label.now date map.now (take 29 sectors.new) }
+    ensures parity { sectors.new ≡ block_of (take 29 sectors.new) }
+{
+    let header = Header {
+        format_date: date,
+        write_date: date,
+        segments_per_track: geometry.segments_per_track(),
+        label: *label,
+        label_date: date,
+    };
+    put_header(&header, map, sectors);
+    put_parity(sectors);
+}
+
+// Spells the header and the map in the data sectors.
+fn put_header(header: &Header, map: &BadMap, sectors: &mut [[u8; SECTOR]])
+    requires long { IsLength header.now.segments_per_track }
+    requires words { length map.now ≡ 28 * header.now.segments_per_track }
+    requires room { length sectors.old ≡ 32 }
+    ensures { Spells (header_of header.now) map.now (take 29 sectors.new) }
+{
+    encode(header, map, &mut sectors[..DATA_SECTORS]);
+}
+
+// Puts the parity of the data sectors behind them.
+fn put_parity(sectors: &mut [[u8; SECTOR]])
+    requires { length sectors.old ≡ 32 }
+    ensures parity { sectors.new ≡ block_of (take 29 sectors.old) }
+    ensures area { IsArea (take 29 sectors.old) }
+{
+    let parity = parity_of(&sectors[..DATA_SECTORS]);
+    sectors[DATA_SECTORS..].copy_from_slice(&parity);
+}
+
+// Writes the sectors of a header copy: 1 to 31, ascending, and then sector 0, without which the copy can't be read.
+fn write_copy<T: Tape>(
+    host: &mut Host,
+    unit: &mut Unit<T>,
+    copy: u32,
+    work: &Workspace,
+) -> Result<(), SegFault>
+    requires fits { Fits T.means host.old unit.old }
+    requires rest { IsAtRest unit.old.drive }
+    requires mode { is_primary unit.old.drive.deck.mode ≡ true }
+    requires writable { is_protected unit.old.drive.deck ≡ false }
+    requires referenced { is_referenced unit.old.drive.deck ≡ true }
+    requires copy { copy < 2 }
+    requires room { length work.now ≡ 32 }
+    ensures did { Does T.means unit.old.tape unit.new.tape (copy_writes copy work.now) result }
+    ensures fault { IsOkUnless result SegFault.Tape }
+    ensures same { KeepsMode unit.old.drive.deck unit.new.drive.deck }
+    ensures agrees { Agrees T.means unit.old → Agrees T.means unit.new }
+    ensures size { T.means.size unit.new.tape ≡ T.means.size unit.old.tape }
+    ensures fits { Fits T.means host.new unit.new }
+    ensures rest { IsAtRest unit.new.drive }
+{
+    let last = LostSet::from_mask(1);
+    let others = LostSet::from_mask(!1);
+    write_sectors(host, unit, copy, u32::MAX, others, work)?;
+    write_sectors(host, unit, copy, u32::MAX, last, work)
+}
+
+// The parity of the header's data.
+fn parity_of(area: &[[u8; SECTOR]]) -> [[u8; SECTOR]; 3]
+    requires { length area.now ≡ 29 }
+    ensures parity { result ≡ parity_sectors area.now }
+    ensures sectors { All IsSector area.now }
+{
+    let mut parity = Parity::new();
+    for sector in area {
+        parity.push(sector);
+    }
+    parity.finish()
+}

@@ -1,0 +1,19 @@
+//! The formatting of a cartridge through the host: reference bursts, all segments, the map of the bad sectors, and both
+//! header copies (QIC-80-MC and the Linux ftape headers; the order of the steps is this project's profile).
+#![tactic(auto)]
+
+mod clearing;
+mod fault;
+mod formatting;
+mod header;
+mod marking;
+
+pub use fault::FormatFault;
+pub use formatting::{FormatReport, format};
+
+/// The tracks of a cartridge.
+const TRACKS: u32 = 28;
+/// Sectors a segment.
+const SECTORS: u8 = 32;
+/// The bytes of a sector.
+const SECTOR: usize = 1024;

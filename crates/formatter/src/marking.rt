@@ -1,0 +1,203 @@
+//! The pass over a formatted tape, which marks the sectors that can't be read.
+
+ghost use Rattle.std.specs.Prelude.{◌≡◌, ◌<◌, ◌≤◌, ◌+◌, ◌*◌, [], true, length, OnOk, IsOkUnless, MatchOption};
+ghost use Rattle.qic_base.specs.Cartridge.{place_of};
+ghost use Rattle.qic_base.specs.Tape.{Does, Tells};
+ghost use Rattle.drive_states.specs.Deck.{segments_per_track, is_stopped, is_referenced};
+ghost use Rattle.drive_states.specs.Reach.{reads_in, IsUnder};
+ghost use Rattle.host_driver.specs.Fits.{Agrees, Fits, IsAtRest};
+ghost use Rattle.host_driver.specs.Place.{KeepsMode};
+ghost use Rattle.formatter.specs.Marking.{MarksBelow, MarksUnreadable, IsFirstMarked, HasNoMarkInFront};
+
+use crate::{SECTOR, SECTORS, TRACKS};
+use bad_sector_map::BadMap;
+use drive_states::Unit;
+use host_driver::{Host, HostFault};
+use qic_base::{SectorRead, Tape};
+use qic117_commands::Mode;
+
+/// The segments of the header copies and of the volume table.
+const FRONT: u32 = 3;
+
+/// Reads all sectors of all segments, ascending, in Verify mode, and makes the map that marks those that can't be read.
+/// The sectors are read into the first of `sectors`.
+pub(crate) fn mark_all<T: Tape>(
+    host: &mut Host,
+    unit: &mut Unit<T>,
+    map: &mut BadMap,
+    sectors: &mut [[u8; SECTOR]],
+) -> Result<(), HostFault>
+    requires fits { Fits T.means host.old unit.old }
+    requires rest { IsAtRest unit.old.drive }
+    requires stopped { is_stopped unit.old.drive.deck.motion ≡ true }
+    requires referenced { is_referenced unit.old.drive.deck ≡ true }
+    requires room { 1 ≤ length sectors.old }
+    ensures did { Does T.means unit.old.tape unit.new.tape [] result }
+    ensures fault { IsOkUnless result HostFault.Tape }
+    ensures marks { OnOk result (Tells T.means unit.old.tape (λ c. MarksUnreadable c map.new)) }
+    ensures words { length map.new ≡ 28 * segments_per_track unit.old.drive.deck }
+    ensures stopped { OnOk result (is_stopped unit.new.drive.deck.motion ≡ true) }
+    ensures cartridge { unit.new.drive.deck.cartridge ≡ unit.old.drive.deck.cartridge }
+    ensures agrees { Agrees T.means unit.old → Agrees T.means unit.new }
+    ensures size { T.means.size unit.new.tape ≡ T.means.size unit.old.tape }
+    ensures fits { Fits T.means host.new unit.new }
+    ensures rest { IsAtRest unit.new.drive }
+{
+    map.reset(host.geometry().segments());
+    host.enter(unit, Mode::Verify)?;
+    mark_tracks(host, unit, map, sectors)
+}
+
+// Marks the unreadable sectors of all tracks.
+#[tactic(auto, using(qic_base::proofs::Steps::joins))]
+fn mark_tracks<T: Tape>(
+    host: &mut Host,
+    unit: &mut Unit<T>,
+    map: &mut BadMap,
+    sectors: &mut [[u8; SECTOR]],
+) -> Result<(), HostFault>
+    requires fits { Fits T.means host.old unit.old }
+    requires rest { IsAtRest unit.old.drive }
+    requires mode { reads_in unit.old.drive.deck.mode ≡ true }
+    requires stopped { is_stopped unit.old.drive.deck.motion ≡ true }
+    requires referenced { is_referenced unit.old.drive.deck ≡ true }
+    requires words { length map.old ≡ 28 * segments_per_track unit.old.drive.deck }
+    requires room { 1 ≤ length sectors.old }
+    ensures did { Does T.means unit.old.tape unit.new.tape [] result }
+    ensures fault { IsOkUnless result HostFault.Tape }
+    ensures marks { OnOk result (Tells T.means unit.old.tape (λ c.
+        MarksBelow c map.old 0 → MarksBelow c map.new (32 * length map.old))) }
+    ensures words { length map.new ≡ length map.old }
+    ensures stopped { OnOk result (is_stopped unit.new.drive.deck.motion ≡ true) }
+    ensures same { KeepsMode unit.old.drive.deck unit.new.drive.deck }
+    ensures agrees { Agrees T.means unit.old → Agrees T.means unit.new }
+    ensures size { T.means.size unit.new.tape ≡ T.means.size unit.old.tape }
+    ensures fits { Fits T.means host.new unit.new }
+    ensures rest { IsAtRest unit.new.drive }
+{
+    for track in 0..TRACKS {
+        mark_track(host, unit, track, map, sectors)?;
+    }
+    Ok(())
+}
+
+// Marks the unreadable sectors of a track.
+#[tactic(auto, using(qic_base::proofs::Steps::joins))]
+fn mark_track<T: Tape>(
+    host: &mut Host,
+    unit: &mut Unit<T>,
+    track: u32,
+    map: &mut BadMap,
+    sectors: &mut [[u8; SECTOR]],
+) -> Result<(), HostFault>
+    requires fits { Fits T.means host.old unit.old }
+    requires rest { IsAtRest unit.old.drive }
+    requires mode { reads_in unit.old.drive.deck.mode ≡ true }
+    requires referenced { is_referenced unit.old.drive.deck ≡ true }
+    requires track { track < 28 }
+    requires words { length map.old ≡ 28 * segments_per_track unit.old.drive.deck }
+    requires room { 1 ≤ length sectors.old }
+    ensures did { Does T.means unit.old.tape unit.new.tape [] result }
+    ensures fault { IsOkUnless result HostFault.Tape }
+    ensures marks { let n = segments_per_track unit.old.drive.deck in
+        OnOk result (Tells T.means unit.old.tape (λ c. MarksBelow c map.old (32 * (track * n)) →
+        MarksBelow c map.new (32 * ((track + 1) * n)))) }
+    ensures words { length map.new ≡ length map.old }
+    ensures stopped { OnOk result (is_stopped unit.new.drive.deck.motion ≡ true) }
+    ensures same { KeepsMode unit.old.drive.deck unit.new.drive.deck }
+    ensures agrees { Agrees T.means unit.old → Agrees T.means unit.new }
+    ensures size { T.means.size unit.new.tape ≡ T.means.size unit.old.tape }
+    ensures fits { Fits T.means host.new unit.new }
+    ensures rest { IsAtRest unit.new.drive }
+{
+    let count = u32::from(host.geometry().segments_per_track());
+    let first = track * count;
+    host.go_to(unit, first)?;
+    for offset in 0..count {
+        mark_segment(host, unit, first + offset, map, sectors)?;
+        host.next_segment(unit)?;
+    }
+    Ok(())
+}
+
+// Marks the unreadable sectors of the segment in which the tape streams.
+#[tactic(auto, using(qic_base::proofs::Steps::joins))]
+fn mark_segment<T: Tape>(
+    host: &mut Host,
+    unit: &mut Unit<T>,
+    segment: u32,
+    map: &mut BadMap,
+    sectors: &mut [[u8; SECTOR]],
+) -> Result<(), HostFault>
+    requires fits { Fits T.means host.old unit.old }
+    requires rest { IsAtRest unit.old.drive }
+    requires mode { reads_in unit.old.drive.deck.mode ≡ true }
+    requires under { IsUnder unit.old.drive.deck segment 0 }
+    requires segment { segment < length map.old }
+    requires room { 1 ≤ length sectors.old }
+    ensures did { Does T.means unit.old.tape unit.new.tape [] result }
+    ensures fault { IsOkUnless result HostFault.Tape }
+    ensures marks { OnOk result (Tells T.means unit.old.tape (λ c.
+        MarksBelow c map.old (32 * segment) → MarksBelow c map.new (32 * (segment + 1)))) }
+    ensures words { length map.new ≡ length map.old }
+    ensures under { OnOk result (IsUnder unit.new.drive.deck segment 32) }
+    ensures same { KeepsMode unit.old.drive.deck unit.new.drive.deck }
+    ensures agrees { Agrees T.means unit.old → Agrees T.means unit.new }
+    ensures size { T.means.size unit.new.tape ≡ T.means.size unit.old.tape }
+    ensures fits { Fits T.means host.new unit.new }
+    ensures rest { IsAtRest unit.new.drive }
+{
+    for index in 0..SECTORS {
+        mark_sector(host, unit, segment, index, map, sectors)?;
+    }
+    Ok(())
+}
+
+// Marks the next sector of the segment in which the tape streams, where that can't be read.
+fn mark_sector<T: Tape>(
+    host: &mut Host,
+    unit: &mut Unit<T>,
+    segment: u32,
+    index: u8,
+    map: &mut BadMap,
+    sectors: &mut [[u8; SECTOR]],
+) -> Result<(), HostFault>
+    requires fits { Fits T.means host.old unit.old }
+    requires rest { IsAtRest unit.old.drive }
+    requires mode { reads_in unit.old.drive.deck.mode ≡ true }
+    requires under { IsUnder unit.old.drive.deck segment index }
+    requires index { index < 32 }
+    requires segment { segment < length map.old }
+    requires room { 1 ≤ length sectors.old }
+    ensures did { Does T.means unit.old.tape unit.new.tape [] result }
+    ensures fault { IsOkUnless result HostFault.Tape }
+    ensures marks { OnOk result (Tells T.means unit.old.tape (λ c.
+        MarksBelow c map.old (place_of segment index) →
+        MarksBelow c map.new (place_of segment index + 1))) }
+    ensures words { length map.new ≡ length map.old }
+    ensures under { IsUnder unit.new.drive.deck segment (index + 1) }
+    ensures same { KeepsMode unit.old.drive.deck unit.new.drive.deck }
+    ensures agrees { Agrees T.means unit.old → Agrees T.means unit.new }
+    ensures size { T.means.size unit.new.tape ≡ T.means.size unit.old.tape }
+    ensures fits { Fits T.means host.new unit.new }
+    ensures rest { IsAtRest unit.new.drive }
+{
+    match host.read_sector(unit, segment, index, &mut sectors[0])? {
+        SectorRead::Good => {}
+        SectorRead::Lost | SectorRead::Blank => map.mark(segment, index),
+    }
+    Ok(())
+}
+
+/// The first of the segments 0 to 2, those of the header copies and of the volume table, that has a marked sector.
+pub(crate) fn first_marked(map: &BadMap) -> Option<u32>
+    requires { 3 ≤ length map.now }
+    ensures { MatchOption result (HasNoMarkInFront map.now) (IsFirstMarked map.now) }
+{
+    for segment in 0..FRONT {
+        if map.usable(segment) != u32::MAX {
+            return Some(segment);
+        }
+    }
+    None
+}
