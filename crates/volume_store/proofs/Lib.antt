@@ -1,0 +1,7 @@
+pub mod TableSegment
+pub mod Copies
+pub mod Stale
+pub mod Mending
+pub mod Mounts
+pub mod Settled
+pub mod Storing

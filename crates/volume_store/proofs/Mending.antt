@@ -1,0 +1,82 @@
+-- The writes of a settling, as those of a set of places and as those of a cartridge.
+use Rattle.std.proofs.Common.{◌≡◌, ℕ, zero, suc, ◌+◌, ◌<◌, ◌≤◌, ◌++◌, refl, sym, ◌∙◌, ap, arith, Bool, true, false, cond, List, [], ◌∷◌, map, get_or, filter, add-zero, zero-add}
+use Rattle.std.specs.Prelude.{slice_index, if◌then◌else◌}
+use Rattle.std.specs.List.{range_with_len}
+use Rattle.std.proofs.lemmas.List.{map-append}
+use Rattle.std.proofs.lemmas.List.Elements.{filter-append}
+use Rattle.std.proofs.lemmas.List.FromFn.{get_or-range_with_len}
+use Rattle.qic_base.specs.LostSet.{lost_places}
+use Rattle.erasure_solve.specs.Lost.{is_lost}
+use Rattle.cartridge_spec.specs.Segment.{sector_at}
+use Rattle.cartridge_spec.specs.Says.{whole_mask}
+use Rattle.cartridge_spec.specs.Shape.{usable_places}
+use Rattle.cartridge_spec.specs.Writes.{writes_of}
+use Rattle.cartridge_spec.proofs.Segments.{places_of_whole}
+use Rattle.segment_io.specs.Writes.{named_writes}
+use Rattle.mount_laws.specs.Settling.{places_where, block_writes}
+use Rattle.volume_store.specs.Settling.{block_of, is_stale, mending_steps}
+
+-- ---- the places of a set
+
+pub range_more : (a n : ℕ) → range_with_len a (suc n) ≡ range_with_len a n ++ (a + n) ∷ []
+range_more a zero = ap (λ (k : ℕ). k ∷ []) (sym (add-zero a))
+range_more a (suc n) =
+    let next : a + 1 + n ≡ a + suc n = omega arith in
+    ap (λ (l : List ℕ). a ∷ l) (range_more (a + 1) n) ∙ ap (λ (k : ℕ). a ∷ (range_with_len (a + 1) n ++ k ∷ [])) next
+
+filter_more : (test : ℕ → Bool) (n : ℕ) → filter test (range_with_len 0 (suc n)) ≡ filter test (range_with_len 0 n) ++ (if test n then n ∷ [] else [])
+filter_more test n =
+    ap (filter test) (range_more 0 n ∙ ap (λ (k : ℕ). range_with_len 0 n ++ k ∷ []) (zero-add n))
+    ∙ filter-append test (range_with_len 0 n) (n ∷ [])
+
+places_filter : (mask n : ℕ) (test : ℕ → Bool) → ((i : ℕ) → i < n → is_lost mask i ≡ test i) → lost_places mask n ≡ filter test (range_with_len 0 n)
+unfolding lost_places
+places_filter mask zero test same = refl
+places_filter mask (suc n) test same =
+    ap (λ (l : List ℕ). l ++ (if is_lost mask n then n ∷ [] else [])) (places_filter mask n test (λ i within. same i (omega arith)))
+    ∙ ap (λ (b : Bool). filter test (range_with_len 0 n) ++ (if b then n ∷ [] else [])) (same n (omega arith))
+    ∙ sym (filter_more test n)
+
+pub places_of_set : (mask : ℕ) (test : ℕ → Bool) → ((i : ℕ) → i < 32 → is_lost mask i ≡ test i) → lost_places mask 32 ≡ places_where test
+unfolding places_where
+places_of_set mask test same = places_filter mask 32 test same
+
+-- tests that agree have the same places
+filter_same : (a n : ℕ) (one other : ℕ → Bool) → ((i : ℕ) → i < a + n → one i ≡ other i) → filter one (range_with_len a n) ≡ filter other (range_with_len a n)
+filter_same a zero one other same = refl
+filter_same a (suc n) one other same =
+    ap (λ (b : Bool). cond b (a ∷ filter one (range_with_len (a + 1) n)) (filter one (range_with_len (a + 1) n))) (same a (omega arith))
+    ∙ ap (λ (l : List ℕ). cond (other a) (a ∷ l) l) (filter_same (a + 1) n one other (λ i within. same i (omega arith)))
+
+pub places_same : (one other : ℕ → Bool) → ((i : ℕ) → i < 32 → one i ≡ other i) → places_where one ≡ places_where other
+unfolding places_where
+places_same one other same = filter_same 0 32 one other (λ i within. same i (omega arith))
+
+-- the place of a whole segment's sector is its index
+index_of : (mask n : ℕ) → n ≤ 32 → map (λ place. slice_index (usable_places whole_mask) place) (lost_places mask n) ≡ lost_places mask n
+unfolding lost_places
+index_of mask zero few = refl
+index_of mask (suc n) few =
+    map-append (λ place. slice_index (usable_places whole_mask) place) (lost_places mask n) (if is_lost mask n then n ∷ [] else [])
+    ∙ ap (λ (l : List ℕ). l ++ map (λ place. slice_index (usable_places whole_mask) place) (if is_lost mask n then n ∷ [] else [])) (index_of mask n (omega arith))
+    ∙ ap (λ (l : List ℕ). lost_places mask n ++ l) (last (is_lost mask n))
+  where
+    here : slice_index (usable_places whole_mask) n ≡ n
+    here = ap (λ (places : List ℕ). get_or places n 0) places_of_whole ∙ get_or-range_with_len 0 32 n 0 (omega arith) ∙ zero-add n
+
+    last : (b : Bool) → map (λ place. slice_index (usable_places whole_mask) place) (if b then n ∷ [] else []) ≡ (if b then n ∷ [] else [])
+    last true = ap (λ (k : ℕ). k ∷ []) here
+    last false = refl
+
+-- the writes of a set of places of a whole segment
+pub writes_of_set : (stale : ℕ) (block : List (List ℕ)) (test : ℕ → Bool) → ((i : ℕ) → i < 32 → is_lost stale i ≡ test i) →
+    named_writes 2 4294967295 stale block ≡ block_writes block (places_where test)
+writes_of_set stale block test same =
+    ap (λ (places : List ℕ). writes_of 2 places (map (λ place. sector_at block place) (lost_places stale 32))) (index_of stale 32 (omega arith))
+    ∙ ap (block_writes block) (places_of_set stale test same)
+
+pub mend_writes : (stale lost : ℕ) (old new : List (List ℕ)) → new ≡ block_of old → ((i : ℕ) → i < 32 → is_lost stale i ≡ is_stale lost old new i) →
+    named_writes 2 4294967295 stale new ≡ mending_steps false lost old
+mend_writes stale lost old new is same =
+    writes_of_set stale new (is_stale lost old new) same
+    ∙ ap (λ (block : List (List ℕ)). block_writes block (places_where (is_stale lost old block))) is

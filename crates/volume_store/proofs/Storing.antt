@@ -1,0 +1,184 @@
+-- What a store is made of: where its volumes end, and what the mounting of its cartridge did.
+use Rattle.std.proofs.Common.{◌≡◌, ℕ, suc, ◌+◌, ◌-◌, ◌*◌, ◌<◌, ◌≤◌, ◌++◌, Bool, true, false, List, [], ◌∷◌, length, map, take, Option, Some, None, IfSome, IsSomeAnd, refl, sym, ap, ◌∙◌, subst, arith}
+use Rattle.std.specs.Prelude.{sum_by, if◌then◌else◌}
+use Rattle.std.specs.List.{range_with_len}
+use Rattle.std.specs.Option.{option_map, option_map_or}
+use Rattle.std.proofs.lemmas.Bool.Decides.{nat_tests}
+use Rattle.std.proofs.lemmas.List.Sums.{sum_by_push}
+use Rattle.std.proofs.lemmas.Option.{get_or_from_slice_get}
+use Rattle.qic_base.specs.Cartridge.{Cartridge, IsCartridge}
+use Rattle.qic_base.specs.Step.{Step, WriteSector, changed, effects}
+use Rattle.qic_base.specs.Tape.{Meaning, Done, Tells, IsToldRight}
+use Rattle.qic_base.specs.declared.tape.TapeInfo.{TapeInfo}
+use Rattle.cartridge_spec.specs.Header.{Header}
+use Rattle.cartridge_spec.specs.Table.{Entry, slot, slot_fault, some_free_below, has_bad_range, entry_in, is_used}
+use Rattle.cartridge_spec.specs.Volumes.{TableIs, settled}
+use Rattle.cartridge_spec.specs.Writes.{writes_of, changed_by}
+use Rattle.cartridge_spec.specs.Segment.{sector_at}
+use Rattle.cartridge_spec.specs.Says.{whole_mask}
+use Rattle.cartridge_spec.specs.Shape.{usable_places}
+use Rattle.gf256_qic.specs.Code.{parity_sectors}
+use Rattle.volume_table.proofs.SlotLaws.{used_not_free, slot_fault-behind_free, slot_fault-bad_range}
+use Rattle.drive_states.specs.Deck.{is_protected, is_referenced}
+use Rattle.drive_states.specs.Sound.{HasLength}
+use Rattle.drive_states.specs.Unit.{UnitView}
+use Rattle.host_driver.specs.declared.host.Host.{Host}
+use Rattle.host_driver.specs.Fits.{Fits, Agrees, segments_of, deck_of}
+use Rattle.host_driver.specs.Place.{KeepsMode}
+use Rattle.qic117_commands.specs.Views.{is_primary}
+use Rattle.drive_states.specs.declared.deck.Deck.{Deck}
+use Rattle.qic_base.proofs.Steps.{Tells-read}
+use Rattle.header_segments.specs.Header.{header_of}
+use Rattle.volume_store.specs.declared.learning.Learnt.{Learnt}
+use Rattle.volume_store.specs.Finding.{ShowsVolumes}
+use Rattle.volume_store.specs.Mounting.{HasLearnt, Settles, HasList, LieWithin}
+use Rattle.mount_laws.specs.Settling.{settling_steps, block_writes, places_where, is_unsettled}
+use Rattle.volume_store.specs.Settling.{mending_steps, block_of, is_stale}
+use Rattle.volume_store.proofs.Copies.{IsLearnt, told_learnt, tells_two}
+use Rattle.volume_store.proofs.Mending.{range_more}
+use Rattle.volume_store.proofs.Settled.{mending_settles, steps_settle, settled_list, writes_info}
+
+-- ---- sums over segments
+
+pub sum_more : (f : ℕ → ℕ) (start segment : ℕ) → start ≤ segment →
+    sum_by f (range_with_len start (segment + 1 - start)) ≡ sum_by f (range_with_len start (segment - start)) + f segment
+sum_more f start segment h =
+    let n : ℕ = segment - start in
+    let more : segment + 1 - start ≡ suc n = omega arith in
+    let last : start + n ≡ segment = omega arith in
+    ap (λ (k : ℕ). sum_by f (range_with_len start k)) more
+    ∙ ap (sum_by f) (range_more start n ∙ ap (λ (k : ℕ). range_with_len start n ++ k ∷ []) last)
+    ∙ sum_by_push f (range_with_len start n) segment
+
+-- ---- where volumes end
+
+pub good_range : (area : List (List ℕ)) (last i : ℕ) → slot_fault area last i ≡ None → is_used (slot area i) ≡ true → has_bad_range area last i ≡ false
+good_range area last i sound used = by_below (some_free_below area i) refl
+  where
+    by_bad : some_free_below area i ≡ false → (b : Bool) → has_bad_range area last i ≡ b → has_bad_range area last i ≡ false
+    by_bad none true is = let fault = slot_fault-bad_range area last i used none is in cc
+    by_bad none false is = is
+
+    by_below : (b : Bool) → some_free_below area i ≡ b → has_bad_range area last i ≡ false
+    by_below true is = let fault = slot_fault-behind_free area last i (used_not_free (slot area i) used) used is in cc
+    by_below false is = by_bad is (has_bad_range area last i) refl
+
+ends_within : (area : List (List ℕ)) (last i : ℕ) → has_bad_range area last i ≡ false → (entry_in (slot area i)).end ≤ last
+ends_within area last i good = grind (arith, nat_tests)
+
+-- each volume that sound data show ends by the last segment
+pub lie_within : (area : List (List ℕ)) (last segments : ℕ) (entries : List Entry) → ShowsVolumes area last entries → last < segments → LieWithin segments entries
+lie_within area last segments entries shows below k d within =
+    let room : length entries ≤ 232 = shows.shown.room in
+    let used = shows.shown.used k within in
+    let good = good_range area last k (shows.sound k (omega arith)) used in
+    let end = ends_within area last k good in
+    let is = get_or_from_slice_get entries k (entry_in (slot area k)) d (shows.shown.shown k within) in
+    subst (λ (e : Entry). e.end < segments) (sym is) (omega arith)
+
+long_cartridge : (cartridge : Option TapeInfo) (n : ℕ) → IsSomeAnd cartridge (λ info. info.segments_per_track ≡ n) → HasLength cartridge → 3 ≤ n
+long_cartridge None n there long = absurd there
+long_cartridge (Some info) n there long = let least = long.shortest in omega arith
+
+-- the last segment is one of the cartridge's
+pub last_below : {T : Type 0} (m : Meaning T) (host : Host) (u : UnitView T) → Fits m host u → 28 * segments_of host - 1 < 28 * segments_of host
+last_below m host u fits =
+    let long : 3 ≤ segments_of host = long_cartridge u.drive.deck.cartridge (segments_of host) fits.cartridge fits.sound.drive.deck.long in omega arith
+
+-- ---- what the mounting did
+
+-- the writes of the workspace settle a cartridge that was learnt
+pub settles_learnt : (host : Host) (c : Cartridge) (words : List ℕ) (sectors : List (List ℕ)) (entries : List Entry) (learnt : Learnt) (protected : Bool) → length sectors ≡ 32 →
+    protected ≡ is_protected (deck_of host) → IsLearnt host c → HasLearnt c words sectors entries learnt →
+    Settles c (header_of learnt.header) words entries (mending_steps protected learnt.lost sectors)
+settles_learnt host c words sectors entries learnt protected room mark known has = record {
+  table = take 29 sectors;
+  mounts = has.mounts;
+  settles = mending_settles c protected learnt.lost sectors room has.gathered (known.protected ∙ sym mark);
+}
+
+-- writes to a cartridge that is there
+effects_changed : (places : List ℕ) (sectors : List (List ℕ)) (c : Cartridge) → effects (writes_of 2 places sectors) (Some c) ≡ Some (changed_by (writes_of 2 places sectors) c)
+effects_changed [] sectors c = refl
+effects_changed (p ∷ places) [] c = refl
+effects_changed (p ∷ places) (bytes ∷ sectors) c = effects_changed places sectors (changed (WriteSector 2 p bytes) c)
+
+pub settling_effects : (area : List (List ℕ)) (c : Cartridge) → effects (settling_steps area c) (Some c) ≡ Some (changed_by (settling_steps area c) c)
+settling_effects area c = by_mark c.info.protected
+  where
+    by_mark : (b : Bool) →
+        effects (if b then [] else block_writes (area ++ parity_sectors area) (places_where (is_unsettled c (area ++ parity_sectors area)))) (Some c)
+        ≡ Some (changed_by (if b then [] else block_writes (area ++ parity_sectors area) (places_where (is_unsettled c (area ++ parity_sectors area)))) c)
+    by_mark true = refl
+    by_mark false = effects_changed (places_where (is_unsettled c (area ++ parity_sectors area))) (map (sector_at (area ++ parity_sectors area)) (places_where (is_unsettled c (area ++ parity_sectors area)))) c
+
+settled_info : (area : List (List ℕ)) (c : Cartridge) → (settled area c).info ≡ c.info
+settled_info area c = by_mark c.info.protected
+  where
+    by_mark : (b : Bool) → (if b then c else changed_by (writes_of 2 (usable_places whole_mask) (area ++ parity_sectors area)) c).info ≡ c.info
+    by_mark true = refl
+    by_mark false = writes_info (usable_places whole_mask) (area ++ parity_sectors area) c 2
+
+-- .. and to none
+none_written : (places : List ℕ) (sectors : List (List ℕ)) → effects (writes_of 2 places sectors) None ≡ None
+none_written [] sectors = refl
+none_written (p ∷ places) [] = refl
+none_written (p ∷ places) (bytes ∷ sectors) = none_written places sectors
+
+pub none_mended : (protected : Bool) (lost : ℕ) (sectors : List (List ℕ)) → effects (mending_steps protected lost sectors) None ≡ None
+none_mended true lost sectors = refl
+none_mended false lost sectors =
+    none_written (places_where (is_stale lost sectors (block_of sectors))) (map (sector_at (block_of sectors)) (places_where (is_stale lost sectors (block_of sectors))))
+
+-- what a told cartridge is after it was settled
+abbrev ListsWhereWritable : List Entry → Option Cartridge → Type 0
+ListsWhereWritable entries held = IfSome held (λ c. c.info.protected ≡ false → HasList c entries)
+
+settled_lists : (c : Cartridge) (header : Header) (words : List ℕ) (entries : List Entry) (steps : List Step) → IsCartridge c → Settles c header words entries steps →
+    ListsWhereWritable entries (effects steps (Some c))
+settled_lists c header words entries steps whole settles =
+    let table : TableIs c settles.table = settles.mounts.reads in
+    let after : effects steps (Some c) ≡ Some (settled settles.table c) =
+    ap (λ (ss : List Step). effects ss (Some c)) settles.settles ∙ settling_effects settles.table c ∙ ap Some (steps_settle c settles.table table) in
+    subst (ListsWhereWritable entries) (sym after)
+    (λ mark. settled_list c settles.table entries whole table settles.mounts.shown (ap (λ (info : TapeInfo). info.protected) (sym (settled_info settles.table c)) ∙ mark))
+
+-- the store's list is that of the settled cartridge
+pub told_lists : {T : Type 0} (m : Meaning T) (old new : T) (header : Header) (words : List ℕ) (entries : List Entry) (steps : List Step) →
+    IsToldRight (m.told old) (m.size old) → effects steps None ≡ None → Done m old new steps → Tells m old (λ c. Settles c header words entries steps) →
+    Tells m new (λ c. c.info.protected ≡ false → HasList c entries)
+told_lists m old new header words entries steps right none done settles =
+    subst (λ (told : Option (Option Cartridge)). IfSome told (ListsWhereWritable entries)) (sym done.told) (by_told (m.told old) (m.size old) right settles)
+  where
+    by_told : (told : Option (Option Cartridge)) (size : Option ℕ) → IsToldRight told size → IfSome told (λ h. IfSome h (λ c. Settles c header words entries steps)) →
+        IfSome (option_map (effects steps) told) (ListsWhereWritable entries)
+    by_told None size known fact = tt
+    by_told (Some None) size known fact = subst (ListsWhereWritable entries) (sym none) tt
+    by_told (Some (Some c)) size known fact = settled_lists c header words entries steps known.0 fact
+
+-- where the tape tells, the settling's writes are those of the cartridge that was mounted
+pub told_settles : {T : Type 0} (m : Meaning T) (host : Host) (old : T) (u : UnitView T) (words : List ℕ) (sectors : List (List ℕ)) (entries : List Entry) (learnt : Learnt) →
+    Fits m host u → Agrees m u → Done m old u.tape [] → length sectors ≡ 32 → Tells m old (λ c. HasLearnt c words sectors entries learnt) →
+    Tells m old (λ c. Settles c (header_of learnt.header) words entries (mending_steps (is_protected u.drive.deck) learnt.lost sectors))
+told_settles m host old u words sectors entries learnt fits agrees read room has =
+    tells_two m old (IsLearnt host) (λ c. HasLearnt c words sectors entries learnt)
+    (λ c. Settles c (header_of learnt.header) words entries (mending_steps (is_protected u.drive.deck) learnt.lost sectors))
+    (λ c known mounted. settles_learnt host c words sectors entries learnt (is_protected u.drive.deck) room (ap is_protected fits.deck) known mounted)
+    (Tells-read (IsLearnt host) read (told_learnt m host u fits agrees)) has
+
+-- hosts that fit units with one cartridge have learnt one length
+pub one_length : {T : Type 0} (m : Meaning T) (one other : Host) (u v : UnitView T) → Fits m one u → Fits m other v → v.drive.deck.cartridge ≡ u.drive.deck.cartridge → segments_of one ≡ segments_of other
+one_length m one other u v fits next same =
+    by_cartridge u.drive.deck.cartridge fits.cartridge (subst (λ (cartridge : Option TapeInfo). IsSomeAnd cartridge (λ info. info.segments_per_track ≡ segments_of other)) same next.cartridge)
+  where
+    by_cartridge : (cartridge : Option TapeInfo) → IsSomeAnd cartridge (λ info. info.segments_per_track ≡ segments_of one) → IsSomeAnd cartridge (λ info. info.segments_per_track ≡ segments_of other) →
+        segments_of one ≡ segments_of other
+    by_cartridge None first second = absurd first
+    by_cartridge (Some info) first second = sym first ∙ second
+
+pub still_primary : (a b : Deck) → KeepsMode a b → is_primary a.mode ≡ true → is_primary b.mode ≡ true
+still_primary a b keeps was = ap is_primary keeps.mode ∙ was
+
+pub still_referenced : (a b : Deck) → KeepsMode a b → is_referenced a ≡ true → is_referenced b ≡ true
+still_referenced a b keeps was =
+    ap (λ (cartridge : Option TapeInfo). option_map_or (λ (info : TapeInfo). info.referenced) cartridge false) keeps.cartridge ∙ was

@@ -1,0 +1,60 @@
+use Rattle.std.proofs.Common.{◌≡◌, ◌≢◌, ℕ, ◌-◌, ◌*◌, List, [], Result, Err, sym, ap, ◌∙◌, subst, arith}
+use Rattle.std.proofs.lemmas.Grind.{common_steps}
+use Rattle.qic_base.specs.Tape.{Done, Tells}
+use Rattle.qic_base.proofs.Steps.{Done-after_reads, Tells-read}
+use Rattle.cartridge_spec.specs.Table.{Entry}
+use Rattle.header_segments.specs.declared.header.Header.{Header}
+use Rattle.host_driver.specs.declared.host.Host.{Host}
+use Rattle.host_driver.specs.Fits.{segments_of}
+use Rattle.volume_store.specs.declared.fault.StoreFault.{StoreFault}
+use Rattle.volume_store.specs.declared.fault.StoreFault.TheVariants.{Tape}
+use Rattle.volume_store.specs.declared.learning.Learnt.{Learnt}
+use Rattle.volume_store.specs.Finding.{HasFormat, FindsVolumes}
+use Rattle.volume_store.specs.Mounting.{Learns}
+use Rattle.volume_store.proofs.Copies.{leaves_after, leaves_on, tells_two, IsLearnt, told_learnt}
+use Rattle.volume_store.proofs.Mounts.{refuses_table}
+use Rattle.volume_store.proofs.learning.learn.Goals as goal
+
+pub returns-clause-did : goal.returns-clause-did
+returns-clause-did g c =
+    let first : Done g.T.Tape.means c.args.unit.now.tape c.read_header.new.unit.tape [] =
+    subst (λ tape. Done g.T.Tape.means tape c.read_header.new.unit.tape []) c.in_ok-enter_primary.ensures.tape c.in_ok-header.ensures.did in
+    Done-after_reads first c.in_ok-lost.ensures.did
+
+pub returns-in_err-lost-clause-did : goal.returns-in_err-lost-clause-did
+returns-in_err-lost-clause-did g c =
+    let fault : StoreFault = c.in_err-lost.field-0.0 in
+    let is : c.from_residual-in_err-lost.result ≡ Err fault =
+    grind (arith, common_steps, c.from_residual-in_err-lost.ensures) in
+    let first : Done g.T.Tape.means c.args.unit.now.tape c.read_header.new.unit.tape [] =
+    subst (λ tape. Done g.T.Tape.means tape c.read_header.new.unit.tape []) c.in_ok-enter_primary.ensures.tape c.in_ok-header.ensures.did in
+    leaves_after g.T.Tape.means c.args.unit.now.tape c.read_header.new.unit.tape c.read_volumes.new.unit.tape [] c.from_residual-in_err-lost.result first
+    (leaves_on g.T.Tape.means c.read_header.new.unit.tape c.read_volumes.new.unit.tape [] fault c.from_residual-in_err-lost.result is c.in_err-lost.ensures.did)
+
+pub returns-in_err-lost-clause-found : goal.returns-in_err-lost-clause-found
+returns-in_err-lost-clause-found g c = λ sound.
+    let m = g.T.Tape.means in
+    let fault : StoreFault = c.in_err-lost.field-0.0 in
+    let is : c.from_residual-in_err-lost.result ≡ Err fault =
+    grind (arith, common_steps, c.from_residual-in_err-lost.ensures) in
+    let apart : fault ≢ Tape = λ same. sound (is ∙ ap Err same) in
+    let host : Host = c.read_header.new.host in
+    let header : Header = c.in_ok-header.header in
+    let words : List ℕ = c.read_header.new.map in
+    let sectors : List (List ℕ) = c.read_volumes.new.work in
+    let entries : List Entry = c.read_volumes.new.table in
+    let last : ℕ = 28 * segments_of host - 1 in
+    let first : Done m c.args.unit.now.tape c.read_header.new.unit.tape [] =
+    subst (λ tape. Done m tape c.read_header.new.unit.tape []) c.in_ok-enter_primary.ensures.tape c.in_ok-header.ensures.did in
+    let learnt : Tells m c.args.unit.now.tape (IsLearnt host) =
+    Tells-read (IsLearnt host) first (told_learnt m host c.read_header.new.unit c.in_ok-header.ensures.fits c.in_ok-header.ensures.agrees) in
+    let format : Tells m c.args.unit.now.tape (λ c'. HasFormat c' words header) =
+    subst (λ tape. Tells m tape (λ c'. HasFormat c' words header)) c.in_ok-enter_primary.ensures.tape (c.in_ok-header.ensures.found (λ same. cc)) in
+    let both : Tells m c.args.unit.now.tape (λ c'. IsLearnt host c' × HasFormat c' words header) =
+    tells_two m c.args.unit.now.tape (IsLearnt host) (λ c'. HasFormat c' words header) (λ c'. IsLearnt host c' × HasFormat c' words header) (λ c' one two. (one, two)) learnt format in
+    let table : Tells m c.args.unit.now.tape (λ c'. FindsVolumes c' last sectors entries (Err fault)) =
+    Tells-read (λ c'. FindsVolumes c' last sectors entries (Err fault)) first (c.in_err-lost.ensures.found (λ same. apart (cc))) in
+    tells_two m c.args.unit.now.tape (λ c'. IsLearnt host c' × HasFormat c' words header) (λ c'. FindsVolumes c' last sectors entries (Err fault))
+    (λ c'. Learns c' words sectors entries c.from_residual-in_err-lost.result)
+    (λ c' known found. subst (λ (answer : Result Learnt StoreFault). Learns c' words sectors entries answer) (sym is)
+    (refuses_table host c' words header sectors entries fault known.0 known.1 found)) both table

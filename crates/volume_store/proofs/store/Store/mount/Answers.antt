@@ -1,0 +1,74 @@
+use Rattle.std.proofs.Common.{◌≡◌, ◌⊎◌, ℕ, ◌-◌, ◌*◌, List, [], length, take, Result, Err, sym, ap, ◌∙◌, subst, inr, arith}
+use Rattle.std.proofs.lemmas.Grind.{common_steps}
+use Rattle.qic_base.specs.Step.{Step}
+use Rattle.qic_base.proofs.Steps.{Done-after_reads, Broke-after_reads, Tells-map}
+use Rattle.drive_states.specs.Deck.{is_protected}
+use Rattle.header_segments.specs.Header.{header_of}
+use Rattle.host_driver.specs.declared.host.Host.{Host}
+use Rattle.host_driver.specs.Fits.{segments_of}
+use Rattle.volume_store.specs.declared.fault.StoreFault.{StoreFault}
+use Rattle.volume_store.specs.declared.fault.StoreFault.TheVariants.{Tape}
+use Rattle.volume_store.specs.Mounting.{LieWithin, StoreView, Settles, IsSettling, MountBreaks, MountDoes}
+use Rattle.volume_store.specs.Settling.{mending_steps}
+use Rattle.volume_store.proofs.Storing.{lie_within, last_below, told_settles, told_lists, none_mended, one_length, still_primary, still_referenced}
+use Rattle.volume_store.proofs.store.Store.mount.Goals as goal
+
+pub invariant_of-result : goal.invariant_of-result
+invariant_of-result g c =
+    let host : Host = c.learn.new.host in
+    let words = c.in_ok-learnt.ensures.words in
+    let last = last_below g.T.Tape.means host c.learn.new.unit c.in_ok-learnt.ensures.fits in
+    let size : length c.learn.new.map ≡ 28 * segments_of host = words.size in (
+      size ∙ ap (λ (n : ℕ). 28 * n) (sym words.length_told),
+      subst (λ (n : ℕ). LieWithin n c.learn.new.table) (sym size)
+          (lie_within (take 29 c.learn.new.work) (28 * segments_of host - 1) (28 * segments_of host) c.learn.new.table c.in_ok-learnt.ensures.volumes last),
+    )
+
+pub returns-clause-did : goal.returns-clause-did
+returns-clause-did g c = record {
+  steps = mending_steps (is_protected c.learn.new.unit.drive.deck) c.in_ok-learnt.learnt.lost c.learn.new.work;
+  done = Done-after_reads c.in_ok-learnt.ensures.did c.in_ok-settle.ensures.did;
+  told = told_settles g.T.Tape.means c.learn.new.host c.args.unit.now.tape c.learn.new.unit c.learn.new.map c.learn.new.work c.learn.new.table c.in_ok-learnt.learnt
+      c.in_ok-learnt.ensures.fits c.in_ok-learnt.ensures.agrees c.in_ok-learnt.ensures.did c.in_ok-learnt.ensures.room (c.in_ok-learnt.ensures.found (λ same. cc));
+}
+
+pub returns-clause-fits : goal.returns-clause-fits
+returns-clause-fits g c =
+    let m = g.T.Tape.means in
+    let words = c.in_ok-learnt.ensures.words in
+    let one : segments_of c.learn.new.host ≡ segments_of c.settle.new.host =
+    one_length m c.learn.new.host c.settle.new.host c.learn.new.unit c.settle.new.unit c.in_ok-learnt.ensures.fits c.in_ok-settle.ensures.fits c.in_ok-settle.ensures.same.cartridge in
+    let steps : List Step = mending_steps (is_protected c.learn.new.unit.drive.deck) c.in_ok-learnt.learnt.lost c.learn.new.work in
+    record {
+      host = c.in_ok-settle.ensures.fits;
+      rest = c.in_ok-settle.ensures.rest;
+      mode = still_primary c.learn.new.unit.drive.deck c.settle.new.unit.drive.deck c.in_ok-settle.ensures.same c.in_ok-learnt.ensures.mode;
+      referenced = still_referenced c.learn.new.unit.drive.deck c.settle.new.unit.drive.deck c.in_ok-settle.ensures.same c.in_ok-learnt.ensures.referenced;
+      agrees = c.in_ok-settle.ensures.agrees c.in_ok-learnt.ensures.agrees;
+      header = words.length_told ∙ one;
+      words = words.size ∙ ap (λ (n : ℕ). 28 * n) one;
+      volumes = told_lists m c.args.unit.now.tape c.settle.new.unit.tape (header_of c.in_ok-learnt.learnt.header) c.learn.new.map c.learn.new.table steps
+          (g.met.T.Tape.told_right c.args.unit.now.tape) (none_mended (is_protected c.learn.new.unit.drive.deck) c.in_ok-learnt.learnt.lost c.learn.new.work)
+          (Done-after_reads c.in_ok-learnt.ensures.did c.in_ok-settle.ensures.did)
+          (told_settles m c.learn.new.host c.args.unit.now.tape c.learn.new.unit c.learn.new.map c.learn.new.work c.learn.new.table c.in_ok-learnt.learnt
+          c.in_ok-learnt.ensures.fits c.in_ok-learnt.ensures.agrees c.in_ok-learnt.ensures.did c.in_ok-learnt.ensures.room (c.in_ok-learnt.ensures.found (λ same. cc)));
+    }
+
+pub returns-in_err-settle-clause-did : goal.returns-in_err-settle-clause-did
+returns-in_err-settle-clause-did g c =
+    let m = g.T.Tape.means in
+    let fault : StoreFault = c.in_err-settle.field-0.0 in
+    let is : c.from_residual-in_err-settle.result ≡ Err fault =
+    grind (arith, common_steps, c.from_residual-in_err-settle.ensures) in
+    let tape : fault ≡ Tape = c.in_err-settle.ensures.fault in
+    let steps : List Step = mending_steps (is_protected c.learn.new.unit.drive.deck) c.in_ok-learnt.learnt.lost c.learn.new.work in
+    let broken : MountBreaks m c.args.unit.now.tape c.settle.new.unit.tape = record {
+      steps = steps;
+      broke = Broke-after_reads c.in_ok-learnt.ensures.did c.in_err-settle.ensures.did;
+      told = Tells-map m c.args.unit.now.tape (λ c'. Settles c' (header_of c.in_ok-learnt.learnt.header) c.learn.new.map c.learn.new.table steps)
+          (λ c'. (steps ≡ []) ⊎ IsSettling c' steps)
+          (λ c' settles. inr (record { header = header_of c.in_ok-learnt.learnt.header; words = c.learn.new.map; entries = c.learn.new.table; settles = settles }))
+          (told_settles m c.learn.new.host c.args.unit.now.tape c.learn.new.unit c.learn.new.map c.learn.new.work c.learn.new.table c.in_ok-learnt.learnt
+          c.in_ok-learnt.ensures.fits c.in_ok-learnt.ensures.agrees c.in_ok-learnt.ensures.did c.in_ok-learnt.ensures.room (c.in_ok-learnt.ensures.found (λ same. cc)));
+    } in
+    subst (λ (answer : Result StoreView StoreFault). MountDoes m c.args.unit.now.tape c.settle.new.unit.tape answer) (sym (is ∙ ap Err tape)) broken

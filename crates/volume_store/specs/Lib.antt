@@ -1,0 +1,3 @@
+pub mod Finding
+pub mod Settling
+pub mod Mounting

@@ -1,0 +1,115 @@
+-- How a cartridge is mounted, what a store shows of it, and when a store fits a unit (this project's own).
+use Rattle.std.specs.Prelude.{◌≡◌, ◌⊎◌, ℕ, ◌*◌, ◌<◌, All, true, false, List, [], length, take, Result, Ok, Err}
+use Rattle.qic_base.specs.Cartridge.{Cartridge}
+use Rattle.qic_base.specs.Step.{Step}
+use Rattle.qic_base.specs.Tape.{Meaning, Done, Broke, Tells}
+use Rattle.qic117_commands.specs.Views.{is_primary}
+use Rattle.gf256_qic.specs.Code.{IsCodeBlock}
+use Rattle.cartridge_spec.specs.Header.{Header}
+use Rattle.cartridge_spec.specs.Says.{Agrees, data_of}
+use Rattle.cartridge_spec.specs.Table.{Entry}
+use Rattle.cartridge_spec.specs.Table as tables
+use Rattle.cartridge_spec.specs.Volumes.{table_cells, Mounts}
+use Rattle.cartridge_spec.specs.Volumes as mounting
+use Rattle.drive_states.specs.Deck.{is_referenced}
+use Rattle.drive_states.specs.Unit.{UnitView}
+use Rattle.host_driver.specs.declared.host.Host.{Host}
+use Rattle.host_driver.specs.Fits.{Fits, IsAtRest, segments_of}
+use Rattle.host_driver.specs.Fits as hosts
+use Rattle.header_segments.specs.Header.{header_of}
+use Rattle.segment_io.specs.Gathered.{Gathered}
+use Rattle.volume_store.specs.declared.fault.StoreFault.{StoreFault}
+use Rattle.volume_store.specs.declared.fault.StoreFault.TheVariants.{NotFormatted, Foreign, Lost, TableMismatch, Tape}
+use Rattle.volume_store.specs.declared.learning.Learnt.{Learnt}
+use Rattle.volume_store.specs.Finding.{named}
+use Rattle.mount_laws.specs.Settling.{settling_steps}
+
+-- ---- refusals
+
+-- the mounting of the cartridge is refused so
+abbrev pub MountRefuses : Cartridge → StoreFault → Type 0
+MountRefuses c NotFormatted = Mounts c mounting.NotFormatted
+MountRefuses c (Foreign field value) = Mounts c (mounting.Foreign (named field value))
+MountRefuses c (Lost segment lost) = (segment ≡ 2) × Mounts c (mounting.LostTable lost)
+MountRefuses c TableMismatch = Mounts c mounting.TableDisagrees
+MountRefuses c fault = ⊥
+
+-- ---- what was learnt
+
+-- the cartridge mounts with this header, these words and these entries, and the sectors of its segment 2 that can be
+-- read stand in their places
+pub record HasLearnt (c : Cartridge) (words : List ℕ) (sectors : List (List ℕ)) (entries : List Entry) (learnt : Learnt) : Type 0 where
+  pub mounts : Mounts c (mounting.Mounted (header_of learnt.header) words (take 29 sectors) entries)
+  pub gathered : Gathered (table_cells c) learnt.lost sectors
+
+abbrev pub Learns : Cartridge → (words : List ℕ) (sectors : List (List ℕ)) (entries : List Entry) → Result Learnt StoreFault → Type 0
+Learns c words sectors entries (Ok learnt) = HasLearnt c words sectors entries learnt
+Learns c words sectors entries (Err fault) = MountRefuses c fault
+
+-- ---- a store
+
+-- each volume ends before this segment
+abbrev pub LieWithin : (segments : ℕ) → List Entry → Type 0
+LieWithin segments entries = All (λ entry. entry.end < segments) entries
+
+-- what a store shows: the header in force, the words of the map and the entries of its volumes
+pub record StoreView : Type 0 where
+  pub host : Host
+  pub header : Header
+  pub words : List ℕ
+  pub entries : List Entry
+
+-- the cartridge mounts with this header, these words and these entries, and these steps settle it
+pub record Settles (c : Cartridge) (header : Header) (words : List ℕ) (entries : List Entry) (steps : List Step) : Type 0 where
+  pub table : List (List ℕ)
+  pub mounts : Mounts c (mounting.Mounted header words table entries)
+  pub settles : steps ≡ settling_steps table c
+
+-- the cartridge mounts, and these steps settle it
+pub record IsSettling (c : Cartridge) (steps : List Step) : Type 0 where
+  pub header : Header
+  pub words : List ℕ
+  pub entries : List Entry
+  pub settles : Settles c header words entries steps
+
+-- a cartridge was mounted, and its table settled
+pub record MountsAs {T : Type 0} (m : Meaning T) (old new : T) (store : StoreView) : Type 0 where
+  pub steps : List Step
+  pub done : Done m old new steps
+  pub told : Tells m old (λ c. Settles c store.header store.words store.entries steps)
+
+-- a fault of the tape broke the settling off, or came before it
+pub record MountBreaks {T : Type 0} (m : Meaning T) (old new : T) : Type 0 where
+  pub steps : List Step
+  pub broke : Broke m old new steps
+  pub told : Tells m old (λ c. (steps ≡ []) ⊎ IsSettling c steps)
+
+-- a mounting was refused before anything was written
+pub record MountRefused {T : Type 0} (m : Meaning T) (old new : T) (fault : StoreFault) : Type 0 where
+  pub done : Done m old new []
+  pub told : Tells m old (λ c. MountRefuses c fault)
+
+-- what a mounting did, by its answer
+abbrev pub MountDoes : {T : Type 0} (m : Meaning T) (old new : T) → Result StoreView StoreFault → Type 0
+MountDoes m old new (Ok store) = MountsAs m old new store
+MountDoes m old new (Err Tape) = MountBreaks m old new
+MountDoes m old new (Err fault) = MountRefused m old new fault
+
+-- the sectors of segment 2 that can be read are those of one code block whose data show these volumes
+pub record HasList (c : Cartridge) (entries : List Entry) : Type 0 where
+  pub block : List (List ℕ)
+  pub code : IsCodeBlock block
+  pub agrees : Agrees (table_cells c) block
+  pub shown : tables.Shows (data_of block) entries
+
+-- A store fits a unit: its host does, in Primary mode, it has learnt the cartridge, and where that is told and may be
+-- written its volume table is settled.
+pub record StoreFits {T : Type 0} (m : Meaning T) (store : StoreView) (u : UnitView T) : Type 0 where
+  pub host : Fits m store.host u
+  pub rest : IsAtRest u.drive
+  pub mode : is_primary u.drive.deck.mode ≡ true
+  pub referenced : is_referenced u.drive.deck ≡ true
+  pub agrees : hosts.Agrees m u
+  pub header : store.header.segments_per_track ≡ segments_of store.host
+  pub words : length store.words ≡ 28 * segments_of store.host
+  pub volumes : Tells m u.tape (λ c. c.info.protected ≡ false → HasList c store.entries)

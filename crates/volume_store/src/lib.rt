@@ -1,0 +1,15 @@
+//! A formatted cartridge mounted: its header in force, its map of bad sectors and its list of volumes, read through the
+//! host; and its volume table settled (the volume table and its settling are this project's profile).
+#![tactic(auto)]
+
+mod fault;
+mod header_reader;
+mod learning;
+mod settling;
+mod store;
+mod table_reader;
+mod volume_reader;
+
+pub use fault::StoreFault;
+pub use store::Store;
+pub use table_reader::read_table;

@@ -1,0 +1,149 @@
+//! A mounted cartridge.
+
+ghost use Rattle.std.specs.Prelude.{◌≡◌, ◌+◌, ◌-◌, ◌*◌, ◌<◌, ◌≤◌, IfOk, IfSome, slice_get, length};
+ghost use Rattle.host_driver.specs.Fits.{Agrees, Fits, IsAtRest};
+ghost use Rattle.cartridge_spec.specs.Shape.{mask_at, marked_sectors};
+ghost use Rattle.cartridge_spec.specs.Volumes.{capacity_between, volume_length};
+ghost use Rattle.header_segments.specs.Header.{header_of};
+ghost use Rattle.volume_store.specs.Finding.{RefusesMounting};
+ghost use Rattle.volume_store.specs.Mounting.{MountDoes, StoreFits};
+ghost use Rattle.volume_table.specs.Entry.{entry_of};
+
+use crate::fault::StoreFault;
+use crate::learning::learn;
+use crate::settling::settle;
+use bad_sector_map::BadMap;
+use drive_states::Unit;
+use header_segments::Header;
+use host_driver::Host;
+use qic_base::Tape;
+use segment_io::Workspace;
+use std::marker::Model;
+use volume_table::{Entry, Table};
+
+/// A mounted cartridge's volumes: its header in force, its map of bad sectors and the list of its volumes. It doesn't
+/// hold the unit: each call is handed the unit that it drives.
+#[derive(Drop)]
+pub struct Store {
+    host: Host,
+    work: Workspace,
+    map: BadMap,
+    table: Table,
+    header: Header,
+}
+
+impl Model for Store {
+    ghost use Rattle.std.specs.Prelude.{◌≡◌, ◌*◌, length};
+    ghost use Rattle.header_segments.specs.Header.{header_of};
+    ghost use Rattle.volume_store.specs.Mounting.{StoreView, LieWithin};
+
+    ghost Value = { StoreView };
+
+    ghost view = { λ store. record {
+      host = store.host;
+      header = header_of store.header;
+      words = store.map;
+      entries = store.table;
+    } };
+
+    ghost invariant = { λ store. (length store.map ≡ 28 * store.header.segments_per_track)
+        × LieWithin (length store.map) store.table };
+}
+
+/// The bytes of data that the segments from one to another carry.
+fn capacity_between(map: &BadMap, start: u16, end: u16) -> u64
+    requires { end < length map.now }
+    ensures { result ≡ capacity_between map.now start end }
+{
+    let mut bytes = 0;
+    for segment in u32::from(start)..u32::from(end) + 1 {
+        bytes += u64::from(map.capacity(segment));
+    }
+    bytes
+}
+
+impl Store {
+    /// Mounts the cartridge of a drive: learns its header in force, its map and its volumes, and settles the volume table
+    /// where the cartridge isn't protected. The refusals come in this order: not formatted, a foreign value in the header,
+    /// a volume table that is lost or matches no code block, a foreign slot of the table.
+    pub fn mount<T: Tape>(
+        unit: &mut Unit<T>,
+        mut host: Host,
+        mut work: Workspace,
+        mut map: BadMap,
+        mut table: Table,
+    ) -> Result<Store, StoreFault>
+        requires fits { Fits T.means host unit.old }
+        requires rest { IsAtRest unit.old.drive }
+        requires agrees { Agrees T.means unit.old }
+        ensures did { MountDoes T.means unit.old.tape unit.new.tape result }
+        ensures kind { RefusesMounting result }
+        ensures fits { IfOk result (λ store. StoreFits T.means store unit.new) }
+        ensures size { T.means.size unit.new.tape ≡ T.means.size unit.old.tape }
+    {
+        let learnt = learn(&mut host, unit, &mut work, &mut map, &mut table)?;
+        settle(&mut host, unit, learnt.lost, &mut work)?;
+        Ok(Store {
+            host,
+            work,
+            map,
+            table,
+            header: learnt.header,
+        })
+    }
+
+    /// The number of volumes, 0 to 232.
+    pub fn count(&self) -> u32
+        ensures count { result ≡ length self.now.entries }
+        ensures few { result ≤ 232 }
+    {
+        u32::from(self.table.len())
+    }
+
+    /// The entry of a volume, counted from 0.
+    pub fn entry(&self, index: u32) -> &Entry
+        requires { index < length self.now.entries }
+        ensures { slice_get self.now.entries index ≡ Some (entry_of result.now) }
+    {
+        prove!(index < self.count());
+        self.table.entry(index as u8)
+    }
+
+    /// The length of a volume in bytes, counted from 0: its data size where that fits its segments and there is no
+    /// directory, and else all that they carry by the map.
+    pub fn length(&self, index: u32) -> u64
+        requires { index < length self.now.entries }
+        ensures { IfSome (slice_get self.now.entries index) (λ entry.
+            result ≡ volume_length self.now.words entry) }
+    {
+        let entry = self.entry(index);
+        let capacity = capacity_between(&self.map, entry.start, entry.end);
+        if entry.directory == 0 && entry.size <= capacity {
+            entry.size
+        } else {
+            capacity
+        }
+    }
+
+    /// The header in force.
+    pub fn header(&self) -> &Header
+        ensures { header_of result.now ≡ self.now.header }
+    {
+        &self.header
+    }
+
+    /// The number of bad sectors that the map marks.
+    pub fn bad(&self) -> u32
+        ensures { result ≡ marked_sectors self.now.words }
+    {
+        self.map.marked()
+    }
+
+    /// The mask of a segment's usable sectors.
+    pub fn usable(&self, segment: u32) -> u32
+        requires { segment < 28 * self.now.header.segments_per_track }
+        ensures { result ≡ mask_at self.now.words segment }
+    {
+        self.map.usable(segment)
+    }
+}

@@ -1,0 +1,83 @@
+//! The list of volumes read.
+
+ghost use Rattle.std.specs.Prelude.{◌≡◌, ◌≢◌, ◌-◌, ◌*◌, [], true, length, take, OnOk, IfOk};
+ghost use Rattle.qic_base.specs.Tape.{Tells};
+ghost use Rattle.drive_states.specs.Deck.{is_referenced};
+ghost use Rattle.drive_states.specs.Reach.{reads_in};
+ghost use Rattle.host_driver.specs.Fits.{Agrees, Fits, IsAtRest, segments_of};
+ghost use Rattle.host_driver.specs.Place.{KeepsMode};
+ghost use Rattle.volume_store.specs.Finding.{Leaves, RefusesMounting, FindsVolumes, ShowsVolumes, DecodesTable, refusal_of};
+
+use crate::fault::StoreFault;
+use crate::table_reader::{data_sectors, read_table};
+use drive_states::Unit;
+use host_driver::Host;
+use qic_base::{ForeignField, LostSet, Tape};
+use segment_io::{SegFault, Workspace};
+use volume_table::{Table, TableFault};
+
+/// Why the table's segment has no data.
+fn table_fault(fault: SegFault) -> StoreFault
+    ensures { result ≡ refusal_of fault }
+{
+    match fault {
+        SegFault::Lost { segment, lost } => StoreFault::Lost { segment, lost },
+        SegFault::Mismatch { .. } => StoreFault::TableMismatch,
+        SegFault::Tape => StoreFault::Tape,
+    }
+}
+
+/// The list of volumes that the table's data show, on a cartridge whose last segment is `last`, or the first slot at
+/// fault.
+fn decode_table(table: &mut Table, area: &[[u8; 1024]], last: u32) -> Result<(), StoreFault>
+    requires { length area.now ≡ 29 }
+    ensures shown { DecodesTable area.now last table.new result }
+    ensures kind { RefusesMounting result }
+{
+    match table.decode(area, last) {
+        Ok(()) => Ok(()),
+        Err(TableFault::ForeignSlot { slot }) => Err(StoreFault::Foreign {
+            field: ForeignField::Slot,
+            value: u32::from(slot),
+        }),
+        Err(TableFault::BadRange { slot }) => Err(StoreFault::Foreign {
+            field: ForeignField::Range,
+            value: u32::from(slot),
+        }),
+    }
+}
+
+/// Reads the volume table's segment and the list of volumes in its data. The answer is the places of the sectors that
+/// can't be read.
+pub(crate) fn read_volumes<T: Tape>(
+    host: &mut Host,
+    unit: &mut Unit<T>,
+    work: &mut Workspace,
+    table: &mut Table,
+) -> Result<LostSet, StoreFault>
+    requires fits { Fits T.means host.old unit.old }
+    requires rest { IsAtRest unit.old.drive }
+    requires mode { reads_in unit.old.drive.deck.mode ≡ true }
+    requires referenced { is_referenced unit.old.drive.deck ≡ true }
+    ensures did { Leaves T.means unit.old.tape unit.new.tape [] result }
+    ensures found { result ≢ Err StoreFault.Tape → Tells T.means unit.old.tape (λ c.
+        FindsVolumes c (28 * segments_of host.old - 1) work.new table.new result) }
+    ensures kind { RefusesMounting result }
+    ensures shown { OnOk result
+        (ShowsVolumes (take 29 work.new) (28 * segments_of host.old - 1) table.new) }
+    ensures room { length work.new ≡ 32 }
+    ensures same { KeepsMode unit.old.drive.deck unit.new.drive.deck }
+    ensures agrees { Agrees T.means unit.old → Agrees T.means unit.new }
+    ensures size { T.means.size unit.new.tape ≡ T.means.size unit.old.tape }
+    ensures fits { Fits T.means host.new unit.new }
+    ensures rest { IsAtRest unit.new.drive }
+{
+    let last = 28 * u32::from(host.geometry().segments_per_track()) - 1;
+    match read_table(host, unit, work) {
+        Ok(lost) => {
+            decode_table(table, data_sectors(work), last)?;
+            Ok(lost)
+        }
+        Err(fault) => Err(table_fault(fault)),
+    }
+}
