@@ -1,0 +1,53 @@
+-- The laws of the plain machine of `pulses`, as facts (this project's own).
+use Rattle.std.specs.Prelude.{◌≡◌, ◌⊎◌, ℕ, ◌+◌, ◌≤◌, List, ◌++◌, length, Option}
+use Rattle.qic_base.specs.Cartridge.{Cartridge}
+use Rattle.qic_base.specs.declared.tape.TapeInfo.{TapeInfo}
+use Rattle.qic_base.specs.Step.{SetReferenced, effect}
+use Rattle.qic_base.specs.Stop.{Torn}
+use Rattle.drive_states.specs.Record.{Record}
+use Rattle.tape_script.specs.Input.{Ending, AtFault, IsPulses, most_items}
+use Rattle.tape_pulses.specs.Pulses.{Outcome, PulsesOutcome, trains_steps, levels, train_lines}
+use Rattle.tape_pulses.specs.Runs.{IsFront}
+
+-- each input has an outcome, over each cartridge and none
+abbrev pub EachOutcome : Type 0
+EachOutcome = (known : Option TapeInfo) (input : List ℕ) → (outcome : Outcome) × PulsesOutcome known input outcome
+
+-- it has one
+abbrev pub OneOutcome : Type 0
+OneOutcome =
+    (known : Option TapeInfo) (input : List ℕ) (a b : Outcome) →
+    PulsesOutcome known input a → PulsesOutcome known input b → a ≡ b
+
+-- the input begins with the lines of its trains, of which there are at most 65,536
+pub record BeginsWithLines (input trains : List ℕ) : Type 0 where
+  pub rest : List ℕ
+  pub lines : input ≡ train_lines trains ++ rest
+  pub few : length trains ≤ most_items
+
+abbrev pub TrainsAreLines : Type 0
+TrainsAreLines =
+    (input trains : List ℕ) (ending : Ending) → IsPulses input trains ending → BeginsWithLines input trains
+
+-- a fault's line is the one behind the trains, and its place the number of bytes of their lines
+pub record IsBehind (trains : List ℕ) (line place : ℕ) : Type 0 where
+  pub number : line ≡ length trains + 1
+  pub bytes : place ≡ length (train_lines trains)
+
+abbrev pub FaultsAreBehind : Type 0
+FaultsAreBehind =
+    (input trains : List ℕ) (line place : ℕ) → IsPulses input trains (AtFault line place) → IsBehind trains line place
+
+-- what a front of the trains does is a front of what they all do
+pub record AreFronts (r : Record) (sent trains : List ℕ) : Type 0 where
+  pub steps : IsFront (trains_steps r sent) (trains_steps r trains)
+  pub output : IsFront (levels r sent) (levels r trains)
+
+abbrev pub FrontsDoFronts : Type 0
+FrontsDoFronts = (r : Record) (sent trains : List ℕ) → IsFront sent trains → AreFronts r sent trains
+
+-- a stop in trains, before them or behind them leaves the cartridge as it was, or referenced and else as it was
+abbrev pub StopsLeave : Type 0
+StopsLeave =
+    (r : Record) (trains : List ℕ) (held left : Option Cartridge) → Torn (trains_steps r trains) held left →
+    (left ≡ held) ⊎ (left ≡ effect SetReferenced held)

@@ -1,0 +1,97 @@
+-- The plain machine of `pulses`: trains of step pulses, and the line level that each leaves (the state table is this
+-- project's profile of QIC-117; the input is this project's own).
+use Rattle.std.specs.Prelude.{◌≡◌, ℕ, ◌+◌, Bool, true, false, List, [], ◌∷◌, ◌++◌, length, Option, codes, decimal}
+use Rattle.qic_base.specs.declared.tape.TapeInfo.{TapeInfo}
+use Rattle.qic_base.specs.Step.{Step}
+use Rattle.drive_states.specs.Record.{Record, power_on}
+use Rattle.drive_states.specs.Row.{after_gap, gap_steps}
+use Rattle.tape_script.specs.Input.{Ending, AtEnd, AtStop, AtFault, IsPulses}
+
+-- ---- trains
+
+-- the drive after so many pulses and a gap
+unfoldable pub after_train : Record → (train : ℕ) → Record
+after_train r train = after_gap (record r { train = train })
+
+-- what they do to the cartridge
+unfoldable pub train_steps : Record → (train : ℕ) → List Step
+train_steps r train = gap_steps (record r { train = train })
+
+-- the drive after several trains, each with its gap
+abbrev pub after_trains : Record → (trains : List ℕ) → Record
+after_trains r [] = r
+after_trains r (train ∷ trains) = after_trains (after_train r train) trains
+
+-- what they do to the cartridge: it is referenced where a train 16 was accepted
+abbrev pub trains_steps : Record → (trains : List ℕ) → List Step
+trains_steps r [] = []
+trains_steps r (train ∷ trains) = train_steps r train ++ trains_steps (after_train r train) trains
+
+-- ---- what is printed
+
+-- the level of the track-0 line, as a line
+abbrev pub level_line : Bool → List ℕ
+level_line true = codes "1\n"
+level_line false = codes "0\n"
+
+-- the levels that the trains leave, one after the other
+abbrev pub levels : Record → (trains : List ℕ) → List ℕ
+levels r [] = []
+levels r (train ∷ trains) = level_line (after_train r train).line ++ levels (after_train r train) trains
+
+-- ---- the input
+
+-- the line of a train: the number, and a newline
+unfoldable pub train_line : (train : ℕ) → List ℕ
+train_line train = decimal train ++ 0x0A ∷ []
+
+-- the lines of several
+abbrev pub train_lines : (trains : List ℕ) → List ℕ
+train_lines [] = []
+train_lines (train ∷ trains) = train_line train ++ train_lines trains
+
+-- ---- the outcome
+
+-- how a run is answered: the input's trains were all sent; or this line, counted from 1, is none, with so many bytes
+-- before it
+pub data Answer : Type 0 where
+  AllSent : Answer
+  ScriptFault : ℕ → ℕ → Answer
+
+-- what was done to the cartridge, what was printed, what the drive is in then, how many bytes of the input were taken,
+-- at least so many where a line is none, and the answer
+pub record Outcome : Type 0 where
+  pub steps : List Step
+  pub output : List ℕ
+  pub drive : Record
+  pub taken : ℕ
+  pub answer : Answer
+
+-- all bytes are taken; or those of the trains and of the line `end`; or those before the line that is none
+abbrev pub taken_by : (input trains : List ℕ) → Ending → ℕ
+taken_by input trains AtEnd = length input
+taken_by input trains AtStop = length (train_lines trains) + length (codes "end\n")
+taken_by input trains (AtFault line place) = place
+
+abbrev pub answer_by : Ending → Answer
+answer_by AtEnd = AllSent
+answer_by AtStop = AllSent
+answer_by (AtFault line place) = ScriptFault line place
+
+-- what comes of an input with these trains and this ending, over a drive
+abbrev pub outcome_of : Record → (input trains : List ℕ) → Ending → Outcome
+outcome_of r input trains ending = record {
+  steps = trains_steps r trains;
+  output = levels r trains;
+  drive = after_trains r trains;
+  taken = taken_by input trains ending;
+  answer = answer_by ending;
+}
+
+-- The plain machine: the outcome of an input, over what the drive knows of its cartridge once that was put in. At most
+-- 65,536 lines are trains.
+pub record PulsesOutcome (known : Option TapeInfo) (input : List ℕ) (outcome : Outcome) : Type 0 where
+  pub trains : List ℕ
+  pub ending : Ending
+  pub read : IsPulses input trains ending
+  pub comes : outcome ≡ outcome_of (power_on known) input trains ending

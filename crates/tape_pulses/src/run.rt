@@ -1,0 +1,57 @@
+//! The whole input.
+
+ghost use Rattle.std.specs.Prelude.{◌≡◌, ◌≤◌, Err};
+ghost use Rattle.qic_base.specs.Cause.{Rose};
+ghost use Rattle.tape_pulses.specs.Runs.{Ends};
+
+use crate::PulseFault;
+use crate::ending::end_input;
+use crate::lines::carry_out_line;
+use drive_states::Unit;
+use qic_base::{Sink, Source, Tape, TapeFailed};
+
+/// The most lines that are trains.
+const MOST_LINES: u32 = 65536;
+
+/// Puts the cartridge in, and sends the trains of the source, each with a gap behind it. The sink gets the level that each
+/// leaves on the track-0 line, `0` or `1` and a newline. The source is read to its end or up to and with the line `end`,
+/// and nothing behind that. A failed call of the tape, the source or the sink ends the run with its fault.
+pub fn run_pulses<T: Tape, S: Source, K: Sink>(
+    unit: &mut Unit<T>,
+    source: &mut S,
+    sink: &mut K,
+) -> Result<(), PulseFault>
+    // The outcome of the plain machine; where a fault of the outside cut it off, so much of it as was carried out.
+    ensures ends { Ends T.means S.means K.means
+        record { unit = unit.old; source = source.old; sink = sink.old }
+        record { unit = unit.new; source = source.new; sink = sink.new } result }
+
+    // Each fault of the outside has its cause.
+    ensures tape_fault { result ≡ Err PulseFault.Tape →
+        Rose (T.means.faults unit.old.tape) (T.means.faults unit.new.tape) }
+    ensures source_fault { result ≡ Err PulseFault.Source →
+        Rose (S.means.faults source.old) (S.means.faults source.new) }
+    ensures sink_fault { result ≡ Err PulseFault.Sink →
+        Rose (K.means.faults sink.old) (K.means.faults sink.new) }
+
+    // No count of faults falls.
+    ensures tape_later { T.means.faults unit.old.tape ≤ T.means.faults unit.new.tape }
+    ensures source_later { S.means.faults source.old ≤ S.means.faults source.new }
+    ensures sink_later { K.means.faults sink.old ≤ K.means.faults sink.new }
+
+    ensures kept { S.means.keeps source.old source.new }
+{
+    if let Err(TapeFailed) = unit.insert() {
+        return Err(PulseFault::Tape);
+    }
+    let mut buffer = [0; 128];
+    let mut place: u64 = 0;
+    for line in 0..MOST_LINES {
+        match carry_out_line(unit, source, sink, &mut buffer, line + 1, place) {
+            Ok(Some(read)) => place += u64::from(read),
+            Ok(None) => return Ok(()),
+            Err(fault) => return Err(fault),
+        }
+    }
+    end_input(source, &mut buffer, MOST_LINES + 1, place)
+}
