@@ -1,40 +1,82 @@
--- The plain machine is a function.
-use Rattle.std.proofs.Common.{◌≡◌, ℕ, List, Option, Some, None, sym, ap, ◌∙◌, inl, inr}
-use Rattle.qic_base.specs.Cartridge.{Cartridge}
+-- The plain machine is a function, and it answers.
+use Rattle.std.proofs.Common.{◌≡◌, ◌⊎◌, ℕ, List, [], Option, IfSome, refl, sym, ap, ◌∙◌, subst, inl, inr, Bool, true, false}
+use Rattle.qic_base.specs.Cartridge.{Cartridge, IsCartridge}
+use Rattle.qic_base.specs.Step.{effects}
+use Rattle.tape_script.specs.declared.words.Words.{Words}
+use Rattle.tape_script.specs.Words.{IsCommand, IsNoCommand, OneCommand, EachWords}
 use Rattle.tape_cmd.specs.declared.status.Status.{Status}
-use Rattle.tape_cmd.specs.Text.{list_text}
-use Rattle.tape_cmd.specs.Machine.{ListVolumes, ListStep}
-use Rattle.tape_cmd.specs.Laws.{MachineIsFunction}
-use Rattle.tape_cmd.proofs.Machines.{lists_built, lists_equal}
+use Rattle.tape_cmd.specs.declared.status.Status.TheVariants as status
+use Rattle.tape_cmd.specs.Plain.{Outcome, Plain, is_built}
+use Rattle.tape_cmd.specs.Machine.{SpellsNone, Step}
+use Rattle.tape_cmd.specs.Laws.{IsSameOutcome, MachineIsFunction, MachineAnswers}
+use Rattle.tape_cmd.proofs.PlainLaws.{plain_is_function}
+use Rattle.tape_cmd.proofs.Totals.{plain_answers}
+use Rattle.tape_cmd.proofs.Values.{has_values}
 
--- `list` over the same cartridge prints and answers the same
-lists_same : (held : Option Cartridge) (output printed : List ℕ) (status answer : Status) →
-    ListStep held output status → ListStep held printed answer → (output ≡ printed) × (status ≡ answer)
-lists_same None output printed status answer one other = (one.0 ∙ sym other.0, one.1 ∙ sym other.1)
-lists_same (Some c) output printed status answer (inl one) (inl other) = (one.1 ∙ sym other.1, one.2 ∙ sym other.2)
-lists_same (Some c) output printed status answer (inl one) (inr (entries, listed, shown, done)) =
-    absurd (lists_built c entries listed one.0)
-lists_same (Some c) output printed status answer (inr (entries, listed, shown, done)) (inl other) =
-    absurd (lists_built c entries listed other.0)
-lists_same (Some c) output printed status answer (inr (entries, listed, shown, done)) (inr (others, found, text, ended)) =
-    (shown ∙ ap list_text (lists_equal c entries others listed found) ∙ sym text, done ∙ sym ended)
+-- what a command does, as a step does it
+pub record Does (command : Words) (held : Option Cartridge) (input : List ℕ) (held' : Option Cartridge) (output : List ℕ) (taken : ℕ) (answer : Status) : Type 0 where
+  pub outcome : Outcome
+  pub plain : Plain command held input outcome
+  pub after : held' ≡ effects outcome.steps held
+  pub printed : output ≡ outcome.output
+  pub took : taken ≡ outcome.taken
+  pub answered : answer ≡ outcome.status
 
-pub machine_is_function : MachineIsFunction
-machine_is_function words held input held' other output printed taken read status answer (inl one) (inl two) = record {
-  same_held = one.1 ∙ sym two.1;
-  same_output = one.2 ∙ sym two.2;
-  same_taken = one.3 ∙ sym two.3;
-  same_status = one.4 ∙ sym two.4;
-}
-machine_is_function words held input held' other output printed taken read status answer (inl one) (inr (command, spelled, step)) =
-    absurd (one.0 command spelled)
-machine_is_function words held input held' other output printed taken read status answer (inr (command, spelled, step)) (inl two) =
-    absurd (two.0 command spelled)
-machine_is_function words held input held' other output printed taken read status answer (inr (ListVolumes, spelled, one)) (inr (ListVolumes, spells, two)) =
-    let same = lists_same held output printed status answer one.2 two.2 in
+same_outcome : (command : Words) (held : Option Cartridge) (input : List ℕ) (held' other : Option Cartridge) (output printed : List ℕ) (taken read : ℕ) (one two : Status) →
+    Does command held input held' output taken one → Does command held input other printed read two → IsSameOutcome held' other output printed taken read one two
+same_outcome command held input held' other output printed taken read one two a b =
+    let same = plain_is_function command held input a.outcome b.outcome a.plain b.plain in
     record {
-      same_held = one.0 ∙ sym two.0;
-      same_output = same.0;
-      same_taken = one.1 ∙ sym two.1;
-      same_status = same.1;
+      same_held = a.after ∙ ap (λ (o : Outcome). effects o.steps held) same ∙ sym b.after;
+      same_output = a.printed ∙ ap (λ (o : Outcome). o.output) same ∙ sym b.printed;
+      same_taken = a.took ∙ ap (λ (o : Outcome). o.taken) same ∙ sym b.took;
+      same_status = a.answered ∙ ap (λ (o : Outcome). o.status) same ∙ sym b.answered;
     }
+
+pub machine_is_function_where : OneCommand → MachineIsFunction
+machine_is_function_where unique words held input held' other output printed taken read one two (inl a) (inl b) = record {
+  same_held = a.1 ∙ sym b.1;
+  same_output = a.2 ∙ sym b.2;
+  same_taken = a.3 ∙ sym b.3;
+  same_status = a.4 ∙ sym b.4;
+}
+machine_is_function_where unique words held input held' other output printed taken read one two (inl a) (inr (command, spelled, step)) =
+    absurd (a.0 command spelled)
+machine_is_function_where unique words held input held' other output printed taken read one two (inr (command, spelled, step)) (inl b) =
+    absurd (b.0 command spelled)
+machine_is_function_where unique words held input held' other output printed taken read one two (inr (command, spelled, (outcome, plain, after, shown, took, answered))) (inr (again, spells, (result, rule, then, text, bytes, ended))) =
+    let same = unique words again command spells.spelled spelled.spelled in
+    same_outcome command held input held' other output printed taken read one two
+    (record { outcome = outcome; plain = plain; after = after; printed = shown; took = took; answered = answered })
+    (record { outcome = result; plain = subst (λ (w : Words). Plain w held input result) same rule; after = then; printed = text; took = bytes; answered = ended })
+
+-- ---- it answers
+
+-- a step over words, what is held and an input
+AnyStep : List (List ℕ) → Option Cartridge → List ℕ → Type 0
+AnyStep words held input =
+    (held' : Option Cartridge) × ((output : List ℕ) × ((taken : ℕ) × ((answer : Status) × Step words held input held' output taken answer)))
+
+no_step : (words : List (List ℕ)) (held : Option Cartridge) (input : List ℕ) → SpellsNone words → AnyStep words held input
+unfolding AnyStep
+no_step words held input none = (held, ([], (0, (status.Usage, inl (none, refl, refl, refl, refl)))))
+
+command_step : OneCommand → (words : List (List ℕ)) (held : Option Cartridge) (input : List ℕ) (command : Words) → IsCommand words command → IfSome held IsCartridge →
+    (built : Bool) → is_built command ≡ built → AnyStep words held input
+unfolding AnyStep
+command_step unique words held input command spelled whole true is =
+    let some = plain_answers command held input (has_values words command spelled) is whole in
+    (effects some.0.steps held, (some.0.output, (some.0.taken, (some.0.status, inr (command, record { spelled = spelled; built = is }, (some.0, some.1, refl, refl, refl, refl))))))
+command_step unique words held input command spelled whole false is =
+    no_step words held input (λ other spells.
+    let same : other ≡ command = unique words other command spells.spelled spelled in
+    let built : is_built command ≡ true = ap is_built (sym same) ∙ spells.built in
+    cc)
+
+pub machine_answers_where : OneCommand → EachWords → MachineAnswers
+unfolding AnyStep
+machine_answers_where unique each words held input whole = by_words (each words)
+  where
+    by_words : ((command : Words) × IsCommand words command) ⊎ IsNoCommand words → AnyStep words held input
+    by_words (inl (command, spelled)) = command_step unique words held input command spelled whole (is_built command) refl
+    by_words (inr none) = no_step words held input (λ command spells. none command spells.spelled)

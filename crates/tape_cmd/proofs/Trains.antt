@@ -1,105 +1,165 @@
--- What single trains do to the drive.
-use Rattle.std.proofs.Common.{◌≡◌, ℕ, ◌+◌, ◌<◌, ◌≤◌, ◌^◌, Bool, true, false, List, [], ◌∷◌, ◌++◌, length, take, drop, get_or, refl, sym, ap, ◌∙◌, arith, subst, Some, None, add-one, length-append}
-use Rattle.std.proofs.Math.Seq.{drop-cons, drop-length}
-use Rattle.std.proofs.lemmas.List.{take_more, take_all, length-take}
-use Rattle.report_bits.specs.Digits.{digits}
-use Rattle.report_bits.specs.Report.{Collected, levels_of, report_of, word_of}
-use Rattle.report_bits.proofs.DigitFacts.{length-digits}
-use Rattle.report_bits.proofs.ReportFacts.{word_of-levels_of}
-use Rattle.drive_subset.specs.Record.{Record}
-use Rattle.drive_subset.specs.Row.{refusal}
-use Rattle.drive_subset.specs.Unit.{UnitView}
-use Rattle.tape_cmd.specs.declared.dialogue.Report.{Report}
-use Rattle.tape_cmd.specs.declared.dialogue.Report.TheVariants.{Status, Error, FormatSegments}
-use Rattle.tape_cmd.specs.Dialogue.{after_train, train_of, width_of, reported_word, after_report, IsAtRest}
+-- How `pulses` ended, by how the sending of its trains did.
+use Rattle.std.proofs.Common.{◌≡◌, ℕ, true, List, ◌++◌, Option, Some, None, IfSome, Result, Ok, Err, refl, sym, ap, ◌∙◌, subst, inl, inr, append_assoc}
+use Rattle.qic_base.specs.Cartridge.{Cartridge}
+use Rattle.qic_base.specs.Cause.{Rose}
+use Rattle.qic_base.specs.declared.tape.TapeInfo.{TapeInfo}
+use Rattle.qic_base.specs.Sink as sinks
+use Rattle.qic_base.specs.Source as sources
+use Rattle.qic_base.specs.Tape as tapes
+use Rattle.drive_states.specs.Record.{Record, power_on}
+use Rattle.tape_script.specs.declared.words.Words.TheVariants as words
+use Rattle.tape_script.specs.Input.{IsPulse, Ending, AtEnd, AtStop, AtFault, IsPulses}
+use Rattle.tape_script.proofs.Inputs as inputs
+use Rattle.tape_pulses.specs.declared.fault.PulseFault.{PulseFault}
+use Rattle.tape_pulses.specs.declared.fault.PulseFault.TheVariants as fault
+use Rattle.tape_pulses.specs.Pulses as pulses
+use Rattle.tape_pulses.specs.Pulses.{PulsesOutcome, Answer, AllSent, ScriptFault, answer_by, outcome_of, after_trains, trains_steps, levels}
+use Rattle.tape_pulses.specs.Runs as runs
+use Rattle.tape_pulses.specs.Runs.{IsFront}
+use Rattle.tape_pulses.proofs.Trains.{trains_steps-append, levels-append}
+use Rattle.tape_cmd.specs.declared.status.Status.{Status}
+use Rattle.tape_cmd.specs.declared.status.Status.TheVariants as status
+use Rattle.tape_cmd.specs.Plain.{Outcome, sent_status, sent, info_of, SentOutcome}
+use Rattle.tape_cmd.specs.Machine.{InputLeft, may_come_from, NamesFault, InputEnded, Came, Begins, InputBroke, InputEnds}
+use Rattle.tape_cmd.proofs.Ends.{around}
 
--- a report that no row refuses is under way, and acknowledged
-pub after_train-report : (kind : Report) (d : Record) → IsAtRest d → refusal d (train_of kind) ≡ None →
-    after_train d (train_of kind) ≡ record (after_report kind d) { line = true; report = levels_of (width_of kind) (reported_word kind d) }
-unfolding after_train
-after_train-report Status d rest taken = rw (rest.no_report, rest.no_pulse) refl
-after_train-report Error d rest taken = rw (rest.no_report, rest.no_pulse) refl
-after_train-report FormatSegments d rest taken = rw (rest.no_report, taken, rest.no_pulse) refl
+-- ---- the fault of an input
 
--- a report under way shows its next level
-pub after_train-next : (d : Record) (level : Bool) (more : List Bool) → d.train ≡ 0 → d.report ≡ level ∷ more →
-    after_train d 2 ≡ record d { line = level; report = more }
-unfolding after_train
-after_train-next d level more no_pulse under_way = rw (under_way, no_pulse) refl
+fault_ended : (ending : Ending) (line place : ℕ) → answer_by ending ≡ ScriptFault line place → ending ≡ AtFault line place
+fault_ended AtEnd line place is = cc
+fault_ended AtStop line place is = cc
+fault_ended (AtFault number before) line place is = cc
 
--- a report of so many digits has one level more
-pub length-levels_of : (width word : ℕ) → length (levels_of width word) ≡ width + 1
-length-levels_of width word = length-append (digits width word) (true ∷ []) ∙ ap (λ n. n + 1) (length-digits width word)
+answer_named : (answer : Answer) (line place : ℕ) → sent_status answer ≡ status.ScriptFault line place → answer ≡ ScriptFault line place
+answer_named AllSent line place is = cc
+answer_named (ScriptFault number before) line place is = cc
 
-get_or-last : (xs : List Bool) → get_or (xs ++ true ∷ []) (length xs) false ≡ true
-get_or-last [] = refl
-get_or-last (x ∷ xs) = get_or-last xs
+answer_done : (answer : Answer) → sent_status answer ≡ status.Done → answer ≡ AllSent
+answer_done AllSent is = refl
+answer_done (ScriptFault number before) is = cc
 
--- its last level is 1
-last-levels_of : (width word : ℕ) → get_or (levels_of width word) width false ≡ true
-last-levels_of width word =
-    let at_place : ℕ → Type 0 = λ n. get_or (levels_of width word) n false ≡ true in
-    subst at_place (length-digits width word) (get_or-last (digits width word))
+names_fault : (known : Option TapeInfo) (input : List ℕ) (came : pulses.Outcome) (answer : Answer) → PulsesOutcome known input came → came.answer ≡ answer →
+    NamesFault words.Pulses input (sent_status answer)
+names_fault known input came answer plain is =
+    let ends : came.answer ≡ answer_by plain.ending = ap (λ (o : pulses.Outcome). o.answer) plain.comes in record {
+      named = λ line place same. (
+        plain.trains,
+        subst (IsPulses input plain.trains) (fault_ended plain.ending line place (sym ends ∙ is ∙ answer_named answer line place same)) plain.read,
+      );
+      none = λ done line place fault.
+          let same = inputs.one_reading IsPulse inputs.pulses 1 0 input plain.trains fault.0 plain.ending (AtFault line place) plain.read fault.1 in
+          let other : answer_by plain.ending ≡ ScriptFault line place = ap answer_by same.1 in
+          let all : answer ≡ AllSent = answer_done answer done in
+          cc;
+    }
 
--- behind the acknowledgement come the levels
-pub next-level : (width word k : ℕ) → get_or (report_of width word) (k + 1) false ≡ get_or (levels_of width word) k false
-next-level width word k = rw add-one refl
+-- ---- over what is told
 
--- one level of a report is sampled, of those that the drive d shows
-pub sampled : {T : Type 0} (first before after : UnitView T) (d : Record) (levels : List Bool) (k : ℕ) (line : Bool) →
-    before ≡ record first { drive = record d { line = line; report = drop k levels } } →
-    k < length levels → d.train ≡ 0 →
-    after ≡ record before { drive = after_train before.drive 2 } →
-    after ≡ record first { drive = record d { line = get_or levels k false; report = drop (k + 1) levels } }
-sampled first before after d levels k line showing more no_pulse next =
-    next ∙ rw showing (ap (λ (e : Record). record first { drive = e })
-    (after_train-next (record d { line = line; report = drop k levels }) (get_or levels k false) (drop (k + 1) levels) no_pulse
-    (rw add-one (drop-cons levels k false more))))
+over_known : (told : Option (Option Cartridge)) (left : Option (List ℕ)) (known : Option TapeInfo) (input : List ℕ) (P : Option Cartridge → List ℕ → Type 0) →
+    IfSome told (λ held. known ≡ info_of held) → IfSome left (λ bytes. input ≡ bytes) → ((held : Option Cartridge) → known ≡ info_of held → P held input) →
+    IfSome told (λ held. (input : List ℕ) × IfSome left (λ bytes. input ≡ bytes) × P held input)
+over_known None left known input P cartridge bytes follows = tt
+over_known (Some held) left known input P cartridge bytes follows = (input, bytes, follows held cartridge)
 
--- and collected
-pub collected : (before after : List Bool) (level : Bool) (levels : List Bool) (k : ℕ) →
-    k < length levels → before ≡ take k levels → level ≡ get_or levels k false → after ≡ before ++ level ∷ [] →
-    after ≡ take (k + 1) levels
-collected before after level levels k more so_far is pushed =
-    pushed ∙ rw (so_far, is) (sym (take_more levels k false more))
+told_input : (left : Option (List ℕ)) (input : List ℕ) (P : List ℕ → Type 0) → IfSome left (λ bytes. input ≡ bytes) → P input → IfSome left P
+told_input None input P told is = tt
+told_input (Some bytes) input P told is = subst P told is
 
--- while levels are left the collector has room
-pub taken-room : (c : Collected) (levels : List Bool) (k width : ℕ) → length levels ≡ width + 1 → k < length levels →
-    c.width ≡ width → c.levels ≡ take k levels → length c.levels ≤ c.width
-taken-room c levels k width long more wide so_far =
-    rw (so_far, wide) (omega (arith, length-take k levels))
+-- ---- fronts of trains
 
--- a report counts no pulse
-pub train-after_report : (kind : Report) (d : Record) → d.train ≡ 0 → (after_report kind d).train ≡ 0
-train-after_report Status d no_pulse = no_pulse
-train-after_report Error d no_pulse = no_pulse
-train-after_report FormatSegments d no_pulse = no_pulse
+front_steps : (r : Record) (some trains : List ℕ) → IsFront some trains → IsFront (trains_steps r some) (trains_steps r trains)
+front_steps r some trains front =
+    (trains_steps (after_trains r some) front.0, sym (trains_steps-append r some front.0) ∙ ap (trains_steps r) front.1)
 
--- behind its last level, 1, a report is over
-last-report_of : (width word k : ℕ) → k ≡ width + 1 → get_or (report_of width word) k false ≡ true
-last-report_of width word k here = rw here (next-level width word width ∙ last-levels_of width word)
+front_levels : (r : Record) (some trains : List ℕ) → IsFront some trains → IsFront (levels r some) (levels r trains)
+front_levels r some trains front = (levels (after_trains r some) front.0, sym (levels-append r some front.0) ∙ ap (levels r) front.1)
 
-drop-levels_of : (width word k : ℕ) → k ≡ width + 1 → drop k (levels_of width word) ≡ []
-drop-levels_of width word k here = rw (here, ← length-levels_of width word) (drop-length (levels_of width word))
+front_of_front : (some more trains : List ℕ) → IsFront some more → IsFront more trains → IsFront some trains
+front_of_front some more trains first next =
+    (first.0 ++ next.0, sym (append_assoc some first.0 next.0) ∙ ap (λ xs. xs ++ next.0) first.1 ∙ next.1)
 
-none_left : (kind : Report) (d : Record) (line : Bool) (left : List Bool) → d.report ≡ [] → line ≡ true → left ≡ [] →
-    record (after_report kind d) { line = line; report = left } ≡ after_report kind d
-none_left Status d line left none high empty = rw (none, high, empty) refl
-none_left Error d line left none high empty = rw (none, high, empty) refl
-none_left FormatSegments d line left none high empty = rw (none, high, empty) refl
+sound_answer : (answer : Answer) → may_come_from (sent_status answer) words.Pulses ≡ true
+sound_answer AllSent = refl
+sound_answer (ScriptFault line place) = refl
 
-pub over : (kind : Report) (d : Record) (k : ℕ) → d.report ≡ [] → k ≡ width_of kind + 1 →
-    record (after_report kind d) {
-      line = get_or (report_of (width_of kind) (reported_word kind d)) k false;
-      report = drop k (levels_of (width_of kind) (reported_word kind d));
-    } ≡ after_report kind d
-over kind d k none here =
-    none_left kind d (get_or (report_of (width_of kind) (reported_word kind d)) k false) (drop k (levels_of (width_of kind) (reported_word kind d)))
-    none (last-report_of (width_of kind) (reported_word kind d) k here) (drop-levels_of (width_of kind) (reported_word kind d) k here)
+-- a result with no value
+abbrev of_unit : Result (Unit {0}) PulseFault → Result (Unit {0}) PulseFault
+of_unit result = result
 
--- a collector that took all levels of a report has its word
-pub collected-all : (c : Collected) (width word k : ℕ) → word < 2 ^ width → c.width ≡ width →
-    k ≡ width + 1 → c.levels ≡ take k (levels_of width word) → word_of c.width c.levels ≡ Some word
-collected-all c width word k fits wide here all =
-    rw (wide, all, take_all k (levels_of width word) (omega (arith, length-levels_of width word)))
-    (word_of-levels_of width word fits)
+-- the answer to a run
+abbrev pub answered : Result (Unit {0}) PulseFault → Status
+answered (Ok done) = status.Done
+answered (Err (fault.Script line place)) = status.ScriptFault line place
+answered (Err fault.Source) = status.SourceFault
+answered (Err fault.Sink) = status.SinkFault
+answered (Err fault.Tape) = status.TapeFault
+
+module _ {T S K : Type 0} (t : tapes.Meaning T) (s : sources.Meaning S) (k : sinks.Meaning K) (old new : runs.Outside T S K) where
+  left_behind : (taken : ℕ) (answer : Answer) → runs.Leaves s old.source new.source taken answer → InputLeft (sent_status answer) taken (s.left old.source) (s.left new.source)
+  left_behind taken AllSent left = left
+  left_behind taken (ScriptFault line place) left = (left.0, left.2)
+
+  ended : (answer : Answer) → runs.Ended t s k old new answer →
+      InputEnded t s k words.Pulses (around old.unit.tape old.source old.sink) (around new.unit.tape new.source new.sink) (sent_status answer)
+  ended answer run = record {
+    outcome = sent run.outcome;
+    answered = sym (ap sent_status run.answered);
+    sound = sound_answer answer;
+    told = over_known (t.told old.unit.tape) (s.left old.source) run.known run.input (λ held input. SentOutcome held input (sent run.outcome))
+        run.over.cartridge run.over.bytes
+        (λ held same. (run.outcome, subst (λ (known : Option TapeInfo). PulsesOutcome known run.input run.outcome) same run.plain, refl));
+    did = run.did;
+    wrote = run.wrote;
+    left = left_behind run.outcome.taken answer run.left;
+    prints = (run.known, (run.plain.trains, ap (λ (o : pulses.Outcome). o.output) run.plain.comes));
+    fault = told_input (s.left old.source) run.input (λ input. NamesFault words.Pulses input (sent_status answer)) run.over.bytes
+        (names_fault run.known run.input run.outcome answer run.plain run.answered);
+  }
+
+  -- some trains were sent, and the levels of some shown
+  cut_off : (known : Option TapeInfo) (input trains : List ℕ) (ending : Ending) (some shown : List ℕ) (answer : Status) → runs.Over t s old known input → IsPulses input trains ending →
+      IsFront some trains → IsFront shown trains →
+      Came t s k (around old.unit.tape old.source old.sink) (around new.unit.tape new.source new.sink) (trains_steps (power_on known) some) (levels (power_on known) shown) answer →
+      InputBroke t s k words.Pulses (around old.unit.tape old.source old.sink) (around new.unit.tape new.source new.sink) answer
+  cut_off known input trains ending some shown answer over read front before came =
+      let whole : pulses.Outcome = outcome_of (power_on known) input trains ending in
+      let printed = front_levels (power_on known) shown trains before in record {
+        steps = trains_steps (power_on known) some;
+        text = levels (power_on known) shown;
+        told = over_known (t.told old.unit.tape) (s.left old.source) known input
+            (λ held input. (outcome : Outcome) × SentOutcome held input outcome × Begins outcome (trains_steps (power_on known) some) (levels (power_on known) shown))
+            over.cartridge over.bytes
+            (λ held same. (
+              sent whole,
+              (
+                whole,
+                record { trains = trains; ending = ending; read = read; comes = ap (λ (o : Option TapeInfo). outcome_of (power_on o) input trains ending) same },
+                refl,
+              ),
+              record { done = front_steps (power_on known) some trains front; printed = printed },
+            ));
+        came = came;
+        prints = (printed.0, (known, (trains, printed.1)));
+      }
+
+  pub pulses_end : (result : Result (Unit {0}) PulseFault) → runs.Ends t s k old new result →
+      (result ≡ Err fault.Source → Rose (s.faults old.source) (s.faults new.source)) →
+      InputEnds t s k words.Pulses (around old.unit.tape old.source old.sink) (around new.unit.tape new.source new.sink) (answered result)
+  pulses_end (Ok done) run cause = inl (ended AllSent run)
+  pulses_end (Err (fault.Script line place)) run cause = inl (ended (ScriptFault line place) run)
+  pulses_end (Err fault.Source) run cause =
+      inr (cut_off run.known run.input run.trains run.ending run.sent run.sent status.SourceFault run.over run.read run.front run.front
+      (run.came.did, run.came.wrote, cause refl))
+  pulses_end (Err fault.Sink) run cause =
+      inr (cut_off run.known run.input run.trains run.ending run.sent run.sent status.SinkFault run.over run.read run.front run.front
+      (run.came.did, run.came.broke))
+  pulses_end (Err fault.Tape) run cause =
+      inr (cut_off run.known run.input run.trains run.ending run.sent run.came.shown status.TapeFault run.over run.read run.front
+      (front_of_front run.came.shown run.sent run.trains run.came.before run.front)
+      (run.came.broke, run.came.wrote))
+
+  pub pulses_failed : (f is : PulseFault) → f ≡ is → runs.Ends t s k old new (Err f) → (of_unit (Err f) ≡ Err fault.Source → Rose (s.faults old.source) (s.faults new.source)) →
+      InputEnds t s k words.Pulses (around old.unit.tape old.source old.sink) (around new.unit.tape new.source new.sink) (answered (Err is))
+  pulses_failed f is same run cause =
+      subst (λ (g : PulseFault). InputEnds t s k words.Pulses (around old.unit.tape old.source old.sink) (around new.unit.tape new.source new.sink) (answered (Err g))) same
+      (pulses_end (Err f) run cause)

@@ -1,6 +1,6 @@
 -- The laws of the plain machine, as facts (this project's own).
-use Rattle.std.specs.Prelude.{◌≡◌, ℕ, List, Option}
-use Rattle.qic_base.specs.Cartridge.{Cartridge}
+use Rattle.std.specs.Prelude.{◌≡◌, ℕ, List, Option, IfSome}
+use Rattle.qic_base.specs.Cartridge.{Cartridge, IsCartridge}
 use Rattle.tape_cmd.specs.declared.status.Status.{Status}
 use Rattle.tape_cmd.specs.Machine.{Step}
 
@@ -20,9 +20,8 @@ MachineIsFunction =
     Step words held input other printed read answer →
     IsSameOutcome held' other output printed taken read status answer
 
--- The machine always answers: over any words, held cartridge and input there is a step.
+-- The machine answers: over any words, a whole cartridge or none, and any input some step takes place.
 abbrev pub MachineAnswers : Type 0
 MachineAnswers =
-    (words : List (List ℕ)) (held : Option Cartridge) (input : List ℕ) →
-    (held' : Option Cartridge) × (output : List ℕ) × (taken : ℕ) × (status : Status)
-    × Step words held input held' output taken status
+    (words : List (List ℕ)) (held : Option Cartridge) (input : List ℕ) → IfSome held IsCartridge →
+    (held' : Option Cartridge) × ((output : List ℕ) × ((taken : ℕ) × ((status : Status) × Step words held input held' output taken status)))

@@ -1,4 +1,6 @@
-pub mod Dialogue
+pub mod Formats
 pub mod Laws
+pub mod Lines
 pub mod Machine
-pub mod Text
+pub mod Mounting
+pub mod Plain

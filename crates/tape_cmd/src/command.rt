@@ -1,53 +1,48 @@
-ghost use Rattle.std.specs.Prelude.{◌≡◌, ◌↔◌, ◌⊎◌, [], ◌∷◌, length, map, codes, string_bytes, IfOk, IfSome, IsTrue, None};
+ghost use Rattle.std.specs.Prelude.{◌≡◌, ◌≢◌, ◌↔◌, ◌⊎◌, map, string_bytes, IfSome, false};
 ghost use Rattle.qic_base.specs.Cause.{Rose};
-ghost use Rattle.tape_cmd.specs.Machine.{Listed, SpellsNone, HoldsListed, HoldsUnbuilt, Answers, CarriesOut, IsSilent, PrintsFront, PrintsList, LeavesHeld};
+ghost use Rattle.tape_cmd.specs.Plain.{HasValues, reads_input, prints_as_it_goes};
+ghost use Rattle.tape_cmd.specs.Machine.{RunsOver, SpellsNone, Answers, CarriesOut, PrintsFront, StaysDone, FaultLeaves, Leaves, IsRuled, IsNamed, TakesMemory, FaultsOfInput, Prints, PrintsAsItGoes, IsNone};
 
 use crate::Status;
-use crate::listing::write_list;
-use crate::volumes::read_volumes;
-use drive_subset::Unit;
-use qic_base::{NoMemory, Sink, SinkFailed, Source, Tape};
+use crate::format::format_with;
+use crate::hand::{lose, protect, put_in_new, spoil};
+use crate::pulses::pulses;
+use crate::shown::{info_with, list_with};
+use drive_states::Unit;
+use qic_base::{Sink, Source, Tape};
 use std::alloc::Global;
-use volume_table::Table;
+use tape_script::{BadWords, Words};
 
-/// The data sectors of the volume table's segment.
-const TABLE_SECTORS: usize = 29;
-
-fn table_area(alloc: Global) -> Result<Vec<[u8; 1024]>, NoMemory>
-    ensures { IfOk result (λ area. length area.items ≡ 29) }
-{
-    Ok(vec![in alloc; [0; 1024]; TABLE_SECTORS]?)
-}
-
-fn is_list(words: &Vec<String>) -> bool
-    ensures { IsTrue result ↔ (map string_bytes words.now.items ≡ codes "list" ∷ []) }
-{
-    match words.as_slice() {
-        [word] => word.as_str() == "list",
-        _ => false,
-    }
-}
-
-fn list<T: Tape, K: Sink>(
+/// Carries out a command with its values, where it is built.
+fn carry_out<T: Tape, S: Source, K: Sink>(
+    alloc: Global,
+    command: &Words,
     unit: &mut Unit<T>,
-    area: &mut [[u8; 1024]],
-    table: &mut Table,
+    source: &mut S,
     sink: &mut K,
 ) -> Status
-    requires { length area.old ≡ 29 }
-    ensures { Listed T.means K.means unit.old.tape unit.new.tape sink.old sink.new result }
+    requires { HasValues command.now }
+    ensures runs { RunsOver T.means S.means K.means command.now
+        record { tape = unit.old.tape; source = source.old; sink = sink.old }
+        record { tape = unit.new.tape; source = source.new; sink = sink.new } result }
+    ensures untouched { (result ≡ Status.Usage) ⊎ (result ≡ Status.NoMemory) → unit.new ≡ unit.old }
+    ensures kept { S.means.keeps source.old source.new }
 {
-    match read_volumes(unit, area, table) {
-        Ok(()) => match write_list(table, sink) {
-            Ok(()) => Status::Done,
-            Err(SinkFailed) => Status::SinkFault,
-        },
-        Err(status) => status,
+    match *command {
+        Words::New { segments } => put_in_new(unit, segments, sink),
+        Words::Defect { segment, sector } => spoil(unit, segment, sector, sink),
+        Words::Lose { segment, sector } => lose(unit, segment, sector, sink),
+        Words::Protect { on } => protect(unit, on, sink),
+        Words::Format { ref label, date } => format_with(alloc, unit, label, date, sink),
+        Words::Info => info_with(alloc, unit, sink),
+        Words::List => list_with(alloc, unit, sink),
+        Words::Pulses => pulses(unit, source, sink),
+        _ => Status::Usage,
     }
 }
 
-/// Carries out the command that the words name. It reaches the tape by the unit's cable alone, reads the input from
-/// `source` and prints on `sink`. The memory that it takes it takes before it touches any of them.
+/// Carries out the command that the words name. It reaches the tape by the unit's cable and its hand calls alone, reads the
+/// input from `source` and prints on `sink`. The memory that it takes it takes before it touches any of them.
 pub fn run<T: Tape, S: Source, K: Sink>(
     alloc: Global,
     words: &Vec<String>,
@@ -65,49 +60,53 @@ pub fn run<T: Tape, S: Source, K: Sink>(
         record { tape = unit.old.tape; source = source.old; sink = sink.old }
         record { tape = unit.new.tape; source = source.new; sink = sink.new } result }
 
-    // After a fault what was written is a front of what the plain machine prints.
+    // After a fault what was written is a front of what the plain machine prints. After one of the sink the command was
+    // carried out; one that prints as it goes did a front of its steps.
     ensures front { PrintsFront T.means S.means K.means (map string_bytes words.now.items)
         record { tape = unit.old.tape; source = source.old; sink = sink.old }
         record { tape = unit.new.tape; source = source.new; sink = sink.new } result }
+    ensures done { StaysDone T.means S.means (map string_bytes words.now.items)
+        record { tape = unit.old.tape; source = source.old; sink = sink.old }
+        record { tape = unit.new.tape; source = source.new; sink = sink.new } result }
+
+    // After a fault the tape tells what a stop in the command's steps leaves.
+    ensures torn { FaultLeaves T.means S.means (map string_bytes words.now.items)
+        record { tape = unit.old.tape; source = source.old; sink = sink.old }
+        record { tape = unit.new.tape; source = source.new; sink = sink.new } result }
+
+    // A stop at any moment since the run began, and one now, leaves what the command may leave.
+    ensures stops { Leaves T.means (map string_bytes words.now.items) unit.old.tape unit.new.tape }
 
     // Each answer has its cause. An answer yields to the ones above it.
     ensures usage { (result ≡ Status.Usage) ↔ SpellsNone (map string_bytes words.now.items) }
-    ensures no_memory { result ≡ Status.NoMemory →
+    ensures untouched { (result ≡ Status.Usage) ⊎ (result ≡ Status.NoMemory) →
         (unit.new ≡ unit.old) × (source.new ≡ source.old) × (sink.new ≡ sink.old) }
+    ensures ruled { IsRuled T.means S.means (map string_bytes words.now.items)
+        record { tape = unit.old.tape; source = source.old; sink = sink.old } result }
+    ensures named { IsNamed (map string_bytes words.now.items) result }
+    ensures memory { TakesMemory (map string_bytes words.now.items) result }
+    ensures input_fault { FaultsOfInput S.means (map string_bytes words.now.items) source.old result }
     ensures tape_fault { result ≡ Status.TapeFault →
         Rose (T.means.faults unit.old.tape) (T.means.faults unit.new.tape) }
-    ensures no_cartridge { result ≡ Status.NoCartridge →
-        IfSome (T.means.told unit.old.tape) (λ held. held ≡ None) }
-    ensures unbuilt { result ≡ Status.Unbuilt →
-        IfSome (T.means.told unit.old.tape) HoldsUnbuilt }
+    ensures source_fault { result ≡ Status.SourceFault →
+        Rose (S.means.faults source.old) (S.means.faults source.new) }
     ensures sink_fault { result ≡ Status.SinkFault →
         Rose (K.means.faults sink.old) (K.means.faults sink.new) }
-    ensures listed { (result ≡ Status.SinkFault) ⊎ (result ≡ Status.Done) →
-        IfSome (T.means.told unit.old.tape) HoldsListed }
 
-    // What is printed at Done is a list also where the tape doesn't tell its cartridge.
-    ensures printed { result ≡ Status.Done →
-        PrintsList T.means K.means unit.old.tape sink.old sink.new }
+    // What is printed at Done is the command's text, also where the tape doesn't tell its cartridge; what a command that
+    // prints as it goes has printed is a front of one; and with any other command no answer but that of a sink that failed
+    // prints anything, over any tape.
+    ensures printed { Prints K.means (map string_bytes words.now.items) sink.old sink.new result }
+    ensures begun { PrintsAsItGoes K.means (map string_bytes words.now.items) sink.old sink.new }
+    ensures silent { IsNone (map string_bytes words.now.items) prints_as_it_goes →
+        result ≢ Status.Done → result ≢ Status.SinkFault → sink.new ≡ sink.old }
 
-    // A refusal, want of memory and a fault of the tape print nothing, over any tape.
-    ensures silent { IsSilent result → sink.new ≡ sink.old }
-
-    // A stop at any moment since the run began, and one now, leaves the cartridge that stood.
-    ensures stops { LeavesHeld T.means unit.old.tape unit.new.tape }
-
-    // `list` leaves the cartridge and reads no input. Words of no command touch nothing.
-    ensures kept { T.means.told unit.new.tape ≡ T.means.told unit.old.tape }
-    ensures source { source.new ≡ source.old }
-    ensures untouched { result ≡ Status.Usage → (unit.new ≡ unit.old) × (sink.new ≡ sink.old) }
+    // A command that doesn't read the input leaves the source as it was; the others keep what each call of it keeps.
+    ensures source { IsNone (map string_bytes words.now.items) reads_input → source.new ≡ source.old }
+    ensures kept { S.means.keeps source.old source.new }
 {
-    if !is_list(words) {
-        return Status::Usage;
+    match Words::read(words) {
+        Ok(command) => carry_out(alloc, &command, unit, source, sink),
+        Err(BadWords) => Status::Usage,
     }
-    let Ok(mut area) = table_area(alloc) else {
-        return Status::NoMemory;
-    };
-    let Ok(mut table) = Table::new(alloc) else {
-        return Status::NoMemory;
-    };
-    list(unit, &mut area, &mut table, sink)
 }

@@ -1,13 +1,13 @@
-//! Laws of the plain machine that are proved of its definitions; the functions do nothing.
+//! Laws of the plain machine. Each is the contract of a function that does nothing.
 
-ghost use Rattle.tape_cmd.specs.Laws.{MachineAnswers, MachineIsFunction};
+ghost use Rattle.tape_cmd.specs.Laws.{MachineIsFunction, MachineAnswers};
 
 /// Words, what the drive holds and the input determine what is held then, the output, the bytes taken and the status.
 pub fn machine_is_function()
     ensures { MachineIsFunction }
 {}
 
-/// Over any words, whatever the drive holds and any input there is an answer.
+/// Over any words, a whole cartridge or none, and any input the machine makes a step.
 pub fn machine_answers()
     ensures { MachineAnswers }
 {}

@@ -1,14 +1,18 @@
-//! The commands of `tape`.
+//! The commands of `tape`: their words, what they do through the drive, their lines, and the answers of a run. The contract
+//! of `run` is the headline, over the plain machine of specs/Machine.
 #![tactic(auto)]
 
 mod command;
-mod dialogue;
+mod format;
+mod hand;
 pub mod laws;
-mod line;
+mod lines;
 mod listing;
+mod mounting;
+mod pulses;
+mod shown;
 mod status;
-mod table_reader;
-mod volumes;
+mod telling;
 
 pub use command::run;
 pub use status::Status;

@@ -1,55 +1,28 @@
-ghost use Rattle.std.specs.Prelude.{◌≡◌, ◌+◌, ◌<◌, ◌≤◌, ◌^◌, length, slice_get, Some, decimal};
+//! The lines of `list`.
+
+ghost use Rattle.std.specs.Prelude.{◌≡◌, ◌+◌, ◌<◌, ◌≤◌, length};
 ghost use Rattle.qic_base.specs.Sink.{Writes};
-ghost use Rattle.cartridge_spec.specs.Table.{length_of};
 ghost use Rattle.volume_table.specs.Entry.{entry_of};
-ghost use Rattle.tape_cmd.specs.Text.{volume_line, count_line, list_text};
+ghost use Rattle.tape_cmd.specs.Lines.{volume_line, count_line, list_text};
 
-use crate::line::Line;
+use crate::lines::number_text;
 use qic_base::{Sink, SinkFailed};
-use volume_table::{Entry, Table};
+use tape_script::{TextLine, write_text};
+use volume_store::Store;
+use volume_table::Entry;
 
-/// The bytes that a segment holds: 29 data sectors of 1,024 bytes.
-const SEGMENT_CAPACITY: u64 = 29 * 1024;
-
-/// Writes a text, all of it.
-pub fn write_text<K: Sink>(text: &[u8], sink: &mut K) -> Result<(), SinkFailed>
-    ensures { Writes K.means sink.old sink.new text.now result }
+#[tactic(auto, unfolding(crate::specs::Lines::volume_line))]
+fn volume_text(number: u32, entry: &Entry, bytes: u64) -> TextLine
+    ensures { result ≡ volume_line number (entry_of entry.now) bytes }
 {
-    let mut at = 0;
-    while at < text.len() {
-        match sink.write(&text[at..]) {
-            Ok(written) => at += written,
-            Err(fault) => return Err(fault),
-        }
-    }
-    Ok(())
-}
-
-/// A volume's length in bytes: its data size where that fits its segments, else all that they hold.
-fn volume_length(entry: &Entry) -> u64
-    ensures value { result ≡ length_of (entry_of entry.now) }
-{
-    let segments = (u64::from(entry.end) + 1).saturating_sub(u64::from(entry.start));
-    let capacity = SEGMENT_CAPACITY * segments;
-    if entry.directory == 0 && entry.size <= capacity {
-        entry.size
-    } else {
-        capacity
-    }
-}
-
-#[tactic(auto, unfolding(crate::specs::Text::volume_line))]
-fn volume_text(number: u8, entry: &Entry) -> Line
-    ensures { result ≡ volume_line number (entry_of entry.now) }
-{
-    let mut line = Line::new();
+    let mut line = TextLine::new();
     line.push_number(u64::from(number));
     line.push_text(b" ");
     line.push_number(u64::from(entry.start));
     line.push_text(b" ");
     line.push_number(u64::from(entry.end));
     line.push_text(b" ");
-    line.push_number(volume_length(entry));
+    line.push_number(bytes);
     line.push_text(b" ");
     line.push_date(entry.date);
     line.push_text(b" ");
@@ -58,37 +31,33 @@ fn volume_text(number: u8, entry: &Entry) -> Line
     line
 }
 
-#[tactic(auto, unfolding(crate::specs::Text::count_line))]
-fn count_text(count: u8) -> Line
-    ensures { result ≡ count_line count }
+fn write_volume<K: Sink>(
+    number: u32,
+    entry: &Entry,
+    bytes: u64,
+    sink: &mut K,
+) -> Result<(), SinkFailed>
+    ensures { Writes K.means sink.old sink.new (volume_line number (entry_of entry.now) bytes) result }
 {
-    let mut line = Line::new();
-    line.push_text(b"volumes ");
-    line.push_number(u64::from(count));
-    line.push_text(b"\n");
-    line
+    write_text(volume_text(number, entry, bytes).bytes(), sink)
 }
 
-fn write_volume<K: Sink>(number: u8, entry: &Entry, sink: &mut K) -> Result<(), SinkFailed>
-    ensures { Writes K.means sink.old sink.new (volume_line number (entry_of entry.now)) result }
-{
-    write_text(volume_text(number, entry).bytes(), sink)
-}
-
-fn write_count<K: Sink>(count: u8, sink: &mut K) -> Result<(), SinkFailed>
+fn write_count<K: Sink>(count: u32, sink: &mut K) -> Result<(), SinkFailed>
     ensures { Writes K.means sink.old sink.new (count_line count) result }
 {
-    write_text(count_text(count).bytes(), sink)
+    write_text(number_text(b"volumes", u64::from(count)).bytes(), sink)
 }
 
 /// Writes a line for each volume, and how many there are.
-pub fn write_list<K: Sink>(table: &Table, sink: &mut K) -> Result<(), SinkFailed>
-    ensures { Writes K.means sink.old sink.new (list_text table.now) result }
+pub fn write_list<K: Sink>(store: &Store, sink: &mut K) -> Result<(), SinkFailed>
+    ensures { Writes K.means sink.old sink.new
+        (list_text store.now.words store.now.entries) result }
 {
-    for index in 0..table.len() {
-        if let Err(fault) = write_volume(index + 1, table.entry(index), sink) {
+    for index in 0..store.count() {
+        let written = write_volume(index + 1, store.entry(index), store.length(index), sink);
+        if let Err(fault) = written {
             return Err(fault);
         }
     }
-    write_count(table.len(), sink)
+    write_count(store.count(), sink)
 }

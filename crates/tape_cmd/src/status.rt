@@ -1,19 +1,225 @@
-/// How a run ended.
+//! How a run ended.
+
+ghost use Rattle.std.specs.Prelude.{◌≡◌, ◌+◌, ◌≤◌, ◌++◌, length, decimal};
+ghost use Rattle.qic_base.specs.Sink.{Writes};
+ghost use Rattle.tape_cmd.specs.Lines.{status_code, status_text, plain_text, field_text};
+ghost use Rattle.tape_cmd.specs.declared.status.Status.TheVariants.{Foreign};
+
+use qic_base::{ForeignField, Sink, SinkFailed};
+use tape_script::{TextLine, write_text};
+
+/// How a run ended. Segments, sectors and slots count from 0, volumes and lines from 1.
 #[derive(Clone, Copy, Debug, PartialEq, Eq)]
 pub enum Status {
     /// The command was carried out.
     Done,
     /// The words are those of no command.
     Usage,
+    /// A line of the input is none, or the input ends inside an append; `place` bytes stand before the line.
+    ScriptFault { line: u32, place: u64 },
     /// The drive holds no cartridge.
     NoCartridge,
+    /// The cartridge is write protected.
+    Protected,
+    /// The cartridge has no reference bursts, or no header that can be read.
+    NotFormatted,
+    /// The header or the volume table has a value that this project's profile does not take.
+    Foreign { field: ForeignField, value: u32 },
+    /// The sectors of the volume table that can be read are those of no code block.
+    TableMismatch,
+    /// There is room for `have` bytes, and `need` are asked for.
+    Full { need: u64, have: u64 },
+    /// There is no volume of this number among `count`.
+    NoVolume { number: u32, count: u32 },
+    /// More than three sectors of a segment that is needed are unreadable: their number.
+    Lost { segment: u32, lost: u8 },
+    /// The sectors of a segment that can be read are those of no code block.
+    Mismatch { segment: u32 },
+    /// A sector of the segments 0 to 2 is a defect.
+    DefectInFront { segment: u32 },
+    /// The sector was formatted, so it can be made no defect.
+    NotBlank,
+    /// The cartridge has no such sector.
+    BadPlace,
+    /// Standard input, or what stands in its place, failed.
+    SourceFault,
     /// Standard output, or what stands in its place, failed.
     SinkFault,
     /// The tape failed.
     TapeFault,
     /// There was no memory for the working objects; nothing was touched.
     NoMemory,
-    /// The cartridge is in a state that this version can't read: not referenced, or with a volume table that has lost
-    /// a data sector or has a slot at fault.
-    Unbuilt,
+}
+
+fn field_name(field: ForeignField) -> &'static [u8]
+    ensures { result.now ≡ field_text field }
+{
+    match field {
+        ForeignField::FormatCode => b"format-code",
+        ForeignField::FirstHeader => b"first-header",
+        ForeignField::SecondHeader => b"second-header",
+        ForeignField::FirstData => b"first-data",
+        ForeignField::LastData => b"last-data",
+        ForeignField::SegmentsPerTrack => b"segments-per-track",
+        ForeignField::Tracks => b"tracks",
+        ForeignField::TrackMaximum => b"floppy-track-maximum",
+        ForeignField::SectorMaximum => b"floppy-sector-maximum",
+        ForeignField::Map => b"map",
+        ForeignField::Slot => b"slot",
+        ForeignField::Range => b"range",
+    }
+}
+
+impl Status {
+    /// The exit status of the program.
+    pub fn code(&self) -> u8
+        ensures { result ≡ status_code self.now }
+    {
+        match self {
+            Status::Done => 0,
+            Status::Usage => 2,
+            Status::ScriptFault { .. } => 3,
+            Status::NoCartridge => 4,
+            Status::Protected => 5,
+            Status::NotFormatted => 6,
+            Status::Foreign { .. } => 7,
+            Status::TableMismatch => 8,
+            Status::Full { .. } => 9,
+            Status::NoVolume { .. } => 10,
+            Status::Lost { .. } => 11,
+            Status::Mismatch { .. } => 12,
+            Status::DefectInFront { .. } => 13,
+            Status::NotBlank => 14,
+            Status::BadPlace => 15,
+            Status::SourceFault => 16,
+            Status::SinkFault => 17,
+            Status::TapeFault => 18,
+            Status::NoMemory => 19,
+        }
+    }
+
+    /// Writes the line of the status; one that was carried out has none.
+    pub fn text<K: Sink>(&self, sink: &mut K) -> Result<(), SinkFailed>
+        ensures { Writes K.means sink.old sink.new (status_text self.now) result }
+    {
+        write_text(status_line(self).bytes(), sink)
+    }
+}
+
+/// The line of a status; none for a command that was carried out.
+fn status_line(status: &Status) -> TextLine
+    ensures { result ≡ status_text status.now }
+{
+    match *status {
+        Status::ScriptFault { line, place } => with_numbers(
+            b"tape: input fault in line ",
+            u64::from(line),
+            b" at byte ",
+            place,
+            b"\n",
+        ),
+        Status::Foreign { field, value } => foreign_line(field, value),
+        Status::Full { need, have } => {
+            with_numbers(b"tape: full, need ", need, b" have ", have, b"\n")
+        }
+        Status::NoVolume { number, count } => {
+            with_numbers(
+                b"tape: no volume ",
+                u64::from(number),
+                b" of ",
+                u64::from(count),
+                b"\n",
+            )
+        }
+        Status::Lost { segment, lost } => with_numbers(
+            b"tape: segment ",
+            u64::from(segment),
+            b" lost ",
+            u64::from(lost),
+            b" sectors\n",
+        ),
+        Status::Mismatch { segment } => {
+            with_number(b"tape: segment ", u64::from(segment), b" does not agree\n")
+        }
+        Status::DefectInFront { segment } => {
+            with_number(b"tape: defect in segment ", u64::from(segment), b"\n")
+        }
+        other => fixed_line(other),
+    }
+}
+
+/// A number between two texts.
+fn with_number(before: &[u8], n: u64, after: &[u8]) -> TextLine
+    requires { length before.now + length after.now ≤ 100 }
+    ensures { result ≡ before.now ++ decimal n ++ after.now }
+{
+    let mut line = TextLine::new();
+    line.push_text(before);
+    line.push_number(n);
+    line.push_text(after);
+    line
+}
+
+/// Two numbers between three texts.
+fn with_numbers(before: &[u8], a: u64, between: &[u8], b: u64, after: &[u8]) -> TextLine
+    requires { length before.now + length between.now + length after.now ≤ 100 }
+    ensures { result ≡
+        before.now ++ decimal a ++ between.now ++ decimal b ++ after.now }
+{
+    let mut line = TextLine::new();
+    line.push_text(before);
+    line.push_number(a);
+    line.push_text(between);
+    line.push_number(b);
+    line.push_text(after);
+    line
+}
+
+/// A field with a value that is not taken.
+fn foreign_line(field: ForeignField, value: u32) -> TextLine
+    ensures { result ≡ status_text (Foreign field value) }
+{
+    let mut line = TextLine::new();
+    line.push_text(b"tape: foreign ");
+    line.push_text(field_name(field));
+    line.push_text(b" ");
+    line.push_number(u64::from(value));
+    line.push_text(b"\n");
+    line
+}
+
+fn fixed_line(status: Status) -> TextLine
+    ensures { result ≡ plain_text status }
+{
+    let mut line = TextLine::new();
+    line.push_text(fixed_text(status));
+    line
+}
+
+/// The text of a status without numbers, and none for one with numbers.
+fn fixed_text(status: Status) -> &'static [u8]
+    ensures text { result.now ≡ plain_text status }
+    ensures short { length result.now ≤ 100 }
+{
+    match status {
+        Status::Usage => b"usage: tape IMAGE COMMAND\n",
+        Status::NoCartridge => b"tape: no cartridge\n",
+        Status::Protected => b"tape: the cartridge is protected\n",
+        Status::NotFormatted => b"tape: the cartridge is not formatted\n",
+        Status::TableMismatch => b"tape: the volume table does not agree\n",
+        Status::NotBlank => b"tape: the sector is formatted\n",
+        Status::BadPlace => b"tape: no such sector\n",
+        Status::SourceFault => b"tape: input failed\n",
+        Status::SinkFault => b"tape: output failed\n",
+        Status::TapeFault => b"tape: the tape failed\n",
+        Status::NoMemory => b"tape: no memory\n",
+        Status::Done
+        | Status::ScriptFault { .. }
+        | Status::Foreign { .. }
+        | Status::Full { .. }
+        | Status::NoVolume { .. }
+        | Status::Lost { .. }
+        | Status::Mismatch { .. }
+        | Status::DefectInFront { .. } => b"",
+    }
 }

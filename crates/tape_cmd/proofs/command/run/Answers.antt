@@ -1,90 +1,137 @@
 use Rattle.std.proofs.Common.{map, string_bytes, refl}
-use Rattle.tape_cmd.specs.Machine.{ListVolumes}
-use Rattle.tape_cmd.proofs.Machines.{list_prints, SinkLaws, list_answers, list_carries, list_kept, list_silent, list_prints_front, list_no_usage, list_leaves, nothing_leaves, usage_answers, usage_carries, spells_none}
+use Rattle.tape_cmd.proofs.Ends.{SinkLaws}
+use Rattle.tape_cmd.proofs.Values.{has_values}
+use Rattle.tape_cmd.proofs.Runs.{no_command_none, usage_answers, usage_carries, untouched_leaves}
+use Rattle.tape_cmd.proofs.Clauses.{over_answers, over_carries, over_front, over_done, over_torn, over_leaves, over_usage, over_untouched, over_ruled, over_named, over_memory, over_faults, over_tape_fault, over_source_fault, over_sink_fault, over_prints, over_goes, over_silent, over_source, no_words_no_fault, no_words_begin}
 use Rattle.tape_cmd.proofs.command.run.Goals as goal
 
-pub returns-then-not-is_list-clause-answer : goal.returns-then-not-is_list-clause-answer
-returns-then-not-is_list-clause-answer g c =
+pub returns-in-Ok-clause-answer : goal.returns-in-Ok-clause-answer
+returns-in-Ok-clause-answer g c =
+    let laws : SinkLaws g.K.Sink.means = record { nothing = g.met.K.Sink.took_nothing; told = g.met.K.Sink.took_told } in
+    over_answers g.T.Tape.means g.S.Source.means g.K.Sink.means (map string_bytes c.args.words.now.items) c.in-Ok.command c.args.unit.now.tape c.carry_out.new.unit.tape
+    c.args.source.now c.carry_out.new.source c.args.sink.now c.carry_out.new.sink c.carry_out.result c.in-Ok.ensures laws c.carry_out.ensures.runs
+
+pub returns-in-Ok-clause-carried : goal.returns-in-Ok-clause-carried
+returns-in-Ok-clause-carried g c =
+    let laws : SinkLaws g.K.Sink.means = record { nothing = g.met.K.Sink.took_nothing; told = g.met.K.Sink.took_told } in
+    over_carries g.T.Tape.means g.S.Source.means g.K.Sink.means (map string_bytes c.args.words.now.items) c.in-Ok.command c.args.unit.now.tape c.carry_out.new.unit.tape
+    c.args.source.now c.carry_out.new.source c.args.sink.now c.carry_out.new.sink c.carry_out.result c.in-Ok.ensures laws c.carry_out.ensures.runs
+
+pub returns-in-Ok-clause-front : goal.returns-in-Ok-clause-front
+returns-in-Ok-clause-front g c =
+    let laws : SinkLaws g.K.Sink.means = record { nothing = g.met.K.Sink.took_nothing; told = g.met.K.Sink.took_told } in
+    over_front g.T.Tape.means g.S.Source.means g.K.Sink.means (map string_bytes c.args.words.now.items) c.in-Ok.command c.args.unit.now.tape c.carry_out.new.unit.tape
+    c.args.source.now c.carry_out.new.source c.args.sink.now c.carry_out.new.sink c.carry_out.result c.in-Ok.ensures laws c.carry_out.ensures.runs
+
+pub returns-in-Ok-clause-done : goal.returns-in-Ok-clause-done
+returns-in-Ok-clause-done g c =
+    over_done g.T.Tape.means g.S.Source.means g.K.Sink.means (map string_bytes c.args.words.now.items) c.in-Ok.command c.args.unit.now.tape c.carry_out.new.unit.tape
+    c.args.source.now c.carry_out.new.source c.args.sink.now c.carry_out.new.sink c.carry_out.result c.in-Ok.ensures c.carry_out.ensures.runs
+
+pub returns-in-Ok-clause-torn : goal.returns-in-Ok-clause-torn
+returns-in-Ok-clause-torn g c =
+    over_torn g.T.Tape.means g.S.Source.means g.K.Sink.means (map string_bytes c.args.words.now.items) c.in-Ok.command c.args.unit.now.tape c.carry_out.new.unit.tape
+    c.args.source.now c.carry_out.new.source c.args.sink.now c.carry_out.new.sink c.carry_out.result c.in-Ok.ensures (g.met.T.Tape.told_right c.args.unit.now.tape) c.carry_out.ensures.runs
+
+pub returns-in-Ok-clause-stops : goal.returns-in-Ok-clause-stops
+returns-in-Ok-clause-stops g c =
+    over_leaves g.T.Tape.means g.S.Source.means g.K.Sink.means (map string_bytes c.args.words.now.items) c.in-Ok.command c.args.unit.now.tape c.carry_out.new.unit.tape
+    c.args.source.now c.carry_out.new.source c.args.sink.now c.carry_out.new.sink c.carry_out.result c.in-Ok.ensures
+    (g.met.T.Tape.told_right c.args.unit.now.tape) (g.met.T.Tape.left_now c.args.unit.now.tape) (g.met.T.Tape.left_now c.carry_out.new.unit.tape) c.carry_out.ensures.runs
+
+pub returns-in-Ok-clause-usage : goal.returns-in-Ok-clause-usage
+returns-in-Ok-clause-usage g c =
+    over_usage g.T.Tape.means g.S.Source.means g.K.Sink.means (map string_bytes c.args.words.now.items) c.in-Ok.command c.args.unit.now.tape c.carry_out.new.unit.tape
+    c.args.source.now c.carry_out.new.source c.args.sink.now c.carry_out.new.sink c.carry_out.result c.in-Ok.ensures c.carry_out.ensures.runs
+
+pub returns-in-Ok-clause-untouched : goal.returns-in-Ok-clause-untouched
+returns-in-Ok-clause-untouched g c which =
+    let same = over_untouched g.T.Tape.means g.S.Source.means g.K.Sink.means (map string_bytes c.args.words.now.items) c.in-Ok.command c.args.unit.now.tape c.carry_out.new.unit.tape
+    c.args.source.now c.carry_out.new.source c.args.sink.now c.carry_out.new.sink c.carry_out.result c.in-Ok.ensures c.carry_out.ensures.runs which in
+    (c.carry_out.ensures.untouched which, same.0, same.1)
+
+pub returns-in-Ok-clause-ruled : goal.returns-in-Ok-clause-ruled
+returns-in-Ok-clause-ruled g c =
+    over_ruled g.T.Tape.means g.S.Source.means g.K.Sink.means (map string_bytes c.args.words.now.items) c.in-Ok.command c.args.unit.now.tape c.carry_out.new.unit.tape
+    c.args.source.now c.carry_out.new.source c.args.sink.now c.carry_out.new.sink c.carry_out.result c.in-Ok.ensures c.carry_out.ensures.runs
+
+pub returns-in-Ok-clause-named : goal.returns-in-Ok-clause-named
+returns-in-Ok-clause-named g c =
+    over_named g.T.Tape.means g.S.Source.means g.K.Sink.means (map string_bytes c.args.words.now.items) c.in-Ok.command c.args.unit.now.tape c.carry_out.new.unit.tape
+    c.args.source.now c.carry_out.new.source c.args.sink.now c.carry_out.new.sink c.carry_out.result c.in-Ok.ensures c.carry_out.ensures.runs
+
+pub returns-in-Ok-clause-memory : goal.returns-in-Ok-clause-memory
+returns-in-Ok-clause-memory g c =
+    over_memory g.T.Tape.means g.S.Source.means g.K.Sink.means (map string_bytes c.args.words.now.items) c.in-Ok.command c.args.unit.now.tape c.carry_out.new.unit.tape
+    c.args.source.now c.carry_out.new.source c.args.sink.now c.carry_out.new.sink c.carry_out.result c.in-Ok.ensures c.carry_out.ensures.runs
+
+pub returns-in-Ok-clause-input_fault : goal.returns-in-Ok-clause-input_fault
+returns-in-Ok-clause-input_fault g c =
+    over_faults g.T.Tape.means g.S.Source.means g.K.Sink.means (map string_bytes c.args.words.now.items) c.in-Ok.command c.args.unit.now.tape c.carry_out.new.unit.tape
+    c.args.source.now c.carry_out.new.source c.args.sink.now c.carry_out.new.sink c.carry_out.result c.in-Ok.ensures c.carry_out.ensures.runs
+
+pub returns-in-Ok-clause-tape_fault : goal.returns-in-Ok-clause-tape_fault
+returns-in-Ok-clause-tape_fault g c =
+    over_tape_fault g.T.Tape.means g.S.Source.means g.K.Sink.means (map string_bytes c.args.words.now.items) c.in-Ok.command c.args.unit.now.tape c.carry_out.new.unit.tape
+    c.args.source.now c.carry_out.new.source c.args.sink.now c.carry_out.new.sink c.carry_out.result c.in-Ok.ensures c.carry_out.ensures.runs
+
+pub returns-in-Ok-clause-source_fault : goal.returns-in-Ok-clause-source_fault
+returns-in-Ok-clause-source_fault g c =
+    over_source_fault g.T.Tape.means g.S.Source.means g.K.Sink.means (map string_bytes c.args.words.now.items) c.in-Ok.command c.args.unit.now.tape c.carry_out.new.unit.tape
+    c.args.source.now c.carry_out.new.source c.args.sink.now c.carry_out.new.sink c.carry_out.result c.in-Ok.ensures c.carry_out.ensures.runs
+
+pub returns-in-Ok-clause-sink_fault : goal.returns-in-Ok-clause-sink_fault
+returns-in-Ok-clause-sink_fault g c =
+    over_sink_fault g.T.Tape.means g.S.Source.means g.K.Sink.means (map string_bytes c.args.words.now.items) c.in-Ok.command c.args.unit.now.tape c.carry_out.new.unit.tape
+    c.args.source.now c.carry_out.new.source c.args.sink.now c.carry_out.new.sink c.carry_out.result c.in-Ok.ensures c.carry_out.ensures.runs
+
+pub returns-in-Ok-clause-printed : goal.returns-in-Ok-clause-printed
+returns-in-Ok-clause-printed g c =
+    over_prints g.T.Tape.means g.S.Source.means g.K.Sink.means (map string_bytes c.args.words.now.items) c.in-Ok.command c.args.unit.now.tape c.carry_out.new.unit.tape
+    c.args.source.now c.carry_out.new.source c.args.sink.now c.carry_out.new.sink c.carry_out.result c.in-Ok.ensures c.carry_out.ensures.runs
+
+pub returns-in-Ok-clause-begun : goal.returns-in-Ok-clause-begun
+returns-in-Ok-clause-begun g c =
+    over_goes g.T.Tape.means g.S.Source.means g.K.Sink.means (map string_bytes c.args.words.now.items) c.in-Ok.command c.args.unit.now.tape c.carry_out.new.unit.tape
+    c.args.source.now c.carry_out.new.source c.args.sink.now c.carry_out.new.sink c.carry_out.result c.in-Ok.ensures c.carry_out.ensures.runs
+
+pub returns-in-Ok-clause-silent : goal.returns-in-Ok-clause-silent
+returns-in-Ok-clause-silent g c none done fault =
+    over_silent g.T.Tape.means g.S.Source.means g.K.Sink.means (map string_bytes c.args.words.now.items) c.in-Ok.command c.args.unit.now.tape c.carry_out.new.unit.tape
+    c.args.source.now c.carry_out.new.source c.args.sink.now c.carry_out.new.sink c.carry_out.result c.in-Ok.ensures c.carry_out.ensures.runs none done fault
+
+pub returns-in-Ok-clause-source : goal.returns-in-Ok-clause-source
+returns-in-Ok-clause-source g c none =
+    over_source g.T.Tape.means g.S.Source.means g.K.Sink.means (map string_bytes c.args.words.now.items) c.in-Ok.command c.args.unit.now.tape c.carry_out.new.unit.tape
+    c.args.source.now c.carry_out.new.source c.args.sink.now c.carry_out.new.sink c.carry_out.result c.in-Ok.ensures c.carry_out.ensures.runs none
+
+pub returns-in-Err-clause-answer : goal.returns-in-Err-clause-answer
+returns-in-Err-clause-answer g c =
     let laws : SinkLaws g.K.Sink.means = record { nothing = g.met.K.Sink.took_nothing; told = g.met.K.Sink.took_told } in
     usage_answers g.T.Tape.means g.S.Source.means g.K.Sink.means (map string_bytes c.args.words.now.items)
-    c.args.unit.now.tape c.args.source.now c.args.sink.now laws
-    (spells_none (map string_bytes c.args.words.now.items) (λ spelled. let no = c.if-not-is_list.ensures.1 spelled in cc))
+    c.args.unit.now.tape c.args.source.now c.args.sink.now laws (no_command_none (map string_bytes c.args.words.now.items) c.in-Err.ensures)
 
-pub returns-then-not-is_list-clause-usage : goal.returns-then-not-is_list-clause-usage
-returns-then-not-is_list-clause-usage g c =
-    ((λ e. spells_none (map string_bytes c.args.words.now.items) (λ spelled. let no = c.if-not-is_list.ensures.1 spelled in cc)), (λ none. refl))
-
-pub returns-in_default-clause-usage : goal.returns-in_default-clause-usage
-returns-in_default-clause-usage g c =
-    let spelled = c.if-not-is_list.ensures.0 refl in
-    ((λ e. cc), (λ none. absurd (none ListVolumes spelled)))
-
-pub returns-in_default-new-clause-usage : goal.returns-in_default-new-clause-usage
-returns-in_default-new-clause-usage g c =
-    let spelled = c.if-not-is_list.ensures.0 refl in
-    ((λ e. cc), (λ none. absurd (none ListVolumes spelled)))
-
-pub returns-clause-usage : goal.returns-clause-usage
-returns-clause-usage g c =
-    let spelled = c.if-not-is_list.ensures.0 refl in (
-      (λ e. absurd (list_no_usage g.T.Tape.means g.K.Sink.means c.args.unit.now.tape c.list.new.unit.tape c.args.sink.now c.list.new.sink c.list.result c.list.ensures e)),
-      (λ none. absurd (none ListVolumes spelled)),
-    )
-
-pub returns-clause-answer : goal.returns-clause-answer
-returns-clause-answer g c =
-    let laws : SinkLaws g.K.Sink.means = record { nothing = g.met.K.Sink.took_nothing; told = g.met.K.Sink.took_told } in
-    list_answers g.T.Tape.means g.S.Source.means g.K.Sink.means (map string_bytes c.args.words.now.items)
-    c.args.unit.now.tape c.list.new.unit.tape c.args.source.now c.args.sink.now c.list.new.sink c.list.result laws
-    (c.if-not-is_list.ensures.0 refl) c.list.ensures
-
-pub returns-clause-front : goal.returns-clause-front
-returns-clause-front g c =
-    let laws : SinkLaws g.K.Sink.means = record { nothing = g.met.K.Sink.took_nothing; told = g.met.K.Sink.took_told } in
-    list_prints_front g.T.Tape.means g.S.Source.means g.K.Sink.means (map string_bytes c.args.words.now.items)
-    c.args.unit.now.tape c.list.new.unit.tape c.args.source.now c.args.sink.now c.list.new.sink c.list.result laws
-    (c.if-not-is_list.ensures.0 refl) c.list.ensures
-
-pub returns-then-not-is_list-clause-carried : goal.returns-then-not-is_list-clause-carried
-returns-then-not-is_list-clause-carried g c =
+pub returns-in-Err-clause-carried : goal.returns-in-Err-clause-carried
+returns-in-Err-clause-carried g c =
     let laws : SinkLaws g.K.Sink.means = record { nothing = g.met.K.Sink.took_nothing; told = g.met.K.Sink.took_told } in
     usage_carries g.T.Tape.means g.S.Source.means g.K.Sink.means (map string_bytes c.args.words.now.items)
-    c.args.unit.now.tape c.args.source.now c.args.sink.now laws
-    (spells_none (map string_bytes c.args.words.now.items) (λ spelled. let no = c.if-not-is_list.ensures.1 spelled in cc))
+    c.args.unit.now.tape c.args.source.now c.args.sink.now laws (no_command_none (map string_bytes c.args.words.now.items) c.in-Err.ensures)
 
-pub returns-clause-carried : goal.returns-clause-carried
-returns-clause-carried g c =
-    let laws : SinkLaws g.K.Sink.means = record { nothing = g.met.K.Sink.took_nothing; told = g.met.K.Sink.took_told } in
-    list_carries g.T.Tape.means g.S.Source.means g.K.Sink.means (map string_bytes c.args.words.now.items)
-    c.args.unit.now.tape c.list.new.unit.tape c.args.source.now c.args.sink.now c.list.new.sink c.list.result laws
-    (c.if-not-is_list.ensures.0 refl) c.list.ensures
+pub returns-in-Err-clause-stops : goal.returns-in-Err-clause-stops
+returns-in-Err-clause-stops g c =
+    untouched_leaves g.T.Tape.means (map string_bytes c.args.words.now.items) c.args.unit.now.tape (g.met.T.Tape.left_now c.args.unit.now.tape)
 
-pub returns-clause-kept : goal.returns-clause-kept
-returns-clause-kept g c =
-    list_kept g.T.Tape.means g.K.Sink.means c.args.unit.now.tape c.list.new.unit.tape c.args.sink.now c.list.new.sink c.list.result c.list.ensures
+pub returns-in-Err-clause-usage : goal.returns-in-Err-clause-usage
+returns-in-Err-clause-usage g c = ((λ usage. no_command_none (map string_bytes c.args.words.now.items) c.in-Err.ensures), (λ none. refl))
 
-pub returns-clause-untouched : goal.returns-clause-untouched
-returns-clause-untouched g c usage =
-    absurd (list_no_usage g.T.Tape.means g.K.Sink.means c.args.unit.now.tape c.list.new.unit.tape c.args.sink.now c.list.new.sink c.list.result c.list.ensures usage)
+pub returns-in-Err-clause-input_fault : goal.returns-in-Err-clause-input_fault
+returns-in-Err-clause-input_fault g c = no_words_no_fault g.S.Source.means (map string_bytes c.args.words.now.items) c.args.source.now (no_command_none (map string_bytes c.args.words.now.items) c.in-Err.ensures)
 
-pub returns-clause-printed : goal.returns-clause-printed
-returns-clause-printed g c done =
-    list_prints g.T.Tape.means g.K.Sink.means c.args.unit.now.tape c.list.new.unit.tape c.args.sink.now c.list.new.sink c.list.result c.list.ensures done
+pub returns-in-Err-clause-begun : goal.returns-in-Err-clause-begun
+returns-in-Err-clause-begun g c = no_words_begin g.K.Sink.means (map string_bytes c.args.words.now.items) c.args.sink.now c.args.sink.now (no_command_none (map string_bytes c.args.words.now.items) c.in-Err.ensures)
 
-pub returns-clause-silent : goal.returns-clause-silent
-returns-clause-silent g c silent =
-    list_silent g.T.Tape.means g.K.Sink.means c.args.unit.now.tape c.list.new.unit.tape c.args.sink.now c.list.new.sink c.list.result c.list.ensures silent
+pub returns-in-Err-clause-kept : goal.returns-in-Err-clause-kept
+returns-in-Err-clause-kept g c = g.met.S.Source.keeps_itself c.args.source.now
 
-pub returns-then-not-is_list-clause-stops : goal.returns-then-not-is_list-clause-stops
-returns-then-not-is_list-clause-stops g c = nothing_leaves g.T.Tape.means c.args.unit.now.tape (g.met.T.Tape.left_now c.args.unit.now.tape)
-
-pub returns-in_default-clause-stops : goal.returns-in_default-clause-stops
-returns-in_default-clause-stops g c = nothing_leaves g.T.Tape.means c.args.unit.now.tape (g.met.T.Tape.left_now c.args.unit.now.tape)
-
-pub returns-in_default-new-clause-stops : goal.returns-in_default-new-clause-stops
-returns-in_default-new-clause-stops g c = nothing_leaves g.T.Tape.means c.args.unit.now.tape (g.met.T.Tape.left_now c.args.unit.now.tape)
-
-pub returns-clause-stops : goal.returns-clause-stops
-returns-clause-stops g c =
-    list_leaves g.T.Tape.means g.K.Sink.means c.args.unit.now.tape c.list.new.unit.tape c.args.sink.now c.list.new.sink c.list.result
-    (g.met.T.Tape.left_now c.args.unit.now.tape) (g.met.T.Tape.left_now c.list.new.unit.tape) c.list.ensures
+pub carry_out-requires : goal.carry_out-requires
+carry_out-requires g c = has_values (map string_bytes c.args.words.now.items) c.in-Ok.command c.in-Ok.ensures

@@ -1,5 +1,5 @@
-use Rattle.tape_cmd.proofs.MachineTotals as totals
+use Rattle.tape_cmd.proofs.Runs as runs
 use Rattle.tape_cmd.proofs.laws.machine_answers.Goals as goal
 
 pub returns : goal.returns
-returns c = totals.machine_answers
+returns c = runs.machine_answers

@@ -1,5 +1,5 @@
-use Rattle.tape_cmd.proofs.MachineLaws as machine
+use Rattle.tape_cmd.proofs.Runs as runs
 use Rattle.tape_cmd.proofs.laws.machine_is_function.Goals as goal
 
 pub returns : goal.returns
-returns c = machine.machine_is_function
+returns c = runs.machine_is_function

@@ -1,0 +1,191 @@
+-- How the formatting of a cartridge ends.
+use Rattle.std.proofs.Common.{◌≡◌, ◌↔◌, ℕ, ◌*◌, Bool, true, false, List, [], ◌++◌, Option, Some, None, IfSome, IsSomeAnd, Err, refl, sym, ap, ◌∙◌, subst, inl, inr}
+use Rattle.std.specs.Option.{option_map}
+use Rattle.std.proofs.lemmas.List.{append-nil, append_assoc}
+use Rattle.qic_base.specs.Cartridge.{Cartridge}
+use Rattle.qic_base.specs.declared.tape.TapeInfo.{TapeInfo}
+use Rattle.qic_base.specs.Sink as sinks
+use Rattle.qic_base.specs.Step.{Step as TapeStep}
+use Rattle.qic_base.specs.Tape as tapes
+use Rattle.qic_base.proofs.Steps.{Done-Done, Done-Broke}
+use Rattle.cartridge_spec.specs.Shape.{marked_sectors}
+use Rattle.cartridge_spec.specs.Volumes.{MarksDefects}
+use Rattle.format_plan.specs.Formatting.{clearing_steps, copy_writes, block_of, format_steps, IsFreshArea, IsFirstDefectInFront, HasNoDefectInFront}
+use Rattle.fresh_header.specs.Laws.{IsFreshWith}
+use Rattle.fresh_header.proofs.Front.{first_defect_is_none}
+use Rattle.fresh_header.proofs.Marks.{fresh_area_is_one}
+use Rattle.formatter.specs.declared.fault.FormatFault.{FormatFault}
+use Rattle.formatter.specs.declared.fault.FormatFault.TheVariants as fault
+use Rattle.formatter.specs.declared.formatting.FormatReport.{FormatReport}
+use Rattle.formatter.specs.Formats.{Formats, HasFormatted}
+use Rattle.tape_script.specs.declared.words.Words.TheVariants.{Format}
+use Rattle.tape_cmd.specs.declared.status.Status.TheVariants as status
+use Rattle.tape_cmd.specs.Formats.{format_status}
+use Rattle.tape_cmd.specs.Lines.{formatted_line}
+use Rattle.tape_cmd.specs.Plain.{Outcome, refused, cleared, formatted, FormatOutcome}
+use Rattle.tape_cmd.specs.Machine.{Rules, Ends}
+use Rattle.tape_cmd.proofs.Endings.{done, unprinted, turned_down, cut_off}
+use Rattle.tape_cmd.proofs.Hands.{Knows, known_before, told_known, told_known_beside, told_at_start}
+
+-- ---- what is told of the cartridge
+
+-- a cartridge that the drive knows
+pub record IsThere (cartridge : Option TapeInfo) : Type 0 where
+  pub info : TapeInfo
+  pub is : cartridge ≡ Some info
+
+pub is_there : (cartridge : Option TapeInfo) (P : TapeInfo → Type 0) → IsSomeAnd cartridge P → IsThere cartridge
+is_there None P there = absurd there
+is_there (Some info) P there = record { info = info; is = refl }
+
+-- a host was started on it
+pub record Present {T : Type 0} (t : tapes.Meaning T) (a b : T) (info : TapeInfo) : Type 0 where
+  pub did : tapes.Done t a b []
+  pub known : IfSome (t.told a) (Knows (Some info))
+
+pub present : {T : Type 0} (t : tapes.Meaning T) (a b : T) (cartridge : Option TapeInfo) → tapes.Done t a b [] →
+    IfSome (t.told b) (λ there. cartridge ≡ option_map (λ c. c.info) there) → (there : IsThere cartridge) → Present t a b there.info
+present t a b cartridge did told there = record {
+  did = did;
+  known = subst (λ (i : Option TapeInfo). IfSome (t.told a) (Knows i)) there.is (known_before t a b cartridge did told);
+}
+
+pub not_true : (b : Bool) → (b ≡ true → ⊥) → b ≡ false
+not_true true other = absurd (other refl)
+not_true false other = refl
+
+-- ---- outcomes
+
+absent_is : (label : List ℕ) (date : ℕ) (held : Option Cartridge) → Knows None held → FormatOutcome label date held (refused status.NoCartridge)
+absent_is label date None known = refl
+absent_is label date (Some c) known = cc
+
+protected_is : (label : List ℕ) (date : ℕ) (info : TapeInfo) (held : Option Cartridge) → info.protected ≡ true → Knows (Some info) held → FormatOutcome label date held (refused status.Protected)
+protected_is label date info None mark known = cc
+protected_is label date info (Some c) mark known =
+    let same : info ≡ c.info = cc in inl (ap (λ (i : TapeInfo). i.protected) (sym same) ∙ mark, refl)
+
+cleared_is : (label : List ℕ) (date : ℕ) (info : TapeInfo) (segment : ℕ) (held : Option Cartridge) → info.protected ≡ false → Knows (Some info) held →
+    IfSome held (λ c. IsFirstDefectInFront c segment) → FormatOutcome label date held (cleared info.segments_per_track segment)
+cleared_is label date info segment None mark known first = cc
+cleared_is label date info segment (Some c) mark known first =
+    let same : info ≡ c.info = cc in
+    inr (inl (ap (λ (i : TapeInfo). i.protected) (sym same) ∙ mark, (segment, first, ap (λ (i : TapeInfo). cleared i.segments_per_track segment) same)))
+
+-- the words of the map are just the defects, of which none lies in front
+abbrev AreMarks : List ℕ → Cartridge → Type 0
+AreMarks words c = MarksDefects c words × HasNoDefectInFront c
+
+fresh_with : (label : List ℕ) (date : ℕ) (info : TapeInfo) (words : List ℕ) (area : List (List ℕ)) (c : Cartridge) → info ≡ c.info → IsFreshArea info.segments_per_track label date words area →
+    AreMarks words c → IsFreshWith c label date words area
+fresh_with label date info words area c same fresh marks =
+    record { fresh = subst (λ (i : TapeInfo). IsFreshArea i.segments_per_track label date words area) same fresh; marks = marks.0 }
+
+formatted_is : (label : List ℕ) (date : ℕ) (info : TapeInfo) (words : List ℕ) (area : List (List ℕ)) (held : Option Cartridge) → info.protected ≡ false →
+    IsFreshArea info.segments_per_track label date words area → Knows (Some info) held → IfSome held (AreMarks words) → FormatOutcome label date held (formatted info.segments_per_track words area)
+formatted_is label date info words area None mark fresh known marks = cc
+formatted_is label date info words area (Some c) mark fresh known marks =
+    let same : info ≡ c.info = cc in
+    inr (inr (
+      ap (λ (i : TapeInfo). i.protected) (sym same) ∙ mark,
+      marks.1,
+      (words, (area, fresh_with label date info words area c same fresh marks, ap (λ (i : TapeInfo). formatted i.segments_per_track words area) same)),
+    ))
+
+-- ---- fronts of their steps
+
+abbrev BeginsSteps : List TapeStep → Outcome → Type 0
+BeginsSteps steps outcome = (rest : List TapeStep) × (steps ++ rest ≡ outcome.steps)
+
+clearing_begins : (label : List ℕ) (date : ℕ) (info : TapeInfo) (held : Option Cartridge) (outcome : Outcome) → info.protected ≡ false → Knows (Some info) held →
+    FormatOutcome label date held outcome → BeginsSteps (clearing_steps info.segments_per_track) outcome
+clearing_begins label date info None outcome mark known plain = cc
+clearing_begins label date info (Some c) outcome mark known (inl plain) =
+    let same : info ≡ c.info = cc in let other = ap (λ (i : TapeInfo). i.protected) same in let is = plain.0 in absurd (cc)
+clearing_begins label date info (Some c) outcome mark known (inr (inl (unlocked, (segment, first, is)))) =
+    let same : info ≡ c.info = cc in
+    ([], append-nil (clearing_steps info.segments_per_track) ∙ ap (λ (i : TapeInfo). clearing_steps i.segments_per_track) same ∙ sym (ap (λ (o : Outcome). o.steps) is))
+clearing_begins label date info (Some c) outcome mark known (inr (inr (unlocked, none, (words, (area, fresh, is))))) =
+    let same : info ≡ c.info = cc in (
+      copy_writes 0 (block_of area) ++ copy_writes 1 (block_of area),
+      sym (append_assoc (clearing_steps info.segments_per_track) (copy_writes 0 (block_of area)) (copy_writes 1 (block_of area))) ∙ ap (λ (i : TapeInfo). format_steps i.segments_per_track area) same ∙ sym (ap (λ (o : Outcome). o.steps) is),
+    )
+
+formatting_begins : (label : List ℕ) (date : ℕ) (info : TapeInfo) (words : List ℕ) (area : List (List ℕ)) (held : Option Cartridge) (outcome : Outcome) → info.protected ≡ false →
+    IsFreshArea info.segments_per_track label date words area → Knows (Some info) held → IfSome held (AreMarks words) → FormatOutcome label date held outcome →
+    BeginsSteps (format_steps info.segments_per_track area) outcome
+formatting_begins label date info words area None outcome mark fresh known marks plain = cc
+formatting_begins label date info words area (Some c) outcome mark fresh known marks (inl plain) =
+    let same : info ≡ c.info = cc in let other = ap (λ (i : TapeInfo). i.protected) same in let is = plain.0 in absurd (cc)
+formatting_begins label date info words area (Some c) outcome mark fresh known marks (inr (inl (unlocked, (segment, first, is)))) =
+    absurd (first_defect_is_none c (record { segment = segment; is_first = first }) marks.1)
+formatting_begins label date info words area (Some c) outcome mark fresh known marks (inr (inr (unlocked, none, (others, (other, news, is))))) =
+    let same : info ≡ c.info = cc in
+    let one = fresh_area_is_one c label date words others area other (fresh_with label date info words area c same fresh marks) news in (
+      [],
+      append-nil (format_steps info.segments_per_track area) ∙ ap (λ (i : TapeInfo). format_steps i.segments_per_track area) same
+          ∙ ap (format_steps c.info.segments_per_track) one.1 ∙ sym (ap (λ (o : Outcome). o.steps) is),
+    )
+
+-- ---- how it ends
+
+pub format_absent : {T K : Type 0} (t : tapes.Meaning T) (k : sinks.Meaning K) (label : List ℕ) (date : ℕ) (a b : T) (x : K) (cartridge : Option TapeInfo) → ((z : K) → k.took z [] z) →
+    tapes.Done t a b [] → IfSome (t.told b) (λ there. cartridge ≡ option_map (λ c. c.info) there) → cartridge ≡ None → Ends t k (Format label date) a b x x status.NoCartridge
+format_absent t k label date a b x cartridge nothing did told none =
+    turned_down t k (Format label date) a b x status.NoCartridge [] nothing refl (λ is. cc)
+    (told_known (t.told a) None (λ h. Rules (Format label date) h (refused status.NoCartridge))
+    (subst (λ (i : Option TapeInfo). IfSome (t.told a) (Knows i)) none (known_before t a b cartridge did told)) (λ held known input. absent_is label date held known)) did
+
+pub format_faulted : {T K : Type 0} (t : tapes.Meaning T) (k : sinks.Meaning K) (label : List ℕ) (date : ℕ) (a b c : T) (x : K) (info : TapeInfo) (words : List ℕ) (f : FormatFault) →
+    ((z : K) → k.took z [] z) → Present t a b info → (f ≡ fault.Protected) ↔ (info.protected ≡ true) → Formats t info.segments_per_track label date b c words (Err f) →
+    Ends t k (Format label date) a c x x (format_status f)
+format_faulted t k label date a b c x info words fault.Protected nothing there marked came =
+    turned_down t k (Format label date) a c x status.Protected [] nothing refl (λ is. cc)
+    (told_known (t.told a) (Some info) (λ h. Rules (Format label date) h (refused status.Protected)) there.known
+    (λ held known input. protected_is label date info held (marked.0 refl) known)) (Done-Done there.did came)
+format_faulted t k label date a b c x info words (fault.DefectInFront segment) nothing there marked came =
+    let unlocked : info.protected ≡ false = not_true info.protected (λ mark. let is = marked.1 mark in cc) in
+    turned_down t k (Format label date) a c x (status.DefectInFront segment) (clearing_steps info.segments_per_track) nothing refl (λ is. cc)
+    (told_known_beside (t.told a) (Some info) (λ d. IsFirstDefectInFront d segment) (λ h. Rules (Format label date) h (cleared info.segments_per_track segment)) there.known
+    (told_at_start t a b there.did (λ d. IsFirstDefectInFront d segment) came.first)
+    (λ held known first input. cleared_is label date info segment held unlocked known first)) (Done-Done there.did came.did)
+format_faulted t k label date a b c x info words fault.Tape nothing there marked (inl broke) =
+    let unlocked : info.protected ≡ false = not_true info.protected (λ mark. let is = marked.1 mark in cc) in
+    cut_off t k (Format label date) a c x (clearing_steps info.segments_per_track)
+    (told_known (t.told a) (Some info) (λ h. (outcome : Outcome) → Rules (Format label date) h outcome → BeginsSteps (clearing_steps info.segments_per_track) outcome) there.known
+    (λ held known outcome rules. clearing_begins label date info held outcome unlocked known (rules []))) (Done-Broke there.did broke)
+format_faulted t k label date a b c x info words fault.Tape nothing there marked (inr came) =
+    let unlocked : info.protected ≡ false = not_true info.protected (λ mark. let is = marked.1 mark in cc) in
+    cut_off t k (Format label date) a c x (format_steps info.segments_per_track came.area)
+    (told_known_beside (t.told a) (Some info) (AreMarks words) (λ h. (outcome : Outcome) → Rules (Format label date) h outcome → BeginsSteps (format_steps info.segments_per_track came.area) outcome) there.known
+    (told_at_start t a b there.did (AreMarks words) came.marks)
+    (λ held known marks outcome rules. formatting_begins label date info words came.area held outcome unlocked came.fresh known marks (rules []))) (Done-Broke there.did came.broke)
+
+-- what the plain machine does where all went well
+told_formatted : {T : Type 0} (t : tapes.Meaning T) (label : List ℕ) (date : ℕ) (a b c : T) (info : TapeInfo) (words : List ℕ) (report : FormatReport) → Present t a b info → info.protected ≡ false →
+    (came : HasFormatted t info.segments_per_track label date b c words report) → IfSome (t.told a) (λ h. Rules (Format label date) h (formatted info.segments_per_track words came.area))
+told_formatted t label date a b c info words report there unlocked came =
+    told_known_beside (t.told a) (Some info) (AreMarks words) (λ h. Rules (Format label date) h (formatted info.segments_per_track words came.area)) there.known
+    (told_at_start t a b there.did (AreMarks words) came.marks)
+    (λ held known marks input. formatted_is label date info words came.area held unlocked came.fresh known marks)
+
+line_is : {T : Type 0} (t : tapes.Meaning T) (label : List ℕ) (date n : ℕ) (b c : T) (words : List ℕ) (report : FormatReport) → HasFormatted t n label date b c words report →
+    formatted_line report.segments report.bad ≡ formatted_line (28 * n) (marked_sectors words)
+line_is t label date n b c words report came =
+    ap (λ (m : ℕ). formatted_line m report.bad) came.segments ∙ ap (formatted_line (28 * n)) came.bad
+
+pub format_done : {T K : Type 0} (t : tapes.Meaning T) (k : sinks.Meaning K) (label : List ℕ) (date : ℕ) (a b c : T) (x y : K) (info : TapeInfo) (words : List ℕ) (report : FormatReport) →
+    Present t a b info → info.protected ≡ false → HasFormatted t info.segments_per_track label date b c words report →
+    sinks.Wrote k x y (formatted_line report.segments report.bad) → Ends t k (Format label date) a c x y status.Done
+format_done t k label date a b c x y info words report there unlocked came wrote =
+    done t k (Format label date) a c x y (formatted info.segments_per_track words came.area) refl refl (28 * info.segments_per_track, (marked_sectors words, refl))
+    (told_formatted t label date a b c info words report there unlocked came) (Done-Done there.did came.did)
+    (subst (sinks.Wrote k x y) (line_is t label date info.segments_per_track b c words report came) wrote)
+
+pub format_unprinted : {T K : Type 0} (t : tapes.Meaning T) (k : sinks.Meaning K) (label : List ℕ) (date : ℕ) (a b c : T) (x y : K) (info : TapeInfo) (words : List ℕ) (report : FormatReport) →
+    Present t a b info → info.protected ≡ false → HasFormatted t info.segments_per_track label date b c words report →
+    sinks.BrokeOff k x y (formatted_line report.segments report.bad) → Ends t k (Format label date) a c x y status.SinkFault
+format_unprinted t k label date a b c x y info words report there unlocked came broke =
+    unprinted t k (Format label date) a c x y (formatted info.segments_per_track words came.area) refl refl
+    (told_formatted t label date a b c info words report there unlocked came) (Done-Done there.did came.did)
+    (subst (sinks.BrokeOff k x y) (line_is t label date info.segments_per_track b c words report came) broke)

@@ -1,0 +1,115 @@
+-- How a change by hand ends, by what the drive's call answered.
+use Rattle.std.proofs.Common.{◌≡◌, ◌≢◌, ◌⊎◌, ℕ, ◌*◌, ◌<◌, Bool, true, false, [], Option, Some, None, IfSome, IfNone, Result, Err, refl, subst, inl, inr, arith, nat_lt, ltb-true, ltb-false}
+use Rattle.std.specs.Option.{option_map}
+use Rattle.qic_base.specs.Cartridge.{Cartridge, IsPlace}
+use Rattle.qic_base.specs.declared.tape.TapeInfo.{TapeInfo}
+use Rattle.qic_base.specs.Tape as tapes
+use Rattle.qic_base.proofs.Steps.{Done-told}
+use Rattle.drive_states.specs.declared.fault.HandFault.{HandFault}
+use Rattle.drive_states.specs.declared.fault.HandFault.TheVariants.{NoCartridge, BadPlace}
+
+-- what the drive knows since the insertion is what the tape told before it
+pub known_before : {T : Type 0} (t : tapes.Meaning T) (a b : T) (cartridge : Option TapeInfo) → tapes.Done t a b [] →
+    IfSome (t.told b) (λ there. cartridge ≡ option_map (λ c. c.info) there) → IfSome (t.told a) (λ there. cartridge ≡ option_map (λ c. c.info) there)
+known_before t a b cartridge inserted known =
+    let telling : Option (Option Cartridge) → Type 0 = λ held. IfSome held (λ there. cartridge ≡ option_map (λ c. c.info) there) in
+    subst telling (Done-told inserted) known
+
+-- the drive knows what is told
+abbrev pub Knows : Option TapeInfo → Option Cartridge → Type 0
+Knows cartridge held = cartridge ≡ option_map (λ c. c.info) held
+
+-- a fact of what is told follows from what the drive knows
+pub told_known : (held : Option (Option Cartridge)) (cartridge : Option TapeInfo) (R : Option Cartridge → Type 0) → IfSome held (Knows cartridge) → ((h : Option Cartridge) → Knows cartridge h → R h) → IfSome held R
+told_known None cartridge R known follows = tt
+told_known (Some h) cartridge R known follows = follows h known
+
+-- .. and from a fact of the cartridge
+pub told_known_beside : (held : Option (Option Cartridge)) (cartridge : Option TapeInfo) (Q : Cartridge → Type 0) (R : Option Cartridge → Type 0) →
+    IfSome held (Knows cartridge) → IfSome held (λ h. IfSome h Q) → ((h : Option Cartridge) → Knows cartridge h → IfSome h Q → R h) → IfSome held R
+told_known_beside None cartridge Q R known fact follows = tt
+told_known_beside (Some h) cartridge Q R known fact follows = follows h known fact
+
+-- a fact of the cartridge that is told after the insertion was told before it
+pub told_at_start : {T : Type 0} (t : tapes.Meaning T) (a b : T) → tapes.Done t a b [] → (P : Cartridge → Type 0) → tapes.Tells t b P → tapes.Tells t a P
+told_at_start t a b inserted P told =
+    let telling : Option (Option Cartridge) → Type 0 = λ held. IfSome held (λ h. IfSome h P) in
+    subst telling (Done-told inserted) told
+
+place_decided : (n segment sector : ℕ) → IsPlace n segment sector ⊎ ¬ (IsPlace n segment sector)
+place_decided n segment sector = by_segment (nat_lt segment (28 * n)) refl
+  where
+    by_sector : segment < 28 * n → (b : Bool) → nat_lt sector 32 ≡ b → IsPlace n segment sector ⊎ ¬ (IsPlace n segment sector)
+    by_sector on_tape true is = inl (record { on_tape = on_tape; in_segment = ltb-true sector 32 is })
+    by_sector on_tape false is = inr (λ place. let above = ltb-false sector 32 is in let within = place.in_segment in omega arith)
+
+    by_segment : (b : Bool) → nat_lt segment (28 * n) ≡ b → IsPlace n segment sector ⊎ ¬ (IsPlace n segment sector)
+    by_segment true is = by_sector (ltb-true segment (28 * n) is) (nat_lt sector 32) refl
+    by_segment false is = inr (λ place. let above = ltb-false segment (28 * n) is in let within = place.on_tape in omega arith)
+
+-- the drive knows a cartridge, and it has the sector
+pub record Reached (cartridge : Option TapeInfo) (segment sector : ℕ) (P : Type 0) : Type 0 where
+  pub info : TapeInfo
+  pub known : cartridge ≡ Some info
+  pub place : IsPlace info.segments_per_track segment sector
+  pub fact : P
+
+pub record Misplaced (cartridge : Option TapeInfo) (segment sector : ℕ) : Type 0 where
+  pub info : TapeInfo
+  pub known : cartridge ≡ Some info
+  pub none : ¬ (IsPlace info.segments_per_track segment sector)
+
+-- a call for a sector that was not refused came to it
+pub reached : (cartridge : Option TapeInfo) (segment sector : ℕ) (result : Result (Unit {0}) HandFault) (P : Result (Unit {0}) HandFault → Type 0) →
+    IfNone cartridge (result ≡ Err NoCartridge) →
+    IfSome cartridge (λ info. ¬ (IsPlace info.segments_per_track segment sector) → result ≡ Err BadPlace) →
+    IfSome cartridge (λ info. IsPlace info.segments_per_track segment sector → P result) →
+    result ≢ Err NoCartridge → result ≢ Err BadPlace → Reached cartridge segment sector (P result)
+reached None segment sector result P absent misplaced placed some good = absurd (some absent)
+reached (Some info) segment sector result P absent misplaced placed some good = by_place (place_decided info.segments_per_track segment sector)
+  where
+    by_place : IsPlace info.segments_per_track segment sector ⊎ ¬ (IsPlace info.segments_per_track segment sector) → Reached (Some info) segment sector (P result)
+    by_place (inl place) = record { info = info; known = refl; place = place; fact = placed place }
+    by_place (inr none) = absurd (good (misplaced none))
+
+-- one that was refused for want of a cartridge
+pub unknown : (cartridge : Option TapeInfo) (segment sector : ℕ) (result : Result (Unit {0}) HandFault) (P : Result (Unit {0}) HandFault → Type 0) →
+    IfSome cartridge (λ info. ¬ (IsPlace info.segments_per_track segment sector) → result ≡ Err BadPlace) →
+    IfSome cartridge (λ info. IsPlace info.segments_per_track segment sector → P result) →
+    result ≡ Err NoCartridge → ¬ (P (Err NoCartridge)) → cartridge ≡ None
+unknown None segment sector result P misplaced placed is never = refl
+unknown (Some info) segment sector result P misplaced placed is never = by_place (place_decided info.segments_per_track segment sector)
+  where
+    by_place : IsPlace info.segments_per_track segment sector ⊎ ¬ (IsPlace info.segments_per_track segment sector) → Some info ≡ None
+    by_place (inl place) = absurd (never (subst P is (placed place)))
+    by_place (inr none) = let other = misplaced none in absurd (cc)
+
+-- .. and for want of the sector
+pub no_place : (cartridge : Option TapeInfo) (segment sector : ℕ) (result : Result (Unit {0}) HandFault) (P : Result (Unit {0}) HandFault → Type 0) →
+    IfNone cartridge (result ≡ Err NoCartridge) →
+    IfSome cartridge (λ info. IsPlace info.segments_per_track segment sector → P result) →
+    result ≡ Err BadPlace → ¬ (P (Err BadPlace)) → Misplaced cartridge segment sector
+no_place None segment sector result P absent placed is never = absurd (cc)
+no_place (Some info) segment sector result P absent placed is never =
+    record { info = info; known = refl; none = λ place. never (subst P is (placed place)) }
+
+-- ---- the protect switch
+
+pub record Switched (cartridge : Option TapeInfo) (P : Type 0) : Type 0 where
+  pub info : TapeInfo
+  pub known : cartridge ≡ Some info
+  pub fact : P
+
+pub record NotSwitched (cartridge : Option TapeInfo) (Q : Type 0) : Type 0 where
+  pub known : cartridge ≡ None
+  pub same : Q
+
+pub switched : (cartridge : Option TapeInfo) (result : Result (Unit {0}) HandFault) (P : Result (Unit {0}) HandFault → Type 0) (Q : Type 0) →
+    IfNone cartridge ((result ≡ Err NoCartridge) × Q) → IfSome cartridge (λ info. P result) → result ≢ Err NoCartridge → Switched cartridge (P result)
+switched None result P Q absent present some = absurd (some absent.0)
+switched (Some info) result P Q absent present some = record { info = info; known = refl; fact = present }
+
+pub no_switch : (cartridge : Option TapeInfo) (result : Result (Unit {0}) HandFault) (P : Result (Unit {0}) HandFault → Type 0) (Q : Type 0) →
+    IfNone cartridge ((result ≡ Err NoCartridge) × Q) → IfSome cartridge (λ info. P result) → result ≡ Err NoCartridge → ¬ (P (Err NoCartridge)) → NotSwitched cartridge Q
+no_switch None result P Q absent present is never = record { known = refl; same = absent.1 }
+no_switch (Some info) result P Q absent present is never = absurd (never (subst P is present))

@@ -1,0 +1,145 @@
+-- The plain machine is a function, and what a stop in a command leaves.
+use Rattle.std.proofs.Common.{◌≡◌, ◌⊎◌, ℕ, Bool, List, [], ◌∷◌, Option, Some, None, refl, sym, ap, ◌∙◌, subst, inl, inr}
+use Rattle.qic_base.specs.Cartridge.{Cartridge}
+use Rattle.qic_base.specs.Step.{Step as TapeStep, Renew, SetReferenced, SetProtected, Wear, Spoil, effect}
+use Rattle.qic_base.specs.Stop.{Torn}
+use Rattle.tape_script.specs.declared.words.Words.{Words}
+use Rattle.tape_script.specs.declared.words.Words.TheVariants as words
+use Rattle.drive_states.specs.Record.{power_on}
+use Rattle.tape_pulses.specs.Pulses as pulses
+use Rattle.tape_pulses.specs.Pulses.{trains_steps}
+use Rattle.tape_pulses.proofs.MachineLaws.{one_outcome}
+use Rattle.tape_pulses.proofs.Stopping.{stops_leave as trains_leave}
+use Rattle.cartridge_spec.specs.Volumes as mounting
+use Rattle.mount_laws.proofs.Mounting.{mounts_is_function}
+use Rattle.fresh_header.proofs.Front.{first_defect_is_none, first_defect_is_one}
+use Rattle.fresh_header.proofs.Marks.{fresh_area_is_one}
+use Rattle.tape_cmd.specs.Plain.{Outcome, Plain, CommandLeaves, FormatOutcome, FormatLeaves, cleared, formatted, LoseOutcome, DefectOutcome, ProtectOutcome, Printing, listing, telling, mounting_outcome, MountOutcome, MountLeaves, sent, info_of, SentOutcome}
+
+-- what a person's change of one sector does is determined
+lose_is_function : (segment sector : ℕ) (held : Option Cartridge) (a b : Outcome) → LoseOutcome segment sector held a → LoseOutcome segment sector held b → a ≡ b
+lose_is_function segment sector None a b one other = one ∙ sym other
+lose_is_function segment sector (Some c) a b (inl one) (inl other) = one.1 ∙ sym other.1
+lose_is_function segment sector (Some c) a b (inl one) (inr other) = absurd (one.0 other.0)
+lose_is_function segment sector (Some c) a b (inr one) (inl other) = absurd (other.0 one.0)
+lose_is_function segment sector (Some c) a b (inr one) (inr other) = one.1 ∙ sym other.1
+
+defect_is_function : (segment sector : ℕ) (held : Option Cartridge) (a b : Outcome) → DefectOutcome segment sector held a → DefectOutcome segment sector held b → a ≡ b
+defect_is_function segment sector None a b one other = one ∙ sym other
+defect_is_function segment sector (Some c) a b (inl one) (inl other) = one.1 ∙ sym other.1
+defect_is_function segment sector (Some c) a b (inl one) (inr (inl other)) = absurd (one.0 other.0)
+defect_is_function segment sector (Some c) a b (inl one) (inr (inr other)) = absurd (one.0 other.0)
+defect_is_function segment sector (Some c) a b (inr (inl one)) (inl other) = absurd (other.0 one.0)
+defect_is_function segment sector (Some c) a b (inr (inr one)) (inl other) = absurd (other.0 one.0)
+defect_is_function segment sector (Some c) a b (inr (inl one)) (inr (inl other)) = one.2 ∙ sym other.2
+defect_is_function segment sector (Some c) a b (inr (inl one)) (inr (inr other)) = let p = one.1 in let q = other.1 in absurd (cc)
+defect_is_function segment sector (Some c) a b (inr (inr one)) (inr (inl other)) = let p = one.1 in let q = other.1 in absurd (cc)
+defect_is_function segment sector (Some c) a b (inr (inr one)) (inr (inr other)) = one.2 ∙ sym other.2
+
+protect_is_function : (on : Bool) (held : Option Cartridge) (a b : Outcome) → ProtectOutcome on held a → ProtectOutcome on held b → a ≡ b
+protect_is_function on None a b one other = one ∙ sym other
+protect_is_function on (Some c) a b one other = one ∙ sym other
+
+-- what a stop in the steps of an outcome leaves, a stop in the one step leaves
+only_step : (step : TapeStep) (held left : Option Cartridge) (a b : Outcome) → a ≡ b → b.steps ≡ step ∷ [] → Torn a.steps held left → Torn (step ∷ []) held left
+only_step step held left a b same one torn = subst (λ (steps : List TapeStep). Torn steps held left) (ap (λ (o : Outcome). o.steps) same ∙ one) torn
+
+no_step : (step : TapeStep) (held left : Option Cartridge) (a b : Outcome) → a ≡ b → b.steps ≡ [] → Torn a.steps held left → Torn (step ∷ []) held left
+no_step step held left a b same none torn = inl (subst (λ (steps : List TapeStep). Torn steps held left) (ap (λ (o : Outcome). o.steps) same ∙ none) torn)
+
+stays : (held left : Option Cartridge) (a b : Outcome) → a ≡ b → b.steps ≡ [] → Torn a.steps held left → left ≡ held
+stays held left a b same none torn = subst (λ (steps : List TapeStep). Torn steps held left) (ap (λ (o : Outcome). o.steps) same ∙ none) torn
+
+mount_leaves : (prints : Printing) (held left : Option Cartridge) (outcome : Outcome) → MountOutcome prints held outcome → Torn outcome.steps held left → MountLeaves held left
+mount_leaves prints None left outcome plain torn = stays None left outcome _ plain refl torn
+mount_leaves prints (Some c) left outcome (mounting.NotFormatted, mounts, is) torn = inl (stays (Some c) left outcome _ is refl torn)
+mount_leaves prints (Some c) left outcome (mounting.Foreign fault, mounts, is) torn = inl (stays (Some c) left outcome _ is refl torn)
+mount_leaves prints (Some c) left outcome (mounting.LostTable lost, mounts, is) torn = inl (stays (Some c) left outcome _ is refl torn)
+mount_leaves prints (Some c) left outcome (mounting.TableDisagrees, mounts, is) torn = inl (stays (Some c) left outcome _ is refl torn)
+mount_leaves prints (Some c) left outcome (mounting.Mounted header words table entries, mounts, is) torn =
+    inr (table, mounts.reads, subst (λ (steps : List TapeStep). Torn steps (Some c) left) (ap (λ (o : Outcome). o.steps) is) torn)
+
+sent_leaves : (held left : Option Cartridge) (input : List ℕ) (outcome : Outcome) → SentOutcome held input outcome → Torn outcome.steps held left → (left ≡ held) ⊎ (left ≡ effect SetReferenced held)
+sent_leaves held left input outcome (came, plain, is) torn =
+    let same : outcome.steps ≡ trains_steps (power_on (info_of held)) plain.trains =
+    ap (λ (o : Outcome). o.steps) is ∙ ap (λ (o : pulses.Outcome). o.steps) plain.comes in
+    trains_leave (power_on (info_of held)) plain.trains held left (subst (λ (steps : List TapeStep). Torn steps held left) same torn)
+
+format_leaves : (label : List ℕ) (date : ℕ) (held left : Option Cartridge) (outcome : Outcome) → FormatOutcome label date held outcome → Torn outcome.steps held left → FormatLeaves label date held left
+format_leaves label date None left outcome plain torn = stays None left outcome _ plain refl torn
+format_leaves label date (Some c) left outcome (inl plain) torn = inl (inl (stays (Some c) left outcome _ plain.1 refl torn))
+format_leaves label date (Some c) left outcome (inr (inl (unlocked, (segment, first, is)))) torn =
+    inl (subst (λ (steps : List TapeStep). Torn steps (Some c) left) (ap (λ (o : Outcome). o.steps) is) torn)
+format_leaves label date (Some c) left outcome (inr (inr (unlocked, none, (words, (area, fresh, is))))) torn =
+    inr (none, (words, (area, fresh, subst (λ (steps : List TapeStep). Torn steps (Some c) left) (ap (λ (o : Outcome). o.steps) is) torn)))
+
+-- what a stop in a command's steps leaves
+pub plain_leaves : (command : Words) (held left : Option Cartridge) (input : List ℕ) (outcome : Outcome) → Plain command held input outcome → Torn outcome.steps held left → CommandLeaves command held left
+plain_leaves (words.New segments) held left input outcome plain torn = only_step (Renew segments) held left outcome _ plain refl torn
+plain_leaves (words.Defect segment sector) None left input outcome plain torn = no_step (Spoil segment sector) None left outcome _ plain refl torn
+plain_leaves (words.Defect segment sector) (Some c) left input outcome (inl plain) torn = no_step (Spoil segment sector) (Some c) left outcome _ plain.1 refl torn
+plain_leaves (words.Defect segment sector) (Some c) left input outcome (inr (inl plain)) torn = only_step (Spoil segment sector) (Some c) left outcome _ plain.2 refl torn
+plain_leaves (words.Defect segment sector) (Some c) left input outcome (inr (inr plain)) torn = only_step (Spoil segment sector) (Some c) left outcome _ plain.2 refl torn
+plain_leaves (words.Lose segment sector) None left input outcome plain torn = no_step (Wear segment sector) None left outcome _ plain refl torn
+plain_leaves (words.Lose segment sector) (Some c) left input outcome (inl plain) torn = no_step (Wear segment sector) (Some c) left outcome _ plain.1 refl torn
+plain_leaves (words.Lose segment sector) (Some c) left input outcome (inr plain) torn = only_step (Wear segment sector) (Some c) left outcome _ plain.1 refl torn
+plain_leaves (words.Protect on) None left input outcome plain torn = no_step (SetProtected on) None left outcome _ plain refl torn
+plain_leaves (words.Protect on) (Some c) left input outcome plain torn = only_step (SetProtected on) (Some c) left outcome _ plain refl torn
+plain_leaves words.List held left input outcome plain torn = mount_leaves listing held left outcome plain torn
+plain_leaves (words.Format label date) held left input outcome plain torn = format_leaves label date held left outcome plain torn
+plain_leaves words.Info held left input outcome plain torn = mount_leaves telling held left outcome plain torn
+plain_leaves (words.Append name date) held left input outcome plain torn = absurd plain
+plain_leaves (words.Restore number) held left input outcome plain torn = absurd plain
+plain_leaves words.Scrub held left input outcome plain torn = absurd plain
+plain_leaves words.Pulses held left input outcome plain torn = sent_leaves held left input outcome plain torn
+plain_leaves words.Script held left input outcome plain torn = absurd plain
+plain_leaves (words.Make seed count) held left input outcome plain torn = absurd plain
+
+-- ---- mounting is a function
+
+mount_is_function : (prints : Printing) (held : Option Cartridge) (a b : Outcome) → MountOutcome prints held a → MountOutcome prints held b → a ≡ b
+mount_is_function prints None a b one other = one ∙ sym other
+mount_is_function prints (Some c) a b (m, mounts, is) (n, gives, was) =
+    is ∙ ap (mounting_outcome prints c) (mounts_is_function c m n mounts gives) ∙ sym was
+
+-- ---- formatting is a function
+
+format_is_function : (label : List ℕ) (date : ℕ) (held : Option Cartridge) (a b : Outcome) → FormatOutcome label date held a → FormatOutcome label date held b → a ≡ b
+format_is_function label date None a b one other = one ∙ sym other
+format_is_function label date (Some c) a b (inl one) (inl other) = one.1 ∙ sym other.1
+format_is_function label date (Some c) a b (inl one) (inr (inl other)) = let p = one.0 in let q = other.0 in absurd (cc)
+format_is_function label date (Some c) a b (inl one) (inr (inr other)) = let p = one.0 in let q = other.0 in absurd (cc)
+format_is_function label date (Some c) a b (inr (inl one)) (inl other) = let p = one.0 in let q = other.0 in absurd (cc)
+format_is_function label date (Some c) a b (inr (inr one)) (inl other) = let p = one.0 in let q = other.0 in absurd (cc)
+format_is_function label date (Some c) a b (inr (inl (unlocked, (segment, first, is)))) (inr (inl (free, (other, second, was)))) =
+    is ∙ ap (cleared c.info.segments_per_track) (first_defect_is_one c segment other first second) ∙ sym was
+format_is_function label date (Some c) a b (inr (inl (unlocked, (segment, first, is)))) (inr (inr (free, none, rest))) =
+    absurd (first_defect_is_none c (record { segment = segment; is_first = first }) none)
+format_is_function label date (Some c) a b (inr (inr (free, none, rest))) (inr (inl (unlocked, (segment, first, is)))) =
+    absurd (first_defect_is_none c (record { segment = segment; is_first = first }) none)
+format_is_function label date (Some c) a b (inr (inr (unlocked, none, (words, (area, fresh, is))))) (inr (inr (free, clear, (others, (other, news, was))))) =
+    let same = fresh_area_is_one c label date words others area other fresh news in
+    is ∙ ap (λ (w : List ℕ). formatted c.info.segments_per_track w area) same.0 ∙ ap (formatted c.info.segments_per_track others) same.1 ∙ sym was
+
+-- ---- trains of pulses are one
+
+sent_is_function : (held : Option Cartridge) (input : List ℕ) (a b : Outcome) → SentOutcome held input a → SentOutcome held input b → a ≡ b
+sent_is_function held input a b (came, plain, is) (other, rule, was) =
+    is ∙ ap sent (one_outcome (info_of held) input came other plain rule) ∙ sym was
+
+-- ---- every command is one
+
+pub plain_is_function : (command : Words) (held : Option Cartridge) (input : List ℕ) (a b : Outcome) → Plain command held input a → Plain command held input b → a ≡ b
+plain_is_function (words.New segments) held input a b one other = one ∙ sym other
+plain_is_function (words.Defect segment sector) held input a b one other = defect_is_function segment sector held a b one other
+plain_is_function (words.Lose segment sector) held input a b one other = lose_is_function segment sector held a b one other
+plain_is_function (words.Protect on) held input a b one other = protect_is_function on held a b one other
+plain_is_function words.List held input a b one other = mount_is_function listing held a b one other
+plain_is_function (words.Format label date) held input a b one other = format_is_function label date held a b one other
+plain_is_function words.Info held input a b one other = mount_is_function telling held a b one other
+plain_is_function (words.Append name date) held input a b one other = absurd one
+plain_is_function (words.Restore number) held input a b one other = absurd one
+plain_is_function words.Scrub held input a b one other = absurd one
+plain_is_function words.Pulses held input a b one other = sent_is_function held input a b one other
+plain_is_function words.Script held input a b one other = absurd one
+plain_is_function (words.Make seed count) held input a b one other = absurd one

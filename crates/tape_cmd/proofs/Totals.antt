@@ -1,0 +1,95 @@
+-- Each command that is built has an outcome over what a drive can hold.
+use Rattle.std.proofs.Common.{◌≡◌, ◌⊎◌, ℕ, ◌<◌, ◌*◌, ◌^◌, Bool, true, false, List, Option, Some, None, IfSome, refl, inl, inr, nat_lt, ltb-true, ltb-false, arith}
+use Rattle.qic_base.specs.Cartridge.{Cartridge, IsCartridge, view_at}
+use Rattle.qic_base.specs.Tape.{spoil_answer}
+use Rattle.tape_script.specs.declared.words.Words.{Words}
+use Rattle.tape_script.specs.declared.words.Words.TheVariants as words
+use Rattle.mount_laws.proofs.Mounting.{mounts_always}
+use Rattle.format_plan.specs.Formatting.{HasNoDefectInFront}
+use Rattle.fresh_header.specs.Laws.{IsLabel, HasDefectInFront}
+use Rattle.fresh_header.proofs.Front.{first_defect_or_none}
+use Rattle.fresh_header.proofs.Fresh.{fresh_area_exists}
+use Rattle.tape_pulses.proofs.MachineLaws.{each_outcome}
+use Rattle.tape_cmd.specs.Plain.{Outcome, HasPlace, LoseOutcome, DefectOutcome, ProtectOutcome, Printing, listing, telling, MountOutcome, FormatOutcome, sent, info_of, SentOutcome, HasValues, is_built, reads_input, Plain}
+use Rattle.tape_cmd.specs.Machine.{Rules}
+
+-- a cartridge has a sector, or not
+place_or_not : (c : Cartridge) (segment sector : ℕ) → HasPlace c segment sector ⊎ ¬ (HasPlace c segment sector)
+place_or_not c segment sector = by_segment (nat_lt segment (28 * c.info.segments_per_track)) refl
+  where
+    by_sector : segment < 28 * c.info.segments_per_track → (b : Bool) → nat_lt sector 32 ≡ b → HasPlace c segment sector ⊎ ¬ (HasPlace c segment sector)
+    by_sector on_tape true is = inl (record { on_tape = on_tape; in_segment = ltb-true sector 32 is })
+    by_sector on_tape false is = inr (λ place. let above = ltb-false sector 32 is in let within = place.in_segment in omega arith)
+
+    by_segment : (b : Bool) → nat_lt segment (28 * c.info.segments_per_track) ≡ b → HasPlace c segment sector ⊎ ¬ (HasPlace c segment sector)
+    by_segment true is = by_sector (ltb-true segment (28 * c.info.segments_per_track) is) (nat_lt sector 32) refl
+    by_segment false is = inr (λ place. let above = ltb-false segment (28 * c.info.segments_per_track) is in let within = place.on_tape in omega arith)
+
+lose_answers : (segment sector : ℕ) (held : Option Cartridge) → (outcome : Outcome) × LoseOutcome segment sector held outcome
+lose_answers segment sector None = (_, refl)
+lose_answers segment sector (Some c) = by_place (place_or_not c segment sector)
+  where
+    by_place : HasPlace c segment sector ⊎ ¬ (HasPlace c segment sector) → (outcome : Outcome) × LoseOutcome segment sector (Some c) outcome
+    by_place (inl place) = (_, inr (place, refl))
+    by_place (inr none) = (_, inl (none, refl))
+
+defect_answers : (segment sector : ℕ) (held : Option Cartridge) → (outcome : Outcome) × DefectOutcome segment sector held outcome
+defect_answers segment sector None = (_, refl)
+defect_answers segment sector (Some c) = by_place (place_or_not c segment sector)
+  where
+    by_view : HasPlace c segment sector → (b : Bool) → spoil_answer (view_at c segment sector) ≡ b → (outcome : Outcome) × DefectOutcome segment sector (Some c) outcome
+    by_view place true is = (_, inr (inr (place, is, refl)))
+    by_view place false is = (_, inr (inl (place, is, refl)))
+
+    by_place : HasPlace c segment sector ⊎ ¬ (HasPlace c segment sector) → (outcome : Outcome) × DefectOutcome segment sector (Some c) outcome
+    by_place (inl place) = by_view place (spoil_answer (view_at c segment sector)) refl
+    by_place (inr none) = (_, inl (none, refl))
+
+protect_answers : (on : Bool) (held : Option Cartridge) → (outcome : Outcome) × ProtectOutcome on held outcome
+protect_answers on None = (_, refl)
+protect_answers on (Some c) = (_, refl)
+
+mount_answers : (prints : Printing) (held : Option Cartridge) → IfSome held IsCartridge → (outcome : Outcome) × MountOutcome prints held outcome
+mount_answers prints None whole = (_, refl)
+mount_answers prints (Some c) whole = let some = mounts_always c whole in (_, (some.0, some.1, refl))
+
+format_answers : (label : List ℕ) (date : ℕ) (held : Option Cartridge) → IsLabel label → date < 2 ^ 32 → IfSome held IsCartridge → (outcome : Outcome) × FormatOutcome label date held outcome
+format_answers label date None is few whole = (_, refl)
+format_answers label date (Some c) is few whole = by_mark c.info.protected refl
+  where
+    by_front : c.info.protected ≡ false → HasDefectInFront c ⊎ HasNoDefectInFront c → (outcome : Outcome) × FormatOutcome label date (Some c) outcome
+    by_front unlocked (inl found) = (_, inr (inl (unlocked, (found.segment, found.is_first, refl))))
+    by_front unlocked (inr none) =
+        let some = fresh_area_exists c label date whole is few in
+        (_, inr (inr (unlocked, none, (some.words, (some.area, some.is_fresh, refl)))))
+
+    by_mark : (mark : Bool) → c.info.protected ≡ mark → (outcome : Outcome) × FormatOutcome label date (Some c) outcome
+    by_mark true is = (_, inl (is, refl))
+    by_mark false is = by_front is (first_defect_or_none c)
+
+-- one that reads no input has one whatever the input is
+pub rules_answer : (command : Words) (held : Option Cartridge) → HasValues command → is_built command ≡ true → reads_input command ≡ false → IfSome held IsCartridge → (outcome : Outcome) × Rules command held outcome
+rules_answer (words.New segments) held values built blind whole = (_, (λ input. refl))
+rules_answer (words.Defect segment sector) held values built blind whole = let some = defect_answers segment sector held in (some.0, (λ input. some.1))
+rules_answer (words.Lose segment sector) held values built blind whole = let some = lose_answers segment sector held in (some.0, (λ input. some.1))
+rules_answer (words.Protect on) held values built blind whole = let some = protect_answers on held in (some.0, (λ input. some.1))
+rules_answer words.List held values built blind whole = let some = mount_answers listing held whole in (some.0, (λ input. some.1))
+rules_answer (words.Format label date) held values built blind whole = let some = format_answers label date held values.0 values.1 whole in (some.0, (λ input. some.1))
+rules_answer words.Info held values built blind whole = let some = mount_answers telling held whole in (some.0, (λ input. some.1))
+rules_answer (words.Append name date) held values built blind whole = cc
+rules_answer (words.Restore number) held values built blind whole = cc
+rules_answer words.Scrub held values built blind whole = cc
+rules_answer words.Pulses held values built blind whole = cc
+rules_answer words.Script held values built blind whole = cc
+rules_answer (words.Make seed count) held values built blind whole = cc
+
+sent_answers : (held : Option Cartridge) (input : List ℕ) → (outcome : Outcome) × SentOutcome held input outcome
+sent_answers held input = let came = each_outcome (info_of held) input in (sent came.0, (came.0, came.1, refl))
+
+pub plain_answers : (command : Words) (held : Option Cartridge) (input : List ℕ) → HasValues command → is_built command ≡ true → IfSome held IsCartridge → (outcome : Outcome) × Plain command held input outcome
+plain_answers words.Pulses held input values built whole = sent_answers held input
+plain_answers command held input values built whole = by_rules (reads_input command) refl
+  where
+    by_rules : (reads : Bool) → reads_input command ≡ reads → (outcome : Outcome) × Plain command held input outcome
+    by_rules false blind = let some = rules_answer command held values built blind whole in (some.0, some.1 input)
+    by_rules true reads = absurd (cc)

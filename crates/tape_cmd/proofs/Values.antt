@@ -1,0 +1,76 @@
+-- The values that words give a command.
+use Rattle.std.proofs.lemmas.Bool.{eqb-true}
+use Rattle.std.proofs.lemmas.List.{length-replicate, length-append}
+use Rattle.std.proofs.lemmas.List.Elements.{All-append, All-replicate}
+use Rattle.std.proofs.Common.{codes, if◌then◌else◌, ◌≡◌, ℕ, ◌+◌, ◌-◌, ◌<◌, ◌^◌, ◌==◌, ◌++◌, Bool, true, false, List, [], ◌∷◌, length, replicate, All, refl, sym, ap, ◌∙◌, subst, inl, inr, arith}
+use Rattle.qic_base.specs.Name.{IsNameText, IsPrintable, filled}
+use Rattle.fresh_header.specs.Laws.{IsLabel}
+use Rattle.tape_script.specs.declared.words.Words.{Words}
+use Rattle.tape_script.specs.declared.words.Words.TheVariants as words
+use Rattle.tape_script.specs.Forms.{Word, Name, IsDateWord, SpellsAll, HasForm}
+use Rattle.tape_script.specs.Words.{IsCommand}
+use Rattle.tape_cmd.specs.Plain.{HasValues}
+
+-- a name is a label
+printable_bytes : (text : List ℕ) → All IsPrintable text → All (λ b. b < 256) text
+printable_bytes text all = λ k d within. let most = (all k d within).1 in omega arith
+
+name_is_label : (word label : List ℕ) → IsNameText word → label ≡ filled word → IsLabel label
+unfolding filled
+name_is_label word label text same =
+    let n : ℕ = 44 - length word in
+    let fits = text.fits in
+    let size : length (word ++ replicate n 0x20) ≡ 44 = length-append word (replicate n 0x20) ∙ ap (λ m. length word + m) (length-replicate n 0x20) ∙ omega arith in
+    subst IsLabel (sym same) (record {
+      size = size;
+      bytes = All-append (λ b. b < 256) word (replicate n 0x20) (printable_bytes word text.printable) (All-replicate (λ b. b < 256) n 0x20 (omega arith));
+    })
+
+-- a date word has 32 bits
+date_is_word : (word : List ℕ) (date : ℕ) → IsDateWord word date → date < 2 ^ 32
+date_is_word word date is =
+    let d = is.a_date in
+    let a = d.first_year in let b = d.last_year in let c = d.first_month in let e = d.last_month in let f = d.first_day in let g = d.last_day in
+    let h = d.last_hour in let i = d.last_minute in let j = d.last_second in
+    let same = is.stamped in
+    omega arith
+
+-- the label and the date of a command to format
+format_values : (ws : List (List ℕ)) (label : List ℕ) (date : ℕ) → IsCommand ws (words.Format label date) → HasValues (words.Format label date)
+format_values [] label date (inl spelled) = absurd spelled
+format_values (w ∷ []) label date (inl spelled) = absurd spelled.1
+format_values (w ∷ name ∷ []) label date (inl spelled) = absurd spelled.1.1
+format_values (w ∷ name ∷ day ∷ rest) label date (inl spelled) =
+    (name_is_label name label spelled.1.0.0 spelled.1.0.1, date_is_word day date spelled.1.1.0)
+format_values ws label date (inr spelled) = by_date (date == 0) refl spelled
+  where
+    undated : (vs : List (List ℕ)) → SpellsAll vs (Word (codes "format") ∷ Name label ∷ []) → IsLabel label
+    undated [] spelled = absurd spelled
+    undated (w ∷ []) spelled = absurd spelled.1
+    undated (w ∷ name ∷ rest) spelled = name_is_label name label spelled.1.0.0 spelled.1.0.1
+
+    by_date : (zero : Bool) → date == 0 ≡ zero → HasForm ws (if zero then (Word (codes "format") ∷ Name label ∷ []) ∷ [] else []) → HasValues (words.Format label date)
+    by_date true is (inl form) = (undated ws form, let none : date ≡ 0 = eqb-true date 0 is in omega arith)
+    by_date true is (inr none) = absurd none
+    by_date false is none = absurd none
+
+-- the words of a command give it its values
+pub has_values : (words : List (List ℕ)) (command : Words) → IsCommand words command → HasValues command
+has_values [] (words.New segments) (inl spelled) = absurd spelled
+has_values [] (words.New segments) (inr spelled) = absurd spelled
+has_values (word ∷ []) (words.New segments) (inl spelled) = absurd spelled.1
+has_values (word ∷ []) (words.New segments) (inr spelled) = absurd spelled
+has_values (word ∷ number ∷ rest) (words.New segments) (inl spelled) = record { shortest = spelled.1.0.1; longest = spelled.1.0.2 }
+has_values (word ∷ number ∷ rest) (words.New segments) (inr spelled) = absurd spelled
+has_values ws (words.Defect segment sector) spelled = tt
+has_values ws (words.Lose segment sector) spelled = tt
+has_values ws (words.Protect on) spelled = tt
+has_values ws words.List spelled = tt
+has_values ws (words.Format label date) spelled = format_values ws label date spelled
+has_values ws words.Info spelled = tt
+has_values ws (words.Append name date) spelled = tt
+has_values ws (words.Restore number) spelled = tt
+has_values ws words.Scrub spelled = tt
+has_values ws words.Pulses spelled = tt
+has_values ws words.Script spelled = tt
+has_values ws (words.Make seed count) spelled = tt

@@ -1,0 +1,141 @@
+-- The lines that the commands print, and those that a status prints (this project's own).
+use Rattle.std.specs.Prelude.{ℕ, ◌+◌, ◌*◌, Bool, true, false, List, [], ◌∷◌, ◌++◌, length, codes, decimal}
+use Rattle.qic_base.specs.declared.foreign.ForeignField.{ForeignField}
+use Rattle.qic_base.specs.declared.foreign.ForeignField.TheVariants.{FormatCode, FirstHeader, SecondHeader, FirstData, LastData, SegmentsPerTrack, Tracks, TrackMaximum, SectorMaximum, Map, Slot, Range}
+use Rattle.cartridge_spec.specs.Shape.{marked_sectors}
+use Rattle.cartridge_spec.specs.Header.{Header}
+use Rattle.cartridge_spec.specs.Table.{Entry}
+use Rattle.cartridge_spec.specs.Volumes.{volume_length}
+use Rattle.tape_script.specs.Text.{date_text, name_text}
+use Rattle.tape_cmd.specs.declared.status.Status.{Status}
+use Rattle.tape_cmd.specs.declared.status.Status.TheVariants as status
+
+-- ---- commands
+
+-- a number behind a word
+unfoldable pub number_line : List ℕ → ℕ → List ℕ
+number_line word n = word ++ codes " " ++ decimal n ++ codes "\n"
+
+-- two numbers behind a word
+unfoldable pub place_line : List ℕ → (segment sector : ℕ) → List ℕ
+place_line word segment sector = word ++ codes " " ++ decimal segment ++ codes " " ++ decimal sector ++ codes "\n"
+
+abbrev pub blank_line : ℕ → List ℕ
+blank_line segments = number_line (codes "blank") segments
+
+abbrev pub defect_line : (segment sector : ℕ) → List ℕ
+defect_line segment sector = place_line (codes "defect") segment sector
+
+abbrev pub lost_line : (segment sector : ℕ) → List ℕ
+lost_line segment sector = place_line (codes "lost") segment sector
+
+-- how many segments were formatted, and how many sectors are bad
+abbrev pub formatted_line : (segments bad : ℕ) → List ℕ
+formatted_line segments bad = place_line (codes "formatted") segments bad
+
+abbrev pub protected_line : Bool → List ℕ
+protected_line true = codes "protected on\n"
+protected_line false = codes "protected off\n"
+
+-- a volume's line: its number, first and last segment, length in bytes, date and name
+unfoldable pub volume_line : (number : ℕ) → Entry → (bytes : ℕ) → List ℕ
+volume_line number e bytes =
+    decimal number ++ codes " " ++ decimal e.start ++ codes " " ++ decimal e.end ++ codes " " ++ decimal bytes ++ codes " "
+    ++ date_text e.date ++ codes " " ++ name_text e.name ++ codes "\n"
+
+-- the lines of volumes, from this number on, each with its length by the map
+unfoldable pub volume_lines : (words : List ℕ) → (number : ℕ) → List Entry → List ℕ
+volume_lines words number [] = []
+volume_lines words number (e ∷ es) = volume_line number e (volume_length words e) ++ volume_lines words (number + 1) es
+
+-- the last line: how many volumes there are
+abbrev pub count_line : ℕ → List ℕ
+count_line count = number_line (codes "volumes") count
+
+-- what `list` prints, by the words of the map and the volumes
+unfoldable pub list_text : (words : List ℕ) → List Entry → List ℕ
+list_text words entries = volume_lines words 1 entries ++ count_line (length entries)
+
+-- the first lines of `info`: the label, and when the cartridge was formatted
+unfoldable pub label_lines : Header → List ℕ
+label_lines header =
+    codes "label " ++ name_text header.label ++ codes "\n" ++ codes "formatted " ++ date_text header.format_date ++ codes "\n"
+
+-- its last lines: how many segments, bad sectors and volumes there are
+unfoldable pub count_lines : (segments bad volumes : ℕ) → List ℕ
+count_lines segments bad volumes =
+    codes "segments " ++ decimal segments ++ codes "\n" ++ codes "bad sectors " ++ decimal bad ++ codes "\n"
+    ++ codes "volumes " ++ decimal volumes ++ codes "\n"
+
+-- what `info` prints, by the header, the words of the map and the number of volumes
+abbrev pub info_text : Header → (words : List ℕ) → (volumes : ℕ) → List ℕ
+info_text header words volumes = label_lines header ++ count_lines (28 * header.segments_per_track) (marked_sectors words) volumes
+
+-- ---- statuses
+
+-- the exit status
+abbrev pub status_code : Status → ℕ
+status_code status.Done = 0
+status_code status.Usage = 2
+status_code (status.ScriptFault line place) = 3
+status_code status.NoCartridge = 4
+status_code status.Protected = 5
+status_code status.NotFormatted = 6
+status_code (status.Foreign field value) = 7
+status_code status.TableMismatch = 8
+status_code (status.Full need have) = 9
+status_code (status.NoVolume number count) = 10
+status_code (status.Lost segment lost) = 11
+status_code (status.Mismatch segment) = 12
+status_code (status.DefectInFront segment) = 13
+status_code status.NotBlank = 14
+status_code status.BadPlace = 15
+status_code status.SourceFault = 16
+status_code status.SinkFault = 17
+status_code status.TapeFault = 18
+status_code status.NoMemory = 19
+
+abbrev pub field_text : ForeignField → List ℕ
+field_text FormatCode = codes "format-code"
+field_text FirstHeader = codes "first-header"
+field_text SecondHeader = codes "second-header"
+field_text FirstData = codes "first-data"
+field_text LastData = codes "last-data"
+field_text SegmentsPerTrack = codes "segments-per-track"
+field_text Tracks = codes "tracks"
+field_text TrackMaximum = codes "floppy-track-maximum"
+field_text SectorMaximum = codes "floppy-sector-maximum"
+field_text Map = codes "map"
+field_text Slot = codes "slot"
+field_text Range = codes "range"
+
+-- the line of a status without numbers
+abbrev pub plain_text : Status → List ℕ
+plain_text status.Usage = codes "usage: tape IMAGE COMMAND\n"
+plain_text status.NoCartridge = codes "tape: no cartridge\n"
+plain_text status.Protected = codes "tape: the cartridge is protected\n"
+plain_text status.NotFormatted = codes "tape: the cartridge is not formatted\n"
+plain_text status.TableMismatch = codes "tape: the volume table does not agree\n"
+plain_text status.NotBlank = codes "tape: the sector is formatted\n"
+plain_text status.BadPlace = codes "tape: no such sector\n"
+plain_text status.SourceFault = codes "tape: input failed\n"
+plain_text status.SinkFault = codes "tape: output failed\n"
+plain_text status.TapeFault = codes "tape: the tape failed\n"
+plain_text status.NoMemory = codes "tape: no memory\n"
+plain_text other = []
+
+-- the line of a status; a command that was carried out has none
+abbrev pub status_text : Status → List ℕ
+status_text (status.ScriptFault line place) =
+    codes "tape: input fault in line " ++ decimal line ++ codes " at byte " ++ decimal place ++ codes "\n"
+status_text (status.Foreign field value) =
+    codes "tape: foreign " ++ field_text field ++ codes " " ++ decimal value ++ codes "\n"
+status_text (status.Full need have) =
+    codes "tape: full, need " ++ decimal need ++ codes " have " ++ decimal have ++ codes "\n"
+status_text (status.NoVolume number count) =
+    codes "tape: no volume " ++ decimal number ++ codes " of " ++ decimal count ++ codes "\n"
+status_text (status.Lost segment lost) =
+    codes "tape: segment " ++ decimal segment ++ codes " lost " ++ decimal lost ++ codes " sectors\n"
+status_text (status.Mismatch segment) = codes "tape: segment " ++ decimal segment ++ codes " does not agree\n"
+status_text (status.DefectInFront segment) = codes "tape: defect in segment " ++ decimal segment ++ codes "\n"
+status_text other = plain_text other

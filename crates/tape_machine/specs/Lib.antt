@@ -1,5 +1,0 @@
-pub mod Finding
-pub mod Laws
-pub mod Lines
-pub mod Machine
-pub mod Plain
