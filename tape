@@ -1,5 +1,5 @@
 #!/usr/bin/env bash
-# Builds the program where it isn't built yet or its sources are newer, and hands its words on.
+# Proves and builds the program where it isn't built yet or its sources are newer, and hands its words on.
 set -eu
 top=$(cd "$(dirname "$0")" && pwd)
 program="$top/crates/tape/out/tape"
@@ -9,11 +9,19 @@ is_built() {
         \( -name '*.rt' -o -name '*.antt' \) -print -quit)" ]
 }
 
+# A run without words proves all crates below, builds the program, and ends with the usage line and status 2.
+build() {
+    (cd "$top/crates/tape" && rt run 2>&1 || true) | while IFS= read -r line; do
+        case $line in
+            "crate "*:*) line=${line#crate } && echo "tape: proved ${line%%:*}" >&2 ;;
+            "rt: running "*) touch "$program" ;;
+        esac
+    done
+}
+
 if ! is_built; then
-    echo "tape: building, which takes some minutes the first time" >&2
-    if (cd "$top/crates/tape" && rt run -- list >/dev/null 2>&1); then
-        touch "$program"
-    fi
+    echo "tape: proving and building, which takes long the first time" >&2
+    build
 fi
 if ! is_built; then
     echo "tape: the program could not be built; 'rt check' in crates/tape tells why" >&2

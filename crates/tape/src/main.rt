@@ -1,43 +1,80 @@
-//! The program: it hands its words on, over a cartridge in memory, and prints the answer.
+//! The program: a run over a cartridge in an image file, with the standard streams.
 #![tactic(auto)]
 
-mod cartridge;
+ghost use Rattle.std.specs.Prelude.{◌≡◌};
+ghost use Rattle.tape_cmd.specs.Lines.{status_code};
 
-use cartridge::example_cartridge;
-use drive_subset::Unit;
-use qic_mem::{MemSink, MemSource};
+use cart_image::ImageTape;
+use drive_states::Unit;
 use std::env::Env;
-use std::io::Write;
+use std::fs::OpenOptions;
 use std::process::ExitCode;
 use std::{env, io};
 use tape_cmd::{Status, run};
+use tape_files::{FileDisk, StderrSink, StdinSource, StdoutSink};
+use tape_script::write_text;
 
-/// The bytes that a run may print.
-const ROOM: usize = 1 << 16;
+/// The exit status where the image can't be opened.
+const NO_IMAGE: u8 = 20;
 
-fn main(rt: HostRuntime) -> ExitCode {
-    match answer(&rt) {
-        Ok(Status::Done) => ExitCode::SUCCESS,
-        Ok(_) | Err(_) => ExitCode::FAILURE,
-    }
+/// The words that the program was called with: the image's path, where there is one, and those of the command.
+#[derive(Drop)]
+struct Arguments {
+    image: Option<String>,
+    command: Vec<String>,
 }
 
-fn answer<R: Env + AllocGlobal + Print>(rt: &R) -> io::Result<Status> {
-    let alloc = rt.alloc();
-    let mut words = Vec::new(alloc);
-    for word in env::args(rt)?.skip(1) {
-        words.push(word)?;
+fn main(rt: HostRuntime) -> ExitCode {
+    ExitCode::from(match read_arguments(&rt) {
+        Ok(arguments) => run_over_image(&rt, &arguments),
+        Err(_) => Status::NoMemory.code(),
+    })
+}
+
+fn read_arguments<R: Env + AllocGlobal>(rt: &R) -> io::Result<Arguments> {
+    let mut given = env::args(rt)?.skip(1);
+    let image = given.next();
+    let mut command = Vec::new(rt.alloc());
+    for word in given {
+        command.push(word)?;
     }
-    let tape = match example_cartridge(alloc) {
-        Ok(tape) => tape,
-        Err(status) => return Ok(status),
+    Ok(Arguments { image, command })
+}
+
+/// Carries out the command on the image, which is created where there is none, and answers the exit status.
+fn run_over_image(rt: &HostRuntime, arguments: &Arguments) -> u8 {
+    let mut errors = StderrSink::new(rt.stderr());
+    let Some(image) = &arguments.image else {
+        return finish(Status::Usage, &mut errors);
     };
-    let mut unit = Unit::new(tape);
-    let mut source = MemSource::new(Vec::new(alloc), Vec::new(alloc));
-    let Ok(mut sink) = MemSink::new(alloc, ROOM, Vec::new(alloc)) else {
-        return Ok(Status::NoMemory);
+    let Ok(file) = OpenOptions::new()
+        .read(true)
+        .write(true)
+        .create(true)
+        .open(rt, image)
+    else {
+        // The exit status tells it, too, where standard error can't.
+        let _printed = write_text(b"tape: cannot open the image\n", &mut errors);
+        return NO_IMAGE;
     };
-    let status = run(alloc, &words, &mut unit, &mut source, &mut sink);
-    io::writer(rt).write_all(sink.bytes())?;
-    Ok(status)
+    let mut unit = Unit::new(ImageTape::open(FileDisk::new(file)));
+    let mut source = StdinSource::new(rt.stdin());
+    let mut sink = StdoutSink::new(rt.stdout());
+    let status = run(
+        rt.alloc(),
+        &arguments.command,
+        &mut unit,
+        &mut source,
+        &mut sink,
+    );
+    finish(status, &mut errors)
+}
+
+/// Prints a status, and answers its exit status.
+fn finish(status: Status, errors: &mut StderrSink) -> u8
+    ensures { result ≡ status_code status }
+{
+    // The exit status tells it, too, where standard error can't.
+    let _printed = status.text(errors);
+    status.code()
 }
