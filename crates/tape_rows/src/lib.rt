@@ -2,4 +2,8 @@
 #![tactic(auto)]
 
 #[cfg(test)]
+mod image;
+#[cfg(test)]
 mod listing;
+#[cfg(test)]
+mod runs;

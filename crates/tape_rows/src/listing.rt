@@ -1,46 +1,89 @@
-ghost use Rattle.std.specs.Prelude.{◌≡◌, IfOk, Some};
+//! What `list` prints, over formatted cartridges whose volume table was written by hand.
+
+ghost use Rattle.std.specs.Prelude.{◌≡◌, ◌+◌, ◌≤◌, IfOk, Some};
+ghost use Rattle.segment_parity.specs.Register.{pushed};
 ghost use Rattle.qic_mem.specs.Tape.{tape_state};
 
-use drive_subset::Unit;
-use qic_base::{Tape, write_u16, write_u32};
-use qic_mem::{MemSink, MemSource, MemTape};
+use crate::runs::{run_words, sink};
+use drive_states::Unit;
+use qic_base::{Tape, TapeFailed, write_u16, write_u32};
+use qic_mem::{MemSink, MemTape};
+use segment_parity::Parity;
 use std::test::Fail;
-use tape_cmd::{Status, run};
+use tape_cmd::Status;
 
-/// A tape with three segments per track, referenced, whose volume table has this first sector and else zero bytes.
-fn with_table(rt: &HostRuntime, first: &[u8; 1024], fails: Vec<u64>) -> Result<MemTape, Fail>
+/// A cartridge of three segments per track, formatted by the commands.
+fn formatted(rt: &HostRuntime) -> Result<MemTape, Fail> {
+    let mut out = sink(rt)?;
+    let mut unit = Unit::new(MemTape::new(rt.alloc(), 3, Vec::new(rt.alloc()))?);
+    run_words(rt, &["new", "3"], &mut unit, &mut out)?;
+    run_words(rt, &["format", "L"], &mut unit, &mut out)?;
+    Ok(unit.into_tape())
+}
+
+/// Such a cartridge whose volume table has this first sector, zero bytes behind it, and their parity.
+fn with_table(rt: &HostRuntime, first: &[u8; 1024]) -> Result<MemTape, Fail>
     ensures { IfOk result (λ tape. (tape_state tape).size ≡ Some 3) }
 {
-    let mut tape = MemTape::new(rt.alloc(), 3, fails)?;
-    tape.renew(3)?;
-    tape.set_referenced()?;
-    tape.format_segment(2)?;
-    tape.write_sector(2, 0, first)?;
+    let mut tape = formatted(rt)?;
+    match tape.info()? {
+        Some(info) if info.segments_per_track == 3 => {}
+        _ => return Err(Fail::from("another cartridge")),
+    }
+    write_table(&mut tape, first)?;
     Ok(tape)
+}
+
+fn write_table(tape: &mut MemTape, first: &[u8; 1024]) -> Result<(), TapeFailed>
+    requires { (tape_state tape.old).size ≡ Some 3 }
+    ensures { (tape_state tape.new).size ≡ Some 3 }
+{
+    let [a, b, c] = parity_of_table(first);
+    tape.write_sector(2, 0, first)?;
+    tape.write_sector(2, 29, &a)?;
+    tape.write_sector(2, 30, &b)?;
+    tape.write_sector(2, 31, &c)?;
+    Ok(())
+}
+
+/// The parity of a table with this first sector and zero bytes behind it.
+fn parity_of_table(first: &[u8; 1024]) -> [[u8; 1024]; 3] {
+    let mut parity = Parity::new();
+    parity.push(first);
+    push_seven(&mut parity);
+    push_seven(&mut parity);
+    push_seven(&mut parity);
+    push_seven(&mut parity);
+    parity.finish()
+}
+
+/// Pushes seven sectors of zero bytes.
+fn push_seven(parity: &mut Parity)
+    requires { pushed parity.old ≤ 22 }
+    ensures { pushed parity.new ≡ pushed parity.old + 7 }
+{
+    parity.push(&[0; 1024]);
+    parity.push(&[0; 1024]);
+    parity.push(&[0; 1024]);
+    parity.push(&[0; 1024]);
+    parity.push(&[0; 1024]);
+    parity.push(&[0; 1024]);
+    parity.push(&[0; 1024]);
 }
 
 /// The words `list`, over a tape, with what is printed in the sink.
 fn list_over(rt: &HostRuntime, tape: MemTape, sink: &mut MemSink) -> Result<Status, Fail> {
-    let alloc = rt.alloc();
-    let mut words = Vec::new(alloc);
-    words.push(String::from_str(alloc, "list")?)?;
-    let mut unit = Unit::new(tape);
-    let mut source = MemSource::new(Vec::new(alloc), Vec::new(alloc));
-    Ok(run(alloc, &words, &mut unit, &mut source, sink))
+    run_words(rt, &["list"], &mut Unit::new(tape), sink)
 }
 
 /// What `list` prints over a table with this first sector, if it is done.
 fn listed(rt: &HostRuntime, first: &[u8; 1024]) -> Result<MemSink, Fail> {
-    let tape = with_table(rt, first, Vec::new(rt.alloc()))?;
-    let mut out = sink(rt, Vec::new(rt.alloc()))?;
+    let tape = with_table(rt, first)?;
+    let mut out = sink(rt)?;
     match list_over(rt, tape, &mut out)? {
         Status::Done => Ok(out),
         status => Err(Fail::from(status)),
     }
-}
-
-fn sink(rt: &HostRuntime, fails: Vec<u64>) -> Result<MemSink, Fail> {
-    Ok(MemSink::new(rt.alloc(), 4096, fails)?)
 }
 
 /// The slot of a volume of ten bytes in segment 3, called `a`, of 1994-03-01T12:00:00.
@@ -92,29 +135,39 @@ fn a_size_that_does_not_fit_gives_the_capacity(rt: HostRuntime) -> Result<(), Fa
 }
 
 #[test]
-fn a_worn_table_sector_is_not_built(rt: HostRuntime) -> Result<(), Fail> {
-    let mut tape = with_table(&rt, &first_sector(), Vec::new(rt.alloc()))?;
+fn three_worn_sectors_are_found_again(rt: HostRuntime) -> Result<(), Fail> {
+    let mut tape = with_table(&rt, &first_sector())?;
+    tape.wear(2, 0)?;
     tape.wear(2, 5)?;
-    let mut out = sink(&rt, Vec::new(rt.alloc()))?;
-    assert_eq!(rt; list_over(&rt, tape, &mut out)?, Status::Unbuilt);
+    tape.wear(2, 31)?;
+    let mut out = sink(&rt)?;
+    assert_eq!(rt; list_over(&rt, tape, &mut out)?, Status::Done);
+    let want = b"1 3 3 10 1994-03-01T12:00:00 a\nvolumes 1\n";
+    assert_eq!(rt; out.bytes(), want.as_slice());
+    Ok(())
+}
+
+#[test]
+fn a_fourth_is_lost(rt: HostRuntime) -> Result<(), Fail> {
+    let mut tape = with_table(&rt, &first_sector())?;
+    tape.wear(2, 0)?;
+    tape.wear(2, 5)?;
+    tape.wear(2, 6)?;
+    tape.wear(2, 31)?;
+    let mut out = sink(&rt)?;
+    let lost = Status::Lost {
+        segment: 2,
+        lost: 4,
+    };
+    assert_eq!(rt; list_over(&rt, tape, &mut out)?, lost);
     assert_eq!(rt; out.bytes(), b"".as_slice());
     Ok(())
 }
 
 #[test]
-fn no_cartridge_is_told(rt: HostRuntime) -> Result<(), Fail> {
-    let tape = MemTape::new(rt.alloc(), 3, Vec::new(rt.alloc()))?;
-    let mut out = sink(&rt, Vec::new(rt.alloc()))?;
-    assert_eq!(rt; list_over(&rt, tape, &mut out)?, Status::NoCartridge);
-    assert_eq!(rt; out.bytes(), b"".as_slice());
-    Ok(())
-}
-
-#[test]
-fn a_read_that_fails_is_told(rt: HostRuntime) -> Result<(), Fail> {
-    // Calls 0 to 3 fill the cartridge, 4 puts it in, and 5 is the first read.
-    let tape = with_table(&rt, &first_sector(), [5].to_vec(rt.alloc())?)?;
-    let mut out = sink(&rt, Vec::new(rt.alloc()))?;
+fn a_call_that_fails_is_told(rt: HostRuntime) -> Result<(), Fail> {
+    let tape = MemTape::new(rt.alloc(), 3, [0].to_vec(rt.alloc())?)?;
+    let mut out = sink(&rt)?;
     assert_eq!(rt; list_over(&rt, tape, &mut out)?, Status::TapeFault);
     assert_eq!(rt; out.bytes(), b"".as_slice());
     Ok(())
@@ -122,25 +175,10 @@ fn a_read_that_fails_is_told(rt: HostRuntime) -> Result<(), Fail> {
 
 #[test]
 fn a_write_that_fails_leaves_the_lines_before(rt: HostRuntime) -> Result<(), Fail> {
-    let tape = with_table(&rt, &first_sector(), Vec::new(rt.alloc()))?;
-    let mut out = sink(&rt, [1].to_vec(rt.alloc())?)?;
+    let tape = with_table(&rt, &first_sector())?;
+    let mut out = MemSink::new(rt.alloc(), 4096, [1].to_vec(rt.alloc())?)?;
     assert_eq!(rt; list_over(&rt, tape, &mut out)?, Status::SinkFault);
     let want = b"1 3 3 10 1994-03-01T12:00:00 a\n";
     assert_eq!(rt; out.bytes(), want.as_slice());
-    Ok(())
-}
-
-#[test]
-fn other_words_are_refused(rt: HostRuntime) -> Result<(), Fail> {
-    let alloc = rt.alloc();
-    for text in ["", "List", "list now"] {
-        let mut words = Vec::new(alloc);
-        words.push(String::from_str(alloc, text)?)?;
-        let mut unit = Unit::new(MemTape::new(alloc, 3, Vec::new(alloc))?);
-        let mut source = MemSource::new(Vec::new(alloc), Vec::new(alloc));
-        let mut out = sink(&rt, Vec::new(alloc))?;
-        let status = run(alloc, &words, &mut unit, &mut source, &mut out);
-        assert_eq!(rt; status, Status::Usage, "{text}");
-    }
     Ok(())
 }
