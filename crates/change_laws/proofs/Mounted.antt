@@ -1,0 +1,77 @@
+-- A cartridge of which one sector, or a mark, changed is mounted as before.
+use Rattle.std.proofs.Common.{◌≡◌, ◌⊎◌, ℕ, inl, inr, List, refl, sym, subst, arith}
+use Rattle.qic_base.specs.declared.tape.SectorView.{SectorView}
+use Rattle.qic_base.specs.Cartridge.{Cartridge, view_at}
+use Rattle.qic_base.specs.Step.{SetReferenced, SetProtected, changed}
+use Rattle.cartridge_spec.specs.Header.{Header}
+use Rattle.cartridge_spec.specs.Shape.{usable_places}
+use Rattle.cartridge_spec.specs.Table.{Entry}
+use Rattle.cartridge_spec.specs.Says.{whole_mask, unreadable_data, ReadsAll, TableSays, AsRead, Solved}
+use Rattle.cartridge_spec.specs.Volumes.{IsMounted, HasHeader, TableIs, table_cells}
+use Rattle.change_laws.specs.Laws.{worn, WornMounts, SpoiledMounts, ProtectedMounts, ReferencedMounts}
+use Rattle.change_laws.proofs.Changes.{ReadsAlike, spoiled_alike, same_count_front}
+use Rattle.change_laws.proofs.Standing.{CellsAlike, in_force, says_alike, spoiled, spoiled_cells, same_views, other_cells, header_elsewhere}
+
+-- a cartridge of the same length with the same header and the same table
+still_mounted : (c d : Cartridge) (header : Header) (words : List ℕ) (table : List (List ℕ)) (entries : List Entry) → d.info.segments_per_track ≡ c.info.segments_per_track →
+    ((area : List (List ℕ)) → HasHeader c area → HasHeader d area) → (TableIs c table → TableIs d table) →
+    IsMounted c header words table entries → IsMounted d header words table entries
+still_mounted c d header words table entries long has reads mounted = record {
+  area = mounted.area;
+  formatted = record {
+    has_header = has mounted.area mounted.formatted.has_header;
+    sound = rw long mounted.formatted.sound;
+    shown = mounted.formatted.shown;
+  };
+  reads = reads mounted.reads;
+  sound = rw long mounted.sound;
+  shown = mounted.shown;
+}
+
+pub worn_mounts : WornMounts
+worn_mounts c segment sector header words table entries small behind mounted =
+    still_mounted c (worn segment sector c) header words table entries refl
+    (λ area has. header_elsewhere c segment sector area small (omega arith) has)
+    (subst (λ (cells : List SectorView). TableSays cells (AsRead table) ⊎ TableSays cells (Solved table))
+    (sym (other_cells c segment sector 2 small (λ same. omega arith))))
+    mounted
+
+-- ---- a further defect
+
+reads_alike : (xs ys : List SectorView) (area : List (List ℕ)) → CellsAlike xs ys → ReadsAll xs area → ReadsAll ys area
+reads_alike xs ys area alike reads = record {
+  size = reads.size;
+  each = λ i h. let at = reads.each i h in (at.0, alike.no_less i at.0 at.1, at.2);
+}
+
+spoiled_table : (c : Cartridge) (segment sector : ℕ) (table : List (List ℕ)) → TableIs c table → TableIs (spoiled segment sector c) table
+spoiled_table c segment sector table (inl reads) = inl (reads_alike _ _ table (spoiled_cells c segment sector 2) reads)
+spoiled_table c segment sector table (inr (some, says)) =
+    let d : Cartridge = spoiled segment sector c in
+    let alike : ReadsAlike c d = spoiled_alike c segment sector in
+    let same : unreadable_data (table_cells d) ≡ unreadable_data (table_cells c) =
+    same_count_front (view_at d 2) (view_at c 2) 29 (usable_places whole_mask) (λ p. alike.unreadable 2 p) in
+    inr (omega arith, says_alike _ _ table (spoiled_cells c segment sector 2) says)
+
+pub spoiled_mounts : SpoiledMounts
+spoiled_mounts c segment sector header words table entries mounted =
+    still_mounted c (spoiled segment sector c) header words table entries refl
+    (λ area has. record {
+      referenced = has.referenced;
+      in_force = in_force c (spoiled segment sector c) area (spoiled_cells c segment sector 0) (spoiled_cells c segment sector 1) has.in_force;
+    })
+    (spoiled_table c segment sector table) mounted
+
+-- ---- a mark
+
+pub protected_mounts : ProtectedMounts
+protected_mounts c on header words table entries mounted =
+    still_mounted c (changed (SetProtected on) c) header words table entries refl
+    (λ area has. record { referenced = has.referenced; in_force = same_views c (changed (SetProtected on) c) area refl has.in_force })
+    (λ reads. reads) mounted
+
+pub referenced_mounts : ReferencedMounts
+referenced_mounts c header words table entries mounted =
+    still_mounted c (changed SetReferenced c) header words table entries refl
+    (λ area has. record { referenced = refl; in_force = same_views c (changed SetReferenced c) area refl has.in_force })
+    (λ reads. reads) mounted

@@ -1,0 +1,26 @@
+//! What each change leaves of what a cartridge stands for, and of what it is mounted as. Each law is the contract of a
+//! function that does nothing, so that other crates can rest on it; their proofs import the lemmas of this crate's `proofs`.
+
+ghost use Rattle.change_laws.specs.Laws.{WornStands, WornMounts, FewLostIsInForce, SpoiledStands, SpoiledMounts, ProtectedStands, ProtectedMounts, ReferencedStands, ReferencedMounts};
+
+/// A cartridge with a worn sector stands for the same, where header and table are spared. It is mounted as before where the
+/// sector lies behind them.
+pub fn worn_sector()
+    ensures stands { WornStands }
+    ensures in_force { FewLostIsInForce }
+    ensures mounts { WornMounts }
+{}
+
+/// A further defect is nothing to either.
+pub fn spoiled_sector()
+    ensures stands { SpoiledStands }
+    ensures mounts { SpoiledMounts }
+{}
+
+/// So are the marks.
+pub fn marks()
+    ensures protected_stands { ProtectedStands }
+    ensures protected_mounts { ProtectedMounts }
+    ensures referenced_stands { ReferencedStands }
+    ensures referenced_mounts { ReferencedMounts }
+{}
