@@ -80,3 +80,8 @@ pub mend_writes : (stale lost : ℕ) (old new : List (List ℕ)) → new ≡ blo
 mend_writes stale lost old new is same =
     writes_of_set stale new (is_stale lost old new) same
     ∙ ap (λ (block : List (List ℕ)). block_writes block (places_where (is_stale lost old block))) is
+
+-- an empty set writes nothing
+pub no_writes : (sectors : List (List ℕ)) → named_writes 2 4294967295 0 sectors ≡ []
+unfolding lost_places
+no_writes sectors = refl

@@ -76,7 +76,7 @@ fn renew_parity(lost: LostSet, work: &mut Workspace) -> LostSet
 }
 
 /// Settles the volume table's segment, whose sectors were read and solved, all but the lost ones. Nothing is written on a
-/// protected cartridge.
+/// protected cartridge. Where nothing is to be written the tape stays where it is.
 pub(crate) fn settle<T: Tape>(
     host: &mut Host,
     unit: &mut Unit<T>,
@@ -101,6 +101,9 @@ pub(crate) fn settle<T: Tape>(
         return Ok(());
     }
     let stale = renew_parity(lost, work);
+    if stale.mask() == 0 {
+        return Ok(());
+    }
     match write_sectors(host, unit, TABLE_SEGMENT, WHOLE, stale, work) {
         Ok(()) => Ok(()),
         Err(_) => Err(StoreFault::Tape),
