@@ -176,31 +176,55 @@ ends_done t s k words command a b i x y answer behind spelled (inr (inl broke)) 
 )
 ends_done t s k words command a b i x y answer behind spelled (inr (inr broke)) fault = let other = broke.answered in absurd (cc)
 
--- what stops in steps leave, where the tape tells them: what one in their list leaves, since then and now
+-- ---- what a run leaves
+
+-- what the tape tells behind steps that were done, or broken off
+pub done_torn : {T : Type 0} (t : tapes.Meaning T) (a b : T) (steps : List TapeStep) (held : Option Cartridge) → tapes.Done t a b steps → t.told a ≡ Some held →
+    IsSomeAnd (t.told b) (λ left. Torn steps held left)
+done_torn t a b steps held did told =
+    subst (λ (o : Option (Option Cartridge)). IsSomeAnd o (λ left. Torn steps held left)) (sym (after_steps t a b steps held did told)) (Torn-all steps held)
+
+pub broke_torn : {T : Type 0} (t : tapes.Meaning T) (a b : T) (steps : List TapeStep) (held : Option Cartridge) → tapes.Broke t a b steps → t.told a ≡ Some held →
+    IsSomeAnd (t.told b) (λ left. Torn steps held left)
+broke_torn t a b steps held broke told = by_told (t.told b) refl
+  where
+    by_told : (o : Option (Option Cartridge)) → t.told b ≡ o → IsSomeAnd o (λ left. Torn steps held left)
+    by_told None is = let tells = broke.tells in absurd (cc)
+    by_told (Some left) is = broke.torn held left told is
+
+-- a fact of what is told, by what is told, and from another fact
+told_is : (o : Option (Option Cartridge)) (P : Option Cartridge → Type 0) (left : Option Cartridge) → IsSomeAnd o P → o ≡ Some left → P left
+told_is None P left holds is = absurd holds
+told_is (Some other) P left holds is =
+    let same : other ≡ left = cc in
+    subst P same holds
+
+pub told_weaker : {P Q : Option Cartridge → Type 0} (o : Option (Option Cartridge)) → ((left : Option Cartridge) → P left → Q left) → IsSomeAnd o P → IsSomeAnd o Q
+told_weaker None follows holds = absurd holds
+told_weaker (Some left) follows holds = follows left holds
+
+-- what stops in steps leave, where the tape tells them, and the steps when they are over
 pub stops_leave : {T : Type 0} (t : tapes.Meaning T) (words : List (List ℕ)) (a b : T) (steps : List TapeStep) → tapes.IsLeftNow t a → tapes.IsLeftNow t b → tapes.Stops t a b steps →
-    ((held left : Option Cartridge) → t.told a ≡ Some held → t.told b ≡ Some left → Torn steps held left) →
+    ((held : Option Cartridge) → t.told a ≡ Some held → IsSomeAnd (t.told b) (λ left. Torn steps held left)) →
     ((held left : Option Cartridge) → t.told a ≡ Some held → Torn steps held left → WordsLeave words held left) → Leaves t words a b
-stops_leave t words a b steps before after stops stands follows = record {
+stops_leave t words a b steps before after stops torn follows = record {
+  told = λ held told. told_weaker (t.told b) (λ left is. follows held left told is) (torn held told);
   since = λ held left telling told is. follows held left told (Stops-left held left before telling told stops is);
-  now = λ held left telling told is. follows held left told (stands held left told (after.only left (stops.telling ∙ telling) is));
+  now = λ held left telling told is.
+      follows held left told (told_is (t.told b) (λ l. Torn steps held l) left (torn held told) (after.only left (stops.telling ∙ telling) is));
 }
 
 -- .. of steps that were done
 pub done_leaves : {T : Type 0} (t : tapes.Meaning T) (words : List (List ℕ)) (a b : T) (steps : List TapeStep) → tapes.IsLeftNow t a → tapes.IsLeftNow t b → tapes.Done t a b steps →
     ((held left : Option Cartridge) → t.told a ≡ Some held → Torn steps held left → WordsLeave words held left) → Leaves t words a b
 done_leaves t words a b steps before after did follows =
-    stops_leave t words a b steps before after did.stops
-    (λ held left here there.
-    let same : Some left ≡ Some (effects steps held) = sym there ∙ did.told ∙ ap (option_map (effects steps)) here in
-    let one : left ≡ effects steps held = cc in
-    subst (λ (l : Option Cartridge). Torn steps held l) (sym one) (Torn-all steps held))
-    follows
+    stops_leave t words a b steps before after did.stops (λ held told. done_torn t a b steps held did told) follows
 
 -- .. and of steps that were broken off
 pub broke_leaves : {T : Type 0} (t : tapes.Meaning T) (words : List (List ℕ)) (a b : T) (steps : List TapeStep) → tapes.IsLeftNow t a → tapes.IsLeftNow t b → tapes.Broke t a b steps →
     ((held left : Option Cartridge) → t.told a ≡ Some held → Torn steps held left → WordsLeave words held left) → Leaves t words a b
 broke_leaves t words a b steps before after broke follows =
-    stops_leave t words a b steps before after broke.stops (λ held left here there. broke.torn held left here there) follows
+    stops_leave t words a b steps before after broke.stops (λ held told. broke_torn t a b steps held broke told) follows
 
 ended_leaves : {T : Type 0} (t : tapes.Meaning T) (words : List (List ℕ)) (command : Words) (a b : T) (outcome : Outcome) →
     tapes.IsLeftNow t a → tapes.IsLeftNow t b → Spells words command →
@@ -234,19 +258,6 @@ over_any : {A : Type 0} (held : Option A) (left : Option (List ℕ)) (R : A → 
     IfSome held (λ a. (input : List ℕ) × IfSome left (λ bytes. input ≡ bytes) × R a input)
 over_any None left R follows = tt
 over_any (Some a) left R follows = (input_of left, input_told left, follows a (input_of left) refl)
-
-pub done_torn : {T : Type 0} (t : tapes.Meaning T) (a b : T) (steps : List TapeStep) (held : Option Cartridge) → tapes.Done t a b steps → t.told a ≡ Some held →
-    IsSomeAnd (t.told b) (λ left. Torn steps held left)
-done_torn t a b steps held did told =
-    subst (λ (o : Option (Option Cartridge)). IsSomeAnd o (λ left. Torn steps held left)) (sym (after_steps t a b steps held did told)) (Torn-all steps held)
-
-pub broke_torn : {T : Type 0} (t : tapes.Meaning T) (a b : T) (steps : List TapeStep) (held : Option Cartridge) → tapes.Broke t a b steps → t.told a ≡ Some held →
-    IsSomeAnd (t.told b) (λ left. Torn steps held left)
-broke_torn t a b steps held broke told = by_told (t.told b) refl
-  where
-    by_told : (o : Option (Option Cartridge)) → t.told b ≡ o → IsSomeAnd o (λ left. Torn steps held left)
-    by_told None is = let tells = broke.tells in absurd (cc)
-    by_told (Some left) is = broke.torn held left told is
 
 -- .. in a front of the steps, and so in all of them
 pub torn_in_whole : (o : Option (Option Cartridge)) (front whole : List TapeStep) (held : Option Cartridge) → IsFront front whole →

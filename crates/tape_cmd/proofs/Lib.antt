@@ -12,3 +12,4 @@ pub mod Mounted
 pub mod Inputs
 pub mod Clauses
 pub mod Trains
+pub mod Volumes

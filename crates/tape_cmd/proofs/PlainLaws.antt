@@ -2,7 +2,7 @@
 use Rattle.std.proofs.Common.{◌≡◌, ◌⊎◌, ℕ, Bool, List, [], ◌∷◌, Option, Some, None, refl, sym, ap, ◌∙◌, subst, inl, inr}
 use Rattle.qic_base.specs.Cartridge.{Cartridge}
 use Rattle.qic_base.specs.Step.{Step as TapeStep, Renew, SetReferenced, SetProtected, Wear, Spoil, effect}
-use Rattle.qic_base.specs.Stop.{Torn}
+use Rattle.qic_base.specs.Stop.{Torn, Halfway}
 use Rattle.tape_script.specs.declared.words.Words.{Words}
 use Rattle.tape_script.specs.declared.words.Words.TheVariants as words
 use Rattle.drive_states.specs.Record.{power_on}
@@ -14,7 +14,7 @@ use Rattle.cartridge_spec.specs.Volumes as mounting
 use Rattle.mount_laws.proofs.Mounting.{mounts_is_function}
 use Rattle.fresh_header.proofs.Front.{first_defect_is_none, first_defect_is_one}
 use Rattle.fresh_header.proofs.Marks.{fresh_area_is_one}
-use Rattle.tape_cmd.specs.Plain.{Outcome, Plain, CommandLeaves, FormatOutcome, FormatLeaves, cleared, formatted, LoseOutcome, DefectOutcome, ProtectOutcome, Printing, listing, telling, mounting_outcome, MountOutcome, MountLeaves, sent, info_of, SentOutcome}
+use Rattle.tape_cmd.specs.Plain.{Outcome, Plain, CommandLeaves, FormatOutcome, FormatLeaves, cleared, formatted, HasPlace, SectorLeaves, LoseOutcome, DefectOutcome, ProtectOutcome, Printing, listing, telling, mounting_outcome, MountOutcome, MountLeaves, sent, info_of, SentOutcome}
 
 -- what a person's change of one sector does is determined
 lose_is_function : (segment sector : ℕ) (held : Option Cartridge) (a b : Outcome) → LoseOutcome segment sector held a → LoseOutcome segment sector held b → a ≡ b
@@ -57,7 +57,7 @@ mount_leaves prints (Some c) left outcome (mounting.Foreign fault, mounts, is) t
 mount_leaves prints (Some c) left outcome (mounting.LostTable lost, mounts, is) torn = inl (stays (Some c) left outcome _ is refl torn)
 mount_leaves prints (Some c) left outcome (mounting.TableDisagrees, mounts, is) torn = inl (stays (Some c) left outcome _ is refl torn)
 mount_leaves prints (Some c) left outcome (mounting.Mounted header words table entries, mounts, is) torn =
-    inr (table, mounts.reads, subst (λ (steps : List TapeStep). Torn steps (Some c) left) (ap (λ (o : Outcome). o.steps) is) torn)
+    inr (header, (words, (table, (entries, mounts, subst (λ (steps : List TapeStep). Torn steps (Some c) left) (ap (λ (o : Outcome). o.steps) is) torn))))
 
 sent_leaves : (held left : Option Cartridge) (input : List ℕ) (outcome : Outcome) → SentOutcome held input outcome → Torn outcome.steps held left → (left ≡ held) ⊎ (left ≡ effect SetReferenced held)
 sent_leaves held left input outcome (came, plain, is) torn =
@@ -67,22 +67,32 @@ sent_leaves held left input outcome (came, plain, is) torn =
 
 format_leaves : (label : List ℕ) (date : ℕ) (held left : Option Cartridge) (outcome : Outcome) → FormatOutcome label date held outcome → Torn outcome.steps held left → FormatLeaves label date held left
 format_leaves label date None left outcome plain torn = stays None left outcome _ plain refl torn
-format_leaves label date (Some c) left outcome (inl plain) torn = inl (inl (stays (Some c) left outcome _ plain.1 refl torn))
+format_leaves label date (Some c) left outcome (inl plain) torn = inl (plain.0, stays (Some c) left outcome _ plain.1 refl torn)
 format_leaves label date (Some c) left outcome (inr (inl (unlocked, (segment, first, is)))) torn =
-    inl (subst (λ (steps : List TapeStep). Torn steps (Some c) left) (ap (λ (o : Outcome). o.steps) is) torn)
+    inr (inl (unlocked, subst (λ (steps : List TapeStep). Torn steps (Some c) left) (ap (λ (o : Outcome). o.steps) is) torn))
 format_leaves label date (Some c) left outcome (inr (inr (unlocked, none, (words, (area, fresh, is))))) torn =
-    inr (none, (words, (area, fresh, subst (λ (steps : List TapeStep). Torn steps (Some c) left) (ap (λ (o : Outcome). o.steps) is) torn)))
+    inr (inr (unlocked, none, (words, (area, fresh, subst (λ (steps : List TapeStep). Torn steps (Some c) left) (ap (λ (o : Outcome). o.steps) is) torn))))
+
+-- what a stop in a change of one sector leaves
+sector_leaves : (step : TapeStep) (segment sector : ℕ) (c : Cartridge) (left : Option Cartridge) (a b : Outcome) → HasPlace c segment sector → (Halfway step (Some c) left → ⊥) →
+    a ≡ b → b.steps ≡ step ∷ [] → Torn a.steps (Some c) left → SectorLeaves step segment sector (Some c) left
+sector_leaves step segment sector c left a b place whole same one torn =
+    elim (only_step step (Some c) left a b same one torn) [
+      | inl before ↦ inl before
+      | inr (inl inside) ↦ absurd (whole inside)
+      | inr (inr behind) ↦ inr (place, behind)
+    ]
 
 -- what a stop in a command's steps leaves
 pub plain_leaves : (command : Words) (held left : Option Cartridge) (input : List ℕ) (outcome : Outcome) → Plain command held input outcome → Torn outcome.steps held left → CommandLeaves command held left
 plain_leaves (words.New segments) held left input outcome plain torn = only_step (Renew segments) held left outcome _ plain refl torn
-plain_leaves (words.Defect segment sector) None left input outcome plain torn = no_step (Spoil segment sector) None left outcome _ plain refl torn
-plain_leaves (words.Defect segment sector) (Some c) left input outcome (inl plain) torn = no_step (Spoil segment sector) (Some c) left outcome _ plain.1 refl torn
-plain_leaves (words.Defect segment sector) (Some c) left input outcome (inr (inl plain)) torn = only_step (Spoil segment sector) (Some c) left outcome _ plain.2 refl torn
-plain_leaves (words.Defect segment sector) (Some c) left input outcome (inr (inr plain)) torn = only_step (Spoil segment sector) (Some c) left outcome _ plain.2 refl torn
-plain_leaves (words.Lose segment sector) None left input outcome plain torn = no_step (Wear segment sector) None left outcome _ plain refl torn
-plain_leaves (words.Lose segment sector) (Some c) left input outcome (inl plain) torn = no_step (Wear segment sector) (Some c) left outcome _ plain.1 refl torn
-plain_leaves (words.Lose segment sector) (Some c) left input outcome (inr plain) torn = only_step (Wear segment sector) (Some c) left outcome _ plain.1 refl torn
+plain_leaves (words.Defect segment sector) None left input outcome plain torn = stays None left outcome _ plain refl torn
+plain_leaves (words.Defect segment sector) (Some c) left input outcome (inl plain) torn = inl (stays (Some c) left outcome _ plain.1 refl torn)
+plain_leaves (words.Defect segment sector) (Some c) left input outcome (inr (inl plain)) torn = sector_leaves (Spoil segment sector) segment sector c left outcome _ plain.0 (λ half. half) plain.2 refl torn
+plain_leaves (words.Defect segment sector) (Some c) left input outcome (inr (inr plain)) torn = sector_leaves (Spoil segment sector) segment sector c left outcome _ plain.0 (λ half. half) plain.2 refl torn
+plain_leaves (words.Lose segment sector) None left input outcome plain torn = stays None left outcome _ plain refl torn
+plain_leaves (words.Lose segment sector) (Some c) left input outcome (inl plain) torn = inl (stays (Some c) left outcome _ plain.1 refl torn)
+plain_leaves (words.Lose segment sector) (Some c) left input outcome (inr plain) torn = sector_leaves (Wear segment sector) segment sector c left outcome _ plain.0 (λ half. half) plain.1 refl torn
 plain_leaves (words.Protect on) None left input outcome plain torn = no_step (SetProtected on) None left outcome _ plain refl torn
 plain_leaves (words.Protect on) (Some c) left input outcome plain torn = only_step (SetProtected on) (Some c) left outcome _ plain refl torn
 plain_leaves words.List held left input outcome plain torn = mount_leaves listing held left outcome plain torn

@@ -1,5 +1,5 @@
 -- What a run promises, by how its command ended.
-use Rattle.std.proofs.Common.{◌≡◌, ◌≢◌, ◌⊎◌, ◌↔◌, ℕ, Bool, true, false, List, [], Option, Some, None, IfSome, refl, sym, ap, ◌∙◌, subst, inl, inr}
+use Rattle.std.proofs.Common.{◌≡◌, ◌≢◌, ◌⊎◌, ◌↔◌, ℕ, Bool, true, false, List, [], Option, Some, None, IfSome, IsSomeAnd, refl, sym, ap, ◌∙◌, subst, inl, inr}
 use Rattle.qic_base.specs.Cartridge.{Cartridge, IsCartridge}
 use Rattle.qic_base.specs.Cause.{Rose}
 use Rattle.qic_base.specs.Sink as sinks
@@ -62,7 +62,7 @@ usage_answers t s k words a i x laws none quiet =
 pub untouched_leaves : {T : Type 0} (t : tapes.Meaning T) (words : List (List ℕ)) (a : T) → tapes.IsLeftNow t a → Leaves t words a a
 untouched_leaves t words a law =
     stops_leave t words a a [] law law (Stops-nothing t a)
-    (λ held left here there. let same : Some left ≡ Some held = sym there ∙ here in cc)
+    (λ held told. subst (λ (o : Option (Option Cartridge)). IsSomeAnd o (λ left. left ≡ held)) (sym told) refl)
     (λ held left here torn. inl torn)
 
 -- ---- a run whose words are those of a command
@@ -102,7 +102,7 @@ runs_done t s k words command a b i x y answer behind spelled (inr (inr (built, 
     ends_done t s k words command a b i x y answer behind (record { spelled = spelled; built = built }) ends fault
 
 -- what is told is a whole cartridge, or none
-told_whole : (held : Option Cartridge) (told : Option (Option Cartridge)) (size : Option ℕ) → tapes.IsToldRight told size → told ≡ Some held → IfSome held IsCartridge
+pub told_whole : (held : Option Cartridge) (told : Option (Option Cartridge)) (size : Option ℕ) → tapes.IsToldRight told size → told ≡ Some held → IfSome held IsCartridge
 told_whole held None size right told = cc
 told_whole None (Some other) size right told = tt
 told_whole (Some c) (Some None) size right told = cc

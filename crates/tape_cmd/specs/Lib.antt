@@ -4,3 +4,4 @@ pub mod Lines
 pub mod Machine
 pub mod Mounting
 pub mod Plain
+pub mod Volumes

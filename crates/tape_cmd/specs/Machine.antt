@@ -241,8 +241,8 @@ Answers t s k words old new answer =
     NoneRose t s k old new →
     Told t s old (λ held input. (answer ≡ status.NoMemory) ⊎ Stepped t s k words held input old new answer)
 
--- Unless a fault of the outside ended the run, the answer is want of memory or the plain machine's step, whatever the
--- counts say: a call of the outside that fails ends the run with its fault.
+-- Unless a fault of the outside is answered, the answer is want of memory or the plain machine's step, whatever the counts
+-- say: with any other answer the whole step was made.
 abbrev pub CarriesOut : {T S K : Type 0} (t : tapes.Meaning T) (s : sources.Meaning S) (k : sinks.Meaning K) (words : List (List ℕ)) (old new : Outside T S K) → Status → Type 0
 CarriesOut t s k words old new answer =
     is_fault answer ≡ false →
@@ -290,11 +290,23 @@ abbrev pub WordsLeave : List (List ℕ) → (held left : Option Cartridge) → T
 WordsLeave words held left =
     (left ≡ held) ⊎ ((command : Words) × Spells words command × CommandLeaves command held left)
 
--- The headline's clauses on stops: where the tape tells its stops, each cartridge that a stop since the run's start might
--- have left, and each that a stop now may leave, is one that a stop in the command leaves.
-pub record Leaves {T : Type 0} (t : tapes.Meaning T) (words : List (List ℕ)) (old new : T) : Type 0 where
-  pub since : (held left : Option Cartridge) → t.tells_stops old ≡ true → t.told old ≡ Some held → t.left_since new (t.moment old) left → WordsLeave words held left
-  pub now : (held left : Option Cartridge) → t.tells_stops old ≡ true → t.told old ≡ Some held → t.left_since new (t.moment new) left → WordsLeave words held left
+-- Each cartridge that a run leaves, by what the drive held: that which the tape tells when the run is over, whatever it
+-- answered; and, where the tape tells its stops, each that a stop since the run's start might have left, and each that
+-- one now may leave.
+pub record EachLeft {T : Type 0} (t : tapes.Meaning T) (old new : T) (P : (held left : Option Cartridge) → Type 0) : Type 0 where
+  pub told : (held : Option Cartridge) → t.told old ≡ Some held → IsSomeAnd (t.told new) (P held)
+  pub since : (held left : Option Cartridge) → t.tells_stops old ≡ true → t.told old ≡ Some held → t.left_since new (t.moment old) left → P held left
+  pub now : (held left : Option Cartridge) → t.tells_stops old ≡ true → t.told old ≡ Some held → t.left_since new (t.moment new) left → P held left
+
+-- Each cartridge that stands when a run is over: that which the tape tells, and, where it told its stops, each that a stop
+-- now may leave.
+pub record EachNow {T : Type 0} (t : tapes.Meaning T) (old new : T) (P : (left : Option Cartridge) → Type 0) : Type 0 where
+  pub told : IsSomeAnd (t.told new) P
+  pub now : (left : Option Cartridge) → t.tells_stops old ≡ true → t.left_since new (t.moment new) left → P left
+
+-- The headline's clause on stops: each is one that a stop in the command leaves.
+abbrev pub Leaves : {T : Type 0} (t : tapes.Meaning T) (words : List (List ℕ)) (old new : T) → Type 0
+Leaves t words old new = EachLeft t old new (WordsLeave words)
 
 -- Each answer of a command has its cause: over a tape that tells, it is that of the command's rule.
 abbrev pub IsRuled : {T S K : Type 0} (t : tapes.Meaning T) (s : sources.Meaning S) (words : List (List ℕ)) (old : Outside T S K) → Status → Type 0

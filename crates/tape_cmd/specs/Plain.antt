@@ -3,13 +3,13 @@ use Rattle.std.specs.Prelude.{◌≡◌, ◌⊎◌, ℕ, length, ◌*◌, ◌^�
 use Rattle.std.specs.Option.{option_map}
 use Rattle.qic_base.specs.Cartridge.{Cartridge, IsLength, IsPlace, view_at}
 use Rattle.qic_base.specs.declared.tape.TapeInfo.{TapeInfo}
-use Rattle.qic_base.specs.Step.{Step, Renew, SetReferenced, SetProtected, Wear, Spoil, effect}
+use Rattle.qic_base.specs.Step.{Step, Renew, SetReferenced, SetProtected, Wear, Spoil, changed, effect}
 use Rattle.qic_base.specs.Stop.{Torn}
 use Rattle.qic_base.specs.Tape.{spoil_answer}
 use Rattle.cartridge_spec.specs.Header.{Header, HeaderFault}
 use Rattle.cartridge_spec.specs.Shape.{marked_sectors}
 use Rattle.cartridge_spec.specs.Table.{Entry}
-use Rattle.cartridge_spec.specs.Volumes.{Mounting, Mounts, TableIs}
+use Rattle.cartridge_spec.specs.Volumes.{Mounting, Mounts}
 use Rattle.cartridge_spec.specs.Volumes as mounting
 use Rattle.mount_laws.specs.Settling.{settling_steps}
 use Rattle.format_plan.specs.Formatting.{clearing_steps, format_steps, IsFirstDefectInFront, HasNoDefectInFront}
@@ -68,6 +68,12 @@ DefectOutcome segment sector (Some c) outcome =
     ⊎ (HasPlace c segment sector × (spoil_answer (view_at c segment sector) ≡ true)
     × (outcome ≡ carried_out (Spoil segment sector) (defect_line segment sector)))
 
+-- what a stop leaves of a change of one sector: it was done or not, and only a sector that the cartridge has is changed
+abbrev pub SectorLeaves : Step → (segment sector : ℕ) → (held left : Option Cartridge) → Type 0
+SectorLeaves step segment sector None left = left ≡ None
+SectorLeaves step segment sector (Some c) left =
+    (left ≡ Some c) ⊎ (HasPlace c segment sector × (left ≡ Some (changed step c)))
+
 -- ---- commands that mount the cartridge
 
 -- a fault of the header or of the table's slots, as an answer
@@ -101,11 +107,13 @@ abbrev pub MountOutcome : Printing → Option Cartridge → Outcome → Type 0
 MountOutcome prints None outcome = outcome ≡ refused status.NoCartridge
 MountOutcome prints (Some c) outcome = (m : Mounting) × Mounts c m × (outcome ≡ mounting_outcome prints c m)
 
--- what a stop in a mounting leaves: the cartridge as it was, or one whose table's settling was stopped
+-- what a stop in a mounting leaves: the cartridge as it was; or, where it mounts, one whose table's settling was stopped
 abbrev pub MountLeaves : (held left : Option Cartridge) → Type 0
 MountLeaves None left = left ≡ None
 MountLeaves (Some c) left =
-    (left ≡ Some c) ⊎ ((table : List (List ℕ)) × TableIs c table × Torn (settling_steps table c) (Some c) left)
+    (left ≡ Some c)
+    ⊎ ((header : Header) × ((words : List ℕ) × ((table : List (List ℕ)) × ((entries : List Entry) ×
+    Mounts c (mounting.Mounted header words table entries) × Torn (settling_steps table c) (Some c) left))))
 
 -- ---- formatting
 
@@ -134,13 +142,16 @@ FormatOutcome label date (Some c) outcome =
     × ((words : List ℕ) × ((area : List (List ℕ)) × IsFreshWith c label date words area
     × (outcome ≡ formatted c.info.segments_per_track words area))))
 
--- what a stop in it leaves: so far the segments were formatted; or, where no defect lies in front, also the header copies
--- written
+-- what a stop in it leaves: a protected cartridge as it was; else one after a front of the steps that set the reference
+-- bursts and format the segments, the next of them stopped inside; or, where no defect lies in front, after a front of all
+-- steps
 abbrev pub FormatLeaves : (label : List ℕ) → (date : ℕ) → (held left : Option Cartridge) → Type 0
 FormatLeaves label date None left = left ≡ None
 FormatLeaves label date (Some c) left =
-    Torn (clearing_steps c.info.segments_per_track) (Some c) left
-    ⊎ (HasNoDefectInFront c × ((words : List ℕ) × ((area : List (List ℕ)) × IsFreshWith c label date words area
+    ((c.info.protected ≡ true) × (left ≡ Some c))
+    ⊎ ((c.info.protected ≡ false) × Torn (clearing_steps c.info.segments_per_track) (Some c) left)
+    ⊎ ((c.info.protected ≡ false) × HasNoDefectInFront c
+    × ((words : List ℕ) × ((area : List (List ℕ)) × IsFreshWith c label date words area
     × Torn (format_steps c.info.segments_per_track area) (Some c) left)))
 
 -- ---- trains of pulses
@@ -281,12 +292,12 @@ CommandPrints words.Pulses text = AreLevels text
 CommandPrints words.Script text = ⊥
 CommandPrints (words.Make seed count) text = ⊥
 
--- What a stop in a command leaves: a new cartridge, none or the old one; the other changes are done or not. Trains of
--- pulses may reference the cartridge.
+-- What a stop in a command leaves: of `new` the old cartridge, none or the new one; a change of one sector or mark is done
+-- or not; a settling or a formatting may be stopped inside. Trains of pulses may reference the cartridge.
 abbrev pub CommandLeaves : Words → (held left : Option Cartridge) → Type 0
 CommandLeaves (words.New segments) held left = Torn (Renew segments ∷ []) held left
-CommandLeaves (words.Defect segment sector) held left = Torn (Spoil segment sector ∷ []) held left
-CommandLeaves (words.Lose segment sector) held left = Torn (Wear segment sector ∷ []) held left
+CommandLeaves (words.Defect segment sector) held left = SectorLeaves (Spoil segment sector) segment sector held left
+CommandLeaves (words.Lose segment sector) held left = SectorLeaves (Wear segment sector) segment sector held left
 CommandLeaves (words.Protect on) held left = Torn (SetProtected on ∷ []) held left
 CommandLeaves words.List held left = MountLeaves held left
 CommandLeaves (words.Format label date) held left = FormatLeaves label date held left

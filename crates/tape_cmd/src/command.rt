@@ -1,6 +1,7 @@
 ghost use Rattle.std.specs.Prelude.{◌≡◌, ◌≢◌, ◌↔◌, ◌⊎◌, map, string_bytes, IfSome, false};
 ghost use Rattle.qic_base.specs.Cause.{Rose};
 ghost use Rattle.tape_cmd.specs.Plain.{HasValues, reads_input, prints_as_it_goes};
+ghost use Rattle.tape_cmd.specs.Volumes.{VolumesStay, ListStays, StopsFormat, IsChanged};
 ghost use Rattle.tape_cmd.specs.Machine.{RunsOver, SpellsNone, Answers, CarriesOut, PrintsFront, StaysDone, FaultLeaves, Leaves, IsRuled, IsNamed, TakesMemory, FaultsOfInput, Prints, PrintsAsItGoes, IsNone};
 
 use crate::Status;
@@ -74,8 +75,18 @@ pub fn run<T: Tape, S: Source, K: Sink>(
         record { tape = unit.old.tape; source = source.old; sink = sink.old }
         record { tape = unit.new.tape; source = source.new; sink = sink.new } result }
 
-    // A stop at any moment since the run began, and one now, leaves what the command may leave.
+    // The run, and a stop at any moment since it began, and one now, leaves what the command may leave.
     ensures stops { Leaves T.means (map string_bytes words.now.items) unit.old.tape unit.new.tape }
+
+    // The volumes: each cartridge so left stands for what the old one stood for, but for `new`, `format` of a cartridge that
+    // is not protected, and a `lose` that doesn't spare header and table; and likewise it has the old one's list. Formatting
+    // a cartridge with clean header copies leaves that, or an unformatted one, or the empty one.
+    ensures volumes { VolumesStay T.means (map string_bytes words.now.items) unit.old.tape unit.new.tape }
+    ensures lists { ListStays T.means (map string_bytes words.now.items) unit.old.tape unit.new.tape }
+    ensures formats { StopsFormat T.means (map string_bytes words.now.items) unit.old.tape unit.new.tape }
+
+    // After Done or a fault of the sink the cartridge of `new`, or the empty one of `format`, stands.
+    ensures changed { IsChanged T.means (map string_bytes words.now.items) unit.old.tape unit.new.tape result }
 
     // Each answer has its cause. An answer yields to the ones above it.
     ensures usage { (result ≡ Status.Usage) ↔ SpellsNone (map string_bytes words.now.items) }

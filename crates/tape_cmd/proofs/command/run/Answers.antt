@@ -3,6 +3,8 @@ use Rattle.tape_cmd.proofs.Ends.{SinkLaws}
 use Rattle.tape_cmd.proofs.Values.{has_values}
 use Rattle.tape_cmd.proofs.Runs.{no_command_none, usage_answers, usage_carries, untouched_leaves}
 use Rattle.tape_cmd.proofs.Clauses.{over_answers, over_carries, over_front, over_done, over_torn, over_leaves, over_usage, over_untouched, over_ruled, over_named, over_memory, over_faults, over_tape_fault, over_source_fault, over_sink_fault, over_prints, over_goes, over_silent, over_source, no_words_no_fault, no_words_begin}
+use Rattle.tape_cmd.proofs.Volumes.{volumes_stay, list_stays, stops_format, is_changed, none_changed}
+use Rattle.tape_cmd.specs.declared.status.Status.TheVariants as Status
 use Rattle.tape_cmd.proofs.command.run.Goals as goal
 
 pub returns-in-Ok-clause-answer : goal.returns-in-Ok-clause-answer
@@ -38,6 +40,33 @@ returns-in-Ok-clause-stops g c =
     over_leaves g.T.Tape.means g.S.Source.means g.K.Sink.means (map string_bytes c.args.words.now.items) c.in-Ok.command c.args.unit.now.tape c.carry_out.new.unit.tape
     c.args.source.now c.carry_out.new.source c.args.sink.now c.carry_out.new.sink c.carry_out.result c.in-Ok.ensures
     (g.met.T.Tape.told_right c.args.unit.now.tape) (g.met.T.Tape.left_now c.args.unit.now.tape) (g.met.T.Tape.left_now c.carry_out.new.unit.tape) c.carry_out.ensures.runs
+
+pub returns-in-Ok-clause-volumes : goal.returns-in-Ok-clause-volumes
+returns-in-Ok-clause-volumes g c =
+    volumes_stay g.T.Tape.means (map string_bytes c.args.words.now.items) c.args.unit.now.tape c.carry_out.new.unit.tape (g.met.T.Tape.told_right c.args.unit.now.tape)
+    (over_leaves g.T.Tape.means g.S.Source.means g.K.Sink.means (map string_bytes c.args.words.now.items) c.in-Ok.command c.args.unit.now.tape c.carry_out.new.unit.tape
+    c.args.source.now c.carry_out.new.source c.args.sink.now c.carry_out.new.sink c.carry_out.result c.in-Ok.ensures
+    (g.met.T.Tape.told_right c.args.unit.now.tape) (g.met.T.Tape.left_now c.args.unit.now.tape) (g.met.T.Tape.left_now c.carry_out.new.unit.tape) c.carry_out.ensures.runs)
+
+pub returns-in-Ok-clause-formats : goal.returns-in-Ok-clause-formats
+returns-in-Ok-clause-formats g c =
+    stops_format g.T.Tape.means (map string_bytes c.args.words.now.items) c.args.unit.now.tape c.carry_out.new.unit.tape (g.met.T.Tape.told_right c.args.unit.now.tape)
+    (over_leaves g.T.Tape.means g.S.Source.means g.K.Sink.means (map string_bytes c.args.words.now.items) c.in-Ok.command c.args.unit.now.tape c.carry_out.new.unit.tape
+    c.args.source.now c.carry_out.new.source c.args.sink.now c.carry_out.new.sink c.carry_out.result c.in-Ok.ensures
+    (g.met.T.Tape.told_right c.args.unit.now.tape) (g.met.T.Tape.left_now c.args.unit.now.tape) (g.met.T.Tape.left_now c.carry_out.new.unit.tape) c.carry_out.ensures.runs)
+
+pub returns-in-Ok-clause-lists : goal.returns-in-Ok-clause-lists
+returns-in-Ok-clause-lists g c =
+    list_stays g.T.Tape.means (map string_bytes c.args.words.now.items) c.args.unit.now.tape c.carry_out.new.unit.tape (g.met.T.Tape.told_right c.args.unit.now.tape)
+    (over_leaves g.T.Tape.means g.S.Source.means g.K.Sink.means (map string_bytes c.args.words.now.items) c.in-Ok.command c.args.unit.now.tape c.carry_out.new.unit.tape
+    c.args.source.now c.carry_out.new.source c.args.sink.now c.carry_out.new.sink c.carry_out.result c.in-Ok.ensures
+    (g.met.T.Tape.told_right c.args.unit.now.tape) (g.met.T.Tape.left_now c.args.unit.now.tape) (g.met.T.Tape.left_now c.carry_out.new.unit.tape) c.carry_out.ensures.runs)
+
+pub returns-in-Ok-clause-changed : goal.returns-in-Ok-clause-changed
+returns-in-Ok-clause-changed g c =
+    is_changed g.T.Tape.means g.S.Source.means g.K.Sink.means (map string_bytes c.args.words.now.items) c.in-Ok.command c.args.unit.now.tape c.carry_out.new.unit.tape
+    c.args.source.now c.carry_out.new.source c.args.sink.now c.carry_out.new.sink c.carry_out.result c.in-Ok.ensures
+    (g.met.T.Tape.told_right c.args.unit.now.tape) (g.met.T.Tape.left_now c.carry_out.new.unit.tape) c.carry_out.ensures.runs
 
 pub returns-in-Ok-clause-usage : goal.returns-in-Ok-clause-usage
 returns-in-Ok-clause-usage g c =
@@ -120,6 +149,25 @@ returns-in-Err-clause-carried g c =
 pub returns-in-Err-clause-stops : goal.returns-in-Err-clause-stops
 returns-in-Err-clause-stops g c =
     untouched_leaves g.T.Tape.means (map string_bytes c.args.words.now.items) c.args.unit.now.tape (g.met.T.Tape.left_now c.args.unit.now.tape)
+
+pub returns-in-Err-clause-volumes : goal.returns-in-Err-clause-volumes
+returns-in-Err-clause-volumes g c =
+    volumes_stay g.T.Tape.means (map string_bytes c.args.words.now.items) c.args.unit.now.tape c.args.unit.now.tape (g.met.T.Tape.told_right c.args.unit.now.tape)
+    (untouched_leaves g.T.Tape.means (map string_bytes c.args.words.now.items) c.args.unit.now.tape (g.met.T.Tape.left_now c.args.unit.now.tape))
+
+pub returns-in-Err-clause-formats : goal.returns-in-Err-clause-formats
+returns-in-Err-clause-formats g c =
+    stops_format g.T.Tape.means (map string_bytes c.args.words.now.items) c.args.unit.now.tape c.args.unit.now.tape (g.met.T.Tape.told_right c.args.unit.now.tape)
+    (untouched_leaves g.T.Tape.means (map string_bytes c.args.words.now.items) c.args.unit.now.tape (g.met.T.Tape.left_now c.args.unit.now.tape))
+
+pub returns-in-Err-clause-lists : goal.returns-in-Err-clause-lists
+returns-in-Err-clause-lists g c =
+    list_stays g.T.Tape.means (map string_bytes c.args.words.now.items) c.args.unit.now.tape c.args.unit.now.tape (g.met.T.Tape.told_right c.args.unit.now.tape)
+    (untouched_leaves g.T.Tape.means (map string_bytes c.args.words.now.items) c.args.unit.now.tape (g.met.T.Tape.left_now c.args.unit.now.tape))
+
+pub returns-in-Err-clause-changed : goal.returns-in-Err-clause-changed
+returns-in-Err-clause-changed g c =
+    none_changed g.T.Tape.means (map string_bytes c.args.words.now.items) c.args.unit.now.tape c.args.unit.now.tape Status.Usage (no_command_none (map string_bytes c.args.words.now.items) c.in-Err.ensures)
 
 pub returns-in-Err-clause-usage : goal.returns-in-Err-clause-usage
 returns-in-Err-clause-usage g c = ((λ usage. no_command_none (map string_bytes c.args.words.now.items) c.in-Err.ensures), (λ none. refl))

@@ -1,0 +1,111 @@
+-- What a run leaves of the plain cartridge that a cartridge stands for, with its header and its volumes, and of the list
+-- that it is mounted with (this project's own).
+use Rattle.std.specs.Prelude.{◌≡◌, ◌⊎◌, ℕ, ◌≤◌, List, Option, Some, IsSomeAnd, true}
+use Rattle.qic_base.specs.Cartridge.{Cartridge, new_cartridge}
+use Rattle.qic_base.specs.Tape as tapes
+use Rattle.cartridge_spec.specs.Header.{Header}
+use Rattle.cartridge_spec.specs.Table.{Entry}
+use Rattle.cartridge_spec.specs.Volumes.{Plain, Mounted, Mounts, Stands, IsUnformatted}
+use Rattle.format_plan.specs.Laws.{StandsCleanly, HasNoHeader, IsFreshFor, fresh_plain}
+use Rattle.change_laws.specs.Laws.{WearSpares}
+use Rattle.tape_script.specs.declared.words.Words.{Words}
+use Rattle.tape_script.specs.declared.words.Words.TheVariants as commands
+use Rattle.tape_cmd.specs.declared.status.Status.{Status}
+use Rattle.tape_cmd.specs.declared.status.Status.TheVariants as status
+use Rattle.tape_cmd.specs.Plain.{HasPlace}
+use Rattle.tape_cmd.specs.Machine.{Spells, EachLeft, EachNow}
+
+-- ---- commands that keep the volumes
+
+-- The command keeps what a cartridge stands for. A new cartridge takes its place, and formatting empties it, but for a
+-- protected one; a sector that is worn has to spare the header and the table.
+abbrev pub KeepsVolumes : Words → Cartridge → Plain → Type 0
+KeepsVolumes (commands.New segments) c plain = ⊥
+KeepsVolumes (commands.Format label date) c plain = c.info.protected ≡ true
+KeepsVolumes (commands.Lose segment sector) c plain = HasPlace c segment sector → WearSpares c plain segment sector
+KeepsVolumes command c plain = Unit {0}
+
+abbrev pub WordsKeep : List (List ℕ) → Cartridge → Plain → Type 0
+WordsKeep words c plain = (command : Words) → Spells words command → KeepsVolumes command c plain
+
+-- what is left of a cartridge that stood for a plain one stands for it, where the words keep its volumes
+abbrev pub StillStands : List (List ℕ) → (held left : Option Cartridge) → Type 0
+StillStands words held left =
+    (c : Cartridge) (plain : Plain) → held ≡ Some c → Stands c plain → WordsKeep words c plain →
+    IsSomeAnd left (λ d. Stands d plain)
+
+-- The volumes stay: each cartridge that a run leaves still stands for them.
+abbrev pub VolumesStay : {T : Type 0} (t : tapes.Meaning T) (words : List (List ℕ)) (old new : T) → Type 0
+VolumesStay t words old new = EachLeft t old new (StillStands words)
+
+-- ---- commands that keep the list
+
+-- The command keeps what a cartridge is mounted as, whether it stands for a plain one or not.
+abbrev pub KeepsList : Words → Cartridge → Type 0
+KeepsList (commands.New segments) c = ⊥
+KeepsList (commands.Format label date) c = c.info.protected ≡ true
+KeepsList (commands.Lose segment sector) c = HasPlace c segment sector → 3 ≤ segment
+KeepsList command c = Unit {0}
+
+abbrev pub WordsKeepList : List (List ℕ) → Cartridge → Type 0
+WordsKeepList words c = (command : Words) → Spells words command → KeepsList command c
+
+-- what is left of a cartridge that was mounted so is mounted so, where the words keep its list
+abbrev pub StillMounts : List (List ℕ) → (held left : Option Cartridge) → Type 0
+StillMounts words held left =
+    (c : Cartridge) (header : Header) (map_words : List ℕ) (table : List (List ℕ)) (entries : List Entry) →
+    held ≡ Some c → Mounts c (Mounted header map_words table entries) → WordsKeepList words c →
+    IsSomeAnd left (λ d. Mounts d (Mounted header map_words table entries))
+
+-- The list stays: each cartridge that a run leaves is still mounted so.
+abbrev pub ListStays : {T : Type 0} (t : tapes.Meaning T) (words : List (List ℕ)) (old new : T) → Type 0
+ListStays t words old new = EachLeft t old new (StillMounts words)
+
+-- ---- formatting
+
+-- a cartridge stands for the empty plain one with the label and the date word, whose map marks the defects of the old
+-- cartridge; none of these lies in the segments 0 to 2
+pub record StandsEmpty (c : Cartridge) (label : List ℕ) (date : ℕ) (d : Cartridge) : Type 0 where
+  pub words : List ℕ
+  pub area : List (List ℕ)
+  pub fresh : IsFreshFor c label date words area
+  pub stands : Stands d (fresh_plain c label date words area)
+
+-- What words of formatting leave of a cartridge that stood for a plain one, with clean header copies: it stands for that,
+-- or is unformatted, or stands for the empty one. Where both header copies were bare, it is unformatted or stands for the
+-- empty one.
+pub record FormatsOrNot (words : List (List ℕ)) (held left : Option Cartridge) : Type 0 where
+  pub standing : (label : List ℕ) (date : ℕ) (c : Cartridge) (plain : Plain) → Spells words (commands.Format label date) →
+      held ≡ Some c → StandsCleanly c plain →
+      IsSomeAnd left (λ d. Stands d plain ⊎ IsUnformatted d ⊎ StandsEmpty c label date d)
+  pub bare : (label : List ℕ) (date : ℕ) (c : Cartridge) → Spells words (commands.Format label date) →
+      held ≡ Some c → HasNoHeader c →
+      IsSomeAnd left (λ d. IsUnformatted d ⊎ StandsEmpty c label date d)
+
+-- A formatting may be stopped: each cartridge that a run leaves is so.
+abbrev pub StopsFormat : {T : Type 0} (t : tapes.Meaning T) (words : List (List ℕ)) (old new : T) → Type 0
+StopsFormat t words old new = EachLeft t old new (FormatsOrNot words)
+
+-- ---- when a run is over
+
+-- the cartridge stands for that empty one with clean header copies, so that a next formatting may be stopped, too
+pub record StandsFresh (c : Cartridge) (label : List ℕ) (date : ℕ) (d : Cartridge) : Type 0 where
+  pub words : List ℕ
+  pub area : List (List ℕ)
+  pub fresh : IsFreshFor c label date words area
+  pub stands : StandsCleanly d (fresh_plain c label date words area)
+
+-- the command was carried out, though its output may be cut off
+abbrev pub IsCarriedOut : Status → Type 0
+IsCarriedOut answer = (answer ≡ status.Done) ⊎ (answer ≡ status.SinkFault)
+
+-- What stands when a run is over: behind `new` the new cartridge, behind `format` the empty one; where a defect in front
+-- was answered, an unformatted one.
+pub record IsChanged {T : Type 0} (t : tapes.Meaning T) (words : List (List ℕ)) (old new : T) (answer : Status) : Type 0 where
+  pub renewed : (segments : ℕ) (held : Option Cartridge) → IsCarriedOut answer → Spells words (commands.New segments) →
+      t.told old ≡ Some held → EachNow t old new (λ left. left ≡ Some (new_cartridge segments))
+  pub formatted : (label : List ℕ) (date : ℕ) (c : Cartridge) → IsCarriedOut answer → Spells words (commands.Format label date) →
+      t.told old ≡ Some (Some c) → EachNow t old new (λ left. IsSomeAnd left (StandsFresh c label date))
+  pub cleared : (label : List ℕ) (date segment : ℕ) (c : Cartridge) → answer ≡ status.DefectInFront segment →
+      Spells words (commands.Format label date) → t.told old ≡ Some (Some c) →
+      EachNow t old new (λ left. IsSomeAnd left IsUnformatted)
