@@ -3,8 +3,8 @@
 ghost use Rattle.std.specs.Prelude.{◌≡◌, ◌≤◌, false, IfOk};
 ghost use Rattle.qic_mem.specs.Disk.{disk_means};
 
-use crate::runs::{run_words, sink};
 use cart_image::ImageTape;
+use command_runs::{run_words, sink};
 use drive_states::Unit;
 use qic_base::Disk;
 use qic_mem::{MemDisk, MemSink};
@@ -36,7 +36,7 @@ fn run_over(
     requires { disk_means.tells_stops disk ≡ false }
 {
     let mut unit = Unit::new(ImageTape::open(disk));
-    let status = run_words(rt, text, &mut unit, out)?;
+    let status = run_words(rt.alloc(), text, &mut unit, out)?;
     Ok((status, unit.into_tape().into_disk()))
 }
 
@@ -48,7 +48,7 @@ fn list_of(rt: &HostRuntime, length: u64, head: &[u8; 14]) -> Result<Status, Fai
     file.set_len(length)?;
     file.write_at(0, head)?;
     file.sync()?;
-    let mut out = sink(rt)?;
+    let mut out = sink(rt.alloc())?;
     Ok(run_over(rt, file, &["list"], &mut out)?.0)
 }
 
@@ -71,7 +71,7 @@ fn other_files_are_no_cartridge(rt: HostRuntime) -> Result<(), Fail> {
 
 #[test]
 fn other_words_are_refused(rt: HostRuntime) -> Result<(), Fail> {
-    let mut out = sink(&rt)?;
+    let mut out = sink(rt.alloc())?;
     let mut unit = Unit::new(holder(&rt, Vec::new(rt.alloc()))?);
     let words = [
         ["list", "now"],
@@ -81,9 +81,15 @@ fn other_words_are_refused(rt: HostRuntime) -> Result<(), Fail> {
         ["protect", "On"],
     ];
     for text in &words {
-        assert_eq!(rt; run_words(&rt, text, &mut unit, &mut out)?, Status::Usage);
+        assert_eq!(rt;
+            run_words(rt.alloc(), text, &mut unit, &mut out)?,
+            Status::Usage
+        );
     }
-    assert_eq!(rt; run_words(&rt, &[], &mut unit, &mut out)?, Status::Usage);
+    assert_eq!(rt;
+        run_words(rt.alloc(), &[], &mut unit, &mut out)?,
+        Status::Usage
+    );
     assert_eq!(rt; out.bytes(), b"".as_slice());
     Ok(())
 }

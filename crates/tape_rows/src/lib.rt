@@ -5,5 +5,3 @@
 mod image;
 #[cfg(test)]
 mod listing;
-#[cfg(test)]
-mod runs;

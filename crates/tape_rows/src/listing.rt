@@ -4,7 +4,7 @@ ghost use Rattle.std.specs.Prelude.{◌≡◌, ◌+◌, ◌≤◌, IfOk, Some};
 ghost use Rattle.segment_parity.specs.Register.{pushed};
 ghost use Rattle.qic_mem.specs.Tape.{tape_state};
 
-use crate::runs::{run_words, sink};
+use command_runs::{formatted, run_words, sink};
 use drive_states::Unit;
 use qic_base::{Tape, TapeFailed, write_u16, write_u32};
 use qic_mem::{MemSink, MemTape};
@@ -12,20 +12,12 @@ use segment_parity::Parity;
 use std::test::Fail;
 use tape_cmd::Status;
 
-/// A cartridge of three segments per track, formatted by the commands.
-fn formatted(rt: &HostRuntime) -> Result<MemTape, Fail> {
-    let mut out = sink(rt)?;
-    let mut unit = Unit::new(MemTape::new(rt.alloc(), 3, Vec::new(rt.alloc()))?);
-    run_words(rt, &["new", "3"], &mut unit, &mut out)?;
-    run_words(rt, &["format", "L"], &mut unit, &mut out)?;
-    Ok(unit.into_tape())
-}
-
-/// Such a cartridge whose volume table has this first sector, zero bytes behind it, and their parity.
+/// A formatted cartridge of three segments per track whose volume table has this first sector, zero bytes behind it, and
+/// their parity.
 fn with_table(rt: &HostRuntime, first: &[u8; 1024]) -> Result<MemTape, Fail>
     ensures { IfOk result (λ tape. (tape_state tape).size ≡ Some 3) }
 {
-    let mut tape = formatted(rt)?;
+    let mut tape = formatted(rt.alloc())?.into_tape();
     match tape.info()? {
         Some(info) if info.segments_per_track == 3 => {}
         _ => return Err(Fail::from("another cartridge")),
@@ -73,13 +65,13 @@ fn push_seven(parity: &mut Parity)
 
 /// The words `list`, over a tape, with what is printed in the sink.
 fn list_over(rt: &HostRuntime, tape: MemTape, sink: &mut MemSink) -> Result<Status, Fail> {
-    run_words(rt, &["list"], &mut Unit::new(tape), sink)
+    Ok(run_words(rt.alloc(), &["list"], &mut Unit::new(tape), sink)?)
 }
 
 /// What `list` prints over a table with this first sector, if it is done.
 fn listed(rt: &HostRuntime, first: &[u8; 1024]) -> Result<MemSink, Fail> {
     let tape = with_table(rt, first)?;
-    let mut out = sink(rt)?;
+    let mut out = sink(rt.alloc())?;
     match list_over(rt, tape, &mut out)? {
         Status::Done => Ok(out),
         status => Err(Fail::from(status)),
@@ -140,7 +132,7 @@ fn three_worn_sectors_are_found_again(rt: HostRuntime) -> Result<(), Fail> {
     tape.wear(2, 0)?;
     tape.wear(2, 5)?;
     tape.wear(2, 31)?;
-    let mut out = sink(&rt)?;
+    let mut out = sink(rt.alloc())?;
     assert_eq!(rt; list_over(&rt, tape, &mut out)?, Status::Done);
     let want = b"1 3 3 10 1994-03-01T12:00:00 a\nvolumes 1\n";
     assert_eq!(rt; out.bytes(), want.as_slice());
@@ -154,7 +146,7 @@ fn a_fourth_is_lost(rt: HostRuntime) -> Result<(), Fail> {
     tape.wear(2, 5)?;
     tape.wear(2, 6)?;
     tape.wear(2, 31)?;
-    let mut out = sink(&rt)?;
+    let mut out = sink(rt.alloc())?;
     let lost = Status::Lost {
         segment: 2,
         lost: 4,
@@ -167,7 +159,7 @@ fn a_fourth_is_lost(rt: HostRuntime) -> Result<(), Fail> {
 #[test]
 fn a_call_that_fails_is_told(rt: HostRuntime) -> Result<(), Fail> {
     let tape = MemTape::new(rt.alloc(), 3, [0].to_vec(rt.alloc())?)?;
-    let mut out = sink(&rt)?;
+    let mut out = sink(rt.alloc())?;
     assert_eq!(rt; list_over(&rt, tape, &mut out)?, Status::TapeFault);
     assert_eq!(rt; out.bytes(), b"".as_slice());
     Ok(())
