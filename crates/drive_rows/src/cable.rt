@@ -4,15 +4,12 @@
 ghost use Rattle.std.specs.Prelude.{◌≤◌};
 ghost use Rattle.qic_base.specs.Cartridge.{IsLength};
 
+use drive_runs::{WRITTEN, all_leave_0, report, write_one};
 use drive_states::{FdcFault, FloppyAddr, HandFault, Unit};
-use qic_base::{Tape, TapeFailed};
 use qic_mem::MemTape;
 use std::alloc::Global;
 use std::process::Abort;
 use std::test::Fail;
-
-/// Each byte of the first sector of segment 4 on the cartridge of `written`.
-pub const WRITTEN: u8 = 0xA5;
 
 /// A drive that knows of no cartridge, with room for one of so many segments per track.
 pub fn empty(alloc: Global, room: u16) -> Result<Unit<MemTape>, Fail> {
@@ -24,40 +21,10 @@ pub fn empty(alloc: Global, room: u16) -> Result<Unit<MemTape>, Fail> {
 /// 0 to 5 made all this.
 pub fn written(alloc: Global, fails: Vec<u64>) -> Result<Unit<MemTape>, Fail> {
     let mut tape = MemTape::new(alloc, 3, fails)?;
-    tape.renew(3)?;
-    tape.set_referenced()?;
-    tape.format_segment(0)?;
-    tape.format_segment(4)?;
-    tape.write_sector(4, 0, &[WRITTEN; 1024])?;
+    write_one(&mut tape)?;
     let mut unit = Unit::new(tape);
     unit.insert()?;
     Ok(unit)
-}
-
-/// The address of a sector of segments 0 to 3, of 32 sectors each, counted from 1.
-pub fn front(sector: u8) -> FloppyAddr {
-    FloppyAddr {
-        head: 0,
-        cylinder: 0,
-        sector,
-    }
-}
-
-/// Sends a train of pulses. Answers the level that it leaves on the line.
-pub fn train(unit: &mut Unit<MemTape>, pulses: u16) -> Result<bool, TapeFailed> {
-    for _ in 0..pulses {
-        unit.step();
-    }
-    unit.gap()?;
-    Ok(unit.line())
-}
-
-fn all_leave_0(unit: &mut Unit<MemTape>, trains: &[u16]) -> bool {
-    let mut silent = true;
-    for &pulses in trains {
-        silent &= train(unit, pulses) == Ok(false);
-    }
-    silent
 }
 
 /// Sends trains, each of which has to leave the level 0 on the line.
@@ -70,21 +37,6 @@ pub fn waits(rt: &impl Abort, unit: &mut Unit<MemTape>, gaps: u8) {
     for _ in 0..gaps {
         assert_eq!(rt; unit.gap(), Ok(()));
     }
-}
-
-// The word that a report shows; None where it is not acknowledged, or does not end, with the level 1.
-fn report(unit: &mut Unit<MemTape>, command: u16, bits: u8) -> Option<u16>
-    requires { bits ≤ 16 }
-{
-    let acknowledged = train(unit, command) == Ok(true);
-    let mut word = 0;
-    for place in 0..bits {
-        if train(unit, 2) == Ok(true) {
-            word |= 1 << place;
-        }
-    }
-    let ended = train(unit, 2) == Ok(true);
-    (acknowledged && ended).then_some(word)
 }
 
 /// Asks for a report of 8 or 16 bits, which has to show this word.

@@ -1,9 +1,9 @@
 //! What a person does to a cartridge in memory, past the drive.
 
 use crate::cable::{
-    cannot_read, empty, front, loads, protects, reads, sends, settles, spoils, tells, wears,
-    written,
+    cannot_read, empty, loads, protects, reads, sends, settles, spoils, tells, wears, written,
 };
+use drive_runs::front;
 use drive_states::{FdcFault, HandFault};
 use std::test::Fail;
 

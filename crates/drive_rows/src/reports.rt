@@ -1,9 +1,7 @@
 //! What trains leave in the reports of the drive, and how long the way to a segment takes.
 
-use crate::cable::{
-    WRITTEN, empty, inserts, loads, protects, reads, sends, settles, tells, train, waits, written,
-};
-use drive_states::FloppyAddr;
+use crate::cable::{empty, inserts, loads, protects, reads, sends, settles, tells, waits, written};
+use drive_runs::{FIRST_OF_FOUR, WRITTEN, train};
 use std::test::Fail;
 
 #[test]
@@ -91,11 +89,6 @@ fn a_seek_and_a_skip_take_their_gaps_to_segment_4(rt: HostRuntime) -> Result<(),
     }
     // Two segments before the end of track 1, which is offset 1.
     sends(&rt, &mut unit, &[10]);
-    let first_of_four = FloppyAddr {
-        head: 0,
-        cylinder: 1,
-        sector: 1,
-    };
-    reads(&rt, &mut unit, first_of_four, WRITTEN);
+    reads(&rt, &mut unit, FIRST_OF_FOUR, WRITTEN);
     Ok(())
 }

@@ -1,9 +1,10 @@
 //! The sector calls on a cartridge in memory.
 
 use crate::cable::{
-    WRITTEN, cannot_read, empty, formats, front, loads, protects, reads, sends, settles, tells,
-    waits, writes, written,
+    cannot_read, empty, formats, loads, protects, reads, sends, settles, tells, waits, writes,
+    written,
 };
+use drive_runs::{WRITTEN, front};
 use drive_states::FdcFault;
 use std::test::Fail;
 
