@@ -1,0 +1,89 @@
+//! Files on disks in memory, written by hand, and what stands in them. Only the calls of a disk fail that a test chooses,
+//! counted from 0 over all calls of that disk.
+
+ghost use Rattle.std.specs.Prelude.{◌≡◌, IfOk, OnOk, Some};
+ghost use Rattle.qic_base.specs.Disk.{IsSettled};
+ghost use Rattle.qic_mem.specs.Disk.{disk_means};
+ghost use Rattle.cart_image.specs.ImageTape.{image_means};
+
+use cart_image::ImageTape;
+use qic_base::{Disk, DiskFailed, Tape};
+use qic_mem::MemDisk;
+use std::alloc::Global;
+use std::test::Fail;
+
+/// The length of an image of three segments per track: 64 + 1,027 * 2,688, for its 2,688 sectors.
+pub const LENGTH: u64 = 2_760_640;
+
+/// The same for four, of 3,584 sectors.
+pub const LONGER: u64 = 3_680_832;
+
+/// The head of an image of three segments per track with neither mark, as far as a head is read.
+pub const HEAD: &[u8; 14] = b"QIC80IMG\x01\0\x03\0\0\0";
+
+/// A call that no test comes to.
+pub const NEVER: u16 = 60_000;
+
+/// A file of this length that begins so, as far as it goes, and is zero behind that. Three calls of the disk make it.
+pub fn file(alloc: Global, length: u64, head: &[u8; 14], fails: Vec<u64>) -> Result<MemDisk, Fail>
+    ensures settled { IfOk result (IsSettled disk_means) }
+    ensures seen { IfOk result (λ file. disk_means.seen_len file ≡ length) }
+{
+    let mut file = MemDisk::new(alloc, LONGER, fails)?;
+    begin(&mut file, length, head)?;
+    Ok(file)
+}
+
+fn begin(file: &mut MemDisk, length: u64, head: &[u8; 14]) -> Result<(), DiskFailed>
+    ensures settled { OnOk result (IsSettled disk_means file.new) }
+    ensures seen { OnOk result (disk_means.seen_len file.new ≡ length) }
+{
+    file.set_len(length)?;
+    file.write_at(0, &head[..length.min(14) as usize])?;
+    file.sync()
+}
+
+/// The tape in a file that is an image of three segments per track. Two calls of the disk tell of it.
+pub fn tape_of_three(file: MemDisk) -> Result<ImageTape<MemDisk>, Fail>
+    requires { IsSettled disk_means file }
+    ensures { IfOk result (λ tape. image_means.size tape ≡ Some 3) }
+{
+    let mut tape = ImageTape::open(file);
+    match tape.info()? {
+        Some(info) if info.segments_per_track == 3 => Ok(tape),
+        _ => Err(Fail::from("another cartridge")),
+    }
+}
+
+/// The byte at a place; 0 behind the end.
+pub fn byte_at(file: &mut MemDisk, place: u64) -> Result<u8, DiskFailed> {
+    let mut byte = [0];
+    let _ = file.read_at(place, &mut byte)?;
+    Ok(byte[0])
+}
+
+// The bytes of a block of 1,024, zero behind the end of the file.
+fn block(file: &mut MemDisk, number: u16) -> Result<[u8; 1024], DiskFailed> {
+    let mut bytes = [0; 1024];
+    let _ = file.read_at(1024 * u64::from(number), &mut bytes)?;
+    Ok(bytes)
+}
+
+fn unlike(one: &[u8; 1024], other: &[u8; 1024]) -> u64 {
+    let mut count: u64 = 0;
+    for i in 0..1024 {
+        if one[i] != other[i] {
+            count = count.saturating_add(1);
+        }
+    }
+    count
+}
+
+/// At how many places two images of three segments per track differ. The last of the 2,696 blocks ends behind them.
+pub fn differences(one: &mut MemDisk, other: &mut MemDisk) -> Result<u64, DiskFailed> {
+    let mut count: u64 = 0;
+    for number in 0..2_696 {
+        count = count.saturating_add(unlike(&block(one, number)?, &block(other, number)?));
+    }
+    Ok(count)
+}
