@@ -117,7 +117,7 @@ const TOLD: &[u8] =
     b"label evening\nformatted 1994-03-01T12:00:00\nsegments 84\nbad sectors 3\nvolumes 0\n";
 
 #[test]
-fn each_copy_is_found_again_from_its_parity(rt: HostRuntime) -> Result<(), Fail> {
+fn the_second_copy_is_found_again_from_its_parity(rt: HostRuntime) -> Result<(), Fail> {
     let alloc = rt.alloc();
     let mut unit = evening(&rt, alloc)?;
     spends(&rt, alloc, &mut unit, "lose", "0", &SECTORS);

@@ -213,12 +213,13 @@ fn bad_sectors_are_not_written(rt: HostRuntime) -> Result<(), Fail> {
     Ok(())
 }
 
-// The writes begin with call 6: here the third of 28 fails.
+// Call 6 is the first of 28 writes. Call 7 puts the cartridge in again, and call 10 is the third of those that come then.
 #[test]
 fn a_fault_leaves_the_writes_before_it(rt: HostRuntime) -> Result<(), Fail> {
-    let mut unit = marked(rt.alloc(), &[8])?;
+    let mut unit = marked(rt.alloc(), &[6, 10])?;
     let mut work = Workspace::new(rt.alloc())?;
     fill(&mut work, 10);
+    assert_eq!(rt; write(&mut unit, &mut work), Err(SegFault::Tape));
     assert_eq!(rt; write(&mut unit, &mut work), Err(SegFault::Tape));
     gathers(&rt, &mut unit, &mut work, Ok(0));
     is_filled(&rt, &work, 0, 2, 10);
@@ -226,12 +227,13 @@ fn a_fault_leaves_the_writes_before_it(rt: HostRuntime) -> Result<(), Fail> {
     Ok(())
 }
 
-// And here the second of three.
+// Here call 6 is the first of three, and call 9 the second of those that come then.
 #[test]
 fn a_fault_leaves_the_named_writes_before_it(rt: HostRuntime) -> Result<(), Fail> {
-    let mut unit = marked(rt.alloc(), &[7])?;
+    let mut unit = marked(rt.alloc(), &[6, 9])?;
     let mut work = Workspace::new(rt.alloc())?;
     fill(&mut work, 10);
+    assert_eq!(rt; write_three(&mut unit, &work), Err(SegFault::Tape));
     assert_eq!(rt; write_three(&mut unit, &work), Err(SegFault::Tape));
     gathers(&rt, &mut unit, &mut work, Ok(0));
     is_zero(&rt, &work, 0, 1);
@@ -240,12 +242,14 @@ fn a_fault_leaves_the_named_writes_before_it(rt: HostRuntime) -> Result<(), Fail
     Ok(())
 }
 
-// Call 6 is the first of 28 reads, and call 35 the last of those that come then: call 7 puts the cartridge in again.
+// Call 6 is the first of 28 reads, and so is call 8 behind the insertion by call 7; call 37 is the last of those that come
+// behind the next insertion.
 #[test]
 fn a_fault_among_reads_is_told(rt: HostRuntime) -> Result<(), Fail> {
-    let mut unit = marked(rt.alloc(), &[6, 35])?;
+    let mut unit = marked(rt.alloc(), &[6, 8, 37])?;
     let mut work = Workspace::new(rt.alloc())?;
     gathers(&rt, &mut unit, &mut work, Err(SegFault::Tape));
+    reads(&rt, &mut unit, &mut work, Err(SegFault::Tape));
     reads(&rt, &mut unit, &mut work, Err(SegFault::Tape));
     gathers(&rt, &mut unit, &mut work, Ok(0));
     is_zero(&rt, &work, 0, 28);
