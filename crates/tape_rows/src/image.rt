@@ -75,7 +75,7 @@ fn other_words_are_refused(rt: HostRuntime) -> Result<(), Fail> {
     let mut unit = Unit::new(holder(&rt, Vec::new(rt.alloc()))?);
     let words = [
         ["list", "now"],
-        ["new", "151"],
+        ["new", "247"],
         ["new", "2"],
         ["new", "03"],
         ["protect", "On"],

@@ -54,7 +54,7 @@ fn two_words(rt: HostRuntime) -> Result<(), Fail> {
     let table = [
         (["new", "3"], Words::New { segments: 3 }),
         (["new", "100"], Words::New { segments: 100 }),
-        (["new", "150"], Words::New { segments: 150 }),
+        (["new", "246"], Words::New { segments: 246 }),
         (["protect", "on"], Words::Protect { on: true }),
         (["protect", "off"], Words::Protect { on: false }),
         (["restore", "0"], Words::Restore { number: 0 }),
@@ -186,7 +186,7 @@ fn no_length_and_no_volume(rt: HostRuntime) -> Result<(), Fail> {
         "003",
         "2",
         "0",
-        "151",
+        "247",
         "+3",
         "-3",
         "3 ",
