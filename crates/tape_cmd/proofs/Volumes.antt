@@ -8,16 +8,18 @@ use Rattle.qic_base.specs.Source as sources
 use Rattle.qic_base.specs.Tape as tapes
 use Rattle.cartridge_spec.specs.Header.{Header}
 use Rattle.cartridge_spec.specs.Table.{Entry}
-use Rattle.cartridge_spec.specs.Volumes.{Plain, Mounting, Mounted, Mounts, Stands, IsUnformatted}
+use Rattle.cartridge_spec.specs.Volumes.{Plain, Stands}
+use Rattle.cartridge_spec.specs.Mounting.{Mounting, Mounted, Mounts}
+use Rattle.cartridge_spec.specs.HeaderAndTable.{IsUnformatted}
 use Rattle.cartridge_spec.specs.Writes.{changed_by}
 use Rattle.format_plan.specs.Formatting.{HasNoDefectInFront, clearing_steps, format_steps}
-use Rattle.format_plan.specs.Laws.{StandsCleanly, HasNoHeader, IsFreshFor}
+use Rattle.format_plan.specs.Clean.{StandsCleanly, HasNoHeader}
+use Rattle.format_plan.specs.Fresh.{IsFreshFor, IsFreshWith}
 use Rattle.format_plan.proofs.Clearing.{clearing_clears, cleared_is_unformatted}
 use Rattle.format_plan.proofs.Copies.{unformatted_from_bare}
 use Rattle.format_plan.proofs.Formatted.{formatting_formats, formatted_stands}
 use Rattle.format_plan.proofs.Stops.{stopped_clearing, stopped_clearing_new, stopped_format, stopped_format_new}
 use Rattle.format_plan.proofs.Writing.{effects-some, some_and, some_weaker}
-use Rattle.fresh_header.specs.Laws.{IsFreshWith}
 use Rattle.mount_laws.proofs.Keeping.{stopped_mounts, stopped_stands}
 use Rattle.mount_laws.proofs.Mounting.{mounts_is_function}
 use Rattle.change_laws.proofs.Mounted.{worn_mounts, spoiled_mounts, protected_mounts, referenced_mounts}

@@ -9,11 +9,11 @@ use Rattle.qic_base.specs.Tape.{spoil_answer}
 use Rattle.cartridge_spec.specs.Header.{Header, HeaderFault}
 use Rattle.cartridge_spec.specs.Shape.{marked_sectors}
 use Rattle.cartridge_spec.specs.Table.{Entry}
-use Rattle.cartridge_spec.specs.Volumes.{Mounting, Mounts}
+use Rattle.cartridge_spec.specs.Mounting.{Mounting, Mounts}
 use Rattle.cartridge_spec.specs.Volumes as mounting
 use Rattle.mount_laws.specs.Settling.{settling_steps}
 use Rattle.format_plan.specs.Formatting.{clearing_steps, format_steps, IsFirstDefectInFront, HasNoDefectInFront}
-use Rattle.fresh_header.specs.Laws.{IsFreshWith, IsLabel}
+use Rattle.format_plan.specs.Fresh.{IsFreshWith, IsLabel}
 use Rattle.drive_states.specs.Record.{power_on}
 use Rattle.tape_script.specs.declared.words.Words.{Words}
 use Rattle.tape_script.specs.declared.words.Words.TheVariants as words

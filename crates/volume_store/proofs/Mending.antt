@@ -10,9 +10,8 @@ use Rattle.erasure_solve.specs.Lost.{is_lost}
 use Rattle.cartridge_spec.specs.Segment.{sector_at}
 use Rattle.cartridge_spec.specs.Says.{whole_mask}
 use Rattle.cartridge_spec.specs.Shape.{usable_places}
-use Rattle.cartridge_spec.specs.Writes.{writes_of}
+use Rattle.cartridge_spec.specs.Writes.{writes_of, named_writes}
 use Rattle.cartridge_spec.proofs.Segments.{places_of_whole}
-use Rattle.segment_io.specs.Writes.{named_writes}
 use Rattle.mount_laws.specs.Settling.{places_where, block_writes}
 use Rattle.volume_store.specs.Settling.{block_of, is_stale, mending_steps}
 

@@ -19,20 +19,19 @@ use Rattle.gf256_qic.specs.Code.{IsSector, parity_sectors}
 use Rattle.gf256_qic.proofs.Parities.{parity_block, length-parity_sectors}
 use Rattle.erasure_solve.specs.Lost.{is_lost}
 use Rattle.erasure_solve.proofs.Places.{is_lost_from}
-use Rattle.cartridge_spec.specs.Segment.{sector_at, IsUnreadable}
+use Rattle.cartridge_spec.specs.Segment.{sector_at, IsUnreadable, is_unreadable}
 use Rattle.cartridge_spec.specs.Shape.{usable_places, usable_count}
-use Rattle.cartridge_spec.specs.Says.{whole_mask, cells_of, is_unreadable, Agrees, Written}
+use Rattle.cartridge_spec.specs.Says.{whole_mask, cells_of, Agrees, Written}
 use Rattle.cartridge_spec.specs.Table.{Entry}
 use Rattle.cartridge_spec.specs.Table as tables
-use Rattle.cartridge_spec.specs.Writes.{writes_of, changed_by}
-use Rattle.cartridge_spec.specs.Volumes.{table_cells, TableIs, settled}
+use Rattle.cartridge_spec.specs.Writes.{writes_of, changed_by, data_in, segment_writes}
+use Rattle.cartridge_spec.specs.HeaderAndTable.{table_cells, TableIs}
+use Rattle.cartridge_spec.specs.Mounting.{settled}
 use Rattle.cartridge_spec.proofs.Segments.{cells_of_whole, cells_are_views, length-whole_cells, places_of_whole, count_of_whole}
 use Rattle.cartridge_spec.proofs.Sayings.{said_is_written, said_are_sectors, data_of-parity}
 use Rattle.cartridge_spec.proofs.TableSayings.{read_are_sectors}
 use Rattle.segment_io.specs.Gathered.{Gathered, NamesUnreadable}
-use Rattle.segment_io.specs.Writes.{data_in, segment_writes}
-use Rattle.segment_io.proofs.Effects.{writes_leave_data}
-use Rattle.segment_io.proofs.GatheredCells.{slice_get-set_other}
+use Rattle.cartridge_spec.proofs.Writing.{writes_leave_data, slice_get-set_other}
 use Rattle.volume_store.specs.Mounting.{HasList}
 use Rattle.mount_laws.specs.Settling.{holds, is_unsettled, block_writes, places_where, settling_steps}
 use Rattle.volume_store.specs.Settling.{is_stale, block_of, mending_steps}

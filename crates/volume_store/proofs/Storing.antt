@@ -12,7 +12,8 @@ use Rattle.qic_base.specs.Tape.{Meaning, Done, Tells, IsToldRight}
 use Rattle.qic_base.specs.declared.tape.TapeInfo.{TapeInfo}
 use Rattle.cartridge_spec.specs.Header.{Header}
 use Rattle.cartridge_spec.specs.Table.{Entry, slot, slot_fault, some_free_below, has_bad_range, entry_in, is_used}
-use Rattle.cartridge_spec.specs.Volumes.{TableIs, settled}
+use Rattle.cartridge_spec.specs.HeaderAndTable.{TableIs}
+use Rattle.cartridge_spec.specs.Mounting.{settled}
 use Rattle.cartridge_spec.specs.Writes.{writes_of, changed_by}
 use Rattle.cartridge_spec.specs.Segment.{sector_at}
 use Rattle.cartridge_spec.specs.Says.{whole_mask}

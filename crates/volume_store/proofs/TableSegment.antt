@@ -7,9 +7,9 @@ use Rattle.qic_base.specs.Cartridge.{Cartridge}
 use Rattle.qic_base.specs.LostSet.{lost_places}
 use Rattle.qic_base.specs.declared.tape.SectorView.{SectorView}
 use Rattle.qic_base.specs.declared.tape.SectorView.TheVariants.{Blank, Defect, Lost, Holds}
-use Rattle.cartridge_spec.specs.Segment.{IsUnreadable}
-use Rattle.cartridge_spec.specs.Says.{is_unreadable, unreadable_count, unreadable_data, LosesData, ReadsAll, TableSays, TableLost, Says, Data, data_of}
-use Rattle.cartridge_spec.specs.Volumes.{table_cells, TableIs}
+use Rattle.cartridge_spec.specs.Segment.{IsUnreadable, is_unreadable}
+use Rattle.cartridge_spec.specs.Says.{unreadable_count, unreadable_data, LosesData, ReadsAll, TableSays, TableLost, Says, Data, data_of}
+use Rattle.cartridge_spec.specs.HeaderAndTable.{table_cells, TableIs}
 use Rattle.cartridge_spec.proofs.Cells.{unreadable_count-first}
 use Rattle.cartridge_spec.specs.Shape.{Carries, usable_count}
 use Rattle.cartridge_spec.proofs.Segments.{length-whole_cells, count_of_whole, count_of_cells}
@@ -28,16 +28,10 @@ get-take (suc n) (x ∷ xs) (suc i) h = get-take n xs i (omega arith)
 
 -- a cell that isn't unreadable holds bytes
 readable_holds : (view : SectorView) → ¬ (IsUnreadable view) → (bytes : List ℕ) × (view ≡ Holds bytes)
-readable_holds Blank none = absurd (none tt)
-readable_holds Defect none = absurd (none tt)
-readable_holds Lost none = absurd (none tt)
+readable_holds Blank none = absurd (none refl)
+readable_holds Defect none = absurd (none refl)
+readable_holds Lost none = absurd (none refl)
 readable_holds (Holds bytes) none = (bytes, refl)
-
-unreadable_is : (view : SectorView) → IsUnreadable view → is_unreadable view ≡ true
-unreadable_is Blank bad = refl
-unreadable_is Defect bad = refl
-unreadable_is Lost bad = refl
-unreadable_is (Holds bytes) bad = absurd bad
 
 slice_get-take : (sectors : List (List ℕ)) (n i : ℕ) (bytes : List ℕ) → i < n → slice_get sectors i ≡ Some bytes → slice_get (take n sectors) i ≡ Some bytes
 slice_get-take sectors n i bytes within there =
@@ -70,7 +64,7 @@ counts : (cells : List SectorView) (n i : ℕ) → i < n → IsUnreadableAt cell
 counts [] n i within bad = absurd bad
 counts (cell ∷ cells) zero i within bad = absurd (omega arith)
 counts (cell ∷ cells) (suc n) zero within bad =
-    let one : cond {A = ℕ} (is_unreadable cell) 1 0 ≡ 1 = ap (λ (b : Bool). cond {A = ℕ} b 1 0) (unreadable_is cell bad) in
+    let one : cond {A = ℕ} (is_unreadable cell) 1 0 ≡ 1 = ap (λ (b : Bool). cond {A = ℕ} b 1 0) bad in
     subst (λ (m : ℕ). 0 < m) (sym (unreadable_count-first cell (take n cells))) (omega arith)
 counts (cell ∷ cells) (suc n) (suc i) within bad =
     let rest = counts cells n i (omega arith) bad in

@@ -10,7 +10,8 @@ use Rattle.cartridge_spec.specs.Says.{TableSays}
 use Rattle.cartridge_spec.specs.Says as says
 use Rattle.cartridge_spec.specs.Table.{Entry, TableFault, HasNoFault, IsFirstFault}
 use Rattle.cartridge_spec.specs.Table as tables
-use Rattle.cartridge_spec.specs.Volumes.{table_cells, TableIs, slot_refusal, CopyReads, CopyDoesNotRead, IsFormatted, IsUnformatted, RefusesHeader}
+use Rattle.cartridge_spec.specs.HeaderAndTable.{table_cells, TableIs, slot_refusal, CopyReads, CopyDoesNotRead, IsFormatted, IsUnformatted}
+use Rattle.cartridge_spec.specs.Mounting.{RefusesHeader}
 use Rattle.header_segments.specs.declared.header.Header.{Header}
 use Rattle.header_segments.specs.Header.{header_of}
 use Rattle.header_segments.specs.Laws.{AreTaken}

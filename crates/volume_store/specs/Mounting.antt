@@ -9,7 +9,8 @@ use Rattle.cartridge_spec.specs.Header.{Header}
 use Rattle.cartridge_spec.specs.Says.{Agrees, data_of}
 use Rattle.cartridge_spec.specs.Table.{Entry}
 use Rattle.cartridge_spec.specs.Table as tables
-use Rattle.cartridge_spec.specs.Volumes.{table_cells, Mounts}
+use Rattle.cartridge_spec.specs.HeaderAndTable.{table_cells}
+use Rattle.cartridge_spec.specs.Mounting.{Mounts}
 use Rattle.cartridge_spec.specs.Volumes as mounting
 use Rattle.drive_states.specs.Deck.{is_referenced}
 use Rattle.drive_states.specs.Unit.{UnitView}

@@ -2,7 +2,7 @@ use Rattle.std.proofs.Common.{◌≡◌, ◌<◌, ℕ, take, refl, sym, subst, a
 use Rattle.std.proofs.lemmas.Grind.{common_steps}
 use Rattle.qic_base.proofs.Steps.{Tells-map}
 use Rattle.cartridge_spec.specs.Says.{LosesData, TableSays, TableLost}
-use Rattle.cartridge_spec.specs.Volumes.{table_cells, TableIs}
+use Rattle.cartridge_spec.specs.HeaderAndTable.{table_cells, TableIs}
 use Rattle.segment_io.specs.Gathered.{Gathered}
 use Rattle.segment_io.specs.declared.fault.SegFault.{SegFault}
 use Rattle.volume_store.specs.Finding.{FindsTable}
