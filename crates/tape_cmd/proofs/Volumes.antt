@@ -166,7 +166,7 @@ list_stays t words a b right leaves = each_weaker t a b right (λ held left whol
 
 fresh_for : (c : Cartridge) (label : List ℕ) (date : ℕ) (words : List ℕ) (area : List (List ℕ)) → HasNoDefectInFront c → IsFreshWith c label date words area →
     IsFreshFor c label date words area
-fresh_for c label date words area none fresh = record { fresh = fresh.fresh; marks = fresh.marks; front = none }
+fresh_for c label date words area none fresh = record { fresh = fresh; front = none }
 
 format_standing : (label : List ℕ) (date : ℕ) (c : Cartridge) (plain : Plain) (left : Option Cartridge) → IsCartridge c → StandsCleanly c plain →
     FormatLeaves label date (Some c) left → IsSomeAnd left (λ d. Stands d plain ⊎ IsUnformatted d ⊎ StandsEmpty c label date d)
