@@ -13,7 +13,7 @@ use Rattle.cartridge_spec.specs.Header.{Header, word_in, words_in}
 use Rattle.cartridge_spec.specs.HeaderAndTable.{IsArea}
 use Rattle.cartridge_spec.specs.Defects.{IsDefect, MarksDefects}
 use Rattle.format_plan.specs.Fresh.{fresh_header, IsFreshArea, IsLabel}
-use Rattle.header_segments.specs.Writing.{Fits, with_fields, told_fields}
+use Rattle.header_segments.specs.Writing.{FieldFits, with_fields, told_fields}
 use Rattle.header_segments.proofs.SpellingLaws.{all_fields, IsEncoded, encoded_spells}
 use Rattle.fresh_header.specs.Laws.{FreshAreaExists}
 use Rattle.fresh_header.proofs.Building.{zero_area, zero_area_is, zero_area_clear, with_words, IsMapped, words_written, IsFilled, fields_written}
@@ -154,9 +154,9 @@ filled h label =
     All-from_recursion IsFilled (all_fields h)
     (tt, (tt, (tt, (tt, (tt, (tt, (tt, (tt, (tt, (tt, (tt, (tt, (tt, (tt, ((label.size, label.bytes), (tt, tt))))))))))))))))
 
-fitting : (n : ℕ) (label : List ℕ) (date : ℕ) → IsLabel label → date < 2 ^ 32 → All Fits (told_fields (fresh_header n label date))
+fitting : (n : ℕ) (label : List ℕ) (date : ℕ) → IsLabel label → date < 2 ^ 32 → All FieldFits (told_fields (fresh_header n label date))
 fitting n label date is_label small =
-    All-from_recursion Fits (told_fields (fresh_header n label date)) (omega arith, (omega arith, (is_label.size, (omega arith, tt))))
+    All-from_recursion FieldFits (told_fields (fresh_header n label date)) (omega arith, (omega arith, (is_label.size, (omega arith, tt))))
 
 words_shown : (c : Cartridge) → IsCartridge c → words_in (mapped c) (length (defect_words c)) ≡ defect_words c
 words_shown c whole =
