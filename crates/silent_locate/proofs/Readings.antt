@@ -1,11 +1,11 @@
 -- The laws of the deep reading.
-use Rattle.std.proofs.Common.{◌≡◌, ◌≢◌, ℕ, ◌+◌, ◌<◌, ◌≤◌, ◌↔◌, refl, sym, ◌∙◌, ap, subst, arith, inl, inr, Bool, false, nat_eq, ◌||◌, List, length, slice_get, Option, Some, None}
+use Rattle.std.proofs.Common.{◌≡◌, ℕ, ◌+◌, ◌≤◌, refl, sym, ◌∙◌, ap, arith, inl, inr, Bool, nat_eq, List, length, slice_get, Option, Some, None}
 use Rattle.std.proofs.lemmas.Bool.{cases_eq, eqb-false, or_parts}
 use Rattle.qic_base.specs.declared.tape.SectorView.{SectorView}
 use Rattle.qic_base.specs.declared.tape.SectorView.TheVariants.{Blank, Defect, Lost, Holds}
-use Rattle.gf256_qic.specs.Code.{IsCodeBlock, AgreesOutside, lost_below}
+use Rattle.gf256_qic.specs.Code.{IsCodeBlock, lost_below}
 use Rattle.gf256_qic.proofs.Agreement.{one_block}
-use Rattle.silent_locate.specs.Deep.{unreadable_count, Agrees, AgreesBut, IsAllRight, IsWrongAt, Deep}
+use Rattle.silent_locate.specs.Deep.{unreadable_count, Agrees, AgreesBut, IsWrongAt, Deep}
 use Rattle.silent_locate.specs.Laws.{DiffersAt, ReadAlike}
 use Rattle.silent_locate.proofs.Cells.{unreadable_at, or_place, IsReadable, readable_at, held_at, same_test, lost_below-cells, lost_below-same, lost_below-or}
 
@@ -96,6 +96,7 @@ wrong_place_differs cells block place wrong = by_cell (slice_get cells place) re
     unread : ((bytes : List ℕ) → slice_get cells place ≡ Some (Holds bytes) → ⊥) → ⊥
     unread never =
         wrong.none_agrees block wrong.code (whole cells place block wrong.agrees (λ bytes at. absurd (never bytes at)))
+
     by_cell : (cell : Option SectorView) → slice_get cells place ≡ cell → DiffersAt cells place block
     by_cell None is = absurd (unread (λ bytes at. cc))
     by_cell (Some Blank) is = absurd (unread (λ bytes at. cc))

@@ -1,19 +1,19 @@
 -- The cells of sectors of which some are lost: what the code blocks that agree with the one say of the other.
-use Rattle.std.proofs.Common.{◌≡◌, ◌≢◌, ℕ, zero, suc, ◌+◌, ◌-◌, ◌/◌, ◌%◌, ◌^◌, ◌<◌, ◌≤◌, ◌↔◌, refl, sym, ◌∙◌, ap, subst, arith, inl, inr, Bool, true, false, nat_eq, ◌||◌, List, [], ◌∷◌, length, slice_get, get_or, Option, Some, None, zero-add}
+use Rattle.std.proofs.Common.{◌≡◌, ℕ, zero, suc, ◌+◌, ◌-◌, ◌/◌, ◌%◌, ◌^◌, ◌<◌, ◌≤◌, ◌↔◌, refl, sym, ◌∙◌, ap, subst, arith, inl, inr, Bool, true, false, nat_eq, List, [], ◌∷◌, length, slice_get, get_or, Option, Some, None, zero-add}
 use Rattle.std.specs.Option.{option_map}
-use Rattle.std.proofs.lemmas.Bool.{cases_eq, cases_Bool, false≢true, ne_eqb, eqb-false, or_parts, or_from}
+use Rattle.std.proofs.lemmas.Bool.{cases_eq, ne_eqb, eqb-false, or_parts, or_from}
 use Rattle.std.proofs.lemmas.Option.{slice_get_within, slice_get-get_or}
 use Rattle.qic_base.specs.LostSet.{IsLost, lost_places}
 use Rattle.qic_base.proofs.LostSetLaws.{lost_places-above}
 use Rattle.qic_base.specs.declared.tape.SectorView.{SectorView}
-use Rattle.qic_base.specs.declared.tape.SectorView.TheVariants.{Blank, Defect, Lost, Holds}
+use Rattle.qic_base.specs.declared.tape.SectorView.TheVariants.{Holds}
 use Rattle.gf256_qic.specs.Code.{IsCodeBlock, AgreesOutside, IsSolvable, lost_below}
 use Rattle.erasure_solve.specs.Lost.{is_lost, lost_count}
-use Rattle.erasure_solve.proofs.Places.{lost_from, is_lost_from, lost_below-places}
-use Rattle.silent_locate.specs.Deep.{unreadable_count, Agrees, AgreesBut, IsAllRight, IsWrongAt, Deep, HasNoReading, cell_of, cells_from, cells_without}
+use Rattle.erasure_solve.proofs.Places.{is_lost_from, lost_below-places}
+use Rattle.silent_locate.specs.Deep.{unreadable_count, Agrees, AgreesBut, IsAllRight, IsWrongAt, HasNoReading, cell_of, cells_from, cells_without}
 use Rattle.silent_locate.specs.Laws.{DiffersAt}
 use Rattle.silent_locate.specs.Tries.{lost_or}
-use Rattle.silent_locate.proofs.Cells.{unreadable_at, IsReadable, same_test, lost_below-cells, lost_below-same}
+use Rattle.silent_locate.proofs.Cells.{unreadable_at, same_test, lost_below-cells, lost_below-same}
 use Rattle.silent_locate.proofs.Readings.{wrong_place_differs}
 
 -- ---- the cell at a place

@@ -1,4 +1,4 @@
-use Rattle.std.proofs.Common.{◌≡◌, ℕ, ◌+◌, ◌≤◌, IsOk, arith}
+use Rattle.std.proofs.Common.{◌≡◌, ℕ, ◌+◌, ◌≤◌, arith}
 use Rattle.erasure_solve.specs.Lost.{is_lost, lost_count}
 use Rattle.silent_locate.specs.Tries.{lost_or}
 use Rattle.silent_locate.proofs.Sets.{with_place-test, count_with_place}
