@@ -142,21 +142,21 @@ mod tests {
     use super::*;
     use std::test::Fail;
 
+    fn refusal(rt: &HostRuntime, path: &str) -> Option<NoImage> {
+        open_image(rt, path).err()
+    }
+
     #[test]
     fn only_a_regular_file_that_nobody_has_is_an_image(rt: HostRuntime) -> Result<(), Fail> {
         let path = "image-of-a-test.img";
         let first = open_image(&rt, path)?;
-        for (refused, why) in [
-            (path, NoImage::Locked),
-            (".", NoImage::NotRegular),
-            ("/dev/null", NoImage::NotRegular),
-            ("/dev/null/image", NoImage::NotOpened),
-        ] {
-            assert_eq!(rt; open_image(&rt, refused).err(), Some(why), "{refused}");
-        }
+        assert_eq!(rt; refusal(&rt, path), Some(NoImage::Locked));
+        assert_eq!(rt; refusal(&rt, "."), Some(NoImage::NotRegular));
+        assert_eq!(rt; refusal(&rt, "/dev/null"), Some(NoImage::NotRegular));
+        assert_eq!(rt; refusal(&rt, "/dev/null/image"), Some(NoImage::NotOpened));
         drop(first);
-        assert!(rt; open_image(&rt, path).is_ok());
-        fs::remove_file(&rt, path)?;
+        assert_eq!(rt; refusal(&rt, path), None);
+        assert!(rt; fs::remove_file(&rt, path).is_ok());
         Ok(())
     }
 }
