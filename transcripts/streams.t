@@ -1,32 +1,48 @@
-The edge of real files: standard streams that are closed, full or broken, paths that are no image, two runs at once, an
-image that is a standard stream itself, and a full disk. Behind each case the image's bytes are those from before it,
-unless the page says otherwise.
+The edge of real files
+======================
+
+Standard streams that are closed, full or broken, paths that are no image, two runs at once, an image that is a standard
+stream itself, and a full disk. Behind each case the image's bytes are those from before it, unless the page says
+otherwise.
+
+Nothing is appended yet, so a volume of ten bytes is written by hand: its slot in the volume table, and its bytes in
+segment 3. The first look at it gives the table its parity.
 
   $ tape cart.img new 3
   blank 3
   $ tape cart.img format evening
   formatted 84 0
+  $ put() { printf "$2" | dd of=cart.img bs=1 seek=$1 conv=notrunc status=none; }
+  $ put 73664 'VTBL\003\000\003\000a%43s\300\145\122\060\001\001'
+  $ put 73760 '\012'
+  $ put 106432 'ten bytes.'
+  $ tape cart.img list
+  1 3 3 10 1994-03-01T12:00:00 a
+  volumes 1
   $ cp cart.img kept.img
 
 Closed streams: a closed output fails, a closed input is empty, and a closed standard error gets no line. First a command
 that prints.
 
   $ tape cart.img list <&-
-  volumes 0
+  1 3 3 10 1994-03-01T12:00:00 a
+  volumes 1
   $ cmp cart.img kept.img
   $ tape cart.img list >&-
   tape: output failed
   [17]
   $ cmp cart.img kept.img
   $ tape cart.img list 2>&-
-  volumes 0
+  1 3 3 10 1994-03-01T12:00:00 a
+  volumes 1
   $ cmp cart.img kept.img
   $ tape cart.img list <&- >&-
   tape: output failed
   [17]
   $ cmp cart.img kept.img
   $ tape cart.img list <&- 2>&-
-  volumes 0
+  1 3 3 10 1994-03-01T12:00:00 a
+  volumes 1
   $ cmp cart.img kept.img
   $ tape cart.img list >&- 2>&-
   [17]
@@ -196,7 +212,8 @@ An image that is a symbolic link: the file that it names is the image, and is cr
 
   $ ln -s cart.img cart.link
   $ tape cart.link list
-  volumes 0
+  1 3 3 10 1994-03-01T12:00:00 a
+  volumes 1
   $ tape cart.link list <&- >&- 2>&-
   [17]
   $ cmp cart.img kept.img
@@ -226,7 +243,8 @@ printed a level.
   $ wait $first
   $ exec 8>&- 9<&-
   $ tape cart.img list
-  volumes 0
+  1 3 3 10 1994-03-01T12:00:00 a
+  volumes 1
   $ cmp cart.img kept.img
 
 The image as a standard stream of its own run. Where it is standard error the line would be written into it, so there is
