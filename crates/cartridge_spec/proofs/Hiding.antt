@@ -1,11 +1,11 @@
 -- Readings that leave sectors out of account.
-use Rattle.std.proofs.Common.{◌≡◌, ◌⊎◌, ◌↔◌, ℕ, suc, ◌/◌, ◌%◌, ◌^◌, ◌≤◌, inl, inr, refl, sym, ◌∙◌, ap, subst, arith, Bool, false, List, [], ◌∷◌}
+use Rattle.std.proofs.Common.{◌≡◌, ℕ, suc, ◌/◌, ◌%◌, ◌^◌, inl, inr, refl, sym, ◌∙◌, ap, subst, arith, Bool, false, List, [], ◌∷◌}
 use Rattle.std.specs.Prelude.{if◌then◌else◌, ◌==◌}
 use Rattle.std.proofs.lemmas.Bool.{ne_eqb}
 use Rattle.std.proofs.lemmas.Nat.Bits.{bit_at-zero}
 use Rattle.qic_base.specs.declared.tape.SectorView.{SectorView}
 use Rattle.qic_base.specs.declared.tape.SectorView.TheVariants.{Lost}
-use Rattle.cartridge_spec.specs.Says.{Saying, Data, LostSectors, Mismatch, Says, SaysBy, HasBlock, HasNoBlock, HasFirstBlock, hidden, hidden_from}
+use Rattle.cartridge_spec.specs.Says.{Data, LostSectors, Mismatch, HasBlock, HasNoBlock, HasFirstBlock, hidden_from}
 use Rattle.cartridge_spec.specs.ReadingLaws.{NothingIsHidden, SaysByNone}
 
 -- the empty set names no place

@@ -1,5 +1,5 @@
 -- The usable sectors of a segment: those of data, and those of parity.
-use Rattle.std.proofs.Common.{◌≡◌, ℕ, ◌≤◌, ◌∙◌, ap, le-leb, Bool, List, [], ◌++◌, drop}
+use Rattle.std.proofs.Common.{◌∙◌, ap, le-leb, Bool, [], ◌++◌, drop}
 use Rattle.std.specs.Prelude.{if◌then◌else◌}
 use Rattle.std.proofs.lemmas.List.{take-append-drop}
 use Rattle.cartridge_spec.specs.Shape.{usable_places, usable_count, data_count, data_places}

@@ -1,5 +1,5 @@
 -- What the writes of a segment leave on a cartridge.
-use Rattle.std.proofs.Common.{◌≡◌, ◌≢◌, ℕ, zero, suc, ◌+◌, ◌-◌, ◌*◌, ◌<◌, ◌≤◌, refl, sym, ◌∙◌, ap, subst, arith, inl, inr, List, [], ◌∷◌, ◌++◌, length, map, take, get_or, set, slice_get, Option, Some, None, All}
+use Rattle.std.proofs.Common.{◌≡◌, ◌≢◌, ℕ, zero, suc, ◌<◌, ◌≤◌, refl, sym, ◌∙◌, ap, subst, arith, inl, inr, List, [], ◌∷◌, length, get_or, set, slice_get, Option, Some}
 use Rattle.std.specs.Prelude.{unwrap_or}
 use Rattle.std.specs.Option.{option_map}
 use Rattle.std.proofs.lemmas.Bool.{cases_lt}
@@ -13,7 +13,7 @@ use Rattle.qic_base.specs.Step.{WriteSector, changed, written_view}
 use Rattle.gf256_qic.specs.Code.{parity_sectors}
 use Rattle.gf256_qic.proofs.Parities.{length-parity_sectors}
 use Rattle.cartridge_spec.specs.Shape.{usable_places, usable_count, data_count}
-use Rattle.cartridge_spec.specs.Says.{cells_of, unreadable_count, Agrees, Written}
+use Rattle.cartridge_spec.specs.Says.{cells_of, unreadable_count}
 use Rattle.cartridge_spec.specs.Segment.{IsLive}
 use Rattle.cartridge_spec.specs.Writes.{writes_of, changed_by, data_in, block_in, segment_writes}
 use Rattle.cartridge_spec.proofs.Cells.{IsReadable, count_of_readable}

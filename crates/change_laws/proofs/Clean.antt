@@ -1,5 +1,5 @@
 -- Header copies that are clean or bare stay so where no sector can be read that could not.
-use Rattle.std.proofs.Common.{ℕ, ◌<◌, ◌≤◌, inl, inr, List, refl, arith}
+use Rattle.std.proofs.Common.{ℕ, ◌≤◌, inl, inr, List, refl, arith}
 use Rattle.qic_base.specs.Cartridge.{Cartridge}
 use Rattle.qic_base.specs.Step.{SetReferenced, SetProtected, Spoil, changed}
 use Rattle.cartridge_spec.specs.HeaderAndTable.{copy_cells}

@@ -1,14 +1,14 @@
 -- A cartridge of which one sector, or a mark, changed stands for what it stood for.
-use Rattle.std.proofs.Common.{◌≡◌, ◌⊎◌, ℕ, ◌-◌, ◌<◌, ◌≤◌, inl, inr, true, List, [], ◌∷◌, length, map, take, drop, slice_get, Some, refl, sym, ap, ◌∙◌, subst, arith, All}
+use Rattle.std.proofs.Common.{◌≡◌, ◌⊎◌, ℕ, ◌<◌, ◌≤◌, inl, inr, true, List, length, map, slice_get, Some, refl, sym, ap, ◌∙◌, subst, arith, All}
 use Rattle.std.specs.Prelude.{unwrap_or}
 use Rattle.std.proofs.lemmas.Bool.{cases_lt}
-use Rattle.std.proofs.lemmas.List.Elements.{All-nil, All-cons, All-head, All-tail, All-weaker}
+use Rattle.std.proofs.lemmas.List.Elements.{All-weaker}
 use Rattle.qic_base.specs.declared.tape.SectorView.{SectorView}
 use Rattle.qic_base.specs.declared.tape.SectorView.TheVariants.{Blank, Holds}
 use Rattle.qic_base.specs.Cartridge.{Cartridge, view_at, place_of}
 use Rattle.qic_base.specs.Step.{SetReferenced, SetProtected, Spoil, changed, worn_view}
 use Rattle.cartridge_spec.specs.Header.{has_signature}
-use Rattle.cartridge_spec.specs.Shape.{mask_at, usable_places, usable_count}
+use Rattle.cartridge_spec.specs.Shape.{mask_at, usable_places}
 use Rattle.cartridge_spec.specs.Says.{whole_mask, cells_of, unreadable_count, Says, Data, Written, Zero, ReadsAll}
 use Rattle.cartridge_spec.specs.Volumes.{Plain, Volume, VolumeStands, PartStands, parts_of, segments_of, Stands, CopiesAre}
 use Rattle.cartridge_spec.specs.HeaderAndTable.{IsArea, HasHeader, IsInForce, CopyReads, CopyDoesNotRead, copy_cells, table_cells}

@@ -1,14 +1,13 @@
 -- What a change of one sector, or of a mark, leaves of what a cartridge stands for, and of what it is mounted as, as facts.
-use Rattle.std.specs.Prelude.{◌≡◌, ◌⊎◌, ℕ, ◌<◌, ◌≤◌, Bool, List}
+use Rattle.std.specs.Prelude.{ℕ, ◌<◌, ◌≤◌, Bool, List}
 use Rattle.qic_base.specs.Cartridge.{Cartridge}
-use Rattle.qic_base.specs.Step.{SetReferenced, SetProtected, Wear, Spoil, changed}
+use Rattle.qic_base.specs.Step.{SetReferenced, SetProtected, Spoil, changed}
 use Rattle.cartridge_spec.specs.Header.{Header}
 use Rattle.cartridge_spec.specs.Table.{Entry}
-use Rattle.cartridge_spec.specs.Says.{unreadable_count, Written}
 use Rattle.change_laws.specs.Wear.{worn, WearSpares, FewLost}
 use Rattle.format_plan.specs.Clean.{StandsCleanly, HasNoHeader}
 use Rattle.cartridge_spec.specs.Volumes.{Plain, Stands}
-use Rattle.cartridge_spec.specs.HeaderAndTable.{CopyReads, CopyDoesNotRead, HasHeader, copy_cells, table_cells}
+use Rattle.cartridge_spec.specs.HeaderAndTable.{HasHeader}
 use Rattle.cartridge_spec.specs.Mounting.{Mounted, Mounts}
 
 -- ---- a worn sector

@@ -1,11 +1,11 @@
 -- What formatting writes into a cartridge's header exists, and is determined, as facts.
-use Rattle.std.specs.Prelude.{◌≡◌, ◌⊎◌, ℕ, ◌^◌, ◌<◌, List, length, All}
+use Rattle.std.specs.Prelude.{◌≡◌, ◌⊎◌, ℕ, ◌^◌, ◌<◌, List, All}
 use Rattle.qic_base.specs.Cartridge.{Cartridge, IsCartridge}
 use Rattle.cartridge_spec.specs.Header.{Header, Shows, Spells}
 use Rattle.cartridge_spec.specs.HeaderAndTable.{IsArea}
 use Rattle.cartridge_spec.specs.Defects.{MarksDefects}
 use Rattle.format_plan.specs.Formatting.{HasNoDefectInFront, IsFirstDefectInFront}
-use Rattle.format_plan.specs.Fresh.{IsFreshArea, IsFreshWith, IsLabel}
+use Rattle.format_plan.specs.Fresh.{IsFreshWith, IsLabel}
 
 -- ---- defects in front
 

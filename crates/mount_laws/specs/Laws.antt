@@ -1,7 +1,6 @@
 -- What the mounting of a cartridge gives, and what the settling of its volume table leaves, as facts.
-use Rattle.std.specs.Prelude.{◌≡◌, ◌≢◌, ◌⊎◌, ℕ, ◌<◌, ◌≤◌, ◌++◌, false, List, [], Option, Some, IsSomeAnd}
-use Rattle.qic_base.specs.declared.tape.SectorView.{SectorView}
-use Rattle.qic_base.specs.declared.tape.SectorView.TheVariants.{Blank, Defect, Lost, Holds}
+use Rattle.std.specs.Prelude.{◌≡◌, ◌⊎◌, ℕ, ◌<◌, ◌≤◌, false, List, [], Option, Some, IsSomeAnd}
+use Rattle.qic_base.specs.declared.tape.SectorView.TheVariants.{Holds}
 use Rattle.qic_base.specs.Cartridge.{Cartridge, IsCartridge, view_at}
 use Rattle.qic_base.specs.Step.{effects}
 use Rattle.qic_base.specs.Stop.{Torn}

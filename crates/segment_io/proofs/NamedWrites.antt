@@ -1,21 +1,19 @@
 -- The writes of the places of a set, place by place, and those of all places.
-use Rattle.std.proofs.Common.{◌≡◌, ℕ, zero, suc, ◌+◌, ◌-◌, ◌/◌, ◌%◌, ◌^◌, ◌<◌, ◌≤◌, refl, sym, ◌∙◌, ap, subst, arith, inl, inr, List, [], ◌∷◌, ◌++◌, length, map, take, drop, get_or, Bool, false, add-zero, add-one, append_assoc}
+use Rattle.std.proofs.Common.{◌≡◌, ℕ, ◌+◌, ◌-◌, ◌/◌, ◌%◌, ◌^◌, ◌<◌, ◌≤◌, refl, sym, ◌∙◌, ap, arith, inl, inr, List, [], ◌∷◌, ◌++◌, length, map, take, drop, get_or, Bool, false}
 use Rattle.std.specs.Prelude.{if◌then◌else◌, ◌==◌}
 use Rattle.std.specs.List.{range_with_len}
-use Rattle.std.proofs.lemmas.Bool.{cases_eq, eq-eqb, ne_eqb}
-use Rattle.std.proofs.lemmas.List.{append-nil, map-append, map_push, length_push, length-append, get_or_at, get_or-take, length-take-le, map-id, take_at}
-use Rattle.std.proofs.lemmas.List.FromFn.{fill_by_all, map-range_with_len_more}
-use Rattle.std.proofs.lemmas.Nat.Bits.{bit_at_above, bit_at_ones, ones_shr}
-use Rattle.std.proofs.lemmas.Nat.{pow_pos}
+use Rattle.std.proofs.lemmas.Bool.{cases_eq, ne_eqb}
+use Rattle.std.proofs.lemmas.List.{append-nil, map-append, map_push, length-append, get_or-take, length-take-le, take_at}
+use Rattle.std.proofs.lemmas.List.FromFn.{fill_by_all}
+use Rattle.std.proofs.lemmas.Nat.Bits.{ones_shr}
 use Rattle.std.proofs.lemmas.Option.{unwrap_or-slice_get}
 use Rattle.qic_base.specs.LostSet.{IsLost, lost_places}
 use Rattle.qic_base.specs.Step.{Step, WriteSector}
-use Rattle.qic_base.proofs.LostSetLaws.{lost_places-lost, lost_places-kept, lost_places-above}
+use Rattle.qic_base.proofs.LostSetLaws.{lost_places-lost, lost_places-kept}
 use Rattle.cartridge_spec.specs.Segment.{sector_at}
 use Rattle.cartridge_spec.specs.Shape.{usable_places, usable_count}
-use Rattle.cartridge_spec.specs.Writes.{writes_of, data_in, block_in, segment_writes, named_writes}
+use Rattle.cartridge_spec.specs.Writes.{writes_of, block_in, segment_writes, named_writes}
 use Rattle.gf256_qic.specs.Code.{parity_sectors}
-use Rattle.gf256_qic.proofs.Parities.{length-parity_sectors}
 use Rattle.segment_io.specs.Writes.{named_write, usable_write}
 use Rattle.cartridge_spec.proofs.Places.{place_of_sector, count_more, Front, places_within, all_places, count_same, front_of_all, count_below}
 use Rattle.cartridge_spec.proofs.Writing.{length-block_in}

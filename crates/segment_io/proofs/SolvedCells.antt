@@ -1,17 +1,17 @@
 -- What gathered cells say: the lost places are as many as the unreadable cells, and the code blocks of the sectors that
 -- are not lost are those of the cells.
-use Rattle.std.proofs.Common.{◌≡◌, ℕ, zero, suc, ◌+◌, ◌-◌, ◌<◌, ◌≤◌, refl, sym, ◌∙◌, ap, subst, ◌↔◌, Result, Err, arith, inl, inr, Bool, true, false, cond, List, [], ◌∷◌, length, take, slice_get, Some}
-use Rattle.std.proofs.lemmas.Bool.{cases_lt, ne_eqb, false≢true}
+use Rattle.std.proofs.Common.{◌≡◌, ℕ, zero, suc, ◌+◌, ◌-◌, ◌<◌, ◌≤◌, refl, sym, ◌∙◌, ap, subst, ◌↔◌, Result, Err, arith, Bool, true, false, cond, List, [], ◌∷◌, length, take, slice_get, Some}
+use Rattle.std.proofs.lemmas.Bool.{ne_eqb, false≢true}
 use Rattle.std.proofs.lemmas.List.{length-take-le}
 use Rattle.std.proofs.lemmas.Option.{slice_get_within}
-use Rattle.qic_base.specs.LostSet.{IsLost, lost_places}
+use Rattle.qic_base.specs.LostSet.{lost_places}
 use Rattle.qic_base.proofs.LostSetLaws.{lost_places-above}
 use Rattle.qic_base.specs.declared.tape.SectorView.{SectorView}
 use Rattle.qic_base.specs.declared.tape.SectorView.TheVariants.{Blank, Defect, Lost, Holds}
 use Rattle.gf256_qic.specs.Code.{IsCodeBlock, AgreesOutside, IsSolvable, lost_below}
 use Rattle.erasure_solve.specs.Lost.{is_lost, lost_count}
-use Rattle.erasure_solve.proofs.Places.{lost_from, is_lost_from, lost_below-places}
-use Rattle.cartridge_spec.specs.Says.{Agrees, unreadable_count, HasNoBlock, Says, Data, LostSectors, Mismatch, data_of}
+use Rattle.erasure_solve.proofs.Places.{is_lost_from, lost_below-places}
+use Rattle.cartridge_spec.specs.Says.{Agrees, unreadable_count, Says, Data, LostSectors, Mismatch, data_of}
 use Rattle.cartridge_spec.proofs.Cells.{unreadable_at, readable_at, lost_below-cells, IsReadable}
 use Rattle.segment_io.specs.Gathered.{IsUnreadableAt, NamesUnreadable, Gathered}
 use Rattle.segment_io.specs.declared.fault.SegFault.{SegFault}

@@ -3,15 +3,13 @@ use Rattle.std.proofs.Common.{◌≡◌, zero, ℕ, suc, ◌+◌, ◌-◌, ◌*�
 use Rattle.std.specs.Prelude.{sum_by, if◌then◌else◌}
 use Rattle.std.specs.List.{range_with_len}
 use Rattle.std.specs.Option.{option_map, option_map_or}
-use Rattle.std.proofs.lemmas.Bool.Decides.{nat_tests}
 use Rattle.std.proofs.lemmas.List.Sums.{sum_by_push}
-use Rattle.std.proofs.lemmas.Option.{get_or_from_slice_get}
 use Rattle.qic_base.specs.Cartridge.{Cartridge, IsCartridge}
 use Rattle.qic_base.specs.Step.{Step, WriteSector, changed, effects}
 use Rattle.qic_base.specs.Tape.{Meaning, Done, Tells, IsToldRight}
 use Rattle.qic_base.specs.declared.tape.TapeInfo.{TapeInfo}
 use Rattle.cartridge_spec.specs.Header.{Header}
-use Rattle.cartridge_spec.specs.Table.{Entry, slot, slot_fault, some_free_below, has_bad_range, entry_in, is_used, IsSoundList, LieBehind}
+use Rattle.cartridge_spec.specs.Table.{Entry, IsSoundList, LieBehind}
 use Rattle.cartridge_spec.specs.HeaderAndTable.{TableIs}
 use Rattle.cartridge_spec.specs.Mounting.{settled}
 use Rattle.cartridge_spec.specs.Writes.{writes_of, changed_by}
@@ -19,7 +17,6 @@ use Rattle.cartridge_spec.specs.Segment.{sector_at}
 use Rattle.cartridge_spec.specs.Says.{whole_mask}
 use Rattle.cartridge_spec.specs.Shape.{usable_places}
 use Rattle.gf256_qic.specs.Code.{parity_sectors}
-use Rattle.volume_table.proofs.SlotLaws.{used_not_free, slot_fault-behind_free, slot_fault-bad_range}
 use Rattle.drive_states.specs.Deck.{is_protected, is_referenced}
 use Rattle.drive_states.specs.Sound.{HasLength}
 use Rattle.drive_states.specs.Unit.{UnitView}

@@ -1,5 +1,5 @@
 -- The table's segment as it was collected, and what it says.
-use Rattle.std.proofs.Common.{◌≡◌, ℕ, ◌-◌, ◌<◌, ◌≤◌, zero, suc, Bool, true, cond, List, [], ◌∷◌, length, take, Option, Some, IsSomeAnd, Result, Err, refl, sym, ap, ◌∙◌, subst, inl, inr, arith, get_or, length-take}
+use Rattle.std.proofs.Common.{◌≡◌, ℕ, ◌-◌, ◌<◌, ◌≤◌, zero, suc, Bool, cond, List, [], ◌∷◌, length, take, Option, Some, IsSomeAnd, Result, Err, refl, sym, ap, ◌∙◌, subst, inl, inr, arith, get_or, length-take}
 use Rattle.std.specs.List.{slice_get}
 use Rattle.std.proofs.lemmas.List.{get_or-take, take_all}
 use Rattle.std.proofs.lemmas.Option.{slice_get-get_or, slice_get_within}

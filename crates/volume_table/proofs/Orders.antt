@@ -3,9 +3,9 @@ use Rattle.std.proofs.Common.{◌≡◌, ℕ, zero, suc, ◌+◌, ◌<◌, ◌�
 use Rattle.std.proofs.lemmas.Bool.{cases_lt}
 use Rattle.std.proofs.lemmas.Bool.Decides.{nat_tests}
 use Rattle.std.proofs.lemmas.Option.{same_Some}
-use Rattle.cartridge_spec.specs.Table.{Entry, TableFault, ForeignSlot, BadRange, Shows, HasNoFault, LieBehind, slot, is_free, is_used, entry_in, some_free_below, slot_fault, has_bad_range}
+use Rattle.cartridge_spec.specs.Table.{Entry, ForeignSlot, BadRange, Shows, LieBehind, slot, is_free, is_used, entry_in, some_free_below, slot_fault, has_bad_range}
 use Rattle.volume_table.specs.Laws.{FaultlessIsSound, SoundIsFaultless}
-use Rattle.volume_table.specs.Reading.{IsTakenBefore, taken_before}
+use Rattle.volume_table.specs.Reading.{IsTakenBefore}
 use Rattle.volume_table.proofs.SlotLaws.{used_not_free, slot_fault-free, slot_fault-sound, has_bad_range-taken}
 
 -- ---- a slot without fault

@@ -1,4 +1,4 @@
-use Rattle.std.proofs.Common.{◌≡◌, ◌≤◌, ◌<◌, ℕ, ◌++◌, List, length, take, drop, refl, ap, subst, sym, ◌∙◌, arith, Result, Ok, Err, OnErr}
+use Rattle.std.proofs.Common.{◌≡◌, ◌≤◌, ℕ, ◌++◌, List, length, take, drop, refl, ap, subst, sym, ◌∙◌, arith, Result, Err, OnErr}
 use Rattle.std.proofs.lemmas.List.{with_items_is}
 use Rattle.erasure_solve.specs.Lost.{lost_count}
 use Rattle.segment_io.specs.declared.fault.SegFault.{SegFault}

@@ -1,4 +1,4 @@
-use Rattle.std.proofs.Common.{◌≡◌, ◌<◌, ◌≤◌, ap, ◌∙◌, Some, arith}
+use Rattle.std.proofs.Common.{◌≡◌, ap, ◌∙◌, Some, arith}
 use Rattle.std.specs.List.{slice_get}
 use Rattle.volume_table.specs.Entry.{entry_of}
 use Rattle.volume_store.specs.Mounting.{StoreView}

@@ -1,0 +1,129 @@
+-- How runs over acts join.
+use Rattle.std.proofs.Common.{◌≡◌, ℕ, List, [], ◌∷◌, ◌++◌, refl, sym, ap, ◌∙◌, subst, arith, append_assoc}
+use Rattle.qic_base.specs.Step.{Step}
+use Rattle.qic_base.specs.Sink as sinks
+use Rattle.qic_base.specs.Source as sources
+use Rattle.qic_base.specs.Tape as tapes
+use Rattle.qic_base.proofs.Steps.{Rose-after, Done-nothing, Done-Done, Done-Broke}
+use Rattle.qic_base.proofs.Writing.{TakesBoth, Wrote-Wrote}
+use Rattle.acts.specs.Acts.{Act, steps_of, text_of, Outside, TapeFails, SourceFails, SinkFails, Went, Parted, TapeCut, SinkCut, SourceCut, WroteAndBroke}
+use Rattle.acts.specs.Laws.{NothingWent, WentBoth, WentThenCut, CutIsLonger}
+
+-- ---- lists of acts
+
+pub steps_of-append : (xs ys : List Act) → steps_of (xs ++ ys) ≡ steps_of xs ++ steps_of ys
+steps_of-append [] ys = refl
+steps_of-append (x ∷ xs) ys =
+    ap (λ (steps : List Step). x.steps ++ steps) (steps_of-append xs ys)
+    ∙ sym (append_assoc x.steps (steps_of xs) (steps_of ys))
+
+pub text_of-append : (xs ys : List Act) → text_of (xs ++ ys) ≡ text_of xs ++ text_of ys
+text_of-append [] ys = refl
+text_of-append (x ∷ xs) ys =
+    ap (λ (text : List ℕ). x.text ++ text) (text_of-append xs ys)
+    ∙ sym (append_assoc x.text (text_of xs) (text_of ys))
+
+-- the steps of a front and of the next act, behind others
+steps_behind : (xs front : List Act) (act : Act) → steps_of xs ++ (steps_of front ++ act.steps) ≡ steps_of (xs ++ front) ++ act.steps
+steps_behind xs front act =
+    sym (append_assoc (steps_of xs) (steps_of front) act.steps)
+    ∙ ap (λ (steps : List Step). steps ++ act.steps) (sym (steps_of-append xs front))
+
+abbrev parted_behind : (xs ys : List Act) → Parted ys → Parted (xs ++ ys)
+parted_behind xs ys at = record {
+  front = xs ++ at.front;
+  act = at.act;
+  rest = at.rest;
+  parts = append_assoc xs at.front (at.act ∷ at.rest) ∙ ap (λ (zs : List Act). xs ++ zs) at.parts;
+}
+
+abbrev parted_before : (xs ys : List Act) → Parted xs → Parted (xs ++ ys)
+parted_before xs ys at = record {
+  front = at.front;
+  act = at.act;
+  rest = at.rest ++ ys;
+  parts = sym (append_assoc at.front (at.act ∷ at.rest) ys) ∙ ap (λ (zs : List Act). zs ++ ys) at.parts;
+}
+
+-- ---- runs
+
+module _ {T S K : Type 0} (t : tapes.Meaning T) (s : sources.Meaning S) (k : sinks.Meaning K) where
+  pub nothing_went : ((x : K) → k.took x [] x) → NothingWent t s k
+  nothing_went none a = record {
+    did = Done-nothing t a.tape;
+    wrote = record { took = none a.sink; later = omega arith };
+    source_later = omega arith;
+  }
+
+  pub went_both : TakesBoth k → WentBoth t s k
+  went_both both a b c xs ys first next = record {
+    did = subst (tapes.Done t a.tape c.tape) (sym (steps_of-append xs ys)) (Done-Done first.did next.did);
+    wrote = subst (sinks.Wrote k a.sink c.sink) (sym (text_of-append xs ys)) (Wrote-Wrote both first.wrote next.wrote);
+    source_later = let e = first.source_later in let f = next.source_later in omega arith;
+  }
+
+  then_broke : TakesBoth k → (a b c : K) (xs ys next : List ℕ) → sinks.Wrote k a b xs → WroteAndBroke k b c ys next → WroteAndBroke k a c (xs ++ ys) next
+  then_broke both a b c xs ys next first broke = record {
+    part = broke.part;
+    rest = broke.rest;
+    parts = broke.parts;
+    took = subst (λ (text : List ℕ). k.took a text c) (sym (append_assoc xs ys broke.part)) (both a b c xs (ys ++ broke.part) first.took broke.took);
+    cause = Rose-after (k.faults a) (k.faults b) (k.faults c) first.later broke.cause;
+    later = let e = first.later in let f = broke.later in omega arith;
+  }
+
+  tape_cut : TakesBoth k → (a b c : Outside T S K) (xs ys : List Act) → Went t s k a b xs → TapeCut t s k b c ys → TapeCut t s k a c (xs ++ ys)
+  tape_cut both a b c xs ys first cut = record {
+    at = parted_behind xs ys cut.at;
+    broke = subst (tapes.Broke t a.tape c.tape) (steps_behind xs cut.at.front cut.at.act) (Done-Broke first.did cut.broke);
+    wrote = subst (sinks.Wrote k a.sink c.sink) (sym (text_of-append xs cut.at.front)) (Wrote-Wrote both first.wrote cut.wrote);
+    source_later = let e = first.source_later in let f = cut.source_later in omega arith;
+  }
+
+  sink_cut : TakesBoth k → (a b c : Outside T S K) (xs ys : List Act) → Went t s k a b xs → SinkCut t s k b c ys → SinkCut t s k a c (xs ++ ys)
+  sink_cut both a b c xs ys first cut = record {
+    at = parted_behind xs ys cut.at;
+    did = subst (tapes.Done t a.tape c.tape) (steps_behind xs cut.at.front cut.at.act) (Done-Done first.did cut.did);
+    broke = subst (λ (text : List ℕ). WroteAndBroke k a.sink c.sink text cut.at.act.text) (sym (text_of-append xs cut.at.front))
+        (then_broke both a.sink b.sink c.sink (text_of xs) (text_of cut.at.front) cut.at.act.text first.wrote cut.broke);
+    source_later = let e = first.source_later in let f = cut.source_later in omega arith;
+  }
+
+  source_cut : TakesBoth k → (a b c : Outside T S K) (xs ys : List Act) → Went t s k a b xs → SourceCut t s k b c ys → SourceCut t s k a c (xs ++ ys)
+  source_cut both a b c xs ys first cut = record {
+    front = xs ++ cut.front;
+    rest = cut.rest;
+    parts = append_assoc xs cut.front cut.rest ∙ ap (λ (zs : List Act). xs ++ zs) cut.parts;
+    did = subst (tapes.Done t a.tape c.tape) (sym (steps_of-append xs cut.front)) (Done-Done first.did cut.did);
+    wrote = subst (sinks.Wrote k a.sink c.sink) (sym (text_of-append xs cut.front)) (Wrote-Wrote both first.wrote cut.wrote);
+    cause = Rose-after (s.faults a.source) (s.faults b.source) (s.faults c.source) first.source_later cut.cause;
+    source_later = let e = first.source_later in let f = cut.source_later in omega arith;
+  }
+
+  pub went_then_cut : TakesBoth k → WentThenCut t s k
+  went_then_cut both a b c xs ys TapeFails first cut = tape_cut both a b c xs ys first cut
+  went_then_cut both a b c xs ys SourceFails first cut = source_cut both a b c xs ys first cut
+  went_then_cut both a b c xs ys SinkFails first cut = sink_cut both a b c xs ys first cut
+
+  pub cut_is_longer : CutIsLonger t s k
+  cut_is_longer a b xs ys TapeFails cut = record {
+    at = parted_before xs ys cut.at;
+    broke = cut.broke;
+    wrote = cut.wrote;
+    source_later = cut.source_later;
+  }
+  cut_is_longer a b xs ys SourceFails cut = record {
+    front = cut.front;
+    rest = cut.rest ++ ys;
+    parts = sym (append_assoc cut.front cut.rest ys) ∙ ap (λ (zs : List Act). zs ++ ys) cut.parts;
+    did = cut.did;
+    wrote = cut.wrote;
+    cause = cut.cause;
+    source_later = cut.source_later;
+  }
+  cut_is_longer a b xs ys SinkFails cut = record {
+    at = parted_before xs ys cut.at;
+    did = cut.did;
+    broke = cut.broke;
+    source_later = cut.source_later;
+  }
