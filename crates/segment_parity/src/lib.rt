@@ -1,7 +1,7 @@
 //! The parity of a segment, gathered sector by sector in a register of three bytes a column.
 #![tactic(auto)]
 
-ghost use Rattle.std.specs.Prelude.{◌≡◌, ℕ, ◌+◌, ◌<◌, List, [], ◌∷◌, ◌++◌, length, All};
+ghost use Rattle.std.specs.Prelude.{◌≡◌, ℕ, ◌+◌, ◌<◌, ◌≤◌, List, [], ◌∷◌, ◌++◌, length, All};
 ghost use Rattle.gf256_qic.specs.Field.{product};
 ghost use Rattle.gf256_qic.specs.Code.{parity_sectors, IsSector, IsCodeBlock};
 ghost use Rattle.segment_parity.specs.Register.{pushed, Holds, Shifted};
@@ -72,6 +72,20 @@ impl Parity {
     }
 }
 
+/// The parity of 1 to 29 data sectors, which follows them in a segment (QIC-80-MC).
+pub fn parity_of(sectors: &[[u8; SECTOR]]) -> [[u8; SECTOR]; 3]
+    requires least { 1 ≤ length sectors.now }
+    requires most { length sectors.now ≤ 29 }
+    ensures parity { result ≡ parity_sectors sectors.now }
+    ensures block { IsCodeBlock (sectors.now ++ result) }
+{
+    let mut parity = Parity::new();
+    for sector in sectors {
+        parity.push(sector);
+    }
+    parity.finish()
+}
+
 /// Shifts each column of the register by one, and adds the feedback's multiples.
 fn shift_in(register: &mut [[u8; SECTOR]; 3], sector: &[u8; SECTOR])
     ensures columns { All IsSector register.old →
@@ -123,5 +137,7 @@ mod tests {
         let [high, middle, low] = parity.finish();
         assert_eq!(rt; [high[0], middle[0], low[0]], [0x67, 0xA6, 0xC0]);
         assert_eq!(rt; [high[1023], middle[1023], low[1023]], [0x67, 0xA6, 0xC0]);
+        let [high, middle, low] = parity_of(&[[0x01; SECTOR], [0x00; SECTOR]]);
+        assert_eq!(rt; [high[9], middle[9], low[9]], [0x67, 0xA6, 0xC0]);
     }
 }
