@@ -3,7 +3,7 @@
 ghost use Rattle.std.specs.Prelude.{◌<◌};
 
 use crate::cable::{begun, shows, written};
-use drive_runs::{FIRST_OF_FOUR, WRITTEN};
+use crate::trains::{FIRST_OF_FOUR, WRITTEN};
 use drive_states::Unit;
 use host_driver::{HandFault, HostFault};
 use qic_base::{SectorRead, SectorWrite};

@@ -1,7 +1,8 @@
 //! Formattings in which a call of the tape fails, as a stop would cut them short.
 
-use crate::runs::{OF_L, OF_M, answers, prints, refuses};
-use crate::sectors::{is_lost_alone, parity_of, write};
+use crate::mounting::{LIST, one_volume};
+use crate::runs::{answers, prints, refuses};
+use crate::sectors::{is_lost_alone, write_first};
 use command_runs::{run_words, sink};
 use drive_states::Unit;
 use qic_mem::{MemTape, Outcome};
@@ -33,6 +34,14 @@ const CALLS: u64 = SECOND_COPY + 1;
 
 /// The calls of `new`: the renewal, and the insertion.
 const NEW: u64 = 2;
+
+/// What `info` prints of a cartridge without a defect or a volume, with the label `L` and no date given.
+const OF_L: &[u8] =
+    b"label L\nformatted 1970-01-01T00:00:00\nsegments 84\nbad sectors 0\nvolumes 0\n";
+
+/// The same, with the label `M`.
+const OF_M: &[u8] =
+    b"label M\nformatted 1970-01-01T00:00:00\nsegments 84\nbad sectors 0\nvolumes 0\n";
 
 /// What a cartridge is once a formatting was cut short.
 #[derive(Clone, Copy, Debug, PartialEq, Eq)]
@@ -209,31 +218,11 @@ fn a_formatting_has_so_many_calls(rt: HostRuntime) -> Result<(), Fail> {
     Ok(())
 }
 
-/// The first sector of a volume table with one volume: ten bytes in segment 3, called `a`, of 1994-03-01T12:00:00.
-fn first_slot() -> [u8; 1024] {
-    let mut sector = [0; 1024];
-    sector[..8].copy_from_slice(b"VTBL\x03\0\x03\0");
-    sector[8..52].copy_from_slice(b"a                                           ");
-    sector[52..58].copy_from_slice(&[0xC0, 0x65, 0x52, 0x30, 1, 1]);
-    sector[96] = 10;
-    sector
-}
-
-// Writes that table. Each of the four writes has an `info` before it.
-fn write_table(tape: &mut MemTape) -> Result<(), Fail> {
-    let first = first_slot();
-    let [a, b, c] = parity_of(&first, &[0; 1024]);
-    write(tape, 2, 0, &first)?;
-    write(tape, 2, 29, &a)?;
-    write(tape, 2, 30, &b)?;
-    write(tape, 2, 31, &c)
-}
-
-/// The calls of `write_table`.
+/// The calls of `with_table`.
 const TABLE: u64 = 8;
 
 fn with_table(mut tape: MemTape) -> Result<Unit<MemTape>, Fail> {
-    write_table(&mut tape)?;
+    write_first(&mut tape, 2, &one_volume())?;
     Ok(Unit::new(tape))
 }
 
@@ -266,13 +255,12 @@ fn lists(
 #[test]
 fn volumes_stand_until_segment_1_is_formatted(rt: HostRuntime) -> Result<(), Fail> {
     let alloc = rt.alloc();
-    let before = b"1 3 3 10 1994-03-01T12:00:00 a\nvolumes 1\n".as_slice();
     let after = b"volumes 0\n".as_slice();
     let nothing = b"".as_slice();
     let rows = [
         // While segment 0 is formatted and after that, by the second copy.
-        (FORMAT, Outcome::Lost, Status::Done, before),
-        (FORMAT + 1, Outcome::Old, Status::Done, before),
+        (FORMAT, Outcome::Lost, Status::Done, LIST),
+        (FORMAT + 1, Outcome::Old, Status::Done, LIST),
         // After segment 1 was formatted.
         (FORMAT + 1, Outcome::New, Status::NotFormatted, nothing),
         (FORMAT + 2, Outcome::Old, Status::NotFormatted, nothing),

@@ -1,6 +1,5 @@
-//! A drive over a cartridge in memory, and trains on its cable, as the tests of other crates use them. These functions have
-//! no clause on a drive, so the proof of a test knows nothing of one but that it is a drive.
-#![tactic(auto)]
+//! A drive over a cartridge in memory, and trains on its cable. These functions have no clause on a drive, so the proof of a
+//! test knows nothing of one but that it is a drive.
 
 ghost use Rattle.std.specs.Prelude.{◌≤◌};
 
