@@ -5,7 +5,7 @@
 set -euo pipefail
 top=$(cd "$(dirname "$0")" && pwd)
 program=$top/crates/tape/out/tape
-room=${XDG_CACHE_HOME:-$HOME/.cache}/tape/$(printf '%s' "$top" | cksum | tr ' ' -)
+room=${XDG_CACHE_HOME:-${HOME:-/tmp}/.cache}/tape/$(printf '%s' "$top" | cksum | tr ' ' -)
 
 is_built() {
     [ -x "$program" ] && [ -z "$(find "$top/crates" -path '*/out' -prune -o -newer "$program" \

@@ -153,10 +153,13 @@ Data that do not begin with the four bytes of the signature are no header: then 
   $ tape cart.img info | sed -n 1p
   label A
 
-Zero bytes are a code block, as a stopped formatting leaves it, but no header.
+Zero bytes are a code block, as a stopped formatting leaves it, but no header. Nor are others.
 
   $ cp whole.img cart.img
-  $ dd if=/dev/zero of=cart.img bs=64 seek=127 count=512 conv=notrunc status=none
+  $ head -c 29696 /dev/zero | dd of=cart.img bs=64 seek=127 conv=notrunc status=none
+  $ tape cart.img info | sed -n 1p
+  label B
+  $ head -c 29696 /dev/zero | tr '\0' '\377' | dd of=cart.img bs=64 seek=127 conv=notrunc status=none
   $ tape cart.img info | sed -n 1p
   label B
 

@@ -119,7 +119,7 @@ Parity that is not of the data
 ------------------------------
 
 When an append is stopped behind its first write to the table, the data are new and the parity is old. The data count,
-and the next look writes the parity. Here a byte behind the signature of a free slot is changed, which means nothing, in
+and the next look writes the parity, unless the cartridge is protected. Here a byte behind the signature of a free slot is changed, which means nothing, in
 the last data sector: the parity of a column of 29 bytes of which the last alone is 1 is C0 C0 01.
 
   $ cp whole.img cart.img
@@ -129,6 +129,17 @@ the last data sector: the parity of a column of 29 bytes of which the last alone
    00
    00
    00
+  $ tape cart.img protect on
+  protected on
+  $ tape cart.img list
+  1 3 3 10 1994-03-01T12:00:00 a
+  volumes 1
+  $ parity 127
+   00
+   00
+   00
+  $ tape cart.img protect off
+  protected off
   $ tape cart.img list
   1 3 3 10 1994-03-01T12:00:00 a
   volumes 1
@@ -152,6 +163,9 @@ Where the last two bytes are 1 and 0 it is 67 A6 C0.
 But where data are lost, too, the parity does not help to find them. With sector 1 changed:
 
   $ changed() { cp whole.img cart.img; put 2 1 500 '\x07'; each lose 2 "$@" > done; tape cart.img list; }
+  $ changed
+  1 3 3 10 1994-03-01T12:00:00 a
+  volumes 1
   $ changed 29 30 31
   1 3 3 10 1994-03-01T12:00:00 a
   volumes 1

@@ -32,10 +32,10 @@ to it (0x10) and has its reference bursts (0x20). In one row:
   $ report 8 6
   0x75
 
-An empty gap, `0`, keeps the level and the report.
+An empty gap, `0`, keeps the level and the report. When the report is over, a train of two pulses leaves 0.
 
-  $ send 0 0 6 0 2 2 0 0 2 2 2 2 2 2 0 2
-  0 0 1 1 1 0 0 0 1 0 1 1 1 0 0 1
+  $ send 0 0 6 0 2 2 0 0 2 2 2 2 2 2 0 2 0 2
+  0 0 1 1 1 0 0 0 1 0 1 1 1 0 0 1 1 0
 
 Error words
 -----------
@@ -192,6 +192,10 @@ The input ends where it ends, or with the line `end`. What follows that isn't re
   2
   x
   end
+  $ printf '6\nend\n\0\0\n' > input
+  $ { tape cart.img pulses; cat; } < input | tr '\0' -
+  1
+  --
 
 Lines at fault
 --------------
@@ -228,11 +232,11 @@ No such lines, one after the other:
   > done 2>&1 | sort | uniq -c | sed 's/^ *//'
   17 tape: input fault in line 1 at byte 0
   [3]
-  $ for line in 'end ' ' end' End ends 'end\r'; do
+  $ for line in '' x 'end ' ' end' End ends 'end\r'; do
   >     fault "6\n$line\n2\n"
   > done 2>&1 | sort | uniq -c | sed 's/^ *//'
-  5 1
-  5 tape: input fault in line 2 at byte 2
+  7 1
+  7 tape: input fault in line 2 at byte 2
   [3]
 
 The last line has its newline, too, the line `end` as any other.
@@ -267,9 +271,15 @@ As many lines as may be
 These are 65,536. The next one is at fault, whatever it is, unless it is `end`.
 
   $ many() { { yes 0 | head -n 65536; printf "$1"; } | tape cart.img pulses | uniq -c | sed 's/^ *//'; }
+  $ many ''
+  65536 0
   $ many 'end\n0\n'
   65536 0
   $ many '0\n'
+  tape: input fault in line 65537 at byte 131072
+  65536 0
+  [3]
+  $ many 'x\n'
   tape: input fault in line 65537 at byte 131072
   65536 0
   [3]
