@@ -1,6 +1,6 @@
-//! What a host learns at its start, its reports and its waits.
+//! What a host learns at its start, and its reports.
 
-use crate::cable::{begun, tells, written};
+use crate::cable::{tells, written};
 use drive_states::Unit;
 use host_driver::{Host, HostFault, Report};
 use qic_base::Tape;
@@ -56,20 +56,5 @@ fn reports_of_every_kind_are_read(rt: HostRuntime) -> Result<(), Fail> {
     for (kind, want) in REPORTS {
         assert_eq!(rt; word(&mut unit, kind), Ok(want), "{kind:?}");
     }
-    Ok(())
-}
-
-/// How many reports a host waits where the drive seeks the load point.
-fn wait_for_load_point(unit: &mut Unit<MemTape>) -> Result<u8, HostFault> {
-    let mut host = begun(unit)?;
-    host.send(unit, 14)?;
-    host.wait_ready(unit)
-}
-
-#[test]
-fn the_longest_wait_takes_17_reports(rt: HostRuntime) -> Result<(), Fail> {
-    let mut unit = written(rt.alloc(), &[])?;
-    // 160 gaps, ten a report: the sixteenth report loads its word at gap 151, and the seventeenth at gap 161.
-    assert_eq!(rt; wait_for_load_point(&mut unit), Ok(17));
     Ok(())
 }
