@@ -7,11 +7,6 @@ top=$(cd "$(dirname "$0")" && pwd)
 program=$top/crates/tape/out/tape
 room=${XDG_CACHE_HOME:-${HOME:-/tmp}/.cache}/tape/$(printf '%s' "$top" | cksum | tr ' ' -)
 
-is_built() {
-    [ -x "$program" ] && [ -z "$(find "$top/crates" -path '*/out' -prune -o -newer "$program" \
-        \( -name '*.rt' -o -name '*.antt' \) -print -quit)" ]
-}
-
 # The lines of crates.txt of the program and of all crates below it.
 needed() {
     awk -F: '
@@ -24,6 +19,11 @@ needed() {
         { crates[NR] = $1; uses[$1] = $2; lines[$1] = $0 }
         END { add("tape"); for (i = 1; i <= NR; i++) if (crates[i] in is_needed) print lines[crates[i]] }
     ' "$top/crates.txt"
+}
+
+is_built() {
+    [ -x "$program" ] && [ -z "$(cd "$top/crates" && find $(needed | cut -d : -f 1) -path '*/out' -prune -o \
+        -newer "$program" \( -name '*.rt' -o -name '*.antt' \) -print -quit)" ]
 }
 
 # Makes the folder's sources those of these crates as they stand, and leaves what was proved of them.
@@ -60,9 +60,9 @@ tell() {
         case $line in
             '== '*)
                 [ -z "$crate" ] || [ -n "$is_new" ] || count=$((count + 1))
-                [ "$line" != '== summary' ] || break
-                crate=${line#== } is_new=''
-                lines=$(lines_of "$room/crates/$crate")
+                crate=${line#== } is_new='' lines=0
+                [ "$crate" != summary ] || crate=''
+                [ -z "$crate" ] || lines=$(lines_of "$room/crates/$crate")
                 left=$((left - lines)) ;;
             logic=proved*) count=$((count + 1)) proved=$((proved + lines)) ;;
             rt:*) ;;
@@ -73,7 +73,6 @@ tell() {
         [ "$text" = "$shown" ] || printf "%-70s$ends" "${text/about 0 minutes/less than a minute}" >&2
         shown=$text
     done
-    cat > /dev/null
 }
 
 build() {
