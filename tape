@@ -73,6 +73,7 @@ tell() {
         [ "$text" = "$shown" ] || printf "%-70s$ends" "${text/about 0 minutes/less than a minute}" >&2
         shown=$text
     done
+    [ ! -t 2 ] || echo >&2
 }
 
 build() {
