@@ -16,7 +16,7 @@ use Rattle.gf256_qic.specs.Code.{IsSector, IsCodeword, IsCodeBlock, column}
 use Rattle.gf256_qic.proofs.Agreement.{length-column, get_or-column}
 use Rattle.cartridge_spec.specs.Says.{Data, LostSectors, Mismatch, Agrees, HasNoBlock, unreadable_count, data_of}
 use Rattle.cartridge_spec.specs.SayingLaws.{SaysAlways}
-use Rattle.cartridge_spec.proofs.Search.{Decided, Fits, Filled, decide_filled, decide_codeword, decide_each_below, length-fits, known_byte}
+use Rattle.cartridge_spec.proofs.Search.{Decided, FitsKnown, Filled, decide_filled, decide_codeword, decide_each_below, length-fits, known_byte}
 
 -- ---- columns of cells
 
@@ -49,8 +49,8 @@ byte_below s j h sector =
 -- sectors that agree with the cells have columns that fit
 columns_fit : (j : ℕ) (cells : List SectorView) (ss : List (List ℕ)) → j < 1024 → All IsSector ss → length ss ≡ length cells →
     ((i : ℕ) (bytes : List ℕ) → slice_get cells i ≡ Some (Holds bytes) → slice_get ss i ≡ Some bytes) →
-    Fits (known j cells) (column j ss)
-unfolding known column Fits
+    FitsKnown (known j cells) (column j ss)
+unfolding known column FitsKnown
 columns_fit j [] [] h all size each = tt
 columns_fit j [] (s ∷ ss) h all size each = absurd (cc)
 columns_fit j (cell ∷ cells) [] h all size each = absurd (cc)
@@ -89,7 +89,7 @@ found : List SectorView → ℕ → List ℕ
 found cells j = bytes_of cells j (decide_column cells j)
 
 record IsFound (cells : List SectorView) (j : ℕ) (bytes : List ℕ) : Type 0 where
-  fits : Fits (known j cells) bytes
+  fits : FitsKnown (known j cells) bytes
   word : IsCodeword bytes
 
 bytes_of-are_found : (cells : List SectorView) (j : ℕ) (d : Decided (HasColumn cells j)) → HasColumn cells j →

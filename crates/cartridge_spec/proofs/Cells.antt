@@ -5,7 +5,8 @@ use Rattle.qic_base.specs.declared.tape.SectorView.{SectorView}
 use Rattle.qic_base.specs.declared.tape.SectorView.TheVariants.{Blank, Defect, Lost, Holds}
 use Rattle.gf256_qic.specs.Code.{IsCodeBlock, AgreesOutside, lost_below}
 use Rattle.gf256_qic.proofs.Agreement.{one_block}
-use Rattle.cartridge_spec.specs.Says.{is_unreadable, unreadable_count, Agrees}
+use Rattle.cartridge_spec.specs.Segment.{is_unreadable}
+use Rattle.cartridge_spec.specs.Says.{unreadable_count, Agrees}
 
 -- whether the cell at a place is unreadable
 unfoldable pub unreadable_at : List SectorView → ℕ → Bool

@@ -1,7 +1,11 @@
 pub mod Blocks
 pub mod Cells
+pub mod Hiding
+pub mod Places
 pub mod Sayings
 pub mod Search
 pub mod Segments
+pub mod Shapes
 pub mod TableSayings
+pub mod Writing
 pub mod Zeros

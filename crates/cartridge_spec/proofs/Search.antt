@@ -62,15 +62,15 @@ decide_each_below (suc n) P d =
 -- ---- columns with bytes that are not known
 
 -- the column has each byte that is known, and some byte where none is
-unfoldable pub Fits : List (Option ℕ) → List ℕ → Type 0
-Fits [] [] = Unit {0}
-Fits [] (x ∷ xs) = ⊥
-Fits (o ∷ os) [] = ⊥
-Fits (None ∷ os) (x ∷ xs) = BothOf (x < 256) (Fits os xs)
-Fits (Some b ∷ os) (x ∷ xs) = BothOf (x ≡ b) (Fits os xs)
+unfoldable pub FitsKnown : List (Option ℕ) → List ℕ → Type 0
+FitsKnown [] [] = Unit {0}
+FitsKnown [] (x ∷ xs) = ⊥
+FitsKnown (o ∷ os) [] = ⊥
+FitsKnown (None ∷ os) (x ∷ xs) = BothOf (x < 256) (FitsKnown os xs)
+FitsKnown (Some b ∷ os) (x ∷ xs) = BothOf (x ≡ b) (FitsKnown os xs)
 
-pub length-fits : (os : List (Option ℕ)) (xs : List ℕ) → Fits os xs → length xs ≡ length os
-unfolding Fits
+pub length-fits : (os : List (Option ℕ)) (xs : List ℕ) → FitsKnown os xs → length xs ≡ length os
+unfolding FitsKnown
 length-fits [] [] fits = refl
 length-fits [] (x ∷ xs) fits = absurd fits
 length-fits (None ∷ os) [] fits = absurd fits
@@ -79,9 +79,9 @@ length-fits (None ∷ os) (x ∷ xs) fits = ap suc (length-fits os xs fits.secon
 length-fits (Some b ∷ os) (x ∷ xs) fits = ap suc (length-fits os xs fits.second)
 
 -- a byte that is known stands in its place
-pub known_byte : (os : List (Option ℕ)) (xs : List ℕ) (i b : ℕ) → Fits os xs → slice_get os i ≡ Some (Some b) →
+pub known_byte : (os : List (Option ℕ)) (xs : List ℕ) (i b : ℕ) → FitsKnown os xs → slice_get os i ≡ Some (Some b) →
     slice_get xs i ≡ Some b
-unfolding Fits
+unfolding FitsKnown
 known_byte [] xs i b fits known = absurd (cc)
 known_byte (None ∷ os) [] i b fits known = absurd fits
 known_byte (Some c ∷ os) [] i b fits known = absurd fits
@@ -96,13 +96,13 @@ known_byte (Some c ∷ os) (x ∷ xs) (suc i) b fits known = known_byte os xs i 
 -- some column that fits, of which a fact holds
 pub record Filled (os : List (Option ℕ)) (P : List ℕ → Type 0) : Type 0 where
   pub bytes : List ℕ
-  pub fits : Fits os bytes
+  pub fits : FitsKnown os bytes
   pub holds : P bytes
 
 -- the same with the first byte known
 filled_known : (b : ℕ) (os : List (Option ℕ)) (P : List ℕ → Type 0) →
     Filled os (λ xs. P (b ∷ xs)) → Filled (Some b ∷ os) P
-unfolding Fits
+unfolding FitsKnown
 filled_known b os P f = record {
   bytes = b ∷ f.bytes;
   fits = record { first = refl; second = f.fits };
@@ -110,8 +110,8 @@ filled_known b os P f = record {
 }
 
 known_filled : (b : ℕ) (os : List (Option ℕ)) (P : List ℕ → Type 0) →
-    (xs : List ℕ) → Fits (Some b ∷ os) xs → P xs → Filled os (λ ys. P (b ∷ ys))
-unfolding Fits
+    (xs : List ℕ) → FitsKnown (Some b ∷ os) xs → P xs → Filled os (λ ys. P (b ∷ ys))
+unfolding FitsKnown
 known_filled b os P [] fits holds = absurd fits
 known_filled b os P (x ∷ xs) fits holds = record {
   bytes = xs;
@@ -122,7 +122,7 @@ known_filled b os P (x ∷ xs) fits holds = record {
 -- and with it unknown
 filled_unknown : (os : List (Option ℕ)) (P : List ℕ → Type 0) →
     SomeBelow 256 (λ b. Filled os (λ xs. P (b ∷ xs))) → Filled (None ∷ os) P
-unfolding Fits
+unfolding FitsKnown
 filled_unknown os P some = record {
   bytes = some.number ∷ some.holds.bytes;
   fits = record { first = some.below; second = some.holds.fits };
@@ -130,8 +130,8 @@ filled_unknown os P some = record {
 }
 
 unknown_filled : (os : List (Option ℕ)) (P : List ℕ → Type 0) →
-    (xs : List ℕ) → Fits (None ∷ os) xs → P xs → SomeBelow 256 (λ b. Filled os (λ ys. P (b ∷ ys)))
-unfolding Fits
+    (xs : List ℕ) → FitsKnown (None ∷ os) xs → P xs → SomeBelow 256 (λ b. Filled os (λ ys. P (b ∷ ys)))
+unfolding FitsKnown
 unknown_filled os P [] fits holds = absurd fits
 unknown_filled os P (x ∷ xs) fits holds = record {
   number = x;
@@ -140,11 +140,11 @@ unknown_filled os P (x ∷ xs) fits holds = record {
 }
 
 none_filled : (P : List ℕ → Type 0) → Decided (P []) → Decided (Filled [] P)
-unfolding Fits
+unfolding FitsKnown
 none_filled P (inl p) = inl (record { bytes = []; fits = tt; holds = p })
 none_filled P (inr not_so) = inr (λ f. not_so (only f.bytes f.fits f.holds))
   where
-    only : (xs : List ℕ) → Fits [] xs → P xs → P []
+    only : (xs : List ℕ) → FitsKnown [] xs → P xs → P []
     only [] fits holds = holds
     only (x ∷ xs) fits holds = absurd fits
 

@@ -11,7 +11,7 @@ use Rattle.qic_base.specs.declared.tape.SectorView.TheVariants.{Blank}
 use Rattle.qic_base.specs.Cartridge.{Cartridge, IsCartridge, IsView, view_at, place_of}
 use Rattle.cartridge_spec.specs.Shape.{usable_places, usable_count}
 use Rattle.cartridge_spec.specs.Says.{whole_mask, cells_of}
-use Rattle.cartridge_spec.specs.Volumes.{copy_cells}
+use Rattle.cartridge_spec.specs.HeaderAndTable.{copy_cells}
 use Rattle.cartridge_spec.specs.SayingLaws.{PlacesOfWhole, CellsOfWhole, CountOfCells, CellsAreViews, ZeroDoesNotRead}
 use Rattle.cartridge_spec.proofs.Zeros.{zero_has_no_signature}
 

@@ -8,11 +8,12 @@ use Rattle.std.proofs.lemmas.Option.{slice_get-map, get_or_from_slice_get}
 use Rattle.qic_base.specs.declared.tape.SectorView.{SectorView}
 use Rattle.qic_base.specs.declared.tape.SectorView.TheVariants.{Blank, Defect, Lost, Holds}
 use Rattle.gf256_qic.specs.Code.{IsSector}
-use Rattle.cartridge_spec.specs.Says.{Saying, Data, LostSectors, Mismatch, Says, unreadable_data, ReadsAll, TableSaying, AsRead, Solved, TableLost, TableMismatch, TableSays}
+use Rattle.cartridge_spec.specs.Says.{Saying, Says, SaysBy, unreadable_data, ReadsAll, AsRead, ByCode, TableSays, table_sets}
 use Rattle.cartridge_spec.specs.SayingLaws.{TableSaysIsFunction, TableSaysAlways, ReadAreSectors}
 use Rattle.cartridge_spec.proofs.Cells.{IsReadable, count_of_readable, readable_from_count}
 use Rattle.cartridge_spec.proofs.Sayings.{says_is_function, code_sector}
 use Rattle.cartridge_spec.proofs.Blocks.{says_always, held_sector}
+use Rattle.cartridge_spec.proofs.Hiding.{says_by_none}
 
 -- ---- at most one thing
 
@@ -38,33 +39,23 @@ no_code cells xs reads some =
     let none : unreadable_data cells ≡ 0 = none_unreadable cells xs reads in
     absurd (omega arith)
 
--- how the code's answer is called at the table's segment
-abbrev solved_as : Saying → TableSaying
-solved_as (Data xs) = Solved xs
-solved_as (LostSectors n) = TableLost n
-solved_as Mismatch = TableMismatch
+-- what the code says is one
+one_answer : (cells : List SectorView) (a b : Saying) → SaysBy (table_sets cells) cells a → SaysBy (table_sets cells) cells b → a ≡ b
+one_answer cells a b ha hb =
+    says_is_function cells a b ((says_by_none cells a).0 ha) ((says_by_none cells b).0 hb)
 
-one_solution : (cells : List SectorView) (a b : Saying) → Says cells a → Says cells b → solved_as a ≡ solved_as b
-one_solution cells a b ha hb = ap (λ (saying : Saying). solved_as saying) (says_is_function cells a b ha hb)
+-- what the table's segment says by the code is what any segment says
+pub code_says : (cells : List SectorView) (saying : Saying) → TableSays cells (ByCode saying) → Says cells saying
+code_says cells saying says = (says_by_none cells saying).0 says.1
+
+pub says_code : (cells : List SectorView) (saying : Saying) → 0 < unreadable_data cells → Says cells saying → TableSays cells (ByCode saying)
+says_code cells saying some says = (some, (says_by_none cells saying).1 says)
 
 pub table_says_is_function : TableSaysIsFunction
 table_says_is_function cells (AsRead xs) (AsRead ys) ha hb = ap AsRead (one_reading cells xs ys ha hb)
-table_says_is_function cells (AsRead xs) (Solved ys) ha hb = no_code cells xs ha hb.0
-table_says_is_function cells (AsRead xs) (TableLost n) ha hb = no_code cells xs ha hb.0
-table_says_is_function cells (AsRead xs) TableMismatch ha hb = no_code cells xs ha hb.0
-table_says_is_function cells (Solved xs) (AsRead ys) ha hb = no_code cells ys hb ha.0
-table_says_is_function cells (Solved xs) (Solved ys) ha hb = one_solution cells (Data xs) (Data ys) ha.1 hb.1
-table_says_is_function cells (Solved xs) (TableLost n) ha hb = one_solution cells (Data xs) (LostSectors n) ha.1 hb.1
-table_says_is_function cells (Solved xs) TableMismatch ha hb = one_solution cells (Data xs) Mismatch ha.1 hb.1
-table_says_is_function cells (TableLost m) (AsRead ys) ha hb = no_code cells ys hb ha.0
-table_says_is_function cells (TableLost m) (Solved ys) ha hb = one_solution cells (LostSectors m) (Data ys) ha.1 hb.1
-table_says_is_function cells (TableLost m) (TableLost n) ha hb =
-    one_solution cells (LostSectors m) (LostSectors n) ha.1 hb.1
-table_says_is_function cells (TableLost m) TableMismatch ha hb = one_solution cells (LostSectors m) Mismatch ha.1 hb.1
-table_says_is_function cells TableMismatch (AsRead ys) ha hb = no_code cells ys hb ha.0
-table_says_is_function cells TableMismatch (Solved ys) ha hb = one_solution cells Mismatch (Data ys) ha.1 hb.1
-table_says_is_function cells TableMismatch (TableLost n) ha hb = one_solution cells Mismatch (LostSectors n) ha.1 hb.1
-table_says_is_function cells TableMismatch TableMismatch ha hb = refl
+table_says_is_function cells (AsRead xs) (ByCode b) ha hb = no_code cells xs ha hb.0
+table_says_is_function cells (ByCode a) (AsRead ys) ha hb = no_code cells ys hb ha.0
+table_says_is_function cells (ByCode a) (ByCode b) ha hb = ap (λ (saying : Saying). ByCode saying) (one_answer cells a b ha.1 hb.1)
 
 -- ---- something
 
@@ -97,16 +88,11 @@ reads_all cells long none = record {
 
 pub table_says_always : TableSaysAlways
 table_says_always cells long views =
+    let code = says_always cells views in
     elim (cases_lt 0 (unreadable_data cells)) [
-      | inl some ↦ solved (says_always cells views).0 some (says_always cells views).1
+      | inl some ↦ (ByCode code.0, (some, (says_by_none cells code.0).1 code.1))
       | inr few ↦ (AsRead (map contents (take 29 cells)), reads_all cells long (omega arith))
     ]
-  where
-    solved : (saying : Saying) → 0 < unreadable_data cells → Says cells saying →
-        (answer : TableSaying) × TableSays cells answer
-    solved (Data xs) some says = (Solved xs, (some, says))
-    solved (LostSectors n) some says = (TableLost n, (some, says))
-    solved Mismatch some says = (TableMismatch, (some, says))
 
 -- ---- sectors
 

@@ -1,4 +1,8 @@
+pub mod Defects
 pub mod Header
+pub mod HeaderAndTable
+pub mod Mounting
+pub mod ReadingLaws
 pub mod Says
 pub mod SayingLaws
 pub mod Segment
@@ -6,3 +10,4 @@ pub mod Shape
 pub mod Table
 pub mod Volumes
 pub mod Writes
+pub mod WritingLaws

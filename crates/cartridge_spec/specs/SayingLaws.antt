@@ -8,7 +8,7 @@ use Rattle.gf256_qic.specs.Code.{IsSector}
 use Rattle.cartridge_spec.specs.Shape.{usable_places, usable_count}
 use Rattle.cartridge_spec.specs.Header.{has_signature}
 use Rattle.cartridge_spec.specs.Says.{Saying, Data, LostSectors, Says, Written, Zero, unreadable_count, whole_mask, cells_of, ReadsAll, TableSaying, TableSays}
-use Rattle.cartridge_spec.specs.Volumes.{copy_cells, CopyDoesNotRead}
+use Rattle.cartridge_spec.specs.HeaderAndTable.{copy_cells, CopyDoesNotRead}
 
 -- ---- what a segment says
 

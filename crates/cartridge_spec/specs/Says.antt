@@ -1,11 +1,12 @@
 -- What a segment says: the cells of its usable sectors, the code block that agrees with those that can be read, and the
 -- data in it (QIC-80-MC: three sectors of parity behind the data, so three sectors that are lost are found again).
-use Rattle.std.specs.Prelude.{◌≡◌, ℕ, ◌-◌, ◌<◌, ◌≤◌, ◌^◌, ◌++◌, Bool, true, false, List, length, take, map, count_by, Some, slice_get}
+use Rattle.std.specs.Prelude.{◌≡◌, ◌⊎◌, ℕ, suc, ◌-◌, ◌/◌, ◌%◌, ◌^◌, ◌<◌, ◌≤◌, ◌==◌, ◌++◌, List, [], ◌∷◌, length, take, map, count_by, Some, slice_get, if◌then◌else◌}
 use Rattle.qic_base.specs.declared.tape.SectorView.{SectorView}
-use Rattle.qic_base.specs.declared.tape.SectorView.TheVariants.{Blank, Defect, Lost, Holds}
+use Rattle.qic_base.specs.declared.tape.SectorView.TheVariants.{Lost, Holds}
 use Rattle.qic_base.specs.Cartridge.{Cartridge, view_at, zero_sector}
 use Rattle.qic_base.specs.LostSet.{IsLost}
 use Rattle.gf256_qic.specs.Code.{IsCodeBlock, parity_sectors}
+use Rattle.cartridge_spec.specs.Segment.{is_unreadable}
 use Rattle.cartridge_spec.specs.Shape.{usable_places}
 
 -- a segment without a bad sector
@@ -15,12 +16,6 @@ whole_mask = 2 ^ 32 - 1
 -- the views of the usable sectors of a segment, in order of index
 abbrev pub cells_of : Cartridge → (segment mask : ℕ) → List SectorView
 cells_of c segment mask = map (view_at c segment) (usable_places mask)
-
-abbrev pub is_unreadable : SectorView → Bool
-is_unreadable Blank = true
-is_unreadable Defect = true
-is_unreadable Lost = true
-is_unreadable (Holds bytes) = false
 
 abbrev pub unreadable_count : List SectorView → ℕ
 unreadable_count cells = count_by is_unreadable cells
@@ -59,9 +54,13 @@ Says cells (Data sectors) = (unreadable_count cells ≤ 3) × HasBlock cells sec
 Says cells (LostSectors n) = (unreadable_count cells ≡ n) × (3 < n)
 Says cells Mismatch = (unreadable_count cells ≤ 3) × HasNoBlock cells
 
--- data sectors were written, followed by their parity: each cell that can be read holds its sector of them
+-- data sectors, followed by their parity
+abbrev pub with_parity : List (List ℕ) → List (List ℕ)
+with_parity sectors = sectors ++ parity_sectors sectors
+
+-- they were written: each cell that can be read holds its sector of them
 abbrev pub Written : List SectorView → List (List ℕ) → Type 0
-Written cells sectors = Agrees cells (sectors ++ parity_sectors sectors)
+Written cells sectors = Agrees cells (with_parity sectors)
 
 -- each cell that can be read holds zero bytes
 abbrev pub Zero : List SectorView → Type 0
@@ -84,15 +83,45 @@ pub record ReadsAll (cells : List SectorView) (sectors : List (List ℕ)) : Type
   pub size : length sectors ≡ 29
   pub each : (i : ℕ) → i < 29 → (bytes : List ℕ) × (slice_get cells i ≡ Some (Holds bytes)) × (slice_get sectors i ≡ Some bytes)
 
--- what the table's segment says: its data as they are, where all of them can be read, and else what the code says
+-- ---- readings that leave sectors out of account
+
+-- the cells, with those at the places of a set seen as lost
+unfoldable pub hidden_from : (set place : ℕ) → List SectorView → List SectorView
+hidden_from set place [] = []
+hidden_from set place (cell ∷ cells) =
+    (if set / 2 ^ place % 2 == 1 then Lost else cell) ∷ hidden_from set (suc place) cells
+
+abbrev pub hidden : ℕ → List SectorView → List SectorView
+hidden set cells = hidden_from set 0 cells
+
+-- no code block agrees with the cells, whichever of these sets is left out of account
+abbrev pub HasNoBlocks : List ℕ → List SectorView → Type 0
+HasNoBlocks [] cells = Unit {0}
+HasNoBlocks (set ∷ sets) cells = HasNoBlock (hidden set cells) × HasNoBlocks sets cells
+
+-- the data of the code block that agrees with the cells outside the first of these sets for which there is one
+abbrev pub HasFirstBlock : List ℕ → List SectorView → List (List ℕ) → Type 0
+HasFirstBlock [] cells sectors = ⊥
+HasFirstBlock (set ∷ sets) cells sectors =
+    HasBlock (hidden set cells) sectors ⊎ (HasNoBlock (hidden set cells) × HasFirstBlock sets cells sectors)
+
+-- what a segment says where these sets are tried, in their order
+abbrev pub SaysBy : List ℕ → List SectorView → Saying → Type 0
+SaysBy sets cells (Data sectors) = (unreadable_count cells ≤ 3) × HasFirstBlock sets cells sectors
+SaysBy sets cells (LostSectors n) = (unreadable_count cells ≡ n) × (3 < n)
+SaysBy sets cells Mismatch = (unreadable_count cells ≤ 3) × HasNoBlocks sets cells
+
+-- the sets of the table's segment: none of its sectors is left out of account
+abbrev pub table_sets : List SectorView → List ℕ
+table_sets cells = 0 ∷ []
+
+-- ---- what the table's segment says
+
+-- its data as they are, where all of them can be read, and else what the code says
 pub data TableSaying : Type 0 where
   AsRead : List (List ℕ) → TableSaying
-  Solved : List (List ℕ) → TableSaying
-  TableLost : ℕ → TableSaying
-  TableMismatch : TableSaying
+  ByCode : Saying → TableSaying
 
 abbrev pub TableSays : List SectorView → TableSaying → Type 0
 TableSays cells (AsRead sectors) = ReadsAll cells sectors
-TableSays cells (Solved sectors) = (0 < unreadable_data cells) × Says cells (Data sectors)
-TableSays cells (TableLost n) = (0 < unreadable_data cells) × Says cells (LostSectors n)
-TableSays cells TableMismatch = (0 < unreadable_data cells) × Says cells Mismatch
+TableSays cells (ByCode saying) = (0 < unreadable_data cells) × SaysBy (table_sets cells) cells saying

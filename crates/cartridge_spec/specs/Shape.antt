@@ -22,21 +22,25 @@ usable_places mask = sectors_of mask
 abbrev pub usable_count : ℕ → ℕ
 usable_count mask = length (usable_places mask)
 
+-- all usable sectors but the last three hold data; none does where three or fewer are usable
+abbrev pub data_count : ℕ → ℕ
+data_count mask = usable_count mask - 3
+
 -- the fewest usable sectors that carry data are four
 abbrev pub Carries : ℕ → Type 0
 Carries mask = 4 ≤ usable_count mask
 
--- the sectors that hold data: all usable ones but the last three, and none where three or fewer are usable
+-- the sectors that hold data
 abbrev pub data_places : ℕ → List ℕ
-data_places mask = take (usable_count mask - 3) (usable_places mask)
+data_places mask = take (data_count mask) (usable_places mask)
 
 -- the sectors that hold parity: the last three, and none where there is no data
 abbrev pub parity_places : ℕ → List ℕ
-parity_places mask = if nat_le 4 (usable_count mask) then drop (usable_count mask - 3) (usable_places mask) else []
+parity_places mask = if nat_le 4 (usable_count mask) then drop (data_count mask) (usable_places mask) else []
 
 -- the bytes of data that a segment carries
 abbrev pub capacity : ℕ → ℕ
-capacity mask = if nat_le 4 (usable_count mask) then 1024 * (usable_count mask - 3) else 0
+capacity mask = if nat_le 4 (usable_count mask) then 1024 * data_count mask else 0
 
 -- the number of bad sectors that the words of a map mark
 abbrev pub marked_sectors : List ℕ → ℕ

@@ -1,7 +1,7 @@
 -- The volume table: the data area of segment 2, 29 sectors of eight slots (Linux ftape headers: the volume table
 -- entry of 128 bytes and its offsets; QIC-80-MC: the signature `VTBL`; the place of the table, its faults and the rule of
 -- a volume's length are this project's profile).
-use Rattle.std.specs.Prelude.{◌≡◌, ℕ, ◌+◌, ◌-◌, ◌*◌, ◌/◌, ◌%◌, ◌<◌, ◌≤◌, ◌==◌, ◌&&◌, ◌||◌, Bool, true, false, not, List, length, take, drop, Option, Some, None, slice_get, slice_index, slice_range, if◌then◌else◌, nat_lt, nat_le, codes, zero, suc}
+use Rattle.std.specs.Prelude.{◌≡◌, ℕ, ◌-◌, ◌*◌, ◌/◌, ◌%◌, ◌<◌, ◌≤◌, ◌==◌, ◌&&◌, ◌||◌, Bool, true, false, not, List, [], ◌∷◌, length, take, drop, Option, Some, None, slice_get, slice_index, slice_range, if◌then◌else◌, nat_lt, nat_le, codes, zero, suc}
 use Rattle.qic_base.specs.Field.{little_endian, number_at}
 use Rattle.cartridge_spec.specs.Segment.{sector_at}
 
@@ -95,10 +95,13 @@ pub record IsFirstFault (area : List (List ℕ)) (last : ℕ) (fault : TableFaul
 abbrev pub HasNoFault : List (List ℕ) → ℕ → Type 0
 HasNoFault area last = (i : ℕ) → i < 232 → slot_fault area last i ≡ None
 
--- the bytes that the segments of a volume hold: until a map tells otherwise each segment has 29 data sectors
-abbrev pub capacity_of : Entry → ℕ
-capacity_of e = 29696 * (e.end + 1 - e.start)
+-- ---- lists in order
 
--- a volume's length: its data size, where that fits and there is no directory, and else all that its segments hold
-abbrev pub length_of : Entry → ℕ
-length_of e = if e.directory == 0 && nat_le e.size (capacity_of e) then e.size else capacity_of e
+-- each volume lies behind this segment and behind the one before it, forwards, up to the last segment
+abbrev pub LieBehind : (before last : ℕ) → List Entry → Type 0
+LieBehind before last [] = Unit {0}
+LieBehind before last (e ∷ es) = (before < e.start) × (e.start ≤ e.end) × (e.end ≤ last) × LieBehind e.end last es
+
+-- the volumes lie behind the table's segment, in order, on a cartridge whose last segment is this
+abbrev pub IsSoundList : (last : ℕ) → List Entry → Type 0
+IsSoundList last entries = LieBehind 2 last entries

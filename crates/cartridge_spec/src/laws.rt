@@ -1,7 +1,9 @@
-//! The laws of what segments say. Each is the contract of a function that does nothing, so that other crates can
+//! The laws of what segments say, and of what writes leave of them. Each is the contract of a function that does nothing, so that other crates can
 //! rest on it; their proofs import the lemmas of this crate's `proofs`.
 
 ghost use Rattle.cartridge_spec.specs.SayingLaws.{SaysIsFunction, SaysAlways, TableSaysIsFunction, TableSaysAlways, ReadAreSectors, CountOfCells, CellsAreViews, PlacesOfWhole, CellsOfWhole, SectorNotionsAgree, WrittenIsSaid, WrittenIsLost, SaidIsWritten, SaidAreSectors, ZeroIsWritten, ZeroSaysZero, ZeroHasNoSignature, ZeroDoesNotRead};
+ghost use Rattle.cartridge_spec.specs.ReadingLaws.{NothingIsHidden, SaysByNone, PlacesAreDataAndParity};
+ghost use Rattle.cartridge_spec.specs.WritingLaws.{WritesLeaveData, WritesMakeReadable, WritesTouchOnly};
 
 /// The cells of a segment say at most one thing: the code's distance of four leaves one block (QIC-80-MC).
 pub fn says_is_function()
@@ -67,4 +69,27 @@ pub fn zero_says_no_header()
     ensures says { ZeroSaysZero }
     ensures signature { ZeroHasNoSignature }
     ensures copy { ZeroDoesNotRead }
+{}
+
+/// A reading that leaves no sector out of account is what the segment says.
+pub fn nothing_left_out()
+    ensures cells { NothingIsHidden }
+    ensures says { SaysByNone }
+{}
+
+/// The usable sectors of a segment that carries data are those of data, and behind them those of parity (QIC-80-MC).
+pub fn places_are_data_and_parity()
+    ensures { PlacesAreDataAndParity }
+{}
+
+/// A segment that was written has the data and their parity in its usable sectors, all of which can be read where all
+/// are live.
+pub fn writes_leave_data()
+    ensures cells { WritesLeaveData }
+    ensures readable { WritesMakeReadable }
+{}
+
+/// Writes change no sector but those that they name.
+pub fn writes_touch_only()
+    ensures { WritesTouchOnly }
 {}

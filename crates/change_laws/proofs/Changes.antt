@@ -10,7 +10,8 @@ use Rattle.qic_base.specs.declared.tape.SectorView.TheVariants.{Blank, Defect, L
 use Rattle.qic_base.specs.Cartridge.{Cartridge, view_at, place_of, with_view}
 use Rattle.qic_base.specs.Step.{worn_view, spoiled_view}
 use Rattle.cartridge_spec.specs.Shape.{usable_places}
-use Rattle.cartridge_spec.specs.Says.{cells_of, is_unreadable, unreadable_count}
+use Rattle.cartridge_spec.specs.Says.{cells_of, unreadable_count}
+use Rattle.cartridge_spec.specs.Segment.{is_unreadable}
 use Rattle.cartridge_spec.proofs.Cells.{unreadable_count-first}
 
 -- ---- views

@@ -1,3 +1,4 @@
 pub mod Changes
+pub mod Clean
 pub mod Mounted
 pub mod Standing

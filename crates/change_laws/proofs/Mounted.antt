@@ -6,9 +6,12 @@ use Rattle.qic_base.specs.Step.{SetReferenced, SetProtected, changed}
 use Rattle.cartridge_spec.specs.Header.{Header}
 use Rattle.cartridge_spec.specs.Shape.{usable_places}
 use Rattle.cartridge_spec.specs.Table.{Entry}
-use Rattle.cartridge_spec.specs.Says.{whole_mask, unreadable_data, ReadsAll, TableSays, AsRead, Solved}
-use Rattle.cartridge_spec.specs.Volumes.{IsMounted, HasHeader, TableIs, table_cells}
-use Rattle.change_laws.specs.Laws.{worn, WornMounts, SpoiledMounts, ProtectedMounts, ReferencedMounts}
+use Rattle.cartridge_spec.specs.Says.{whole_mask, unreadable_data, ReadsAll, TableSays, AsRead, ByCode, Data}
+use Rattle.cartridge_spec.specs.Mounting.{IsMounted}
+use Rattle.cartridge_spec.specs.HeaderAndTable.{HasHeader, TableIs, table_cells}
+use Rattle.cartridge_spec.proofs.TableSayings.{code_says, says_code}
+use Rattle.change_laws.specs.Laws.{WornMounts, SpoiledMounts, ProtectedMounts, ReferencedMounts}
+use Rattle.change_laws.specs.Wear.{worn}
 use Rattle.change_laws.proofs.Changes.{ReadsAlike, spoiled_alike, same_count_front}
 use Rattle.change_laws.proofs.Standing.{CellsAlike, in_force, says_alike, spoiled, spoiled_cells, same_views, other_cells, header_elsewhere}
 
@@ -32,7 +35,7 @@ pub worn_mounts : WornMounts
 worn_mounts c segment sector header words table entries small behind mounted =
     still_mounted c (worn segment sector c) header words table entries refl
     (λ area has. header_elsewhere c segment sector area small (omega arith) has)
-    (subst (λ (cells : List SectorView). TableSays cells (AsRead table) ⊎ TableSays cells (Solved table))
+    (subst (λ (cells : List SectorView). TableSays cells (AsRead table) ⊎ TableSays cells (ByCode (Data table)))
     (sym (other_cells c segment sector 2 small (λ same. omega arith))))
     mounted
 
@@ -51,7 +54,7 @@ spoiled_table c segment sector table (inr (some, says)) =
     let alike : ReadsAlike c d = spoiled_alike c segment sector in
     let same : unreadable_data (table_cells d) ≡ unreadable_data (table_cells c) =
     same_count_front (view_at d 2) (view_at c 2) 29 (usable_places whole_mask) (λ p. alike.unreadable 2 p) in
-    inr (omega arith, says_alike _ _ table (spoiled_cells c segment sector 2) says)
+    inr (says_code (table_cells d) (Data table) (omega arith) (says_alike _ _ table (spoiled_cells c segment sector 2) (code_says (table_cells c) (Data table) (some, says))))
 
 pub spoiled_mounts : SpoiledMounts
 spoiled_mounts c segment sector header words table entries mounted =

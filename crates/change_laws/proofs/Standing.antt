@@ -2,7 +2,7 @@
 use Rattle.std.proofs.Common.{◌≡◌, ◌⊎◌, ℕ, ◌-◌, ◌<◌, ◌≤◌, inl, inr, true, List, [], ◌∷◌, length, map, take, drop, slice_get, Some, refl, sym, ap, ◌∙◌, subst, arith, All}
 use Rattle.std.specs.Prelude.{unwrap_or}
 use Rattle.std.proofs.lemmas.Bool.{cases_lt}
-use Rattle.std.proofs.lemmas.List.Elements.{All-nil, All-cons, All-head, All-tail}
+use Rattle.std.proofs.lemmas.List.Elements.{All-nil, All-cons, All-head, All-tail, All-weaker}
 use Rattle.qic_base.specs.declared.tape.SectorView.{SectorView}
 use Rattle.qic_base.specs.declared.tape.SectorView.TheVariants.{Blank, Holds}
 use Rattle.qic_base.specs.Cartridge.{Cartridge, view_at, place_of}
@@ -10,45 +10,42 @@ use Rattle.qic_base.specs.Step.{SetReferenced, SetProtected, Spoil, changed, wor
 use Rattle.cartridge_spec.specs.Header.{has_signature}
 use Rattle.cartridge_spec.specs.Shape.{mask_at, usable_places, usable_count}
 use Rattle.cartridge_spec.specs.Says.{whole_mask, cells_of, unreadable_count, Says, Data, Written, Zero, ReadsAll}
-use Rattle.cartridge_spec.specs.Volumes.{Plain, Volume, IsArea, Stands, HasHeader, IsInForce, CopiesAre, CopyReads, CopyDoesNotRead, WrittenOver, carrying, copy_cells, table_cells}
+use Rattle.cartridge_spec.specs.Volumes.{Plain, Volume, VolumeStands, PartStands, parts_of, segments_of, Stands, CopiesAre}
+use Rattle.cartridge_spec.specs.HeaderAndTable.{IsArea, HasHeader, IsInForce, CopyReads, CopyDoesNotRead, copy_cells, table_cells}
 use Rattle.cartridge_spec.proofs.Sayings.{said_is_written}
 use Rattle.cartridge_spec.proofs.Segments.{count_of_cells, zero_does_not_read}
 use Rattle.format_plan.proofs.Copies.{written_reads, lost_does_not_read, no_fewer_unreadable}
 use Rattle.format_plan.proofs.Standing.{same_cells}
-use Rattle.change_laws.specs.Laws.{worn, WearSpares, WornStands, FewLost, FewLostIsInForce, SpoiledStands, ProtectedStands, ReferencedStands}
+use Rattle.change_laws.specs.Laws.{WornStands, FewLostIsInForce, SpoiledStands, ProtectedStands, ReferencedStands}
+use Rattle.change_laws.specs.Wear.{worn, WearSpares, FewLost}
 use Rattle.change_laws.proofs.Changes.{ReadsNoMore, ReadsAlike, view_of_other, worn_reads_no_more, spoiled_alike, held_before, same_count}
 
 -- ---- what was written
 
-written_less : (c d : Cartridge) (s mask : ℕ) (area : List (List ℕ)) → ReadsNoMore c d → Written (cells_of c s mask) area → Written (cells_of d s mask) area
+pub written_less : (c d : Cartridge) (s mask : ℕ) (area : List (List ℕ)) → ReadsNoMore c d → Written (cells_of c s mask) area → Written (cells_of d s mask) area
 written_less c d s mask area less written = record {
   size = written.size ∙ count_of_cells c s mask ∙ sym (count_of_cells d s mask);
   each = λ i bytes at. written.each i bytes (held_before c d s mask i bytes less at);
 }
 
-zero_less : (c d : Cartridge) (s mask : ℕ) → ReadsNoMore c d → Zero (cells_of c s mask) → Zero (cells_of d s mask)
+pub zero_less : (c d : Cartridge) (s mask : ℕ) → ReadsNoMore c d → Zero (cells_of c s mask) → Zero (cells_of d s mask)
 zero_less c d s mask less zeros i bytes at = zeros i bytes (held_before c d s mask i bytes less at)
 
 copies_less : (c d : Cartridge) (area : List (List ℕ)) → ReadsNoMore c d → CopiesAre c area → CopiesAre d area
 copies_less c d area less (inl written) = inl (written_less c d 0 whole_mask area less written)
 copies_less c d area less (inr other) = inr (zero_less c d 0 whole_mask less other.0, written_less c d 1 whole_mask area less other.1)
 
-written_over_less : (c d : Cartridge) (words segments : List ℕ) (area : List (List ℕ)) → ReadsNoMore c d → WrittenOver c words segments area → WrittenOver d words segments area
-written_over_less c d words [] area less written = written
-written_over_less c d words (s ∷ ss) area less written = (
-  written_less c d s (mask_at words s) (take (usable_count (mask_at words s) - 3) area) less written.0,
-  written_over_less c d words ss (drop (usable_count (mask_at words s) - 3) area) less written.1,
-)
+volume_less : (c d : Cartridge) (words : List ℕ) (volume : Volume) → ReadsNoMore c d → VolumeStands c words volume → VolumeStands d words volume
+volume_less c d words volume less stood = record {
+  parts = All-weaker (PartStands c words) (PartStands d words)
+      (λ part stands. written_less c d part.segment (mask_at words part.segment) part.sectors less stands)
+      (parts_of words (segments_of words volume.entry) volume.area) stood.parts;
+  size = stood.size;
+}
 
-abbrev IsVolumeOf : Cartridge → (words : List ℕ) → Volume → Type 0
-IsVolumeOf c words volume = WrittenOver c words (carrying words volume.entry.start volume.entry.end) volume.area
-
-volumes_less : (c d : Cartridge) (words : List ℕ) (volumes : List Volume) → ReadsNoMore c d → All (IsVolumeOf c words) volumes → All (IsVolumeOf d words) volumes
-volumes_less c d words [] less written = All-nil (IsVolumeOf d words)
-volumes_less c d words (volume ∷ volumes) less written =
-    All-cons (IsVolumeOf d words) volume volumes
-    (written_over_less c d words (carrying words volume.entry.start volume.entry.end) volume.area less (All-head (IsVolumeOf c words) volume volumes written))
-    (volumes_less c d words volumes less (All-tail (IsVolumeOf c words) volume volumes written))
+volumes_less : (c d : Cartridge) (words : List ℕ) (volumes : List Volume) → ReadsNoMore c d → All (VolumeStands c words) volumes → All (VolumeStands d words) volumes
+volumes_less c d words volumes less stood =
+    All-weaker (VolumeStands c words) (VolumeStands d words) (λ volume stands. volume_less c d words volume less stands) volumes stood
 
 -- ---- what is read
 
@@ -159,7 +156,7 @@ few_reads c d copy area is_area less reads few =
     (written_less c d copy whole_mask area less (said_is_written (copy_cells c copy) area reads.says)) few
 
 -- as many cells are unreadable, or more
-count_grows : (c d : Cartridge) (copy : ℕ) → ReadsNoMore c d → unreadable_count (copy_cells c copy) ≤ unreadable_count (copy_cells d copy)
+pub count_grows : (c d : Cartridge) (copy : ℕ) → ReadsNoMore c d → unreadable_count (copy_cells c copy) ≤ unreadable_count (copy_cells d copy)
 count_grows c d copy less =
     no_fewer_unreadable (copy_cells c copy) (copy_cells d copy) (count_of_cells c copy whole_mask ∙ sym (count_of_cells d copy whole_mask))
     (λ i bytes at. held_before c d copy whole_mask i bytes less at)
@@ -241,6 +238,10 @@ same_views c d area same reads =
     λ s. ap (λ (views : List SectorView). map (λ i. unwrap_or (slice_get views (place_of s i)) Blank) (usable_places whole_mask)) (sym same) in
     in_force c d area (same_alike (copy_cells c 0) (copy_cells d 0) (cells 0)) (same_alike (copy_cells c 1) (copy_cells d 1) (cells 1)) reads
 
+-- and nothing can be read in it that could not
+pub marks_read_no_more : (c d : Cartridge) → d.views ≡ c.views → ReadsNoMore c d
+marks_read_no_more c d same s i bytes at = sym (ap (λ (views : List SectorView). unwrap_or (slice_get views (place_of s i)) Blank) same) ∙ at
+
 pub protected_stands : ProtectedStands
 protected_stands c plain on stood = record {
   whole = stood.whole;
@@ -252,7 +253,7 @@ protected_stands c plain on stood = record {
   copies = stood.copies;
   sound_table = stood.sound_table;
   shown = stood.shown;
-  volumes = stood.volumes;
+  volumes = volumes_less c (changed (SetProtected on) c) plain.words plain.volumes (marks_read_no_more c (changed (SetProtected on) c) refl) stood.volumes;
   table = stood.table;
 }
 
@@ -267,6 +268,6 @@ referenced_stands c plain stood = record {
   copies = stood.copies;
   sound_table = stood.sound_table;
   shown = stood.shown;
-  volumes = stood.volumes;
+  volumes = volumes_less c (changed SetReferenced c) plain.words plain.volumes (marks_read_no_more c (changed SetReferenced c) refl) stood.volumes;
   table = stood.table;
 }

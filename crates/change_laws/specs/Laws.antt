@@ -5,36 +5,21 @@ use Rattle.qic_base.specs.Step.{SetReferenced, SetProtected, Wear, Spoil, change
 use Rattle.cartridge_spec.specs.Header.{Header}
 use Rattle.cartridge_spec.specs.Table.{Entry}
 use Rattle.cartridge_spec.specs.Says.{unreadable_count, Written}
-use Rattle.cartridge_spec.specs.Volumes.{Plain, CopyReads, CopyDoesNotRead, HasHeader, Mounted, Mounts, Stands, copy_cells, table_cells}
+use Rattle.change_laws.specs.Wear.{worn, WearSpares, FewLost}
+use Rattle.format_plan.specs.Clean.{StandsCleanly, HasNoHeader}
+use Rattle.cartridge_spec.specs.Volumes.{Plain, Stands}
+use Rattle.cartridge_spec.specs.HeaderAndTable.{CopyReads, CopyDoesNotRead, HasHeader, copy_cells, table_cells}
+use Rattle.cartridge_spec.specs.Mounting.{Mounted, Mounts}
 
 -- ---- a worn sector
 
--- the cartridge with a sector worn
-abbrev pub worn : (segment sector : ℕ) → Cartridge → Cartridge
-worn segment sector c = changed (Wear segment sector) c
-
--- A worn sector takes neither the header nor the table away: it lies behind them; or it is one of a header copy, and the
--- header in force is the same without it; or it is one of the table's segment, whose readable sectors are those that were
--- written with their parity.
-abbrev pub WearSpares : (c : Cartridge) (plain : Plain) (segment sector : ℕ) → Type 0
-WearSpares c plain segment sector =
-    (3 ≤ segment)
-    ⊎ ((segment < 2) × HasHeader (worn segment sector c) plain.header_area)
-    ⊎ ((segment ≡ 2) × Written (table_cells c) plain.table_area)
-
--- then the cartridge stands for what it stood for
+-- with one that spares header and table a cartridge stands for what it stood for
 abbrev pub WornStands : Type 0
 WornStands =
     (c : Cartridge) (plain : Plain) (segment sector : ℕ) → sector < 32 → Stands c plain → WearSpares c plain segment sector →
     Stands (worn segment sector c) plain
 
--- the header copy that was in force, with these data, has lost at most three sectors
-abbrev pub FewLost : (old new : Cartridge) (area : List (List ℕ)) → Type 0
-FewLost old new area =
-    (CopyReads old 0 area × (unreadable_count (copy_cells new 0) ≤ 3))
-    ⊎ (CopyDoesNotRead old 0 × CopyReads old 1 area × (unreadable_count (copy_cells new 1) ≤ 3))
-
--- then the header in force is the same
+-- where the header copy in force has lost few sectors, the header in force is the same
 abbrev pub FewLostIsInForce : Type 0
 FewLostIsInForce =
     (c : Cartridge) (plain : Plain) (segment sector : ℕ) → Stands c plain → FewLost c (worn segment sector c) plain.header_area →
@@ -75,3 +60,34 @@ abbrev pub ReferencedMounts : Type 0
 ReferencedMounts =
     (c : Cartridge) (header : Header) (words : List ℕ) (table : List (List ℕ)) (entries : List Entry) →
     Mounts c (Mounted header words table entries) → Mounts (changed SetReferenced c) (Mounted header words table entries)
+
+-- ---- header copies
+
+-- clean ones stay clean, so that formatting may begin over them
+abbrev pub WornIsClean : Type 0
+WornIsClean =
+    (c : Cartridge) (plain : Plain) (segment sector : ℕ) → sector < 32 → StandsCleanly c plain → WearSpares c plain segment sector →
+    StandsCleanly (worn segment sector c) plain
+
+abbrev pub SpoiledIsClean : Type 0
+SpoiledIsClean =
+    (c : Cartridge) (plain : Plain) (segment sector : ℕ) → StandsCleanly c plain → StandsCleanly (changed (Spoil segment sector) c) plain
+
+abbrev pub ProtectedIsClean : Type 0
+ProtectedIsClean = (c : Cartridge) (plain : Plain) (on : Bool) → StandsCleanly c plain → StandsCleanly (changed (SetProtected on) c) plain
+
+abbrev pub ReferencedIsClean : Type 0
+ReferencedIsClean = (c : Cartridge) (plain : Plain) → StandsCleanly c plain → StandsCleanly (changed SetReferenced c) plain
+
+-- and bare ones stay bare
+abbrev pub WornIsBare : Type 0
+WornIsBare = (c : Cartridge) (segment sector : ℕ) → HasNoHeader c → HasNoHeader (worn segment sector c)
+
+abbrev pub SpoiledIsBare : Type 0
+SpoiledIsBare = (c : Cartridge) (segment sector : ℕ) → HasNoHeader c → HasNoHeader (changed (Spoil segment sector) c)
+
+abbrev pub ProtectedIsBare : Type 0
+ProtectedIsBare = (c : Cartridge) (on : Bool) → HasNoHeader c → HasNoHeader (changed (SetProtected on) c)
+
+abbrev pub ReferencedIsBare : Type 0
+ReferencedIsBare = (c : Cartridge) → HasNoHeader c → HasNoHeader (changed SetReferenced c)

@@ -6,7 +6,7 @@ use Rattle.gf256_qic.proofs.Sums.{equal_from_sum, sum_byte}
 use Rattle.gf256_qic.proofs.Products.{product_byte, product_comm, product_assoc, product_one_right}
 use Rattle.gf256_qic.proofs.Powers.{product_inverse, inverse_byte, inverse_unique}
 use Rattle.gf256_qic.proofs.Values.{AllBytes, no_bytes, more_bytes}
-use Rattle.erasure_solve.specs.Change.{scale, change}
+use Rattle.erasure_solve.specs.Correction.{scale, correction}
 use Rattle.erasure_solve.proofs.Ring.{Poly, var, sum, times, same_value}
 
 -- the powers of three places, and their inverses
@@ -100,11 +100,11 @@ back a x x' ha hx hx' ix =
 apart : (x y : ℕ) → x ≢ y → bit_xor x y ≢ 0
 apart x y h e = h (equal_from_sum x y e)
 
--- no other byte than the change fits
-pub only_change : (x y z x' y' z' a b c s t u : ℕ) → Powers x y z x' y' z' →
-    a < 256 → b < 256 → c < 256 → AddUp x y z x' y' z' a b c s t u → a ≡ change x y z s t u
-unfolding scale change
-only_change x y z x' y' z' a b c s t u p ha hb hc adds =
+-- no other byte than the correction fits
+pub only_correction : (x y z x' y' z' a b c s t u : ℕ) → Powers x y z x' y' z' →
+    a < 256 → b < 256 → c < 256 → AddUp x y z x' y' z' a b c s t u → a ≡ correction x y z s t u
+unfolding scale correction
+only_correction x y z x' y' z' a b c s t u p ha hb hc adds =
     let d : ℕ = product a x' in
     let e : ℕ = product b y' in
     let f : ℕ = product c z' in
@@ -143,7 +143,7 @@ only_change x y z x' y' z' a b c s t u p ha hb hc adds =
     (product_inverse xy hxy (apart x y p.xy)) (product_inverse xz hxz (apart x z p.xz))
     ∙ ad)
 
--- ---- the changes fit
+-- ---- the corrections fit
 
 nine_bytes : (a b c d e f g h i : ℕ) → a < 256 → b < 256 → c < 256 → d < 256 → e < 256 → f < 256 →
     g < 256 → h < 256 → i < 256 → AllBytes (a ∷ b ∷ c ∷ d ∷ e ∷ f ∷ g ∷ h ∷ i ∷ [])
@@ -215,7 +215,7 @@ divided p q r p' q' r' k l m s h hk hl hm hs same =
     ∙ ap (λ v. product s (product 1 (product 1 v))) h.ir
     ∙ unit s hs
 
--- the three changes' parts of each equation, over the variables x, y, z, s, t and u
+-- the three corrections' parts of each equation, over the variables x, y, z, s, t and u
 abbrev mix : Poly → Poly → Poly
 mix y z = sum3 (times (times y z) v3) (times (sum y z) v4) v5
 
@@ -252,7 +252,7 @@ cleared_sums x y z s t u all = record {
       (times_sums v5) all refl;
 }
 
--- a change's parts of the three equations
+-- a correction's parts of the three equations
 record Parts (a x x' g m : ℕ) : Type 0 where
   at_inverse : product a x' ≡ product g m
   at_one : a ≡ product g (product x m)
@@ -284,11 +284,11 @@ mixed_byte y z s t u hy hz hs ht hu =
     (product_byte (product y z) s (product_byte y z hy hz) hs)
     (sum_byte (product (bit_xor y z) t) u (product_byte (bit_xor y z) t (sum_byte y z hy hz) ht) hu)
 
--- the three changes add up to the three values
-pub changes_fit : (x y z x' y' z' s t u : ℕ) → Powers x y z x' y' z' → s < 256 → t < 256 → u < 256 →
-    AddUp x y z x' y' z' (change x y z s t u) (change y x z s t u) (change z x y s t u) s t u
-unfolding scale change
-changes_fit x y z x' y' z' s t u w hs ht hu =
+-- the three corrections add up to the three values
+pub corrections_fit : (x y z x' y' z' s t u : ℕ) → Powers x y z x' y' z' → s < 256 → t < 256 → u < 256 →
+    AddUp x y z x' y' z' (correction x y z s t u) (correction y x z s t u) (correction z x y s t u) s t u
+unfolding scale correction
+corrections_fit x y z x' y' z' s t u w hs ht hu =
     let p : ℕ = bit_xor x y in
     let q : ℕ = bit_xor x z in
     let r : ℕ = bit_xor y z in
@@ -319,9 +319,9 @@ changes_fit x y z x' y' z' s t u w hs ht hu =
       ir = product_inverse r hr (apart y z w.yz);
     } in
     let eqs : Cleared x y z s t u = cleared_sums x y z s t u (six_bytes x y z s t u w.bx w.by w.bz hs ht hu) in
-    let a : ℕ = change x y z s t u in
-    let b : ℕ = change y x z s t u in
-    let c : ℕ = change z x y s t u in
+    let a : ℕ = correction x y z s t u in
+    let b : ℕ = correction y x z s t u in
+    let c : ℕ = correction z x y s t u in
     let first : Parts a x x' (product p' q') k =
     parts_of a x x' (product p' q') k w.bx w.bx' (product_byte p' q' hp' hq') hk w.ix refl in
     let second : Parts b y y' (product p' r') l =
@@ -373,11 +373,11 @@ scale_byte x y z hx hy hz =
     (inverse_byte (bit_xor x y) (sum_byte x y hx hy)) (inverse_byte (bit_xor x z) (sum_byte x z hx hz)))
 
 -- the values times their factors
-pub change_from : (x y z s t u k l m : ℕ) → x < 256 → y < 256 → z < 256 → s < 256 → t < 256 → u < 256 →
+pub correction_from : (x y z s t u k l m : ℕ) → x < 256 → y < 256 → z < 256 → s < 256 → t < 256 → u < 256 →
     k ≡ product (scale x y z) (product y z) → l ≡ product (scale x y z) (bit_xor y z) → m ≡ scale x y z →
-    bit_xor (bit_xor (product k s) (product l t)) (product m u) ≡ change x y z s t u
-unfolding change
-change_from x y z s t u k l m hx hy hz hs ht hu ek el em =
+    bit_xor (bit_xor (product k s) (product l t)) (product m u) ≡ correction x y z s t u
+unfolding correction
+correction_from x y z s t u k l m hx hy hz hs ht hu ek el em =
     let f : ℕ = scale x y z in
     ap (λ v. bit_xor (bit_xor (product v s) (product l t)) (product m u)) ek
     ∙ ap (λ v. bit_xor (bit_xor (product (product f (product y z)) s) (product v t)) (product m u)) el
@@ -387,7 +387,7 @@ change_from x y z s t u k l m hx hy hz hs ht hu ek el em =
     (times v0 (mix v1 v2))
     (six_bytes f y z s t u (scale_byte x y z hx hy hz) hy hz hs ht hu) refl
 
-pub change_byte : (x y z s t u : ℕ) → x < 256 → y < 256 → z < 256 → s < 256 → t < 256 → u < 256 → change x y z s t u < 256
-unfolding change
-change_byte x y z s t u hx hy hz hs ht hu =
+pub correction_byte : (x y z s t u : ℕ) → x < 256 → y < 256 → z < 256 → s < 256 → t < 256 → u < 256 → correction x y z s t u < 256
+unfolding correction
+correction_byte x y z s t u hx hy hz hs ht hu =
     product_byte (scale x y z) (mixed y z s t u) (scale_byte x y z hx hy hz) (mixed_byte y z s t u hy hz hs ht hu)

@@ -1,4 +1,4 @@
--- Changed sectors are a code block, and a code block that agrees asks for the changes that were found.
+-- Changed sectors are a code block, and a code block that agrees asks for the corrections that were found.
 use Rattle.std.proofs.Common.{◌≡◌, ◌≢◌, ℕ, zero, suc, ◌+◌, ◌-◌, ◌<◌, ◌≤◌, refl, sym, ◌∙◌, ap, subst, arith, inl, inr, bit_xor, List, [], ◌∷◌, length, All, get_or, set, slice_get, slice_index, get_or-set_same, get_or-set_other, Some, false, zero-add, ◌/◌, ◌%◌, ◌^◌}
 use Rattle.std.specs.Int.Bits.{xor_assoc, xor_self, xor_zero_l}
 use Rattle.std.proofs.Math.ListN.{length-set}
@@ -20,22 +20,22 @@ use Rattle.gf256_qic.proofs.Agreement.{length-column, get_or-column, any_default
 use Rattle.gf256_qic.proofs.Parities.{bytes_of_column, block_count}
 use Rattle.erasure_solve.specs.Lost.{is_lost, lost_count}
 use Rattle.erasure_solve.specs.Rows.{AreValues, AddsRow, weighed_byte, weighed_row}
-use Rattle.erasure_solve.specs.Change.{change, change_factors, Changes, IsChange, AreDegrees, Found, Fits, Agree, Applied, AllApplied}
+use Rattle.erasure_solve.specs.Correction.{correction, correction_factors, Corrections, IsCorrection, AreDegrees, Found, FitsDegree, Agree, Applied, AllApplied}
 use Rattle.erasure_solve.specs.declared.values.Values.{Values}
-use Rattle.erasure_solve.proofs.Algebra.{Powers, AddUp, only_change, changes_fit, change_byte, change_from}
+use Rattle.erasure_solve.proofs.Algebra.{Powers, AddUp, only_correction, corrections_fit, correction_byte, correction_from}
 use Rattle.erasure_solve.proofs.Places.{lost_below-count}
 
--- ---- the changes from the values
+-- ---- the corrections from the values
 
 pub get_or-weighed_row : (values : Values) (factors : List ℕ) (j : ℕ) → j < 1024 →
     get_or (weighed_row values factors) j 0 ≡ weighed_byte values factors j
 unfolding weighed_row
 get_or-weighed_row values factors j h = get_or-map-range_with_len (weighed_byte values factors) 0 1024 j j 0 h (zero-add j)
 
-pub is_change :
+pub is_correction :
     (values : Values) (ss : List (List ℕ)) (d e f : ℕ) (factors : List ℕ) → All IsSector ss → AreValues values ss →
-    factors ≡ change_factors (power 2 d) (power 2 e) (power 2 f) → IsChange ss d e f (weighed_row values factors)
-is_change values ss d e f factors all are same = record {
+    factors ≡ correction_factors (power 2 d) (power 2 e) (power 2 f) → IsCorrection ss d e f (weighed_row values factors)
+is_correction values ss d e f factors all are same = record {
   each = λ j h.
       let two : 2 < 256 = omega arith in
       let x : ℕ = power 2 d in
@@ -46,21 +46,21 @@ is_change values ss d e f factors all are same = record {
       let s : ℕ = value_at 0xC3 cs in
       let t : ℕ = value_at 1 cs in
       let u : ℕ = value_at 2 cs in
-      let k : ℕ = get_or (change_factors x y z) 0 0 in
-      let l : ℕ = get_or (change_factors x y z) 1 0 in
-      let m : ℕ = get_or (change_factors x y z) 2 0 in
+      let k : ℕ = get_or (correction_factors x y z) 0 0 in
+      let l : ℕ = get_or (correction_factors x y z) 1 0 in
+      let m : ℕ = get_or (correction_factors x y z) 2 0 in
       get_or-weighed_row values factors j h
       ∙ ap (λ (fs : List ℕ). weighed_byte values fs j) same
       ∙ ap (λ v. bit_xor (bit_xor (product k v) (product l (get_or values.at_one j 0))) (product m (get_or values.at_generator j 0)))
       (are.at_inverse.each j h)
       ∙ ap (λ v. bit_xor (bit_xor (product k s) (product l v)) (product m (get_or values.at_generator j 0))) (are.at_one.each j h)
       ∙ ap (λ v. bit_xor (bit_xor (product k s) (product l t)) (product m v)) (are.at_generator.each j h)
-      ∙ change_from x y z s t u k l m (power_byte 2 d two) (power_byte 2 e two) (power_byte 2 f two)
+      ∙ correction_from x y z s t u k l m (power_byte 2 d two) (power_byte 2 e two) (power_byte 2 f two)
       (value_at-byte 0xC3 cs (omega arith) bytes) (value_at-byte 1 cs (omega arith) bytes) (value_at-byte 2 cs two bytes)
       refl refl refl;
 }
 
--- ---- one change
+-- ---- one correction
 
 pub any_default_of : (xs : List (List ℕ)) (i : ℕ) (d e : List ℕ) → i < length xs → get_or xs i d ≡ get_or xs i e
 any_default_of xs i d e h =
@@ -81,7 +81,7 @@ column-set : (j i : ℕ) (ss : List (List ℕ)) (s : List ℕ) → column j (set
 unfolding column
 column-set j i ss s = map-set (λ (r : List ℕ). slice_index r j) ss i s
 
--- what a change that fits does to a segment
+-- what a correction that fits does to a segment
 pub record Moves (degree : ℕ) (row : List ℕ) (old new : List (List ℕ)) : Type 0 where
   pub size : length new ≡ length old
   pub sectors : All IsSector new
@@ -91,7 +91,7 @@ pub record Moves (degree : ℕ) (row : List ℕ) (old new : List (List ℕ)) : T
 
 moves : (degree : ℕ) (row : List ℕ) (old new : List (List ℕ)) → All IsSector old →
     ((j : ℕ) → j < 1024 → get_or row j 0 < 256) → (degree < 32 → degree < length old) →
-    Fits degree row → Applied degree row old new → Moves degree row old new
+    FitsDegree degree row → Applied degree row old new → Moves degree row old new
 moves degree row old new all bytes inside fits applied =
     elim (cases_lt degree 32) [
       | inl low ↦
@@ -190,16 +190,16 @@ added_up a b c v h =
     ∙ ap (bit_xor a) (sum_cancel b (bit_xor a v))
     ∙ sum_cancel a v
 
--- ---- made changes give a code block
+-- ---- made corrections give a code block
 
 pub made_block :
-    (mask : ℕ) (old new : List (List ℕ)) (changes : Changes) → 4 ≤ length old → length old ≤ 32 →
-    Found mask old changes → Agree changes → AllApplied changes old new →
+    (mask : ℕ) (old new : List (List ℕ)) (corrections : Corrections) → 4 ≤ length old → length old ≤ 32 →
+    Found mask old corrections → Agree corrections → AllApplied corrections old new →
     IsCodeBlock new × AgreesOutside (is_lost mask) old new
-made_block mask old new changes least most found agree applied =
-    let d : ℕ = changes.first.degree in
-    let e : ℕ = changes.second.degree in
-    let f : ℕ = changes.third.degree in
+made_block mask old new corrections least most found agree applied =
+    let d : ℕ = corrections.first.degree in
+    let e : ℕ = corrections.second.degree in
+    let f : ℕ = corrections.third.degree in
     let degrees : AreDegrees mask (length old) (d ∷ e ∷ f ∷ []) = found.degrees in
     let hd : d < 35 = degrees.small 0 (omega arith) in
     let he : e < 35 = degrees.small 1 (omega arith) in
@@ -223,54 +223,54 @@ made_block mask old new changes least most found agree applied =
     let ht : (j : ℕ) → j < 1024 → t j < 256 = λ j h. value_at-byte 1 (column j old) (omega arith) (bytes j h) in
     let hu : (j : ℕ) → j < 1024 → u j < 256 = λ j h. value_at-byte 2 (column j old) two (bytes j h) in
     let P : ℕ → Type 0 = λ v. v < 256 in
-    let first_byte : (j : ℕ) → j < 1024 → get_or changes.first.bytes j 0 < 256 =
-    λ j h. subst P (sym (found.first.each j h)) (change_byte x y z (s j) (t j) (u j) hx hy hz (hs j h) (ht j h) (hu j h)) in
-    let second_byte : (j : ℕ) → j < 1024 → get_or changes.second.bytes j 0 < 256 =
-    λ j h. subst P (sym (found.second.each j h)) (change_byte y x z (s j) (t j) (u j) hy hx hz (hs j h) (ht j h) (hu j h)) in
-    let third_byte : (j : ℕ) → j < 1024 → get_or changes.third.bytes j 0 < 256 =
-    λ j h. subst P (sym (found.third.each j h)) (change_byte z x y (s j) (t j) (u j) hz hx hy (hs j h) (ht j h) (hu j h)) in
-    let one : Moves d changes.first.bytes old applied.once =
-    moves d changes.first.bytes old applied.once found.sectors_fit first_byte
+    let first_byte : (j : ℕ) → j < 1024 → get_or corrections.first.bytes j 0 < 256 =
+    λ j h. subst P (sym (found.first.each j h)) (correction_byte x y z (s j) (t j) (u j) hx hy hz (hs j h) (ht j h) (hu j h)) in
+    let second_byte : (j : ℕ) → j < 1024 → get_or corrections.second.bytes j 0 < 256 =
+    λ j h. subst P (sym (found.second.each j h)) (correction_byte y x z (s j) (t j) (u j) hy hx hz (hs j h) (ht j h) (hu j h)) in
+    let third_byte : (j : ℕ) → j < 1024 → get_or corrections.third.bytes j 0 < 256 =
+    λ j h. subst P (sym (found.third.each j h)) (correction_byte z x y (s j) (t j) (u j) hz hx hy (hs j h) (ht j h) (hu j h)) in
+    let one : Moves d corrections.first.bytes old applied.once =
+    moves d corrections.first.bytes old applied.once found.sectors_fit first_byte
     (λ h. degrees.within 0 (omega arith) h) agree.first applied.first in
     let size1 : length applied.once ≡ length old = one.size in
-    let then : Moves e changes.second.bytes applied.once applied.twice =
-    moves e changes.second.bytes applied.once applied.twice one.sectors second_byte
+    let then : Moves e corrections.second.bytes applied.once applied.twice =
+    moves e corrections.second.bytes applied.once applied.twice one.sectors second_byte
     (λ h. let real : e < length old = degrees.within 1 (omega arith) h in omega arith) agree.second applied.second in
     let size2 : length applied.twice ≡ length applied.once = then.size in
-    let last : Moves f changes.third.bytes applied.twice new =
-    moves f changes.third.bytes applied.twice new then.sectors third_byte
+    let last : Moves f corrections.third.bytes applied.twice new =
+    moves f corrections.third.bytes applied.twice new then.sectors third_byte
     (λ h. let real : f < length old = degrees.within 2 (omega arith) h in omega arith) agree.third applied.third in
     let size3 : length new ≡ length applied.twice = last.size in
     let value : (p j : ℕ) → j < 1024 → value_at p (column j new) ≡
-    bit_xor (product (get_or changes.third.bytes j 0) (power p f))
-    (bit_xor (product (get_or changes.second.bytes j 0) (power p e))
-    (bit_xor (product (get_or changes.first.bytes j 0) (power p d)) (value_at p (column j old)))) =
+    bit_xor (product (get_or corrections.third.bytes j 0) (power p f))
+    (bit_xor (product (get_or corrections.second.bytes j 0) (power p e))
+    (bit_xor (product (get_or corrections.first.bytes j 0) (power p d)) (value_at p (column j old)))) =
     λ p j h.
     last.value p j h
-    ∙ ap (bit_xor (product (get_or changes.third.bytes j 0) (power p f)))
+    ∙ ap (bit_xor (product (get_or corrections.third.bytes j 0) (power p f)))
     (then.value p j h
-    ∙ ap (bit_xor (product (get_or changes.second.bytes j 0) (power p e))) (one.value p j h)) in
+    ∙ ap (bit_xor (product (get_or corrections.second.bytes j 0) (power p e))) (one.value p j h)) in
     let adds : (j : ℕ) → j < 1024 → AddUp x y z (power 0xC3 d) (power 0xC3 e) (power 0xC3 f)
-    (get_or changes.first.bytes j 0) (get_or changes.second.bytes j 0) (get_or changes.third.bytes j 0) (s j) (t j) (u j) =
+    (get_or corrections.first.bytes j 0) (get_or corrections.second.bytes j 0) (get_or corrections.third.bytes j 0) (s j) (t j) (u j) =
     λ j h.
     let Q : ℕ → ℕ → ℕ → Type 0 =
     λ a b c. AddUp x y z (power 0xC3 d) (power 0xC3 e) (power 0xC3 f) a b c (s j) (t j) (u j) in
-    let a : ℕ = change x y z (s j) (t j) (u j) in
-    let b : ℕ = change y x z (s j) (t j) (u j) in
-    let c : ℕ = change z x y (s j) (t j) (u j) in
+    let a : ℕ = correction x y z (s j) (t j) (u j) in
+    let b : ℕ = correction y x z (s j) (t j) (u j) in
+    let c : ℕ = correction z x y (s j) (t j) (u j) in
     let fit : Q a b c =
-    changes_fit x y z (power 0xC3 d) (power 0xC3 e) (power 0xC3 f) (s j) (t j) (u j)
+    corrections_fit x y z (power 0xC3 d) (power 0xC3 e) (power 0xC3 f) (s j) (t j) (u j)
     (powers_of d e f hd he hf de df ef) (hs j h) (ht j h) (hu j h) in
-    subst (λ (v : ℕ). Q v (get_or changes.second.bytes j 0) (get_or changes.third.bytes j 0)) (sym (found.first.each j h))
-    (subst (λ (v : ℕ). Q a v (get_or changes.third.bytes j 0)) (sym (found.second.each j h))
+    subst (λ (v : ℕ). Q v (get_or corrections.second.bytes j 0) (get_or corrections.third.bytes j 0)) (sym (found.first.each j h))
+    (subst (λ (v : ℕ). Q a v (get_or corrections.third.bytes j 0)) (sym (found.second.each j h))
     (subst (λ (v : ℕ). Q a b v) (sym (found.third.each j h)) fit)) in
     let block : IsCodeBlock new = record {
       sectors = last.sectors;
       columns = λ j h.
           let count : length (column j new) ≡ length new = length-column j new in
-          let a : ℕ = get_or changes.first.bytes j 0 in
-          let b : ℕ = get_or changes.second.bytes j 0 in
-          let c : ℕ = get_or changes.third.bytes j 0 in
+          let a : ℕ = get_or corrections.first.bytes j 0 in
+          let b : ℕ = get_or corrections.second.bytes j 0 in
+          let c : ℕ = get_or corrections.third.bytes j 0 in
           record {
             least = omega arith;
             most = omega arith;
@@ -306,7 +306,7 @@ made_block mask old new changes least most found agree applied =
     } in
     (block, outside)
 
--- ---- a code block that agrees asks for the changes that were found
+-- ---- a code block that agrees asks for the corrections that were found
 
 -- a column's byte at the place of a degree, if there is one, made that of another column
 record Step (degree : ℕ) (ds cs : List ℕ) : Type 0 where
@@ -467,12 +467,12 @@ third_first : (a b c v : ℕ) → bit_xor a (bit_xor b c) ≡ v → bit_xor c (b
 third_first a b c v h = xor_comm c (bit_xor a b) ∙ xor_assoc a b c ∙ h
 
 pub must_agree :
-    (mask : ℕ) (old : List (List ℕ)) (changes : Changes) → length old ≤ 32 →
-    Found mask old changes → IsSolvable (is_lost mask) old → Agree changes
-must_agree mask old changes most found solvable =
-    let d : ℕ = changes.first.degree in
-    let e : ℕ = changes.second.degree in
-    let f : ℕ = changes.third.degree in
+    (mask : ℕ) (old : List (List ℕ)) (corrections : Corrections) → length old ≤ 32 →
+    Found mask old corrections → IsSolvable (is_lost mask) old → Agree corrections
+must_agree mask old corrections most found solvable =
+    let d : ℕ = corrections.first.degree in
+    let e : ℕ = corrections.second.degree in
+    let f : ℕ = corrections.third.degree in
     let degrees : AreDegrees mask (length old) (d ∷ e ∷ f ∷ []) = found.degrees in
     let hd : d < 35 = degrees.small 0 (omega arith) in
     let he : e < 35 = degrees.small 1 (omega arith) in
@@ -497,7 +497,7 @@ must_agree mask old changes most found solvable =
           each = λ j h.
               let w = three j h in
               found.first.each j h
-              ∙ sym (only_change (power 2 d) (power 2 e) (power 2 f) (power 0xC3 d) (power 0xC3 e) (power 0xC3 f) w.a w.b w.c
+              ∙ sym (only_correction (power 2 d) (power 2 e) (power 2 f) (power 0xC3 d) (power 0xC3 e) (power 0xC3 f) w.a w.b w.c
               (value_at 0xC3 (column j old)) (value_at 1 (column j old)) (value_at 2 (column j old))
               (powers_of d e f hd he hf de df ef) w.ha w.hb w.hc
               (record { at_inverse = w.at_inverse; at_one = w.at_one; at_generator = w.at_generator }))
@@ -509,7 +509,7 @@ must_agree mask old changes most found solvable =
           each = λ j h.
               let w = three j h in
               found.second.each j h
-              ∙ sym (only_change (power 2 e) (power 2 d) (power 2 f) (power 0xC3 e) (power 0xC3 d) (power 0xC3 f) w.b w.a w.c
+              ∙ sym (only_correction (power 2 e) (power 2 d) (power 2 f) (power 0xC3 e) (power 0xC3 d) (power 0xC3 f) w.b w.a w.c
               (value_at 0xC3 (column j old)) (value_at 1 (column j old)) (value_at 2 (column j old))
               (powers_of e d f he hd hf (flip d e de) ef df) w.hb w.ha w.hc
               (record {
@@ -527,7 +527,7 @@ must_agree mask old changes most found solvable =
           each = λ j h.
               let w = three j h in
               found.third.each j h
-              ∙ sym (only_change (power 2 f) (power 2 d) (power 2 e) (power 0xC3 f) (power 0xC3 d) (power 0xC3 e) w.c w.a w.b
+              ∙ sym (only_correction (power 2 f) (power 2 d) (power 2 e) (power 0xC3 f) (power 0xC3 d) (power 0xC3 e) w.c w.a w.b
               (value_at 0xC3 (column j old)) (value_at 1 (column j old)) (value_at 2 (column j old))
               (powers_of f d e hf hd he (flip d f df) (flip e f ef) de) w.hc w.ha w.hb
               (record {

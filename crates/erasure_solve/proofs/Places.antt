@@ -6,7 +6,7 @@ use Rattle.qic_base.specs.LostSet.{IsLost, lost_places}
 use Rattle.qic_base.proofs.LostSetLaws.{lost_places-lost, lost_places-kept}
 use Rattle.gf256_qic.specs.Code.{lost_below}
 use Rattle.erasure_solve.specs.Lost.{is_lost, lost_count}
-use Rattle.erasure_solve.specs.Change.{AreDegrees}
+use Rattle.erasure_solve.specs.Correction.{AreDegrees}
 
 -- the lost places below a place are found, and their degrees written down
 pub record Gathered (mask count place found : ℕ) (degrees : List ℕ) : Type 0 where

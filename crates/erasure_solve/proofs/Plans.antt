@@ -12,15 +12,15 @@ use Rattle.gf256_qic.specs.Code.{value_at, column, IsSector, IsCodeBlock, Agrees
 use Rattle.gf256_qic.proofs.Products.{product_zero_right}
 use Rattle.erasure_solve.specs.Lost.{is_lost, lost_count}
 use Rattle.erasure_solve.specs.Rows.{IsZero, AreValues, AreZero, weighed_row}
-use Rattle.erasure_solve.specs.Change.{change_factors, Changes, AreDegrees, Found, Agree, Applied, AllApplied}
-use Rattle.erasure_solve.specs.Plan.{planned_count, planned_lost, changes_of, IsPlan, IsFull}
+use Rattle.erasure_solve.specs.Correction.{correction_factors, Corrections, AreDegrees, Found, Agree, Applied, AllApplied}
+use Rattle.erasure_solve.specs.Plan.{planned_count, planned_lost, corrections_of, IsPlan, IsFull}
 use Rattle.erasure_solve.specs.declared.values.Values.{Values}
 use Rattle.erasure_solve.specs.declared.plan.Plan.{Plan}
-use Rattle.erasure_solve.proofs.Blocks.{any_default_of, get_or-weighed_row, is_change, made_block, must_agree, none_lost}
+use Rattle.erasure_solve.proofs.Blocks.{any_default_of, get_or-weighed_row, is_correction, made_block, must_agree, none_lost}
 
 pub found_by :
     (plan : Plan) (values : Values) (ss : List (List ℕ)) → IsPlan plan → length ss ≡ planned_count plan →
-    All IsSector ss → AreValues values ss → Found (planned_lost plan) ss (changes_of plan values)
+    All IsSector ss → AreValues values ss → Found (planned_lost plan) ss (corrections_of plan values)
 found_by plan values ss is count all are =
     let d : ℕ = plan.first.degree in
     let e : ℕ = plan.second.degree in
@@ -28,12 +28,12 @@ found_by plan values ss is count all are =
     record {
       sectors_fit = all;
       degrees = subst (λ (n : ℕ). AreDegrees (planned_lost plan) n (d ∷ e ∷ f ∷ [])) (sym count) is.degrees;
-      first = is_change values ss d e f plan.first.factors all are is.first;
-      second = is_change values ss e d f plan.second.factors all are is.second;
-      third = is_change values ss f d e plan.third.factors all are is.third;
+      first = is_correction values ss d e f plan.first.factors all are is.first;
+      second = is_correction values ss e d f plan.second.factors all are is.second;
+      third = is_correction values ss f d e plan.third.factors all are is.third;
     }
 
--- some sectors are what a change makes of these
+-- some sectors are what a correction makes of these
 applied_to : (degree : ℕ) (row : List ℕ) (old : List (List ℕ)) → (degree < 32 → degree < length old) →
     (new : List (List ℕ)) × Applied degree row old new
 applied_to degree row old inside =
@@ -73,27 +73,27 @@ size_of_applied degree row old new applied =
       | inr high ↦ ap (λ (ss : List (List ℕ)). length ss) (applied.beyond high)
     ]
 
-all_applied_to : (mask : ℕ) (old : List (List ℕ)) (changes : Changes) → Found mask old changes →
-    (new : List (List ℕ)) × AllApplied changes old new
-all_applied_to mask old changes found =
-    let within : (k degree : ℕ) → k < 3 → get_or (changes.first.degree ∷ changes.second.degree ∷ changes.third.degree ∷ []) k 0 ≡ degree →
+all_applied_to : (mask : ℕ) (old : List (List ℕ)) (corrections : Corrections) → Found mask old corrections →
+    (new : List (List ℕ)) × AllApplied corrections old new
+all_applied_to mask old corrections found =
+    let within : (k degree : ℕ) → k < 3 → get_or (corrections.first.degree ∷ corrections.second.degree ∷ corrections.third.degree ∷ []) k 0 ≡ degree →
     degree < 32 → degree < length old =
     λ k degree hk at small. subst (λ (x : ℕ). x < length old) at (found.degrees.within k hk (subst (λ (x : ℕ). x < 32) (sym at) small)) in
-    let one = applied_to changes.first.degree changes.first.bytes old (within 0 changes.first.degree (omega arith) refl) in
-    let size1 : length one.0 ≡ length old = size_of_applied changes.first.degree changes.first.bytes old one.0 one.1 in
-    let two = applied_to changes.second.degree changes.second.bytes one.0
-    (λ small. let real : changes.second.degree < length old = within 1 changes.second.degree (omega arith) refl small in omega arith) in
-    let size2 : length two.0 ≡ length one.0 = size_of_applied changes.second.degree changes.second.bytes one.0 two.0 two.1 in
-    let three = applied_to changes.third.degree changes.third.bytes two.0
-    (λ small. let real : changes.third.degree < length old = within 2 changes.third.degree (omega arith) refl small in omega arith) in
+    let one = applied_to corrections.first.degree corrections.first.bytes old (within 0 corrections.first.degree (omega arith) refl) in
+    let size1 : length one.0 ≡ length old = size_of_applied corrections.first.degree corrections.first.bytes old one.0 one.1 in
+    let two = applied_to corrections.second.degree corrections.second.bytes one.0
+    (λ small. let real : corrections.second.degree < length old = within 1 corrections.second.degree (omega arith) refl small in omega arith) in
+    let size2 : length two.0 ≡ length one.0 = size_of_applied corrections.second.degree corrections.second.bytes one.0 two.0 two.1 in
+    let three = applied_to corrections.third.degree corrections.third.bytes two.0
+    (λ small. let real : corrections.third.degree < length old = within 2 corrections.third.degree (omega arith) refl small in omega arith) in
     (three.0, record { once = one.0; twice = two.0; first = one.1; second = two.1; third = three.1 })
 
--- changes that can be made make some code block
-pub agree_solvable : (mask : ℕ) (old : List (List ℕ)) (changes : Changes) → 4 ≤ length old → length old ≤ 32 →
-    Found mask old changes → Agree changes → IsSolvable (is_lost mask) old
-agree_solvable mask old changes least most found agree =
-    let applied = all_applied_to mask old changes found in
-    let made = made_block mask old applied.0 changes least most found agree applied.1 in
+-- corrections that can be made make some code block
+pub agree_solvable : (mask : ℕ) (old : List (List ℕ)) (corrections : Corrections) → 4 ≤ length old → length old ≤ 32 →
+    Found mask old corrections → Agree corrections → IsSolvable (is_lost mask) old
+agree_solvable mask old corrections least most found agree =
+    let applied = all_applied_to mask old corrections found in
+    let made = made_block mask old applied.0 corrections least most found agree applied.1 in
     record { block = applied.0; codewords = made.0; agrees = made.1 }
 
 -- values of 0 change nothing
@@ -113,7 +113,7 @@ zero_row values factors zeros = record {
       ∙ ap (bit_xor 0) (product_zero_right m);
 }
 
-pub zero_agree : (plan : Plan) (values : Values) → AreZero values → Agree (changes_of plan values)
+pub zero_agree : (plan : Plan) (values : Values) → AreZero values → Agree (corrections_of plan values)
 zero_agree plan values zeros = record {
   first = record { nothing = λ high. zero_row values plan.first.factors zeros };
   second = record { nothing = λ high. zero_row values plan.second.factors zeros };
@@ -121,7 +121,7 @@ zero_agree plan values zeros = record {
 }
 
 -- where three places are lost no equation is left over
-pub full_agree : (plan : Plan) (values : Values) → IsFull plan → Agree (changes_of plan values)
+pub full_agree : (plan : Plan) (values : Values) → IsFull plan → Agree (corrections_of plan values)
 full_agree plan values full = record {
   first = record { nothing = λ high. absurd (omega (arith, full.first)) };
   second = record { nothing = λ high. absurd (omega (arith, full.second)) };
@@ -147,13 +147,13 @@ degrees_of mask count ds d e f degrees ed ee ef =
     ∙ ap (λ (x : ℕ). d ∷ e ∷ x ∷ []) (sym ef) in
     subst (λ (l : List ℕ). AreDegrees mask count l) same degrees
 
-pub factors_of : (factors : List ℕ) (x y z d e f : ℕ) → factors ≡ change_factors (power 2 x) (power 2 y) (power 2 z) →
-    d ≡ x → e ≡ y → f ≡ z → factors ≡ change_factors (power 2 d) (power 2 e) (power 2 f)
+pub factors_of : (factors : List ℕ) (x y z d e f : ℕ) → factors ≡ correction_factors (power 2 x) (power 2 y) (power 2 z) →
+    d ≡ x → e ≡ y → f ≡ z → factors ≡ correction_factors (power 2 d) (power 2 e) (power 2 f)
 factors_of factors x y z d e f same ed ee ef =
     same
-    ∙ ap (λ (v : ℕ). change_factors (power 2 v) (power 2 y) (power 2 z)) (sym ed)
-    ∙ ap (λ (v : ℕ). change_factors (power 2 d) (power 2 v) (power 2 z)) (sym ee)
-    ∙ ap (λ (v : ℕ). change_factors (power 2 d) (power 2 e) (power 2 v)) (sym ef)
+    ∙ ap (λ (v : ℕ). correction_factors (power 2 v) (power 2 y) (power 2 z)) (sym ed)
+    ∙ ap (λ (v : ℕ). correction_factors (power 2 d) (power 2 v) (power 2 z)) (sym ee)
+    ∙ ap (λ (v : ℕ). correction_factors (power 2 d) (power 2 e) (power 2 v)) (sym ef)
 
 pub filled :
     (plan : Plan) (values : Values) (old once twice new : List (List ℕ)) → IsPlan plan → length old ≡ planned_count plan →
@@ -165,24 +165,24 @@ pub filled :
 filled plan values old once twice new is count all are solvable one two three =
     let least : 4 ≤ planned_count plan = is.least in
     let most : planned_count plan ≤ 32 = is.most in
-    let found : Found (planned_lost plan) old (changes_of plan values) = found_by plan values old is count all are in
-    made_block (planned_lost plan) old new (changes_of plan values) (omega arith) (omega arith) found
-    (must_agree (planned_lost plan) old (changes_of plan values) (omega arith) found solvable)
+    let found : Found (planned_lost plan) old (corrections_of plan values) = found_by plan values old is count all are in
+    made_block (planned_lost plan) old new (corrections_of plan values) (omega arith) (omega arith) found
+    (must_agree (planned_lost plan) old (corrections_of plan values) (omega arith) found solvable)
     (record { once = once; twice = twice; first = one; second = two; third = three })
 
 pub plan_solvable : (plan : Plan) (values : Values) (ss : List (List ℕ)) → IsPlan plan → length ss ≡ planned_count plan →
-    All IsSector ss → AreValues values ss → Agree (changes_of plan values) → IsSolvable (is_lost (planned_lost plan)) ss
+    All IsSector ss → AreValues values ss → Agree (corrections_of plan values) → IsSolvable (is_lost (planned_lost plan)) ss
 plan_solvable plan values ss is count all are agree =
     let least : 4 ≤ planned_count plan = is.least in
     let most : planned_count plan ≤ 32 = is.most in
-    agree_solvable (planned_lost plan) ss (changes_of plan values) (omega arith) (omega arith)
+    agree_solvable (planned_lost plan) ss (corrections_of plan values) (omega arith) (omega arith)
     (found_by plan values ss is count all are) agree
 
 pub plan_agrees : (plan : Plan) (values : Values) (ss : List (List ℕ)) → IsPlan plan → length ss ≡ planned_count plan →
-    All IsSector ss → AreValues values ss → IsSolvable (is_lost (planned_lost plan)) ss → Agree (changes_of plan values)
+    All IsSector ss → AreValues values ss → IsSolvable (is_lost (planned_lost plan)) ss → Agree (corrections_of plan values)
 plan_agrees plan values ss is count all are solvable =
     let most : planned_count plan ≤ 32 = is.most in
-    must_agree (planned_lost plan) ss (changes_of plan values) (omega arith)
+    must_agree (planned_lost plan) ss (corrections_of plan values) (omega arith)
     (found_by plan values ss is count all are) solvable
 
 -- where nothing is lost, a code block that agrees is the sectors themselves

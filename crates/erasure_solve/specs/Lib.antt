@@ -1,4 +1,4 @@
 pub mod Lost
 pub mod Rows
-pub mod Change
+pub mod Correction
 pub mod Plan

@@ -3,7 +3,7 @@ use Rattle.std.specs.Prelude.{◌≡◌, ℕ, ◌<◌, ◌≤◌, [], ◌∷◌}
 use Rattle.gf256_qic.specs.Field.{power}
 use Rattle.erasure_solve.specs.Lost.{lost_count}
 use Rattle.erasure_solve.specs.Rows.{weighed_row}
-use Rattle.erasure_solve.specs.Change.{change_factors, Change, Changes, AreDegrees}
+use Rattle.erasure_solve.specs.Correction.{correction_factors, Correction, Corrections, AreDegrees}
 use Rattle.erasure_solve.specs.declared.coefficients.Coefficients.{Coefficients}
 use Rattle.erasure_solve.specs.declared.plan.Plan.{Plan}
 use Rattle.erasure_solve.specs.declared.values.Values.{Values}
@@ -16,11 +16,11 @@ planned_count plan = plan.count
 abbrev pub planned_lost : Plan → ℕ
 planned_lost plan = plan.lost
 
--- the factors of the change at a place, where the other two have the degrees e and f
+-- the factors of the correction at a place, where the other two have the degrees e and f
 abbrev pub AreFactors : Coefficients → ℕ → ℕ → Type 0
-AreFactors own e f = own.factors ≡ change_factors (power 2 own.degree) (power 2 e) (power 2 f)
+AreFactors own e f = own.factors ≡ correction_factors (power 2 own.degree) (power 2 e) (power 2 f)
 
--- its degrees are those of the lost places, and its factors those of the changes that make a code block
+-- its degrees are those of the lost places, and its factors those of the corrections that make a code block
 pub record IsPlan (plan : Plan) : Type 0 where
   pub least : 4 ≤ planned_count plan
   pub most : planned_count plan ≤ 32
@@ -44,12 +44,12 @@ pub record IsFull (plan : Plan) : Type 0 where
   pub third : plan.third.degree < 32
 
 -- what is added at the place of the coefficients in a segment with these values
-abbrev pub change_of : Coefficients → Values → Change
-change_of own values = record { degree = own.degree; bytes = weighed_row values own.factors }
+abbrev pub correction_of : Coefficients → Values → Correction
+correction_of own values = record { degree = own.degree; bytes = weighed_row values own.factors }
 
-abbrev pub changes_of : Plan → Values → Changes
-changes_of plan values = record {
-  first = change_of plan.first values;
-  second = change_of plan.second values;
-  third = change_of plan.third values;
+abbrev pub corrections_of : Plan → Values → Corrections
+corrections_of plan values = record {
+  first = correction_of plan.first values;
+  second = correction_of plan.second values;
+  third = correction_of plan.third values;
 }

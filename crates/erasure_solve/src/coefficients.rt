@@ -3,7 +3,7 @@
 ghost use Rattle.std.specs.Prelude.{◌≡◌, ◌≢◌, ◌<◌, ◌↔◌, length, IsTrue};
 ghost use Rattle.gf256_qic.specs.Field.{power};
 ghost use Rattle.erasure_solve.specs.Rows.{AddsRow, weighed_row};
-ghost use Rattle.erasure_solve.specs.Change.{change_factors, Fits, Applied};
+ghost use Rattle.erasure_solve.specs.Correction.{correction_factors, FitsDegree, Applied};
 
 use crate::SECTOR;
 use crate::values::{Values, is_zero};
@@ -34,7 +34,7 @@ impl Coefficients {
         requires from_third { own ≢ third }
         ensures degree { result.degree ≡ own }
         ensures factors { let x = power 2 own in let y = power 2 other in let z = power 2 third in
-            result.factors ≡ change_factors x y z }
+            result.factors ≡ correction_factors x y z }
     {
         Coefficients {
             degree: own,
@@ -53,10 +53,10 @@ impl Coefficients {
         self.degree < NO_PLACE
     }
 
-    /// Whether the change can be made: its degree is that of a place, or it changes nothing.
+    /// Whether the correction can be made: its degree is that of a place, or it changes nothing.
     pub fn fits(&self, values: &Values) -> bool
         ensures { IsTrue result
-            ↔ Fits self.now.degree (weighed_row values.now self.now.factors) }
+            ↔ FitsDegree self.now.degree (weighed_row values.now self.now.factors) }
     {
         self.degree < NO_PLACE || is_zero(&weighed(values, &self.factors))
     }
@@ -75,12 +75,12 @@ impl Coefficients {
     }
 }
 
-/// The factors of a column's values at the three roots in the change at the place of power `x`,
+/// The factors of a column's values at the three roots in the correction at the place of power `x`,
 /// where the other two have the powers `y` and `z`.
 fn factors(x: u8, y: u8, z: u8) -> [u8; 3]
     requires second { x ≢ y }
     requires third { x ≢ z }
-    ensures { result ≡ change_factors x y z }
+    ensures { result ≡ correction_factors x y z }
 {
     let scale = mul(x, mul(inv(x ^ y), inv(x ^ z)));
     [mul(scale, mul(y, z)), mul(scale, y ^ z), scale]

@@ -3,8 +3,8 @@
 ghost use Rattle.std.specs.Prelude.{◌≡◌, ◌≢◌, ℕ, ◌<◌, ◌≤◌, ◌↔◌, length, IsTrue, IsOk, IfOk};
 ghost use Rattle.gf256_qic.specs.Code.{IsCodeBlock, AgreesOutside, IsSolvable};
 ghost use Rattle.erasure_solve.specs.Lost.{is_lost, lost_count, IsOnlyBlock};
-ghost use Rattle.erasure_solve.specs.Change.{AreDegrees, Agree};
-ghost use Rattle.erasure_solve.specs.Plan.{planned_count, planned_lost, changes_of, IsPlan, IsPlanFor, IsFull};
+ghost use Rattle.erasure_solve.specs.Correction.{AreDegrees, Agree};
+ghost use Rattle.erasure_solve.specs.Plan.{planned_count, planned_lost, corrections_of, IsPlan, IsPlanFor, IsFull};
 
 use crate::coefficients::{Coefficients, NO_PLACE};
 use crate::values::{Values, are_sectors};
@@ -109,7 +109,7 @@ impl Plan {
 
     /// Whether the equations that are left over hold of a segment with these values.
     fn agrees_with(&self, values: &Values) -> bool
-        ensures { IsTrue result ↔ Agree (changes_of self.now values.now) }
+        ensures { IsTrue result ↔ Agree (corrections_of self.now values.now) }
     {
         if values.are_zero() {
             return true;

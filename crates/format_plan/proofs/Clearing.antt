@@ -1,13 +1,14 @@
 -- What the steps that clear a cartridge leave, segment after segment.
 use Rattle.std.proofs.Common.{◌≡◌, ◌≢◌, ◌↔◌, ℕ, zero, suc, ◌+◌, ◌*◌, ◌<◌, ◌≤◌, inl, inr, List, map, length, refl, sym, ap, ◌∙◌, subst, arith, true}
 use Rattle.std.specs.List.{range_with_len}
+use Rattle.std.proofs.lemmas.Bool.{false≢true}
 use Rattle.std.proofs.lemmas.Bool.{cases_eq}
 use Rattle.qic_base.specs.declared.tape.SectorView.{SectorView}
 use Rattle.qic_base.specs.declared.tape.SectorView.TheVariants.{Blank, Defect, Lost, Holds}
 use Rattle.qic_base.specs.Cartridge.{Cartridge, IsCartridge, view_at, zero_sector}
 use Rattle.qic_base.specs.Step.{Step, FormatSegment, SetReferenced, changed, formatted_view}
 use Rattle.cartridge_spec.specs.Segment.{IsUnreadable}
-use Rattle.cartridge_spec.specs.Volumes.{IsDefect}
+use Rattle.cartridge_spec.specs.Defects.{IsDefect}
 use Rattle.cartridge_spec.specs.Writes.{changed_by}
 use Rattle.format_plan.specs.Formatting.{IsClearedFrom, clearing_steps}
 use Rattle.format_plan.specs.Laws.{ClearingClears, ClearedShowsDefects, ClearedCopiesAreZero, ClearedIsUnformatted}
@@ -99,10 +100,10 @@ cleared_is_unformatted old new whole cleared =
 -- ---- its defects
 
 unreadable_formatted : (view : SectorView) → IsUnreadable (formatted_view view) ↔ IsDefect view
-unreadable_formatted Blank = (λ no. absurd no, λ no. absurd no)
-unreadable_formatted Defect = (λ is. is, λ is. is)
-unreadable_formatted Lost = (λ no. absurd no, λ no. absurd no)
-unreadable_formatted (Holds bytes) = (λ no. absurd no, λ no. absurd no)
+unreadable_formatted Blank = (λ no. absurd (false≢true no), λ no. absurd no)
+unreadable_formatted Defect = (λ is. tt, λ is. refl)
+unreadable_formatted Lost = (λ no. absurd (false≢true no), λ no. absurd no)
+unreadable_formatted (Holds bytes) = (λ no. absurd (false≢true no), λ no. absurd no)
 
 pub cleared_shows_defects : ClearedShowsDefects
 cleared_shows_defects old new segment index cleared on h =

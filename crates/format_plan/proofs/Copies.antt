@@ -7,15 +7,15 @@ use Rattle.qic_base.specs.declared.tape.SectorView.{SectorView}
 use Rattle.qic_base.specs.declared.tape.SectorView.TheVariants.{Blank, Defect, Lost, Holds}
 use Rattle.qic_base.specs.Cartridge.{Cartridge, view_at, zero_sector, new_cartridge}
 use Rattle.qic_base.specs.Field.{number_at}
-use Rattle.cartridge_spec.specs.Segment.{sector_at}
+use Rattle.cartridge_spec.specs.Segment.{sector_at, is_unreadable}
 use Rattle.cartridge_spec.specs.Header.{has_signature}
-use Rattle.cartridge_spec.specs.Says.{whole_mask, cells_of, is_unreadable, unreadable_count, HasBlock, Written, Zero}
-use Rattle.cartridge_spec.specs.Volumes.{IsArea, copy_cells, CopyReads, CopyDoesNotRead, IsUnformatted}
+use Rattle.cartridge_spec.specs.Says.{whole_mask, cells_of, unreadable_count, HasBlock, Written, Zero, with_parity}
+use Rattle.cartridge_spec.specs.HeaderAndTable.{IsArea, copy_cells, CopyReads, CopyDoesNotRead, IsUnformatted}
 use Rattle.cartridge_spec.proofs.Sayings.{written_is_said, code_sectors}
 use Rattle.cartridge_spec.proofs.Segments.{cells_of_whole, length-whole_cells, zero_does_not_read}
 use Rattle.cartridge_spec.proofs.Cells.{IsReadable, count_of_readable, unreadable_count-first}
-use Rattle.format_plan.specs.Formatting.{block_of}
-use Rattle.format_plan.specs.Laws.{IsBareCopy, HasNoHeader, NewHasNoHeader}
+use Rattle.format_plan.specs.Laws.{NewHasNoHeader}
+use Rattle.format_plan.specs.Clean.{IsBareCopy, HasNoHeader}
 
 -- ---- cells and views
 
@@ -158,16 +158,16 @@ held_sector c segment (suc i) block bytes copy h view =
     let same : Holds bytes ≡ Holds (sector_at block (suc i)) = sym view ∙ copy.here (suc i) (omega arith) h in
     cc
 
-pub copy_is_written : (c : Cartridge) (segment : ℕ) (area : List (List ℕ)) → length (block_of area) ≡ 32 →
-    IsCopyOf c segment (block_of area) → Written (cells_of c segment whole_mask) area
+pub copy_is_written : (c : Cartridge) (segment : ℕ) (area : List (List ℕ)) → length (with_parity area) ≡ 32 →
+    IsCopyOf c segment (with_parity area) → Written (cells_of c segment whole_mask) area
 copy_is_written c segment area long copy = record {
   size = long ∙ sym (length-whole_cells c segment);
   each = λ i bytes at.
       let held = held_view c segment i bytes at in
       let within : i < 32 = held.within in
-      let same : bytes ≡ sector_at (block_of area) i = held_sector c segment i (block_of area) bytes copy within held.view in
-      slice_get-get_or (block_of area) i [] (omega arith)
-      ∙ ap Some (sym (unwrap_or-slice_get (block_of area) i []) ∙ sym same);
+      let same : bytes ≡ sector_at (with_parity area) i = held_sector c segment i (with_parity area) bytes copy within held.view in
+      slice_get-get_or (with_parity area) i [] (omega arith)
+      ∙ ap Some (sym (unwrap_or-slice_get (with_parity area) i []) ∙ sym same);
 }
 
 -- cells of which each but the first can be read

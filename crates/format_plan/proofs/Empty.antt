@@ -11,11 +11,12 @@ use Rattle.cartridge_spec.specs.Header.{header_fault}
 use Rattle.cartridge_spec.specs.Table.{slot, slot_fault, is_free, HasNoFault}
 use Rattle.cartridge_spec.specs.Table as tables
 use Rattle.cartridge_spec.specs.Says.{whole_mask, cells_of, Written}
-use Rattle.cartridge_spec.specs.Volumes.{Volume, IsPlain, Stands, CopyReads, carrying, WrittenOver, copy_cells}
+use Rattle.cartridge_spec.specs.Volumes.{Volume, VolumeStands, IsPlain, Stands}
+use Rattle.cartridge_spec.specs.HeaderAndTable.{CopyReads, copy_cells}
 use Rattle.cartridge_spec.proofs.Sayings.{cartridge_sector}
 use Rattle.cartridge_spec.proofs.Segments.{length-whole_cells}
 use Rattle.cartridge_spec.proofs.Zeros.{zero_sector-is_sector, zero_is_written}
-use Rattle.format_plan.specs.Laws.{IsFreshFor, fresh_plain}
+use Rattle.format_plan.specs.Fresh.{IsFreshFor, fresh_plain}
 use Rattle.format_plan.proofs.Copies.{HoldsZeros, zero_from_views}
 use Rattle.format_plan.proofs.Fresh.{fresh_are_sound}
 
@@ -63,8 +64,8 @@ empty_shows = record {
 empty_is_plain : (c : Cartridge) (label : List ℕ) (date : ℕ) (words : List ℕ) (area : List (List ℕ)) → IsFreshFor c label date words area →
     IsPlain (fresh_plain c label date words area)
 empty_is_plain c label date words area for = record {
-  header_area = for.fresh.size;
-  shown = for.fresh.spells.shows;
+  header_area = for.fresh.fresh.size;
+  shown = for.fresh.fresh.spells.shows;
   table_area = record {
     size = length-replicate 29 zero_sector;
     sectors = All-replicate IsSector 29 zero_sector (cartridge_sector zero_sector zero_sector-is_sector);
@@ -85,6 +86,6 @@ empty_stands c d label date words area whole for info written reads zeros =
       copies = inl written;
       sound_table = empty_has_no_fault _;
       shown = empty_shows;
-      volumes = All-nil (λ (volume : Volume). WrittenOver d words (carrying words volume.entry.start volume.entry.end) volume.area);
+      volumes = All-nil (VolumeStands d words);
       table = inl (zero_is_written (cells_of d 2 whole_mask) 29 (zero_from_views zeros) (length-whole_cells d 2) (omega arith) (omega arith));
     }

@@ -10,18 +10,22 @@ use Rattle.qic_base.specs.Step.{Step, formatted_view, written_view}
 use Rattle.gf256_qic.specs.Code.{parity_sectors}
 use Rattle.gf256_qic.proofs.Parities.{length-parity_sectors}
 use Rattle.cartridge_spec.specs.Segment.{sector_at}
-use Rattle.cartridge_spec.specs.Volumes.{IsArea, IsDefect, Stands}
+use Rattle.cartridge_spec.specs.Volumes.{Stands}
+use Rattle.cartridge_spec.specs.HeaderAndTable.{IsArea}
+use Rattle.cartridge_spec.specs.Defects.{IsDefect}
 use Rattle.cartridge_spec.specs.Writes.{changed_by}
-use Rattle.format_plan.specs.Formatting.{clearing_steps, copy_writes, format_steps, block_of, HasNoDefectInFront, IsFormattedFrom}
-use Rattle.format_plan.specs.Laws.{FormattingFormats, FormattedStands, FormattedIsMarked, IsFreshFor, fresh_plain}
+use Rattle.format_plan.specs.Formatting.{clearing_steps, copy_writes, format_steps, HasNoDefectInFront, IsFormattedFrom}
+use Rattle.cartridge_spec.specs.Says.{with_parity}
+use Rattle.format_plan.specs.Laws.{FormattingFormats, FormattedStands, FormattedIsMarked}
+use Rattle.format_plan.specs.Fresh.{IsFreshFor, fresh_plain}
 use Rattle.format_plan.proofs.Clearing.{cleared_to_the_end, formatted_zeros}
 use Rattle.format_plan.proofs.Copies.{HoldsZeros, IsCopyOf, copy_is_written, copy_is_readable, written_reads}
 use Rattle.format_plan.proofs.Empty.{empty_stands}
 use Rattle.format_plan.proofs.Fresh.{fresh_are_sound}
 use Rattle.format_plan.proofs.Writing.{IsWritable, IsWritten, view_of_written, copy_written, changed_by-append}
 
-pub length-block_of : (area : List (List ℕ)) → IsArea area → length (block_of area) ≡ 32
-length-block_of area is_area =
+pub length-with_parity : (area : List (List ℕ)) → IsArea area → length (with_parity area) ≡ 32
+length-with_parity area is_area =
     let size : length area ≡ 29 = is_area.size in
     omega (arith, length-append area (parity_sectors area), length-parity_sectors area)
 
@@ -68,19 +72,19 @@ second_written c block whole front long = copy_written 1 block (with_first c blo
 
 -- all steps, one list after the other
 all_steps : (c : Cartridge) (area : List (List ℕ)) →
-    changed_by (format_steps c.info.segments_per_track area) c ≡ changed_by (copy_writes 1 (block_of area)) (with_first c (block_of area))
+    changed_by (format_steps c.info.segments_per_track area) c ≡ changed_by (copy_writes 1 (with_parity area)) (with_first c (with_parity area))
 all_steps c area =
     let clearing : List Step = clearing_steps c.info.segments_per_track in
-    let first : List Step = copy_writes 0 (block_of area) in
-    let second : List Step = copy_writes 1 (block_of area) in
+    let first : List Step = copy_writes 0 (with_parity area) in
+    let second : List Step = copy_writes 1 (with_parity area) in
     changed_by-append (clearing ++ first) second c
     ∙ ap (changed_by second) (changed_by-append clearing first c)
 
 both_written : (c : Cartridge) (area : List (List ℕ)) → IsCartridge c → IsArea area → HasNoDefectInFront c →
-    IsFormattedFrom c (changed_by (copy_writes 1 (block_of area)) (with_first c (block_of area))) area
+    IsFormattedFrom c (changed_by (copy_writes 1 (with_parity area)) (with_first c (with_parity area))) area
 both_written c area whole is_area front =
-    let block : List (List ℕ) = block_of area in
-    let long : length block ≡ 32 = length-block_of area is_area in
+    let block : List (List ℕ) = with_parity area in
+    let long : length block ≡ 32 = length-with_parity area is_area in
     let before = cleared_to_the_end c whole in
     let first = first_written c block whole front long in
     let second = second_written c block whole front long in
@@ -94,14 +98,14 @@ both_written c area whole is_area front =
     }
   where
     by_copy : (copy i : ℕ) → copy < 2 → i < 32 →
-        view_at (changed_by (copy_writes 1 (block_of area)) (with_first c (block_of area))) copy i ≡ Holds (sector_at (block_of area) i)
+        view_at (changed_by (copy_writes 1 (with_parity area)) (with_first c (with_parity area))) copy i ≡ Holds (sector_at (with_parity area) i)
     by_copy zero i below h =
-        let long : length (block_of area) ≡ 32 = length-block_of area is_area in
-        (second_written c (block_of area) whole front long).almost.others 0 i h (λ same. absurd (omega arith))
-        ∙ view_of_written i (first_written c (block_of area) whole front long) h
+        let long : length (with_parity area) ≡ 32 = length-with_parity area is_area in
+        (second_written c (with_parity area) whole front long).almost.others 0 i h (λ same. absurd (omega arith))
+        ∙ view_of_written i (first_written c (with_parity area) whole front long) h
     by_copy (suc zero) i below h =
-        let long : length (block_of area) ≡ 32 = length-block_of area is_area in
-        view_of_written i (second_written c (block_of area) whole front long) h
+        let long : length (with_parity area) ≡ 32 = length-with_parity area is_area in
+        view_of_written i (second_written c (with_parity area) whole front long) h
     by_copy (suc (suc copy)) i below h = absurd (omega arith)
 
 pub formatting_formats : FormattingFormats
@@ -112,19 +116,19 @@ formatting_formats c area whole is_area front =
 
 -- one whose copy 0 was written, but that its first sector may be unreadable
 pub copy_stands : (c d : Cartridge) (label : List ℕ) (date : ℕ) (words : List ℕ) (area : List (List ℕ)) → IsCartridge c →
-    IsFreshFor c label date words area → d.info ≡ record c.info { referenced = true } → IsCopyOf d 0 (block_of area) → HoldsZeros d 2 →
+    IsFreshFor c label date words area → d.info ≡ record c.info { referenced = true } → IsCopyOf d 0 (with_parity area) → HoldsZeros d 2 →
     Stands d (fresh_plain c label date words area)
 copy_stands c d label date words area whole for info copy zeros =
-    let written = copy_is_written d 0 area (length-block_of area for.fresh.size) copy in
+    let written = copy_is_written d 0 area (length-with_parity area for.fresh.fresh.size) copy in
     let sound = fresh_are_sound c label date words area whole for in
     empty_stands c d label date words area whole for info written
-    (written_reads d 0 area for.fresh.size sound.signature written (copy_is_readable d 0 (block_of area) copy)) zeros
+    (written_reads d 0 area for.fresh.fresh.size sound.signature written (copy_is_readable d 0 (with_parity area) copy)) zeros
 
 formatted_copy : (old new : Cartridge) (copy : ℕ) (area : List (List ℕ)) → IsFormattedFrom old new area → copy < 2 →
-    IsCopyOf new copy (block_of area)
+    IsCopyOf new copy (with_parity area)
 formatted_copy old new copy area formatted below = record {
   first = λ bytes view.
-      let same : Holds bytes ≡ Holds (sector_at (block_of area) 0) = sym view ∙ formatted.copies copy 0 below (omega arith) in
+      let same : Holds bytes ≡ Holds (sector_at (with_parity area) 0) = sym view ∙ formatted.copies copy 0 below (omega arith) in
       cc;
   here = λ i from h. formatted.copies copy i below h;
 }
@@ -139,7 +143,7 @@ formatted_table old new area whole formatted =
 
 pub formatted_stands : FormattedStands
 formatted_stands old new label date words area whole for formatted =
-    let long : length (block_of area) ≡ 32 = length-block_of area for.fresh.size in
+    let long : length (with_parity area) ≡ 32 = length-with_parity area for.fresh.fresh.size in
     let first = formatted_copy old new 0 area formatted (omega arith) in
     let second = formatted_copy old new 1 area formatted (omega arith) in
     record {

@@ -7,7 +7,7 @@ use Rattle.qic_base.specs.Cartridge.{Cartridge, IsCartridge, view_at, zero_secto
 use Rattle.qic_base.specs.Step.{FormatSegment, SetReferenced, changed, formatted_view}
 use Rattle.qic_base.specs.Stop.{Torn, HalfFormatted, ClosingView, OpeningView, SegmentBecame}
 use Rattle.format_plan.specs.Formatting.{clearing_steps}
-use Rattle.format_plan.specs.Laws.{HasNoHeader}
+use Rattle.format_plan.specs.Clean.{HasNoHeader}
 use Rattle.format_plan.proofs.Views.{view_of_other_stopped}
 use Rattle.format_plan.proofs.Copies.{HoldsZeros, Shrank, zero_from_views}
 use Rattle.format_plan.proofs.Clearing.{IsClearedTo, cleared_none, cleared_more, formats_from, formatted_zeros}

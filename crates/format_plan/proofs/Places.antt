@@ -9,9 +9,9 @@ use Rattle.qic_base.specs.Step.{Step}
 use Rattle.cartridge_spec.specs.Segment.{sector_at}
 use Rattle.cartridge_spec.specs.Shape.{sectors_of, usable_places}
 use Rattle.cartridge_spec.specs.Says.{whole_mask}
-use Rattle.cartridge_spec.specs.Writes.{writes_of}
+use Rattle.cartridge_spec.specs.Writes.{writes_of, named_writes}
 use Rattle.cartridge_spec.proofs.Segments.{places_of_whole}
-use Rattle.format_plan.specs.Laws.{place_writes, CopyWritesByPlaces}
+use Rattle.format_plan.specs.Laws.{CopyWritesByPlaces}
 
 all_but_the_first : sectors_of (2 ^ 32 - 2) ≡ range_with_len 1 31
 unfolding lost_places
@@ -51,7 +51,7 @@ first_sector (bytes ∷ block) long = refl
 
 -- the writes to a set of places, by what the set has
 writes_by : (copy places : ℕ) (indexes : List ℕ) (sectors block : List (List ℕ)) → sectors_of places ≡ indexes → indexes_of indexes ≡ indexes →
-    map (λ place. sector_at block place) indexes ≡ sectors → place_writes copy places block ≡ writes_of copy indexes sectors
+    map (λ place. sector_at block place) indexes ≡ sectors → named_writes copy whole_mask places block ≡ writes_of copy indexes sectors
 unfolding indexes_of
 writes_by copy places indexes sectors block has same held =
     ap (λ (ps : List ℕ). writes_of copy (map (λ place. slice_index (usable_places whole_mask) place) ps) (map (λ place. sector_at block place) ps)) has
@@ -62,4 +62,4 @@ pub copy_writes_by_places : CopyWritesByPlaces
 copy_writes_by_places copy block long =
     let rear = writes_by copy (2 ^ 32 - 2) (range_with_len 1 31) (drop 1 block) block all_but_the_first rear_indexes (sectors_from block 1 31 long) in
     let front = writes_by copy 1 (range_with_len 0 1) (take 1 block) block the_first front_index (first_sector block long) in
-    sym (ap (λ (ws : List Step). ws ++ place_writes copy 1 block) rear ∙ ap (λ (ws : List Step). writes_of copy (range_with_len 1 31) (drop 1 block) ++ ws) front)
+    sym (ap (λ (ws : List Step). ws ++ named_writes copy whole_mask 1 block) rear ∙ ap (λ (ws : List Step). writes_of copy (range_with_len 1 31) (drop 1 block) ++ ws) front)

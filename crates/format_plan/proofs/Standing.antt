@@ -8,15 +8,15 @@ use Rattle.qic_base.specs.declared.tape.SectorView.{SectorView}
 use Rattle.qic_base.specs.Cartridge.{Cartridge, view_at}
 use Rattle.qic_base.specs.Field.{number_at, little_endian}
 use Rattle.qic_base.specs.LostSet.{lost_places}
-use Rattle.cartridge_spec.specs.Shape.{mask_at, usable_places, usable_count}
+use Rattle.cartridge_spec.specs.Shape.{mask_at, usable_places, usable_count, data_count}
 use Rattle.cartridge_spec.specs.Header.{header_fault, has_signature}
 use Rattle.cartridge_spec.specs.Table.{Entry, ForeignSlot, BadRange, entry_in, slot, slot_fault, some_free_below, has_bad_range, overlaps_before, is_used, is_free, HasNoFault}
 use Rattle.cartridge_spec.specs.Table as tables
 use Rattle.cartridge_spec.specs.Says.{whole_mask, cells_of, unreadable_count, Written, ReadsAll}
-use Rattle.cartridge_spec.specs.Volumes.{Plain, Volume, IsArea, Stands, IsUnformatted, IsInForce, CopiesAre, CopyReads, CopyDoesNotRead, copy_cells, last_segment, carrying, WrittenOver, entries_of}
+use Rattle.cartridge_spec.specs.Volumes.{Plain, Volume, VolumeStands, Part, PartStands, parts_of, Stands, CopiesAre, carrying, entries_of}
+use Rattle.cartridge_spec.specs.HeaderAndTable.{IsArea, IsUnformatted, IsInForce, CopyReads, CopyDoesNotRead, copy_cells, last_segment}
 use Rattle.cartridge_spec.proofs.Segments.{zero_does_not_read}
-use Rattle.format_plan.specs.Formatting.{IsCleanCopy}
-use Rattle.format_plan.specs.Laws.{StandsCleanly}
+use Rattle.format_plan.specs.Clean.{IsCleanCopy, StandsCleanly}
 use Rattle.format_plan.proofs.Copies.{zero_from_views, zero_shrank, written_shrank, written_reads, lost_does_not_read}
 use Rattle.format_plan.proofs.Halfway.{IsKeptCopy, IsKept}
 
@@ -104,22 +104,23 @@ range_behind (suc n) from h = All-cons (λ (s : ℕ). 3 ≤ s) from (range_with_
 abbrev pub AreKept : (c d : Cartridge) → Type 0
 AreKept c d = (s i : ℕ) → 3 ≤ s → i < 32 → view_at d s i ≡ view_at c s i
 
-written_over_kept : (c d : Cartridge) (words segments : List ℕ) (area : List (List ℕ)) → AreKept c d → All (λ s. 3 ≤ s) segments →
-    WrittenOver c words segments area → WrittenOver d words segments area
-written_over_kept c d words [] area kept behind written = written
-written_over_kept c d words (s ∷ ss) area kept behind written =
+parts_kept : (c d : Cartridge) (words segments : List ℕ) (area : List (List ℕ)) → AreKept c d → All (λ s. 3 ≤ s) segments →
+    All (PartStands c words) (parts_of words segments area) → All (PartStands d words) (parts_of words segments area)
+parts_kept c d words [] area kept behind stand = All-nil (PartStands d words)
+parts_kept c d words (s ∷ ss) area kept behind stand =
     let mask : ℕ = mask_at words s in
-    let here : 3 ≤ s = All-head (λ (t : ℕ). 3 ≤ t) s ss behind in (
-      subst (λ (cells : List SectorView). Written cells (take (usable_count mask - 3) area)) (sym (same_cells c d s mask (λ i h. kept s i here h))) written.0,
-      written_over_kept c d words ss (drop (usable_count mask - 3) area) kept (All-tail (λ (t : ℕ). 3 ≤ t) s ss behind) written.1,
-    )
-
-abbrev pub IsVolumeOf : Cartridge → (words : List ℕ) → Volume → Type 0
-IsVolumeOf c words volume = WrittenOver c words (carrying words volume.entry.start volume.entry.end) volume.area
+    let here : 3 ≤ s = All-head (λ (t : ℕ). 3 ≤ t) s ss behind in
+    let part : Part = record { segment = s; sectors = take (data_count mask) area } in
+    let rest : List Part = parts_of words ss (drop (data_count mask) area) in
+    All-cons (PartStands d words) part rest
+    (subst (λ (cells : List SectorView). Written cells (take (data_count mask) area)) (sym (same_cells c d s mask (λ i h. kept s i here h)))
+    (All-head (PartStands c words) part rest stand))
+    (parts_kept c d words ss (drop (data_count mask) area) kept (All-tail (λ (t : ℕ). 3 ≤ t) s ss behind)
+    (All-tail (PartStands c words) part rest stand))
 
 pub volumes_kept : (c d : Cartridge) (words : List ℕ) (volumes : List Volume) → AreKept c d → All BeginsBehind volumes →
-    All (IsVolumeOf c words) volumes → All (IsVolumeOf d words) volumes
-volumes_kept c d words [] kept behind written = All-nil (IsVolumeOf d words)
+    All (VolumeStands c words) volumes → All (VolumeStands d words) volumes
+volumes_kept c d words [] kept behind written = All-nil (VolumeStands d words)
 volumes_kept c d words (volume ∷ volumes) kept behind written =
     let start : ℕ = volume.entry.start in
     let end : ℕ = volume.entry.end in
@@ -127,9 +128,10 @@ volumes_kept c d words (volume ∷ volumes) kept behind written =
     let segments : All (λ s. 3 ≤ s) (carrying words start end) =
     All-filter (λ s. nat_le 4 (usable_count (mask_at words s))) (λ (s : ℕ). 3 ≤ s) (range_with_len start (end + 1 - start))
     (range_behind (end + 1 - start) start from) in
-    All-cons (IsVolumeOf d words) volume volumes
-    (written_over_kept c d words (carrying words start end) volume.area kept segments (All-head (IsVolumeOf c words) volume volumes written))
-    (volumes_kept c d words volumes kept (All-tail BeginsBehind volume volumes behind) (All-tail (IsVolumeOf c words) volume volumes written))
+    let stood : VolumeStands c words volume = All-head (VolumeStands c words) volume volumes written in
+    All-cons (VolumeStands d words) volume volumes
+    (record { parts = parts_kept c d words (carrying words start end) volume.area kept segments stood.parts; size = stood.size })
+    (volumes_kept c d words volumes kept (All-tail BeginsBehind volume volumes behind) (All-tail (VolumeStands c words) volume volumes written))
 
 -- ---- the header
 

@@ -5,13 +5,17 @@ use Rattle.qic_base.specs.Cartridge.{Cartridge, IsCartridge, view_at, zero_secto
 use Rattle.qic_base.specs.Step.{Step, effects}
 use Rattle.qic_base.specs.Stop.{Torn}
 use Rattle.qic_base.proofs.Steps.{Torn-append}
-use Rattle.cartridge_spec.specs.Volumes.{Plain, Stands, IsUnformatted}
+use Rattle.cartridge_spec.specs.Volumes.{Plain, Stands}
+use Rattle.cartridge_spec.specs.HeaderAndTable.{IsUnformatted}
 use Rattle.cartridge_spec.proofs.Segments.{zero_does_not_read}
-use Rattle.format_plan.specs.Formatting.{block_of, clearing_steps, copy_writes, format_steps, HasNoDefectInFront}
-use Rattle.format_plan.specs.Laws.{IsBareCopy, HasNoHeader, StandsCleanly, IsFreshFor, fresh_plain, StoppedClearing, StoppedClearingNew, StoppedFormat, StoppedFormatNew}
+use Rattle.format_plan.specs.Formatting.{clearing_steps, copy_writes, format_steps, HasNoDefectInFront}
+use Rattle.cartridge_spec.specs.Says.{with_parity}
+use Rattle.format_plan.specs.Laws.{StoppedClearing, StoppedClearingNew, StoppedFormat, StoppedFormatNew}
+use Rattle.format_plan.specs.Clean.{IsBareCopy, HasNoHeader, StandsCleanly}
+use Rattle.format_plan.specs.Fresh.{IsFreshFor, fresh_plain}
 use Rattle.format_plan.proofs.Copies.{HoldsZeros, IsCopyOf, bare_shrank, zero_from_views, zero_front_does_not_read, unformatted_from_bare}
 use Rattle.format_plan.proofs.Clearing.{cleared_to_the_end, formatted_zeros}
-use Rattle.format_plan.proofs.Formatted.{cleared, with_first, cleared_front, copy_stands, first_writable, first_written, second_writable, length-block_of}
+use Rattle.format_plan.proofs.Formatted.{cleared, with_first, cleared_front, copy_stands, first_writable, first_written, second_writable, length-with_parity}
 use Rattle.format_plan.proofs.Halfway.{IsKeptCopy, IsKeptOrBare, clearing_stopped}
 use Rattle.format_plan.proofs.Standing.{kept_stands}
 use Rattle.format_plan.proofs.Writing.{IsUntouched, IsAlmostWritten, IsPartlyWritten, changed_by-append, effects-some, copy_stopped, some_weaker}
@@ -72,7 +76,7 @@ almost_copy almost = record { first = almost.first; here = almost.here }
 
 -- a stop in copy 0
 first_left : (c d : Cartridge) (label : List ℕ) (date : ℕ) (words : List ℕ) (area : List (List ℕ)) → IsCartridge c →
-    IsFreshFor c label date words area → IsPartlyWritten 0 (block_of area) (cleared c) d →
+    IsFreshFor c label date words area → IsPartlyWritten 0 (with_parity area) (cleared c) d →
     LeftByFormat c (fresh_plain c label date words area) d
 first_left c d label date words area whole for (inl kept) = inr (inl (untouched_unformatted c d whole for.front kept))
 first_left c d label date words area whole for (inr almost) =
@@ -90,12 +94,12 @@ others_left (inl kept) = record { info = kept.info; others = λ s i h apart. kep
 others_left (inr almost) = record { info = almost.info; others = almost.others }
 
 second_left : (c d : Cartridge) (label : List ℕ) (date : ℕ) (words : List ℕ) (area : List (List ℕ)) → IsCartridge c →
-    IsFreshFor c label date words area → IsPartlyWritten 1 (block_of area) (with_first c (block_of area)) d →
+    IsFreshFor c label date words area → IsPartlyWritten 1 (with_parity area) (with_first c (with_parity area)) d →
     LeftByFormat c (fresh_plain c label date words area) d
 second_left c d label date words area whole for partly =
-    let first = first_written c (block_of area) whole for.front (length-block_of area for.fresh.size) in
+    let first = first_written c (with_parity area) whole for.front (length-with_parity area for.fresh.fresh.size) in
     let left = others_left partly in
-    let copy : IsCopyOf d 0 (block_of area) = record {
+    let copy : IsCopyOf d 0 (with_parity area) = record {
       first = λ bytes view.
           first.almost.first bytes (sym (left.others 0 0 (omega arith) (λ same. absurd (omega arith))) ∙ view);
       here = λ i from h. left.others 0 i h (λ same. absurd (omega arith)) ∙ first.almost.here i from h;
@@ -109,8 +113,8 @@ format_stopped : (c : Cartridge) (label : List ℕ) (date : ℕ) (words : List �
     IsFreshFor c label date words area → Torn (format_steps c.info.segments_per_track area) (Some c) left →
     IsSomeAnd left (LeftByFormat c (fresh_plain c label date words area))
 format_stopped c label date words area left whole for torn =
-    let block : List (List ℕ) = block_of area in
-    let long : length block ≡ 32 = length-block_of area for.fresh.size in
+    let block : List (List ℕ) = with_parity area in
+    let long : length block ≡ 32 = length-with_parity area for.fresh.fresh.size in
     let clearing : List Step = clearing_steps c.info.segments_per_track in
     let first : List Step = copy_writes 0 block in
     let second : List Step = copy_writes 1 block in

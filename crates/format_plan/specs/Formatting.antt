@@ -1,15 +1,13 @@
 -- The steps that format a cartridge, in their order, and what they make of it (Linux ftape headers: two header copies; the
 -- order of the steps is this project's profile).
-use Rattle.std.specs.Prelude.{◌≡◌, ◌⊎◌, ℕ, ◌*◌, ◌<◌, ◌≤◌, List, [], ◌∷◌, ◌++◌, map, take, drop, true}
+use Rattle.std.specs.Prelude.{◌≡◌, ℕ, ◌*◌, ◌<◌, ◌≤◌, List, [], ◌∷◌, ◌++◌, map, take, drop, true}
 use Rattle.std.specs.List.{range_with_len}
 use Rattle.qic_base.specs.declared.tape.SectorView.TheVariants.{Holds}
 use Rattle.qic_base.specs.Cartridge.{Cartridge, view_at}
 use Rattle.qic_base.specs.Step.{Step, FormatSegment, SetReferenced, formatted_view}
-use Rattle.gf256_qic.specs.Code.{parity_sectors}
 use Rattle.cartridge_spec.specs.Segment.{sector_at}
-use Rattle.cartridge_spec.specs.Header.{Header, Spells}
-use Rattle.cartridge_spec.specs.Says.{Written, Zero}
-use Rattle.cartridge_spec.specs.Volumes.{IsArea, IsDefect, copy_cells}
+use Rattle.cartridge_spec.specs.Says.{with_parity}
+use Rattle.cartridge_spec.specs.Defects.{IsDefect}
 use Rattle.cartridge_spec.specs.Writes.{writes_of}
 
 -- ---- the steps
@@ -22,34 +20,13 @@ segment_formats count = map (λ s. FormatSegment s) (range_with_len 0 count)
 abbrev pub clearing_steps : ℕ → List Step
 clearing_steps n = SetReferenced ∷ segment_formats (28 * n)
 
--- data sectors and their parity
-abbrev pub block_of : List (List ℕ) → List (List ℕ)
-block_of area = area ++ parity_sectors area
-
 -- a header copy: sectors 1 to 31, ascending, and then sector 0, without which it can't be read
 abbrev pub copy_writes : (copy : ℕ) → (block : List (List ℕ)) → List Step
 copy_writes copy block = writes_of copy (range_with_len 1 31) (drop 1 block) ++ writes_of copy (0 ∷ []) (take 1 block)
 
 -- all of them, with these data in both header copies
 abbrev pub format_steps : (n : ℕ) → (area : List (List ℕ)) → List Step
-format_steps n area = clearing_steps n ++ copy_writes 0 (block_of area) ++ copy_writes 1 (block_of area)
-
--- ---- the header
-
--- the header of a cartridge that is formatted with this label, 44 bytes, and this date word
-abbrev pub fresh_header : (n : ℕ) → (label : List ℕ) → (date : ℕ) → Header
-fresh_header n label date = record {
-  format_date = date;
-  write_date = date;
-  segments_per_track = n;
-  label = label;
-  label_date = date;
-}
-
--- header data for it, with the words of this map
-pub record IsFreshArea (n : ℕ) (label : List ℕ) (date : ℕ) (words : List ℕ) (area : List (List ℕ)) : Type 0 where
-  pub size : IsArea area
-  pub spells : Spells (fresh_header n label date) words area
+format_steps n area = clearing_steps n ++ copy_writes 0 (with_parity area) ++ copy_writes 1 (with_parity area)
 
 -- ---- defects in front
 
@@ -84,13 +61,6 @@ pub record IsClearedFrom (old new : Cartridge) : Type 0 where
 -- other sector but the defects holds zero bytes
 pub record IsFormattedFrom (old new : Cartridge) (area : List (List ℕ)) : Type 0 where
   pub info : new.info ≡ record old.info { referenced = true }
-  pub copies : (copy index : ℕ) → copy < 2 → index < 32 → view_at new copy index ≡ Holds (sector_at (block_of area) index)
+  pub copies : (copy index : ℕ) → copy < 2 → index < 32 → view_at new copy index ≡ Holds (sector_at (with_parity area) index)
   pub others : (segment index : ℕ) → 2 ≤ segment → segment < 28 * old.info.segments_per_track → index < 32 →
       view_at new segment index ≡ formatted_view (view_at old segment index)
-
--- ---- what stands before it
-
--- a header copy was written with these data, or holds zero bytes; so does each one of a new cartridge, and of one that was
--- formatted to the end
-abbrev pub IsCleanCopy : Cartridge → (copy : ℕ) → (area : List (List ℕ)) → Type 0
-IsCleanCopy c copy area = Written (copy_cells c copy) area ⊎ Zero (copy_cells c copy)

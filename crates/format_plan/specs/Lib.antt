@@ -1,2 +1,4 @@
+pub mod Clean
 pub mod Formatting
+pub mod Fresh
 pub mod Laws

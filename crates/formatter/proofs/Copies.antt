@@ -8,8 +8,9 @@ use Rattle.gf256_qic.specs.Code.{parity_sectors}
 use Rattle.qic_base.specs.LostSet.{lost_places}
 use Rattle.cartridge_spec.specs.Shape.{usable_places, usable_count}
 use Rattle.format_plan.proofs.Places.{copy_writes_by_places}
-use Rattle.format_plan.specs.Formatting.{copy_writes, block_of}
-use Rattle.segment_io.specs.Writes.{named_writes}
+use Rattle.format_plan.specs.Formatting.{copy_writes}
+use Rattle.cartridge_spec.specs.Says.{with_parity}
+use Rattle.cartridge_spec.specs.Writes.{named_writes}
 
 -- all 32 sectors are usable
 all_places : usable_places 4294967295 ≡ range_with_len 0 32
@@ -32,7 +33,7 @@ put_last xs ys size =
     ap (λ (l : List (List ℕ)). take 29 xs ++ (ys ++ l)) rest ∙ ap (λ (l : List (List ℕ)). take 29 xs ++ l) (append-nil ys)
 
 -- the data sectors are the first 29 of the block
-pub block_data : (area : List (List ℕ)) → length area ≡ 29 → take 29 (block_of area) ≡ area
+pub block_data : (area : List (List ℕ)) → length area ≡ 29 → take 29 (with_parity area) ≡ area
 block_data area size = take_at area (parity_sectors area) 29 size
 
 -- the workspace whose 32 sectors were lent

@@ -1,10 +1,10 @@
 -- The map of the unreadable sectors, sector by sector.
-use Rattle.std.proofs.Common.{◌≡◌, ◌≢◌, ◌↔◌, ℕ, ◌+◌, ◌*◌, ◌^◌, ◌<◌, inl, inr, sym, ◌∙◌, ap, subst, arith, List, length, get_or, set, max, replicate, get_or-set_same, get_or-set_other, w32, Option, Some, None, IfSome}
+use Rattle.std.proofs.Common.{refl, ◌≡◌, ◌≢◌, ◌↔◌, ℕ, ◌+◌, ◌*◌, ◌^◌, ◌<◌, inl, inr, sym, ◌∙◌, ap, subst, arith, List, length, get_or, set, max, replicate, get_or-set_same, get_or-set_other, w32, Option, Some, None, IfSome}
 use Rattle.std.specs.Int.RustNames.{bit_or}
 use Rattle.std.specs.Int.{bit_at, trailing_zeros}
 use Rattle.std.proofs.Math.ListN.{length-set}
 use Rattle.std.proofs.Math.Pow.{pow-lt}
-use Rattle.std.proofs.lemmas.Bool.{cases_eq, cases_lt}
+use Rattle.std.proofs.lemmas.Bool.{cases_eq, cases_lt, false≢true}
 use Rattle.std.proofs.lemmas.List.{get_or-replicate, get_or_past, length-replicate}
 use Rattle.std.proofs.lemmas.Nat.{or_of_32}
 use Rattle.std.proofs.lemmas.Nat.Bits.{bit_at-zero, bit_at-lt, bit_at_or, bit_at-pow_same, bit_at-pow_other, bit_at-trailing_zeros}
@@ -15,7 +15,7 @@ use Rattle.qic_base.specs.declared.tape.SectorRead.TheVariants as read
 use Rattle.qic_base.specs.declared.tape.SectorView.{SectorView}
 use Rattle.qic_base.specs.declared.tape.SectorView.TheVariants.{Blank, Defect, Lost, Holds}
 use Rattle.cartridge_spec.specs.Segment.{IsUnreadable}
-use Rattle.cartridge_spec.specs.Volumes.{IsMarked}
+use Rattle.cartridge_spec.specs.Defects.{IsMarked}
 use Rattle.formatter.specs.Marking.{MarksBelow, MarksUnreadable, HasNoMark}
 
 -- ---- a word with one bit more
@@ -138,13 +138,13 @@ pub read_good : (view : SectorView) (old now : List ℕ) (answer : SectorRead) �
 read_good Blank old now answer good r = let no : read.Good ≡ read.Blank = sym good ∙ r.0 in absurd (cc)
 read_good Defect old now answer good r = let no : read.Good ≡ read.Lost = sym good ∙ r.0 in absurd (cc)
 read_good Lost old now answer good r = let no : read.Good ≡ read.Lost = sym good ∙ r.0 in absurd (cc)
-read_good (Holds bytes) old now answer good r = λ h. h
+read_good (Holds bytes) old now answer good r = λ bad. false≢true bad
 
 pub read_bad : (view : SectorView) (old now : List ℕ) (answer : SectorRead) → answer ≢ read.Good → Reads view old now answer → IsUnreadable view
-read_bad Blank old now answer bad r = tt
-read_bad Defect old now answer bad r = tt
-read_bad Lost old now answer bad r = tt
-read_bad (Holds bytes) old now answer bad r = bad r.0
+read_bad Blank old now answer bad r = refl
+read_bad Defect old now answer bad r = refl
+read_bad Lost old now answer bad r = refl
+read_bad (Holds bytes) old now answer bad r = absurd (bad r.0)
 
 -- all are marked or found readable
 pub marks_all : (c : Cartridge) (words : List ℕ) (n : ℕ) → n ≡ length words → MarksBelow c words (32 * n) → MarksUnreadable c words

@@ -6,9 +6,10 @@ use Rattle.qic_base.specs.Step.{Step, effects}
 use Rattle.qic_base.specs.Tape.{Meaning, Done, Broke, Tells, IsToldRight}
 use Rattle.qic_base.proofs.Steps.{Done-Done, Done-Broke}
 use Rattle.cartridge_spec.specs.Segment.{IsUnreadable}
-use Rattle.cartridge_spec.specs.Volumes.{IsDefect, MarksDefects}
+use Rattle.cartridge_spec.specs.Defects.{IsDefect, MarksDefects}
 use Rattle.cartridge_spec.specs.Writes.{changed_by}
-use Rattle.format_plan.specs.Formatting.{clearing_steps, copy_writes, block_of, format_steps, HasNoDefectInFront, IsFirstDefectInFront}
+use Rattle.format_plan.specs.Formatting.{clearing_steps, copy_writes, format_steps, HasNoDefectInFront, IsFirstDefectInFront}
+use Rattle.cartridge_spec.specs.Says.{with_parity}
 use Rattle.format_plan.proofs.Writing.{effects-some}
 use Rattle.format_plan.proofs.Clearing.{clearing_clears, cleared_shows_defects}
 use Rattle.formatter.specs.Formats.{MarksFormattable, header_writes}
@@ -93,11 +94,11 @@ first_defect m a b n words segment right size long done told first =
 pub all_done : {S : Type 0} (m : Meaning S) (a b c : S) (n : ℕ) (area : List (List ℕ)) → Done m a b (clearing_steps n) →
     Done m b c (header_writes area) → Done m a c (format_steps n area)
 all_done m a b c n area first next =
-    subst (λ (steps : List Step). Done m a c steps) (sym (append_assoc (clearing_steps n) (copy_writes 0 (block_of area)) (copy_writes 1 (block_of area))))
+    subst (λ (steps : List Step). Done m a c steps) (sym (append_assoc (clearing_steps n) (copy_writes 0 (with_parity area)) (copy_writes 1 (with_parity area))))
     (Done-Done {xs = clearing_steps n} {ys = header_writes area} first next)
 
 pub all_broken : {S : Type 0} (m : Meaning S) (a b c : S) (n : ℕ) (area : List (List ℕ)) → Done m a b (clearing_steps n) →
     Broke m b c (header_writes area) → Broke m a c (format_steps n area)
 all_broken m a b c n area first next =
-    subst (λ (steps : List Step). Broke m a c steps) (sym (append_assoc (clearing_steps n) (copy_writes 0 (block_of area)) (copy_writes 1 (block_of area))))
+    subst (λ (steps : List Step). Broke m a c steps) (sym (append_assoc (clearing_steps n) (copy_writes 0 (with_parity area)) (copy_writes 1 (with_parity area))))
     (Done-Broke {xs = clearing_steps n} {ys = header_writes area} first next)

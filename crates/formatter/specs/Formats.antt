@@ -3,8 +3,10 @@ use Rattle.std.specs.Prelude.{◌≡◌, ◌⊎◌, ℕ, ◌*◌, ◌<◌, ◌++
 use Rattle.qic_base.specs.Step.{Step}
 use Rattle.qic_base.specs.Tape.{Meaning, Done, Broke, Does, Tells}
 use Rattle.cartridge_spec.specs.Shape.{marked_sectors}
-use Rattle.cartridge_spec.specs.Volumes.{MarksDefects}
-use Rattle.format_plan.specs.Formatting.{clearing_steps, copy_writes, block_of, format_steps, IsFreshArea, HasNoDefectInFront, IsFirstDefectInFront}
+use Rattle.cartridge_spec.specs.Defects.{MarksDefects}
+use Rattle.format_plan.specs.Formatting.{clearing_steps, copy_writes, format_steps, HasNoDefectInFront, IsFirstDefectInFront}
+use Rattle.cartridge_spec.specs.Says.{with_parity}
+use Rattle.format_plan.specs.Fresh.{IsFreshArea}
 use Rattle.formatter.specs.declared.fault.FormatFault.{FormatFault}
 use Rattle.formatter.specs.declared.fault.FormatFault.TheVariants.{Protected, DefectInFront, Tape}
 use Rattle.formatter.specs.declared.formatting.FormatReport.{FormatReport}
@@ -56,7 +58,7 @@ Clears m n old new (Err Tape) = Broke m old new (clearing_steps n)
 
 -- both header copies, copy 0 first
 abbrev pub header_writes : (area : List (List ℕ)) → List Step
-header_writes area = copy_writes 0 (block_of area) ++ copy_writes 1 (block_of area)
+header_writes area = copy_writes 0 (with_parity area) ++ copy_writes 1 (with_parity area)
 
 -- they were written with some header data that have this label, this date and these words
 pub record WritesHeader {T E : Type 0} (m : Meaning T) (n : ℕ) (label : List ℕ) (date : ℕ) (words : List ℕ) (old new : T) (result : Result (Unit {0}) E) : Type 0 where

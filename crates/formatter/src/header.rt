@@ -4,14 +4,16 @@ ghost use Rattle.std.specs.Prelude.{◌≡◌, ◌<◌, ◌*◌, true, false, le
 ghost use Rattle.qic_base.specs.Cartridge.{IsLength, IsSector};
 ghost use Rattle.qic_base.specs.Tape.{Does};
 ghost use Rattle.cartridge_spec.specs.Header.{Spells};
-ghost use Rattle.cartridge_spec.specs.Volumes.{IsArea};
+ghost use Rattle.cartridge_spec.specs.HeaderAndTable.{IsArea};
 ghost use Rattle.header_segments.specs.Header.{header_of};
 ghost use Rattle.qic117_commands.specs.Views.{is_primary};
 ghost use Rattle.drive_states.specs.Deck.{segments_per_track, is_stopped, is_protected, is_referenced};
 ghost use Rattle.host_driver.specs.Fits.{Agrees, Fits, IsAtRest};
 ghost use Rattle.host_driver.specs.Place.{KeepsMode};
 ghost use Rattle.gf256_qic.specs.Code.{parity_sectors};
-ghost use Rattle.format_plan.specs.Formatting.{copy_writes, block_of, IsFreshArea};
+ghost use Rattle.format_plan.specs.Formatting.{copy_writes};
+ghost use Rattle.cartridge_spec.specs.Says.{with_parity};
+ghost use Rattle.format_plan.specs.Fresh.{IsFreshArea};
 ghost use Rattle.formatter.specs.Formats.{WritesHeader};
 
 use crate::SECTOR;
@@ -67,7 +69,7 @@ fn spell(geometry: Geometry, label: &Name, date: u32, map: &BadMap, sectors: &mu
     requires words { length map.now ≡ 28 * geometry }
     requires room { length sectors.old ≡ 32 }
     ensures fresh { IsFreshArea geometry label.now date map.now (take 29 sectors.new) }
-    ensures parity { sectors.new ≡ block_of (take 29 sectors.new) }
+    ensures parity { sectors.new ≡ with_parity (take 29 sectors.new) }
 {
     let header = Header {
         format_date: date,
@@ -93,7 +95,7 @@ fn put_header(header: &Header, map: &BadMap, sectors: &mut [[u8; SECTOR]])
 // Puts the parity of the data sectors behind them.
 fn put_parity(sectors: &mut [[u8; SECTOR]])
     requires { length sectors.old ≡ 32 }
-    ensures parity { sectors.new ≡ block_of (take 29 sectors.old) }
+    ensures parity { sectors.new ≡ with_parity (take 29 sectors.old) }
     ensures area { IsArea (take 29 sectors.old) }
 {
     let parity = parity_of(&sectors[..DATA_SECTORS]);

@@ -7,7 +7,7 @@ use Rattle.qic_base.specs.Cartridge.{IsSector, zero_sector}
 use Rattle.qic_base.specs.Field.{number_at, little_endian_bytes, overwritten}
 use Rattle.qic_base.proofs.FieldLaws.{length-overwritten, length-little_endian_bytes, number_at-overwritten}
 use Rattle.cartridge_spec.specs.Header.{Field, Value, Number, Text, byte_in, word_in, IsInMap}
-use Rattle.cartridge_spec.specs.Volumes.{IsArea}
+use Rattle.cartridge_spec.specs.HeaderAndTable.{IsArea}
 use Rattle.header_segments.specs.Writing.{value_bytes, with_fields}
 use Rattle.header_segments.proofs.SpellingLaws.{all_clear}
 use Rattle.bad_sector_map.proofs.AreaLaws.{byte_in-other_word, word_in-others, IsInMap-more}

@@ -10,11 +10,12 @@ use Rattle.qic_base.specs.declared.tape.SectorView.{SectorView}
 use Rattle.qic_base.specs.declared.tape.SectorView.TheVariants.{Blank, Defect, Lost, Holds}
 use Rattle.qic_base.specs.Cartridge.{Cartridge, IsCartridge, IsSector, view_at}
 use Rattle.cartridge_spec.specs.Header.{Header, word_in, words_in}
-use Rattle.cartridge_spec.specs.Volumes.{IsArea, IsDefect, MarksDefects}
-use Rattle.format_plan.specs.Formatting.{fresh_header, IsFreshArea}
-use Rattle.header_segments.specs.Writing.{Fits, with_fields, told_fields}
+use Rattle.cartridge_spec.specs.HeaderAndTable.{IsArea}
+use Rattle.cartridge_spec.specs.Defects.{IsDefect, MarksDefects}
+use Rattle.format_plan.specs.Fresh.{fresh_header, IsFreshArea, IsLabel}
+use Rattle.header_segments.specs.Writing.{FieldFits, with_fields, told_fields}
 use Rattle.header_segments.proofs.SpellingLaws.{all_fields, IsEncoded, encoded_spells}
-use Rattle.fresh_header.specs.Laws.{IsLabel, FreshAreaExists}
+use Rattle.fresh_header.specs.Laws.{FreshAreaExists}
 use Rattle.fresh_header.proofs.Building.{zero_area, zero_area_is, zero_area_clear, with_words, IsMapped, words_written, IsFilled, fields_written}
 
 -- ---- a number by its bits
@@ -153,9 +154,9 @@ filled h label =
     All-from_recursion IsFilled (all_fields h)
     (tt, (tt, (tt, (tt, (tt, (tt, (tt, (tt, (tt, (tt, (tt, (tt, (tt, (tt, ((label.size, label.bytes), (tt, tt))))))))))))))))
 
-fitting : (n : ℕ) (label : List ℕ) (date : ℕ) → IsLabel label → date < 2 ^ 32 → All Fits (told_fields (fresh_header n label date))
+fitting : (n : ℕ) (label : List ℕ) (date : ℕ) → IsLabel label → date < 2 ^ 32 → All FieldFits (told_fields (fresh_header n label date))
 fitting n label date is_label small =
-    All-from_recursion Fits (told_fields (fresh_header n label date)) (omega arith, (omega arith, (is_label.size, (omega arith, tt))))
+    All-from_recursion FieldFits (told_fields (fresh_header n label date)) (omega arith, (omega arith, (is_label.size, (omega arith, tt))))
 
 words_shown : (c : Cartridge) → IsCartridge c → words_in (mapped c) (length (defect_words c)) ≡ defect_words c
 words_shown c whole =

@@ -4,7 +4,7 @@ use Rattle.std.proofs.lemmas.Bool.{cases_lt}
 use Rattle.qic_base.specs.declared.tape.SectorView.{SectorView}
 use Rattle.qic_base.specs.declared.tape.SectorView.TheVariants.{Blank, Defect, Lost, Holds}
 use Rattle.qic_base.specs.Cartridge.{Cartridge, view_at}
-use Rattle.cartridge_spec.specs.Volumes.{IsDefect}
+use Rattle.cartridge_spec.specs.Defects.{IsDefect}
 use Rattle.format_plan.specs.Formatting.{HasDefectIn, HasNoDefectIn, HasNoDefectInFront, IsFirstDefectInFront}
 use Rattle.fresh_header.specs.Laws.{HasDefectInFront, FirstDefectOrNone, FirstDefectIsNone, FirstDefectIsOne}
 

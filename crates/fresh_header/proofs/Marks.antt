@@ -11,9 +11,10 @@ use Rattle.qic_base.specs.Cartridge.{Cartridge}
 use Rattle.qic_base.specs.Field.{number_at, little_endian}
 use Rattle.cartridge_spec.specs.Segment.{sector_at}
 use Rattle.cartridge_spec.specs.Header.{word_in, words_in}
-use Rattle.cartridge_spec.specs.Volumes.{IsArea, MarksDefects}
-use Rattle.format_plan.specs.Formatting.{fresh_header, IsFreshArea}
-use Rattle.fresh_header.specs.Laws.{AreWords, ShownAreWords, MarksAreOne, IsFreshWith, FreshAreaIsOne}
+use Rattle.cartridge_spec.specs.HeaderAndTable.{IsArea}
+use Rattle.cartridge_spec.specs.Defects.{MarksDefects}
+use Rattle.format_plan.specs.Fresh.{fresh_header, IsFreshArea, IsFreshWith}
+use Rattle.fresh_header.specs.Laws.{AreWords, ShownAreWords, MarksAreOne, FreshAreaIsOne}
 use Rattle.fresh_header.proofs.Spelled.{sector_is, spelled_is_one, word_of}
 
 -- ---- words that an area shows

@@ -11,7 +11,7 @@ use Rattle.qic_base.specs.Cartridge.{IsSector}
 use Rattle.qic_base.specs.Field.{number_at, little_endian}
 use Rattle.cartridge_spec.specs.Segment.{sector_at}
 use Rattle.cartridge_spec.specs.Header.{Header, Field, Value, Number, Text, byte_in, word_in, words_in, Holds, HoldsValue, IsInField, IsInMap, Spells, profile_fields, header_fields}
-use Rattle.cartridge_spec.specs.Volumes.{IsArea}
+use Rattle.cartridge_spec.specs.HeaderAndTable.{IsArea}
 use Rattle.fresh_header.specs.Laws.{SpelledIsOne}
 use Rattle.fresh_header.proofs.Fields.{are_first, first-head, first-tail}
 

@@ -2,8 +2,10 @@
 use Rattle.std.specs.Prelude.{◌≡◌, ◌⊎◌, ℕ, ◌^◌, ◌<◌, List, length, All}
 use Rattle.qic_base.specs.Cartridge.{Cartridge, IsCartridge}
 use Rattle.cartridge_spec.specs.Header.{Header, Shows, Spells}
-use Rattle.cartridge_spec.specs.Volumes.{IsArea, MarksDefects}
-use Rattle.format_plan.specs.Formatting.{IsFreshArea, HasNoDefectInFront, IsFirstDefectInFront}
+use Rattle.cartridge_spec.specs.HeaderAndTable.{IsArea}
+use Rattle.cartridge_spec.specs.Defects.{MarksDefects}
+use Rattle.format_plan.specs.Formatting.{HasNoDefectInFront, IsFirstDefectInFront}
+use Rattle.format_plan.specs.Fresh.{IsFreshArea, IsFreshWith, IsLabel}
 
 -- ---- defects in front
 
@@ -44,22 +46,12 @@ MarksAreOne =
     (c : Cartridge) (one other : List ℕ) → AreWords one → AreWords other → MarksDefects c one → MarksDefects c other →
     one ≡ other
 
--- fresh header data whose map marks the cartridge's defects
-pub record IsFreshWith (c : Cartridge) (label : List ℕ) (date : ℕ) (words : List ℕ) (area : List (List ℕ)) : Type 0 where
-  pub fresh : IsFreshArea c.info.segments_per_track label date words area
-  pub marks : MarksDefects c words
-
 abbrev pub FreshAreaIsOne : Type 0
 FreshAreaIsOne =
     (c : Cartridge) (label : List ℕ) (date : ℕ) (words others : List ℕ) (area other : List (List ℕ)) →
     IsFreshWith c label date words area → IsFreshWith c label date others other → (words ≡ others) × (area ≡ other)
 
 -- ---- and one
-
--- a label has 44 bytes
-pub record IsLabel (label : List ℕ) : Type 0 where
-  pub size : length label ≡ 44
-  pub bytes : All (λ b. b < 256) label
 
 pub record HasFreshArea (c : Cartridge) (label : List ℕ) (date : ℕ) : Type 0 where
   pub words : List ℕ

@@ -7,7 +7,7 @@ use Rattle.std.proofs.lemmas.Bool.Decides.{nat_tests}
 use Rattle.qic_base.specs.Field.{number_at, little_endian_bytes, overwritten}
 use Rattle.qic_base.proofs.FieldLaws.{length-overwritten, length-little_endian_bytes, number_at-overwritten, number_at-overwritten_below, number_at-overwritten_above, slice_range-overwritten, slice_range-overwritten_below, slice_range-overwritten_above, get_or-overwritten_below, get_or-overwritten_above}
 use Rattle.cartridge_spec.specs.Header.{Field, Value, Number, Text, IsInField}
-use Rattle.header_segments.specs.Writing.{HasRoom, Fits, value_bytes, with_fields}
+use Rattle.header_segments.specs.Writing.{HasRoom, FieldFits, value_bytes, with_fields}
 
 -- what a sector holds in a field
 abbrev pub HoldsHere : List ℕ → (offset width : ℕ) → Value → Type 0
@@ -70,19 +70,19 @@ fits_sector f rest sector h l =
     let e : nat_le (f.offset + f.width) 1024 ≡ true = and-left _ rest h in
     grind (arith, nat_tests)
 
-length-written : (f : Field) (sector : List ℕ) → Fits f → f.offset + f.width ≤ length sector → length sector ≡ 1024 → length (overwritten sector f.offset (value_bytes f.width f.value)) ≡ 1024
+length-written : (f : Field) (sector : List ℕ) → FieldFits f → f.offset + f.width ≤ length sector → length sector ≡ 1024 → length (overwritten sector f.offset (value_bytes f.width f.value)) ≡ 1024
 length-written f sector room h l =
     length-overwritten sector (value_bytes f.width f.value) f.offset (omega (arith, length-value_bytes f.width f.value room)) ∙ l
 
 -- a field that is apart from all that are written keeps its value
-HoldsIn-kept : (fs : List Field) (f : Field) (sector : List ℕ) → is_apart_from f fs ≡ true → are_placed fs ≡ true → All Fits fs → length sector ≡ 1024 → HoldsIn sector f → HoldsIn (with_fields fs sector) f
+HoldsIn-kept : (fs : List Field) (f : Field) (sector : List ℕ) → is_apart_from f fs ≡ true → are_placed fs ≡ true → All FieldFits fs → length sector ≡ 1024 → HoldsIn sector f → HoldsIn (with_fields fs sector) f
 HoldsIn-kept [] f sector apart placed fits l holds = holds
 HoldsIn-kept (g ∷ gs) f sector apart placed fits l holds =
-    let room : Fits g = All-head Fits g gs fits in
+    let room : FieldFits g = All-head FieldFits g gs fits in
     let inside : g.offset + g.width ≤ length sector = fits_sector g _ sector (and-left _ _ placed) l in
     let size : length (value_bytes g.width g.value) ≡ g.width = length-value_bytes g.width g.value room in
     HoldsIn-kept gs f (overwritten sector g.offset (value_bytes g.width g.value))
-    (and-right _ _ apart) (and-right _ _ placed) (All-tail Fits g gs fits) (length-written g sector room inside l)
+    (and-right _ _ apart) (and-right _ _ placed) (All-tail FieldFits g gs fits) (length-written g sector room inside l)
     (HoldsHere-kept sector (value_bytes g.width g.value) g.offset f.offset f.width f.value (omega arith)
     (by_side (apart-cases (f.offset + f.width) g.offset (g.offset + g.width) f.offset (and-left _ _ apart)) size) holds)
   where
@@ -91,26 +91,26 @@ HoldsIn-kept (g ∷ gs) f sector apart placed fits l holds =
     by_side (inr above) size = inr (omega arith)
 
 -- each of the fields that are written holds its value
-pub HoldsIn-with_fields : (fs : List Field) (sector : List ℕ) → are_placed fs ≡ true → All Fits fs → length sector ≡ 1024 → All (HoldsIn (with_fields fs sector)) fs
+pub HoldsIn-with_fields : (fs : List Field) (sector : List ℕ) → are_placed fs ≡ true → All FieldFits fs → length sector ≡ 1024 → All (HoldsIn (with_fields fs sector)) fs
 HoldsIn-with_fields [] sector placed fits l = All-nil (HoldsIn sector)
 HoldsIn-with_fields (f ∷ fs) sector placed fits l =
-    let room : Fits f = All-head Fits f fs fits in
+    let room : FieldFits f = All-head FieldFits f fs fits in
     let inside : f.offset + f.width ≤ length sector = fits_sector f _ sector (and-left _ _ placed) l in
     let next : length (overwritten sector f.offset (value_bytes f.width f.value)) ≡ 1024 = length-written f sector room inside l in
     All-cons (HoldsIn (with_fields fs (overwritten sector f.offset (value_bytes f.width f.value)))) f fs
-    (HoldsIn-kept fs f (overwritten sector f.offset (value_bytes f.width f.value)) (and-right _ _ (and-left _ _ placed)) (and-right _ _ placed) (All-tail Fits f fs fits) next
+    (HoldsIn-kept fs f (overwritten sector f.offset (value_bytes f.width f.value)) (and-right _ _ (and-left _ _ placed)) (and-right _ _ placed) (All-tail FieldFits f fs fits) next
     (HoldsHere-written sector f.offset f.width f.value (omega arith) room))
-    (HoldsIn-with_fields fs (overwritten sector f.offset (value_bytes f.width f.value)) (and-right _ _ placed) (All-tail Fits f fs fits) next)
+    (HoldsIn-with_fields fs (overwritten sector f.offset (value_bytes f.width f.value)) (and-right _ _ placed) (All-tail FieldFits f fs fits) next)
 
 -- a byte outside of all of them stays
-pub get_or-with_fields : (fs : List Field) (sector : List ℕ) (k : ℕ) → are_placed fs ≡ true → All Fits fs → length sector ≡ 1024 → All (λ field. ¬ (IsInField k field)) fs → get_or (with_fields fs sector) k 0 ≡ get_or sector k 0
+pub get_or-with_fields : (fs : List Field) (sector : List ℕ) (k : ℕ) → are_placed fs ≡ true → All FieldFits fs → length sector ≡ 1024 → All (λ field. ¬ (IsInField k field)) fs → get_or (with_fields fs sector) k 0 ≡ get_or sector k 0
 get_or-with_fields [] sector k placed fits l outside = refl
 get_or-with_fields (f ∷ fs) sector k placed fits l outside =
-    let room : Fits f = All-head Fits f fs fits in
+    let room : FieldFits f = All-head FieldFits f fs fits in
     let inside : f.offset + f.width ≤ length sector = fits_sector f _ sector (and-left _ _ placed) l in
     let size : length (value_bytes f.width f.value) ≡ f.width = length-value_bytes f.width f.value room in
     get_or-with_fields fs (overwritten sector f.offset (value_bytes f.width f.value)) k
-    (and-right _ _ placed) (All-tail Fits f fs fits) (length-written f sector room inside l) (All-tail (λ (field : Field). ¬ (IsInField k field)) f fs outside)
+    (and-right _ _ placed) (All-tail FieldFits f fs fits) (length-written f sector room inside l) (All-tail (λ (field : Field). ¬ (IsInField k field)) f fs outside)
     ∙ by_side inside size (cases_lt k f.offset)
   where
     not_in : f.offset ≤ k → k < f.offset + f.width → ⊥
@@ -125,7 +125,7 @@ get_or-with_fields (f ∷ fs) sector k placed fits l outside =
     by_side inside size (inr from) = by_end inside size from (cases_lt k (f.offset + f.width))
 
 -- a sector that is whole after a write was whole before it
-length-before : (f : Field) (sector : List ℕ) → Fits f → f.offset + f.width < 1024 → length (overwritten sector f.offset (value_bytes f.width f.value)) ≡ 1024 → length sector ≡ 1024
+length-before : (f : Field) (sector : List ℕ) → FieldFits f → f.offset + f.width < 1024 → length (overwritten sector f.offset (value_bytes f.width f.value)) ≡ 1024 → length sector ≡ 1024
 unfolding overwritten
 length-before f sector room inside whole =
     let size : length (value_bytes f.width f.value) ≡ f.width = length-value_bytes f.width f.value room in
@@ -138,9 +138,9 @@ abbrev pub end_early : List Field → Bool
 end_early [] = true
 end_early (f ∷ fs) = nat_lt (f.offset + f.width) 1024 && end_early fs
 
-pub length-before_fields : (fs : List Field) (sector : List ℕ) → end_early fs ≡ true → All Fits fs → length (with_fields fs sector) ≡ 1024 → length sector ≡ 1024
+pub length-before_fields : (fs : List Field) (sector : List ℕ) → end_early fs ≡ true → All FieldFits fs → length (with_fields fs sector) ≡ 1024 → length sector ≡ 1024
 length-before_fields [] sector early fits whole = whole
 length-before_fields (f ∷ fs) sector early fits whole =
     let here : nat_lt (f.offset + f.width) 1024 ≡ true = and-left _ _ early in
-    length-before f sector (All-head Fits f fs fits) (grind (arith, nat_tests))
-    (length-before_fields fs (overwritten sector f.offset (value_bytes f.width f.value)) (and-right _ _ early) (All-tail Fits f fs fits) whole)
+    length-before f sector (All-head FieldFits f fs fits) (grind (arith, nat_tests))
+    (length-before_fields fs (overwritten sector f.offset (value_bytes f.width f.value)) (and-right _ _ early) (All-tail FieldFits f fs fits) whole)

@@ -10,7 +10,7 @@ use Rattle.qic_base.specs.Cartridge.{IsLength}
 use Rattle.qic_base.specs.Field.{number_at, little_endian_bytes, overwritten}
 use Rattle.cartridge_spec.specs.Segment.{sector_at}
 use Rattle.cartridge_spec.specs.Header.{Header, Field, Value, Number, Text, number, byte_in, word_in, words_in, Holds, HoldsValue, IsInField, IsInMap, Shows, Spells, profile_fields, header_fields}
-use Rattle.header_segments.specs.Writing.{Fits, with_fields, told_fields}
+use Rattle.header_segments.specs.Writing.{FieldFits, with_fields, told_fields}
 use Rattle.header_segments.proofs.FieldSets.{HoldsIn, HoldsHere, are_placed, HoldsIn-with_fields, get_or-with_fields, length-before_fields}
 use borrow.Rule.Slice.PartMut.{put_mid}
 
@@ -48,15 +48,15 @@ all_fields h = profile_fields h.segments_per_track ++ told_fields h
 fields_placed : (h : Header) → are_placed (all_fields h) ≡ true
 fields_placed h = refl
 
-profile_fit : (n : ℕ) → IsLength n → All Fits (profile_fields n)
+profile_fit : (n : ℕ) → IsLength n → All FieldFits (profile_fields n)
 profile_fit n long =
     let most = long.longest in
-    let last_six : AllByRecursion Fits (drop 6 (profile_fields n)) =
+    let last_six : AllByRecursion FieldFits (drop 6 (profile_fields n)) =
     (omega arith, (omega arith, (omega arith, (omega arith, (omega arith, (omega arith, tt)))))) in
-    All-from_recursion Fits (profile_fields n) (omega arith, (omega arith, (omega arith, (omega arith, (omega arith, (omega arith, last_six))))))
+    All-from_recursion FieldFits (profile_fields n) (omega arith, (omega arith, (omega arith, (omega arith, (omega arith, (omega arith, last_six))))))
 
-fields_fit : (h : Header) → IsLength h.segments_per_track → All Fits (told_fields h) → All Fits (all_fields h)
-fields_fit h long told = All-append Fits (profile_fields h.segments_per_track) (told_fields h) (profile_fit h.segments_per_track long) told
+fields_fit : (h : Header) → IsLength h.segments_per_track → All FieldFits (told_fields h) → All FieldFits (all_fields h)
+fields_fit h long told = All-append FieldFits (profile_fields h.segments_per_track) (told_fields h) (profile_fit h.segments_per_track long) told
 
 -- the fields begin in the first sector
 abbrev are_first : List Field → Bool
@@ -94,7 +94,7 @@ Holds-first (f ∷ fs) area sector first is holds =
 -- an area as it comes into being: cleared, then the map, then the fields in its first sector
 pub record IsEncoded (h : Header) (words sector : List ℕ) (clean mapped : List (List ℕ)) : Type 0 where
   pub tracks : IsLength h.segments_per_track
-  pub told : All Fits (told_fields h)
+  pub told : All FieldFits (told_fields h)
   pub count : length words ≡ 28 * h.segments_per_track
   pub clear : (k : ℕ) → byte_in clean k ≡ 0
   pub words_written : words_in mapped (length words) ≡ words

@@ -13,8 +13,9 @@ abbrev pub HasRoom : ℕ → Value → Type 0
 HasRoom width (Number value) = value < 256 ^ width
 HasRoom width (Text bytes) = length bytes ≡ width
 
-abbrev pub Fits : Field → Type 0
-Fits field = HasRoom field.width field.value
+-- the field's value has its place in it
+abbrev pub FieldFits : Field → Type 0
+FieldFits field = HasRoom field.width field.value
 
 -- the sector with the fields written over one after the other
 abbrev pub with_fields : List Field → List ℕ → List ℕ

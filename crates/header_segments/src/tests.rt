@@ -9,15 +9,15 @@ use std::test::Fail;
 
 const DATE: u32 = 0x3052_65C0;
 
-fn sample() -> Header
-    ensures { result.segments_per_track ≡ 3 }
+fn sample(segments_per_track: u16) -> Header
+    ensures { result.segments_per_track ≡ segments_per_track }
 {
     let mut label = [b' '; 44];
     label[0] = b'L';
     Header {
         format_date: DATE,
         write_date: DATE,
-        segments_per_track: 3,
+        segments_per_track,
         label: Name::from_bytes(&label),
         label_date: 0x0102_0304,
     }
@@ -29,7 +29,7 @@ fn a_header_is_written(rt: HostRuntime) -> Result<(), Fail> {
     assert_eq!(rt; area.len(), 29);
     let mut map = BadMap::new(rt.alloc())?;
     map.reset(84);
-    encode(&sample(), &map, &mut area);
+    encode(&sample(3), &map, &mut area);
     let sector = &area[0];
     let want = [
         0x55, 0xAA, 0x55, 0xAA, 0x02, 0x00, 0x00, 0x00, 0x01, 0x00, 0x02, 0x00, 0x53, 0x00, 0xC0,
@@ -53,10 +53,10 @@ fn a_header_and_its_map_are_read(rt: HostRuntime) -> Result<(), Fail> {
     map.mark(3, 0);
     map.mark(40, 17);
     map.mark(83, 31);
-    encode(&sample(), &map, &mut area);
+    encode(&sample(3), &map, &mut area);
     let mut other = BadMap::new(rt.alloc())?;
     let header = decode(&area, 3, &mut other);
-    assert_eq!(rt; header, Ok(sample()));
+    assert_eq!(rt; header, Ok(sample(3)));
     assert_eq!(rt; other.marked(), 3);
     assert_eq!(rt;
         decode(&area, 4, &mut other),
@@ -70,8 +70,32 @@ fn a_header_and_its_map_are_read(rt: HostRuntime) -> Result<(), Fail> {
 }
 
 #[test]
+fn the_last_segment_gives_the_head_maximum(rt: HostRuntime) -> Result<(), Fail> {
+    let mut map = BadMap::new(rt.alloc())?;
+    let mut other = BadMap::new(rt.alloc())?;
+    for (segments_per_track, last, head_maximum) in [
+        (21, [0x4B, 0x02], 0),
+        (22, [0x67, 0x02], 1),
+        (150, [0x67, 0x10], 6),
+        (246, [0xE7, 0x1A], 11),
+    ] {
+        let mut area = vec![in rt.alloc(); [0u8; 1024]; 29]?;
+        assert_eq!(rt; area.len(), 29);
+        assert!(rt; 3 <= segments_per_track && segments_per_track <= 246);
+        map.reset(28 * u32::from(segments_per_track));
+        let header = sample(segments_per_track);
+        encode(&header, &map, &mut area);
+        assert_eq!(rt; [area[0][12], area[0][13]], last, "{segments_per_track}");
+        assert_eq!(rt; area[0][27], head_maximum, "{segments_per_track}");
+        assert_eq!(rt; decode(&area, segments_per_track, &mut other), Ok(header));
+        assert_eq!(rt; other.marked(), 0);
+    }
+    Ok(())
+}
+
+#[test]
 fn the_first_foreign_field_is_named(rt: HostRuntime) -> Result<(), Fail> {
-    let header = sample();
+    let header = sample(3);
     let mut map = BadMap::new(rt.alloc())?;
     map.reset(84);
     let mut other = BadMap::new(rt.alloc())?;

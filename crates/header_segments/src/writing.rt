@@ -4,7 +4,7 @@ ghost use Rattle.std.specs.Prelude.{◌≡◌, ◌+◌, ◌-◌, ◌*◌, ℕ, l
 ghost use Rattle.qic_base.specs.Cartridge.{IsLength};
 ghost use Rattle.cartridge_spec.specs.Header.{Spells, profile_fields, byte_in};
 ghost use Rattle.header_segments.specs.Header.{header_of};
-ghost use Rattle.header_segments.specs.Writing.{Fits, with_fields, told_fields};
+ghost use Rattle.header_segments.specs.Writing.{FieldFits, with_fields, told_fields};
 
 use crate::fields::{
     FIRST_DATA, FIRST_HEADER, FORMAT_CODE, SECOND_HEADER, SECTOR_MAXIMUM, SIGNATURE, TRACK_MAXIMUM,
@@ -46,7 +46,7 @@ fn write_profile(sector: &mut [u8; 1024], segments_per_track: u16)
 
 fn write_told(sector: &mut [u8; 1024], header: &Header)
     ensures whole { sector.new ≡ with_fields (told_fields (header_of header.now)) sector.old }
-    ensures fits { All Fits (told_fields (header_of header.now)) }
+    ensures fits { All FieldFits (told_fields (header_of header.now)) }
 {
     let format_date = header.format_date;
     let write_date = header.write_date;

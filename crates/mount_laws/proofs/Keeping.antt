@@ -7,11 +7,16 @@ use Rattle.qic_base.specs.Cartridge.{Cartridge}
 use Rattle.cartridge_spec.specs.Header.{Header, header_fault}
 use Rattle.cartridge_spec.specs.Table.{Entry, HasNoFault, slot_fault}
 use Rattle.cartridge_spec.specs.Says.{whole_mask, Data, Says, Written, Zero, ReadsAll}
-use Rattle.cartridge_spec.specs.Volumes.{Plain, Stands, IsMounted, HasHeader, IsInForce, CopyReads, CopyDoesNotRead, CopiesAre, TableIs, copy_cells, table_cells, last_segment, entries_of}
+use Rattle.cartridge_spec.specs.Volumes.{Plain, Stands, CopiesAre, entries_of}
+use Rattle.cartridge_spec.specs.Mounting.{IsMounted}
+use Rattle.cartridge_spec.specs.HeaderAndTable.{HasHeader, IsInForce, CopyReads, CopyDoesNotRead, TableIs, copy_cells, table_cells, last_segment}
+use Rattle.cartridge_spec.proofs.TableSayings.{code_says}
 use Rattle.cartridge_spec.proofs.Sayings.{said_is_written}
 use Rattle.format_plan.proofs.Standing.{same_cells, entry_starts, volumes_behind, volumes_kept}
 use Rattle.format_plan.proofs.Writing.{some_weaker}
-use Rattle.mount_laws.specs.Laws.{KeepsTable, StoppedMounts, StoppedStands}
+use Rattle.format_plan.specs.Clean.{StandsCleanly}
+use Rattle.mount_laws.specs.Laws.{StoppedMounts, StoppedStands, StoppedIsClean}
+use Rattle.mount_laws.specs.Settling.{KeepsTable}
 use Rattle.mount_laws.proofs.Standing.{standing_data}
 use Rattle.mount_laws.proofs.Stops.{stopped_settling}
 
@@ -74,7 +79,7 @@ kept_mounts c d header words area entries kept mounted = record {
 
 table_stands : (d : Cartridge) (area : List (List ℕ)) → TableIs d area → Written (table_cells d) area ⊎ ReadsAll (table_cells d) area
 table_stands d area (inl reads) = inr reads
-table_stands d area (inr says) = inl (said_is_written (table_cells d) area says.1)
+table_stands d area (inr says) = inl (said_is_written (table_cells d) area (code_says (table_cells d) (Data area) says))
 
 pub standing_kept : (c d : Cartridge) (plain : Plain) → KeepsTable plain.table_area c d → Stands c plain → Stands d plain
 standing_kept c d plain kept stood =
@@ -107,3 +112,19 @@ data_kept c d plain area stood table kept =
 pub stopped_stands : StoppedStands
 stopped_stands c plain area left stood table torn =
     some_weaker left (λ d kept. data_kept c d plain area stood table kept) (stopped_settling c area left table torn)
+
+-- ---- header copies
+
+clean_copy : (xs ys : List SectorView) (area : List (List ℕ)) → ys ≡ xs → Written xs area ⊎ Zero xs → Written ys area ⊎ Zero ys
+clean_copy xs ys area same clean = subst (λ (cells : List SectorView). Written cells area ⊎ Zero cells) (sym same) clean
+
+pub clean_kept : (c d : Cartridge) (plain : Plain) (area : List (List ℕ)) → StandsCleanly c plain → TableIs c area → KeepsTable area c d → StandsCleanly d plain
+clean_kept c d plain area clean table kept = record {
+  stands = data_kept c d plain area clean.stands table kept;
+  first = clean_copy (copy_cells c 0) (copy_cells d 0) plain.header_area (same_copy 0 kept (omega arith)) clean.first;
+  second = clean_copy (copy_cells c 1) (copy_cells d 1) plain.header_area (same_copy 1 kept (omega arith)) clean.second;
+}
+
+pub stopped_is_clean : StoppedIsClean
+stopped_is_clean c plain area left clean table torn =
+    some_weaker left (λ d kept. clean_kept c d plain area clean table kept) (stopped_settling c area left table torn)

@@ -6,8 +6,9 @@ use Rattle.cartridge_spec.specs.Header.{Header, HeaderFault, Field, Holds, numbe
 use Rattle.cartridge_spec.specs.Header as headers
 use Rattle.cartridge_spec.specs.Table.{Entry, TableFault, IsFirstFault, HasNoFault, slot_fault}
 use Rattle.cartridge_spec.specs.Table as tables
-use Rattle.cartridge_spec.specs.Says.{whole_mask, Saying, Data, LostSectors, Mismatch, Says, TableSaying, AsRead, Solved, TableLost, TableMismatch, TableSays}
-use Rattle.cartridge_spec.specs.Volumes.{Mounting, NotFormatted, Foreign, LostTable, TableDisagrees, Mounted, Mounts, IsUnformatted, IsInForce, HasHeader, CopyReads, CopyDoesNotRead, copy_cells, table_cells, last_segment, TableIs, IsFormatted, IsSoundlyFormatted, IsMounted, RefusesHeader, RefusesTable, slot_refusal}
+use Rattle.cartridge_spec.specs.Says.{whole_mask, Saying, Data, LostSectors, Mismatch, Says, TableSaying, AsRead, ByCode, TableSays}
+use Rattle.cartridge_spec.specs.Mounting.{Mounting, NotFormatted, Foreign, TableLost, TableMismatch, Mounted, Mounts, IsSoundlyFormatted, IsMounted, RefusesHeader, RefusesTable}
+use Rattle.cartridge_spec.specs.HeaderAndTable.{IsUnformatted, IsInForce, HasHeader, CopyReads, CopyDoesNotRead, copy_cells, table_cells, last_segment, TableIs, IsFormatted, slot_refusal}
 use Rattle.cartridge_spec.proofs.Blocks.{says_always}
 use Rattle.cartridge_spec.proofs.Sayings.{says_is_function}
 use Rattle.cartridge_spec.proofs.Segments.{cells_are_views, length-whole_cells}
@@ -63,39 +64,41 @@ one_table c xs ys (inl hx) (inl hy) =
     let same : AsRead xs ≡ AsRead ys = table_says_is_function (table_cells c) (AsRead xs) (AsRead ys) hx hy in
     cc
 one_table c xs ys (inl hx) (inr hy) =
-    let same : AsRead xs ≡ Solved ys = table_says_is_function (table_cells c) (AsRead xs) (Solved ys) hx hy in
+    let same : AsRead xs ≡ ByCode (Data ys) = table_says_is_function (table_cells c) (AsRead xs) (ByCode (Data ys)) hx hy in
     absurd (cc)
 one_table c xs ys (inr hx) (inl hy) =
-    let same : Solved xs ≡ AsRead ys = table_says_is_function (table_cells c) (Solved xs) (AsRead ys) hx hy in
+    let same : ByCode (Data xs) ≡ AsRead ys = table_says_is_function (table_cells c) (ByCode (Data xs)) (AsRead ys) hx hy in
     absurd (cc)
 one_table c xs ys (inr hx) (inr hy) =
-    let same : Solved xs ≡ Solved ys = table_says_is_function (table_cells c) (Solved xs) (Solved ys) hx hy in
+    let same : ByCode (Data xs) ≡ ByCode (Data ys) = table_says_is_function (table_cells c) (ByCode (Data xs)) (ByCode (Data ys)) hx hy in
     cc
 
-not_lost : (c : Cartridge) (xs : List (List ℕ)) (n : ℕ) → TableIs c xs → TableSays (table_cells c) (TableLost n) → ⊥
-not_lost c xs n (inl hx) lost =
-    let same : AsRead xs ≡ TableLost n = table_says_is_function (table_cells c) (AsRead xs) (TableLost n) hx lost in
+-- a table whose data are known says nothing else by the code
+not_otherwise : (c : Cartridge) (xs : List (List ℕ)) (saying : Saying) → (Data xs ≡ saying → ⊥) → TableIs c xs →
+    TableSays (table_cells c) (ByCode saying) → ⊥
+not_otherwise c xs saying other (inl hx) says =
+    let same : AsRead xs ≡ ByCode saying = table_says_is_function (table_cells c) (AsRead xs) (ByCode saying) hx says in
     cc
-not_lost c xs n (inr hx) lost =
-    let same : Solved xs ≡ TableLost n = table_says_is_function (table_cells c) (Solved xs) (TableLost n) hx lost in
-    cc
+not_otherwise c xs saying other (inr hx) says =
+    let same : ByCode (Data xs) ≡ ByCode saying = table_says_is_function (table_cells c) (ByCode (Data xs)) (ByCode saying) hx says in
+    other (cc)
 
-not_at_odds : (c : Cartridge) (xs : List (List ℕ)) → TableIs c xs → TableSays (table_cells c) TableMismatch → ⊥
-not_at_odds c xs (inl hx) none =
-    let same : AsRead xs ≡ TableMismatch = table_says_is_function (table_cells c) (AsRead xs) TableMismatch hx none in
-    cc
-not_at_odds c xs (inr hx) none =
-    let same : Solved xs ≡ TableMismatch = table_says_is_function (table_cells c) (Solved xs) TableMismatch hx none in
-    cc
+not_lost : (c : Cartridge) (xs : List (List ℕ)) (n : ℕ) → TableIs c xs → TableSays (table_cells c) (ByCode (LostSectors n)) → ⊥
+not_lost c xs n table lost = not_otherwise c xs (LostSectors n) (λ same. cc) table lost
 
-lost_not_at_odds : (c : Cartridge) (n : ℕ) → TableSays (table_cells c) (TableLost n) → TableSays (table_cells c) TableMismatch → ⊥
+not_at_odds : (c : Cartridge) (xs : List (List ℕ)) → TableIs c xs → TableSays (table_cells c) (ByCode Mismatch) → ⊥
+not_at_odds c xs table none = not_otherwise c xs Mismatch (λ same. cc) table none
+
+lost_not_at_odds : (c : Cartridge) (n : ℕ) → TableSays (table_cells c) (ByCode (LostSectors n)) → TableSays (table_cells c) (ByCode Mismatch) → ⊥
 lost_not_at_odds c n lost none =
-    let same : TableLost n ≡ TableMismatch = table_says_is_function (table_cells c) (TableLost n) TableMismatch lost none in
+    let same : ByCode (LostSectors n) ≡ ByCode Mismatch =
+    table_says_is_function (table_cells c) (ByCode (LostSectors n)) (ByCode Mismatch) lost none in
     cc
 
-one_loss : (c : Cartridge) (m n : ℕ) → TableSays (table_cells c) (TableLost m) → TableSays (table_cells c) (TableLost n) → m ≡ n
+one_loss : (c : Cartridge) (m n : ℕ) → TableSays (table_cells c) (ByCode (LostSectors m)) → TableSays (table_cells c) (ByCode (LostSectors n)) → m ≡ n
 one_loss c m n hm hn =
-    let same : TableLost m ≡ TableLost n = table_says_is_function (table_cells c) (TableLost m) (TableLost n) hm hn in
+    let same : ByCode (LostSectors m) ≡ ByCode (LostSectors n) =
+    table_says_is_function (table_cells c) (ByCode (LostSectors m)) (ByCode (LostSectors n)) hm hn in
     cc
 
 -- ---- its first fault
@@ -140,8 +143,8 @@ unformatted_alone : (c : Cartridge) (m : Mounting) → IsUnformatted c → Mount
 unformatted_alone c NotFormatted bare h = refl
 unformatted_alone c (Foreign f) bare (inl h) = absurd (not_unformatted c h.area bare h.has_header)
 unformatted_alone c (Foreign f) bare (inr h) = absurd (not_unformatted c h.formatted.area bare h.formatted.formatted.has_header)
-unformatted_alone c (LostTable n) bare h = absurd (not_unformatted c h.0.area bare h.0.formatted.has_header)
-unformatted_alone c TableDisagrees bare h = absurd (not_unformatted c h.0.area bare h.0.formatted.has_header)
+unformatted_alone c (TableLost n) bare h = absurd (not_unformatted c h.0.area bare h.0.formatted.has_header)
+unformatted_alone c TableMismatch bare h = absurd (not_unformatted c h.0.area bare h.0.formatted.has_header)
 unformatted_alone c (Mounted header words table entries) bare h = absurd (not_unformatted c h.area bare h.formatted.has_header)
 
 pub soundly : {c : Cartridge} {header : Header} {words : List ℕ} {table : List (List ℕ)} {entries : List Entry} →
@@ -152,35 +155,35 @@ refused_alone : (c : Cartridge) (fault : HeaderFault) (m : Mounting) → Refuses
 refused_alone c fault NotFormatted refuses h = absurd (not_unformatted c refuses.area h refuses.has_header)
 refused_alone c fault (Foreign f) refuses (inl h) = ap (λ (g : HeaderFault). Foreign g) (one_refusal c fault f refuses h)
 refused_alone c fault (Foreign f) refuses (inr h) = absurd (not_refused c fault refuses h.formatted)
-refused_alone c fault (LostTable n) refuses h = absurd (not_refused c fault refuses h.0)
-refused_alone c fault TableDisagrees refuses h = absurd (not_refused c fault refuses h.0)
+refused_alone c fault (TableLost n) refuses h = absurd (not_refused c fault refuses h.0)
+refused_alone c fault TableMismatch refuses h = absurd (not_refused c fault refuses h.0)
 refused_alone c fault (Mounted header words table entries) refuses h = absurd (not_refused c fault refuses (soundly h))
 
 slot_alone : (c : Cartridge) (fault : HeaderFault) (m : Mounting) → RefusesTable c fault → Mounts c m → Foreign fault ≡ m
 slot_alone c fault NotFormatted refuses h = absurd (not_unformatted c refuses.formatted.area h refuses.formatted.formatted.has_header)
 slot_alone c fault (Foreign f) refuses (inl h) = absurd (not_refused c f h refuses.formatted)
 slot_alone c fault (Foreign f) refuses (inr h) = ap (λ (g : HeaderFault). Foreign g) (one_slot_refusal c fault f refuses h)
-slot_alone c fault (LostTable n) refuses h = absurd (not_lost c refuses.area n refuses.table h.1)
-slot_alone c fault TableDisagrees refuses h = absurd (not_at_odds c refuses.area refuses.table h.1)
+slot_alone c fault (TableLost n) refuses h = absurd (not_lost c refuses.area n refuses.table h.1)
+slot_alone c fault TableMismatch refuses h = absurd (not_at_odds c refuses.area refuses.table h.1)
 slot_alone c fault (Mounted header words table entries) refuses h =
     absurd (slots_not_at_fault c fault table refuses h.reads h.sound)
 
-lost_alone : (c : Cartridge) (k : ℕ) (m : Mounting) → IsSoundlyFormatted c → TableSays (table_cells c) (TableLost k) → Mounts c m →
-    LostTable k ≡ m
+lost_alone : (c : Cartridge) (k : ℕ) (m : Mounting) → IsSoundlyFormatted c → TableSays (table_cells c) (ByCode (LostSectors k)) → Mounts c m →
+    TableLost k ≡ m
 lost_alone c k NotFormatted sound lost h = absurd (not_unformatted c sound.area h sound.formatted.has_header)
 lost_alone c k (Foreign f) sound lost (inl h) = absurd (not_refused c f h sound)
 lost_alone c k (Foreign f) sound lost (inr h) = absurd (not_lost c h.area k h.table lost)
-lost_alone c k (LostTable n) sound lost h = ap (λ (i : ℕ). LostTable i) (one_loss c k n lost h.1)
-lost_alone c k TableDisagrees sound lost h = absurd (lost_not_at_odds c k lost h.1)
+lost_alone c k (TableLost n) sound lost h = ap (λ (i : ℕ). TableLost i) (one_loss c k n lost h.1)
+lost_alone c k TableMismatch sound lost h = absurd (lost_not_at_odds c k lost h.1)
 lost_alone c k (Mounted header words table entries) sound lost h = absurd (not_lost c table k h.reads lost)
 
-at_odds_alone : (c : Cartridge) (m : Mounting) → IsSoundlyFormatted c → TableSays (table_cells c) TableMismatch → Mounts c m →
-    TableDisagrees ≡ m
+at_odds_alone : (c : Cartridge) (m : Mounting) → IsSoundlyFormatted c → TableSays (table_cells c) (ByCode Mismatch) → Mounts c m →
+    TableMismatch ≡ m
 at_odds_alone c NotFormatted sound none h = absurd (not_unformatted c sound.area h sound.formatted.has_header)
 at_odds_alone c (Foreign f) sound none (inl h) = absurd (not_refused c f h sound)
 at_odds_alone c (Foreign f) sound none (inr h) = absurd (not_at_odds c h.area h.table none)
-at_odds_alone c (LostTable n) sound none h = absurd (lost_not_at_odds c n h.1 none)
-at_odds_alone c TableDisagrees sound none h = refl
+at_odds_alone c (TableLost n) sound none h = absurd (lost_not_at_odds c n h.1 none)
+at_odds_alone c TableMismatch sound none h = refl
 at_odds_alone c (Mounted header words table entries) sound none h = absurd (not_at_odds c table h.reads none)
 
 one_mounted : (c : Cartridge) (h1 h2 : Header) (w1 w2 : List ℕ) (t1 t2 : List (List ℕ)) (e1 e2 : List Entry) →
@@ -202,16 +205,16 @@ mounted_alone : (c : Cartridge) (header : Header) (words : List ℕ) (table : Li
 mounted_alone c header words table entries NotFormatted is h = absurd (not_unformatted c is.area h is.formatted.has_header)
 mounted_alone c header words table entries (Foreign f) is (inl h) = absurd (not_refused c f h (soundly is))
 mounted_alone c header words table entries (Foreign f) is (inr h) = absurd (slots_not_at_fault c f table h is.reads is.sound)
-mounted_alone c header words table entries (LostTable n) is h = absurd (not_lost c table n is.reads h.1)
-mounted_alone c header words table entries TableDisagrees is h = absurd (not_at_odds c table is.reads h.1)
+mounted_alone c header words table entries (TableLost n) is h = absurd (not_lost c table n is.reads h.1)
+mounted_alone c header words table entries TableMismatch is h = absurd (not_at_odds c table is.reads h.1)
 mounted_alone c header words table entries (Mounted h2 w2 t2 e2) is h = one_mounted c header h2 words w2 table t2 entries e2 is h
 
 pub mounts_is_function : MountsIsFunction
 mounts_is_function c NotFormatted m h g = unformatted_alone c m h g
 mounts_is_function c (Foreign f) m (inl h) g = refused_alone c f m h g
 mounts_is_function c (Foreign f) m (inr h) g = slot_alone c f m h g
-mounts_is_function c (LostTable n) m h g = lost_alone c n m h.0 h.1 g
-mounts_is_function c TableDisagrees m h g = at_odds_alone c m h.0 h.1 g
+mounts_is_function c (TableLost n) m h g = lost_alone c n m h.0 h.1 g
+mounts_is_function c TableMismatch m h g = at_odds_alone c m h.0 h.1 g
 mounts_is_function c (Mounted header words table entries) m h g = mounted_alone c header words table entries m h g
 
 -- ---- it gives something
@@ -277,15 +280,15 @@ copy_is_decided c copy whole =
     by_saying c copy says.0 says.1
 
 -- something that the mounting gives
-record Outcome (c : Cartridge) : Type 0 where
+record Given (c : Cartridge) : Type 0 where
   mounting : Mounting
   is : Mounts c mounting
 
-outcome : (c : Cartridge) (m : Mounting) → Mounts c m → Outcome c
+outcome : (c : Cartridge) (m : Mounting) → Mounts c m → Given c
 outcome c m is = record { mounting = m; is = is }
 
 with_table : (c : Cartridge) (area table : List (List ℕ)) → IsFormatted c area (header_in area) (words_shown area) → TableIs c table →
-    ((fault : TableFault) × IsFirstFault table (last_segment c) fault) ⊎ HasNoFault table (last_segment c) → Outcome c
+    ((fault : TableFault) × IsFirstFault table (last_segment c) fault) ⊎ HasNoFault table (last_segment c) → Given c
 with_table c area table formatted reads (inl faulty) =
     outcome c (Foreign (slot_refusal faulty.0)) (inr (record {
       formatted = record { area = area; header = header_in area; words = words_shown area; formatted = formatted };
@@ -306,15 +309,15 @@ with_table c area table formatted reads (inr sound) =
     })
 
 by_table : (c : Cartridge) (area : List (List ℕ)) (saying : TableSaying) → IsFormatted c area (header_in area) (words_shown area) →
-    TableSays (table_cells c) saying → Outcome c
+    TableSays (table_cells c) saying → Given c
 by_table c area (AsRead table) formatted says =
     with_table c area table formatted (inl says) (data_are_sound_or_faulty table (last_segment c))
-by_table c area (Solved table) formatted says =
+by_table c area (ByCode (Data table)) formatted says =
     with_table c area table formatted (inr says) (data_are_sound_or_faulty table (last_segment c))
-by_table c area (TableLost n) formatted says =
-    outcome c (LostTable n) (record { area = area; header = header_in area; words = words_shown area; formatted = formatted }, says)
-by_table c area TableMismatch formatted says =
-    outcome c TableDisagrees (record { area = area; header = header_in area; words = words_shown area; formatted = formatted }, says)
+by_table c area (ByCode (LostSectors n)) formatted says =
+    outcome c (TableLost n) (record { area = area; header = header_in area; words = words_shown area; formatted = formatted }, says)
+by_table c area (ByCode Mismatch) formatted says =
+    outcome c TableMismatch (record { area = area; header = header_in area; words = words_shown area; formatted = formatted }, says)
 
 table_says : (c : Cartridge) → IsCartridge c → (saying : TableSaying) × TableSays (table_cells c) saying
 table_says c whole =
@@ -322,23 +325,23 @@ table_says c whole =
     table_says_always (table_cells c) (omega arith) (cells_are_views c 2 whole_mask whole)
 
 by_header : (c : Cartridge) (area : List (List ℕ)) (fault : Option HeaderFault) → IsCartridge c → HasHeader c area →
-    header_fault area c.info.segments_per_track ≡ fault → Outcome c
+    header_fault area c.info.segments_per_track ≡ fault → Given c
 by_header c area (Some fault) whole has first =
     outcome c (Foreign fault) (inl (record { area = area; has_header = has; first = first }))
 by_header c area None whole has sound =
     let says = table_says c whole in
     by_table c area says.0 (record { has_header = has; sound = sound; shown = data_show area }) says.1
 
-by_force : (c : Cartridge) (area : List (List ℕ)) → IsCartridge c → c.info.referenced ≡ true → IsInForce c area → Outcome c
+by_force : (c : Cartridge) (area : List (List ℕ)) → IsCartridge c → c.info.referenced ≡ true → IsInForce c area → Given c
 by_force c area whole referenced in_force =
     by_header c area (header_fault area c.info.segments_per_track) whole (record { referenced = referenced; in_force = in_force }) refl
 
-by_copies : (c : Cartridge) → IsCartridge c → c.info.referenced ≡ true → IsDecided c 0 → IsDecided c 1 → Outcome c
+by_copies : (c : Cartridge) → IsCartridge c → c.info.referenced ≡ true → IsDecided c 0 → IsDecided c 1 → Given c
 by_copies c whole referenced (inl first) second = by_force c first.area whole referenced (inl first.reads)
 by_copies c whole referenced (inr none) (inl second) = by_force c second.area whole referenced (inr (none, second.reads))
 by_copies c whole referenced (inr none) (inr neither) = outcome c NotFormatted (inr (none, neither))
 
-by_bursts : (c : Cartridge) (b : Bool) → IsCartridge c → c.info.referenced ≡ b → Outcome c
+by_bursts : (c : Cartridge) (b : Bool) → IsCartridge c → c.info.referenced ≡ b → Given c
 by_bursts c false whole without = outcome c NotFormatted (inl without)
 by_bursts c true whole referenced = by_copies c whole referenced (copy_is_decided c 0 whole) (copy_is_decided c 1 whole)
 

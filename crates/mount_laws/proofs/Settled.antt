@@ -7,15 +7,16 @@ use Rattle.qic_base.specs.declared.tape.TapeInfo.{TapeInfo}
 use Rattle.qic_base.specs.Cartridge.{Cartridge, view_at}
 use Rattle.qic_base.specs.Step.{Step, written_view, effects}
 use Rattle.qic_base.proofs.Steps.{Torn-all}
-use Rattle.cartridge_spec.specs.Segment.{sector_at}
+use Rattle.cartridge_spec.specs.Segment.{sector_at, is_unreadable, IsLive}
 use Rattle.cartridge_spec.specs.Shape.{usable_places}
-use Rattle.cartridge_spec.specs.Says.{whole_mask, is_unreadable}
-use Rattle.cartridge_spec.specs.Volumes.{TableIs, settled}
+use Rattle.cartridge_spec.specs.Says.{whole_mask}
+use Rattle.cartridge_spec.specs.HeaderAndTable.{TableIs}
+use Rattle.cartridge_spec.specs.Mounting.{settled}
 use Rattle.cartridge_spec.specs.Writes.{writes_of, changed_by}
 use Rattle.format_plan.proofs.Writing.{effects-some}
-use Rattle.mount_laws.specs.Settling.{holds, is_unsettled, block_writes, settling_steps}
-use Rattle.mount_laws.specs.Laws.{KeepsTable, IsLive, IsTableLive, SettledKeepsTable, SettledMounts, SettledStands, SettledIsWritten, SettledTwice, SettledIsWhole, SettledNeedsNoSteps}
-use Rattle.mount_laws.proofs.Keeping.{kept_mounts, data_kept}
+use Rattle.mount_laws.specs.Settling.{holds, is_unsettled, block_writes, settling_steps, KeepsTable}
+use Rattle.mount_laws.specs.Laws.{IsTableLive, SettledKeepsTable, SettledMounts, SettledStands, SettledIsClean, SettledIsWritten, SettledTwice, SettledIsWhole, SettledNeedsNoSteps}
+use Rattle.mount_laws.proofs.Keeping.{kept_mounts, data_kept, clean_kept}
 use Rattle.mount_laws.proofs.Stops.{stopped_settling, stopped_settles_alike, written_right, holds_same, block_written}
 use Rattle.mount_laws.proofs.Writing.{table_block, places_that, places_none, places_fails, settling_writes, steps_are, unsettled_data, unsettled_parity, length-table_block, IsAllWritten, all_written, settling_settles}
 
@@ -35,6 +36,9 @@ settled_mounts c header words area entries mounted =
 
 pub settled_stands : SettledStands
 settled_stands c plain area stood table = data_kept c (settled area c) plain area stood table (settled_keeps_table c area table)
+
+pub settled_is_clean : SettledIsClean
+settled_is_clean c plain area clean table = clean_kept c (settled area c) plain area clean table (settled_keeps_table c area table)
 
 pub settled_twice : SettledTwice
 settled_twice c area table =

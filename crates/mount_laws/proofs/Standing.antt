@@ -6,10 +6,13 @@ use Rattle.std.proofs.lemmas.Option.{slice_get-get_or, get_or_from_slice_get}
 use Rattle.qic_base.specs.declared.tape.SectorView.{SectorView}
 use Rattle.qic_base.specs.Cartridge.{Cartridge}
 use Rattle.gf256_qic.specs.Code.{parity_sectors}
-use Rattle.cartridge_spec.specs.Says.{unreadable_count, unreadable_data, Written, ReadsAll}
-use Rattle.cartridge_spec.specs.Volumes.{Plain, LostTable, IsArea, IsSoundlyFormatted, Stands, TableIs, table_cells}
+use Rattle.cartridge_spec.specs.Says.{unreadable_count, unreadable_data, Written, ReadsAll, Data, LostSectors}
+use Rattle.cartridge_spec.specs.Volumes.{Plain, Stands}
+use Rattle.cartridge_spec.specs.Mounting.{TableLost, IsSoundlyFormatted}
+use Rattle.cartridge_spec.specs.HeaderAndTable.{IsArea, TableIs, table_cells}
 use Rattle.cartridge_spec.proofs.Cells.{IsReadable, count_of_readable, readable_from_count}
 use Rattle.cartridge_spec.proofs.Sayings.{written_is_said, written_is_lost, code_sectors}
+use Rattle.cartridge_spec.proofs.TableSayings.{code_says, says_code}
 use Rattle.cartridge_spec.proofs.Segments.{length-whole_cells}
 use Rattle.mount_laws.specs.Laws.{CanBeRead, mounted_as, StandingMounts, StandingMountsOnlySo}
 use Rattle.mount_laws.proofs.Mounting.{mounts_is_function, one_table}
@@ -35,10 +38,8 @@ few_read : (c : Cartridge) (area : List (List ℕ)) → IsArea area → Written 
 few_read c area is_area written few =
     let size : length area ≡ 29 = is_area.size in
     elim (cases_lt 0 (unreadable_data (table_cells c))) [
-      | inl some ↦ inr (
-        some,
-        written_is_said (table_cells c) area (omega arith) (omega arith) (code_sectors area is_area.sectors) written few,
-      )
+      | inl some ↦ inr (says_code (table_cells c) (Data area) some
+          (written_is_said (table_cells c) area (omega arith) (omega arith) (code_sectors area is_area.sectors) written few))
       | inr none ↦ inl (written_is_read (table_cells c) area size (length-whole_cells c 2) written (omega arith))
     ]
 
@@ -55,7 +56,7 @@ standing_table c area is_area (inr reads) read = inl reads
 -- a table whose data are known can be read
 can_be_read : (c : Cartridge) (area : List (List ℕ)) → TableIs c area → CanBeRead c
 can_be_read c area (inl reads) = inl (count_of_readable 29 (table_cells c) (λ i h. ((reads.each i h).0, (reads.each i h).1)))
-can_be_read c area (inr says) = inr says.1.0
+can_be_read c area (inr says) = inr (code_says (table_cells c) (Data area) says).0
 
 -- and they are those of the plain cartridge
 pub standing_data : (c : Cartridge) (plain : Plain) (area : List (List ℕ)) → Stands c plain → TableIs c area → area ≡ plain.table_area
@@ -101,7 +102,7 @@ standing_mounts_only_so c plain m stands is =
           let n : ℕ = unreadable_count (table_cells c) in
           inr (
             n,
-            mounts_is_function c m (LostTable n) is
-                (soundly_formatted c plain stands, (lost.0, written_is_lost (table_cells c) lost.1)),
+            mounts_is_function c m (TableLost n) is
+                (soundly_formatted c plain stands, says_code (table_cells c) (LostSectors n) lost.0 (written_is_lost (table_cells c) lost.1)),
           )
     ]

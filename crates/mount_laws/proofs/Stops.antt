@@ -10,12 +10,14 @@ use Rattle.qic_base.specs.declared.tape.TapeInfo.{TapeInfo}
 use Rattle.qic_base.specs.Cartridge.{Cartridge, view_at, with_view}
 use Rattle.qic_base.specs.Step.{Step, WriteSector, Wear, changed, written_view, worn_view}
 use Rattle.qic_base.specs.Stop.{Torn}
-use Rattle.cartridge_spec.specs.Segment.{sector_at}
+use Rattle.cartridge_spec.specs.Segment.{sector_at, is_unreadable}
 use Rattle.cartridge_spec.specs.Shape.{usable_places}
-use Rattle.cartridge_spec.specs.Says.{whole_mask, is_unreadable, unreadable_count, ReadsAll, Written, Says, Data}
-use Rattle.cartridge_spec.specs.Volumes.{IsArea, TableIs, table_cells, settled}
+use Rattle.cartridge_spec.specs.Says.{whole_mask, unreadable_count, ReadsAll, Written, Says, Data}
+use Rattle.cartridge_spec.specs.HeaderAndTable.{IsArea, TableIs, table_cells}
+use Rattle.cartridge_spec.specs.Mounting.{settled}
 use Rattle.cartridge_spec.specs.Writes.{writes_of, changed_by}
 use Rattle.cartridge_spec.proofs.Sayings.{said_are_sectors, cartridge_sectors}
+use Rattle.cartridge_spec.proofs.TableSayings.{code_says}
 use Rattle.cartridge_spec.proofs.Segments.{cells_of_whole, length-whole_cells}
 use Rattle.format_plan.proofs.Copies.{held_view, view_held, no_fewer_unreadable}
 use Rattle.format_plan.proofs.Views.{view_of_sector, view_of_other_sector}
@@ -284,10 +286,10 @@ writes_stopped c area left (inl reads) torn =
 writes_stopped c area left (inr says) torn =
     some_weaker left (λ d way. record {
       way = way.way;
-      table = solved_still c d area says.1 (length-table_block c area (inr says)) way;
+      table = solved_still c d area (code_says (table_cells c) (Data area) says) (length-table_block c area (inr says)) way;
     })
     (steps_stopped (IsSolvedWay (table_block area) c) (is_unsettled c (table_block area)) (table_block area) 32 0 c left
-    (solved_kept c area says.1) (omega arith) (solved_begun c area says.1) torn)
+    (solved_kept c area (code_says (table_cells c) (Data area) says)) (omega arith) (solved_begun c area (code_says (table_cells c) (Data area) says)) torn)
 
 stopped_by : (c : Cartridge) (area : List (List ℕ)) (left : Option Cartridge) (b : Bool) → TableIs c area →
     Torn (cond b [] (settling_writes c (table_block area))) (Some c) left → IsSomeAnd left (IsLeft area c)

@@ -11,11 +11,11 @@ use Rattle.qic_base.specs.Stop.{Torn}
 use Rattle.qic_base.proofs.Steps.{Torn-all}
 use Rattle.gf256_qic.proofs.Parities.{parity_block}
 use Rattle.cartridge_spec.specs.Segment.{sector_at}
-use Rattle.cartridge_spec.specs.Says.{whole_mask}
-use Rattle.cartridge_spec.specs.Volumes.{IsArea, TableIs, table_cells}
+use Rattle.cartridge_spec.specs.Says.{whole_mask, Data}
+use Rattle.cartridge_spec.specs.HeaderAndTable.{IsArea, TableIs, table_cells}
 use Rattle.cartridge_spec.proofs.Sayings.{cartridge_sectors, code_sectors}
 use Rattle.cartridge_spec.proofs.Segments.{cells_are_views, view_of_cartridge}
-use Rattle.cartridge_spec.proofs.TableSayings.{read_are_sectors}
+use Rattle.cartridge_spec.proofs.TableSayings.{read_are_sectors, code_says}
 use Rattle.format_plan.proofs.Writing.{effects-some, some_and}
 use Rattle.mount_laws.specs.Settling.{is_unsettled, settling_steps}
 use Rattle.mount_laws.specs.Laws.{TableIsArea, StoppedIsCartridge, SettledIsCartridge, SettlingEffects}
@@ -29,7 +29,7 @@ table_is_area c area whole (inl reads) = record {
   size = reads.size;
   sectors = cartridge_sectors area (read_are_sectors (table_cells c) area (cells_are_views c 2 whole_mask whole) reads);
 }
-table_is_area c area whole (inr says) = said_area c area says.1
+table_is_area c area whole (inr says) = said_area c area (code_says (table_cells c) (Data area) says)
 
 block_sectors : (area : List (List ℕ)) → IsArea area → All IsSector (table_block area)
 block_sectors area is_area =

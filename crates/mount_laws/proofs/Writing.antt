@@ -13,12 +13,13 @@ use Rattle.qic_base.specs.Cartridge.{Cartridge, view_at}
 use Rattle.qic_base.specs.Step.{Step, WriteSector, changed, written_view}
 use Rattle.gf256_qic.specs.Code.{parity_sectors}
 use Rattle.gf256_qic.proofs.Parities.{length-parity_sectors}
-use Rattle.cartridge_spec.specs.Segment.{sector_at}
+use Rattle.cartridge_spec.specs.Segment.{sector_at, is_unreadable}
 use Rattle.cartridge_spec.specs.Shape.{usable_places}
-use Rattle.cartridge_spec.specs.Says.{whole_mask, is_unreadable, ReadsAll, Written, Says, Data}
-use Rattle.cartridge_spec.specs.Volumes.{TableIs, table_cells}
+use Rattle.cartridge_spec.specs.Says.{whole_mask, ReadsAll, Written, Says, Data, with_parity}
+use Rattle.cartridge_spec.specs.HeaderAndTable.{TableIs, table_cells}
 use Rattle.cartridge_spec.specs.Writes.{writes_of, changed_by}
 use Rattle.cartridge_spec.proofs.Sayings.{said_is_written, said_are_sectors}
+use Rattle.cartridge_spec.proofs.TableSayings.{code_says}
 use Rattle.cartridge_spec.proofs.Segments.{places_of_whole, length-whole_cells}
 use Rattle.format_plan.proofs.Copies.{view_held}
 use Rattle.format_plan.proofs.Views.{view_of_sector, view_of_other_sector}
@@ -30,7 +31,7 @@ use Rattle.mount_laws.specs.Laws.{SettlingSettles}
 
 -- the table's data sectors and their parity
 abbrev pub table_block : (area : List (List ℕ)) → List (List ℕ)
-table_block area = area ++ parity_sectors area
+table_block area = with_parity area
 
 -- so many places from one on, those that pass a test, ascending
 unfoldable pub places_that : (test : ℕ → Bool) → (from count : ℕ) → List ℕ
@@ -219,7 +220,7 @@ length-table_block c area (inl reads) =
     let size : length area ≡ 29 = reads.size in
     omega (arith, length-append area (parity_sectors area), length-parity_sectors area)
 length-table_block c area (inr says) =
-    let size : length area + 3 ≡ length (table_cells c) = (said_are_sectors (table_cells c) area says.1).size in
+    let size : length area + 3 ≡ length (table_cells c) = (said_are_sectors (table_cells c) area (code_says (table_cells c) (Data area) says)).size in
     let cells : length (table_cells c) ≡ 32 = length-whole_cells c 2 in
     omega (arith, length-append area (parity_sectors area), length-parity_sectors area)
 
@@ -245,7 +246,7 @@ read_agree c area i held reads h view =
 data_agree : (c : Cartridge) (area : List (List ℕ)) (i : ℕ) (held : List ℕ) → TableIs c area → i < 29 → view_at c 2 i ≡ Holds held →
     held ≡ sector_at (table_block area) i
 data_agree c area i held (inl reads) h view = read_agree c area i held reads h view
-data_agree c area i held (inr says) h view = solved_agree c area i held says.1 (omega arith) view
+data_agree c area i held (inr says) h view = solved_agree c area i held (code_says (table_cells c) (Data area) says) (omega arith) view
 
 -- ---- a sector that needs no write
 

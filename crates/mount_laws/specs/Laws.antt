@@ -5,14 +5,16 @@ use Rattle.qic_base.specs.declared.tape.SectorView.TheVariants.{Blank, Defect, L
 use Rattle.qic_base.specs.Cartridge.{Cartridge, IsCartridge, view_at}
 use Rattle.qic_base.specs.Step.{effects}
 use Rattle.qic_base.specs.Stop.{Torn}
-use Rattle.gf256_qic.specs.Code.{parity_sectors}
-use Rattle.cartridge_spec.specs.Segment.{sector_at}
+use Rattle.cartridge_spec.specs.Segment.{sector_at, IsLive}
 use Rattle.cartridge_spec.specs.Header.{Header}
 use Rattle.cartridge_spec.specs.Table.{Entry}
-use Rattle.cartridge_spec.specs.Says.{unreadable_count, unreadable_data, Written}
-use Rattle.cartridge_spec.specs.Volumes.{Mounting, LostTable, Mounted, Mounts, Plain, IsArea, Stands, TableIs, table_cells, entries_of, settled}
+use Rattle.cartridge_spec.specs.Says.{unreadable_count, unreadable_data, Written, with_parity}
+use Rattle.cartridge_spec.specs.Volumes.{Plain, Stands, entries_of}
+use Rattle.cartridge_spec.specs.Mounting.{Mounting, TableLost, Mounted, Mounts, settled}
+use Rattle.cartridge_spec.specs.HeaderAndTable.{IsArea, TableIs, table_cells}
 use Rattle.cartridge_spec.specs.Writes.{changed_by}
-use Rattle.mount_laws.specs.Settling.{settling_steps}
+use Rattle.format_plan.specs.Clean.{StandsCleanly}
+use Rattle.mount_laws.specs.Settling.{settling_steps, KeepsTable}
 
 -- ---- mounting
 
@@ -47,7 +49,7 @@ StandingMounts =
 abbrev pub StandingMountsOnlySo : Type 0
 StandingMountsOnlySo =
     (c : Cartridge) (plain : Plain) (m : Mounting) → Stands c plain → Mounts c m →
-    (m ≡ mounted_as plain) ⊎ ((n : ℕ) × (m ≡ LostTable n))
+    (m ≡ mounted_as plain) ⊎ ((n : ℕ) × (m ≡ TableLost n))
 
 -- ---- settling
 
@@ -62,12 +64,6 @@ SettlingEffects =
     (c : Cartridge) (area : List (List ℕ)) → TableIs c area → effects (settling_steps area c) (Some c) ≡ Some (settled area c)
 
 -- ---- a stop among the steps
-
--- all but the table's segment is as it was, and that says these data
-pub record KeepsTable (area : List (List ℕ)) (c d : Cartridge) : Type 0 where
-  pub info : d.info ≡ c.info
-  pub others : (segment sector : ℕ) → sector < 32 → segment ≢ 2 → view_at d segment sector ≡ view_at c segment sector
-  pub table : TableIs d area
 
 -- a stop before the first, inside one or behind any of them leaves such a one, ..
 abbrev pub StoppedSettling : Type 0
@@ -127,14 +123,7 @@ SettledIsWritten =
 abbrev pub SettledTwice : Type 0
 SettledTwice = (c : Cartridge) (area : List (List ℕ)) → TableIs c area → settled area (settled area c) ≡ settled area c
 
--- a sector that takes what is written to it: it was formatted, and is no defect
-abbrev pub IsLive : SectorView → Type 0
-IsLive Blank = ⊥
-IsLive Defect = ⊥
-IsLive Lost = Unit {0}
-IsLive (Holds bytes) = Unit {0}
-
--- each sector of the table's segment does
+-- each sector of the table's segment takes what is written to it
 abbrev pub IsTableLive : Cartridge → Type 0
 IsTableLive c = (i : ℕ) → i < 32 → IsLive (view_at c 2 i)
 
@@ -142,9 +131,21 @@ IsTableLive c = (i : ℕ) → i < 32 → IsLive (view_at c 2 i)
 abbrev pub SettledIsWhole : Type 0
 SettledIsWhole =
     (c : Cartridge) (area : List (List ℕ)) (i : ℕ) → TableIs c area → c.info.protected ≡ false → IsTableLive c → i < 32 →
-    view_at (settled area c) 2 i ≡ Holds (sector_at (area ++ parity_sectors area) i)
+    view_at (settled area c) 2 i ≡ Holds (sector_at (with_parity area) i)
 
 -- .. and no step settles it again
 abbrev pub SettledNeedsNoSteps : Type 0
 SettledNeedsNoSteps =
     (c : Cartridge) (area : List (List ℕ)) → TableIs c area → IsTableLive c → settling_steps area (settled area c) ≡ []
+
+-- ---- header copies
+
+-- those that formatting may begin over stay so, settled or stopped
+abbrev pub SettledIsClean : Type 0
+SettledIsClean =
+    (c : Cartridge) (plain : Plain) (area : List (List ℕ)) → StandsCleanly c plain → TableIs c area → StandsCleanly (settled area c) plain
+
+abbrev pub StoppedIsClean : Type 0
+StoppedIsClean =
+    (c : Cartridge) (plain : Plain) (area : List (List ℕ)) (left : Option Cartridge) → StandsCleanly c plain → TableIs c area →
+    Torn (settling_steps area c) (Some c) left → IsSomeAnd left (λ d. StandsCleanly d plain)

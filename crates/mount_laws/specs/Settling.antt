@@ -1,15 +1,15 @@
 -- The settling of the volume table's segment: which of its sectors are written, and what with (this project's profile).
-use Rattle.std.specs.Prelude.{ℕ, ◌++◌, Bool, false, not, List, [], filter, map, nat_lt, if◌then◌else◌}
+use Rattle.std.specs.Prelude.{◌≡◌, ◌≢◌, ℕ, ◌<◌, Bool, false, not, List, [], filter, map, nat_lt, if◌then◌else◌, ◌≡◌}
 use Rattle.std.specs.List.{range_with_len}
 use Rattle.std.specs.Str.{bytes_eq}
 use Rattle.qic_base.specs.Cartridge.{Cartridge, view_at}
 use Rattle.qic_base.specs.Step.{Step}
 use Rattle.qic_base.specs.declared.tape.SectorView.{SectorView}
 use Rattle.qic_base.specs.declared.tape.SectorView.TheVariants.{Blank, Defect, Lost, Holds}
-use Rattle.gf256_qic.specs.Code.{parity_sectors}
-use Rattle.cartridge_spec.specs.Segment.{sector_at}
-use Rattle.cartridge_spec.specs.Says.{is_unreadable}
+use Rattle.cartridge_spec.specs.Segment.{sector_at, is_unreadable}
+use Rattle.cartridge_spec.specs.HeaderAndTable.{TableIs}
 use Rattle.cartridge_spec.specs.Writes.{writes_of}
+use Rattle.cartridge_spec.specs.Says.{with_parity}
 
 -- the places 0 to 31 where a test is true, ascending
 unfoldable pub places_where : (ℕ → Bool) → List ℕ
@@ -40,4 +40,10 @@ block_writes block places = writes_of 2 places (map (sector_at block) places)
 abbrev pub settling_steps : (area : List (List ℕ)) → Cartridge → List Step
 settling_steps area c =
     if c.info.protected then []
-    else block_writes (area ++ parity_sectors area) (places_where (is_unsettled c (area ++ parity_sectors area)))
+    else block_writes (with_parity area) (places_where (is_unsettled c (with_parity area)))
+
+-- all but the table's segment is as it was, and that says these data
+pub record KeepsTable (area : List (List ℕ)) (c d : Cartridge) : Type 0 where
+  pub info : d.info ≡ c.info
+  pub others : (segment sector : ℕ) → sector < 32 → segment ≢ 2 → view_at d segment sector ≡ view_at c segment sector
+  pub table : TableIs d area

@@ -2,7 +2,7 @@
 //! function that does nothing, so that other crates can rest on it; their proofs import the lemmas of this crate's
 //! `proofs`.
 
-ghost use Rattle.mount_laws.specs.Laws.{MountsIsFunction, MountsAlways, StandingMounts, StandingMountsOnlySo, SettlingSettles, StoppedSettling, StoppedSettlesAlike, StoppedMounts, StoppedStands, SettledKeepsTable, SettledMounts, SettledStands, SettledIsWritten, SettledTwice, SettledIsWhole, SettledNeedsNoSteps, TableIsArea, SettlingEffects, StoppedIsCartridge, SettledIsCartridge};
+ghost use Rattle.mount_laws.specs.Laws.{MountsIsFunction, MountsAlways, StandingMounts, StandingMountsOnlySo, SettlingSettles, StoppedSettling, StoppedSettlesAlike, StoppedMounts, StoppedStands, StoppedIsClean, SettledKeepsTable, SettledMounts, SettledStands, SettledIsClean, SettledIsWritten, SettledTwice, SettledIsWhole, SettledNeedsNoSteps, TableIsArea, SettlingEffects, StoppedIsCartridge, SettledIsCartridge};
 
 /// The mounting of a cartridge gives at most one thing.
 pub fn mounts_is_function()
@@ -38,6 +38,7 @@ pub fn stopped_settling()
     ensures alike { StoppedSettlesAlike }
     ensures mounts { StoppedMounts }
     ensures stands { StoppedStands }
+    ensures clean { StoppedIsClean }
     ensures whole { StoppedIsCartridge }
 {}
 
@@ -47,6 +48,7 @@ pub fn settled_table()
     ensures table { SettledKeepsTable }
     ensures mounts { SettledMounts }
     ensures stands { SettledStands }
+    ensures clean { SettledIsClean }
     ensures written { SettledIsWritten }
     ensures whole { SettledIsCartridge }
     ensures twice { SettledTwice }

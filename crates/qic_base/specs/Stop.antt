@@ -27,7 +27,8 @@ pub record SegmentBecame (Became : SectorView → SectorView → Type 0) (segmen
   pub below : (place : ℕ) → place < 32 * segment → slice_get new.views place ≡ slice_get old.views place
   pub above : (place : ℕ) → 32 * (segment + 1) ≤ place → slice_get new.views place ≡ slice_get old.views place
 
--- a segment's formatting was stopped: all its sectors are as before it began to write zero bytes, or all are as after
+-- A segment's formatting was stopped: either each of its sectors is as it was, or lost where it held bytes; or each one
+-- but the defects is lost, or holds zero bytes, or was never formatted where it was so before.
 abbrev pub HalfFormatted : ℕ → Option Cartridge → Option Cartridge → Type 0
 HalfFormatted segment None left = ⊥
 HalfFormatted segment (Some old) None = ⊥

@@ -25,4 +25,4 @@ pub use source::{Source, SourceFailed};
 pub use tape::{SectorRead, SectorView, SectorWrite, Tape, TapeFailed, TapeInfo};
 
 /// The greatest number of segments per track; the least is 3 (this project's profile).
-pub const LONGEST: u16 = 150;
+pub const LONGEST: u16 = 246;

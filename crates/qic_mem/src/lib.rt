@@ -103,14 +103,14 @@ mod tests {
     #[test]
     fn a_sure_tape_holds_the_longest_cartridge(rt: HostRuntime) -> Result<(), Fail> {
         let mut tape = SureTape::new(rt.alloc())?;
-        tape.renew(150)?;
-        tape.format_segment(4199)?;
+        tape.renew(246)?;
+        tape.format_segment(6887)?;
         assert_eq!(rt;
-            tape.write_sector(4199, 31, &[7; 1024])?,
+            tape.write_sector(6887, 31, &[7; 1024])?,
             SectorWrite::Taken
         );
         let mut into = [1; 1024];
-        assert_eq!(rt; tape.read_sector(4199, 31, &mut into)?, SectorRead::Good);
+        assert_eq!(rt; tape.read_sector(6887, 31, &mut into)?, SectorRead::Good);
         assert_eq!(rt; into[1023], 7);
         Ok(())
     }

@@ -2,7 +2,7 @@
 use Rattle.std.proofs.Common.{◌≡◌, ◌≢◌, ℕ, zero, suc, ◌+◌, ◌*◌, ◌/◌, ◌%◌, ◌^◌, ◌<◌, ◌≤◌, ◌↔◌, refl, sym, ◌∙◌, ap, subst, arith, inl, inr, List, [], ◌∷◌, ◌++◌, length, map, get_or, set, slice_get, Some, None}
 use Rattle.std.specs.Int.{w32}
 use Rattle.std.specs.Int.RustNames.{bit_or}
-use Rattle.std.proofs.lemmas.Bool.{cases_lt, cases_eq}
+use Rattle.std.proofs.lemmas.Bool.{cases_lt, cases_eq, false≢true}
 use Rattle.std.proofs.lemmas.List.{length_push, length-map, map_push}
 use Rattle.std.proofs.lemmas.Nat.Bits.{bit_at-zero, bit_at_above, bit_at_set_same, bit_at_set_other}
 use Rattle.std.proofs.lemmas.Option.{slice_get_within, slice_get_past}
@@ -16,6 +16,7 @@ use Rattle.qic_base.specs.declared.tape.SectorView.{SectorView}
 use Rattle.qic_base.specs.declared.tape.SectorView.TheVariants.{Blank, Defect, Lost, Holds}
 use Rattle.cartridge_spec.specs.Segment.{IsUnreadable}
 use Rattle.segment_io.specs.Gathered.{IsUnreadableAt, NamesUnreadable, Gathered, cells_below}
+use Rattle.cartridge_spec.proofs.Writing.{slice_get-set_other, slice_get-set_same}
 
 -- ---- one element more
 
@@ -27,18 +28,6 @@ slice_get-front (x ∷ xs) y (suc i) h = slice_get-front xs y i (omega arith)
 pub slice_get-last : {A : Type 0} (xs : List A) (y : A) → slice_get (xs ++ y ∷ []) (length xs) ≡ Some y
 slice_get-last [] y = refl
 slice_get-last (x ∷ xs) y = slice_get-last xs y
-
-pub slice_get-set_same : {A : Type 0} (xs : List A) (i : ℕ) (y : A) → i < length xs → slice_get (set xs i y) i ≡ Some y
-slice_get-set_same [] i y h = absurd (omega arith)
-slice_get-set_same (x ∷ xs) zero y h = refl
-slice_get-set_same (x ∷ xs) (suc i) y h = slice_get-set_same xs i y (omega arith)
-
-pub slice_get-set_other : {A : Type 0} (xs : List A) (i j : ℕ) (y : A) → j ≢ i → slice_get (set xs i y) j ≡ slice_get xs j
-slice_get-set_other [] i j y apart = refl
-slice_get-set_other (x ∷ xs) zero zero y apart = absurd (apart refl)
-slice_get-set_other (x ∷ xs) zero (suc j) y apart = refl
-slice_get-set_other (x ∷ xs) (suc i) zero y apart = refl
-slice_get-set_other (x ∷ xs) (suc i) (suc j) y apart = slice_get-set_other xs i j y (λ e. apart (ap suc e))
 
 -- ---- one cell more
 
@@ -80,7 +69,7 @@ names_readable cells lost bytes names i = (
     | inr past ↦
         let within : i < length (cells ++ Holds bytes ∷ []) = unreadable_within (cells ++ Holds bytes ∷ []) i u in
         let last : i ≡ length cells = omega (arith, length_push cells (Holds bytes)) in
-        absurd ((unreadable_last cells (Holds bytes)).1 (subst (IsUnreadableAt (cells ++ Holds bytes ∷ [])) last u))
+        absurd (false≢true ((unreadable_last cells (Holds bytes)).1 (subst (IsUnreadableAt (cells ++ Holds bytes ∷ [])) last u)))
   ],
 )
 
@@ -159,7 +148,7 @@ gathered_unreadable cells lost sectors cell now few unreadable g = record {
             ap (slice_get (cells ++ cell ∷ [])) last ∙ slice_get-last cells cell in
             let same : Some (Holds held) ≡ Some cell = sym at ∙ here in
             let one : cell ≡ Holds held = cc in
-            absurd (subst IsUnreadable one unreadable)
+            absurd (false≢true (subst IsUnreadable one unreadable))
       ];
 }
 
@@ -187,10 +176,10 @@ gathered_bad cells cell lost place sectors old now answer count few bad reads g 
     (gathered_unreadable cells lost sectors cell now (omega arith) (unreadable_of cell reads) g)
   where
     unreadable_of : (c : SectorView) → Reads c old now answer → IsUnreadable c
-    unreadable_of Blank r = tt
-    unreadable_of Defect r = tt
-    unreadable_of Lost r = tt
-    unreadable_of (Holds bytes) r = bad r.0
+    unreadable_of Blank r = refl
+    unreadable_of Defect r = refl
+    unreadable_of Lost r = refl
+    unreadable_of (Holds bytes) r = absurd (bad r.0)
 
 -- ---- the cells below an index
 

@@ -1,4 +1,3 @@
-pub mod Effects
 pub mod GatheredCells
 pub mod Going
 pub mod NamedWrites

@@ -13,95 +13,12 @@ use Rattle.qic_base.specs.Step.{Step, WriteSector}
 use Rattle.qic_base.proofs.LostSetLaws.{lost_places-lost, lost_places-kept, lost_places-above}
 use Rattle.cartridge_spec.specs.Segment.{sector_at}
 use Rattle.cartridge_spec.specs.Shape.{usable_places, usable_count}
-use Rattle.cartridge_spec.specs.Writes.{writes_of}
+use Rattle.cartridge_spec.specs.Writes.{writes_of, data_in, block_in, segment_writes, named_writes}
 use Rattle.gf256_qic.specs.Code.{parity_sectors}
 use Rattle.gf256_qic.proofs.Parities.{length-parity_sectors}
-use Rattle.segment_io.specs.Writes.{data_in, block_in, segment_writes, named_writes, named_write, usable_write}
-
--- ---- the places of a set
-
-pub none_below : (mask : ℕ) → lost_places mask 0 ≡ []
-unfolding lost_places
-none_below mask = refl
-
--- the places below a number come first among those below a larger one
-pub record Front {A : Type 0} (front whole : List A) : Type 0 where
-  pub rest : List A
-  pub parts : whole ≡ front ++ rest
-
-pub front_of_places : (mask n more : ℕ) → Front (lost_places mask n) (lost_places mask (n + more))
-front_of_places mask n zero = record {
-  rest = [];
-  parts = ap (lost_places mask) (add-zero n) ∙ sym (append-nil (lost_places mask n));
-}
-front_of_places mask n (suc more) =
-    let front : Front (lost_places mask n) (lost_places mask (n + more)) = front_of_places mask n more in
-    let next : lost_places mask (n + suc more) ≡ lost_places mask (n + more + 1) = ap (lost_places mask) (omega arith) in
-    elim (cases_eq ((mask / 2 ^ (n + more)) % 2) 1) [
-      | inl lost ↦ record {
-        rest = front.rest ++ (n + more) ∷ [];
-        parts = next ∙ lost_places-lost mask (n + more) lost
-            ∙ ap (λ (l : List ℕ). l ++ (n + more) ∷ []) front.parts
-            ∙ append_assoc (lost_places mask n) front.rest ((n + more) ∷ []);
-      }
-      | inr kept ↦ record {
-        rest = front.rest;
-        parts = next ∙ lost_places-kept mask (n + more) kept ∙ front.parts;
-      }
-    ]
-
-pub front_of_all : (mask n : ℕ) → n ≤ 32 → Front (lost_places mask n) (lost_places mask 32)
-front_of_all mask n h =
-    let whole : n + (32 - n) ≡ 32 = omega arith in
-    subst (λ (k : ℕ). Front (lost_places mask n) (lost_places mask k)) whole (front_of_places mask n (32 - n))
-
--- what stands at the place of a sector that is in the set
-pub place_of_sector : (mask i : ℕ) → IsLost mask i → i < 32 → get_or (lost_places mask 32) (length (lost_places mask i)) 0 ≡ i
-place_of_sector mask i lost h =
-    let front : Front (lost_places mask (i + 1)) (lost_places mask 32) = front_of_all mask (i + 1) (omega arith) in
-    let parts : lost_places mask 32 ≡ lost_places mask i ++ (i ∷ front.rest) =
-    front.parts ∙ ap (λ (l : List ℕ). l ++ front.rest) (lost_places-lost mask i lost)
-    ∙ append_assoc (lost_places mask i) (i ∷ []) front.rest in
-    ap (λ (l : List ℕ). get_or l (length (lost_places mask i)) 0) parts
-    ∙ get_or_at (lost_places mask i) i front.rest 0 (length (lost_places mask i)) refl
-
--- how many are below a number
-pub count_more : (mask i : ℕ) → IsLost mask i → length (lost_places mask (i + 1)) ≡ length (lost_places mask i) + 1
-count_more mask i lost = ap (λ (l : List ℕ). length l) (lost_places-lost mask i lost) ∙ length_push (lost_places mask i) i
-
-pub count_same : (mask i : ℕ) → (IsLost mask i → ⊥) → length (lost_places mask (i + 1)) ≡ length (lost_places mask i)
-count_same mask i kept = ap (λ (l : List ℕ). length l) (lost_places-kept mask i kept)
-
-pub count_front : (mask n : ℕ) → n ≤ 32 → length (lost_places mask n) ≤ usable_count mask
-count_front mask n h =
-    let front : Front (lost_places mask n) (lost_places mask 32) = front_of_all mask n h in
-    let long : usable_count mask ≡ length (lost_places mask n) + length front.rest =
-    ap (λ (l : List ℕ). length l) front.parts ∙ length-append (lost_places mask n) front.rest in
-    omega arith
-
-pub count_below : (mask n : ℕ) → length (lost_places mask n) ≤ n
-count_below mask zero = let none : length (lost_places mask 0) ≡ 0 = ap (λ (l : List ℕ). length l) (none_below mask) in omega arith
-count_below mask (suc n) =
-    let rest : length (lost_places mask n) ≤ n = count_below mask n in
-    let next : length (lost_places mask (suc n)) ≡ length (lost_places mask (n + 1)) =
-    ap (λ (k : ℕ). length (lost_places mask k)) (sym (add-one n)) in
-    elim (cases_eq ((mask / 2 ^ n) % 2) 1) [
-      | inl lost ↦ omega (arith, count_more mask n lost)
-      | inr kept ↦ omega (arith, count_same mask n kept)
-    ]
-
--- the places of a set below 2^n are below n
-pub places_within : (mask n : ℕ) → n ≤ 32 → mask < 2 ^ n → lost_places mask 32 ≡ lost_places mask n
-places_within mask n h low =
-    let whole : n + (32 - n) ≡ 32 = omega arith in
-    ap (lost_places mask) (sym whole)
-    ∙ lost_places-above mask n (32 - n) (λ place is. below place is)
-  where
-    below : (place : ℕ) → IsLost mask place → place < n
-    below place is = elim (cases_eq (n - place) 0) [
-      | inl past ↦ let none : mask / 2 ^ place % 2 ≡ 0 = bit_at_above mask n place low (omega arith) in absurd (omega arith)
-      | inr lower ↦ omega arith
-    ]
+use Rattle.segment_io.specs.Writes.{named_write, usable_write}
+use Rattle.cartridge_spec.proofs.Places.{place_of_sector, count_more, Front, places_within, all_places, count_same, front_of_all, count_below}
+use Rattle.cartridge_spec.proofs.Writing.{length-block_in}
 
 -- ---- the writes of named places
 
@@ -194,23 +111,6 @@ writes_below_all segment usable places sectors low =
 
 -- ---- the writes of all places
 
-places_of_ones : (n k : ℕ) → k ≤ n → lost_places (2 ^ n - 1) k ≡ map (λ (i : ℕ). i) (range_with_len 0 k)
-places_of_ones n zero h = none_below (2 ^ n - 1)
-places_of_ones n (suc k) h =
-    ap (lost_places (2 ^ n - 1)) (sym (add-one k))
-    ∙ lost_places-lost (2 ^ n - 1) k (bit_at_ones n k (omega arith))
-    ∙ ap (λ (l : List ℕ). l ++ k ∷ []) (places_of_ones n k (omega arith))
-    ∙ sym (map-range_with_len_more (λ (i : ℕ). i) 0 k k (omega arith))
-    ∙ ap (λ (m : ℕ). map (λ (i : ℕ). i) (range_with_len 0 m)) (add-one k)
-
--- the set of the first places
-all_places : (n : ℕ) → n ≤ 32 → lost_places (2 ^ n - 1) 32 ≡ range_with_len 0 n
-all_places n h =
-    let positive : 0 < 2 ^ n = pow_pos n in
-    places_within (2 ^ n - 1) n h (omega arith)
-    ∙ places_of_ones n n (omega arith)
-    ∙ map-id (range_with_len 0 n)
-
 -- the writes of all usable sectors, ascending
 pub writes_of_all : (segment usable : ℕ) (sectors : List (List ℕ)) → usable_count usable ≤ length sectors →
     named_writes segment usable (2 ^ usable_count usable - 1) sectors
@@ -227,15 +127,6 @@ writes_of_all segment usable sectors room =
     ap (λ (ps : List ℕ). writes_of segment (map (λ (p : ℕ). get_or (usable_places usable) p 0) ps) (map (λ (p : ℕ). sector_at sectors p) ps)) places
     ∙ ap (λ (ps : List ℕ). writes_of segment ps (map (λ (p : ℕ). sector_at sectors p) (range_with_len 0 n))) indexes
     ∙ ap (writes_of segment (usable_places usable)) bytes
-
--- the block of data sectors and their parity is as long as there are usable sectors
-pub length-block_in : (usable : ℕ) (sectors : List (List ℕ)) → 4 ≤ usable_count usable → usable_count usable ≤ length sectors →
-    length (block_in usable sectors) ≡ usable_count usable
-length-block_in usable sectors least room =
-    let three : length (parity_sectors (data_in usable sectors)) ≡ 3 = length-parity_sectors (data_in usable sectors) in
-    let shown : length (data_in usable sectors) ≡ usable_count usable - 3 =
-    length-take-le (usable_count usable - 3) sectors (omega arith) in
-    length-append (data_in usable sectors) (parity_sectors (data_in usable sectors)) ∙ omega arith
 
 -- the mask of the first places, from the mask of all
 pub first_places : (n : ℕ) → n ≤ 32 → (2 ^ 32 - 1) / 2 ^ (32 - n) ≡ 2 ^ n - 1

@@ -1,7 +1,7 @@
 -- What gathered cells say: the lost places are as many as the unreadable cells, and the code blocks of the sectors that
 -- are not lost are those of the cells.
 use Rattle.std.proofs.Common.{◌≡◌, ℕ, zero, suc, ◌+◌, ◌-◌, ◌<◌, ◌≤◌, refl, sym, ◌∙◌, ap, subst, ◌↔◌, Result, Err, arith, inl, inr, Bool, true, false, cond, List, [], ◌∷◌, length, take, slice_get, Some}
-use Rattle.std.proofs.lemmas.Bool.{cases_lt, ne_eqb}
+use Rattle.std.proofs.lemmas.Bool.{cases_lt, ne_eqb, false≢true}
 use Rattle.std.proofs.lemmas.List.{length-take-le}
 use Rattle.std.proofs.lemmas.Option.{slice_get_within}
 use Rattle.qic_base.specs.LostSet.{IsLost, lost_places}
@@ -31,10 +31,7 @@ slice_get-take (suc n) (x ∷ xs) (suc i) h = slice_get-take n xs i (omega arith
 unreadable_from_test : (cells : List SectorView) (i : ℕ) → unreadable_at cells i ≡ true → IsUnreadableAt cells i
 unfolding unreadable_at
 unreadable_from_test [] i h = absurd (cc)
-unreadable_from_test (Blank ∷ cells) zero h = tt
-unreadable_from_test (Defect ∷ cells) zero h = tt
-unreadable_from_test (Lost ∷ cells) zero h = tt
-unreadable_from_test (Holds bytes ∷ cells) zero h = absurd (cc)
+unreadable_from_test (cell ∷ cells) zero h = h
 unreadable_from_test (cell ∷ cells) (suc i) h = unreadable_from_test cells i h
 
 -- a cell that holds bytes isn't unreadable
@@ -43,7 +40,7 @@ readable_only [] i bytes at u = u
 readable_only (Blank ∷ cells) zero bytes at u = absurd (cc)
 readable_only (Defect ∷ cells) zero bytes at u = absurd (cc)
 readable_only (Lost ∷ cells) zero bytes at u = absurd (cc)
-readable_only (Holds held ∷ cells) zero bytes at u = u
+readable_only (Holds held ∷ cells) zero bytes at u = false≢true u
 readable_only (cell ∷ cells) (suc i) bytes at u = readable_only cells i bytes at u
 
 -- so its place isn't lost

@@ -1,5 +1,4 @@
 pub mod Gathered
-pub mod Laws
 pub mod Lending
 pub mod Reading
 pub mod Writes

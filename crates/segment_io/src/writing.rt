@@ -9,7 +9,8 @@ ghost use Rattle.drive_states.specs.Deck.{segments_per_track, is_protected, is_r
 ghost use Rattle.drive_states.specs.Reach.{IsUnder};
 ghost use Rattle.host_driver.specs.Fits.{Agrees, Fits, IsAtRest};
 ghost use Rattle.host_driver.specs.Place.{KeepsMode};
-ghost use Rattle.segment_io.specs.Writes.{block_in, segment_writes, named_writes, named_write, usable_write};
+ghost use Rattle.segment_io.specs.Writes.{named_write, usable_write};
+ghost use Rattle.cartridge_spec.specs.Writes.{block_in, segment_writes, named_writes};
 
 use crate::fault::SegFault;
 use crate::parity::put_parity;
@@ -91,7 +92,7 @@ pub fn write_sectors<T: Tape>(
 }
 
 // Writes the sector with this index from its place, where it is usable and the set has that place.
-#[tactic(auto, using(crate::proofs::NamedWrites::count_below))]
+#[tactic(auto, using(cartridge_spec::proofs::Places::count_below))]
 fn write_usable<T: Tape>(
     host: &mut Host,
     unit: &mut Unit<T>,

@@ -7,11 +7,10 @@ ghost use Rattle.tape_cmd.specs.Lines.{status_code};
 use cart_image::ImageTape;
 use drive_states::Unit;
 use std::env::Env;
-use std::fs::OpenOptions;
 use std::process::ExitCode;
 use std::{env, io};
 use tape_cmd::{Status, run};
-use tape_files::{FileDisk, StderrSink, StdinSource, StdoutSink};
+use tape_files::{NoImage, NullStreams, StderrSink, StdinSource, StdoutSink, open_image};
 use tape_script::write_text;
 
 /// The exit status where the image can't be opened.
@@ -25,6 +24,8 @@ struct Arguments {
 }
 
 fn main(rt: HostRuntime) -> ExitCode {
+    // Held to the end, so that no file that is opened becomes a standard stream.
+    let _streams = NullStreams::take(&rt);
     ExitCode::from(match read_arguments(&rt) {
         Ok(arguments) => run_over_image(&rt, &arguments),
         Err(_) => Status::NoMemory.code(),
@@ -47,17 +48,11 @@ fn run_over_image(rt: &HostRuntime, arguments: &Arguments) -> u8 {
     let Some(image) = &arguments.image else {
         return finish(Status::Usage, &mut errors);
     };
-    let Ok(file) = OpenOptions::new()
-        .read(true)
-        .write(true)
-        .create(true)
-        .open(rt, image)
-    else {
-        // The exit status tells it, too, where standard error can't.
-        let _printed = write_text(b"tape: cannot open the image\n", &mut errors);
-        return NO_IMAGE;
+    let image = match open_image(rt, image) {
+        Ok(image) => image,
+        Err(cause) => return refuse(cause, &mut errors),
     };
-    let mut unit = Unit::new(ImageTape::open(FileDisk::new(file)));
+    let mut unit = Unit::new(ImageTape::open(image));
     let mut source = StdinSource::new(rt.stdin());
     let mut sink = StdoutSink::new(rt.stdout());
     let status = run(
@@ -68,6 +63,17 @@ fn run_over_image(rt: &HostRuntime, arguments: &Arguments) -> u8 {
         &mut sink,
     );
     finish(status, &mut errors)
+}
+
+/// Prints that the image can't be opened, and answers the exit status. Nothing is printed into the image.
+fn refuse(cause: NoImage, errors: &mut StderrSink) -> u8
+    ensures { result ≡ NO_IMAGE }
+{
+    if cause != NoImage::IsErrorStream {
+        // The exit status tells it, too, where standard error can't.
+        let _printed = write_text(b"tape: cannot open the image\n", errors);
+    }
+    NO_IMAGE
 }
 
 /// Prints a status, and answers its exit status.

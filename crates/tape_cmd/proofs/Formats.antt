@@ -9,9 +9,10 @@ use Rattle.qic_base.specs.Step.{Step as TapeStep}
 use Rattle.qic_base.specs.Tape as tapes
 use Rattle.qic_base.proofs.Steps.{Done-Done, Done-Broke}
 use Rattle.cartridge_spec.specs.Shape.{marked_sectors}
-use Rattle.cartridge_spec.specs.Volumes.{MarksDefects}
-use Rattle.format_plan.specs.Formatting.{clearing_steps, copy_writes, block_of, format_steps, IsFreshArea, IsFirstDefectInFront, HasNoDefectInFront}
-use Rattle.fresh_header.specs.Laws.{IsFreshWith}
+use Rattle.cartridge_spec.specs.Defects.{MarksDefects}
+use Rattle.format_plan.specs.Formatting.{clearing_steps, copy_writes, format_steps, IsFirstDefectInFront, HasNoDefectInFront}
+use Rattle.cartridge_spec.specs.Says.{with_parity}
+use Rattle.format_plan.specs.Fresh.{IsFreshArea, IsFreshWith}
 use Rattle.fresh_header.proofs.Front.{first_defect_is_none}
 use Rattle.fresh_header.proofs.Marks.{fresh_area_is_one}
 use Rattle.formatter.specs.declared.fault.FormatFault.{FormatFault}
@@ -107,8 +108,8 @@ clearing_begins label date info (Some c) outcome mark known (inr (inl (unlocked,
     ([], append-nil (clearing_steps info.segments_per_track) ∙ ap (λ (i : TapeInfo). clearing_steps i.segments_per_track) same ∙ sym (ap (λ (o : Outcome). o.steps) is))
 clearing_begins label date info (Some c) outcome mark known (inr (inr (unlocked, none, (words, (area, fresh, is))))) =
     let same : info ≡ c.info = cc in (
-      copy_writes 0 (block_of area) ++ copy_writes 1 (block_of area),
-      sym (append_assoc (clearing_steps info.segments_per_track) (copy_writes 0 (block_of area)) (copy_writes 1 (block_of area))) ∙ ap (λ (i : TapeInfo). format_steps i.segments_per_track area) same ∙ sym (ap (λ (o : Outcome). o.steps) is),
+      copy_writes 0 (with_parity area) ++ copy_writes 1 (with_parity area),
+      sym (append_assoc (clearing_steps info.segments_per_track) (copy_writes 0 (with_parity area)) (copy_writes 1 (with_parity area))) ∙ ap (λ (i : TapeInfo). format_steps i.segments_per_track area) same ∙ sym (ap (λ (o : Outcome). o.steps) is),
     )
 
 formatting_begins : (label : List ℕ) (date : ℕ) (info : TapeInfo) (words : List ℕ) (area : List (List ℕ)) (held : Option Cartridge) (outcome : Outcome) → info.protected ≡ false →

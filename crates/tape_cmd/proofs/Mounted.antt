@@ -8,13 +8,14 @@ use Rattle.qic_base.specs.Sink as sinks
 use Rattle.qic_base.specs.Step.{Step as TapeStep}
 use Rattle.qic_base.specs.Tape as tapes
 use Rattle.qic_base.proofs.Steps.{Done-Done, Done-Broke}
-use Rattle.cartridge_spec.specs.Header.{Header}
+use Rattle.cartridge_spec.specs.Header.{Header, fault_as}
 use Rattle.cartridge_spec.specs.Table.{Entry}
-use Rattle.cartridge_spec.specs.Volumes as mounting
+use Rattle.cartridge_spec.specs.Mounting as mounting
 use Rattle.mount_laws.proofs.Mounting.{mounts_is_function}
 use Rattle.volume_store.specs.declared.fault.StoreFault.{StoreFault}
 use Rattle.volume_store.specs.declared.fault.StoreFault.TheVariants as fault
-use Rattle.volume_store.specs.Finding.{named, is_of_mounting}
+use Rattle.cartridge_spec.specs.Header.{fault_as}
+use Rattle.volume_store.specs.Finding.{is_of_mounting}
 use Rattle.volume_store.specs.Mounting.{StoreView, Settles, IsSettling, MountRefuses, MountDoes}
 use Rattle.tape_script.specs.declared.words.Words.{Words}
 use Rattle.tape_script.specs.declared.words.Words.TheVariants as words
@@ -43,10 +44,10 @@ mounted_is info header ws entries steps (Some c) known settles prints =
 refused_is : (info : TapeInfo) (f : StoreFault) (held : Option Cartridge) → Knows (Some info) held → IfSome held (λ c. MountRefuses c f) → (prints : Printing) → MountOutcome prints held (refused (mount_status f))
 refused_is info f None known refuses prints = cc
 refused_is info fault.NotFormatted (Some c) known refuses prints = (mounting.NotFormatted, refuses, refl)
-refused_is info (fault.Foreign field value) (Some c) known refuses prints = (mounting.Foreign (named field value), refuses, refl)
+refused_is info (fault.Foreign field value) (Some c) known refuses prints = (mounting.Foreign (fault_as field value), refuses, refl)
 refused_is info (fault.Lost segment lost) (Some c) known refuses prints =
-    (mounting.LostTable lost, refuses.1, ap (λ (s : ℕ). refused (status.Lost s lost)) refuses.0)
-refused_is info fault.TableMismatch (Some c) known refuses prints = (mounting.TableDisagrees, refuses, refl)
+    (mounting.TableLost lost, refuses.1, ap (λ (s : ℕ). refused (status.Lost s lost)) refuses.0)
+refused_is info fault.TableMismatch (Some c) known refuses prints = (mounting.TableMismatch, refuses, refl)
 refused_is info f (Some c) known refuses prints = absurd refuses
 
 abbrev BeginsSteps : List TapeStep → Outcome → Type 0

@@ -10,7 +10,7 @@ use Rattle.tape_pulses.specs.Pulses as pulses
 use Rattle.tape_pulses.specs.Pulses.{trains_steps}
 use Rattle.tape_pulses.proofs.MachineLaws.{one_outcome}
 use Rattle.tape_pulses.proofs.Stopping.{stops_leave as trains_leave}
-use Rattle.cartridge_spec.specs.Volumes as mounting
+use Rattle.cartridge_spec.specs.Mounting as mounting
 use Rattle.mount_laws.proofs.Mounting.{mounts_is_function}
 use Rattle.fresh_header.proofs.Front.{first_defect_is_none, first_defect_is_one}
 use Rattle.fresh_header.proofs.Marks.{fresh_area_is_one}
@@ -54,8 +54,8 @@ mount_leaves : (prints : Printing) (held left : Option Cartridge) (outcome : Out
 mount_leaves prints None left outcome plain torn = stays None left outcome _ plain refl torn
 mount_leaves prints (Some c) left outcome (mounting.NotFormatted, mounts, is) torn = inl (stays (Some c) left outcome _ is refl torn)
 mount_leaves prints (Some c) left outcome (mounting.Foreign fault, mounts, is) torn = inl (stays (Some c) left outcome _ is refl torn)
-mount_leaves prints (Some c) left outcome (mounting.LostTable lost, mounts, is) torn = inl (stays (Some c) left outcome _ is refl torn)
-mount_leaves prints (Some c) left outcome (mounting.TableDisagrees, mounts, is) torn = inl (stays (Some c) left outcome _ is refl torn)
+mount_leaves prints (Some c) left outcome (mounting.TableLost lost, mounts, is) torn = inl (stays (Some c) left outcome _ is refl torn)
+mount_leaves prints (Some c) left outcome (mounting.TableMismatch, mounts, is) torn = inl (stays (Some c) left outcome _ is refl torn)
 mount_leaves prints (Some c) left outcome (mounting.Mounted header words table entries, mounts, is) torn =
     inr (header, (words, (table, (entries, mounts, subst (λ (steps : List TapeStep). Torn steps (Some c) left) (ap (λ (o : Outcome). o.steps) is) torn))))
 

@@ -6,7 +6,8 @@ use Rattle.tape_script.specs.declared.words.Words.{Words}
 use Rattle.tape_script.specs.declared.words.Words.TheVariants as words
 use Rattle.mount_laws.proofs.Mounting.{mounts_always}
 use Rattle.format_plan.specs.Formatting.{HasNoDefectInFront}
-use Rattle.fresh_header.specs.Laws.{IsLabel, HasDefectInFront}
+use Rattle.fresh_header.specs.Laws.{HasDefectInFront}
+use Rattle.format_plan.specs.Fresh.{IsLabel}
 use Rattle.fresh_header.proofs.Front.{first_defect_or_none}
 use Rattle.fresh_header.proofs.Fresh.{fresh_area_exists}
 use Rattle.tape_pulses.proofs.MachineLaws.{each_outcome}

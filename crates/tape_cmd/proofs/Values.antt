@@ -4,7 +4,7 @@ use Rattle.std.proofs.lemmas.List.{length-replicate, length-append}
 use Rattle.std.proofs.lemmas.List.Elements.{All-append, All-replicate}
 use Rattle.std.proofs.Common.{codes, if◌then◌else◌, ◌≡◌, ℕ, ◌+◌, ◌-◌, ◌<◌, ◌^◌, ◌==◌, ◌++◌, Bool, true, false, List, [], ◌∷◌, length, replicate, All, refl, sym, ap, ◌∙◌, subst, inl, inr, arith}
 use Rattle.qic_base.specs.Name.{IsNameText, IsPrintable, filled}
-use Rattle.fresh_header.specs.Laws.{IsLabel}
+use Rattle.format_plan.specs.Fresh.{IsLabel}
 use Rattle.tape_script.specs.declared.words.Words.{Words}
 use Rattle.tape_script.specs.declared.words.Words.TheVariants as words
 use Rattle.tape_script.specs.Forms.{Word, Name, IsDateWord, SpellsAll, HasForm}

@@ -8,16 +8,18 @@ use Rattle.qic_base.specs.Source as sources
 use Rattle.qic_base.specs.Tape as tapes
 use Rattle.cartridge_spec.specs.Header.{Header}
 use Rattle.cartridge_spec.specs.Table.{Entry}
-use Rattle.cartridge_spec.specs.Volumes.{Plain, Mounting, Mounted, Mounts, Stands, IsUnformatted}
+use Rattle.cartridge_spec.specs.Volumes.{Plain, Stands}
+use Rattle.cartridge_spec.specs.Mounting.{Mounting, Mounted, Mounts}
+use Rattle.cartridge_spec.specs.HeaderAndTable.{IsUnformatted}
 use Rattle.cartridge_spec.specs.Writes.{changed_by}
 use Rattle.format_plan.specs.Formatting.{HasNoDefectInFront, clearing_steps, format_steps}
-use Rattle.format_plan.specs.Laws.{StandsCleanly, HasNoHeader, IsFreshFor}
+use Rattle.format_plan.specs.Clean.{StandsCleanly, HasNoHeader}
+use Rattle.format_plan.specs.Fresh.{IsFreshFor, IsFreshWith}
 use Rattle.format_plan.proofs.Clearing.{clearing_clears, cleared_is_unformatted}
 use Rattle.format_plan.proofs.Copies.{unformatted_from_bare}
 use Rattle.format_plan.proofs.Formatted.{formatting_formats, formatted_stands}
 use Rattle.format_plan.proofs.Stops.{stopped_clearing, stopped_clearing_new, stopped_format, stopped_format_new}
 use Rattle.format_plan.proofs.Writing.{effects-some, some_and, some_weaker}
-use Rattle.fresh_header.specs.Laws.{IsFreshWith}
 use Rattle.mount_laws.proofs.Keeping.{stopped_mounts, stopped_stands}
 use Rattle.mount_laws.proofs.Mounting.{mounts_is_function}
 use Rattle.change_laws.proofs.Mounted.{worn_mounts, spoiled_mounts, protected_mounts, referenced_mounts}
@@ -164,7 +166,7 @@ list_stays t words a b right leaves = each_weaker t a b right (λ held left whol
 
 fresh_for : (c : Cartridge) (label : List ℕ) (date : ℕ) (words : List ℕ) (area : List (List ℕ)) → HasNoDefectInFront c → IsFreshWith c label date words area →
     IsFreshFor c label date words area
-fresh_for c label date words area none fresh = record { fresh = fresh.fresh; marks = fresh.marks; front = none }
+fresh_for c label date words area none fresh = record { fresh = fresh; front = none }
 
 format_standing : (label : List ℕ) (date : ℕ) (c : Cartridge) (plain : Plain) (left : Option Cartridge) → IsCartridge c → StandsCleanly c plain →
     FormatLeaves label date (Some c) left → IsSomeAnd left (λ d. Stands d plain ⊎ IsUnformatted d ⊎ StandsEmpty c label date d)

@@ -9,11 +9,11 @@ use Rattle.qic_base.specs.Tape.{spoil_answer}
 use Rattle.cartridge_spec.specs.Header.{Header, HeaderFault}
 use Rattle.cartridge_spec.specs.Shape.{marked_sectors}
 use Rattle.cartridge_spec.specs.Table.{Entry}
-use Rattle.cartridge_spec.specs.Volumes.{Mounting, Mounts}
-use Rattle.cartridge_spec.specs.Volumes as mounting
+use Rattle.cartridge_spec.specs.Mounting.{Mounting, Mounts}
+use Rattle.cartridge_spec.specs.Mounting as mounting
 use Rattle.mount_laws.specs.Settling.{settling_steps}
 use Rattle.format_plan.specs.Formatting.{clearing_steps, format_steps, IsFirstDefectInFront, HasNoDefectInFront}
-use Rattle.fresh_header.specs.Laws.{IsFreshWith, IsLabel}
+use Rattle.format_plan.specs.Fresh.{IsFreshWith, IsLabel}
 use Rattle.drive_states.specs.Record.{power_on}
 use Rattle.tape_script.specs.declared.words.Words.{Words}
 use Rattle.tape_script.specs.declared.words.Words.TheVariants as words
@@ -98,8 +98,8 @@ settled_with steps text = record { steps = steps; output = text; taken = 0; stat
 abbrev pub mounting_outcome : Printing → Cartridge → Mounting → Outcome
 mounting_outcome prints c mounting.NotFormatted = refused status.NotFormatted
 mounting_outcome prints c (mounting.Foreign fault) = refused (foreign fault)
-mounting_outcome prints c (mounting.LostTable lost) = refused (status.Lost 2 lost)
-mounting_outcome prints c mounting.TableDisagrees = refused status.TableMismatch
+mounting_outcome prints c (mounting.TableLost lost) = refused (status.Lost 2 lost)
+mounting_outcome prints c mounting.TableMismatch = refused status.TableMismatch
 mounting_outcome prints c (mounting.Mounted header words table entries) =
     settled_with (settling_steps table c) (prints header words entries)
 

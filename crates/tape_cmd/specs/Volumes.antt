@@ -5,9 +5,12 @@ use Rattle.qic_base.specs.Cartridge.{Cartridge, new_cartridge}
 use Rattle.qic_base.specs.Tape as tapes
 use Rattle.cartridge_spec.specs.Header.{Header}
 use Rattle.cartridge_spec.specs.Table.{Entry}
-use Rattle.cartridge_spec.specs.Volumes.{Plain, Mounted, Mounts, Stands, IsUnformatted}
-use Rattle.format_plan.specs.Laws.{StandsCleanly, HasNoHeader, IsFreshFor, fresh_plain}
-use Rattle.change_laws.specs.Laws.{WearSpares}
+use Rattle.cartridge_spec.specs.Volumes.{Plain, Stands}
+use Rattle.cartridge_spec.specs.Mounting.{Mounted, Mounts}
+use Rattle.cartridge_spec.specs.HeaderAndTable.{IsUnformatted}
+use Rattle.format_plan.specs.Clean.{StandsCleanly, HasNoHeader}
+use Rattle.format_plan.specs.Fresh.{IsFreshFor, fresh_plain}
+use Rattle.change_laws.specs.Wear.{WearSpares}
 use Rattle.tape_script.specs.declared.words.Words.{Words}
 use Rattle.tape_script.specs.declared.words.Words.TheVariants as commands
 use Rattle.tape_cmd.specs.declared.status.Status.{Status}

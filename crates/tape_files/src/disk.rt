@@ -1,37 +1,47 @@
 ghost use Rattle.std.specs.Prelude.{◌≡◌, ◌≤◌, IfOk, OnOk, OnErr};
 ghost use Rattle.qic_base.specs.Cause.{Rose};
+ghost use Rattle.tape_files.specs.Apart.{IsApart};
 
+use crate::retry::read_from;
 use qic_base::{Disk, DiskFailed};
 use std::fs::{File, OpenFile};
 use std::io;
 use std::marker::Model;
 use std::os::unix::fs::FileExt;
 
-/// A file as a disk. A failure of the system is a failure of the call, and counted.
+/// A file as a disk, whose descriptor is none of the standard streams. A failure of the system is a failure of the call,
+/// and counted.
 #[derive(Drop)]
 pub struct FileDisk {
     file: File,
     seen: u64,
     faults: u64,
+    /// Whether the length may have changed since the last `sync` that succeeded.
+    resized: bool,
 }
 
 impl Model for FileDisk {
+    ghost use Rattle.tape_files.specs.Apart.{IsApart};
     ghost use Rattle.tape_files.specs.Edge.{FileState};
 
     ghost Value = { FileState };
 
     ghost view = { λ d. record { seen = d.seen; faults = d.faults } };
+
+    ghost invariant = { λ d. IsApart d.file };
 }
 
 impl FileDisk {
     /// A file that was opened to be read and written.
-    pub fn new(file: File) -> FileDisk
+    pub(crate) fn new(file: File) -> FileDisk
+        requires { IsApart file }
         ensures { result ≡ record { seen = 0; faults = 0 } }
     {
         FileDisk {
             file,
             seen: 0,
             faults: 0,
+            resized: true,
         }
     }
 
@@ -73,7 +83,7 @@ impl Disk for FileDisk {
 
     #[tactic(auto, using(crate::proofs::Edges::file_calls))]
     fn read_at(&mut self, place: u64, into: &mut [u8]) -> Result<usize, DiskFailed> {
-        let answer = self.file.read_at(into, place);
+        let answer = read_from(&self.file, place, into);
         self.counted(answer)
     }
 
@@ -85,6 +95,7 @@ impl Disk for FileDisk {
 
     #[tactic(auto, using(crate::proofs::Edges::file_calls))]
     fn set_len(&mut self, length: u64) -> Result<(), DiskFailed> {
+        self.resized = true;
         let answer = self.file.set_len(length);
         match self.counted(answer) {
             Ok(()) => {
@@ -100,14 +111,21 @@ impl Disk for FileDisk {
 
     #[tactic(auto, using(crate::proofs::Edges::file_calls))]
     fn sync(&mut self) -> Result<(), DiskFailed> {
-        let answer = self.file.sync_all();
-        self.counted(answer)
+        let answer = if self.resized {
+            self.file.sync_all()
+        } else {
+            self.file.sync_data()
+        };
+        self.counted(answer)?;
+        self.resized = false;
+        Ok(())
     }
 }
 
 #[cfg(test)]
 mod tests {
     use super::*;
+    use crate::open_image;
     use std::fs;
     use std::fs::OpenOptions;
     use std::test::Fail;
@@ -115,22 +133,34 @@ mod tests {
     #[test]
     fn a_file_is_a_disk(rt: HostRuntime) -> Result<(), Fail> {
         let path = "disk-of-a-test.img";
-        let file = OpenOptions::new()
-            .read(true)
-            .write(true)
-            .create(true)
-            .truncate(true)
-            .open(&rt, path)?;
-        let mut disk = FileDisk::new(file);
-        assert_eq!(rt; disk.len()?, 0);
-        disk.set_len(10)?;
-        assert_eq!(rt; disk.len()?, 10);
-        disk.write_at(4, b"tape")?;
-        disk.sync()?;
+        let mut disk = open_image(&rt, path)?;
+        assert_eq!(rt; disk.set_len(10), Ok(()));
+        assert_eq!(rt; disk.write_at(4, b"tape"), Ok(()));
+        assert_eq!(rt; disk.sync(), Ok(()));
+        assert_eq!(rt; disk.write_at(0, b"a"), Ok(()));
+        assert_eq!(rt; disk.sync(), Ok(()));
         let mut into = [1; 16];
-        assert_eq!(rt; disk.read_at(2, &mut into)?, 8);
-        assert_eq!(rt; into[..9], *b"\0\0tape\0\0\x01".as_slice());
-        fs::remove_file(&rt, path)?;
+        assert_eq!(rt; disk.read_at(0, &mut into), Ok(10));
+        assert_eq!(rt; into[..11], *b"a\0\0\0tape\0\0\x01".as_slice());
+        assert!(rt; fs::remove_file(&rt, path).is_ok());
+        Ok(())
+    }
+
+    #[test]
+    fn a_file_that_others_grow_and_cut_is_seen(rt: HostRuntime) -> Result<(), Fail> {
+        let path = "file-of-a-test.img";
+        let mut disk = open_image(&rt, path)?;
+        let other = OpenOptions::new().write(true).open(&rt, path)?;
+        let mut into = [1; 4];
+        assert_eq!(rt; disk.read_at(0, &mut into), Ok(0));
+        assert!(rt; other.write_all_at(b"grown", 0).is_ok());
+        assert_eq!(rt; disk.len(), Ok(5));
+        assert_eq!(rt; disk.read_at(2, &mut into), Ok(3));
+        assert_eq!(rt; into, *b"own\x01");
+        assert!(rt; other.set_len(3).is_ok());
+        assert_eq!(rt; disk.len(), Ok(3));
+        assert_eq!(rt; disk.read_at(2, &mut into), Ok(1));
+        assert!(rt; fs::remove_file(&rt, path).is_ok());
         Ok(())
     }
 }

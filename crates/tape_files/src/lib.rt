@@ -3,7 +3,12 @@
 #![tactic(auto)]
 
 mod disk;
+mod image;
+mod null;
+mod retry;
 mod streams;
 
 pub use disk::FileDisk;
+pub use image::{NoImage, open_image};
+pub use null::NullStreams;
 pub use streams::{StderrSink, StdinSource, StdoutSink};

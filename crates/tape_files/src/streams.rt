@@ -1,7 +1,9 @@
 ghost use Rattle.std.specs.Prelude.{◌≡◌, ◌≤◌, IfSome};
 
+use crate::retry::{read_some, write_some};
 use qic_base::{Sink, SinkFailed, Source, SourceFailed};
-use std::io::{Read, Stderr, Stdin, Stdout, Write};
+use std::io;
+use std::io::{Stderr, Stdin, Stdout};
 use std::marker::Model;
 
 /// Standard input as a source. It counts its failures, and tells nothing of its bytes.
@@ -86,7 +88,7 @@ impl Source for StdinSource {
     ghost keeps_on = { λ a b c first next. tt };
 
     fn read(&mut self, into: &mut [u8]) -> Result<usize, SourceFailed> {
-        match self.stdin.read(into) {
+        match read_some(&mut self.stdin, into) {
             Ok(count) => Ok(count),
             Err(_) => {
                 self.faults = self.faults.saturating_add(1);
@@ -97,7 +99,7 @@ impl Source for StdinSource {
 }
 
 /// The answer of a stream to a write; one that took nothing failed.
-fn some_taken(answer: std::io::Result<usize>) -> Option<usize>
+fn some_taken(answer: io::Result<usize>) -> Option<usize>
     ensures { IfSome result (λ n. (answer ≡ Ok n) × (1 ≤ n)) }
 {
     match answer {
@@ -119,7 +121,7 @@ impl Sink for StdoutSink {
     ghost took_told = { λ a b xs took. refl };
 
     fn write(&mut self, from: &[u8]) -> Result<usize, SinkFailed> {
-        match some_taken(self.stdout.write(from)) {
+        match some_taken(write_some(&mut self.stdout, from)) {
             Some(count) => Ok(count),
             None => {
                 self.faults = self.faults.saturating_add(1);
@@ -142,7 +144,7 @@ impl Sink for StderrSink {
     ghost took_told = { λ a b xs took. refl };
 
     fn write(&mut self, from: &[u8]) -> Result<usize, SinkFailed> {
-        match some_taken(self.stderr.write(from)) {
+        match some_taken(write_some(&mut self.stderr, from)) {
             Some(count) => Ok(count),
             None => {
                 self.faults = self.faults.saturating_add(1);
@@ -157,10 +159,20 @@ mod tests {
     use super::*;
 
     #[test]
-    fn streams_read_and_write(rt: HostRuntime) {
+    fn an_input_that_ended_gives_nothing(rt: HostRuntime) {
+        let mut source = StdinSource::new(rt.stdin());
         let mut into = [0; 4];
-        assert!(rt; StdinSource::new(rt.stdin()).read(&mut into).is_ok());
-        assert_eq!(rt; StdoutSink::new(rt.stdout()).write(b"\n"), Ok(1));
-        assert_eq!(rt; StderrSink::new(rt.stderr()).write(b"\n"), Ok(1));
+        assert_eq!(rt; source.read(&mut into), Ok(0));
+        assert_eq!(rt; into, [0; 4]);
+    }
+
+    #[test]
+    fn output_takes_bytes(rt: HostRuntime) {
+        assert_eq!(rt; StdoutSink::new(rt.stdout()).write(b"out\n"), Ok(4));
+    }
+
+    #[test]
+    fn standard_error_takes_bytes(rt: HostRuntime) {
+        assert_eq!(rt; StderrSink::new(rt.stderr()).write(b"error\n"), Ok(6));
     }
 }

@@ -147,8 +147,8 @@ mod tests {
     }
 
     #[test]
-    fn a_cartridge_has_3_to_150_segments_a_track(rt: HostRuntime) {
-        for (length, want) in [(0, false), (2, false), (3, true), (150, true), (151, false)] {
+    fn a_cartridge_has_3_to_246_segments_a_track(rt: HostRuntime) {
+        for (length, want) in [(0, false), (2, false), (3, true), (151, true), (246, true), (247, false)] {
             let made = Geometry::new(length);
             assert_eq!(rt; made.is_ok(), want, "at {length}");
         }
@@ -173,12 +173,16 @@ mod tests {
         }
         assert_eq!(rt; tape.track_of(617), 4);
         assert_eq!(rt; tape.logical_offset(617), 17);
+        let longest = Geometry::new(246).ok().ok_or("246 is a length")?;
+        assert_eq!(rt; longest.segments(), 6888);
+        assert_eq!(rt; longest.address(6887, 31), addr(11, 71, 128));
+        assert_eq!(rt; longest.place(addr(11, 72, 1)), None);
         Ok(())
     }
 
     #[test]
     fn each_place_is_found_again(rt: HostRuntime) -> Result<(), Fail> {
-        for length in [3, 150] {
+        for length in [3, 246] {
             let tape = Geometry::new(length).ok().ok_or("a length")?;
             for segment in 0..tape.segments() {
                 for sector in 0..32 {

@@ -5,9 +5,10 @@ use Rattle.std.proofs.lemmas.List.{nil_from_length}
 use Rattle.qic_base.specs.Sink as sinks
 use Rattle.qic_base.specs.Source as sources
 use Rattle.qic_base.specs.Tape as tapes
-use Rattle.tape_script.specs.Input.{IsPulse}
+use Rattle.tape_script.specs.Input.{IsPulse, IsTrain}
 use Rattle.tape_script.specs.Reading.{Gave}
 use Rattle.tape_script.proofs.Inputs as inputs
+use Rattle.tape_script.proofs.Lined.{IsLined-one_newline}
 use Rattle.tape_pulses.specs.declared.fault.PulseFault.{PulseFault}
 use Rattle.tape_pulses.specs.declared.fault.PulseFault.TheVariants as fault
 use Rattle.tape_pulses.specs.Pulses.{train_line}
@@ -44,7 +45,7 @@ module _ {S : Type 0} (s : sources.Meaning S) (old new : S) (train n : ℕ) (tex
     n = n;
     some = some_bytes n long;
     few = let short = pulse_short text train pulse in omega arith;
-    gave = (text, long, gave);
+    gave = (text, long, gave, IsLined-one_newline (λ before. IsTrain before train) text n long pulse);
     no_stop = no_stop_there (s.left old) (s.left new) gave;
   }
 

@@ -5,7 +5,7 @@ use Rattle.qic_base.specs.Source as sources
 use Rattle.qic_base.specs.Tape as tapes
 use Rattle.drive_states.specs.Unit.{UnitView}
 use Rattle.tape_script.specs.Input.{IsPulse}
-use Rattle.tape_script.specs.Reading.{Gave, GaveSome, HasEnded, BeginsWithNo}
+use Rattle.tape_script.specs.Reading.{Gave, GaveInLine, HasEnded, BeginsWithNo}
 use Rattle.tape_pulses.specs.declared.fault.PulseFault.{PulseFault}
 use Rattle.tape_pulses.specs.declared.fault.PulseFault.TheVariants as fault
 use Rattle.tape_pulses.specs.Pulses.{after_train, train_steps, train_line, level_line}
@@ -18,12 +18,12 @@ pub record GaveTrain {S : Type 0} (s : sources.Meaning S) (old new : S) (train :
   pub pulse : IsPulse (train_line train) train
   pub gave : Gave s old new (train_line train)
 
--- it gave some bytes, no more than a line's, and the line `end` did not begin there
+-- it gave some bytes, no more than a line's and none behind a newline, and the line `end` did not begin there
 pub record GaveOn {S : Type 0} (s : sources.Meaning S) (old new : S) : Type 0 where
   pub n : ℕ
   pub some : 0 < n
   pub few : n ≤ 128
-  pub gave : GaveSome s old new n
+  pub gave : GaveInLine s old new n
   pub no_stop : BeginsWithNo s old (λ text. text ≡ codes "end\n")
 
 -- no train's line begins what is left

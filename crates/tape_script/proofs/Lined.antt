@@ -1,7 +1,8 @@
 -- Lines and their newlines.
-use Rattle.std.proofs.Common.{◌≡◌, ◌≢◌, ◌⊎◌, inl, inr, ℕ, zero, suc, ◌+◌, ◌<◌, ◌≤◌, List, [], ◌∷◌, ◌++◌, All, length, take, drop, get_or, Option, Some, None, IfSome, refl, sym, ap, ◌∙◌, arith, append_assoc, codes, lit≤}
+use Rattle.std.proofs.Common.{◌≡◌, ◌≢◌, ◌⊎◌, inl, inr, ℕ, zero, suc, ◌+◌, ◌-◌, ◌<◌, ◌≤◌, List, [], ◌∷◌, ◌++◌, All, length, take, drop, get_or, Option, Some, None, IfSome, refl, sym, ap, ◌∙◌, arith, append_assoc, codes, lit≤}
 use Rattle.std.specs.Option.{option_map}
-use Rattle.std.proofs.lemmas.List.{length-append, get_or_append_left, get_or_at}
+use Rattle.std.proofs.lemmas.List.{length-append, length_push, get_or_append_left, get_or_at}
+use Rattle.std.proofs.Math.Seq.{take-append_seam}
 use Rattle.qic_base.specs.Source.{Meaning}
 use Rattle.tape_script.specs.Input.{IsLined}
 use Rattle.tape_script.specs.Reading.{Gave, HasEnded, NoNewline, BeginsWithNo}
@@ -26,6 +27,19 @@ one_before (x ∷ xs) [] more rest a b e = absurd (NoNewline-head x xs a (head_i
 one_before (x ∷ xs) (y ∷ ys) more rest a b e =
     let same : xs ≡ ys = one_before xs ys more rest (NoNewline-tail x xs a) (NoNewline-tail y ys b) (tail_is x y (xs ++ 0x0A ∷ more) (ys ++ 0x0A ∷ rest) e) in
     let first : x ≡ y = head_is x y (xs ++ 0x0A ∷ more) (ys ++ 0x0A ∷ rest) e in cc
+
+-- bytes and a newline have none before the last
+pub one_newline : (before : List ℕ) (n : ℕ) → n ≡ length before + 1 → NoNewline before → NoNewline (take (n - 1) (before ++ 0x0A ∷ []))
+one_newline before n long none =
+    let k : n - 1 ≡ length before = omega arith in
+    let e : take (n - 1) (before ++ 0x0A ∷ []) ≡ before = rw k (take-append_seam before (0x0A ∷ [])) in rw e none
+
+-- a line has one newline, its last byte
+pub IsLined-one_newline : (P : List ℕ → Type 0) (text : List ℕ) (n : ℕ) → length text ≡ n → IsLined P text → NoNewline (take (n - 1) text)
+IsLined-one_newline P text n long line =
+    let l = length_push line.before 0x0A in
+    let w = ap length line.whole in
+    rw line.whole (one_newline line.before n (omega arith) line.one_line)
 
 -- what a line's bytes are, where it begins bytes with a newline
 pub before_newline : (P : List ℕ → Type 0) (before more text rest : List ℕ) → NoNewline before → before ++ 0x0A ∷ more ≡ text ++ rest → IsLined P text → P before

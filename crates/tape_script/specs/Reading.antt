@@ -1,5 +1,5 @@
 -- What a reading of a line took from a source, and what it found (this project's own).
-use Rattle.std.specs.Prelude.{◌≡◌, ◌≢◌, ◌⊎◌, ℕ, ◌≤◌, ◌<◌, List, [], ◌∷◌, ◌++◌, length, take, All, Option, Some, None, IfSome, Result, Ok, Err, codes}
+use Rattle.std.specs.Prelude.{◌≡◌, ◌≢◌, ◌⊎◌, ℕ, ◌-◌, ◌≤◌, ◌<◌, List, [], ◌∷◌, ◌++◌, length, take, All, Option, Some, None, IfSome, Result, Ok, Err, codes}
 use Rattle.std.specs.Option.{option_map}
 use Rattle.qic_base.specs.Source.{Meaning}
 use Rattle.tape_script.specs.declared.line.Line.{Line}
@@ -22,6 +22,11 @@ GaveSome m old new n = (bytes : List ℕ) × (length bytes ≡ n) × Gave m old 
 abbrev pub NoNewline : List ℕ → Type 0
 NoNewline bytes = All (λ b. b ≢ 0x0A) bytes
 
+-- it gave so many bytes, none of them behind a newline: only the last may be one
+abbrev pub GaveInLine : {S : Type 0} → Meaning S → (old new : S) → ℕ → Type 0
+GaveInLine m old new n =
+    (bytes : List ℕ) × (length bytes ≡ n) × Gave m old new bytes × NoNewline (take (n - 1) bytes)
+
 -- it gave the front of a line: at most 127 bytes, none of them a newline
 abbrev pub GaveFront : {S : Type 0} → Meaning S → (old new : S) → Type 0
 GaveFront m old new = (bytes : List ℕ) × (length bytes ≤ 127) × NoNewline bytes × Gave m old new bytes
@@ -38,12 +43,12 @@ BeginsWithNo m s P = IfSome (m.left s) (λ bytes. (text rest : List ℕ) → byt
 abbrev pub IsLineText : List ℕ → Line → Type 0
 IsLineText text line = IsLined (λ before. IsLine before line) text
 
--- the end of the source before any byte; bytes that begin with no line; or a line, with its newline. A failure comes
--- before the line's newline.
+-- the end of the source before any byte; bytes that begin with no line, none taken behind a newline; or a line, with
+-- its newline. A failure comes before the line's newline.
 abbrev pub ReadsLine : {S E : Type 0} → Meaning S → (old new : S) → Result LineRead E → Type 0
 ReadsLine m old new (Ok read.End) = HasEnded m old × Gave m old new []
 ReadsLine m old new (Ok (read.Bad n)) =
-    (0 < n) × (n ≤ 128) × GaveSome m old new n × ((line : Line) → BeginsWithNo m old (λ text. IsLineText text line))
+    (0 < n) × (n ≤ 128) × GaveInLine m old new n × ((line : Line) → BeginsWithNo m old (λ text. IsLineText text line))
 ReadsLine m old new (Ok (read.Line line n)) =
     (text : List ℕ) × IsLineText text line × (length text ≡ n) × Gave m old new text
 ReadsLine m old new (Err e) = GaveFront m old new
@@ -52,7 +57,7 @@ ReadsLine m old new (Err e) = GaveFront m old new
 abbrev pub ReadsTrain : {S E : Type 0} → Meaning S → (old new : S) → Result TrainRead E → Type 0
 ReadsTrain m old new (Ok train.End) = HasEnded m old × Gave m old new []
 ReadsTrain m old new (Ok (train.Bad n)) =
-    (0 < n) × (n ≤ 128) × GaveSome m old new n × BeginsWithNo m old (λ text. text ≡ codes "end\n")
+    (0 < n) × (n ≤ 128) × GaveInLine m old new n × BeginsWithNo m old (λ text. text ≡ codes "end\n")
     × ((pulses : ℕ) → BeginsWithNo m old (λ text. IsPulse text pulses))
 ReadsTrain m old new (Ok train.Stop) = Gave m old new (codes "end\n")
 ReadsTrain m old new (Ok (train.Train pulses n)) =

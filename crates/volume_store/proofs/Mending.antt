@@ -10,11 +10,10 @@ use Rattle.erasure_solve.specs.Lost.{is_lost}
 use Rattle.cartridge_spec.specs.Segment.{sector_at}
 use Rattle.cartridge_spec.specs.Says.{whole_mask}
 use Rattle.cartridge_spec.specs.Shape.{usable_places}
-use Rattle.cartridge_spec.specs.Writes.{writes_of}
+use Rattle.cartridge_spec.specs.Writes.{writes_of, named_writes}
 use Rattle.cartridge_spec.proofs.Segments.{places_of_whole}
-use Rattle.segment_io.specs.Writes.{named_writes}
 use Rattle.mount_laws.specs.Settling.{places_where, block_writes}
-use Rattle.volume_store.specs.Settling.{block_of, is_stale, mending_steps}
+use Rattle.volume_store.specs.Settling.{collected_block, is_stale, mending_steps}
 
 -- ---- the places of a set
 
@@ -75,7 +74,7 @@ writes_of_set stale block test same =
     ap (λ (places : List ℕ). writes_of 2 places (map (λ place. sector_at block place) (lost_places stale 32))) (index_of stale 32 (omega arith))
     ∙ ap (block_writes block) (places_of_set stale test same)
 
-pub mend_writes : (stale lost : ℕ) (old new : List (List ℕ)) → new ≡ block_of old → ((i : ℕ) → i < 32 → is_lost stale i ≡ is_stale lost old new i) →
+pub mend_writes : (stale lost : ℕ) (old new : List (List ℕ)) → new ≡ collected_block old → ((i : ℕ) → i < 32 → is_lost stale i ≡ is_stale lost old new i) →
     named_writes 2 4294967295 stale new ≡ mending_steps false lost old
 mend_writes stale lost old new is same =
     writes_of_set stale new (is_stale lost old new) same

@@ -2,7 +2,8 @@
 use Rattle.std.proofs.Common.{◌≡◌, ℕ, ◌-◌, ◌*◌, List, Err, sym, ap, subst, inr}
 use Rattle.qic_base.specs.Cartridge.{Cartridge}
 use Rattle.cartridge_spec.specs.Table.{Entry, IsFirstFault}
-use Rattle.cartridge_spec.specs.Volumes.{IsSoundlyFormatted, last_segment}
+use Rattle.cartridge_spec.specs.Mounting.{IsSoundlyFormatted}
+use Rattle.cartridge_spec.specs.HeaderAndTable.{last_segment}
 use Rattle.host_driver.specs.declared.host.Host.{Host}
 use Rattle.host_driver.specs.Fits.{segments_of}
 use Rattle.header_segments.specs.declared.header.Header.{Header}

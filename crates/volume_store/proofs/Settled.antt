@@ -3,7 +3,7 @@ use Rattle.std.proofs.Common.{◌≡◌, ◌≢◌, ◌↔◌, ℕ, All, zero, s
 use Rattle.std.specs.Prelude.{◌||◌, nat_lt, if◌then◌else◌, unwrap_or, IsSomeAnd}
 use Rattle.std.specs.List.{range_with_len, slice_get}
 use Rattle.std.specs.Str.{bytes_eq}
-use Rattle.std.proofs.lemmas.Bool.{cases_lt, ne_eqb}
+use Rattle.std.proofs.lemmas.Bool.{cases_lt, ne_eqb, false≢true}
 use Rattle.std.proofs.lemmas.Bool.Decides.{nat_tests}
 use Rattle.std.proofs.lemmas.List.{length-append, take_at}
 use Rattle.std.proofs.lemmas.List.FromFn.{fill_by_all}
@@ -19,33 +19,32 @@ use Rattle.gf256_qic.specs.Code.{IsSector, parity_sectors}
 use Rattle.gf256_qic.proofs.Parities.{parity_block, length-parity_sectors}
 use Rattle.erasure_solve.specs.Lost.{is_lost}
 use Rattle.erasure_solve.proofs.Places.{is_lost_from}
-use Rattle.cartridge_spec.specs.Segment.{sector_at, IsUnreadable}
+use Rattle.cartridge_spec.specs.Segment.{sector_at, IsUnreadable, is_unreadable}
 use Rattle.cartridge_spec.specs.Shape.{usable_places, usable_count}
-use Rattle.cartridge_spec.specs.Says.{whole_mask, cells_of, is_unreadable, Agrees, Written}
+use Rattle.cartridge_spec.specs.Says.{whole_mask, cells_of, Agrees, Written, Data, with_parity}
 use Rattle.cartridge_spec.specs.Table.{Entry}
 use Rattle.cartridge_spec.specs.Table as tables
-use Rattle.cartridge_spec.specs.Writes.{writes_of, changed_by}
-use Rattle.cartridge_spec.specs.Volumes.{table_cells, TableIs, settled}
+use Rattle.cartridge_spec.specs.Writes.{writes_of, changed_by, data_in, segment_writes}
+use Rattle.cartridge_spec.specs.HeaderAndTable.{table_cells, TableIs}
+use Rattle.cartridge_spec.specs.Mounting.{settled}
 use Rattle.cartridge_spec.proofs.Segments.{cells_of_whole, cells_are_views, length-whole_cells, places_of_whole, count_of_whole}
 use Rattle.cartridge_spec.proofs.Sayings.{said_is_written, said_are_sectors, data_of-parity}
-use Rattle.cartridge_spec.proofs.TableSayings.{read_are_sectors}
+use Rattle.cartridge_spec.proofs.TableSayings.{code_says, read_are_sectors}
 use Rattle.segment_io.specs.Gathered.{Gathered, NamesUnreadable}
-use Rattle.segment_io.specs.Writes.{data_in, segment_writes}
-use Rattle.segment_io.proofs.Effects.{writes_leave_data}
-use Rattle.segment_io.proofs.GatheredCells.{slice_get-set_other}
+use Rattle.cartridge_spec.proofs.Writing.{writes_leave_data, slice_get-set_other}
 use Rattle.volume_store.specs.Mounting.{HasList}
 use Rattle.mount_laws.specs.Settling.{holds, is_unsettled, block_writes, places_where, settling_steps}
-use Rattle.volume_store.specs.Settling.{is_stale, block_of, mending_steps}
+use Rattle.volume_store.specs.Settling.{is_stale, collected_block, mending_steps}
 use Rattle.volume_store.proofs.Stale.{within_data, bytes_same}
 use Rattle.volume_store.proofs.Mending.{places_same}
 
 -- ---- the writes in the workspace are those of the cartridge
 
 lost_is : (view : SectorView) (lost i : ℕ) → (IsLost lost i ↔ IsUnreadable view) → is_lost lost i ≡ is_unreadable view
-lost_is Blank lost i names = is_lost_from lost i (names.1 tt)
-lost_is Defect lost i names = is_lost_from lost i (names.1 tt)
-lost_is Lost lost i names = is_lost_from lost i (names.1 tt)
-lost_is (Holds bytes) lost i names = ne_eqb _ _ names.0
+lost_is Blank lost i names = is_lost_from lost i (names.1 refl)
+lost_is Defect lost i names = is_lost_from lost i (names.1 refl)
+lost_is Lost lost i names = is_lost_from lost i (names.1 refl)
+lost_is (Holds bytes) lost i names = ne_eqb _ _ (λ is. false≢true (names.0 is))
 
 -- the cell at a place is lost exactly where its view is unreadable
 names_view : (c : Cartridge) (lost i : ℕ) → i < 32 → NamesUnreadable (table_cells c) lost → IsLost lost i ↔ IsUnreadable (view_at c 2 i)
@@ -65,18 +64,18 @@ stale_parity (Holds bytes) lost i held wanted is shown =
     ∙ ap (λ (s : List ℕ). not (bytes_eq s wanted)) (shown bytes refl)
 
 same_test : (c : Cartridge) (lost : ℕ) (sectors : List (List ℕ)) → length sectors ≡ 32 → Gathered (table_cells c) lost sectors → (i : ℕ) → i < 32 →
-    is_stale lost sectors (block_of sectors) i ≡ is_unsettled c (block_of sectors) i
+    is_stale lost sectors (collected_block sectors) i ≡ is_unsettled c (collected_block sectors) i
 same_test c lost sectors room gathered i within =
     let is : is_lost lost i ≡ is_unreadable (view_at c 2 i) = lost_is (view_at c 2 i) lost i (names_view c lost i within gathered.unreadable) in
     elim (cases_lt i 29) [
       | inl lower ↦
-          ap (λ (b : Bool). is_lost lost i || not b) (bytes_same (sector_at sectors i) (sector_at (block_of sectors) i) (within_data sectors (parity_sectors (take 29 sectors)) i room lower))
+          ap (λ (b : Bool). is_lost lost i || not b) (bytes_same (sector_at sectors i) (sector_at (collected_block sectors) i) (within_data sectors (parity_sectors (take 29 sectors)) i room lower))
           ∙ plain (is_lost lost i) ∙ is
-          ∙ sym (ap (λ (b : Bool). if b then is_unreadable (view_at c 2 i) else not (holds (view_at c 2 i) (sector_at (block_of sectors) i))) (is_lower lower))
+          ∙ sym (ap (λ (b : Bool). if b then is_unreadable (view_at c 2 i) else not (holds (view_at c 2 i) (sector_at (collected_block sectors) i))) (is_lower lower))
       | inr upper ↦
-          stale_parity (view_at c 2 i) lost i (sector_at sectors i) (sector_at (block_of sectors) i) is
+          stale_parity (view_at c 2 i) lost i (sector_at sectors i) (sector_at (collected_block sectors) i) is
           (λ bytes view. ap (λ (o : Option (List ℕ)). unwrap_or o []) (gathered.readable i bytes (cells_of_whole c 2 i within ∙ ap Some view)))
-          ∙ sym (ap (λ (b : Bool). if b then is_unreadable (view_at c 2 i) else not (holds (view_at c 2 i) (sector_at (block_of sectors) i))) (is_upper upper))
+          ∙ sym (ap (λ (b : Bool). if b then is_unreadable (view_at c 2 i) else not (holds (view_at c 2 i) (sector_at (collected_block sectors) i))) (is_upper upper))
     ]
   where
     plain : (b : Bool) → (b || false) ≡ b
@@ -92,9 +91,9 @@ same_test c lost sectors room gathered i within =
 pub mending_settles : (c : Cartridge) (protected : Bool) (lost : ℕ) (sectors : List (List ℕ)) → length sectors ≡ 32 → Gathered (table_cells c) lost sectors → c.info.protected ≡ protected →
     mending_steps protected lost sectors ≡ settling_steps (take 29 sectors) c
 mending_settles c protected lost sectors room gathered mark =
-    ap (λ (places : List ℕ). if protected then [] else block_writes (block_of sectors) places)
-    (places_same (is_stale lost sectors (block_of sectors)) (is_unsettled c (block_of sectors)) (same_test c lost sectors room gathered))
-    ∙ ap (λ (b : Bool). if b then [] else block_writes (block_of sectors) (places_where (is_unsettled c (block_of sectors)))) (sym mark)
+    ap (λ (places : List ℕ). if protected then [] else block_writes (collected_block sectors) places)
+    (places_same (is_stale lost sectors (collected_block sectors)) (is_unsettled c (collected_block sectors)) (same_test c lost sectors room gathered))
+    ∙ ap (λ (b : Bool). if b then [] else block_writes (collected_block sectors) (places_where (is_unsettled c (collected_block sectors)))) (sym mark)
 
 -- ---- what the writes leave
 
@@ -171,12 +170,12 @@ holds_some (Holds bytes) is = (bytes, refl)
 pub table_size : (c : Cartridge) (area : List (List ℕ)) → TableIs c area → length area ≡ 29
 table_size c area (inl reads) = reads.size
 table_size c area (inr solved) =
-    let size : length area + 3 ≡ length (table_cells c) = (said_are_sectors (table_cells c) area solved.1).size in
+    let size : length area + 3 ≡ length (table_cells c) = (said_are_sectors (table_cells c) area (code_says (table_cells c) (Data area) solved)).size in
     omega (arith, length-whole_cells c 2)
 
 pub table_sectors : (c : Cartridge) (area : List (List ℕ)) → IsCartridge c → TableIs c area → All IsSector area
 table_sectors c area whole (inl reads) = read_are_sectors (table_cells c) area (cells_are_views c 2 whole_mask whole) reads
-table_sectors c area whole (inr solved) = (said_are_sectors (table_cells c) area solved.1).each
+table_sectors c area whole (inr solved) = (said_are_sectors (table_cells c) area (code_says (table_cells c) (Data area) solved)).each
 
 block_front : (area rest : List (List ℕ)) (i : ℕ) (bytes : List ℕ) → i < length area → slice_get area i ≡ Some bytes → sector_at (area ++ rest) i ≡ bytes
 block_front area rest i bytes within there =
@@ -186,7 +185,7 @@ block_front area rest i bytes within there =
 
 -- a data sector that can be read holds its sector of the table's data
 data_held : (c : Cartridge) (area : List (List ℕ)) (i : ℕ) → i < 29 → TableIs c area → is_unreadable (view_at c 2 i) ≡ false →
-    view_at c 2 i ≡ Holds (sector_at (area ++ parity_sectors area) i)
+    view_at c 2 i ≡ Holds (sector_at (with_parity area) i)
 data_held c area i within (inl reads) readable =
     let here = reads.each i within in
     let view : Some (view_at c 2 i) ≡ Some (Holds here.0) = sym (cells_of_whole c 2 i (omega arith)) ∙ here.1 in
@@ -195,46 +194,46 @@ data_held c area i within (inl reads) readable =
     is ∙ ap Holds (sym (block_front area (parity_sectors area) i here.0 (omega arith) here.2))
 data_held c area i within (inr solved) readable =
     let here = holds_some (view_at c 2 i) readable in
-    let agrees : Agrees (table_cells c) (area ++ parity_sectors area) = said_is_written (table_cells c) area solved.1 in
-    let there : slice_get (area ++ parity_sectors area) i ≡ Some here.0 =
+    let agrees : Agrees (table_cells c) (with_parity area) = said_is_written (table_cells c) area (code_says (table_cells c) (Data area) solved) in
+    let there : slice_get (with_parity area) i ≡ Some here.0 =
     agrees.each i here.0 (cells_of_whole c 2 i (omega arith) ∙ ap Some here.1) in
     here.1 ∙ ap Holds (sym (ap (λ (o : Option (List ℕ)). unwrap_or o []) there))
 
-pub kept_view : (c : Cartridge) (area : List (List ℕ)) → TableIs c area → (i : ℕ) → is_unsettled c (area ++ parity_sectors area) i ≡ false →
-    view_at c 2 i ≡ Holds (sector_at (area ++ parity_sectors area) i)
+pub kept_view : (c : Cartridge) (area : List (List ℕ)) → TableIs c area → (i : ℕ) → is_unsettled c (with_parity area) i ≡ false →
+    view_at c 2 i ≡ Holds (sector_at (with_parity area) i)
 kept_view c area table i out =
     elim (cases_lt i 29) [
       | inl lower ↦
           let is : nat_lt i 29 ≡ true = grind (arith, nat_tests) in
           data_held c area i lower table
-          (sym (ap (λ (b : Bool). if b then is_unreadable (view_at c 2 i) else not (holds (view_at c 2 i) (sector_at (area ++ parity_sectors area) i))) is) ∙ out)
+          (sym (ap (λ (b : Bool). if b then is_unreadable (view_at c 2 i) else not (holds (view_at c 2 i) (sector_at (with_parity area) i))) is) ∙ out)
       | inr upper ↦
           let is : nat_lt i 29 ≡ false = grind (arith, nat_tests) in
-          holds_is (view_at c 2 i) (sector_at (area ++ parity_sectors area) i)
-          (sym (ap (λ (b : Bool). if b then is_unreadable (view_at c 2 i) else not (holds (view_at c 2 i) (sector_at (area ++ parity_sectors area) i))) is) ∙ out)
+          holds_is (view_at c 2 i) (sector_at (with_parity area) i)
+          (sym (ap (λ (b : Bool). if b then is_unreadable (view_at c 2 i) else not (holds (view_at c 2 i) (sector_at (with_parity area) i))) is) ∙ out)
     ]
 
 -- ---- the cartridge is settled
 
-pub block_length : (area : List (List ℕ)) → length area ≡ 29 → length (area ++ parity_sectors area) ≡ 32
+pub block_length : (area : List (List ℕ)) → length area ≡ 29 → length (with_parity area) ≡ 32
 block_length area size = length-append area (parity_sectors area) ∙ (let three : length (parity_sectors area) ≡ 3 = length-parity_sectors area in omega arith)
 
 writes_all : (c : Cartridge) (area : List (List ℕ)) → TableIs c area →
-    changed_by (block_writes (area ++ parity_sectors area) (places_where (is_unsettled c (area ++ parity_sectors area)))) c
-    ≡ changed_by (writes_of 2 (usable_places whole_mask) (area ++ parity_sectors area)) c
+    changed_by (block_writes (with_parity area) (places_where (is_unsettled c (with_parity area)))) c
+    ≡ changed_by (writes_of 2 (usable_places whole_mask) (with_parity area)) c
 unfolding places_where
 writes_all c area table =
-    effect_range (area ++ parity_sectors area) (is_unsettled c (area ++ parity_sectors area)) 0 32 c
+    effect_range (with_parity area) (is_unsettled c (with_parity area)) 0 32 c
     (λ i past within out. kept_view c area table i out)
-    ∙ ap (λ (steps : List Step). changed_by steps c) (whole_writes 32 (usable_places whole_mask) (area ++ parity_sectors area) places_of_whole (block_length area (table_size c area table)))
+    ∙ ap (λ (steps : List Step). changed_by steps c) (whole_writes 32 (usable_places whole_mask) (with_parity area) places_of_whole (block_length area (table_size c area table)))
 
 -- the settling's writes make it the settled cartridge
 pub steps_settle : (c : Cartridge) (area : List (List ℕ)) → TableIs c area → changed_by (settling_steps area c) c ≡ settled area c
 steps_settle c area table = by_mark c.info.protected
   where
     by_mark : (b : Bool) →
-        changed_by (if b then [] else block_writes (area ++ parity_sectors area) (places_where (is_unsettled c (area ++ parity_sectors area)))) c
-        ≡ (if b then c else changed_by (writes_of 2 (usable_places whole_mask) (area ++ parity_sectors area)) c)
+        changed_by (if b then [] else block_writes (with_parity area) (places_where (is_unsettled c (with_parity area)))) c
+        ≡ (if b then c else changed_by (writes_of 2 (usable_places whole_mask) (with_parity area)) c)
     by_mark true = refl
     by_mark false = writes_all c area table
 
@@ -247,7 +246,7 @@ writes_info (p ∷ places) (bytes ∷ sectors) c segment = writes_info places se
 -- the settled segment was written with the table's data
 pub settled_written : (c : Cartridge) (area : List (List ℕ)) → TableIs c area → c.info.protected ≡ false → Written (table_cells (settled area c)) area
 settled_written c area table mark =
-    let block : List (List ℕ) = area ++ parity_sectors area in
+    let block : List (List ℕ) = with_parity area in
     let size : length area ≡ 29 = table_size c area table in
     let long : length block ≡ 32 = block_length area size in
     let count : usable_count whole_mask ≡ 32 = count_of_whole in
@@ -265,7 +264,7 @@ pub settled_list : (c : Cartridge) (area : List (List ℕ)) (entries : List Entr
     HasList (settled area c) entries
 settled_list c area entries whole table shown mark =
     let size : length area ≡ 29 = table_size c area table in record {
-      block = area ++ parity_sectors area;
+      block = with_parity area;
       code = parity_block area (omega arith) (omega arith) (table_sectors c area whole table);
       agrees = settled_written c area table mark;
       shown = subst (λ (d : List (List ℕ)). tables.Shows d entries) (sym (data_of-parity area)) shown;

@@ -1,5 +1,5 @@
 -- What a store is made of: where its volumes end, and what the mounting of its cartridge did.
-use Rattle.std.proofs.Common.{◌≡◌, ℕ, suc, ◌+◌, ◌-◌, ◌*◌, ◌<◌, ◌≤◌, ◌++◌, Bool, true, false, List, [], ◌∷◌, length, map, take, Option, Some, None, IfSome, IsSomeAnd, refl, sym, ap, ◌∙◌, subst, arith}
+use Rattle.std.proofs.Common.{◌≡◌, zero, ℕ, suc, ◌+◌, ◌-◌, ◌*◌, ◌<◌, ◌≤◌, ◌++◌, Bool, true, false, List, [], ◌∷◌, length, map, take, Option, Some, None, IfSome, IsSomeAnd, refl, sym, ap, ◌∙◌, subst, arith, slice_get}
 use Rattle.std.specs.Prelude.{sum_by, if◌then◌else◌}
 use Rattle.std.specs.List.{range_with_len}
 use Rattle.std.specs.Option.{option_map, option_map_or}
@@ -11,8 +11,9 @@ use Rattle.qic_base.specs.Step.{Step, WriteSector, changed, effects}
 use Rattle.qic_base.specs.Tape.{Meaning, Done, Tells, IsToldRight}
 use Rattle.qic_base.specs.declared.tape.TapeInfo.{TapeInfo}
 use Rattle.cartridge_spec.specs.Header.{Header}
-use Rattle.cartridge_spec.specs.Table.{Entry, slot, slot_fault, some_free_below, has_bad_range, entry_in, is_used}
-use Rattle.cartridge_spec.specs.Volumes.{TableIs, settled}
+use Rattle.cartridge_spec.specs.Table.{Entry, slot, slot_fault, some_free_below, has_bad_range, entry_in, is_used, IsSoundList, LieBehind}
+use Rattle.cartridge_spec.specs.HeaderAndTable.{TableIs}
+use Rattle.cartridge_spec.specs.Mounting.{settled}
 use Rattle.cartridge_spec.specs.Writes.{writes_of, changed_by}
 use Rattle.cartridge_spec.specs.Segment.{sector_at}
 use Rattle.cartridge_spec.specs.Says.{whole_mask}
@@ -31,9 +32,11 @@ use Rattle.qic_base.proofs.Steps.{Tells-read}
 use Rattle.header_segments.specs.Header.{header_of}
 use Rattle.volume_store.specs.declared.learning.Learnt.{Learnt}
 use Rattle.volume_store.specs.Finding.{ShowsVolumes}
-use Rattle.volume_store.specs.Mounting.{HasLearnt, Settles, HasList, LieWithin}
+use Rattle.volume_store.specs.Mounting.{HasLearnt, Settles, HasList}
+use Rattle.volume_table.proofs.Orders.{faultless_is_sound}
+use Rattle.std.proofs.lemmas.Option.{same_Some}
 use Rattle.mount_laws.specs.Settling.{settling_steps, block_writes, places_where, is_unsettled}
-use Rattle.volume_store.specs.Settling.{mending_steps, block_of, is_stale}
+use Rattle.volume_store.specs.Settling.{mending_steps, collected_block, is_stale}
 use Rattle.volume_store.proofs.Copies.{IsLearnt, told_learnt, tells_two}
 use Rattle.volume_store.proofs.Mending.{range_more}
 use Rattle.volume_store.proofs.Settled.{mending_settles, steps_settle, settled_list, writes_info}
@@ -52,29 +55,21 @@ sum_more f start segment h =
 
 -- ---- where volumes end
 
-pub good_range : (area : List (List ℕ)) (last i : ℕ) → slot_fault area last i ≡ None → is_used (slot area i) ≡ true → has_bad_range area last i ≡ false
-good_range area last i sound used = by_below (some_free_below area i) refl
-  where
-    by_bad : some_free_below area i ≡ false → (b : Bool) → has_bad_range area last i ≡ b → has_bad_range area last i ≡ false
-    by_bad none true is = let fault = slot_fault-bad_range area last i used none is in cc
-    by_bad none false is = is
+-- the volumes that data without a fault show are in order
+pub sound_volumes : (area : List (List ℕ)) (last : ℕ) (entries : List Entry) → ShowsVolumes area last entries → IsSoundList last entries
+sound_volumes area last entries shows = faultless_is_sound area last entries shows.sound shows.shown
 
-    by_below : (b : Bool) → some_free_below area i ≡ b → has_bad_range area last i ≡ false
-    by_below true is = let fault = slot_fault-behind_free area last i (used_not_free (slot area i) used) used is in cc
-    by_below false is = by_bad is (has_bad_range area last i) refl
-
-ends_within : (area : List (List ℕ)) (last i : ℕ) → has_bad_range area last i ≡ false → (entry_in (slot area i)).end ≤ last
-ends_within area last i good = grind (arith, nat_tests)
-
--- each volume that sound data show ends by the last segment
-pub lie_within : (area : List (List ℕ)) (last segments : ℕ) (entries : List Entry) → ShowsVolumes area last entries → last < segments → LieWithin segments entries
-lie_within area last segments entries shows below k d within =
-    let room : length entries ≤ 232 = shows.shown.room in
-    let used = shows.shown.used k within in
-    let good = good_range area last k (shows.sound k (omega arith)) used in
-    let end = ends_within area last k good in
-    let is = get_or_from_slice_get entries k (entry_in (slot area k)) d (shows.shown.shown k within) in
-    subst (λ (e : Entry). e.end < segments) (sym is) (omega arith)
+-- and each of them ends behind the first segments, and by the last one
+pub ends_within : (entries : List Entry) (before last i : ℕ) (e : Entry) → LieBehind before last entries → slice_get entries i ≡ Some e →
+    (before < e.end) × (e.end ≤ last)
+ends_within [] before last i e order at = absurd (cc)
+ends_within (x ∷ xs) before last zero e order at =
+    let same : x ≡ e = same_Some x e at in
+    let here : before < x.end = omega (arith, order.0, order.1) in
+    subst (λ (y : Entry). (before < y.end) × (y.end ≤ last)) same (here, order.2)
+ends_within (x ∷ xs) before last (suc i) e order at =
+    let rest = ends_within xs x.end last i e order.3 at in
+    (omega (arith, order.0, order.1, rest.0), rest.1)
 
 long_cartridge : (cartridge : Option TapeInfo) (n : ℕ) → IsSomeAnd cartridge (λ info. info.segments_per_track ≡ n) → HasLength cartridge → 3 ≤ n
 long_cartridge None n there long = absurd there
@@ -128,7 +123,7 @@ none_written (p ∷ places) (bytes ∷ sectors) = none_written places sectors
 pub none_mended : (protected : Bool) (lost : ℕ) (sectors : List (List ℕ)) → effects (mending_steps protected lost sectors) None ≡ None
 none_mended true lost sectors = refl
 none_mended false lost sectors =
-    none_written (places_where (is_stale lost sectors (block_of sectors))) (map (sector_at (block_of sectors)) (places_where (is_stale lost sectors (block_of sectors))))
+    none_written (places_where (is_stale lost sectors (collected_block sectors))) (map (sector_at (collected_block sectors)) (places_where (is_stale lost sectors (collected_block sectors))))
 
 -- what a told cartridge is after it was settled
 abbrev ListsWhereWritable : List Entry → Option Cartridge → Type 0

@@ -7,9 +7,10 @@ use Rattle.qic_base.specs.Cartridge.{Cartridge}
 use Rattle.qic_base.specs.LostSet.{lost_places}
 use Rattle.qic_base.specs.declared.tape.SectorView.{SectorView}
 use Rattle.qic_base.specs.declared.tape.SectorView.TheVariants.{Blank, Defect, Lost, Holds}
-use Rattle.cartridge_spec.specs.Segment.{IsUnreadable}
-use Rattle.cartridge_spec.specs.Says.{is_unreadable, unreadable_count, unreadable_data, LosesData, ReadsAll, TableSays, TableLost, Says, Data, data_of}
-use Rattle.cartridge_spec.specs.Volumes.{table_cells, TableIs}
+use Rattle.cartridge_spec.specs.Segment.{IsUnreadable, is_unreadable}
+use Rattle.cartridge_spec.specs.Says.{unreadable_count, unreadable_data, LosesData, ReadsAll, TableSays, ByCode, LostSectors, Mismatch, Says, Data, data_of}
+use Rattle.cartridge_spec.specs.HeaderAndTable.{table_cells, TableIs}
+use Rattle.cartridge_spec.proofs.TableSayings.{says_code}
 use Rattle.cartridge_spec.proofs.Cells.{unreadable_count-first}
 use Rattle.cartridge_spec.specs.Shape.{Carries, usable_count}
 use Rattle.cartridge_spec.proofs.Segments.{length-whole_cells, count_of_whole, count_of_cells}
@@ -28,16 +29,10 @@ get-take (suc n) (x ∷ xs) (suc i) h = get-take n xs i (omega arith)
 
 -- a cell that isn't unreadable holds bytes
 readable_holds : (view : SectorView) → ¬ (IsUnreadable view) → (bytes : List ℕ) × (view ≡ Holds bytes)
-readable_holds Blank none = absurd (none tt)
-readable_holds Defect none = absurd (none tt)
-readable_holds Lost none = absurd (none tt)
+readable_holds Blank none = absurd (none refl)
+readable_holds Defect none = absurd (none refl)
+readable_holds Lost none = absurd (none refl)
 readable_holds (Holds bytes) none = (bytes, refl)
-
-unreadable_is : (view : SectorView) → IsUnreadable view → is_unreadable view ≡ true
-unreadable_is Blank bad = refl
-unreadable_is Defect bad = refl
-unreadable_is Lost bad = refl
-unreadable_is (Holds bytes) bad = absurd bad
 
 slice_get-take : (sectors : List (List ℕ)) (n i : ℕ) (bytes : List ℕ) → i < n → slice_get sectors i ≡ Some bytes → slice_get (take n sectors) i ≡ Some bytes
 slice_get-take sectors n i bytes within there =
@@ -70,7 +65,7 @@ counts : (cells : List SectorView) (n i : ℕ) → i < n → IsUnreadableAt cell
 counts [] n i within bad = absurd bad
 counts (cell ∷ cells) zero i within bad = absurd (omega arith)
 counts (cell ∷ cells) (suc n) zero within bad =
-    let one : cond {A = ℕ} (is_unreadable cell) 1 0 ≡ 1 = ap (λ (b : Bool). cond {A = ℕ} b 1 0) (unreadable_is cell bad) in
+    let one : cond {A = ℕ} (is_unreadable cell) 1 0 ≡ 1 = ap (λ (b : Bool). cond {A = ℕ} b 1 0) bad in
     subst (λ (m : ℕ). 0 < m) (sym (unreadable_count-first cell (take n cells))) (omega arith)
 counts (cell ∷ cells) (suc n) (suc i) within bad =
     let rest = counts cells n i (omega arith) bad in
@@ -100,15 +95,15 @@ pub finds_solved : (c : Cartridge) (lost : ℕ) (old new : List (List ℕ)) → 
 finds_solved c lost old new room gathered loses solved =
     let says : Says (table_cells c) (Data (take 29 new)) =
     subst (λ (area : List (List ℕ)). Says (table_cells c) (Data area)) (data_of-whole new (length (table_cells c)) (length-whole_cells c 2) room) solved.says in
-    inr (collected_loses (table_cells c) lost old gathered loses, says)
+    inr (says_code (table_cells c) (Data (take 29 new)) (collected_loses (table_cells c) lost old gathered loses) says)
 
 -- the answer is a fault of the solving, ..
 finds_fault : (A : Type 0) (c : Cartridge) (lost : ℕ) (old new : List (List ℕ)) (fault : SegFault) → Gathered (table_cells c) lost old → LosesData lost →
     Solves {A = Unit {0}} 2 (table_cells c) new (Err fault) → FindsTable {A = A} c new (Err fault)
 finds_fault A c lost old new (seg.Lost segment n) gathered loses solved =
-    (solved.0, (collected_loses (table_cells c) lost old gathered loses, solved.1))
+    (solved.0, says_code (table_cells c) (LostSectors n) (collected_loses (table_cells c) lost old gathered loses) solved.1)
 finds_fault A c lost old new (seg.Mismatch segment) gathered loses solved =
-    (solved.0, (collected_loses (table_cells c) lost old gathered loses, solved.1))
+    (solved.0, says_code (table_cells c) Mismatch (collected_loses (table_cells c) lost old gathered loses) solved.1)
 finds_fault A c lost old new seg.Tape gathered loses solved = solved
 
 pub finds_answer : {A : Type 0} (c : Cartridge) (lost : ℕ) (old new : List (List ℕ)) (fault : SegFault) (r : Result A SegFault) → r ≡ Err fault → Gathered (table_cells c) lost old → LosesData lost →
@@ -118,7 +113,7 @@ finds_answer {A} c lost old new fault r is gathered loses solved =
 
 -- .. or that more than three were lost
 pub finds_many : (c : Cartridge) (lost n : ℕ) (sectors : List (List ℕ)) → Gathered (table_cells c) lost sectors → LosesData lost →
-    length (lost_places lost 32) ≡ n → 3 < n → TableSays (table_cells c) (TableLost n)
+    length (lost_places lost 32) ≡ n → 3 < n → TableSays (table_cells c) (ByCode (LostSectors n))
 finds_many c lost n sectors gathered loses count many =
     let few : length (table_cells c) ≤ 32 = omega (arith, length-whole_cells c 2) in
     (collected_loses (table_cells c) lost sectors gathered loses, says_lost (table_cells c) lost n few gathered.unreadable count many)

@@ -4,13 +4,13 @@ use Rattle.std.specs.Prelude.{◌≡◌, ℕ, ◌*◌, Bool, true, false, List, 
 use Rattle.qic_base.specs.Cartridge.{Cartridge}
 use Rattle.qic_base.specs.Step.{Step}
 use Rattle.qic_base.specs.Tape.{Meaning, Done, Broke}
-use Rattle.qic_base.specs.declared.foreign.ForeignField.{ForeignField}
-use Rattle.cartridge_spec.specs.Header.{HeaderFault, has_signature, header_fault, Shows}
+use Rattle.cartridge_spec.specs.Header.{HeaderFault, fault_as, has_signature, header_fault, Shows}
 use Rattle.cartridge_spec.specs.Says.{TableSays}
 use Rattle.cartridge_spec.specs.Says as says
 use Rattle.cartridge_spec.specs.Table.{Entry, TableFault, HasNoFault, IsFirstFault}
 use Rattle.cartridge_spec.specs.Table as tables
-use Rattle.cartridge_spec.specs.Volumes.{table_cells, TableIs, slot_refusal, CopyReads, CopyDoesNotRead, IsFormatted, IsUnformatted, RefusesHeader}
+use Rattle.cartridge_spec.specs.HeaderAndTable.{table_cells, TableIs, slot_refusal, CopyReads, CopyDoesNotRead, IsFormatted, IsUnformatted}
+use Rattle.cartridge_spec.specs.Mounting.{RefusesHeader}
 use Rattle.header_segments.specs.declared.header.Header.{Header}
 use Rattle.header_segments.specs.Header.{header_of}
 use Rattle.header_segments.specs.Laws.{AreTaken}
@@ -52,16 +52,13 @@ RefusesMounting (Err fault) = is_of_mounting fault ≡ true
 
 -- ---- the header
 
-abbrev pub named : ForeignField → ℕ → HeaderFault
-named field value = record { field = field; value = value }
-
 -- what data are taken as by a drive that reports this many segments per track: a header and the words of a map, no
 -- header, or one with a test that fails
 abbrev pub TakesHeader : (area : List (List ℕ)) (n : ℕ) (words : List ℕ) → Result (Option Header) StoreFault → Type 0
 TakesHeader area n words (Ok (Some header)) = AreTaken area n (header_of header) words
 TakesHeader area n words (Ok None) = has_signature area ≡ false
 TakesHeader area n words (Err (Foreign field value)) =
-    (has_signature area ≡ true) × (header_fault area n ≡ Some (named field value))
+    (has_signature area ≡ true) × (header_fault area n ≡ Some (fault_as field value))
 TakesHeader area n words (Err fault) = ⊥
 
 -- a copy reads, and its data pass the tests and show this header and these words
@@ -81,7 +78,7 @@ pub record HasFaultyCopy (c : Cartridge) (copy n : ℕ) (fault : HeaderFault) : 
 abbrev pub FindsCopy : Cartridge → (copy n : ℕ) (words : List ℕ) → Result (Option Header) StoreFault → Type 0
 FindsCopy c copy n words (Ok (Some header)) = HasCopy c copy n words header
 FindsCopy c copy n words (Ok None) = CopyDoesNotRead c copy
-FindsCopy c copy n words (Err (Foreign field value)) = HasFaultyCopy c copy n (named field value)
+FindsCopy c copy n words (Err (Foreign field value)) = HasFaultyCopy c copy n (fault_as field value)
 FindsCopy c copy n words (Err fault) = ⊥
 
 -- a header in force that passes the tests
@@ -93,7 +90,7 @@ pub record HasFormat (c : Cartridge) (words : List ℕ) (header : Header) : Type
 abbrev pub FindsHeader : Cartridge → (words : List ℕ) → Result Header StoreFault → Type 0
 FindsHeader c words (Ok header) = HasFormat c words header
 FindsHeader c words (Err NotFormatted) = IsUnformatted c
-FindsHeader c words (Err (Foreign field value)) = RefusesHeader c (named field value)
+FindsHeader c words (Err (Foreign field value)) = RefusesHeader c (fault_as field value)
 FindsHeader c words (Err fault) = ⊥
 
 -- a header that was taken is one of so many segments per track, and the map has a word for each segment
@@ -110,8 +107,8 @@ HasMap n words (Some header) = HasWords n words header
 -- the first 29 sectors are the table's data, or the table's segment says why there are none
 abbrev pub FindsTable : {A : Type 0} (c : Cartridge) (sectors : List (List ℕ)) → Result A SegFault → Type 0
 FindsTable c sectors (Ok done) = TableIs c (take 29 sectors)
-FindsTable c sectors (Err (seg.Lost segment lost)) = (segment ≡ 2) × TableSays (table_cells c) (says.TableLost lost)
-FindsTable c sectors (Err (seg.Mismatch segment)) = (segment ≡ 2) × TableSays (table_cells c) says.TableMismatch
+FindsTable c sectors (Err (seg.Lost segment lost)) = (segment ≡ 2) × TableSays (table_cells c) (says.ByCode (says.LostSectors lost))
+FindsTable c sectors (Err (seg.Mismatch segment)) = (segment ≡ 2) × TableSays (table_cells c) (says.ByCode says.Mismatch)
 FindsTable c sectors (Err seg.Tape) = ⊥
 
 -- the refusal that a fault of the table's segment is
@@ -136,7 +133,7 @@ pub record HasBadSlot (area : List (List ℕ)) (last : ℕ) (fault : HeaderFault
 -- how the decoding of the table's data ended
 abbrev pub DecodesTable : (area : List (List ℕ)) (last : ℕ) (entries : List Entry) → Result (Unit {0}) StoreFault → Type 0
 DecodesTable area last entries (Ok done) = ShowsVolumes area last entries
-DecodesTable area last entries (Err (Foreign field value)) = HasBadSlot area last (named field value)
+DecodesTable area last entries (Err (Foreign field value)) = HasBadSlot area last (fault_as field value)
 DecodesTable area last entries (Err fault) = ⊥
 
 -- the first 29 sectors are the table's data, these sectors of segment 2 can't be read and the others stand in their
@@ -155,7 +152,7 @@ pub record HasBadTable (c : Cartridge) (last : ℕ) (fault : HeaderFault) : Type
 -- what the volume table is
 abbrev pub FindsVolumes : Cartridge → (last : ℕ) (sectors : List (List ℕ)) (entries : List Entry) → Result ℕ StoreFault → Type 0
 FindsVolumes c last sectors entries (Ok lost) = HasVolumes c last sectors entries lost
-FindsVolumes c last sectors entries (Err (Lost segment lost)) = (segment ≡ 2) × TableSays (table_cells c) (says.TableLost lost)
-FindsVolumes c last sectors entries (Err TableMismatch) = TableSays (table_cells c) says.TableMismatch
-FindsVolumes c last sectors entries (Err (Foreign field value)) = HasBadTable c last (named field value)
+FindsVolumes c last sectors entries (Err (Lost segment lost)) = (segment ≡ 2) × TableSays (table_cells c) (says.ByCode (says.LostSectors lost))
+FindsVolumes c last sectors entries (Err TableMismatch) = TableSays (table_cells c) (says.ByCode says.Mismatch)
+FindsVolumes c last sectors entries (Err (Foreign field value)) = HasBadTable c last (fault_as field value)
 FindsVolumes c last sectors entries (Err fault) = ⊥

@@ -1,16 +1,17 @@
 -- How a cartridge is mounted, what a store shows of it, and when a store fits a unit (this project's own).
-use Rattle.std.specs.Prelude.{◌≡◌, ◌⊎◌, ℕ, ◌*◌, ◌<◌, All, true, false, List, [], length, take, Result, Ok, Err}
+use Rattle.std.specs.Prelude.{◌≡◌, ◌⊎◌, ℕ, ◌-◌, ◌*◌, true, false, List, [], length, take, Result, Ok, Err}
 use Rattle.qic_base.specs.Cartridge.{Cartridge}
 use Rattle.qic_base.specs.Step.{Step}
 use Rattle.qic_base.specs.Tape.{Meaning, Done, Broke, Tells}
 use Rattle.qic117_commands.specs.Views.{is_primary}
 use Rattle.gf256_qic.specs.Code.{IsCodeBlock}
-use Rattle.cartridge_spec.specs.Header.{Header}
+use Rattle.cartridge_spec.specs.Header.{Header, fault_as}
 use Rattle.cartridge_spec.specs.Says.{Agrees, data_of}
-use Rattle.cartridge_spec.specs.Table.{Entry}
+use Rattle.cartridge_spec.specs.Table.{Entry, IsSoundList}
 use Rattle.cartridge_spec.specs.Table as tables
-use Rattle.cartridge_spec.specs.Volumes.{table_cells, Mounts}
-use Rattle.cartridge_spec.specs.Volumes as mounting
+use Rattle.cartridge_spec.specs.HeaderAndTable.{table_cells}
+use Rattle.cartridge_spec.specs.Mounting.{Mounts}
+use Rattle.cartridge_spec.specs.Mounting as mounting
 use Rattle.drive_states.specs.Deck.{is_referenced}
 use Rattle.drive_states.specs.Unit.{UnitView}
 use Rattle.host_driver.specs.declared.host.Host.{Host}
@@ -21,7 +22,6 @@ use Rattle.segment_io.specs.Gathered.{Gathered}
 use Rattle.volume_store.specs.declared.fault.StoreFault.{StoreFault}
 use Rattle.volume_store.specs.declared.fault.StoreFault.TheVariants.{NotFormatted, Foreign, Lost, TableMismatch, Tape}
 use Rattle.volume_store.specs.declared.learning.Learnt.{Learnt}
-use Rattle.volume_store.specs.Finding.{named}
 use Rattle.mount_laws.specs.Settling.{settling_steps}
 
 -- ---- refusals
@@ -29,9 +29,9 @@ use Rattle.mount_laws.specs.Settling.{settling_steps}
 -- the mounting of the cartridge is refused so
 abbrev pub MountRefuses : Cartridge → StoreFault → Type 0
 MountRefuses c NotFormatted = Mounts c mounting.NotFormatted
-MountRefuses c (Foreign field value) = Mounts c (mounting.Foreign (named field value))
-MountRefuses c (Lost segment lost) = (segment ≡ 2) × Mounts c (mounting.LostTable lost)
-MountRefuses c TableMismatch = Mounts c mounting.TableDisagrees
+MountRefuses c (Foreign field value) = Mounts c (mounting.Foreign (fault_as field value))
+MountRefuses c (Lost segment lost) = (segment ≡ 2) × Mounts c (mounting.TableLost lost)
+MountRefuses c TableMismatch = Mounts c mounting.TableMismatch
 MountRefuses c fault = ⊥
 
 -- ---- what was learnt
@@ -47,10 +47,6 @@ Learns c words sectors entries (Ok learnt) = HasLearnt c words sectors entries l
 Learns c words sectors entries (Err fault) = MountRefuses c fault
 
 -- ---- a store
-
--- each volume ends before this segment
-abbrev pub LieWithin : (segments : ℕ) → List Entry → Type 0
-LieWithin segments entries = All (λ entry. entry.end < segments) entries
 
 -- what a store shows: the header in force, the words of the map and the entries of its volumes
 pub record StoreView : Type 0 where
@@ -112,4 +108,5 @@ pub record StoreFits {T : Type 0} (m : Meaning T) (store : StoreView) (u : UnitV
   pub agrees : hosts.Agrees m u
   pub header : store.header.segments_per_track ≡ segments_of store.host
   pub words : length store.words ≡ 28 * segments_of store.host
+  pub list : IsSoundList (28 * segments_of store.host - 1) store.entries
   pub volumes : Tells m u.tape (λ c. c.info.protected ≡ false → HasList c store.entries)

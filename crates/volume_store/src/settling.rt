@@ -10,7 +10,7 @@ ghost use Rattle.erasure_solve.specs.Lost.{is_lost};
 ghost use Rattle.drive_states.specs.Deck.{is_protected, is_referenced};
 ghost use Rattle.host_driver.specs.Fits.{Agrees, Fits, IsAtRest};
 ghost use Rattle.host_driver.specs.Place.{KeepsMode};
-ghost use Rattle.volume_store.specs.Settling.{block_of, is_stale, mending_steps};
+ghost use Rattle.volume_store.specs.Settling.{collected_block, is_stale, mending_steps};
 
 use crate::fault::StoreFault;
 use crate::table_reader::{DATA_SECTORS, TABLE_SEGMENT, WHOLE, data_sectors};
@@ -66,7 +66,7 @@ fn put_parity(sectors: &mut [[u8; 1024]], lost: u32, parity: &[[u8; 1024]; 3]) -
 /// was another.
 fn renew_parity(lost: LostSet, work: &mut Workspace) -> LostSet
     requires { length work.old ≡ 32 }
-    ensures block { work.new ≡ block_of work.old }
+    ensures block { work.new ≡ collected_block work.old }
     ensures stale { (i : ℕ) → i < 32 → is_lost result i ≡ is_stale lost work.old work.new i }
     ensures within { result < 2 ^ 32 }
 {

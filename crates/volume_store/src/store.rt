@@ -33,9 +33,10 @@ pub struct Store {
 }
 
 impl Model for Store {
-    ghost use Rattle.std.specs.Prelude.{◌≡◌, ◌*◌, length};
+    ghost use Rattle.std.specs.Prelude.{◌≡◌, ◌-◌, ◌*◌, length};
     ghost use Rattle.header_segments.specs.Header.{header_of};
-    ghost use Rattle.volume_store.specs.Mounting.{StoreView, LieWithin};
+    ghost use Rattle.cartridge_spec.specs.Table.{IsSoundList};
+    ghost use Rattle.volume_store.specs.Mounting.{StoreView};
 
     ghost Value = { StoreView };
 
@@ -47,7 +48,7 @@ impl Model for Store {
     } };
 
     ghost invariant = { λ store. (length store.map ≡ 28 * store.header.segments_per_track)
-        × LieWithin (length store.map) store.table };
+        × IsSoundList (length store.map - 1) store.table };
 }
 
 /// The bytes of data that the segments from one to another carry.

@@ -2,7 +2,7 @@
 
 ghost use Rattle.std.specs.Prelude.{◌≡◌, ◌≢◌, ◌<◌, ℕ, true, length, take, IfOk};
 ghost use Rattle.qic_base.specs.Tape.{Tells};
-ghost use Rattle.cartridge_spec.specs.Volumes.{table_cells};
+ghost use Rattle.cartridge_spec.specs.HeaderAndTable.{table_cells};
 ghost use Rattle.drive_states.specs.Deck.{is_referenced};
 ghost use Rattle.drive_states.specs.Reach.{reads_in};
 ghost use Rattle.host_driver.specs.Fits.{Agrees, Fits, IsAtRest};

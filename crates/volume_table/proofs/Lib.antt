@@ -1,3 +1,4 @@
+pub mod Orders
 pub mod SlotLaws
 pub mod SoFar
 pub mod TableLaws

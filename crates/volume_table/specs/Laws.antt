@@ -1,6 +1,6 @@
 -- Laws of the volume table (this project's profile).
 use Rattle.std.specs.Prelude.{◌≡◌, ◌⊎◌, ℕ, List}
-use Rattle.cartridge_spec.specs.Table.{Entry, Shows, TableFault, HasNoFault, IsFirstFault}
+use Rattle.cartridge_spec.specs.Table.{Entry, Shows, TableFault, HasNoFault, IsFirstFault, IsSoundList}
 
 -- two lists that the same data show are equal
 abbrev pub VolumesAreDetermined : Type 0
@@ -16,3 +16,15 @@ SoundDataShowVolumes =
 abbrev pub DataAreSoundOrFaulty : Type 0
 DataAreSoundOrFaulty =
     (area : List (List ℕ)) (last : ℕ) → ((fault : TableFault) × IsFirstFault area last fault) ⊎ HasNoFault area last
+
+-- data with no slot at fault show a list in order
+abbrev pub FaultlessIsSound : Type 0
+FaultlessIsSound =
+    (area : List (List ℕ)) (last : ℕ) (entries : List Entry) → HasNoFault area last → Shows area entries →
+    IsSoundList last entries
+
+-- and data that show one have no slot at fault
+abbrev pub SoundIsFaultless : Type 0
+SoundIsFaultless =
+    (area : List (List ℕ)) (last : ℕ) (entries : List Entry) → IsSoundList last entries → Shows area entries →
+    HasNoFault area last

@@ -1,6 +1,6 @@
 //! Laws of the volume table that are proved of its definitions; the functions do nothing.
 
-ghost use Rattle.volume_table.specs.Laws.{DataAreSoundOrFaulty, SoundDataShowVolumes, VolumesAreDetermined};
+ghost use Rattle.volume_table.specs.Laws.{DataAreSoundOrFaulty, FaultlessIsSound, SoundDataShowVolumes, SoundIsFaultless, VolumesAreDetermined};
 
 /// The bytes of a table show at most one list of volumes.
 pub fn volumes_are_determined()
@@ -15,4 +15,11 @@ pub fn sound_data_show_volumes()
 /// The bytes of a table have a first slot at fault, or no slot at fault.
 pub fn data_are_sound_or_faulty()
     ensures { DataAreSoundOrFaulty }
+{}
+
+/// The bytes of a table that show a list have no slot at fault exactly where the list is in order, behind the table's
+/// segment and up to the last one.
+pub fn sound_lists()
+    ensures faultless { FaultlessIsSound }
+    ensures sound { SoundIsFaultless }
 {}

@@ -3,7 +3,8 @@ use Rattle.std.proofs.lemmas.Result.{err_from_is_err_and}
 use Rattle.qic_base.specs.Tape.{Done, Broke}
 use Rattle.qic_base.proofs.Steps.{Done-before_reads, Broke-before_reads}
 use Rattle.drive_states.specs.Deck.{segments_per_track}
-use Rattle.format_plan.specs.Formatting.{clearing_steps, IsFreshArea}
+use Rattle.format_plan.specs.Formatting.{clearing_steps}
+use Rattle.format_plan.specs.Fresh.{IsFreshArea}
 use Rattle.formatter.proofs.Places.{size_known, length_known, length_kept, length_referenced}
 use Rattle.formatter.proofs.Told.{marks_formattable, first_defect, all_done, all_broken}
 use Rattle.formatter.proofs.formatting.format.Goals as goal

@@ -1,6 +1,7 @@
 use Rattle.std.proofs.Common.{◌≡◌, ℕ, List, take, ap, subst, sym, ◌∙◌}
 use Rattle.cartridge_spec.specs.Header.{Spells}
-use Rattle.format_plan.specs.Formatting.{block_of, fresh_header, IsFreshArea}
+use Rattle.cartridge_spec.specs.Says.{with_parity}
+use Rattle.format_plan.specs.Fresh.{fresh_header, IsFreshArea}
 use Rattle.formatter.proofs.Copies.{block_data}
 use Rattle.formatter.proofs.header.spell.Goals as goal
 
@@ -8,7 +9,7 @@ pub returns-clause-parity : goal.returns-clause-parity
 returns-clause-parity c =
     let data_sectors : take 29 c.put_parity.new.sectors ≡ take 29 c.put_header.new.sectors =
     ap (take 29) c.put_parity.ensures.parity ∙ block_data (take 29 c.put_header.new.sectors) c.put_parity.ensures.area.size in
-    c.put_parity.ensures.parity ∙ ap block_of (sym data_sectors)
+    c.put_parity.ensures.parity ∙ ap with_parity (sym data_sectors)
 
 pub returns-clause-fresh : goal.returns-clause-fresh
 returns-clause-fresh c =

@@ -5,7 +5,7 @@ use Rattle.qic_base.specs.Tape.{Done, Broke, Does}
 use Rattle.qic_base.proofs.Steps.{Broke-front}
 use Rattle.cartridge_spec.specs.Shape.{usable_count}
 use Rattle.format_plan.specs.Formatting.{copy_writes}
-use Rattle.segment_io.specs.Writes.{named_writes}
+use Rattle.cartridge_spec.specs.Writes.{named_writes}
 use Rattle.formatter.proofs.Parts.{does_after}
 use Rattle.formatter.proofs.Copies.{all_count, copy_is}
 use Rattle.formatter.proofs.header.write_copy.Goals as goal

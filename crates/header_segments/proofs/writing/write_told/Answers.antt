@@ -3,7 +3,7 @@ use Rattle.std.proofs.lemmas.List.Edits.{length-between}
 use Rattle.std.proofs.lemmas.List.Elements.{All-from_recursion}
 use Rattle.qic_base.specs.Field.{overwritten}
 use Rattle.header_segments.specs.Header.{header_of}
-use Rattle.header_segments.specs.Writing.{Fits, told_fields}
+use Rattle.header_segments.specs.Writing.{FieldFits, told_fields}
 use Rattle.header_segments.proofs.SpellingLaws.{put_mid-overwritten}
 use Rattle.header_segments.proofs.writing.write_told.Goals as goal
 use borrow.Rule.Slice.PartMut.{put_mid}
@@ -21,4 +21,4 @@ returns-clause-fits c =
     let long : length c.write_u32-2.new.bytes ≡ 1024 = omega (arith, c.write_u32-2.auto.bytes, c.write_u32.auto.bytes, c.told-sector) in
     let copied : length c.copy_from_slice.new.self ≡ 44 = omega (arith, c.copy_from_slice.ensures.len, length-between c.write_u32-2.new.bytes 30 74 (omega arith)) in
     let label : length c.args.header.now.label ≡ 44 = ap length (sym c.bytes.ensures ∙ sym c.copy_from_slice.ensures.after) ∙ copied in
-    All-from_recursion Fits (told_fields (header_of c.args.header.now)) (omega arith, (omega arith, (label, (omega arith, tt))))
+    All-from_recursion FieldFits (told_fields (header_of c.args.header.now)) (omega arith, (omega arith, (label, (omega arith, tt))))

@@ -1,5 +1,5 @@
 use Rattle.mount_laws.proofs.Whole.{settled_is_cartridge}
-use Rattle.mount_laws.proofs.Settled.{settled_keeps_table, settled_mounts, settled_stands, settled_is_written, settled_twice, settled_is_whole, settled_needs_no_steps}
+use Rattle.mount_laws.proofs.Settled.{settled_keeps_table, settled_mounts, settled_stands, settled_is_clean, settled_is_written, settled_twice, settled_is_whole, settled_needs_no_steps}
 use Rattle.mount_laws.proofs.laws.settled_table.Goals as goal
 
 pub returns-clause-table : goal.returns-clause-table
@@ -25,3 +25,6 @@ returns-clause-twice c = settled_twice
 
 pub returns-clause-all : goal.returns-clause-all
 returns-clause-all c = settled_is_whole
+
+pub returns-clause-clean : goal.returns-clause-clean
+returns-clause-clean c = settled_is_clean

@@ -1,5 +1,5 @@
 use Rattle.mount_laws.proofs.Whole.{stopped_is_cartridge}
-use Rattle.mount_laws.proofs.Keeping.{stopped_mounts, stopped_stands}
+use Rattle.mount_laws.proofs.Keeping.{stopped_mounts, stopped_stands, stopped_is_clean}
 use Rattle.mount_laws.proofs.Stops.{stopped_settling, stopped_settles_alike}
 use Rattle.mount_laws.proofs.laws.stopped_settling.Goals as goal
 
@@ -17,3 +17,6 @@ returns-clause-stands c = stopped_stands
 
 pub returns-clause-whole : goal.returns-clause-whole
 returns-clause-whole c = stopped_is_cartridge
+
+pub returns-clause-clean : goal.returns-clause-clean
+returns-clause-clean c = stopped_is_clean

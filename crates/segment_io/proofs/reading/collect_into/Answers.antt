@@ -6,7 +6,7 @@ use Rattle.drive_states.specs.Reach.{reads_in}
 use Rattle.segment_io.specs.Gathered.{Gathered, cells_below}
 use Rattle.segment_io.proofs.GatheredCells.{gathered_none, cells_below-none}
 use Rattle.segment_io.proofs.Going.{under_first, keeps_both, mode_kept, done_moved, agrees_moved, tells_always, tells_then, tells_later}
-use Rattle.segment_io.proofs.NamedWrites.{none_below}
+use Rattle.cartridge_spec.proofs.Places.{none_below}
 use Rattle.segment_io.proofs.reading.collect_into.Goals as goal
 
 pub loop-index-init : goal.loop-index-init

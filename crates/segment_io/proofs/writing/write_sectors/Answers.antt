@@ -7,9 +7,11 @@ use Rattle.qic_base.proofs.Steps.{Done-Done, Done-Broke, Broke-front}
 use Rattle.qic117_commands.specs.Views.{is_primary}
 use Rattle.drive_states.specs.Deck.{is_protected}
 use Rattle.cartridge_spec.specs.Shape.{usable_count}
-use Rattle.segment_io.specs.Writes.{named_writes, usable_write}
+use Rattle.segment_io.specs.Writes.{usable_write}
+use Rattle.cartridge_spec.specs.Writes.{named_writes}
 use Rattle.segment_io.proofs.Going.{under_first, keeps_both, mode_kept, protect_kept, done_moved, agrees_moved}
-use Rattle.segment_io.proofs.NamedWrites.{none_below, count_below, writes_below, writes_below_none, writes_below_next, writes_below_all, front_of_writes, Front}
+use Rattle.segment_io.proofs.NamedWrites.{writes_below, writes_below_none, writes_below_next, writes_below_all, front_of_writes}
+use Rattle.cartridge_spec.proofs.Places.{none_below, count_below, Front}
 use Rattle.segment_io.proofs.writing.write_sectors.Goals as goal
 
 pub loop-index-init : goal.loop-index-init

@@ -4,7 +4,7 @@ use Rattle.std.proofs.lemmas.Nat.{pow_pos}
 use Rattle.qic_base.specs.Step.{Step}
 use Rattle.qic_base.specs.Tape.{Does}
 use Rattle.cartridge_spec.specs.Shape.{usable_count}
-use Rattle.segment_io.specs.Writes.{block_in, segment_writes, named_writes}
+use Rattle.cartridge_spec.specs.Writes.{block_in, segment_writes, named_writes}
 use Rattle.segment_io.proofs.NamedWrites.{first_places, writes_of_block, block_shown}
 use Rattle.segment_io.proofs.writing.write_segment.Goals as goal
 

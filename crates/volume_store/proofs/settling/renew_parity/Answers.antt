@@ -2,12 +2,12 @@ use Rattle.std.proofs.Common.{◌≡◌, ℕ, ◌++◌, List, length, take, drop
 use Rattle.std.proofs.lemmas.List.{take_at}
 use Rattle.gf256_qic.specs.Code.{parity_sectors}
 use Rattle.erasure_solve.specs.Lost.{is_lost}
-use Rattle.volume_store.specs.Settling.{block_of, is_stale}
+use Rattle.volume_store.specs.Settling.{collected_block, is_stale}
 use Rattle.volume_store.proofs.settling.renew_parity.Goals as goal
 
 -- the sectors that were lent are those of the block
 put_in : (old lent parity new left : List (List ℕ)) → lent ≡ old → parity ≡ parity_sectors (take 29 old) → new ≡ take 29 lent ++ parity → length new ≡ 32 →
-    take 32 (new ++ left) ≡ block_of old
+    take 32 (new ++ left) ≡ collected_block old
 put_in old lent parity new left was is put long =
     take_at new left 32 long ∙ put
     ∙ ap (λ (l : List (List ℕ)). take 29 l ++ parity) was

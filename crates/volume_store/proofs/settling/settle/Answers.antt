@@ -3,7 +3,7 @@ use Rattle.qic_base.specs.Tape.{Done, Broke}
 use Rattle.qic_base.proofs.Steps.{Done-nothing}
 use Rattle.cartridge_spec.proofs.Segments.{count_of_whole}
 use Rattle.drive_states.specs.Deck.{is_protected}
-use Rattle.segment_io.specs.Writes.{named_writes}
+use Rattle.cartridge_spec.specs.Writes.{named_writes}
 use Rattle.volume_store.specs.Settling.{mending_steps}
 use Rattle.volume_store.proofs.TableSegment.{carries_whole}
 use Rattle.volume_store.proofs.Mending.{mend_writes, no_writes}

@@ -1,8 +1,8 @@
 use Rattle.std.proofs.Common.{◌≡◌, ◌<◌, ℕ, take, refl, sym, subst, arith, Err}
 use Rattle.std.proofs.lemmas.Grind.{common_steps}
 use Rattle.qic_base.proofs.Steps.{Tells-map}
-use Rattle.cartridge_spec.specs.Says.{LosesData, TableSays, TableLost}
-use Rattle.cartridge_spec.specs.Volumes.{table_cells, TableIs}
+use Rattle.cartridge_spec.specs.Says.{LosesData, LostSectors, ByCode, TableSays}
+use Rattle.cartridge_spec.specs.HeaderAndTable.{table_cells, TableIs}
 use Rattle.segment_io.specs.Gathered.{Gathered}
 use Rattle.segment_io.specs.declared.fault.SegFault.{SegFault}
 use Rattle.volume_store.specs.Finding.{FindsTable}
@@ -41,7 +41,7 @@ pub returns-in-TooMany-clause-found : goal.returns-in-TooMany-clause-found
 returns-in-TooMany-clause-found g c = λ sound.
     let lost : ℕ = c.in_ok-lost.lost in
     let many = (c.in-TooMany.ensures.too_many c.in-TooMany.lost).0 refl in
-    Tells-map g.T.Tape.means c.args.unit.now.tape (λ c'. Gathered (table_cells c') lost c.collect.new.work) (λ c'. (2 ≡ 2) × TableSays (table_cells c') (TableLost c.in-TooMany.lost))
+    Tells-map g.T.Tape.means c.args.unit.now.tape (λ c'. Gathered (table_cells c') lost c.collect.new.work) (λ c'. (2 ≡ 2) × TableSays (table_cells c') (ByCode (LostSectors c.in-TooMany.lost)))
     (λ c' gathered. (refl, finds_many c' lost c.in-TooMany.lost c.collect.new.work gathered many.0 many.1 many.2)) c.in_ok-lost.ensures.gathered
 
 pub returns-in-TooMany-clause-many : goal.returns-in-TooMany-clause-many

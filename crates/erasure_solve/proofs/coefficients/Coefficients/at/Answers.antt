@@ -1,7 +1,7 @@
 use Rattle.std.proofs.Common.{ℕ, ◌∙◌, sym, ap}
 use Rattle.gf256_qic.specs.Field.{power}
 use Rattle.gf256_qic.proofs.Distance.{power_apart}
-use Rattle.erasure_solve.specs.Change.{change_factors}
+use Rattle.erasure_solve.specs.Correction.{correction_factors}
 use Rattle.erasure_solve.proofs.coefficients.Coefficients.at.Goals as goal
 
 pub factors-requires-clause-second : goal.factors-requires-clause-second
@@ -19,6 +19,6 @@ returns-clause-factors c =
     let y : ℕ = c.pow-2.result in
     let z : ℕ = c.pow-3.result in
     c.factors.ensures
-    ∙ ap (λ v. change_factors v y z) c.pow.ensures
-    ∙ ap (λ v. change_factors (power 2 c.args.own) v z) c.pow-2.ensures
-    ∙ ap (λ v. change_factors (power 2 c.args.own) (power 2 c.args.other) v) c.pow-3.ensures
+    ∙ ap (λ v. correction_factors v y z) c.pow.ensures
+    ∙ ap (λ v. correction_factors (power 2 c.args.own) v z) c.pow-2.ensures
+    ∙ ap (λ v. correction_factors (power 2 c.args.own) (power 2 c.args.other) v) c.pow-3.ensures

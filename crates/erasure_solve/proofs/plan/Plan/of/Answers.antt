@@ -1,6 +1,6 @@
 use Rattle.std.proofs.Common.{◌≡◌, ℕ, ◌≤◌, refl, sym, subst, List, [], ◌∷◌, get_or}
 use Rattle.erasure_solve.specs.Lost.{lost_count}
-use Rattle.erasure_solve.specs.Change.{AreDegrees}
+use Rattle.erasure_solve.specs.Correction.{AreDegrees}
 use Rattle.erasure_solve.proofs.Plans.{degrees_of, factors_of}
 use Rattle.erasure_solve.proofs.plan.Plan.of.Goals as goal
 

@@ -1,14 +1,13 @@
-use Rattle.std.proofs.Common.{◌≡◌, ℕ, ◌+◌, List, length, refl, ap, subst, sym, ◌∙◌}
+use Rattle.std.proofs.Common.{◌≡◌, ℕ, ◌+◌, List, length, refl, ap, subst, sym, ◌∙◌, [], ◌∷◌, ◌++◌}
 use Rattle.qic_base.specs.LostSet.{IsLost, lost_places}
 use Rattle.qic_base.specs.Cartridge.{view_at}
 use Rattle.qic_base.specs.Tape.{Tells}
 use Rattle.qic_base.specs.declared.tape.SectorView.{SectorView}
 use Rattle.qic_base.proofs.Steps.{Tells-map}
-use Rattle.std.proofs.Common.{[], ◌∷◌, ◌++◌}
 use Rattle.segment_io.specs.Gathered.{Gathered, cells_below}
 use Rattle.segment_io.proofs.GatheredCells.{cells_below-usable, cells_below-other, length-cells_below}
 use Rattle.segment_io.proofs.Going.{tells_always, OnOk-then}
-use Rattle.segment_io.proofs.NamedWrites.{count_more, count_same}
+use Rattle.cartridge_spec.proofs.Places.{count_more, count_same}
 use Rattle.segment_io.proofs.reading.Found.read.Goals as goal
 
 -- ---- the sector isn't usable

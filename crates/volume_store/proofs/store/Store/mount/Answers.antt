@@ -2,26 +2,26 @@ use Rattle.std.proofs.Common.{◌≡◌, ◌⊎◌, ℕ, ◌-◌, ◌*◌, List,
 use Rattle.std.proofs.lemmas.Grind.{common_steps}
 use Rattle.qic_base.specs.Step.{Step}
 use Rattle.qic_base.proofs.Steps.{Done-after_reads, Broke-after_reads, Tells-map}
+use Rattle.cartridge_spec.specs.Table.{IsSoundList}
 use Rattle.drive_states.specs.Deck.{is_protected}
 use Rattle.header_segments.specs.Header.{header_of}
 use Rattle.host_driver.specs.declared.host.Host.{Host}
 use Rattle.host_driver.specs.Fits.{segments_of}
 use Rattle.volume_store.specs.declared.fault.StoreFault.{StoreFault}
 use Rattle.volume_store.specs.declared.fault.StoreFault.TheVariants.{Tape}
-use Rattle.volume_store.specs.Mounting.{LieWithin, StoreView, Settles, IsSettling, MountBreaks, MountDoes}
+use Rattle.volume_store.specs.Mounting.{StoreView, Settles, IsSettling, MountBreaks, MountDoes}
 use Rattle.volume_store.specs.Settling.{mending_steps}
-use Rattle.volume_store.proofs.Storing.{lie_within, last_below, told_settles, told_lists, none_mended, one_length, still_primary, still_referenced}
+use Rattle.volume_store.proofs.Storing.{sound_volumes, told_settles, told_lists, none_mended, one_length, still_primary, still_referenced}
 use Rattle.volume_store.proofs.store.Store.mount.Goals as goal
 
 pub invariant_of-result : goal.invariant_of-result
 invariant_of-result g c =
     let host : Host = c.learn.new.host in
     let words = c.in_ok-learnt.ensures.words in
-    let last = last_below g.T.Tape.means host c.learn.new.unit c.in_ok-learnt.ensures.fits in
     let size : length c.learn.new.map ≡ 28 * segments_of host = words.size in (
       size ∙ ap (λ (n : ℕ). 28 * n) (sym words.length_told),
-      subst (λ (n : ℕ). LieWithin n c.learn.new.table) (sym size)
-          (lie_within (take 29 c.learn.new.work) (28 * segments_of host - 1) (28 * segments_of host) c.learn.new.table c.in_ok-learnt.ensures.volumes last),
+      subst (λ (n : ℕ). IsSoundList (n - 1) c.learn.new.table) (sym size)
+          (sound_volumes (take 29 c.learn.new.work) (28 * segments_of host - 1) c.learn.new.table c.in_ok-learnt.ensures.volumes),
     )
 
 pub returns-clause-did : goal.returns-clause-did
@@ -47,6 +47,8 @@ returns-clause-fits g c =
       agrees = c.in_ok-settle.ensures.agrees c.in_ok-learnt.ensures.agrees;
       header = words.length_told ∙ one;
       words = words.size ∙ ap (λ (n : ℕ). 28 * n) one;
+      list = subst (λ (n : ℕ). IsSoundList (28 * n - 1) c.learn.new.table) one
+          (sound_volumes (take 29 c.learn.new.work) (28 * segments_of c.learn.new.host - 1) c.learn.new.table c.in_ok-learnt.ensures.volumes);
       volumes = told_lists m c.args.unit.now.tape c.settle.new.unit.tape (header_of c.in_ok-learnt.learnt.header) c.learn.new.map c.learn.new.table steps
           (g.met.T.Tape.told_right c.args.unit.now.tape) (none_mended (is_protected c.learn.new.unit.drive.deck) c.in_ok-learnt.learnt.lost c.learn.new.work)
           (Done-after_reads c.in_ok-learnt.ensures.did c.in_ok-settle.ensures.did)

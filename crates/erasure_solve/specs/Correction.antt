@@ -1,4 +1,4 @@
--- The changes at three places of a segment that make its columns codewords. A place's degree is the
+-- The corrections at three places of a segment that make its columns codewords. A place's degree is the
 -- number of places behind it; degrees from 32 on are those of no place.
 use Rattle.std.specs.Prelude.{◌≡◌, ◌≢◌, ℕ, ◌+◌, ◌-◌, ◌<◌, ◌≤◌, true, List, [], ◌∷◌, length, slice_index, slice_index_or, slice_set, bit_xor, All}
 use Rattle.gf256_qic.specs.Field.{product, power, inverse}
@@ -12,31 +12,31 @@ scale x y z = product x (product (inverse (bit_xor x y)) (inverse (bit_xor x z))
 
 -- the first of three bytes, at places of the powers x, y and z, whose terms add up to the values s at
 -- r^-1, t at 1 and u at r
-unfoldable pub change : ℕ → ℕ → ℕ → ℕ → ℕ → ℕ → ℕ
-change x y z s t u =
+unfoldable pub correction : ℕ → ℕ → ℕ → ℕ → ℕ → ℕ → ℕ
+correction x y z s t u =
     product (scale x y z) (bit_xor (product (product y z) s) (bit_xor (product (bit_xor y z) t) u))
 
 -- the factors of the values in it
-abbrev pub change_factors : ℕ → ℕ → ℕ → List ℕ
-change_factors x y z =
+abbrev pub correction_factors : ℕ → ℕ → ℕ → List ℕ
+correction_factors x y z =
     product (scale x y z) (product y z) ∷ product (scale x y z) (bit_xor y z) ∷ scale x y z ∷ []
 
 -- what is added to the sector at the place of a degree, byte by byte
-pub record Change : Type 0 where
+pub record Correction : Type 0 where
   pub degree : ℕ
   pub bytes : List ℕ
 
--- the changes at three places of different degrees: the lost ones, and where fewer than three are lost,
+-- the corrections at three places of different degrees: the lost ones, and where fewer than three are lost,
 -- degrees of no place
-pub record Changes : Type 0 where
-  pub first : Change
-  pub second : Change
-  pub third : Change
+pub record Corrections : Type 0 where
+  pub first : Correction
+  pub second : Correction
+  pub third : Correction
 
--- the changes at the place of degree d, where the other two have e and f
-pub record IsChange (sectors : List (List ℕ)) (d e f : ℕ) (row : List ℕ) : Type 0 where
+-- the corrections at the place of degree d, where the other two have e and f
+pub record IsCorrection (sectors : List (List ℕ)) (d e f : ℕ) (row : List ℕ) : Type 0 where
   pub each : (j : ℕ) → j < 1024 →
-      slice_index row j ≡ change (power 2 d) (power 2 e) (power 2 f)
+      slice_index row j ≡ correction (power 2 d) (power 2 e) (power 2 f)
       (value_at 0xC3 (column j sectors)) (value_at 0x01 (column j sectors)) (value_at 0x02 (column j sectors))
 
 -- three different degrees: those of the lost places, and for the rest degrees of no place
@@ -50,26 +50,26 @@ pub record AreDegrees (mask count : ℕ) (degrees : List ℕ) : Type 0 where
   pub all : (place : ℕ) → place < count → is_lost mask place ≡ true →
       (k : ℕ) × (k < 3) × (slice_index degrees k + place + 1 ≡ count)
 
--- the changes that make the sectors a code block
-pub record Found (mask : ℕ) (sectors : List (List ℕ)) (changes : Changes) : Type 0 where
+-- the corrections that make the sectors a code block
+pub record Found (mask : ℕ) (sectors : List (List ℕ)) (corrections : Corrections) : Type 0 where
   pub sectors_fit : All IsSector sectors
   pub degrees : AreDegrees mask (length sectors)
-      (changes.first.degree ∷ changes.second.degree ∷ changes.third.degree ∷ [])
-  pub first : IsChange sectors
-      changes.first.degree changes.second.degree changes.third.degree changes.first.bytes
-  pub second : IsChange sectors
-      changes.second.degree changes.first.degree changes.third.degree changes.second.bytes
-  pub third : IsChange sectors
-      changes.third.degree changes.first.degree changes.second.degree changes.third.bytes
+      (corrections.first.degree ∷ corrections.second.degree ∷ corrections.third.degree ∷ [])
+  pub first : IsCorrection sectors
+      corrections.first.degree corrections.second.degree corrections.third.degree corrections.first.bytes
+  pub second : IsCorrection sectors
+      corrections.second.degree corrections.first.degree corrections.third.degree corrections.second.bytes
+  pub third : IsCorrection sectors
+      corrections.third.degree corrections.first.degree corrections.second.degree corrections.third.bytes
 
--- a change that can be made
-pub record Fits (degree : ℕ) (row : List ℕ) : Type 0 where
+-- a correction that can be made
+pub record FitsDegree (degree : ℕ) (row : List ℕ) : Type 0 where
   pub nothing : 32 ≤ degree → IsZero row
 
-pub record Agree (changes : Changes) : Type 0 where
-  pub first : Fits changes.first.degree changes.first.bytes
-  pub second : Fits changes.second.degree changes.second.bytes
-  pub third : Fits changes.third.degree changes.third.bytes
+pub record Agree (corrections : Corrections) : Type 0 where
+  pub first : FitsDegree corrections.first.degree corrections.first.bytes
+  pub second : FitsDegree corrections.second.degree corrections.second.bytes
+  pub third : FitsDegree corrections.third.degree corrections.third.bytes
 
 -- the sector at the place of a degree was changed, if there is one
 pub record Applied (degree : ℕ) (row : List ℕ) (old new : List (List ℕ)) : Type 0 where
@@ -78,9 +78,9 @@ pub record Applied (degree : ℕ) (row : List ℕ) (old new : List (List ℕ)) :
       (sector : List ℕ) × (new ≡ slice_set old (length old - 1 - degree) sector)
       × AddsRow row (slice_index_or old (length old - 1 - degree) sector) sector
 
-pub record AllApplied (changes : Changes) (old new : List (List ℕ)) : Type 0 where
+pub record AllApplied (corrections : Corrections) (old new : List (List ℕ)) : Type 0 where
   pub once : List (List ℕ)
   pub twice : List (List ℕ)
-  pub first : Applied changes.first.degree changes.first.bytes old once
-  pub second : Applied changes.second.degree changes.second.bytes once twice
-  pub third : Applied changes.third.degree changes.third.bytes twice new
+  pub first : Applied corrections.first.degree corrections.first.bytes old once
+  pub second : Applied corrections.second.degree corrections.second.bytes once twice
+  pub third : Applied corrections.third.degree corrections.third.bytes twice new

@@ -1,25 +1,47 @@
--- What the writes of a segment leave on the cartridge.
-use Rattle.std.proofs.Common.{◌≡◌, ◌≢◌, ℕ, zero, suc, ◌+◌, ◌-◌, ◌*◌, ◌/◌, ◌%◌, ◌^◌, ◌<◌, ◌≤◌, refl, sym, ◌∙◌, ap, subst, arith, inl, inr, List, [], ◌∷◌, ◌++◌, length, map, take, get_or, set, slice_get, Option, Some, None, All, add-one}
+-- What the writes of a segment leave on a cartridge.
+use Rattle.std.proofs.Common.{◌≡◌, ◌≢◌, ℕ, zero, suc, ◌+◌, ◌-◌, ◌*◌, ◌<◌, ◌≤◌, refl, sym, ◌∙◌, ap, subst, arith, inl, inr, List, [], ◌∷◌, ◌++◌, length, map, take, get_or, set, slice_get, Option, Some, None, All}
 use Rattle.std.specs.Prelude.{unwrap_or}
 use Rattle.std.specs.Option.{option_map}
-use Rattle.std.proofs.lemmas.Bool.{cases_lt, cases_eq}
-use Rattle.std.proofs.lemmas.List.{set_past, length_push, length-map, take_all, get_or_append_left, get_or_push}
+use Rattle.std.proofs.lemmas.Bool.{cases_lt}
+use Rattle.std.proofs.lemmas.List.{set_past, length-map, take_all, length-append, length-take-le}
 use Rattle.std.proofs.lemmas.List.Elements.{All-get_or}
 use Rattle.std.proofs.lemmas.Option.{slice_get_past, slice_get-map, slice_get-get_or, slice_get_within, get_or_from_slice_get}
-use Rattle.qic_base.specs.LostSet.{IsLost, lost_places}
-use Rattle.qic_base.proofs.LostSetLaws.{lost_places-lost, lost_places-kept}
 use Rattle.qic_base.specs.declared.tape.SectorView.{SectorView}
 use Rattle.qic_base.specs.declared.tape.SectorView.TheVariants.{Blank, Defect, Lost, Holds}
 use Rattle.qic_base.specs.Cartridge.{Cartridge, view_at, place_of}
 use Rattle.qic_base.specs.Step.{WriteSector, changed, written_view}
-use Rattle.cartridge_spec.specs.Shape.{usable_places, usable_count}
+use Rattle.gf256_qic.specs.Code.{parity_sectors}
+use Rattle.gf256_qic.proofs.Parities.{length-parity_sectors}
+use Rattle.cartridge_spec.specs.Shape.{usable_places, usable_count, data_count}
 use Rattle.cartridge_spec.specs.Says.{cells_of, unreadable_count, Agrees, Written}
-use Rattle.cartridge_spec.specs.Writes.{writes_of, changed_by}
+use Rattle.cartridge_spec.specs.Segment.{IsLive}
+use Rattle.cartridge_spec.specs.Writes.{writes_of, changed_by, data_in, block_in, segment_writes}
 use Rattle.cartridge_spec.proofs.Cells.{IsReadable, count_of_readable}
-use Rattle.segment_io.specs.Laws.{IsLive, WritesLeaveData, WritesMakeReadable, WritesTouchOnly}
-use Rattle.segment_io.specs.Writes.{data_in, block_in, segment_writes}
-use Rattle.segment_io.proofs.GatheredCells.{slice_get-set_same, slice_get-set_other}
-use Rattle.segment_io.proofs.NamedWrites.{none_below, count_below, length-block_in}
+use Rattle.cartridge_spec.specs.WritingLaws.{WritesLeaveData, WritesMakeReadable, WritesTouchOnly}
+use Rattle.cartridge_spec.proofs.Places.{AreSmall, AreApart, usable_small, usable_apart}
+
+-- ---- lists
+
+pub slice_get-set_same : {A : Type 0} (xs : List A) (i : ℕ) (y : A) → i < length xs → slice_get (set xs i y) i ≡ Some y
+slice_get-set_same [] i y h = absurd (omega arith)
+slice_get-set_same (x ∷ xs) zero y h = refl
+slice_get-set_same (x ∷ xs) (suc i) y h = slice_get-set_same xs i y (omega arith)
+
+pub slice_get-set_other : {A : Type 0} (xs : List A) (i j : ℕ) (y : A) → j ≢ i → slice_get (set xs i y) j ≡ slice_get xs j
+slice_get-set_other [] i j y apart = refl
+slice_get-set_other (x ∷ xs) zero zero y apart = absurd (apart refl)
+slice_get-set_other (x ∷ xs) zero (suc j) y apart = refl
+slice_get-set_other (x ∷ xs) (suc i) zero y apart = refl
+slice_get-set_other (x ∷ xs) (suc i) (suc j) y apart = slice_get-set_other xs i j y (λ e. apart (ap suc e))
+
+-- the block of data sectors and their parity is as long as there are usable sectors
+pub length-block_in : (usable : ℕ) (sectors : List (List ℕ)) → 4 ≤ usable_count usable → usable_count usable ≤ length sectors →
+    length (block_in usable sectors) ≡ usable_count usable
+length-block_in usable sectors least room =
+    let three : length (parity_sectors (data_in usable sectors)) ≡ 3 = length-parity_sectors (data_in usable sectors) in
+    let shown : length (data_in usable sectors) ≡ data_count usable =
+    length-take-le (data_count usable) sectors (omega arith) in
+    length-append (data_in usable sectors) (parity_sectors (data_in usable sectors)) ∙ omega arith
 
 -- ---- one write
 
@@ -45,12 +67,6 @@ at_other c segment place s i bytes small h apart =
     (slice_get-set_other c.views (place_of segment place) (place_of s i) (written_view bytes (view_at c segment place)) other)
 
 -- ---- several writes
-
-abbrev AreSmall : List ℕ → Type 0
-AreSmall places = (k : ℕ) → k < length places → get_or places k 0 < 32
-
-abbrev AreApart : List ℕ → Type 0
-AreApart places = (j k : ℕ) → j < k → k < length places → get_or places j 0 ≡ get_or places k 0 → ⊥
 
 abbrev NamesNot : List ℕ → (segment s i : ℕ) → Type 0
 NamesNot places segment s i = s ≡ segment → (k : ℕ) → k < length places → get_or places k 0 ≡ i → ⊥
@@ -83,76 +99,6 @@ view_after (p ∷ places) (bytes ∷ sectors) c segment (suc k) small apart h ro
     ∙ ap (written_view (get_or sectors k []))
     (at_other c segment p segment q bytes (small 0 (omega arith)) (small (suc k) (omega arith))
     (λ same e. apart 0 (suc k) (omega arith) (omega arith) e))
-
--- ---- the usable places
-
-small_places : (mask n k : ℕ) → k < length (lost_places mask n) → get_or (lost_places mask n) k 0 < n
-small_places mask zero k h = let none : length (lost_places mask 0) ≡ 0 = ap (λ (l : List ℕ). length l) (none_below mask) in absurd (omega arith)
-small_places mask (suc n) k h =
-    let next : lost_places mask (n + 1) ≡ lost_places mask (suc n) = ap (lost_places mask) (add-one n) in
-    elim (cases_eq ((mask / 2 ^ n) % 2) 1) [
-      | inl lost ↦
-          let parts : lost_places mask (suc n) ≡ lost_places mask n ++ n ∷ [] = sym next ∙ lost_places-lost mask n lost in
-          let long : length (lost_places mask (suc n)) ≡ length (lost_places mask n) + 1 =
-          ap (λ (l : List ℕ). length l) parts ∙ length_push (lost_places mask n) n in
-          let at : get_or (lost_places mask (suc n)) k 0 ≡ get_or (lost_places mask n ++ n ∷ []) k 0 =
-          ap (λ (l : List ℕ). get_or l k 0) parts in
-          elim (cases_lt k (length (lost_places mask n))) [
-            | inl lower ↦
-                let same = get_or_append_left (lost_places mask n) (n ∷ []) 0 k lower in
-                let small = small_places mask n k lower in
-                omega arith
-            | inr past ↦
-                let last = get_or_push (lost_places mask n) n 0 k (omega arith) in
-                omega arith
-          ]
-      | inr kept ↦
-          let parts : lost_places mask (suc n) ≡ lost_places mask n = sym next ∙ lost_places-kept mask n kept in
-          let long : length (lost_places mask (suc n)) ≡ length (lost_places mask n) = ap (λ (l : List ℕ). length l) parts in
-          let at : get_or (lost_places mask (suc n)) k 0 ≡ get_or (lost_places mask n) k 0 = ap (λ (l : List ℕ). get_or l k 0) parts in
-          let small = small_places mask n k (omega arith) in
-          omega arith
-    ]
-
-ascending : (mask n j k : ℕ) → j < k → k < length (lost_places mask n) →
-    get_or (lost_places mask n) j 0 < get_or (lost_places mask n) k 0
-ascending mask zero j k l h = let none : length (lost_places mask 0) ≡ 0 = ap (λ (l : List ℕ). length l) (none_below mask) in absurd (omega arith)
-ascending mask (suc n) j k l h =
-    let next : lost_places mask (n + 1) ≡ lost_places mask (suc n) = ap (lost_places mask) (add-one n) in
-    elim (cases_eq ((mask / 2 ^ n) % 2) 1) [
-      | inl lost ↦
-          let parts : lost_places mask (suc n) ≡ lost_places mask n ++ n ∷ [] = sym next ∙ lost_places-lost mask n lost in
-          let long : length (lost_places mask (suc n)) ≡ length (lost_places mask n) + 1 =
-          ap (λ (l : List ℕ). length l) parts ∙ length_push (lost_places mask n) n in
-          let at_j : get_or (lost_places mask (suc n)) j 0 ≡ get_or (lost_places mask n ++ n ∷ []) j 0 =
-          ap (λ (l : List ℕ). get_or l j 0) parts in
-          let at_k : get_or (lost_places mask (suc n)) k 0 ≡ get_or (lost_places mask n ++ n ∷ []) k 0 =
-          ap (λ (l : List ℕ). get_or l k 0) parts in
-          let first = get_or_append_left (lost_places mask n) (n ∷ []) 0 j (omega arith) in
-          elim (cases_lt k (length (lost_places mask n))) [
-            | inl lower ↦
-                let same = get_or_append_left (lost_places mask n) (n ∷ []) 0 k lower in
-                let before = ascending mask n j k l lower in
-                omega arith
-            | inr past ↦
-                let last = get_or_push (lost_places mask n) n 0 k (omega arith) in
-                let small = small_places mask n j (omega arith) in
-                omega arith
-          ]
-      | inr kept ↦
-          let parts : lost_places mask (suc n) ≡ lost_places mask n = sym next ∙ lost_places-kept mask n kept in
-          let long : length (lost_places mask (suc n)) ≡ length (lost_places mask n) = ap (λ (l : List ℕ). length l) parts in
-          let at_j : get_or (lost_places mask (suc n)) j 0 ≡ get_or (lost_places mask n) j 0 = ap (λ (l : List ℕ). get_or l j 0) parts in
-          let at_k : get_or (lost_places mask (suc n)) k 0 ≡ get_or (lost_places mask n) k 0 = ap (λ (l : List ℕ). get_or l k 0) parts in
-          let before = ascending mask n j k l (omega arith) in
-          omega arith
-    ]
-
-pub usable_small : (mask : ℕ) → AreSmall (usable_places mask)
-usable_small mask k h = small_places mask 32 k h
-
-pub usable_apart : (mask : ℕ) → AreApart (usable_places mask)
-usable_apart mask j k l h e = let less = ascending mask 32 j k l h in omega arith
 
 -- ---- a segment written
 

@@ -1,19 +1,10 @@
 -- What the writes of a segment leave, as facts of the cartridge.
 use Rattle.std.specs.Prelude.{◌≡◌, ℕ, ◌<◌, ◌≤◌, List, length, All, slice_index}
-use Rattle.qic_base.specs.declared.tape.SectorView.{SectorView}
-use Rattle.qic_base.specs.declared.tape.SectorView.TheVariants.{Blank, Defect, Lost, Holds}
 use Rattle.qic_base.specs.Cartridge.{Cartridge, view_at}
 use Rattle.cartridge_spec.specs.Shape.{Carries, usable_count}
 use Rattle.cartridge_spec.specs.Says.{cells_of, unreadable_count, Written}
-use Rattle.cartridge_spec.specs.Writes.{writes_of, changed_by}
-use Rattle.segment_io.specs.Writes.{data_in, segment_writes}
-
--- a sector that takes what is written to it: it was formatted, and is no defect
-abbrev pub IsLive : SectorView → Type 0
-IsLive Blank = ⊥
-IsLive Defect = ⊥
-IsLive Lost = Unit {0}
-IsLive (Holds bytes) = Unit {0}
+use Rattle.cartridge_spec.specs.Segment.{IsLive}
+use Rattle.cartridge_spec.specs.Writes.{writes_of, changed_by, data_in, segment_writes}
 
 -- after a segment was written, its cells are those of the data and their parity
 abbrev pub WritesLeaveData : Type 0

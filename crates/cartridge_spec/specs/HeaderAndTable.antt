@@ -1,0 +1,66 @@
+-- The header and the volume table of a cartridge: the header copies, the one in force, and the table's data (the places of
+-- header and table are this project's profile).
+use Rattle.std.specs.Prelude.{◌≡◌, ◌⊎◌, ℕ, ◌-◌, ◌*◌, true, false, List, length, All, None}
+use Rattle.qic_base.specs.declared.foreign.ForeignField.TheVariants.{Slot, Range}
+use Rattle.qic_base.specs.declared.tape.SectorView.{SectorView}
+use Rattle.qic_base.specs.Cartridge.{Cartridge, IsSector}
+use Rattle.cartridge_spec.specs.Header.{Header, HeaderFault, has_signature, header_fault}
+use Rattle.cartridge_spec.specs.Header as headers
+use Rattle.cartridge_spec.specs.Table.{TableFault, ForeignSlot, BadRange}
+use Rattle.cartridge_spec.specs.Says.{whole_mask, cells_of, Says, Data, TableSays, AsRead, ByCode}
+
+-- 29 data sectors
+pub record IsArea (area : List (List ℕ)) : Type 0 where
+  pub size : length area ≡ 29
+  pub sectors : All IsSector area
+
+-- ---- the header
+
+-- the cells of a header copy, 0 or 1
+abbrev pub copy_cells : Cartridge → ℕ → List SectorView
+copy_cells c copy = cells_of c copy whole_mask
+
+-- a header copy can be read, as these data
+pub record CopyReads (c : Cartridge) (copy : ℕ) (area : List (List ℕ)) : Type 0 where
+  pub says : Says (copy_cells c copy) (Data area)
+  pub signature : has_signature area ≡ true
+
+abbrev pub CopyDoesNotRead : Cartridge → ℕ → Type 0
+CopyDoesNotRead c copy = (area : List (List ℕ)) → CopyReads c copy area → ⊥
+
+-- the header in force is that of copy 0 where it reads, and else that of copy 1
+abbrev pub IsInForce : Cartridge → List (List ℕ) → Type 0
+IsInForce c area = CopyReads c 0 area ⊎ (CopyDoesNotRead c 0 × CopyReads c 1 area)
+
+-- a cartridge with its reference bursts, and a header in force
+pub record HasHeader (c : Cartridge) (area : List (List ℕ)) : Type 0 where
+  pub referenced : c.info.referenced ≡ true
+  pub in_force : IsInForce c area
+
+-- no header is in force, or the reference bursts are missing
+abbrev pub IsUnformatted : Cartridge → Type 0
+IsUnformatted c = (c.info.referenced ≡ false) ⊎ (CopyDoesNotRead c 0 × CopyDoesNotRead c 1)
+
+-- the header in force fails no test, and shows this header and the words of this map
+pub record IsFormatted (c : Cartridge) (area : List (List ℕ)) (header : Header) (words : List ℕ) : Type 0 where
+  pub has_header : HasHeader c area
+  pub sound : header_fault area c.info.segments_per_track ≡ None
+  pub shown : headers.Shows area header words
+
+-- ---- the volume table
+
+abbrev pub table_cells : Cartridge → List SectorView
+table_cells c = cells_of c 2 whole_mask
+
+-- the last segment of the cartridge
+abbrev pub last_segment : Cartridge → ℕ
+last_segment c = 28 * c.info.segments_per_track - 1
+
+-- the table's segment says these data, read as they are or found by the code
+abbrev pub TableIs : Cartridge → List (List ℕ) → Type 0
+TableIs c area = TableSays (table_cells c) (AsRead area) ⊎ TableSays (table_cells c) (ByCode (Data area))
+
+-- under which name a slot at fault is refused, and its number
+abbrev pub slot_refusal : TableFault → HeaderFault
+slot_refusal (ForeignSlot slot) = record { field = Slot; value = slot }
+slot_refusal (BadRange slot) = record { field = Range; value = slot }

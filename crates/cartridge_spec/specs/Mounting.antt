@@ -1,0 +1,62 @@
+-- What the mounting of a cartridge gives, and the cartridge as it leaves it (this project's profile).
+use Rattle.std.specs.Prelude.{◌≡◌, ◌⊎◌, ℕ, List, Some, if◌then◌else◌}
+use Rattle.qic_base.specs.Cartridge.{Cartridge}
+use Rattle.cartridge_spec.specs.Header.{Header, HeaderFault, header_fault}
+use Rattle.cartridge_spec.specs.HeaderAndTable.{HasHeader, IsUnformatted, IsFormatted, TableIs, table_cells, last_segment, slot_refusal}
+use Rattle.cartridge_spec.specs.Shape.{usable_places}
+use Rattle.cartridge_spec.specs.Table.{Entry, TableFault, HasNoFault, IsFirstFault}
+use Rattle.cartridge_spec.specs.Table as tables
+use Rattle.cartridge_spec.specs.Says.{whole_mask, with_parity, LostSectors, Mismatch, TableSays, ByCode}
+use Rattle.cartridge_spec.specs.Writes.{writes_of, changed_by}
+
+-- what the mounting of a cartridge gives: its first refusal, or the header in force, the words of its map, the table's
+-- data and the entries
+pub data Mounting : Type 0 where
+  NotFormatted : Mounting
+  Foreign : HeaderFault → Mounting
+  TableLost : ℕ → Mounting
+  TableMismatch : Mounting
+  Mounted : Header → (words : List ℕ) → (table : List (List ℕ)) → List Entry → Mounting
+
+-- some header in force is sound
+pub record IsSoundlyFormatted (c : Cartridge) : Type 0 where
+  pub area : List (List ℕ)
+  pub header : Header
+  pub words : List ℕ
+  pub formatted : IsFormatted c area header words
+
+-- the header in force fails a test, or the table's data have a slot at fault
+pub record RefusesHeader (c : Cartridge) (fault : HeaderFault) : Type 0 where
+  pub area : List (List ℕ)
+  pub has_header : HasHeader c area
+  pub first : header_fault area c.info.segments_per_track ≡ Some fault
+
+pub record RefusesTable (c : Cartridge) (fault : HeaderFault) : Type 0 where
+  pub formatted : IsSoundlyFormatted c
+  pub area : List (List ℕ)
+  pub table : TableIs c area
+  pub slot : TableFault
+  pub first : IsFirstFault area (last_segment c) slot
+  pub named : slot_refusal slot ≡ fault
+
+-- the cartridge mounts, and lists these entries
+pub record IsMounted (c : Cartridge) (header : Header) (words : List ℕ) (table : List (List ℕ)) (entries : List Entry) : Type 0 where
+  pub area : List (List ℕ)
+  pub formatted : IsFormatted c area header words
+  pub reads : TableIs c table
+  pub sound : HasNoFault table (last_segment c)
+  pub shown : tables.Shows table entries
+
+abbrev pub Mounts : Cartridge → Mounting → Type 0
+Mounts c NotFormatted = IsUnformatted c
+Mounts c (Foreign fault) = RefusesHeader c fault ⊎ RefusesTable c fault
+Mounts c (TableLost n) = IsSoundlyFormatted c × TableSays (table_cells c) (ByCode (LostSectors n))
+Mounts c TableMismatch = IsSoundlyFormatted c × TableSays (table_cells c) (ByCode Mismatch)
+Mounts c (Mounted header words table entries) = IsMounted c header words table entries
+
+-- the cartridge as its mounting leaves it, where its table's data are these: on one that is not protected each live
+-- sector of segment 2 holds its sector of the data and their parity
+abbrev pub settled : List (List ℕ) → Cartridge → Cartridge
+settled area c =
+    if c.info.protected then c
+    else changed_by (writes_of 2 (usable_places whole_mask) (with_parity area)) c

@@ -1,0 +1,117 @@
+-- The cells of a segment by place: which of them are unreadable, and how many.
+use Rattle.std.proofs.Common.{◌≡◌, ℕ, zero, suc, ◌+◌, ◌<◌, ◌≤◌, refl, sym, ◌∙◌, ap, arith, inl, inr, Bool, true, false, cond, List, [], ◌∷◌, length, slice_get, Some, nat_eq, ◌||◌}
+use Rattle.std.proofs.lemmas.Bool.{cases_eq, cases_Bool, false≢true, ne_eqb, or_from, or_left}
+use Rattle.std.proofs.lemmas.List.Sums.{sum_by-cons}
+use Rattle.qic_base.specs.declared.tape.SectorView.{SectorView}
+use Rattle.qic_base.specs.declared.tape.SectorView.TheVariants.{Blank, Defect, Lost, Holds}
+use Rattle.gf256_qic.specs.Code.{lost_below}
+use Rattle.silent_locate.specs.Deep.{is_unreadable, unreadable_count}
+
+-- whether the cell at a place is unreadable
+unfoldable pub unreadable_at : List SectorView → ℕ → Bool
+unreadable_at [] i = false
+unreadable_at (cell ∷ cells) zero = is_unreadable cell
+unreadable_at (cell ∷ cells) (suc i) = unreadable_at cells i
+
+abbrev one_if : Bool → ℕ
+one_if t = cond t 1 0
+
+-- ---- how many
+
+-- the lost places, the first of them apart
+lost_below-first : (lost : ℕ → Bool) (n : ℕ) →
+    lost_below lost (suc n) ≡ one_if (lost 0) + lost_below (λ i. lost (suc i)) n
+unfolding lost_below
+lost_below-first lost zero = refl
+lost_below-first lost (suc n) =
+    let before : lost_below lost (suc n) ≡ one_if (lost 0) + lost_below (λ i. lost (suc i)) n =
+    lost_below-first lost n in
+    omega arith
+
+-- as many places are lost as cells are unreadable
+pub lost_below-cells : (cells : List SectorView) → lost_below (unreadable_at cells) (length cells) ≡ unreadable_count cells
+unfolding unreadable_at lost_below
+lost_below-cells [] = refl
+lost_below-cells (cell ∷ cells) =
+    lost_below-first (unreadable_at (cell ∷ cells)) (length cells)
+    ∙ ap (λ (n : ℕ). one_if (is_unreadable cell) + n) (lost_below-cells cells)
+    ∙ sym (sum_by-cons (λ c. one_if (is_unreadable c)) cell cells)
+
+-- sets that agree below a number have as many places below it
+pub lost_below-same : (p q : ℕ → Bool) (n : ℕ) → ((i : ℕ) → i < n → p i ≡ q i) → lost_below p n ≡ lost_below q n
+unfolding lost_below
+lost_below-same p q zero same = refl
+lost_below-same p q (suc n) same =
+    let rest : lost_below p n ≡ lost_below q n = lost_below-same p q n (λ i h. same i (omega arith)) in
+    let here : p n ≡ q n = same n (omega arith) in
+    let one : one_if (p n) ≡ one_if (q n) = ap one_if here in
+    omega arith
+
+-- a set and one place more
+abbrev pub or_place : (ℕ → Bool) → ℕ → ℕ → Bool
+or_place lost place i = lost i || nat_eq i place
+
+pub or_place-other : (lost : ℕ → Bool) (place i : ℕ) → (i ≡ place → ⊥) → or_place lost place i ≡ lost i
+or_place-other lost place i apart =
+    elim (cases_Bool (lost i)) [
+      | inl on ↦ or_left (lost i) (nat_eq i place) on ∙ sym on
+      | inr off ↦ or_from (lost i) (nat_eq i place) off (ne_eqb i place apart) ∙ sym off
+    ]
+
+one_if-most : (b : Bool) → one_if b ≤ 1
+one_if-most true = omega arith
+one_if-most false = omega arith
+
+-- has at most one more
+pub lost_below-or : (lost : ℕ → Bool) (place n : ℕ) → lost_below (or_place lost place) n ≤ lost_below lost n + 1
+unfolding lost_below
+lost_below-or lost place zero = omega arith
+lost_below-or lost place (suc n) =
+    elim (cases_eq n place) [
+      | inl e ↦
+          let below : lost_below (or_place lost place) n ≡ lost_below lost n =
+          lost_below-same (or_place lost place) lost n (λ i h. or_place-other lost place i (λ same. absurd (omega arith))) in
+          let most : one_if (or_place lost place n) ≤ 1 = one_if-most (or_place lost place n) in
+          omega arith
+      | inr apart ↦
+          let rest : lost_below (or_place lost place) n ≤ lost_below lost n + 1 = lost_below-or lost place n in
+          let here : one_if (or_place lost place n) ≡ one_if (lost n) = ap one_if (or_place-other lost place n apart) in
+          omega arith
+    ]
+
+-- ---- which
+
+-- the cell at a place holds bytes
+abbrev pub IsReadable : List SectorView → ℕ → Type 0
+IsReadable cells i = (bytes : List ℕ) × (slice_get cells i ≡ Some (Holds bytes))
+
+-- a cell that is not unreadable holds bytes
+pub readable_at : (cells : List SectorView) (i : ℕ) → i < length cells → unreadable_at cells i ≡ false → IsReadable cells i
+unfolding unreadable_at
+readable_at [] i h kept = absurd (omega arith)
+readable_at (Blank ∷ cells) zero h kept = absurd (cc)
+readable_at (Defect ∷ cells) zero h kept = absurd (cc)
+readable_at (Lost ∷ cells) zero h kept = absurd (cc)
+readable_at (Holds bytes ∷ cells) zero h kept = (bytes, refl)
+readable_at (cell ∷ cells) (suc i) h kept = readable_at cells i (omega arith) kept
+
+-- and one that holds bytes is not unreadable
+pub held_at : (cells : List SectorView) (i : ℕ) (bytes : List ℕ) → slice_get cells i ≡ Some (Holds bytes) →
+    unreadable_at cells i ≡ false
+unfolding unreadable_at
+held_at [] i bytes at = refl
+held_at (Blank ∷ cells) zero bytes at = absurd (cc)
+held_at (Defect ∷ cells) zero bytes at = absurd (cc)
+held_at (Lost ∷ cells) zero bytes at = absurd (cc)
+held_at (Holds held ∷ cells) zero bytes at = refl
+held_at (cell ∷ cells) (suc i) bytes at = held_at cells i bytes at
+
+-- a test that is false just where a cell holds bytes is that of the unreadable ones
+pub same_test : (cells : List SectorView) (i : ℕ) (b : Bool) → i < length cells →
+    (b ≡ false → IsReadable cells i) → (IsReadable cells i → b ≡ false) → b ≡ unreadable_at cells i
+same_test cells i true h from to =
+    elim (cases_Bool (unreadable_at cells i)) [
+      | inl on ↦ sym on
+      | inr off ↦ absurd (false≢true (sym (to (readable_at cells i h off))))
+    ]
+same_test cells i false h from to = let held : IsReadable cells i = from refl in sym (held_at cells i held.0 held.1)

@@ -1,0 +1,57 @@
+-- Sets of lost places by their tests: with fewer places, and with one more.
+use Rattle.std.proofs.Common.{◌≡◌, ◌≢◌, ℕ, ◌+◌, ◌/◌, ◌%◌, ◌^◌, ◌≤◌, ◌↔◌, sym, ◌∙◌, subst, arith, inl, inr, Bool, nat_eq, List}
+use Rattle.std.proofs.lemmas.Bool.{cases_eq, eq-eqb, ne_eqb, or_right}
+use Rattle.qic_base.specs.LostSet.{IsLost}
+use Rattle.gf256_qic.specs.Code.{AgreesOutside, IsSolvable, lost_below}
+use Rattle.erasure_solve.specs.Lost.{is_lost, lost_count}
+use Rattle.erasure_solve.proofs.Places.{is_lost_from, lost_below-places}
+use Rattle.silent_locate.specs.Tries.{lost_or}
+use Rattle.silent_locate.proofs.Cells.{or_place, or_place-other, lost_below-same, lost_below-or}
+
+-- a place that is lost in both or in none
+same_lost : (a b i : ℕ) → (IsLost a i ↔ IsLost b i) → is_lost a i ≡ is_lost b i
+same_lost a b i same =
+    elim (cases_eq (a / 2 ^ i % 2) 1) [
+      | inl on ↦ is_lost_from a i on ∙ sym (is_lost_from b i (same.0 on))
+      | inr off ↦ ne_eqb (a / 2 ^ i % 2) 1 off ∙ sym (ne_eqb (b / 2 ^ i % 2) 1 (λ on. off (same.1 on)))
+    ]
+
+-- the set with one place more
+pub with_place-test : (lost more place : ℕ) → IsLost more place →
+    ((other : ℕ) → other ≢ place → IsLost more other ↔ IsLost lost other) → (i : ℕ) → is_lost more i ≡ lost_or lost place i
+with_place-test lost more place here others i =
+    elim (cases_eq i place) [
+      | inl e ↦
+          is_lost_from more i (subst (IsLost more) (sym e) here)
+          ∙ sym (or_right (is_lost lost i) (nat_eq i place) (eq-eqb i place e))
+      | inr apart ↦ same_lost more lost i (others i apart) ∙ sym (or_place-other (is_lost lost) place i apart)
+    ]
+
+pub count_with_place : (lost more place : ℕ) → ((i : ℕ) → is_lost more i ≡ lost_or lost place i) →
+    lost_count more ≤ lost_count lost + 1
+count_with_place lost more place same =
+    let all : lost_below (is_lost more) 32 ≡ lost_count more = lost_below-places more 32 in
+    let before : lost_below (is_lost lost) 32 ≡ lost_count lost = lost_below-places lost 32 in
+    let between : lost_below (is_lost more) 32 ≡ lost_below (or_place (is_lost lost) place) 32 =
+    lost_below-same (is_lost more) (or_place (is_lost lost) place) 32 (λ i h. same i) in
+    let most : lost_below (or_place (is_lost lost) place) 32 ≤ lost_below (is_lost lost) 32 + 1 =
+    lost_below-or (is_lost lost) place 32 in
+    omega arith
+
+-- ---- what depends on the test alone
+
+pub agrees_same : (p q : ℕ → Bool) (xs ys : List (List ℕ)) → ((i : ℕ) → p i ≡ q i) → AgreesOutside p xs ys → AgreesOutside q xs ys
+agrees_same p q xs ys same agrees = record {
+  size = agrees.size;
+  others = λ i h kept. agrees.others i h (same i ∙ kept);
+}
+
+pub solvable_same : (p q : ℕ → Bool) (xs : List (List ℕ)) → ((i : ℕ) → p i ≡ q i) → IsSolvable p xs → IsSolvable q xs
+solvable_same p q xs same solvable = record {
+  block = solvable.block;
+  codewords = solvable.codewords;
+  agrees = agrees_same p q xs solvable.block same solvable.agrees;
+}
+
+pub same_back : (p q : ℕ → Bool) → ((i : ℕ) → p i ≡ q i) → (i : ℕ) → q i ≡ p i
+same_back p q same i = sym (same i)

@@ -1,0 +1,18 @@
+use Rattle.std.proofs.Common.{◌≡◌, ℕ, ◌/◌, ◌%◌, ◌^◌, ◌∙◌, sym, ap}
+use Rattle.std.specs.Int.{w32}
+use Rattle.std.proofs.lemmas.Nat.Bits.{bit_at_set_same, bit_at_set_other}
+use Rattle.silent_locate.proofs.places.with_place.Goals as goal
+
+pub returns-clause-more : goal.returns-clause-more
+returns-clause-more c =
+    ap (λ (m : ℕ). m / 2 ^ c.args.place % 2) c.from_mask.ensures
+    ∙ bit_at_set_same w32 c.mask.result c.args.place c.requires
+
+pub returns-clause-others : goal.returns-clause-others
+returns-clause-others c =
+    λ other apart.
+    let same : c.from_mask.result / 2 ^ other % 2 ≡ c.args.lost / 2 ^ other % 2 =
+    ap (λ (m : ℕ). m / 2 ^ other % 2) c.from_mask.ensures
+    ∙ bit_at_set_other w32 c.mask.result c.args.place c.requires other apart
+    ∙ ap (λ (m : ℕ). m / 2 ^ other % 2) c.mask.ensures in
+    (λ on. sym same ∙ on, λ on. same ∙ on)

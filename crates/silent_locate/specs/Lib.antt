@@ -1,0 +1,3 @@
+pub mod Deep
+pub mod Laws
+pub mod Tries
