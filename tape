@@ -1,30 +1,96 @@
 #!/usr/bin/env bash
-# Proves and builds the program where it isn't built yet or its sources are newer, and hands its words on.
-set -eu
+# Hands its words on to the program. Where that isn't built yet, or its sources are newer, it is proved and built first: in a
+# folder of its own, with just the crates that it needs, as many side by side as the machine has processors and memory for.
+# What was proved is kept there, so a build that was broken off goes on where it was.
+set -euo pipefail
 top=$(cd "$(dirname "$0")" && pwd)
-program="$top/crates/tape/out/tape"
+program=$top/crates/tape/out/tape
+room=${XDG_CACHE_HOME:-${HOME:-/tmp}/.cache}/tape/$(printf '%s' "$top" | cksum | tr ' ' -)
 
-is_built() {
-    [ -x "$program" ] && [ -z "$(find "$top/crates" -path '*/out' -prune -o -newer "$program" \
-        \( -name '*.rt' -o -name '*.antt' \) -print -quit)" ]
+# The lines of crates.txt of the program and of all crates below it.
+needed() {
+    awk -F: '
+        function add(crate,    names, count, i) {
+            if (!(crate in uses) || crate in is_needed) return
+            is_needed[crate] = 1
+            count = split(uses[crate], names, " ")
+            for (i = 1; i <= count; i++) add(names[i])
+        }
+        { crates[NR] = $1; uses[$1] = $2; lines[$1] = $0 }
+        END { add("tape"); for (i = 1; i <= NR; i++) if (crates[i] in is_needed) print lines[crates[i]] }
+    ' "$top/crates.txt"
 }
 
-# A run without words proves all crates below, builds the program, and ends with the usage line and status 2.
-build() {
-    (cd "$top/crates/tape" && rt run 2>&1 || true) | while IFS= read -r line; do
-        case $line in
-            "crate "*:*) line=${line#crate } && echo "tape: proved ${line%%:*}" >&2 ;;
-            "rt: running "*) touch "$program" ;;
-        esac
+is_built() {
+    [ -x "$program" ] && [ -z "$(cd "$top/crates" && find $(needed | cut -d : -f 1) -path '*/out' -prune -o \
+        -newer "$program" \( -name '*.rt' -o -name '*.antt' \) -print -quit)" ]
+}
+
+# Makes the folder's sources those of these crates as they stand, and leaves what was proved of them.
+copy_sources() {
+    local folder
+    mkdir -p "$room/crates"
+    cp "$top/HANDLES" "$room/HANDLES"
+    needed > "$room/crates.txt"
+    for folder in "$room"/crates/*/; do
+        grep -q "^$(basename "$folder"):" "$room/crates.txt" || rm -rf "$folder"
+    done
+    for crate in $(cut -d : -f 1 "$room/crates.txt"); do
+        mkdir -p "$room/crates/$crate"
+        for part in src specs proofs; do
+            rm -rf "$room/crates/$crate/$part"
+            [ ! -d "$top/crates/$crate/$part" ] || cp -r "$top/crates/$crate/$part" "$room/crates/$crate/"
+        done
     done
 }
 
-if ! is_built; then
-    echo "tape: proving and building, which takes long the first time" >&2
-    build
-fi
-if ! is_built; then
-    echo "tape: the program could not be built; 'rt check' in crates/tape tells why" >&2
+lines_of() {
+    find "$@" -path '*/out' -prune -o -type f -exec cat {} + | wc -l
+}
+
+# Reads what rt says, and tells how far it is. A crate that was proved before is named, and nothing is said of it. The
+# time to go is that of the lines that are left, by the lines that were proved since it began.
+tell() {
+    local crate='' is_new='' count=0 of left lines=0 proved=0 line text shown='' ends='\n'
+    of=$(wc -l < "$room/crates.txt")
+    left=$(lines_of "$room/crates")
+    [ ! -t 2 ] || ends='\r'
+    SECONDS=0
+    while IFS= read -r line; do
+        case $line in
+            '== '*)
+                [ -z "$crate" ] || [ -n "$is_new" ] || count=$((count + 1))
+                crate=${line#== } is_new='' lines=0
+                [ "$crate" != summary ] || crate=''
+                [ -z "$crate" ] || lines=$(lines_of "$room/crates/$crate")
+                left=$((left - lines)) ;;
+            logic=proved*) count=$((count + 1)) proved=$((proved + lines)) ;;
+            rt:*) ;;
+            *) is_new=1 ;;
+        esac
+        text="tape: proved $count of $of crates"
+        [ $proved = 0 ] || text="$text, about $((SECONDS * left / proved / 60)) minutes to go"
+        [ "$text" = "$shown" ] || printf "%-70s$ends" "${text/about 0 minutes/less than a minute}" >&2
+        shown=$text
+    done
+    [ ! -t 2 ] || echo >&2
+}
+
+build() {
+    echo 'tape: proving and building, which takes long the first time; it may be broken off and started again' >&2
+    copy_sources
+    # One crate for each processor, and for each three gigabytes of free memory.
+    at_once=$(awk -v most="$(nproc)" '/^MemAvailable:/ { n = int($2 / 3000000); print n < 1 ? 1 : n < most ? n : most }' \
+        /proc/meminfo)
+    (cd "$room" && rt all check --jobs "$at_once") 2>&1 | tee "$room/log" | tell || return
+    # The program was proved; a run without words links it, and ends with the usage line and status 2.
+    (cd "$room/crates/tape" && rt run < /dev/null) >> "$room/log" 2>&1 || true
+    mkdir -p "$(dirname "$program")"
+    cp "$room/crates/tape/out/tape" "$program"
+}
+
+if ! is_built && ! { build && is_built; }; then
+    echo "tape: the program could not be built; $room/log tells why" >&2
     exit 1
 fi
 exec "$program" "$@"

@@ -2,7 +2,6 @@
 use Rattle.std.proofs.Common.{◌≡◌, ◌≤◌, sym, subst, refl, ℕ, arith}
 use Rattle.qic_base.specs.LostSet.{lost_places}
 use Rattle.cartridge_spec.specs.Shape.{Carries, usable_count}
-use Rattle.cartridge_spec.proofs.Segments.{count_of_whole}
 
 -- all sectors but 3, 17, 30 and 31
 pub marked_count : usable_count 1073610743 ≡ 28
@@ -11,7 +10,3 @@ marked_count = refl
 
 pub marked_carries : Carries 1073610743
 marked_carries = subst (λ (n : ℕ). 4 ≤ n) (sym marked_count) (omega arith)
-
--- all sectors
-pub whole_carries : Carries 4294967295
-whole_carries = subst (λ (n : ℕ). 4 ≤ n) (sym count_of_whole) (omega arith)

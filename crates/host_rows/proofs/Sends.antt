@@ -1,38 +1,24 @@
--- What a host that knows its cartridge may send where the tape stands: reports, and commands that begin a seek.
-use Rattle.std.proofs.Common.{◌≡◌, ℕ, ◌+◌, ◌*◌, ◌<◌, true, false, None, refl, ap, ◌∙◌}
+-- What a host that knows its cartridge may send where the tape stands: reports.
+use Rattle.std.proofs.Common.{◌≡◌, true, false, None, refl}
 use Rattle.qic_base.specs.Tape.{Meaning}
-use Rattle.qic117_commands.specs.Commands.{number_of}
 use Rattle.qic117_commands.specs.Refusals.{first_refusal, is_unsupported, is_diagnostic, needs_cartridge, waits_for_seek, waits_for_stop, illegal_in_primary, illegal_in_format, illegal_in_verify, needs_writable, needs_known_cartridge, needs_reference, needs_logical_bot}
-use Rattle.qic117_commands.specs.Views.{is_format}
-use Rattle.qic117_commands.specs.declared.command.Command.{Command}
-use Rattle.qic117_commands.specs.declared.command.Command.TheVariants.{SeekTrack, SeekLoadPoint, SkipForward}
 use Rattle.qic117_commands.specs.declared.view.DriveView.{DriveView}
 use Rattle.qic117_commands.specs.declared.view.Motion.TheVariants as seen_as
-use Rattle.drive_states.specs.declared.deck.Deck.{Deck}
 use Rattle.drive_states.specs.declared.deck.Motion.{Motion}
 use Rattle.drive_states.specs.declared.deck.Motion.TheVariants.{Stopped, Streaming, Seeking}
-use Rattle.drive_states.specs.Deck.{refusal_of, view_of, seen_motion, is_stopped, is_seeking, is_referenced, sought, skipped}
-use Rattle.drive_states.specs.Record.{Record}
-use Rattle.drive_states.specs.Row.{obeying}
+use Rattle.drive_states.specs.Deck.{refusal_of, view_of, seen_motion, is_stopped}
 use Rattle.drive_states.specs.Unit.{UnitView}
 use Rattle.host_driver.specs.declared.host.Host.{Host}
 use Rattle.host_driver.specs.declared.report.Report.{Report}
 use Rattle.host_driver.specs.declared.report.Report.TheVariants.{Status, Error, Configuration, Rom, Vendor, TapeStatus, FormatSegments}
-use Rattle.host_driver.specs.Commands.{is_plain}
-use Rattle.host_driver.specs.Fits.{Fits, GeneratesAll, IsAtRest, parameter_of}
+use Rattle.host_driver.specs.Fits.{Fits}
 use Rattle.host_driver.specs.Reports.{command_of}
-use Rattle.host_driver.specs.Train.{TakesTrain, after_train}
-use Rattle.host_driver.proofs.Sending.{commanded, takes-plain, gives, given_as, Gives}
-use Rattle.host_driver.proofs.Taking.{ready_of, seek_of, skip_of, takes_track, takes_low, takes_high, given_track, given_low, given_high, IsGiven, IsHalf}
+use Rattle.host_driver.proofs.Taking.{ready_of}
 
 stands : (m : Motion) → is_stopped m ≡ true → seen_motion m ≡ seen_as.Stopped
 stands Stopped e = refl
 stands (Streaming next) e = cc
 stands (Seeking left) e = cc
-
-load_point_taken : (v : DriveView) → v.present ≡ true → v.motion ≡ seen_as.Stopped → v.fresh ≡ false → first_refusal v SeekLoadPoint ≡ None
-unfolding first_refusal is_unsupported is_diagnostic needs_cartridge waits_for_seek waits_for_stop illegal_in_primary illegal_in_format illegal_in_verify needs_writable needs_known_cartridge needs_reference needs_logical_bot
-load_point_taken v present stopped known = rw (present, stopped, known) refl
 
 kind_taken : (kind : Report) (v : DriveView) → v.present ≡ true → v.motion ≡ seen_as.Stopped → first_refusal v (command_of kind) ≡ None
 unfolding first_refusal is_unsupported is_diagnostic needs_cartridge waits_for_seek waits_for_stop illegal_in_primary illegal_in_format illegal_in_verify needs_writable needs_known_cartridge needs_reference needs_logical_bot
@@ -49,67 +35,3 @@ pub report_taken : {T : Type 0} {m : Meaning T} {h : Host} {u : UnitView T} (kin
     refusal_of u.drive.deck (command_of kind) ≡ None
 report_taken {u = u} kind fits stopped =
     kind_taken kind (view_of u.drive.deck) (ready_of fits stopped).present (stands u.drive.deck.motion stopped)
-
--- a command that is sent
-pub record Begins (r : Record) (command : Command) : Type 0 where
-  pub takes : TakesTrain r (number_of command)
-  pub after : after_train r (number_of command) ≡ obeying (record r { line = false; train = 0 }) command
-
-begins : {T : Type 0} {m : Meaning T} {h : Host} {u : UnitView T} (command : Command) → is_plain command ≡ true → Fits m h u → IsAtRest u.drive →
-    refusal_of u.drive.deck command ≡ None → Begins u.drive command
-begins {u = u} command plain fits rest taken = record {
-  takes = takes-plain command u.drive plain rest.still rest.idle taken fits.no_error fits.generates;
-  after = commanded command u.drive plain rest.still rest.idle taken;
-}
-
-pub load_point : {T : Type 0} {m : Meaning T} {h : Host} {u : UnitView T} → Fits m h u → IsAtRest u.drive → is_stopped u.drive.deck.motion ≡ true →
-    Begins u.drive SeekLoadPoint
-load_point {u = u} fits rest stopped =
-    begins SeekLoadPoint refl fits rest
-    (load_point_taken (view_of u.drive.deck) (ready_of fits stopped).present (stands u.drive.deck.motion stopped) fits.known)
-
-pub track : {T : Type 0} {m : Meaning T} {h : Host} {u : UnitView T} → Fits m h u → IsAtRest u.drive → is_stopped u.drive.deck.motion ≡ true →
-    is_referenced u.drive.deck ≡ true → Begins u.drive SeekTrack
-track {u = u} fits rest stopped referenced =
-    begins SeekTrack refl fits rest (seek_of u.drive.deck (ready_of fits stopped) referenced)
-
--- the track that the command awaits is given
-pub gives_track : (r s : Record) (number : ℕ) → number < 28 → IsAtRest r → Begins r SeekTrack → s ≡ after_train r 13 → s.deck.error ≡ 0 → GeneratesAll s.deck → Gives s number
-gives_track r s number small rest begun row none all =
-    let is = row ∙ begun.after in
-    gives s number (ap (λ (x : Record). is_seeking x.deck.motion) is ∙ rest.still) none all
-    (takes_track s.under_way r.deck number (ap (λ (x : Record). x.under_way) is) small)
-
-pub given_number : (r s t : Record) (number : ℕ) → Begins r SeekTrack → s ≡ after_train r 13 → Gives s number → t ≡ after_train s (2 + number) →
-    IsGiven t (sought number r.deck)
-given_number r s t number begun row gave next =
-    let is = row ∙ begun.after in
-    given_track s t r.deck number (ap (λ (x : Record). x.deck) is) (ap (λ (x : Record). x.under_way) is)
-    (given_as s t number next (parameter_of s.under_way) gave.given)
-
--- a skip forward, and its two nibbles
-pub skip : {T : Type 0} {m : Meaning T} {h : Host} {u : UnitView T} → Fits m h u → IsAtRest u.drive → is_stopped u.drive.deck.motion ≡ true →
-    is_referenced u.drive.deck ≡ true → is_format u.drive.deck.mode ≡ false → Begins u.drive SkipForward
-skip {u = u} fits rest stopped referenced other =
-    begins SkipForward refl fits rest (skip_of u.drive.deck (ready_of fits stopped) true referenced other)
-
-pub gives_low : (r s : Record) (low : ℕ) → low < 16 → IsAtRest r → Begins r SkipForward → s ≡ after_train r 26 → s.deck.error ≡ 0 → GeneratesAll s.deck → Gives s low
-gives_low r s low small rest begun row none all =
-    let is = row ∙ begun.after in
-    gives s low (ap (λ (x : Record). is_seeking x.deck.motion) is ∙ rest.still) none all
-    (takes_low true s.under_way r.deck low (ap (λ (x : Record). x.under_way) is) small)
-
-pub half : (r s t : Record) (low : ℕ) → Begins r SkipForward → s ≡ after_train r 26 → Gives s low → t ≡ after_train s (2 + low) → IsHalf t r.deck true low
-half r s t low begun row gave next =
-    let is = row ∙ begun.after in
-    given_low true s t r.deck low (ap (λ (x : Record). x.deck) is) (ap (λ (x : Record). x.under_way) is)
-    (given_as s t low next (parameter_of s.under_way) gave.given)
-
-pub gives_high : (r t : Record) (low high : ℕ) → high < 16 → IsAtRest r → IsHalf t r.deck true low → t.deck.error ≡ 0 → GeneratesAll t.deck → Gives t high
-gives_high r t low high small rest first none all =
-    gives t high (ap (λ (d : Deck). is_seeking d.motion) first.deck ∙ rest.still) none all (takes_high true t r.deck low high first small)
-
-pub given_count : (r t v : Record) (low high count : ℕ) → low + 16 * high ≡ count → IsHalf t r.deck true low → Gives t high → v ≡ after_train t (2 + high) →
-    IsGiven v (skipped true count r.deck)
-given_count r t v low high count all first gave next =
-    given_high true t v r.deck low high count all first (given_as t v high next (parameter_of t.under_way) gave.given)

@@ -5,7 +5,7 @@ ghost use Rattle.drive_states.specs.Deck.{segments_per_track, is_protected, is_r
 ghost use Rattle.host_driver.specs.Fits.{Fits, IsAtRest};
 ghost use Rattle.qic_mem.specs.Tape.{tape_means};
 
-use drive_runs::{all_leave_0, report, write_one};
+use crate::trains::{all_leave_0, report, write_one};
 use drive_states::{FdcFault, FloppyAddr, Unit};
 use host_driver::{Host, HostFault};
 use qic_base::{NoMemory, Tape, TapeFailed};
@@ -74,13 +74,6 @@ pub fn waits_for_load_point(rt: &impl Abort, unit: &mut Unit<MemTape>) {
     assert_eq!(rt; reports_of_the_status(unit), 17);
 }
 
-/// Lets gaps pass, in which the tape must not fail.
-pub fn waits(rt: &impl Abort, unit: &mut Unit<MemTape>, gaps: u8) {
-    for _ in 0..gaps {
-        assert_eq!(rt; unit.gap(), Ok(()));
-    }
-}
-
 /// Asks for a report of 8 or 16 bits, which has to show this word.
 pub fn tells(rt: &impl Abort, unit: &mut Unit<MemTape>, command: u16, bits: u8, word: u16)
     requires { bits ≤ 16 }
@@ -104,11 +97,6 @@ pub fn lacks(rt: &impl Abort, unit: &mut Unit<MemTape>, addr: FloppyAddr) {
 /// Formats the segment under the head past any host.
 pub fn formats(rt: &impl Abort, unit: &mut Unit<MemTape>) {
     assert_eq!(rt; unit.format_segment(), Ok(()));
-}
-
-/// Sets the protect mark.
-pub fn protects(rt: &impl Abort, unit: &mut Unit<MemTape>) {
-    assert_eq!(rt; unit.protect(true), Ok(()));
 }
 
 /// Reads a sector past any host; each of its bytes has to be this one.

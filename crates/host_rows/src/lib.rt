@@ -1,8 +1,10 @@
-//! Worked examples of the host and of its segments, as tests: the start, modes, places, sectors, segments, waits.
+//! Worked calls of the drive, the host and its segments, as tests: each call once, and where the tape fails in it.
 #![tactic(auto)]
 
 #[cfg(test)]
 mod cable;
+#[cfg(test)]
+mod drive;
 #[cfg(test)]
 mod modes;
 #[cfg(test)]
@@ -13,3 +15,5 @@ mod sectors;
 mod segments;
 #[cfg(test)]
 mod starts;
+#[cfg(test)]
+mod trains;

@@ -1,28 +1,13 @@
-//! Modes, the reference bursts, and a segment formatted.
+//! The reference bursts and a segment formatted, where the tape fails at first.
 
-use crate::cable::{
-    begun, blank, formats, lacks, protects, sends, shows, tells, waits_for_load_point, written,
-};
-use drive_runs::front;
+use crate::cable::{blank, formats, lacks, sends, shows, tells, waits_for_load_point};
+use crate::trains::front;
 use drive_states::Unit;
 use host_driver::{Host, HostFault};
 use qic_mem::MemTape;
 use qic117_commands::Mode;
 use std::process::Abort;
 use std::test::Fail;
-
-/// Has a host enter a mode, and from there another.
-fn enter_both(unit: &mut Unit<MemTape>, first: Mode, second: Mode) -> Result<(), HostFault> {
-    let mut host = begun(unit)?;
-    host.enter(unit, first)?;
-    host.enter(unit, second)
-}
-
-/// Has a host enter Format mode.
-fn enter_format(unit: &mut Unit<MemTape>) -> Result<(), HostFault> {
-    let mut host = Host::start(unit)?;
-    host.enter(unit, Mode::Format)
-}
 
 /// Has a host write the reference bursts. The answer, and whether the host knows the cartridge as referenced then.
 fn reference(unit: &mut Unit<MemTape>) -> Result<(Result<(), HostFault>, bool), HostFault> {
@@ -42,56 +27,11 @@ fn format_first(unit: &mut Unit<MemTape>) -> Result<(), HostFault> {
     host.format_here(unit)
 }
 
-// Each mode with the error word after the train 15, Format, in it.
-const WORDS: [(Mode, u16); 3] = [
-    (Mode::Primary, 0),
-    (Mode::Format, 0x0F0F),
-    (Mode::Verify, 0x0F10),
-];
-
-#[test]
-fn each_mode_is_entered_from_each(rt: HostRuntime) -> Result<(), Fail> {
-    let mut unit = written(rt.alloc(), &[])?;
-    for (first, _) in WORDS {
-        for (second, word) in WORDS {
-            assert_eq!(rt; enter_both(&mut unit, first, second), Ok(()));
-            sends(&rt, &mut unit, &[15]);
-            tells(&rt, &mut unit, 7, 16, word);
-        }
-    }
-    Ok(())
-}
-
-#[test]
-fn a_protected_cartridge_has_no_format_mode(rt: HostRuntime) -> Result<(), Fail> {
-    let mut unit = written(rt.alloc(), &[])?;
-    assert_eq!(rt; enter_format(&mut unit), Ok(()));
-    protects(&rt, &mut unit);
-    assert_eq!(rt; enter_format(&mut unit), Err(HostFault::Protected));
-    // Nothing was sent: no error word, and the tape stands at its beginning.
-    tells(&rt, &mut unit, 6, 8, 0x6D);
-    Ok(())
-}
-
 /// Takes the tape from where it streams in Format mode to the start of track 0.
 fn returns_to_start(rt: &impl Abort, unit: &mut Unit<MemTape>) {
     sends(rt, unit, &[18, 30, 14]);
     waits_for_load_point(rt, unit);
     sends(rt, unit, &[10]);
-}
-
-#[test]
-fn a_segment_is_formatted_and_the_tape_runs_on(rt: HostRuntime) -> Result<(), Fail> {
-    let mut unit = blank(rt.alloc(), &[])?;
-    assert_eq!(rt; format_first(&mut unit), Ok(()));
-    formats(&rt, &mut unit);
-    returns_to_start(&rt, &mut unit);
-    shows(&rt, &mut unit, front(1), 0);
-    sends(&rt, &mut unit, &[0]);
-    shows(&rt, &mut unit, front(33), 0);
-    sends(&rt, &mut unit, &[0]);
-    lacks(&rt, &mut unit, front(65));
-    Ok(())
 }
 
 #[test]

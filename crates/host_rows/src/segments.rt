@@ -66,12 +66,6 @@ fn gather(unit: &mut Unit<MemTape>, work: &mut Workspace) -> Result<u32, SegFaul
     mask_of(collect(&mut host, unit, SEGMENT, USABLE, work))
 }
 
-/// Collects all 32 sectors of the segment, also the bad ones.
-fn gather_all(unit: &mut Unit<MemTape>, work: &mut Workspace) -> Result<u32, SegFault> {
-    let mut host = begun(unit)?;
-    mask_of(collect(&mut host, unit, SEGMENT, u32::MAX, work))
-}
-
 /// Wears sectors of the segment.
 fn wears(rt: &impl Abort, unit: &mut Unit<MemTape>, sectors: &[u32]) {
     for &sector in sectors {
@@ -123,12 +117,6 @@ fn writes(rt: &impl Abort, unit: &mut Unit<MemTape>, work: &mut Workspace, first
     assert_eq!(rt; write(unit, work), Ok(()));
 }
 
-/// Writes its three sectors, which must not fail.
-fn writes_three(rt: &impl Abort, unit: &mut Unit<MemTape>, work: &mut Workspace, first: u8) {
-    fill(work, first);
-    assert_eq!(rt; write_three(unit, work), Ok(()));
-}
-
 /// Reads the segment, with this answer.
 fn reads(
     rt: &impl Abort,
@@ -165,51 +153,6 @@ fn a_written_segment_is_read_without_three_sectors(rt: HostRuntime) -> Result<()
         lost: 4,
     };
     reads(&rt, &mut unit, &mut work, Err(fault));
-    Ok(())
-}
-
-#[test]
-fn a_changed_sector_matches_no_code_block(rt: HostRuntime) -> Result<(), Fail> {
-    let mut unit = marked(rt.alloc(), &[])?;
-    let mut work = Workspace::new(rt.alloc())?;
-    writes(&rt, &mut unit, &mut work, 10);
-    reads(&rt, &mut unit, &mut work, Ok(0));
-    writes_three(&rt, &mut unit, &mut work, 99);
-    let fault = SegFault::Mismatch { segment: SEGMENT };
-    reads(&rt, &mut unit, &mut work, Err(fault));
-    // Also with one of them unreadable; with all three the others make up for them.
-    wears(&rt, &mut unit, &[1]);
-    reads(&rt, &mut unit, &mut work, Err(fault));
-    wears(&rt, &mut unit, &[18, 29]);
-    reads(&rt, &mut unit, &mut work, Ok(THREE));
-    is_filled(&rt, &work, 0, 25, 10);
-    Ok(())
-}
-
-#[test]
-fn named_sectors_are_written_alone(rt: HostRuntime) -> Result<(), Fail> {
-    let mut unit = marked(rt.alloc(), &[])?;
-    let mut work = Workspace::new(rt.alloc())?;
-    writes(&rt, &mut unit, &mut work, 10);
-    writes_three(&rt, &mut unit, &mut work, 99);
-    gathers(&rt, &mut unit, &mut work, Ok(0));
-    is_filled(&rt, &work, 0, 1, 10);
-    is_filled(&rt, &work, 1, 2, 99);
-    is_filled(&rt, &work, 2, 16, 10);
-    is_filled(&rt, &work, 16, 17, 99);
-    is_filled(&rt, &work, 17, 25, 10);
-    is_filled(&rt, &work, 27, 28, 99);
-    Ok(())
-}
-
-#[test]
-fn bad_sectors_are_not_written(rt: HostRuntime) -> Result<(), Fail> {
-    let mut unit = marked(rt.alloc(), &[])?;
-    let mut work = Workspace::new(rt.alloc())?;
-    writes(&rt, &mut unit, &mut work, 10);
-    assert_eq!(rt; gather_all(&mut unit, &mut work), Ok(1 << 3 | 1 << 30));
-    is_zero(&rt, &work, 17, 18);
-    is_zero(&rt, &work, 31, 32);
     Ok(())
 }
 

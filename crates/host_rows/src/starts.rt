@@ -1,6 +1,6 @@
-//! What a host learns at its start, its reports and its waits.
+//! What a host learns at its start, and its reports.
 
-use crate::cable::{begun, blank, protects, tape, tells, written};
+use crate::cable::{tells, written};
 use drive_states::Unit;
 use host_driver::{Host, HostFault, Report};
 use qic_base::Tape;
@@ -13,24 +13,6 @@ fn learnt(unit: &mut Unit<MemTape>) -> Result<(u16, bool, bool), HostFault> {
     let host = Host::start(unit)?;
     let length = host.geometry().segments_per_track();
     Ok((length, host.protected(), host.referenced()))
-}
-
-#[test]
-fn an_empty_drive_has_no_cartridge(rt: HostRuntime) -> Result<(), Fail> {
-    let mut unit = Unit::new(tape(rt.alloc(), &[])?);
-    assert_eq!(rt; learnt(&mut unit), Err(HostFault::NoCartridge));
-    Ok(())
-}
-
-#[test]
-fn a_start_tells_what_the_cartridge_is(rt: HostRuntime) -> Result<(), Fail> {
-    let mut new = blank(rt.alloc(), &[])?;
-    assert_eq!(rt; learnt(&mut new), Ok((3, false, false)));
-    protects(&rt, &mut new);
-    assert_eq!(rt; learnt(&mut new), Ok((3, true, false)));
-    let mut unit = written(rt.alloc(), &[])?;
-    assert_eq!(rt; learnt(&mut unit), Ok((3, false, true)));
-    Ok(())
 }
 
 #[test]
@@ -74,49 +56,5 @@ fn reports_of_every_kind_are_read(rt: HostRuntime) -> Result<(), Fail> {
     for (kind, want) in REPORTS {
         assert_eq!(rt; word(&mut unit, kind), Ok(want), "{kind:?}");
     }
-    Ok(())
-}
-
-/// How many reports a host waits where the drive stands.
-fn wait_standing(unit: &mut Unit<MemTape>) -> Result<u8, HostFault> {
-    let mut host = Host::start(unit)?;
-    host.wait_ready(unit)
-}
-
-/// How many reports it waits where the drive seeks the load point.
-fn wait_for_load_point(unit: &mut Unit<MemTape>) -> Result<u8, HostFault> {
-    let mut host = begun(unit)?;
-    host.send(unit, 14)?;
-    host.wait_ready(unit)
-}
-
-/// How many reports it waits where the drive seeks track 3: the trains are that of the command and that of its parameter,
-/// which has two pulses more.
-fn wait_for_track(unit: &mut Unit<MemTape>) -> Result<u8, HostFault> {
-    let mut host = begun(unit)?;
-    host.send(unit, 13)?;
-    host.send(unit, 5)?;
-    host.wait_ready(unit)
-}
-
-/// How many reports it waits where the drive skips two segments, of which the second nibble is 0.
-fn wait_for_skip(unit: &mut Unit<MemTape>) -> Result<u8, HostFault> {
-    let mut host = begun(unit)?;
-    host.send(unit, 26)?;
-    host.send(unit, 4)?;
-    host.send(unit, 2)?;
-    host.wait_ready(unit)
-}
-
-#[test]
-fn a_wait_takes_ten_gaps_a_report(rt: HostRuntime) -> Result<(), Fail> {
-    let mut unit = written(rt.alloc(), &[])?;
-    assert_eq!(rt; wait_standing(&mut unit), Ok(1));
-    // 160 gaps: the sixteenth report loads its word at gap 151, and the seventeenth at gap 161.
-    assert_eq!(rt; wait_for_load_point(&mut unit), Ok(17));
-    // 10 gaps: the second report loads its word at gap 11.
-    assert_eq!(rt; wait_for_track(&mut unit), Ok(2));
-    // 80 gaps: the eighth report loads its word at gap 71, and the ninth at gap 81.
-    assert_eq!(rt; wait_for_skip(&mut unit), Ok(9));
     Ok(())
 }

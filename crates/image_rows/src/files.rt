@@ -61,29 +61,3 @@ pub fn byte_at(file: &mut MemDisk, place: u64) -> Result<u8, DiskFailed> {
     let _ = file.read_at(place, &mut byte)?;
     Ok(byte[0])
 }
-
-// The bytes of a block of 1,024, zero behind the end of the file.
-fn block(file: &mut MemDisk, number: u16) -> Result<[u8; 1024], DiskFailed> {
-    let mut bytes = [0; 1024];
-    let _ = file.read_at(1024 * u64::from(number), &mut bytes)?;
-    Ok(bytes)
-}
-
-fn unlike(one: &[u8; 1024], other: &[u8; 1024]) -> u64 {
-    let mut count: u64 = 0;
-    for i in 0..1024 {
-        if one[i] != other[i] {
-            count = count.saturating_add(1);
-        }
-    }
-    count
-}
-
-/// At how many places two images of three segments per track differ. The last of the 2,696 blocks ends behind them.
-pub fn differences(one: &mut MemDisk, other: &mut MemDisk) -> Result<u64, DiskFailed> {
-    let mut count: u64 = 0;
-    for number in 0..2_696 {
-        count = count.saturating_add(unlike(&block(one, number)?, &block(other, number)?));
-    }
-    Ok(count)
-}

@@ -1,8 +1,6 @@
-//! Worked examples of the image file, as tests: its bytes, and what is left where a call of its disk fails.
+//! Images whose disk fails, as tests: what each call that fails leaves of the file.
 #![tactic(auto)]
 
-#[cfg(test)]
-mod commands;
 #[cfg(test)]
 mod files;
 #[cfg(test)]

@@ -6,7 +6,7 @@ ghost use Rattle.qic_base.specs.Disk.{IsSettled};
 ghost use Rattle.qic_mem.specs.Disk.{disk_means};
 ghost use Rattle.cart_image.specs.ImageTape.{image_means};
 
-use crate::files::{HEAD, LENGTH, NEVER, byte_at, differences, file, tape_of_three};
+use crate::files::{HEAD, LENGTH, NEVER, byte_at, file, tape_of_three};
 use cart_image::ImageTape;
 use qic_base::{Disk, DiskFailed, SectorRead, SectorWrite, Tape, TapeFailed};
 use qic_mem::MemDisk;
@@ -152,27 +152,6 @@ fn a_lost_sector_is_written_and_its_gate_opened(rt: HostRuntime) -> Result<(), F
         assert_eq!(rt; left_of_worn(rt.alloc(), call)?, bytes, "call {call}");
     }
     assert!(rt; is_worn_written(rt.alloc(), 7)?);
-    Ok(())
-}
-
-/// At how many places an image differs from the one in which nothing but the three sectors was written.
-fn changes(alloc: Global, mut file: MemDisk) -> Result<u64, Fail> {
-    let mut before = written(alloc, Vec::new(alloc))?;
-    Ok(differences(&mut file, &mut before)?)
-}
-
-fn changes_of_write(alloc: Global) -> Result<u64, Fail> {
-    changes(alloc, taken(held(alloc, NEVER)?)?)
-}
-
-fn changes_of_wear(alloc: Global) -> Result<u64, Fail> {
-    changes(alloc, worn(alloc, NEVER)?.into_disk())
-}
-
-#[test]
-fn no_other_byte_is_changed(rt: HostRuntime) -> Result<(), Fail> {
-    assert_eq!(rt; changes_of_write(rt.alloc())?, 1024);
-    assert_eq!(rt; changes_of_wear(rt.alloc())?, 1);
     Ok(())
 }
 

@@ -1,12 +1,10 @@
-//! Tables of words and of lines, printed texts, and the sums of made volumes, as tests.
+//! What `tape_script` reads that no command takes yet, as tests: words, lines of scripts, made volumes.
 #![tactic(auto)]
 
 #[cfg(test)]
 mod commands;
 #[cfg(test)]
 mod lines;
-#[cfg(test)]
-mod texts;
 #[cfg(test)]
 mod trains;
 #[cfg(test)]

@@ -1,0 +1,186 @@
+Image files
+===========
+
+  $ . "$TESTDIR/image.sh"
+
+An image is a file that begins with `QIC80IMG`, the version 1 and the segments per track, and has just the length that
+follows: 64 bytes, and 1,027 for each of the 896 sectors that a segment per track makes. That is 2,760,640 for three, and
+3,680,832 for four.
+
+  $ file() { rm -f cart.img; printf "$2" > cart.img; truncate -s $1 cart.img; cp cart.img before.img; }
+  $ file 2760640 'QIC80IMG\1\0\3\0'
+  $ tape cart.img list
+  tape: the cartridge is not formatted
+  [6]
+  $ file 3680832 'QIC80IMG\1\0\4\0\x5A'
+  $ tape cart.img list
+  tape: the cartridge is not formatted
+  [6]
+  $ tape cart.img format L
+  tape: the cartridge is protected
+  [5]
+
+Any other file holds no cartridge, and each command but `new` leaves it as it is.
+
+  $ looks() {
+  >     for command in list info 'format L' 'lose 0 0' 'defect 0 0' 'protect on' 'protect off'; do
+  >         tape cart.img $command 2>&1
+  >         cmp cart.img before.img
+  >     done | uniq -c | sed 's/^ *//'
+  > }
+  $ file 0 ''
+  $ looks
+  7 tape: no cartridge
+  $ file 13 'QIC80IMG\1\0\3\0'
+  $ looks
+  7 tape: no cartridge
+  $ file 14 'QIC80IMG\1\0\3\0'
+  $ looks
+  7 tape: no cartridge
+  $ file 2760639 'QIC80IMG\1\0\3\0'
+  $ looks
+  7 tape: no cartridge
+  $ file 2760641 'QIC80IMG\1\0\3\0'
+  $ looks
+  7 tape: no cartridge
+  $ file 2760640 'QIC80IMG\1\0\4\0'
+  $ looks
+  7 tape: no cartridge
+  $ file 2760640 'QIC80IMH\1\0\3\0'
+  $ looks
+  7 tape: no cartridge
+  $ file 2760640 'qIC80IMG\1\0\3\0'
+  $ looks
+  7 tape: no cartridge
+  $ file 2760640 'QIC80IMG\2\0\3\0'
+  $ looks
+  7 tape: no cartridge
+  $ file 2760640 'QIC80IMG\1\1\3\0'
+  $ looks
+  7 tape: no cartridge
+  $ file 2760640 'QIC80IMG\1\0\3\1'
+  $ looks
+  7 tape: no cartridge
+
+An image of two segments per track would have 1,840,448 bytes, and is none.
+
+  $ file 1840448 'QIC80IMG\1\0\2\0'
+  $ looks
+  7 tape: no cartridge
+
+Nor is a letter an image. It is left as it was, by `pulses` too, which sends its trains to an empty drive, and by words
+that are no command.
+
+  $ echo 'Dear Sir, the cartridges that you sent ..' > letter
+  $ cp letter before
+  $ tape letter list
+  tape: no cartridge
+  [4]
+  $ printf '6\n' | tape letter pulses
+  1
+  $ tape letter list now
+  usage: tape IMAGE COMMAND
+  [2]
+  $ cmp letter before
+
+`new` makes an image of it, whatever it was.
+
+  $ tape letter new 3
+  blank 3
+  $ wc -c < letter
+  2760640
+  $ tape letter new 4
+  blank 4
+  $ wc -c < letter
+  3680832
+
+What a new image holds
+----------------------
+
+It is its head, and zero bytes behind that; so is the one that is put in over a cartridge with a defect.
+
+  $ rm cart.img
+  $ tape cart.img new 3
+  blank 3
+  $ look_at 0 16
+   51 49 43 38 30 49 4d 47 01 00 03 00 00 00 00 00
+  $ tail -c +17 cart.img | tr -d '\0' | wc -c
+  0
+  $ cp cart.img new.img
+
+A defect is one byte of its plane. Sector 0 of segment 4 has the number 32 * 4 = 128; its byte is 64 + 2 * 2,688 + 128 =
+5,568, which becomes 0xBD. `cmp` counts from 1, and in octal.
+
+  $ tape cart.img defect 4 0
+  defect 4 0
+  $ cmp -l new.img cart.img | tr -s ' '
+   5569 0 275
+  $ tape cart.img new 3
+  blank 3
+  $ cmp new.img cart.img
+
+The marks
+---------
+
+The write protect mark is byte 12 of the head, and 13 is the mark of the reference bursts. 0x5A is a mark, any other byte
+is none.
+
+  $ tape cart.img protect on
+  protected on
+  $ cmp -l new.img cart.img | tr -s ' '
+   13 0 132
+  $ tape cart.img protect off
+  protected off
+  $ cmp new.img cart.img
+  $ alter 12 '\xA5\x5A'
+  $ tape cart.img protect on
+  protected on
+  $ look_at 12 2
+   5a 5a
+  $ tape cart.img protect off
+  protected off
+  $ look_at 12 2
+   00 5a
+
+A mark that is as it is to be is not written: a byte that is no mark stays, and so does the file's time.
+
+  $ time_of() { "$@" > line; stat -c %y cart.img | cut -c 1-10; }
+  $ alter 12 '\xA5'
+  $ touch -d 1994-03-01 cart.img
+  $ time_of tape cart.img protect off
+  1994-03-01
+  $ look_at 12 2
+   a5 5a
+  $ alter 12 '\x5A'
+  $ touch -d 1994-03-01 cart.img
+  $ time_of tape cart.img protect on
+  1994-03-01
+
+The drive writes the reference bursts where there are none: by the train 16, in Format mode.
+
+  $ . "$TESTDIR/trains.sh"
+  $ bursts() { send 7 $(times 17 2) 15 16 > levels; look_at 12 2; }
+  $ alter 12 '\0\0'
+  $ bursts
+   00 5a
+  $ alter 12 '\0\1'
+  $ bursts
+   00 5a
+  $ touch -d 1994-03-01 cart.img
+  $ time_of bursts
+  1994-03-01
+
+Where there is no image
+-----------------------
+
+A file is made only where its folder is.
+
+  $ tape no/such/folder.img list
+  tape: cannot open the image
+  [20]
+  $ tape . list
+  tape: cannot open the image
+  [20]
+  $ ls no
+  ls: cannot access 'no': No such file or directory
+  [2]
