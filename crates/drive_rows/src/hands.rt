@@ -4,7 +4,10 @@ use crate::cable::{
     cannot_read, empty, loads, protects, reads, sends, settles, spoils, tells, wears, written,
 };
 use drive_runs::front;
-use drive_states::{FdcFault, HandFault};
+use drive_states::{FdcFault, HandFault, Unit};
+use qic_base::Tape;
+use qic_mem::SureTape;
+use std::alloc::Global;
 use std::test::Fail;
 
 #[test]
@@ -59,5 +62,27 @@ fn a_blank_sector_is_spoiled(rt: HostRuntime) -> Result<(), Fail> {
     spoils(&rt, &mut unit, 83, 31, Ok(()));
     spoils(&rt, &mut unit, 83, 31, Ok(()));
     spoils(&rt, &mut unit, 0, 0, Err(HandFault::NotBlank));
+    Ok(())
+}
+
+/// A drive whose tape never fails, with a cartridge of three segments per track whose segment 0 is formatted.
+fn sure(alloc: Global) -> Result<Unit<SureTape>, Fail> {
+    let mut tape = SureTape::new(alloc)?;
+    tape.renew(3)?;
+    tape.format_segment(0)?;
+    let mut unit = Unit::new(tape);
+    unit.insert()?;
+    Ok(unit)
+}
+
+/// What a person finds who spoils the first sector of a segment there.
+fn spoiled(alloc: Global, segment: u32) -> Result<Result<(), HandFault>, Fail> {
+    Ok(sure(alloc)?.spoil(segment, 0))
+}
+
+#[test]
+fn a_formatted_sector_is_not_blank_though_no_call_fails(rt: HostRuntime) -> Result<(), Fail> {
+    assert_eq!(rt; spoiled(rt.alloc(), 0)?, Err(HandFault::NotBlank));
+    assert_eq!(rt; spoiled(rt.alloc(), 1)?, Ok(()));
     Ok(())
 }
