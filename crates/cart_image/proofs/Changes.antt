@@ -12,7 +12,7 @@ use Rattle.qic_base.specs.Cartridge.{with_view, view_at, place_of}
 use Rattle.cart_image.specs.Layout.{sectors, gate_place, defect_place, sector_place, image_len}
 use Rattle.cart_image.specs.Image.{info_of, view_in, views_in, cartridge_of}
 use Rattle.cart_image.specs.Whole.{read_as, cartridge_of-read, length-views}
-use Rattle.cart_image.proofs.Reading.{OnlyIn, info-same, gate-other, defect-other, bytes-other}
+use Rattle.cart_image.proofs.Bytes.{OnlyIn, info-same, gate-other, defect-other, bytes-other}
 
 pub get_or-views : (n : ℕ) (bytes : List ℕ) (k : ℕ) (d : SectorView) → k < sectors n → get_or (views_in n bytes) k d ≡ view_in n bytes k
 unfolding views_in

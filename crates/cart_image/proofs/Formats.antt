@@ -19,7 +19,7 @@ use Rattle.cart_image.specs.Image.{info_of, view_in, views_in, sector_bytes, car
 use Rattle.cart_image.specs.Run.{after_steps}
 use Rattle.cart_image.specs.Whole.{read_as, cartridge_of-read, length-views}
 use Rattle.cart_image.proofs.Carries.{Means}
-use Rattle.cart_image.proofs.Reading.{OnlyIn, OnlyIn-torn, OnlyIn-written, bytes-same, cell-is, info-same, gate-view, gate-other, formed-view, formed-other, bytes-view, bytes-other, view_in-is}
+use Rattle.cart_image.proofs.Bytes.{OnlyIn, OnlyIn-torn, OnlyIn-written, bytes-same, cell-is, info-same, gate-view, gate-other, formed-view, formed-other, bytes-view, bytes-other, view_in-is}
 use Rattle.cart_image.proofs.Changes.{get_or-views, view_at-read}
 use Rattle.cart_image.proofs.Sectors.{Crashed-put}
 use Rattle.cart_image.proofs.Writes.{Beyond, chosen_at, HasChosen, chosen-written, after-chosen, Crashed-chosen}

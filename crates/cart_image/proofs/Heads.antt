@@ -15,7 +15,7 @@ use Rattle.cart_image.specs.Layout.{signature, version_place, length_place, prot
 use Rattle.cart_image.specs.Image.{read_len, is_image, info_by, info_of, view_in, views_in, cartridge_of}
 use Rattle.cart_image.specs.Whole.{info-parts, cartridge_of-read, length-views}
 use Rattle.cart_image.proofs.Carries.{Means}
-use Rattle.cart_image.proofs.Reading.{OnlyIn, OnlyIn-torn, OnlyIn-written, OnlyIn-all, range-same, byte-same, bytes-same, cell-is, view_in-is}
+use Rattle.cart_image.proofs.Bytes.{OnlyIn, OnlyIn-torn, OnlyIn-written, OnlyIn-all, range-same, byte-same, bytes-same, cell-is, view_in-is}
 use Rattle.cart_image.proofs.Changes.{get_or-views}
 use Rattle.cart_image.proofs.Sectors.{Crashed-put, byte-written}
 

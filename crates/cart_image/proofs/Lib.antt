@@ -1,3 +1,4 @@
+pub mod Bytes
 pub mod Carries
 pub mod Changes
 pub mod Exits
@@ -5,7 +6,6 @@ pub mod Formats
 pub mod Heads
 pub mod Infos
 pub mod Loops
-pub mod Reading
 pub mod Renews
 pub mod Runs
 pub mod Sectors

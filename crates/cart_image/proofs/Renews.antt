@@ -21,7 +21,7 @@ use Rattle.cart_image.specs.Image.{read_len, info_by, info_of, view_by, view_in,
 use Rattle.cart_image.specs.Run.{after_steps, Crashed}
 use Rattle.cart_image.specs.Whole.{info-parts, and_true, cartridge_of-read, cartridge_of-none, length-views}
 use Rattle.cart_image.proofs.Carries.{Means}
-use Rattle.cart_image.proofs.Reading.{OnlyIn, OnlyIn-torn, OnlyIn-written, view_in-is}
+use Rattle.cart_image.proofs.Bytes.{OnlyIn, OnlyIn-torn, OnlyIn-written, view_in-is}
 use Rattle.cart_image.proofs.Changes.{get_or-views}
 use Rattle.cart_image.proofs.Sectors.{Crashed-put, byte-written}
 

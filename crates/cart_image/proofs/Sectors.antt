@@ -14,7 +14,7 @@ use Rattle.cart_image.specs.Layout.{sectors, gate_place, formed_place, defect_pl
 use Rattle.cart_image.specs.Image.{info_of, view_by, view_in, cartridge_of}
 use Rattle.cart_image.specs.Run.{Crashed}
 use Rattle.cart_image.proofs.Carries.{Means}
-use Rattle.cart_image.proofs.Reading.{OnlyIn, OnlyIn-torn, OnlyIn-written, range-same, gate-view, defect-view, bytes-view, view_in-is}
+use Rattle.cart_image.proofs.Bytes.{OnlyIn, OnlyIn-torn, OnlyIn-written, range-same, gate-view, defect-view, bytes-view, view_in-is}
 use Rattle.cart_image.specs.Whole.{read_as, cartridge_of-read}
 use Rattle.cart_image.proofs.Changes.{Beside, Beside-all, Beside-Beside, Beside-gate, Beside-defect, Beside-bytes, cartridge-beside, same-view, view_at-read}
 

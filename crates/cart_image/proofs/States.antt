@@ -7,8 +7,8 @@ use Rattle.qic_base.specs.declared.tape.SectorView.TheVariants.{Blank, Defect, L
 use Rattle.qic_base.specs.declared.tape.SectorRead.TheVariants as read
 use Rattle.qic_base.specs.declared.tape.SectorWrite.TheVariants as write
 use Rattle.qic_base.specs.Tape.{Reads, write_answer, spoil_answer}
-use Rattle.cart_image.specs.declared.image.SectorState.{SectorState}
-use Rattle.cart_image.specs.declared.image.SectorState.TheVariants as state
+use Rattle.cart_image.specs.declared.reading.SectorState.{SectorState}
+use Rattle.cart_image.specs.declared.reading.SectorState.TheVariants as state
 use Rattle.cart_image.specs.Layout.{gate_place, formed_place, defect_place, overwrite_steps, write_sector_steps, wear_steps, spoil_steps, mark_steps, put, image_len, closed_gate, defect_byte, formed_byte, open_gate, mark_byte}
 use Rattle.cart_image.proofs.Exits.{told-fact}
 use Rattle.cart_image.specs.Image.{view_by, view_in, sector_bytes}

@@ -9,7 +9,7 @@ use Rattle.qic_base.specs.Field.{overwritten}
 use Rattle.qic_base.proofs.FieldLaws.{get_or-overwritten, length-overwritten}
 use Rattle.cart_image.specs.Layout.{write_runs, synced, put_chosen}
 use Rattle.cart_image.specs.Run.{after_steps, Pending, Crashed}
-use Rattle.cart_image.proofs.Reading.{OnlyIn, OnlyIn-torn, OnlyIn-written}
+use Rattle.cart_image.proofs.Bytes.{OnlyIn, OnlyIn-torn, OnlyIn-written}
 
 -- writes at places of a set
 abbrev pub WritesIn : (T : ℕ → Bool) → List DiskStep → Type 0

@@ -2,8 +2,12 @@
 //! its calls promise.
 #![tactic(auto)]
 
-mod flush;
-mod image;
+mod formatting;
+mod layout;
+mod reading;
+mod renewing;
+mod synced;
 mod tape;
+mod writing;
 
 pub use tape::ImageTape;

@@ -1,6 +1,6 @@
 ghost use Rattle.std.specs.Prelude.{◌≡◌, ◌≢◌, ◌≤◌, ℕ, List, [], ◌∷◌, true, Some, None, slice_index, IsSome, IfOk, IfSome, OnOk, OnErr};
 ghost use Rattle.std.specs.Option.{option_map};
-ghost use Rattle.qic_base.specs.Cartridge.{IsLength, view_at, place_of as place_at};
+ghost use Rattle.qic_base.specs.Cartridge.{IsLength, view_at, place_of};
 ghost use Rattle.qic_base.specs.Disk.{IsSettled};
 ghost use Rattle.qic_base.specs.Step.{WriteSector, FormatSegment, SetReferenced, SetProtected, Renew, Wear, Spoil};
 ghost use Rattle.qic_base.specs.Tape.{Does, Tells, IsPlaceOf, Reads, write_answer, spoil_answer};
@@ -8,13 +8,18 @@ ghost use Rattle.qic_base.specs.declared.TheConstants.{LONGEST};
 ghost use Rattle.cart_image.specs.Image.{size_of, view_in};
 ghost use Rattle.cart_image.specs.Layout.{image_len};
 
-use crate::image;
+use crate::layout::{PROTECTED_PLACE, REFERENCED_PLACE};
+use crate::{formatting, reading, renewing, writing};
 use qic_base::{Disk, DiskFailed, SectorRead, SectorWrite, Tape, TapeFailed, TapeInfo};
 
 /// A tape in an image file on a disk.
 #[derive(Drop)]
 pub struct ImageTape<D: Disk> {
+    /// Nothing is pending in it, so a crash between two calls leaves the bytes that a read gives.
     disk: D,
+    /// The segments per track that the last `info` or `renew` told: None at first, where that `info` found no image, and
+    /// after a `renew` that failed; an `info` that failed changes nothing. Where it is some, it is 3 to `LONGEST`, the
+    /// disk was seen to be at least as long as an image of it, and bytes that the disk tells are an image of just it.
     segments_per_track: Option<u16>,
     ghost settled: { (bytes left : List ℕ) →
         D.means.told disk ≡ Some bytes → D.means.may_leave disk left → left ≡ bytes },
@@ -53,6 +58,7 @@ impl<D: Disk> ImageTape<D> {
         disk
     }
 
+    /// The segments per track, where they were told.
     fn size(&self) -> u16
         requires { IsSome (image_means.size self.now) }
         ensures { image_means.size self.now ≡ Some result }
@@ -88,7 +94,7 @@ impl<D: Disk> Tape for ImageTape<D> {
         // It only looks at the disk.
         ensures looked { Looked D.means (disk_of self.old) (disk_of self.new) result }
     {
-        match image::read_info(&mut self.disk) {
+        match reading::read_info(&mut self.disk) {
             Ok(info) => {
                 self.segments_per_track = size_by(info);
                 Ok(info)
@@ -114,7 +120,7 @@ impl<D: Disk> Tape for ImageTape<D> {
         ensures looked { Looked D.means (disk_of self.old) (disk_of self.new) result }
     {
         let size = self.size();
-        match image::read_sector(&mut self.disk, size, place_of(segment, sector), into) {
+        match reading::read_sector(&mut self.disk, size, sector_number(segment, sector), into) {
             Ok(read) => Ok(read),
             Err(DiskFailed) => Err(TapeFailed),
         }
@@ -135,11 +141,11 @@ impl<D: Disk> Tape for ImageTape<D> {
 
         // The disk's steps, in order.
         ensures steps { CarriedBy D.means (disk_of self.old) (disk_of self.new)
-            (image_means.size self.old) (λ n bytes. write_sector_steps n (place_at segment sector)
-            from.now (view_in n bytes (place_at segment sector))) result }
+            (image_means.size self.old) (λ n bytes. write_sector_steps n (place_of segment sector)
+            from.now (view_in n bytes (place_of segment sector))) result }
     {
         let size = self.size();
-        match image::write_sector(&mut self.disk, size, place_of(segment, sector), from) {
+        match writing::write_sector(&mut self.disk, size, sector_number(segment, sector), from) {
             Ok(write) => Ok(write),
             Err(DiskFailed) => Err(TapeFailed),
         }
@@ -154,7 +160,7 @@ impl<D: Disk> Tape for ImageTape<D> {
             (image_means.size self.old) (λ n bytes. format_plan n segment bytes) result }
     {
         let size = self.size();
-        match image::format_segment(&mut self.disk, size, segment) {
+        match formatting::format_segment(&mut self.disk, size, segment) {
             Ok(()) => Ok(()),
             Err(DiskFailed) => Err(TapeFailed),
         }
@@ -169,7 +175,7 @@ impl<D: Disk> Tape for ImageTape<D> {
             (λ bytes. mark_steps referenced_place true (slice_index bytes referenced_place))
             result }
     {
-        match image::set_mark(&mut self.disk, image::REFERENCED_PLACE, true) {
+        match writing::set_mark(&mut self.disk, REFERENCED_PLACE, true) {
             Ok(()) => Ok(()),
             Err(DiskFailed) => Err(TapeFailed),
         }
@@ -183,7 +189,7 @@ impl<D: Disk> Tape for ImageTape<D> {
         ensures steps { Carried D.means (disk_of self.old) (disk_of self.new)
             (λ bytes. mark_steps protected_place on (slice_index bytes protected_place)) result }
     {
-        match image::set_mark(&mut self.disk, image::PROTECTED_PLACE, on) {
+        match writing::set_mark(&mut self.disk, PROTECTED_PLACE, on) {
             Ok(()) => Ok(()),
             Err(DiskFailed) => Err(TapeFailed),
         }
@@ -199,7 +205,7 @@ impl<D: Disk> Tape for ImageTape<D> {
             (λ bytes. renew_steps segments_per_track (slice_index bytes 0)) result }
     {
         self.segments_per_track = None;
-        match image::renew(&mut self.disk, segments_per_track) {
+        match renewing::renew(&mut self.disk, segments_per_track) {
             Ok(()) => {
                 self.segments_per_track = Some(segments_per_track);
                 Ok(())
@@ -214,11 +220,11 @@ impl<D: Disk> Tape for ImageTape<D> {
         ensures size { image_means.size self.new ≡ image_means.size self.old }
 
         ensures steps { CarriedBy D.means (disk_of self.old) (disk_of self.new)
-            (image_means.size self.old) (λ n bytes. wear_steps n (place_at segment sector)
-            (view_in n bytes (place_at segment sector))) result }
+            (image_means.size self.old) (λ n bytes. wear_steps n (place_of segment sector)
+            (view_in n bytes (place_of segment sector))) result }
     {
         let size = self.size();
-        match image::wear(&mut self.disk, size, place_of(segment, sector)) {
+        match writing::wear(&mut self.disk, size, sector_number(segment, sector)) {
             Ok(()) => Ok(()),
             Err(DiskFailed) => Err(TapeFailed),
         }
@@ -232,25 +238,27 @@ impl<D: Disk> Tape for ImageTape<D> {
         ensures size { image_means.size self.new ≡ image_means.size self.old }
 
         ensures steps { CarriedBy D.means (disk_of self.old) (disk_of self.new)
-            (image_means.size self.old) (λ n bytes. spoil_steps n (place_at segment sector)
-            (view_in n bytes (place_at segment sector))) result }
+            (image_means.size self.old) (λ n bytes. spoil_steps n (place_of segment sector)
+            (view_in n bytes (place_of segment sector))) result }
     {
         let size = self.size();
-        match image::spoil(&mut self.disk, size, place_of(segment, sector)) {
+        match writing::spoil(&mut self.disk, size, sector_number(segment, sector)) {
             Ok(spoiled) => Ok(spoiled),
             Err(DiskFailed) => Err(TapeFailed),
         }
     }
 }
 
+/// The segments per track of a cartridge that was told.
 fn size_by(info: Option<TapeInfo>) -> Option<u16>
     ensures { result ≡ option_map (λ i. i.segments_per_track) info }
 {
     info.map(|info| info.segments_per_track)
 }
 
-fn place_of(segment: u32, sector: u8) -> u64
-    ensures { result ≡ place_at segment sector }
+/// The number of a sector on the cartridge, counted from 0.
+fn sector_number(segment: u32, sector: u8) -> u64
+    ensures { result ≡ place_of segment sector }
 {
     32 * segment as u64 + sector as u64
 }

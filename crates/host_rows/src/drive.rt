@@ -6,7 +6,8 @@ ghost use Rattle.qic_base.specs.Cartridge.{IsLength};
 use crate::cable::{sends, shows, tape, tells, written};
 use crate::trains::{WRITTEN, front};
 use drive_states::{FdcFault, FloppyAddr, HandFault, Unit};
-use qic_mem::MemTape;
+use qic_base::Tape;
+use qic_mem::{MemTape, SureTape};
 use std::alloc::Global;
 use std::process::Abort;
 use std::test::Fail;
@@ -151,5 +152,27 @@ fn a_fault_of_the_tape_leaves_the_head_where_it_was(rt: HostRuntime) -> Result<(
     shows(&rt, &mut unit, front(1), 0);
     writes(&rt, &mut unit, front(2), Err(FdcFault::Tape));
     writes(&rt, &mut unit, front(2), Ok(()));
+    Ok(())
+}
+
+/// A drive whose tape never fails, with a cartridge of three segments per track whose segment 0 is formatted.
+fn sure(alloc: Global) -> Result<Unit<SureTape>, Fail> {
+    let mut tape = SureTape::new(alloc)?;
+    tape.renew(3)?;
+    tape.format_segment(0)?;
+    let mut unit = Unit::new(tape);
+    unit.insert()?;
+    Ok(unit)
+}
+
+/// What a person finds who spoils the first sector of a segment there.
+fn spoiled(alloc: Global, segment: u32) -> Result<Result<(), HandFault>, Fail> {
+    Ok(sure(alloc)?.spoil(segment, 0))
+}
+
+#[test]
+fn a_formatted_sector_is_not_blank_though_no_call_fails(rt: HostRuntime) -> Result<(), Fail> {
+    assert_eq!(rt; spoiled(rt.alloc(), 0)?, Err(HandFault::NotBlank));
+    assert_eq!(rt; spoiled(rt.alloc(), 1)?, Ok(()));
     Ok(())
 }

@@ -6,7 +6,7 @@ use Rattle.qic_mem.specs.declared.disk.MemDisk.{MemDisk}
 use Rattle.qic_mem.specs.Disk.{disk_state, disk_means}
 use Rattle.qic_mem.specs.DiskLog.{DiskEvent, Made, Broke, Settled, DiskPoint, DiskLog, at_rest, after_made, point_of, broken, MayLeave, LeftInside, LeftSince, is_pending, logged, settled, moment_of, may_leave_of, left_of}
 use Rattle.qic_mem.specs.DiskLogLaws.{Stands, since-now, leave-told}
-use Rattle.qic_mem.specs.Store.{store_state}
+use Rattle.qic_mem.specs.DiskBytes.{bytes_state}
 
 -- a crash inside a step of a disk with a record or with none
 abbrev InsideOf : Option DiskLog → List ℕ → DiskStep → List ℕ → Type 0
@@ -194,7 +194,7 @@ crashes-made old new s noted torn = record {
   clock = rw noted (logged-clock old.log (Made s));
   kept = λ t left early was. rw noted (logged-kept old.log (Made s) t left was);
   parted = λ t u left order early was. rw noted (logged-parted old.log (Made s) t u left early (rw noted at was));
-  since = λ t left early was. made-since old.log (store_state old.store).bytes s t left old.recorded torn (rw noted at was);
+  since = λ t left early was. made-since old.log (bytes_state old.bytes).bytes s t left old.recorded torn (rw noted at was);
 }
 
 crashes-broke : (old new : MemDisk) (s : DiskStep) → new.log ≡ logged old.log (Broke s) → Unsynced s (disk_state old).bytes (broken s (disk_state old).bytes) → Crashes disk_means old new s
@@ -204,7 +204,7 @@ crashes-broke old new s noted torn = record {
   clock = rw noted (logged-clock old.log (Broke s));
   kept = λ t left early was. rw noted (logged-kept old.log (Broke s) t left was);
   parted = λ t u left order early was. rw noted (logged-parted old.log (Broke s) t u left early (rw noted at was));
-  since = λ t left early was. broke-since old.log (store_state old.store).bytes s t left old.recorded torn (rw noted at was);
+  since = λ t left early was. broke-since old.log (bytes_state old.bytes).bytes s t left old.recorded torn (rw noted at was);
 }
 
 crashes-settled : (old new : MemDisk) (s : DiskStep) → new.log ≡ settled old.log → Crashes disk_means old new s
@@ -223,7 +223,7 @@ unfolding disk_state
 disk-written old new place part noted is torn later = record {
   told = ap Some is;
   later = later;
-  leaves = λ left may. made-leaves old.log (store_state old.store).bytes (WriteAt place part) left old.recorded torn (rw (noted, is) at may);
+  leaves = λ left may. made-leaves old.log (bytes_state old.bytes).bytes (WriteAt place part) left old.recorded torn (rw (noted, is) at may);
   crashes = crashes-made old new (WriteAt place part) noted torn;
 }
 
@@ -233,7 +233,7 @@ unfolding disk_state
 disk-resized old new n noted is torn later = record {
   told = ap Some is;
   later = later;
-  leaves = λ left may. made-leaves old.log (store_state old.store).bytes (SetLen n) left old.recorded torn (rw (noted, is) at may);
+  leaves = λ left may. made-leaves old.log (bytes_state old.bytes).bytes (SetLen n) left old.recorded torn (rw (noted, is) at may);
   crashes = crashes-made old new (SetLen n) noted torn;
 }
 
@@ -245,8 +245,8 @@ disk-synced old new noted is later = record {
   later = later;
   leaves = record {
     only = λ bytes left told may.
-        let same : (store_state new.store).bytes ≡ bytes = cc in
-        made-rests old.log (store_state old.store).bytes left old.recorded (rw (noted, is) at may) ∙ sym is ∙ same;
+        let same : (bytes_state new.bytes).bytes ≡ bytes = cc in
+        made-rests old.log (bytes_state old.bytes).bytes left old.recorded (rw (noted, is) at may) ∙ sym is ∙ same;
   };
   crashes = crashes-made old new Sync noted refl;
 }
@@ -259,12 +259,12 @@ disk-broke old new s noted is torn later rose = record {
   later = later;
   tells = refl;
   torn = λ left told.
-      let same : broken s (store_state old.store).bytes ≡ left = cc in
-      ((store_state old.store).bytes, leave-told old.log (store_state old.store).bytes old.recorded, subst (λ (l : List ℕ). Unsynced s (store_state old.store).bytes l) same torn);
+      let same : broken s (bytes_state old.bytes).bytes ≡ left = cc in
+      ((bytes_state old.bytes).bytes, leave-told old.log (bytes_state old.bytes).bytes old.recorded, subst (λ (l : List ℕ). Unsynced s (bytes_state old.bytes).bytes l) same torn);
   settled = record {
     only = λ bytes left told may.
-        let same : (store_state new.store).bytes ≡ bytes = cc in
-        broke-rests old.log (store_state old.store).bytes left s old.recorded (rw (noted, is) at may) ∙ sym is ∙ same;
+        let same : (bytes_state new.bytes).bytes ≡ bytes = cc in
+        broke-rests old.log (bytes_state old.bytes).bytes left s old.recorded (rw (noted, is) at may) ∙ sym is ∙ same;
   };
   crashes = crashes-broke old new s noted torn;
 }
@@ -277,12 +277,12 @@ disk-refused old new s noted is torn later rose = record {
   later = later;
   tells = refl;
   torn = λ left told.
-      let same : (store_state old.store).bytes ≡ left = cc in
-      ((store_state old.store).bytes, leave-told old.log (store_state old.store).bytes old.recorded, subst (λ (l : List ℕ). Unsynced s (store_state old.store).bytes l) same torn);
+      let same : (bytes_state old.bytes).bytes ≡ left = cc in
+      ((bytes_state old.bytes).bytes, leave-told old.log (bytes_state old.bytes).bytes old.recorded, subst (λ (l : List ℕ). Unsynced s (bytes_state old.bytes).bytes l) same torn);
   settled = record {
     only = λ bytes left told may.
-        let same : (store_state new.store).bytes ≡ bytes = cc in
-        settled-rests old.log (store_state old.store).bytes left old.recorded (rw (noted, is) at may) ∙ sym is ∙ same;
+        let same : (bytes_state new.bytes).bytes ≡ bytes = cc in
+        settled-rests old.log (bytes_state old.bytes).bytes left old.recorded (rw (noted, is) at may) ∙ sym is ∙ same;
   };
   crashes = crashes-settled old new s noted;
 }

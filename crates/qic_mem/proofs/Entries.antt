@@ -4,24 +4,24 @@ use Rattle.std.specs.Prelude.{◌==◌, ◌||◌, nat_lt}
 use Rattle.std.specs.Vec.{vec_capacity}
 use Rattle.std.proofs.lemmas.Bool.Decides.{nat_tests}
 use Rattle.std.proofs.lemmas.List.{take_all, take-append-le, drop-append-le, nil_from_length, length_push}
-use Rattle.qic_mem.specs.declared.disk.entry.Change.TheVariants.{WriteAt, SetLen, Sync}
-use Rattle.qic_mem.specs.declared.disk.entry.Entry.{Entry}
-use Rattle.qic_mem.specs.declared.disk.entry.Entry.TheVariants as entry
-use Rattle.qic_mem.specs.declared.disk.log.CallLog.TheInside.{Inside}
+use Rattle.qic_mem.specs.declared.disk.entry.DiskChange.TheVariants.{WriteAt, SetLen, Sync}
+use Rattle.qic_mem.specs.declared.disk.entry.DiskEntry.{DiskEntry}
+use Rattle.qic_mem.specs.declared.disk.entry.DiskEntry.TheVariants as entry
+use Rattle.qic_mem.specs.declared.disk.log.DiskRecord.TheInside.{Inside}
 use Rattle.qic_mem.specs.DiskLog.{DiskEvent, Settled, DiskPoint, after_event, point_of, is_pending, event_size, logged, settled}
-use Rattle.qic_mem.specs.Entry.{entry_size, event_of, leaves_pending}
-use Rattle.qic_mem.specs.Entries.{events_from, sizes, IsWhole, log_of}
+use Rattle.qic_mem.specs.DiskEntry.{entry_size, event_of, leaves_pending}
+use Rattle.qic_mem.specs.DiskEntries.{events_from, sizes, IsWhole, log_of}
 
 -- ---- one entry
 
-pub pending-behind : (e : Entry) (part : List ℕ) (p : DiskPoint) → is_pending (after_event (event_of e part) p) ≡ leaves_pending e
+pub pending-behind : (e : DiskEntry) (part : List ℕ) (p : DiskPoint) → is_pending (after_event (event_of e part) p) ≡ leaves_pending e
 pending-behind (entry.Made (WriteAt place count)) part p = refl
 pending-behind (entry.Made (SetLen n)) part p = refl
 pending-behind (entry.Made Sync) part p = refl
 pending-behind (entry.Broke change) part p = refl
 pending-behind entry.Settled part p = refl
 
-size-of : (e : Entry) (part : List ℕ) → entry_size e ≡ length part → event_size (event_of e part) ≡ length part
+size-of : (e : DiskEntry) (part : List ℕ) → entry_size e ≡ length part → event_size (event_of e part) ≡ length part
 size-of (entry.Made (WriteAt place count)) part size = refl
 size-of (entry.Made (SetLen n)) part size = size
 size-of (entry.Made Sync) part size = size
@@ -32,11 +32,11 @@ size-of entry.Settled part size = size
 
 -- ---- one more entry
 
-sizes-push : (entries : List Entry) (e : Entry) → sizes (entries ++ e ∷ []) ≡ sizes entries + entry_size e
+sizes-push : (entries : List DiskEntry) (e : DiskEntry) → sizes (entries ++ e ∷ []) ≡ sizes entries + entry_size e
 sizes-push [] e = omega arith
 sizes-push (x ∷ entries) e = let more = sizes-push entries e in omega arith
 
-events_from-push : (entries : List Entry) (bytes : List ℕ) (events : List DiskEvent) (e : Entry) (part : List ℕ) → sizes entries ≡ length bytes → entry_size e ≡ length part → events_from (entries ++ e ∷ []) (bytes ++ part) events ≡ event_of e part ∷ events_from entries bytes events
+events_from-push : (entries : List DiskEntry) (bytes : List ℕ) (events : List DiskEvent) (e : DiskEntry) (part : List ℕ) → sizes entries ≡ length bytes → entry_size e ≡ length part → events_from (entries ++ e ∷ []) (bytes ++ part) events ≡ event_of e part ∷ events_from entries bytes events
 events_from-push [] bytes events e part taken size =
     let none : bytes ≡ [] = nil_from_length bytes (sym taken) in
     let all : take (entry_size e) part ≡ part = take_all (entry_size e) part (omega arith) in
@@ -68,7 +68,7 @@ one-at-most true = omega arith
 one-at-most false = omega arith
 
 -- The record l, with the entry and its bytes behind.
-pub record IsNoted (l m : Inside) (e : Entry) (part : List ℕ) : Type 0 where
+pub record IsNoted (l m : Inside) (e : DiskEntry) (part : List ℕ) : Type 0 where
   pub whole : IsWhole l
   pub entries : m.entries.items ≡ l.entries.items ++ e ∷ []
   pub entries_room : vec_capacity l.entries ≤ vec_capacity m.entries
@@ -77,13 +77,13 @@ pub record IsNoted (l m : Inside) (e : Entry) (part : List ℕ) : Type 0 where
   pub size : entry_size e ≡ length part
   pub pending : m.pending ≡ leaves_pending e
 
-events-noted : (l m : Inside) (e : Entry) (part : List ℕ) → IsNoted l m e part → (log_of m).events ≡ event_of e part ∷ (log_of l).events
+events-noted : (l m : Inside) (e : DiskEntry) (part : List ℕ) → IsNoted l m e part → (log_of m).events ≡ event_of e part ∷ (log_of l).events
 events-noted l m e part noted =
-    ap (λ (es : List Entry). events_from es m.bytes.items []) noted.entries
+    ap (λ (es : List DiskEntry). events_from es m.bytes.items []) noted.entries
     ∙ ap (λ (bs : List ℕ). events_from (l.entries.items ++ e ∷ []) bs []) noted.bytes
     ∙ events_from-push l.entries.items l.bytes.items [] e part noted.whole.taken noted.size
 
-pub whole-noted : (l m : Inside) (e : Entry) (part : List ℕ) → IsNoted l m e part → 2 * m.calls_left + (if m.pending then 1 else 0) + 1 ≤ 2 * l.calls_left + (if l.pending then 1 else 0) → m.bytes_left + length part ≤ l.bytes_left → IsWhole m
+pub whole-noted : (l m : Inside) (e : DiskEntry) (part : List ℕ) → IsNoted l m e part → 2 * m.calls_left + (if m.pending then 1 else 0) + 1 ≤ 2 * l.calls_left + (if l.pending then 1 else 0) → m.bytes_left + length part ≤ l.bytes_left → IsWhole m
 whole-noted l m e part noted calls bytes =
     let fit = noted.whole.entries_fit in
     let entries_room = noted.entries_room in
@@ -101,7 +101,7 @@ whole-noted l m e part noted calls bytes =
       pends = ap (λ (events : List DiskEvent). is_pending (point_of events)) (events-noted l m e part noted) ∙ pending-behind e part (point_of (log_of l).events) ∙ sym noted.pending;
     }
 
-pub log-noted : (l m : Inside) (e : Entry) (part : List ℕ) → IsNoted l m e part → m.calls_left ≡ l.calls_left - 1 → m.bytes_left ≡ l.bytes_left - length part → Some (log_of m) ≡ logged (Some (log_of l)) (event_of e part)
+pub log-noted : (l m : Inside) (e : DiskEntry) (part : List ℕ) → IsNoted l m e part → m.calls_left ≡ l.calls_left - 1 → m.bytes_left ≡ l.bytes_left - length part → Some (log_of m) ≡ logged (Some (log_of l)) (event_of e part)
 log-noted l m e part noted calls bytes =
     let events : (log_of m).events ≡ event_of e part ∷ (log_of l).events = events-noted l m e part noted in
     let size : event_size (event_of e part) ≡ length part = size-of e part noted.size in

@@ -10,7 +10,7 @@ use Rattle.qic_base.specs.declared.tape.SectorView.TheVariants.{Blank}
 use Rattle.qic_base.specs.declared.tape.TapeInfo.{TapeInfo}
 use Rattle.qic_base.specs.Cartridge.{Cartridge, IsPlace, place_of, view_at, with_segment}
 use Rattle.qic_base.specs.Step.{WriteSector, FormatSegment, Wear, Spoil, effect, written_view, formatted_view, worn_view, spoiled_view}
-use Rattle.qic_mem.specs.Held.{held, size_told, Fits}
+use Rattle.qic_mem.specs.Held.{held, size_told, FitsRoom}
 use Rattle.qic_mem.specs.Sectors.{view_in, changed_at, changed_from}
 
 -- the place is told to lie on the cartridge
@@ -105,7 +105,7 @@ segment-held-at i views segment change on within =
     ap (λ vs. Some (record { info = i; views = vs })) (rw (start, next) changes)
 
 -- the cartridge with one segment changed stands in the changed views
-pub segment-held : (told : Bool) (info : Option TapeInfo) (room : ℕ) (views after : List SectorView) (segment place : ℕ) (change : SectorView → SectorView) → ForSome info (Fits room) → length views ≡ 896 * room → IsOn told info segment 0 → place ≡ place_of segment 0 → after ≡ changed_from views place change → held info after ≡ option_map (λ c. with_segment c segment change) (held info views)
+pub segment-held : (told : Bool) (info : Option TapeInfo) (room : ℕ) (views after : List SectorView) (segment place : ℕ) (change : SectorView → SectorView) → ForSome info (FitsRoom room) → length views ≡ 896 * room → IsOn told info segment 0 → place ≡ place_of segment 0 → after ≡ changed_from views place change → held info after ≡ option_map (λ c. with_segment c segment change) (held info views)
 segment-held false info room views after segment place change fits long on at changes = absurd on
 segment-held true None room views after segment place change fits long on at changes = absurd on
 segment-held true (Some i) room views after segment place change fits long on at changes =
@@ -115,6 +115,6 @@ option_map-format : (segment : ℕ) (h : Option Cartridge) → option_map (λ c.
 option_map-format segment None = refl
 option_map-format segment (Some c) = refl
 
-pub format-held : (told : Bool) (info : Option TapeInfo) (room : ℕ) (views after : List SectorView) (segment place : ℕ) → ForSome info (Fits room) → length views ≡ 896 * room → IsOn told info segment 0 → place ≡ place_of segment 0 → after ≡ changed_from views place formatted_view → held info after ≡ effect (FormatSegment segment) (held info views)
+pub format-held : (told : Bool) (info : Option TapeInfo) (room : ℕ) (views after : List SectorView) (segment place : ℕ) → ForSome info (FitsRoom room) → length views ≡ 896 * room → IsOn told info segment 0 → place ≡ place_of segment 0 → after ≡ changed_from views place formatted_view → held info after ≡ effect (FormatSegment segment) (held info views)
 format-held told info room views after segment place fits long on at formatted =
     segment-held told info room views after segment place formatted_view fits long on at formatted ∙ option_map-format segment (held info views)

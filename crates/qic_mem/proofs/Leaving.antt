@@ -11,7 +11,7 @@ use Rattle.qic_base.specs.Stop.{Torn, ClosingView, SegmentBecame, HalfFormatted}
 use Rattle.qic_base.specs.Tape.{IsToldRight}
 use Rattle.qic_mem.specs.declared.tape.outcome.Outcome.{Outcome}
 use Rattle.qic_mem.specs.declared.tape.outcome.Outcome.TheVariants as outcome
-use Rattle.qic_mem.specs.Change.{IsReached}
+use Rattle.qic_mem.specs.TapeChange.{IsReached}
 use Rattle.qic_mem.specs.Outcome.{left_by}
 use Rattle.qic_mem.proofs.Places.{slice_get-same}
 

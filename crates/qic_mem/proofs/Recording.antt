@@ -1,7 +1,6 @@
 -- What one more call of a tape in memory does to its record, and to what a stop leaves by it.
-use Rattle.std.proofs.Common.{◌≡◌, ◌⊎◌, ℕ, ◌≤◌, inl, inr, Bool, true, false, [], ◌∷◌, ◌++◌, length, Option, Some, None, is_some, refl, sym, ap, ◌∙◌, subst, arith, if◌then◌else◌, length-append}
+use Rattle.std.proofs.Common.{◌≡◌, ◌⊎◌, ℕ, ◌≤◌, inl, inr, Bool, true, false, List, [], ◌∷◌, length, ◌+◌, ◌-◌, Option, Some, None, is_some, refl, sym, ap, ◌∙◌, subst, arith, if◌then◌else◌}
 use Rattle.std.specs.Prelude.{◌==◌, ◌||◌}
-use Rattle.std.specs.Option.{ForSome}
 use Rattle.qic_base.specs.Cartridge.{Cartridge}
 use Rattle.qic_base.specs.Cause.{Rose}
 use Rattle.qic_base.specs.Step.{Step}
@@ -11,34 +10,34 @@ use Rattle.qic_mem.specs.declared.tape.MemTape.{MemTape}
 use Rattle.qic_mem.specs.declared.tape.outcome.Outcome.{Outcome}
 use Rattle.qic_mem.specs.declared.tape.outcome.Outcome.TheVariants as outcome
 use Rattle.qic_mem.specs.declared.tape.outcome.End.TheVariants as end
-use Rattle.qic_mem.specs.Change.{IsReached}
-use Rattle.qic_mem.specs.Drive.{drive_state, drive-told_right}
-use Rattle.qic_mem.specs.Log.{TapeCall, TapeLog, replayed, is_full, logged, moment_of, left_of}
-use Rattle.qic_mem.specs.LogLaws.{replayed-push, since-kept, since-parted, since-call}
+use Rattle.qic_mem.specs.TapeChange.{IsReached}
+use Rattle.qic_mem.specs.Holder.{holder_state, holder-told_right}
+use Rattle.qic_mem.specs.TapeLog.{TapeCall, TapeLog, held_after, LeftSince, is_full, logged, moment_of, left_of}
+use Rattle.qic_mem.specs.TapeLogLaws.{Stands}
 use Rattle.qic_mem.specs.Outcome.{ended, left_by}
 use Rattle.qic_mem.specs.Tape.{tape_state, tape_means}
 use Rattle.qic_mem.proofs.Leaving.{torn-left}
 
 -- the log with one more call, or without it
 abbrev one_more : TapeLog → TapeCall → Bool → Option TapeLog
-one_more l call full = Some (if full then l else record l { calls = l.calls ++ call ∷ [] })
+one_more l call full = Some (if full then l else record { calls = call ∷ l.calls; calls_left = l.calls_left - 1 })
 
 -- ---- the record gives what stands
 
-push-stands : (l : TapeLog) (call : TapeCall) (held : Option Cartridge) (full : Bool) → held ≡ replayed l.calls None → (full ≡ true → ended call.end call.step held ≡ held) → ForSome (one_more l call full) (λ m. ended call.end call.step held ≡ replayed m.calls None)
+push-stands : (l : TapeLog) (call : TapeCall) (held : Option Cartridge) (full : Bool) → held_after l.calls ≡ held → (full ≡ true → ended call.end call.step held ≡ held) → Stands (one_more l call full) (ended call.end call.step held)
 push-stands l call held true stands full m is =
     let same : l ≡ m = cc in
-    full refl ∙ stands ∙ ap (λ (n : TapeLog). replayed n.calls None) same
+    ap (λ (n : TapeLog). held_after n.calls) (sym same) ∙ stands ∙ sym (full refl)
 push-stands l call held false stands full m is =
-    let same : record l { calls = l.calls ++ call ∷ [] } ≡ m = cc in
-    ap (ended call.end call.step) stands ∙ sym (replayed-push l.calls call None) ∙ ap (λ (n : TapeLog). replayed n.calls None) same
+    let same : record { calls = call ∷ l.calls; calls_left = l.calls_left - 1 } ≡ m = cc in
+    ap (λ (n : TapeLog). held_after n.calls) (sym same) ∙ ap (ended call.end call.step) stands
 
-logged-stands : (log : Option TapeLog) (call : TapeCall) (held : Option Cartridge) → ForSome log (λ l. held ≡ replayed l.calls None) → (is_full log ≡ true → ended call.end call.step held ≡ held) → ForSome (logged log call) (λ m. ended call.end call.step held ≡ replayed m.calls None)
+logged-stands : (log : Option TapeLog) (call : TapeCall) (held : Option Cartridge) → Stands log held → (is_full log ≡ true → ended call.end call.step held ≡ held) → Stands (logged log call) (ended call.end call.step held)
 logged-stands None call held stands full m is = cc
-logged-stands (Some l) call held stands full m is = push-stands l call held (length l.calls == l.room) (stands l refl) full m is
+logged-stands (Some l) call held stands full m is = push-stands l call held (l.calls_left == 0) (stands l refl) full m is
 
 -- after a call that is recorded the record gives what stands
-pub stands-after : (log after : Option TapeLog) (call : TapeCall) (held left : Option Cartridge) → ForSome log (λ l. held ≡ replayed l.calls None) → after ≡ logged log call → left ≡ ended call.end call.step held → (is_full log ≡ true → left ≡ held) → ForSome after (λ m. left ≡ replayed m.calls None)
+pub stands-after : (log after : Option TapeLog) (call : TapeCall) (held left : Option Cartridge) → Stands log held → after ≡ logged log call → left ≡ ended call.end call.step held → (is_full log ≡ true → left ≡ held) → Stands after left
 stands-after log after call held left stands noted leaves full =
     rw (noted, leaves) (logged-stands log call held stands (λ is. sym leaves ∙ full is))
 
@@ -48,13 +47,26 @@ full-refused log past refused is full = is ∙ ap (λ b. b || past) full
 
 -- ---- what a stop leaves by it
 
+-- a stop since t was one before this call, or one since any moment between
+since-parted : (calls : List TapeCall) (call : TapeCall) (t u : ℕ) (left : Option Cartridge) → u ≤ length calls → LeftSince (call ∷ calls) t left → LeftSince calls t left ⊎ LeftSince (call ∷ calls) u left
+since-parted calls call t u left early (inl was) = inl was
+since-parted calls call t u left early (inr (inl (late, torn))) = inr (inr (inl (early, torn)))
+since-parted calls call t u left early (inr (inr (late, is))) = inr (inr (inr (omega arith, is)))
+
+-- a stop since t left what one before this call left, or what one in it leaves
+since-call : (calls : List TapeCall) (call : TapeCall) (t : ℕ) (left : Option Cartridge) → Torn (call.step ∷ []) (held_after calls) (ended call.end call.step (held_after calls)) → LeftSince (call ∷ calls) t left → LeftSince calls t left ⊎ Torn (call.step ∷ []) (held_after calls) left
+since-call calls call t left torn (inl was) = inl was
+since-call calls call t left torn (inr (inl (late, inside))) = inr inside
+since-call calls call t left torn (inr (inr (late, is))) =
+    inr (subst (λ (l : Option Cartridge). Torn (call.step ∷ []) (held_after calls) l) (sym is) torn)
+
 push-kept : (l : TapeLog) (call : TapeCall) (t : ℕ) (left : Option Cartridge) (full : Bool) → left_of (Some l) t left → left_of (one_more l call full) t left
 push-kept l call t left true was = was
-push-kept l call t left false was = since-kept l.calls call t left was
+push-kept l call t left false was = inl was
 
 logged-kept : (log : Option TapeLog) (call : TapeCall) (t : ℕ) (left : Option Cartridge) → left_of log t left → left_of (logged log call) t left
 logged-kept None call t left was = tt
-logged-kept (Some l) call t left was = push-kept l call t left (length l.calls == l.room) was
+logged-kept (Some l) call t left was = push-kept l call t left (l.calls_left == 0) was
 
 push-parted : (l : TapeLog) (call : TapeCall) (t u : ℕ) (left : Option Cartridge) (full : Bool) → u ≤ length l.calls → left_of (one_more l call full) t left → left_of (Some l) t left ⊎ left_of (one_more l call full) u left
 push-parted l call t u left true early was = inl was
@@ -62,25 +74,25 @@ push-parted l call t u left false early was = since-parted l.calls call t u left
 
 logged-parted : (log : Option TapeLog) (call : TapeCall) (t u : ℕ) (left : Option Cartridge) → u ≤ moment_of log → left_of (logged log call) t left → left_of log t left ⊎ left_of (logged log call) u left
 logged-parted None call t u left early was = inl tt
-logged-parted (Some l) call t u left early was = push-parted l call t u left (length l.calls == l.room) early was
+logged-parted (Some l) call t u left early was = push-parted l call t u left (l.calls_left == 0) early was
 
-push-since : (l : TapeLog) (call : TapeCall) (t : ℕ) (left : Option Cartridge) (full : Bool) → Torn (call.step ∷ []) (replayed l.calls None) (ended call.end call.step (replayed l.calls None)) → left_of (one_more l call full) t left → left_of (Some l) t left ⊎ Torn (call.step ∷ []) (replayed l.calls None) left
+push-since : (l : TapeLog) (call : TapeCall) (t : ℕ) (left : Option Cartridge) (full : Bool) → Torn (call.step ∷ []) (held_after l.calls) (ended call.end call.step (held_after l.calls)) → left_of (one_more l call full) t left → left_of (Some l) t left ⊎ Torn (call.step ∷ []) (held_after l.calls) left
 push-since l call t left true torn was = inl was
 push-since l call t left false torn was = since-call l.calls call t left torn was
 
-logged-since : (log : Option TapeLog) (call : TapeCall) (held : Option Cartridge) (t : ℕ) (left : Option Cartridge) → ForSome log (λ l. held ≡ replayed l.calls None) → Torn (call.step ∷ []) held (ended call.end call.step held) → left_of (logged log call) t left → left_of log t left ⊎ Torn (call.step ∷ []) held left
+logged-since : (log : Option TapeLog) (call : TapeCall) (held : Option Cartridge) (t : ℕ) (left : Option Cartridge) → Stands log held → Torn (call.step ∷ []) held (ended call.end call.step held) → left_of (logged log call) t left → left_of log t left ⊎ Torn (call.step ∷ []) held left
 logged-since None call held t left stands torn was = inl tt
 logged-since (Some l) call held t left stands torn was =
-    let here : held ≡ replayed l.calls None = stands l refl in
-    rw here (push-since l call t left (length l.calls == l.room) (rw here at torn) was)
+    let here : held ≡ held_after l.calls = sym (stands l refl) in
+    rw here (push-since l call t left (l.calls_left == 0) (rw here at torn) was)
 
 push-clock : (l : TapeLog) (call : TapeCall) (full : Bool) → length l.calls ≤ moment_of (one_more l call full)
 push-clock l call true = omega arith
-push-clock l call false = omega (arith, length-append l.calls (call ∷ []))
+push-clock l call false = omega arith
 
 logged-clock : (log : Option TapeLog) (call : TapeCall) → moment_of log ≤ moment_of (logged log call)
 logged-clock None call = omega arith
-logged-clock (Some l) call = push-clock l call (length l.calls == l.room)
+logged-clock (Some l) call = push-clock l call (l.calls_left == 0)
 
 logged-telling : (log : Option TapeLog) (call : TapeCall) → is_some (logged log call) ≡ is_some log
 logged-telling None call = refl
@@ -95,13 +107,13 @@ call-stops old new call noted torn = record {
   kept = λ t left early was. rw noted (logged-kept old.log call t left was);
   parted = λ t u left order early was. rw noted (logged-parted old.log call t u left early (rw noted at was));
   since = λ t held left told early was.
-      let here : (drive_state old.drive).cartridge ≡ held = cc in
-      rw (← here) (logged-since old.log call (drive_state old.drive).cartridge t left old.replayed torn (rw noted at was));
+      let here : (holder_state old.holder).cartridge ≡ held = cc in
+      rw (← here) (logged-since old.log call (holder_state old.holder).cartridge t left old.replayed torn (rw noted at was));
 }
 
 -- ---- what a call did
 
-pub run-done : (old new : MemTape) (s : Step) → (drive_state new.drive).cartridge ≡ ended end.Done s (drive_state old.drive).cartridge → new.log ≡ logged old.log (record { step = s; end = end.Done }) → (tape_state old).plan.faults ≤ (tape_state new).plan.faults → Done tape_means old new (s ∷ [])
+pub run-done : (old new : MemTape) (s : Step) → (holder_state new.holder).cartridge ≡ ended end.Done s (holder_state old.holder).cartridge → new.log ≡ logged old.log (record { step = s; end = end.Done }) → (tape_state old).plan.faults ≤ (tape_state new).plan.faults → Done tape_means old new (s ∷ [])
 unfolding tape_state
 run-done old new s leaves noted later = record {
   told = ap Some leaves;
@@ -109,19 +121,19 @@ run-done old new s leaves noted later = record {
   stops = call-stops old new (record { step = s; end = end.Done }) noted (inr (inr refl));
 }
 
-pub run-broke : (old new : MemTape) (s : Step) (by : Outcome) → IsReached (tape_state old).size s → (drive_state new.drive).cartridge ≡ left_by by s (drive_state old.drive).cartridge → new.log ≡ logged old.log (record { step = s; end = end.Failed by }) → (tape_state old).plan.faults ≤ (tape_state new).plan.faults → Rose (tape_state old).plan.faults (tape_state new).plan.faults → Broke tape_means old new (s ∷ [])
+pub run-broke : (old new : MemTape) (s : Step) (by : Outcome) → IsReached (tape_state old).size s → (holder_state new.holder).cartridge ≡ left_by by s (holder_state old.holder).cartridge → new.log ≡ logged old.log (record { step = s; end = end.Failed by }) → (tape_state old).plan.faults ≤ (tape_state new).plan.faults → Rose (tape_state old).plan.faults (tape_state new).plan.faults → Broke tape_means old new (s ∷ [])
 unfolding tape_state
 run-broke old new s by reached leaves noted later rose =
-    let torn : Torn (s ∷ []) (drive_state old.drive).cartridge (left_by by s (drive_state old.drive).cartridge) =
-    torn-left (drive_state old.drive).size (drive_state old.drive).cartridge by s (drive-told_right old.drive) reached in
+    let torn : Torn (s ∷ []) (holder_state old.holder).cartridge (left_by by s (holder_state old.holder).cartridge) =
+    torn-left (holder_state old.holder).size (holder_state old.holder).cartridge by s (holder-told_right old.holder) reached in
     record {
       cause = rose;
       later = later;
       tells = refl;
       torn = λ held left before after.
-          let was : (drive_state old.drive).cartridge ≡ held = cc in
-          let is : left_by by s (drive_state old.drive).cartridge ≡ left = cc in
-          subst (λ (h : Option Cartridge). Torn (s ∷ []) h left) was (subst (λ (l : Option Cartridge). Torn (s ∷ []) (drive_state old.drive).cartridge l) is torn);
+          let was : (holder_state old.holder).cartridge ≡ held = cc in
+          let is : left_by by s (holder_state old.holder).cartridge ≡ left = cc in
+          subst (λ (h : Option Cartridge). Torn (s ∷ []) h left) was (subst (λ (l : Option Cartridge). Torn (s ∷ []) (holder_state old.holder).cartridge l) is torn);
       stops = call-stops old new (record { step = s; end = end.Failed by }) noted torn;
     }
 

@@ -7,7 +7,7 @@ use Rattle.qic_mem.specs.declared.disk.MemDisk.{MemDisk}
 use Rattle.qic_mem.specs.DiskLog.{DiskLog, Made, Broke, broken, is_full, step_size, logged, settled, moment_of, may_leave_of, left_of}
 use Rattle.qic_mem.specs.DiskLogLaws.{leave-told, leave-untold, left-counts, left-only, left-earlier}
 use Rattle.qic_mem.specs.Plan.{Plan, IsChosen, plan_after}
-use Rattle.qic_mem.specs.Store.{store_state, store-bytes, store-seen}
+use Rattle.qic_mem.specs.DiskBytes.{bytes_state, disk_bytes-bytes, disk_bytes-seen}
 
 pub record DiskState : Type 0 where
   pub bytes : List ℕ
@@ -19,9 +19,9 @@ pub record DiskState : Type 0 where
 
 unfoldable pub disk_state : MemDisk → DiskState
 disk_state d = record {
-  bytes = (store_state d.store).bytes;
-  seen = (store_state d.store).seen;
-  room = (store_state d.store).room;
+  bytes = (bytes_state d.bytes).bytes;
+  seen = (bytes_state d.bytes).seen;
+  room = (bytes_state d.bytes).room;
   plan = d.plan;
   log = d.log;
 }
@@ -77,12 +77,12 @@ after_len s failed = record (after_read s failed) { seen = if failed then s.seen
 pub disk-told_right : (d : MemDisk) → IsToldRight disk_means d
 unfolding disk_state
 disk-told_right d = record {
-  bytes = λ bytes told. let same : (store_state d.store).bytes ≡ bytes = cc in rw (← same) (store-bytes d.store);
-  seen = λ bytes told. let same : (store_state d.store).bytes ≡ bytes = cc in rw (← same) (store-seen d.store);
-  may_leave = λ bytes told. let same : (store_state d.store).bytes ≡ bytes = cc in rw (← same) (leave-told d.log (store_state d.store).bytes d.recorded);
+  bytes = λ bytes told. let same : (bytes_state d.bytes).bytes ≡ bytes = cc in rw (← same) (disk_bytes-bytes d.bytes);
+  seen = λ bytes told. let same : (bytes_state d.bytes).bytes ≡ bytes = cc in rw (← same) (disk_bytes-seen d.bytes);
+  may_leave = λ bytes told. let same : (bytes_state d.bytes).bytes ≡ bytes = cc in rw (← same) (leave-told d.log (bytes_state d.bytes).bytes d.recorded);
   untold = λ untold. record {
-    only = λ bytes left told may. let same : (store_state d.store).bytes ≡ bytes = cc in
-        leave-untold d.log (store_state d.store).bytes left untold may ∙ same;
+    only = λ bytes left told may. let same : (bytes_state d.bytes).bytes ≡ bytes = cc in
+        leave-untold d.log (bytes_state d.bytes).bytes left untold may ∙ same;
   };
 }
 
@@ -90,7 +90,7 @@ pub disk-left_now : (d : MemDisk) → IsLeftNow disk_means d
 unfolding disk_state
 disk-left_now d = record {
   telling = λ telling. refl;
-  counts = λ t left telling early may. left-counts d.log (store_state d.store).bytes t left early may;
-  only = λ left telling was. left-only d.log (store_state d.store).bytes left telling was;
+  counts = λ t left telling early may. left-counts d.log (bytes_state d.bytes).bytes t left early may;
+  only = λ left telling was. left-only d.log (bytes_state d.bytes).bytes left telling was;
   earlier = λ t u left order early was. left-earlier d.log t u left order was;
 }

@@ -1,8 +1,8 @@
--- A drive with room for a cartridge of the greatest length (this project's profile).
+-- Room for a cartridge of the greatest length (this project's profile).
 use Rattle.std.specs.Prelude.{◌≡◌}
 use Rattle.qic_base.specs.declared.TheConstants.{LONGEST}
-use Rattle.qic_mem.specs.declared.tape.drive.Drive.{Drive}
-use Rattle.qic_mem.specs.Drive.{drive_state}
+use Rattle.qic_mem.specs.declared.tape.holder.Holder.{Holder}
+use Rattle.qic_mem.specs.Holder.{holder_state}
 
-abbrev pub HasLongest : Drive → Type 0
-HasLongest drive = (drive_state drive).room ≡ LONGEST
+abbrev pub HasLongest : Holder → Type 0
+HasLongest holder = (holder_state holder).room ≡ LONGEST

@@ -4,10 +4,10 @@ use Rattle.std.specs.Prelude.{false, Some, IfSome}
 use Rattle.qic_base.specs.Cartridge.{IsLength}
 use Rattle.qic_base.specs.Tape.{Meaning, IsToldRight, IsLeftNow}
 use Rattle.qic_mem.specs.declared.tape.sure.SureTape.{SureTape}
-use Rattle.qic_mem.specs.Drive.{DriveState, drive_state, drive-size_fits, drive-told_right}
+use Rattle.qic_mem.specs.Holder.{HolderState, holder_state, holder-size_fits, holder-told_right}
 
-unfoldable pub sure_state : SureTape → DriveState
-sure_state t = drive_state t.drive
+unfoldable pub sure_state : SureTape → HolderState
+sure_state t = holder_state t.holder
 
 -- it tells its cartridge and not its stops, and counts no faults
 abbrev pub sure_means : Meaning SureTape
@@ -23,11 +23,11 @@ sure_means = record {
 -- the laws of a tape
 pub sure-size_fits : (t : SureTape) → IfSome (sure_means.size t) IsLength
 unfolding sure_state
-sure-size_fits t = drive-size_fits t.drive
+sure-size_fits t = holder-size_fits t.holder
 
 pub sure-told_right : (t : SureTape) → IsToldRight (sure_means.told t) (sure_means.size t)
 unfolding sure_state
-sure-told_right t = drive-told_right t.drive
+sure-told_right t = holder-told_right t.holder
 
 pub sure-left_now : (t : SureTape) → IsLeftNow sure_means t
 sure-left_now t = record {

@@ -1,8 +1,8 @@
 -- What a tape in memory shows: its cartridge, its size as told, its room in segments per track, its chosen failures, what
 -- they leave, and the calls that it recorded (this project's profile).
 use Rattle.std.specs.Prelude.{◌≡◌, ◌⊎◌, ℕ, ◌≤◌, Bool, true, ◌||◌, Option, Some, None, is_some, IfSome, IsTrue, if◌then◌else◌}
-use Rattle.std.specs.Option.{option_map, ForSome}
-use Rattle.std.proofs.Common.{refl, sym, ap, ◌∙◌}
+use Rattle.std.specs.Option.{option_map}
+use Rattle.std.proofs.Common.{refl, sym, ap}
 use Rattle.qic_base.specs.Cartridge.{Cartridge, IsLength}
 use Rattle.qic_base.specs.Step.{Step}
 use Rattle.qic_base.specs.Tape.{Meaning, IsToldRight, IsLeftNow}
@@ -11,10 +11,10 @@ use Rattle.qic_mem.specs.declared.tape.outcome.Outcome.{Outcome}
 use Rattle.qic_mem.specs.declared.tape.outcome.Outcome.TheVariants.{Old}
 use Rattle.qic_mem.specs.declared.tape.outcome.End.{End}
 use Rattle.qic_mem.specs.declared.tape.outcome.End.TheVariants.{Done, Failed}
-use Rattle.qic_mem.specs.Change.{is_past}
-use Rattle.qic_mem.specs.Drive.{drive_state, drive-size_fits, drive-told_right}
-use Rattle.qic_mem.specs.Log.{TapeLog, replayed, is_full, logged, moment_of, left_of}
-use Rattle.qic_mem.specs.LogLaws.{since-now, now-since, since-earlier}
+use Rattle.qic_mem.specs.TapeChange.{is_past}
+use Rattle.qic_mem.specs.Holder.{holder_state, holder-size_fits, holder-told_right}
+use Rattle.qic_mem.specs.TapeLog.{TapeLog, is_full, logged, moment_of, left_of}
+use Rattle.qic_mem.specs.TapeLogLaws.{left-counts, left-only, left-earlier}
 use Rattle.qic_mem.specs.Outcome.{ended, size_ended}
 use Rattle.qic_mem.specs.Plan.{Plan, IsChosen, plan_after}
 
@@ -29,9 +29,9 @@ pub record TapeState : Type 0 where
 
 unfoldable pub tape_state : MemTape → TapeState
 tape_state t = record {
-  cartridge = (drive_state t.drive).cartridge;
-  size = (drive_state t.drive).size;
-  room = (drive_state t.drive).room;
+  cartridge = (holder_state t.holder).cartridge;
+  size = (holder_state t.holder).size;
+  room = (holder_state t.holder).room;
   plan = t.plan;
   outcome = t.outcome;
   log = t.log;
@@ -80,33 +80,19 @@ after_info s failed = record s { size = if failed then s.size else option_map (�
 -- the laws of a tape
 pub tape-size_fits : (t : MemTape) → IfSome (tape_means.size t) IsLength
 unfolding tape_state
-tape-size_fits t = drive-size_fits t.drive
+tape-size_fits t = holder-size_fits t.holder
 
 pub tape-told_right : (t : MemTape) → IsToldRight (tape_means.told t) (tape_means.size t)
 unfolding tape_state
-tape-told_right t = drive-told_right t.drive
-
--- what a stop leaves by a record that gives what stands
-counts_now : (log : Option TapeLog) (held : Option Cartridge) (t : ℕ) (left : Option Cartridge) → ForSome log (λ l. held ≡ replayed l.calls None) → t ≤ moment_of log → Some held ≡ Some left → left_of log t left
-counts_now None held t left stands early told = tt
-counts_now (Some l) held t left stands early told =
-    since-now l.calls t left early (let here : held ≡ replayed l.calls None = stands l refl in cc)
-
-only_now : (log : Option TapeLog) (held left : Option Cartridge) → ForSome log (λ l. held ≡ replayed l.calls None) → is_some log ≡ true → left_of log (moment_of log) left → Some held ≡ Some left
-only_now None held left stands telling was = cc
-only_now (Some l) held left stands telling was =
-    let here : held ≡ replayed l.calls None = stands l refl in
-    ap Some (here ∙ sym (now-since l.calls left was))
-
-counts_earlier : (log : Option TapeLog) (t u : ℕ) (left : Option Cartridge) → t ≤ u → left_of log u left → left_of log t left
-counts_earlier None t u left order was = tt
-counts_earlier (Some l) t u left order was = since-earlier l.calls t u left order was
+tape-told_right t = holder-told_right t.holder
 
 pub tape-left_now : (t : MemTape) → IsLeftNow tape_means t
 unfolding tape_state
 tape-left_now t = record {
   telling = λ telling. refl;
-  counts = λ moment left telling early told. counts_now t.log (drive_state t.drive).cartridge moment left t.replayed early told;
-  only = λ left telling was. only_now t.log (drive_state t.drive).cartridge left t.replayed telling was;
-  earlier = λ s u left order early was. counts_earlier t.log s u left order was;
+  counts = λ moment left telling early told.
+      let is : left ≡ (holder_state t.holder).cartridge = cc in
+      left-counts t.log (holder_state t.holder).cartridge moment left t.replayed early is;
+  only = λ left telling was. ap Some (sym (left-only t.log (holder_state t.holder).cartridge left t.replayed telling was));
+  earlier = λ s u left order early was. left-earlier t.log s u left order was;
 }

@@ -4,29 +4,30 @@ ghost use Rattle.qic_mem.specs.DiskLog.{new_log};
 ghost use Rattle.qic_mem.specs.Plan.{new_plan, IsChosen};
 ghost use Rattle.qic_mem.specs.Recorded.{IsRecorded, IsRecorded-prop};
 
+mod disk_bytes;
 mod entry;
 mod log;
-mod store;
 
 use crate::plan::CallPlan;
-use entry::{Change, Entry};
-use log::{CallLog, is_full, note, settle};
+use disk_bytes::DiskBytes;
+pub use entry::{DiskChange, DiskEntry};
+use log::{DiskRecord, add_entry, is_full, settle};
 use qic_base::{Disk, DiskFailed, NoMemory};
 use std::alloc::Global;
-use store::Store;
 
 /// A disk in memory, whose chosen calls fail.
 #[derive(Drop)]
 pub struct MemDisk {
-    store: Store,
+    bytes: DiskBytes,
     plan: CallPlan,
-    log: Option<CallLog>,
-    ghost recorded: { IsRecorded log store } by { IsRecorded-prop log store },
+    log: Option<DiskRecord>,
+    ghost recorded: { IsRecorded log bytes } by { IsRecorded-prop log bytes },
 }
 
 #[tactic(auto, unfolding(crate::specs::Disk::disk_state))]
 impl MemDisk {
     ghost use Rattle.qic_mem.specs.Disk.{disk_state};
+    ghost use Rattle.qic_mem.specs.DiskEntries.{IsHistory};
 
     /// An empty disk with room for `room` bytes, which it takes at once. `fails` has the numbers of the calls that are
     /// to fail, counted from 0 over all calls. A `set_len` past `room` fails too. It keeps no record, and does not tell
@@ -41,7 +42,7 @@ impl MemDisk {
         }) }
     {
         Ok(MemDisk {
-            store: Store::new(alloc, room)?,
+            bytes: DiskBytes::new(alloc, room)?,
             plan: CallPlan::new(fails),
             log: None,
         })
@@ -65,10 +66,21 @@ impl MemDisk {
         }) }
     {
         Ok(MemDisk {
-            store: Store::new(alloc, room)?,
+            bytes: DiskBytes::new(alloc, room)?,
             plan: CallPlan::new(fails),
-            log: Some(CallLog::new(alloc, calls, bytes)?),
+            log: Some(DiskRecord::new(alloc, calls, bytes)?),
         })
+    }
+
+    /// The entries of its record, the first of them first, and the bytes of its writes, one after another. It has none
+    /// where it keeps no record.
+    pub fn history(&self) -> (&[DiskEntry], &[u8])
+        ensures { IsHistory (disk_state self.now).log result.0.now result.1.now }
+    {
+        match &self.log {
+            None => (&[], &[]),
+            Some(log) => log.history(),
+        }
     }
 }
 
@@ -96,7 +108,7 @@ impl Disk for MemDisk {
             settle(&mut self.log);
             return Err(DiskFailed);
         }
-        Ok(self.store.len())
+        Ok(self.bytes.len())
     }
 
     fn read_at(&mut self, place: u64, into: &mut [u8]) -> Result<usize, DiskFailed>
@@ -115,7 +127,7 @@ impl Disk for MemDisk {
             settle(&mut self.log);
             return Err(DiskFailed);
         }
-        Ok(self.store.read_at(place, into))
+        Ok(self.bytes.read_at(place, into))
     }
 
     fn write_at(&mut self, place: u64, from: &[u8]) -> Result<(), DiskFailed>
@@ -129,7 +141,7 @@ impl Disk for MemDisk {
         ensures state { disk_state self.new
             ≡ after_call (disk_state self.old) (WriteAt place from.now) (is_err result) }
     {
-        let change = Change::WriteAt(place, from.len());
+        let change = DiskChange::WriteAt(place, from.len());
         let full = is_full(&self.log, from.len());
         let failed = full || self.plan.is_next_chosen();
         self.plan.count(failed);
@@ -138,12 +150,12 @@ impl Disk for MemDisk {
             return Err(DiskFailed);
         }
         if failed {
-            self.store.write_at(place, &from[..from.len() / 2]);
-            note(&mut self.log, Entry::Broke(change), from);
+            self.bytes.write_at(place, &from[..from.len() / 2]);
+            add_entry(&mut self.log, DiskEntry::Broke(change), from);
             return Err(DiskFailed);
         }
-        self.store.write_at(place, from);
-        note(&mut self.log, Entry::Made(change), from);
+        self.bytes.write_at(place, from);
+        add_entry(&mut self.log, DiskEntry::Made(change), from);
         Ok(())
     }
 
@@ -156,22 +168,22 @@ impl Disk for MemDisk {
         ensures state { disk_state self.new
             ≡ after_call (disk_state self.old) (SetLen length) (is_err result) }
     {
-        let change = Change::SetLen(length);
+        let change = DiskChange::SetLen(length);
         let full = is_full(&self.log, 0);
-        let failed = full || self.store.room() < length || self.plan.is_next_chosen();
+        let failed = full || self.bytes.room() < length || self.plan.is_next_chosen();
         self.plan.count(failed);
         if full {
-            self.store.forget();
+            self.bytes.forget();
             settle(&mut self.log);
             return Err(DiskFailed);
         }
         if failed {
-            self.store.forget();
-            note(&mut self.log, Entry::Broke(change), &[]);
+            self.bytes.forget();
+            add_entry(&mut self.log, DiskEntry::Broke(change), &[]);
             return Err(DiskFailed);
         }
-        self.store.set_len(length);
-        note(&mut self.log, Entry::Made(change), &[]);
+        self.bytes.set_len(length);
+        add_entry(&mut self.log, DiskEntry::Made(change), &[]);
         Ok(())
     }
 
@@ -191,10 +203,10 @@ impl Disk for MemDisk {
             return Err(DiskFailed);
         }
         if failed {
-            note(&mut self.log, Entry::Broke(Change::Sync), &[]);
+            add_entry(&mut self.log, DiskEntry::Broke(DiskChange::Sync), &[]);
             return Err(DiskFailed);
         }
-        note(&mut self.log, Entry::Made(Change::Sync), &[]);
+        add_entry(&mut self.log, DiskEntry::Made(DiskChange::Sync), &[]);
         Ok(())
     }
 }

@@ -8,7 +8,7 @@ pub mod source;
 pub mod sure_sink;
 pub mod tape;
 
-pub use disk::MemDisk;
+pub use disk::{DiskChange, DiskEntry, MemDisk};
 pub use sink::MemSink;
 pub use source::{MemSource, SureSource};
 pub use sure_sink::SureSink;

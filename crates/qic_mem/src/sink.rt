@@ -54,6 +54,7 @@ impl MemSink {
     }
 }
 
+/// Puts bytes over those from a place on.
 fn put(buffer: &mut [u8], at: usize, from: &[u8])
     requires { at + length from.now ≤ length buffer.old }
     ensures { take (at + length from.now) buffer.new ≡ take at buffer.old ++ from.now }

@@ -27,6 +27,7 @@ impl Model for Reader {
 }
 
 impl Reader {
+    /// These bytes, none of which was read.
     fn new(bytes: Vec<u8>) -> Self
         ensures { result ≡ bytes.items }
     {

@@ -3,21 +3,22 @@ ghost use Rattle.std.specs.Option.{option_map};
 ghost use Rattle.qic_base.specs.Cartridge.{IsLength, view_at};
 ghost use Rattle.qic_base.specs.Step.{WriteSector, FormatSegment, SetReferenced, SetProtected, Renew, Wear, Spoil};
 ghost use Rattle.qic_base.specs.Tape.{Does, Tells, IsPlaceOf, Reads, write_answer, spoil_answer};
-ghost use Rattle.qic_mem.specs.Change.{step_of, IsReached};
+ghost use Rattle.qic_mem.specs.TapeChange.{step_of, IsReached};
 ghost use Rattle.qic_mem.specs.Plan.{new_plan, IsChosen};
+ghost use Rattle.qic_mem.specs.TapeLog.{new_log};
 ghost use Rattle.qic_mem.specs.Replayed.{IsReplayed, IsReplayed-prop};
 
 mod change;
-mod drive;
+mod holder;
 mod log;
 mod outcome;
 mod sectors;
 pub mod sure;
 
 use crate::plan::CallPlan;
-use change::Change;
-use drive::Drive;
-use log::{Call, CallLog, is_full, note};
+use change::TapeChange;
+use holder::Holder;
+use log::{Call, TapeRecord, add_call, is_full};
 use outcome::End;
 pub use outcome::Outcome;
 use qic_base::{NoMemory, SectorRead, SectorWrite, Tape, TapeFailed, TapeInfo};
@@ -27,11 +28,11 @@ pub use sure::SureTape;
 /// A tape in memory, whose chosen calls fail.
 #[derive(Drop)]
 pub struct MemTape {
-    drive: Drive,
+    holder: Holder,
     plan: CallPlan,
     outcome: Outcome,
-    log: Option<CallLog>,
-    ghost replayed: { IsReplayed log drive } by { IsReplayed-prop log drive },
+    log: Option<TapeRecord>,
+    ghost replayed: { IsReplayed log holder } by { IsReplayed-prop log holder },
 }
 
 #[tactic(auto, unfolding(crate::specs::Tape::tape_state))]
@@ -52,7 +53,7 @@ impl MemTape {
         }) }
     {
         Ok(MemTape {
-            drive: Drive::new(alloc, room)?,
+            holder: Holder::new(alloc, room)?,
             plan: CallPlan::new(fails),
             outcome: Outcome::Old,
             log: None,
@@ -68,14 +69,14 @@ impl MemTape {
           room = room;
           plan = new_plan fails.items;
           outcome = Outcome.Old;
-          log = Some (record { room = calls; calls = [] });
+          log = Some (new_log calls);
         }) }
     {
         Ok(MemTape {
-            drive: Drive::new(alloc, room)?,
+            holder: Holder::new(alloc, room)?,
             plan: CallPlan::new(fails),
             outcome: Outcome::Old,
-            log: Some(CallLog::new(alloc, calls)?),
+            log: Some(TapeRecord::new(alloc, calls)?),
         })
     }
 
@@ -87,14 +88,14 @@ impl MemTape {
     }
 
     /// Whether the change finds no room in the record, or is a cartridge longer than the room.
-    fn is_refused(&self, change: &Change) -> bool
+    fn is_refused(&self, change: &TapeChange) -> bool
         ensures { result ≡ is_refused (tape_state self.now) (step_of change.now) }
     {
-        is_full(&self.log) || self.drive.is_past(change)
+        is_full(&self.log) || self.holder.is_past(change)
     }
 
     /// Counts a call that makes a change, records it, and makes the change, or leaves what the failure is to leave.
-    fn run(&mut self, change: Change) -> Result<(), TapeFailed>
+    fn run(&mut self, change: TapeChange) -> Result<(), TapeFailed>
         requires { IsReached (tape_state self.old).size (step_of change) }
         ensures did { Does tape_means self.old self.new (step_of change ∷ []) result }
         ensures fails { IsErr result ↔ Fails (tape_state self.old) (step_of change) }
@@ -105,15 +106,15 @@ impl MemTape {
         let failed = refused || self.plan.is_next_chosen();
         self.plan.count(failed);
         if !failed {
-            self.drive.make(&change);
+            self.holder.make(&change);
             let end = End::Done;
-            note(&mut self.log, Call { change, end });
+            add_call(&mut self.log, Call { change, end });
             return Ok(());
         }
         let left = if refused { Outcome::Old } else { self.outcome };
-        self.drive.fail(&change, left);
+        self.holder.fail(&change, left);
         let end = End::Failed(left);
-        note(&mut self.log, Call { change, end });
+        add_call(&mut self.log, Call { change, end });
         Err(TapeFailed)
     }
 }
@@ -145,7 +146,7 @@ impl Tape for MemTape {
         if self.plan.begin() {
             return Err(TapeFailed);
         }
-        Ok(self.drive.info())
+        Ok(self.holder.info())
     }
 
     fn read_sector(
@@ -167,7 +168,7 @@ impl Tape for MemTape {
         if self.plan.begin() {
             return Err(TapeFailed);
         }
-        Ok(self.drive.read(segment, sector, into))
+        Ok(self.holder.read(segment, sector, into))
     }
 
     fn write_sector(
@@ -189,8 +190,8 @@ impl Tape for MemTape {
         ensures state { tape_state self.new ≡ after_call (tape_state self.old)
             (WriteSector segment sector from.now) (is_err result) }
     {
-        let answer = self.drive.write_answer(segment, sector);
-        self.run(Change::WriteSector(segment, sector, *from))?;
+        let answer = self.holder.write_answer(segment, sector);
+        self.run(TapeChange::WriteSector(segment, sector, *from))?;
         Ok(answer)
     }
 
@@ -203,7 +204,7 @@ impl Tape for MemTape {
         ensures state { tape_state self.new
             ≡ after_call (tape_state self.old) (FormatSegment segment) (is_err result) }
     {
-        self.run(Change::FormatSegment(segment))
+        self.run(TapeChange::FormatSegment(segment))
     }
 
     fn set_referenced(&mut self) -> Result<(), TapeFailed>
@@ -215,7 +216,7 @@ impl Tape for MemTape {
         ensures state { tape_state self.new
             ≡ after_call (tape_state self.old) SetReferenced (is_err result) }
     {
-        self.run(Change::SetReferenced)
+        self.run(TapeChange::SetReferenced)
     }
 
     fn set_protected(&mut self, on: bool) -> Result<(), TapeFailed>
@@ -227,7 +228,7 @@ impl Tape for MemTape {
         ensures state { tape_state self.new
             ≡ after_call (tape_state self.old) (SetProtected on) (is_err result) }
     {
-        self.run(Change::SetProtected(on))
+        self.run(TapeChange::SetProtected(on))
     }
 
     fn renew(&mut self, segments_per_track: u16) -> Result<(), TapeFailed>
@@ -240,7 +241,7 @@ impl Tape for MemTape {
         ensures state { tape_state self.new
             ≡ after_call (tape_state self.old) (Renew segments_per_track) (is_err result) }
     {
-        self.run(Change::Renew(segments_per_track))
+        self.run(TapeChange::Renew(segments_per_track))
     }
 
     fn wear(&mut self, segment: u32, sector: u8) -> Result<(), TapeFailed>
@@ -252,7 +253,7 @@ impl Tape for MemTape {
         ensures state { tape_state self.new
             ≡ after_call (tape_state self.old) (Wear segment sector) (is_err result) }
     {
-        self.run(Change::Wear(segment, sector))
+        self.run(TapeChange::Wear(segment, sector))
     }
 
     fn spoil(&mut self, segment: u32, sector: u8) -> Result<bool, TapeFailed>
@@ -266,8 +267,8 @@ impl Tape for MemTape {
         ensures state { tape_state self.new
             ≡ after_call (tape_state self.old) (Spoil segment sector) (is_err result) }
     {
-        let answer = self.drive.spoil_answer(segment, sector);
-        self.run(Change::Spoil(segment, sector))?;
+        let answer = self.holder.spoil_answer(segment, sector);
+        self.run(TapeChange::Spoil(segment, sector))?;
         Ok(answer)
     }
 }

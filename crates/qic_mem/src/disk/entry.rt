@@ -1,31 +1,32 @@
 ghost use Rattle.std.specs.Prelude.{◌≡◌};
 
-/// A call's change of a disk, without its bytes: a write has a place and a number of bytes.
-#[derive(Clone, Copy)]
-pub(crate) enum Change {
+/// The change of a disk that a call was to make, without its bytes: a write has a place and a number of bytes, in bytes.
+#[derive(Clone, Copy, Debug, PartialEq, Eq)]
+pub enum DiskChange {
     WriteAt(u64, usize),
     SetLen(u64),
     Sync,
 }
 
-/// What is recorded: a call that was done, one that failed, or that one without room in the record failed.
-#[derive(Clone, Copy)]
-pub(crate) enum Entry {
-    Made(Change),
-    Broke(Change),
+/// What a disk in memory records: a call that was done, one that failed, or that a call which is not recorded failed, and
+/// left nothing pending.
+#[derive(Clone, Copy, Debug, PartialEq, Eq)]
+pub enum DiskEntry {
+    Made(DiskChange),
+    Broke(DiskChange),
     Settled,
 }
 
-impl Entry {
-    ghost use Rattle.qic_mem.specs.Entry.{leaves_pending};
+impl DiskEntry {
+    ghost use Rattle.qic_mem.specs.DiskEntry.{leaves_pending};
 
     /// Whether something is pending behind it.
     pub(crate) fn is_pending(&self) -> bool
         ensures { result ≡ leaves_pending self.now }
     {
         match self {
-            Entry::Made(Change::WriteAt(..) | Change::SetLen(_)) => true,
-            Entry::Made(Change::Sync) | Entry::Broke(_) | Entry::Settled => false,
+            DiskEntry::Made(DiskChange::WriteAt(..) | DiskChange::SetLen(_)) => true,
+            DiskEntry::Made(DiskChange::Sync) | DiskEntry::Broke(_) | DiskEntry::Settled => false,
         }
     }
 }

@@ -4,7 +4,7 @@ ghost use Rattle.qic_mem.specs.Disk.{disk_state};
 use super::*;
 use std::test::Fail;
 
-// A disk of four bytes with room for eight. Its third call fails.
+/// A disk of four bytes with room for eight. Its third call fails.
 fn about_to_fail(alloc: Global) -> Result<MemDisk, Fail>
     ensures { IfOk result (λ disk. (disk_state disk).seen ≡ 4) }
 {
@@ -14,7 +14,7 @@ fn about_to_fail(alloc: Global) -> Result<MemDisk, Fail>
     Ok(disk)
 }
 
-// The bytes of a disk, with points behind them.
+/// The bytes of a disk, with points behind them.
 fn shown(disk: &mut MemDisk) -> Result<[u8; 6], Fail> {
     let mut into = *b"......";
     let _ = disk.read_at(0, &mut into)?;
@@ -74,5 +74,36 @@ fn a_record_without_room_for_its_bytes_refuses(rt: HostRuntime) -> Result<(), Fa
     disk.set_len(4)?;
     assert_eq!(rt; disk.write_at(0, b"abcd"), Err(DiskFailed));
     assert_eq!(rt; shown(&mut disk)?, *b"\0\0\0\0..");
+    Ok(())
+}
+
+/// A disk whose record has an entry of each kind. Its calls 2 and 3 fail.
+fn with_history(alloc: Global) -> Result<MemDisk, Fail> {
+    let mut disk = MemDisk::recorded(alloc, 8, 4, 6, [2, 3].to_vec(alloc)?)?;
+    disk.set_len(4)?;
+    disk.write_at(0, b"abcd")?;
+    let _ = disk.len();
+    let _ = disk.write_at(1, b"xy");
+    disk.sync()?;
+    Ok(disk)
+}
+
+#[test]
+fn a_record_has_its_entries_and_their_bytes(rt: HostRuntime) -> Result<(), Fail> {
+    let alloc = rt.alloc();
+    let recorded = with_history(alloc)?;
+    let entries = [
+        DiskEntry::Made(DiskChange::SetLen(4)),
+        DiskEntry::Made(DiskChange::WriteAt(0, 4)),
+        DiskEntry::Settled,
+        DiskEntry::Broke(DiskChange::WriteAt(1, 2)),
+        DiskEntry::Made(DiskChange::Sync),
+    ];
+    let (shown, bytes) = recorded.history();
+    assert_eq!(rt; shown, entries.as_slice());
+    assert_eq!(rt; bytes, b"abcdxy".as_slice());
+    let unrecorded = about_to_fail(alloc)?;
+    let (shown, bytes) = unrecorded.history();
+    assert_eq!(rt; shown.len() + bytes.len(), 0);
     Ok(())
 }

@@ -1,6 +1,6 @@
 /// A change that a call of a tape is to make, with all that it was given.
 #[derive(Drop)]
-pub(crate) enum Change {
+pub(crate) enum TapeChange {
     WriteSector(u32, u8, [u8; 1024]),
     FormatSegment(u32),
     SetReferenced,

@@ -107,6 +107,7 @@ impl Sectors {
     }
 }
 
+/// Reads a sector by its view. `into` is unchanged unless the answer is `Good`.
 fn read_view(view: &SectorView, into: &mut [u8; 1024]) -> SectorRead
     ensures reads { Reads view.now into.old into.new result }
     ensures unchanged { result ≢ SectorRead.Good → into.new ≡ into.old }
@@ -121,6 +122,7 @@ fn read_view(view: &SectorView, into: &mut [u8; 1024]) -> SectorRead
     }
 }
 
+/// Writes a sector, where it was formatted and is no defect.
 fn write_view(view: &mut SectorView, from: &[u8; 1024])
     ensures written { view.new ≡ written_view from.now view.old }
     ensures whole { IsView view.old → IsView view.new }
@@ -131,6 +133,7 @@ fn write_view(view: &mut SectorView, from: &[u8; 1024])
     }
 }
 
+/// The view of a sector that holds these bytes.
 fn holding(bytes: &[u8]) -> SectorView
     requires { length bytes.now ≡ 1024 }
     ensures bytes { result ≡ SectorView.Holds bytes.now }
@@ -141,6 +144,7 @@ fn holding(bytes: &[u8]) -> SectorView
     SectorView::Holds(kept)
 }
 
+/// Makes a sector unreadable, where it holds bytes.
 fn wear_view(view: &mut SectorView)
     ensures worn { view.new ≡ worn_view view.old }
     ensures whole { IsView view.old → IsView view.new }
@@ -150,6 +154,7 @@ fn wear_view(view: &mut SectorView)
     }
 }
 
+/// Makes a defect of a sector, where it was never formatted.
 fn spoil_view(view: &mut SectorView)
     ensures spoiled { view.new ≡ spoiled_view view.old }
     ensures whole { IsView view.old → IsView view.new }
@@ -159,6 +164,7 @@ fn spoil_view(view: &mut SectorView)
     }
 }
 
+/// Formats sectors.
 fn format_views(views: &mut [SectorView])
     ensures formatted { views.new ≡ map formatted_view views.old }
     ensures whole { All IsView views.old → All IsView views.new }
@@ -168,6 +174,7 @@ fn format_views(views: &mut [SectorView])
     }
 }
 
+/// Formats a sector: one that is no defect is zero.
 fn format_view(view: &mut SectorView)
     ensures formatted { view.new ≡ formatted_view view.old }
     ensures whole { IsView view.old → IsView view.new }
@@ -178,6 +185,7 @@ fn format_view(view: &mut SectorView)
     }
 }
 
+/// The view of a sector of zeros.
 #[tactic(auto, unfolding(qic_base::specs::Cartridge::zero_sector))]
 fn zero_view() -> SectorView
     ensures zero { result ≡ SectorView.Holds zero_sector }
@@ -186,6 +194,7 @@ fn zero_view() -> SectorView
     holding(&[0; 1024])
 }
 
+/// Makes sectors unreadable, where they hold bytes.
 fn wear_views(views: &mut [SectorView])
     ensures worn { views.new ≡ map worn_view views.old }
     ensures whole { All IsView views.old → All IsView views.new }
@@ -195,6 +204,7 @@ fn wear_views(views: &mut [SectorView])
     }
 }
 
+/// Makes new sectors of these.
 fn clear_views(views: &mut [SectorView])
     ensures { views.new ≡ replicate (length views.old) SectorView.Blank }
 {

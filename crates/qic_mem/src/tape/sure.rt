@@ -3,25 +3,25 @@ ghost use Rattle.std.specs.Option.{option_map};
 ghost use Rattle.qic_base.specs.Cartridge.{IsLength, view_at};
 ghost use Rattle.qic_base.specs.Step.{WriteSector, FormatSegment, SetReferenced, SetProtected, Renew, Wear, Spoil};
 ghost use Rattle.qic_base.specs.Tape.{Does, Done, Tells, IsPlaceOf, Reads, write_answer, spoil_answer};
-ghost use Rattle.qic_mem.specs.Change.{step_of, IsReached};
+ghost use Rattle.qic_mem.specs.TapeChange.{step_of, IsReached};
 ghost use Rattle.qic_mem.specs.Longest.{HasLongest};
 
-use crate::tape::change::Change;
-use crate::tape::drive::Drive;
+use crate::tape::change::TapeChange;
+use crate::tape::holder::Holder;
 use qic_base::{LONGEST, NoMemory, SectorRead, SectorWrite, Tape, TapeFailed, TapeInfo};
 use std::alloc::Global;
 
 /// A tape in memory whose calls never fail.
 #[derive(Drop)]
 pub struct SureTape {
-    drive: Drive,
-    ghost longest: { HasLongest drive },
+    holder: Holder,
+    ghost longest: { HasLongest holder },
 }
 
 #[tactic(auto, unfolding(crate::specs::Sure::sure_state))]
 impl SureTape {
     ghost use Rattle.qic_base.specs.declared.TheConstants.{LONGEST as longest};
-    ghost use Rattle.qic_mem.specs.Drive.{made};
+    ghost use Rattle.qic_mem.specs.Holder.{made};
     ghost use Rattle.qic_mem.specs.Sure.{sure_state, sure_means};
 
     /// An empty drive with room for a cartridge of the greatest length, which it takes at once. It does not tell its
@@ -31,22 +31,23 @@ impl SureTape {
             ≡ record { cartridge = None; size = None; room = longest }) }
     {
         Ok(SureTape {
-            drive: Drive::new(alloc, LONGEST)?,
+            holder: Holder::new(alloc, LONGEST)?,
         })
     }
 
-    fn run(&mut self, change: Change)
+    /// Makes a change.
+    fn run(&mut self, change: TapeChange)
         requires { IsReached (sure_state self.old).size (step_of change) }
         ensures did { Done sure_means self.old self.new (step_of change ∷ []) }
         ensures state { sure_state self.new ≡ made (sure_state self.old) (step_of change) }
     {
-        self.drive.make(&change);
+        self.holder.make(&change);
     }
 }
 
 #[tactic(auto, unfolding(crate::specs::Sure::sure_state))]
 impl Tape for SureTape {
-    ghost use Rattle.qic_mem.specs.Drive.{made, looked_at};
+    ghost use Rattle.qic_mem.specs.Holder.{made, looked_at};
     ghost use Rattle.qic_mem.specs.Sure.{sure_state, sure_means, sure-size_fits, sure-told_right, sure-left_now};
 
     ghost means = { sure_means };
@@ -69,7 +70,7 @@ impl Tape for SureTape {
         ensures succeeds { IsOk result }
         ensures state { sure_state self.new ≡ looked_at (sure_state self.old) }
     {
-        Ok(self.drive.info())
+        Ok(self.holder.info())
     }
 
     fn read_sector(
@@ -88,7 +89,7 @@ impl Tape for SureTape {
         ensures succeeds { IsOk result }
         ensures state { sure_state self.new ≡ sure_state self.old }
     {
-        Ok(self.drive.read(segment, sector, into))
+        Ok(self.holder.read(segment, sector, into))
     }
 
     fn write_sector(
@@ -107,8 +108,8 @@ impl Tape for SureTape {
         ensures state { sure_state self.new
             ≡ made (sure_state self.old) (WriteSector segment sector from.now) }
     {
-        let answer = self.drive.write_answer(segment, sector);
-        self.run(Change::WriteSector(segment, sector, *from));
+        let answer = self.holder.write_answer(segment, sector);
+        self.run(TapeChange::WriteSector(segment, sector, *from));
         Ok(answer)
     }
 
@@ -120,7 +121,7 @@ impl Tape for SureTape {
         ensures succeeds { IsOk result }
         ensures state { sure_state self.new ≡ made (sure_state self.old) (FormatSegment segment) }
     {
-        self.run(Change::FormatSegment(segment));
+        self.run(TapeChange::FormatSegment(segment));
         Ok(())
     }
 
@@ -132,7 +133,7 @@ impl Tape for SureTape {
         ensures succeeds { IsOk result }
         ensures state { sure_state self.new ≡ made (sure_state self.old) SetReferenced }
     {
-        self.run(Change::SetReferenced);
+        self.run(TapeChange::SetReferenced);
         Ok(())
     }
 
@@ -144,7 +145,7 @@ impl Tape for SureTape {
         ensures succeeds { IsOk result }
         ensures state { sure_state self.new ≡ made (sure_state self.old) (SetProtected on) }
     {
-        self.run(Change::SetProtected(on));
+        self.run(TapeChange::SetProtected(on));
         Ok(())
     }
 
@@ -157,7 +158,7 @@ impl Tape for SureTape {
         ensures succeeds { IsOk result }
         ensures state { sure_state self.new ≡ made (sure_state self.old) (Renew segments_per_track) }
     {
-        self.run(Change::Renew(segments_per_track));
+        self.run(TapeChange::Renew(segments_per_track));
         Ok(())
     }
 
@@ -169,7 +170,7 @@ impl Tape for SureTape {
         ensures succeeds { IsOk result }
         ensures state { sure_state self.new ≡ made (sure_state self.old) (Wear segment sector) }
     {
-        self.run(Change::Wear(segment, sector));
+        self.run(TapeChange::Wear(segment, sector));
         Ok(())
     }
 
@@ -183,8 +184,8 @@ impl Tape for SureTape {
         ensures succeeds { IsOk result }
         ensures state { sure_state self.new ≡ made (sure_state self.old) (Spoil segment sector) }
     {
-        let answer = self.drive.spoil_answer(segment, sector);
-        self.run(Change::Spoil(segment, sector));
+        let answer = self.holder.spoil_answer(segment, sector);
+        self.run(TapeChange::Spoil(segment, sector));
         Ok(answer)
     }
 }

@@ -4,7 +4,7 @@ ghost use Rattle.qic_mem.specs.Tape.{tape_state};
 use super::*;
 use std::test::Fail;
 
-// A recorded tape with one formatted segment, whose sector 0 holds sevens. Its next call fails, and leaves the outcome.
+/// A recorded tape with one formatted segment, whose sector 0 holds sevens. Its next call fails, and leaves the outcome.
 fn about_to_fail(alloc: Global, outcome: Outcome) -> Result<MemTape, Fail>
     ensures { IfOk result (λ tape. (tape_state tape).size ≡ Some 3) }
 {
@@ -16,7 +16,7 @@ fn about_to_fail(alloc: Global, outcome: Outcome) -> Result<MemTape, Fail>
     Ok(tape)
 }
 
-// What a read of sector 0 of one of the first segments finds, and the first byte of `into` then, which was 1.
+/// What a read of sector 0 of one of the first segments finds, and the first byte of `into` then, which was 1.
 fn found(tape: &mut MemTape, segment: u32) -> Result<(SectorRead, u8), Fail>
     requires size { (tape_state tape.old).size ≡ Some 3 }
     requires segment { segment < 84 }

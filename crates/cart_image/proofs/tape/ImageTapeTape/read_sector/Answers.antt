@@ -21,7 +21,7 @@ returns-in-Ok-clause-did g c = Tape-done _ _ [] (looks-done g.D.Disk.means _ _ (
 
 pub returns-in-Ok-clause-view : goal.returns-in-Ok-clause-view
 returns-in-Ok-clause-view g c =
-    read-fact c.args.self.now c.size-size.result c.args.segment c.args.sector c.size-size.ensures c.requires c.place_of.result c.place_of.ensures
+    read-fact c.args.self.now c.size-size.result c.args.segment c.args.sector c.size-size.ensures c.requires c.sector_number.result c.sector_number.ensures
     (λ v. Reads v c.args.into.now c.read_sector.new.into c.in-Ok.read) c.in-Ok.ensures.view
 
 pub returns-in-Err-clause-did : goal.returns-in-Err-clause-did

@@ -14,15 +14,15 @@ invariant_of-self g c =
       longest = s.longest;
       covers = covers-after s _ c.wear.result c.wear.ensures.seen;
       sized = sized-after s _ c.wear.result (Wear c.args.segment c.args.sector ∷ []) (keeps-wear c.args.segment c.args.sector)
-          (wear-does s c.size-size.result c.args.segment c.args.sector c.size-size.ensures c.requires _ c.wear.result c.place_of.result c.place_of.ensures c.wear.ensures.carried);
+          (wear-does s c.size-size.result c.args.segment c.args.sector c.size-size.ensures c.requires _ c.wear.result c.sector_number.result c.sector_number.ensures c.wear.ensures.carried);
     }
 
 pub returns-in-Ok-clause-did : goal.returns-in-Ok-clause-did
 returns-in-Ok-clause-did g c =
     let s = c.args.self.now in
-    Tape-done _ _ (Wear c.args.segment c.args.sector ∷ []) (wear-does s c.size-size.result c.args.segment c.args.sector c.size-size.ensures c.requires _ _ c.place_of.result c.place_of.ensures c.in-Ok.ensures.carried)
+    Tape-done _ _ (Wear c.args.segment c.args.sector ∷ []) (wear-does s c.size-size.result c.args.segment c.args.sector c.size-size.ensures c.requires _ _ c.sector_number.result c.sector_number.ensures c.in-Ok.ensures.carried)
 
 pub returns-in-Err-clause-did : goal.returns-in-Err-clause-did
 returns-in-Err-clause-did g c =
     let s = c.args.self.now in
-    Tape-broke _ _ (Wear c.args.segment c.args.sector ∷ []) (wear-does s c.size-size.result c.args.segment c.args.sector c.size-size.ensures c.requires _ _ c.place_of.result c.place_of.ensures c.in-Err.ensures.carried)
+    Tape-broke _ _ (Wear c.args.segment c.args.sector ∷ []) (wear-does s c.size-size.result c.args.segment c.args.sector c.size-size.ensures c.requires _ _ c.sector_number.result c.sector_number.ensures c.in-Err.ensures.carried)

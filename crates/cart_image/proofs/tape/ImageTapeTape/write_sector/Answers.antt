@@ -16,20 +16,20 @@ invariant_of-self g c =
       longest = s.longest;
       covers = covers-after s _ c.write_sector.result c.write_sector.ensures.seen;
       sized = sized-after s _ c.write_sector.result (WriteSector c.args.segment c.args.sector c.args.from.now ∷ []) (keeps-write c.args.segment c.args.sector c.args.from.now)
-          (write-does s c.size-size.result c.args.segment c.args.sector c.size-size.ensures c.requires _ c.write_sector.result c.place_of.result c.place_of.ensures c.args.from.now (omega arith) c.write_sector.ensures.carried);
+          (write-does s c.size-size.result c.args.segment c.args.sector c.size-size.ensures c.requires _ c.write_sector.result c.sector_number.result c.sector_number.ensures c.args.from.now (omega arith) c.write_sector.ensures.carried);
     }
 
 pub returns-in-Ok-clause-did : goal.returns-in-Ok-clause-did
 returns-in-Ok-clause-did g c =
     let s = c.args.self.now in
-    Tape-done _ _ (WriteSector c.args.segment c.args.sector c.args.from.now ∷ []) (write-does s c.size-size.result c.args.segment c.args.sector c.size-size.ensures c.requires _ _ c.place_of.result c.place_of.ensures c.args.from.now (omega arith) c.in-Ok.ensures.carried)
+    Tape-done _ _ (WriteSector c.args.segment c.args.sector c.args.from.now ∷ []) (write-does s c.size-size.result c.args.segment c.args.sector c.size-size.ensures c.requires _ _ c.sector_number.result c.sector_number.ensures c.args.from.now (omega arith) c.in-Ok.ensures.carried)
 
 pub returns-in-Ok-clause-answer : goal.returns-in-Ok-clause-answer
 returns-in-Ok-clause-answer g c =
-    seen-fact c.args.self.now c.size-size.result c.args.segment c.args.sector c.size-size.ensures c.requires c.place_of.result c.place_of.ensures
+    seen-fact c.args.self.now c.size-size.result c.args.segment c.args.sector c.size-size.ensures c.requires c.sector_number.result c.sector_number.ensures
     (λ v. c.in-Ok.write ≡ write_answer v) c.in-Ok.ensures.answer
 
 pub returns-in-Err-clause-did : goal.returns-in-Err-clause-did
 returns-in-Err-clause-did g c =
     let s = c.args.self.now in
-    Tape-broke _ _ (WriteSector c.args.segment c.args.sector c.args.from.now ∷ []) (write-does s c.size-size.result c.args.segment c.args.sector c.size-size.ensures c.requires _ _ c.place_of.result c.place_of.ensures c.args.from.now (omega arith) c.in-Err.ensures.carried)
+    Tape-broke _ _ (WriteSector c.args.segment c.args.sector c.args.from.now ∷ []) (write-does s c.size-size.result c.args.segment c.args.sector c.size-size.ensures c.requires _ _ c.sector_number.result c.sector_number.ensures c.args.from.now (omega arith) c.in-Err.ensures.carried)

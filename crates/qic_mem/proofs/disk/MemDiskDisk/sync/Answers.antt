@@ -15,9 +15,9 @@ returns-then-full-2-clause-did c =
 pub returns-then-failed-clause-did : goal.returns-then-failed-clause-did
 unfolding disk_state
 returns-then-failed-clause-did c =
-    disk-broke _ _ Sync c.note.ensures refl refl c.count.ensures.never_falls (counted-rose _ _ _ c.count.ensures.counted c.if-failed.true)
+    disk-broke _ _ Sync c.add_entry.ensures refl refl c.count.ensures.never_falls (counted-rose _ _ _ c.count.ensures.counted c.if-failed.true)
 
 pub returns-clause-did : goal.returns-clause-did
 unfolding disk_state
 returns-clause-did c =
-    disk-synced _ _ c.note-2.ensures refl c.count.ensures.never_falls
+    disk-synced _ _ c.add_entry-2.ensures refl c.count.ensures.never_falls

@@ -1,0 +1,161 @@
+//! One sector of an image file written, made unreadable or made a defect, and a mark set or cleared.
+ghost use Rattle.std.specs.Prelude.{◌≡◌, ◌<◌, ◌≤◌, [], ◌∷◌, true, false, slice_index, IfOk, IfSome};
+ghost use Rattle.qic_base.specs.Disk.{IsSettled};
+ghost use Rattle.qic_base.specs.Tape.{write_answer, spoil_answer};
+ghost use Rattle.cart_image.specs.Image.{view_in};
+ghost use Rattle.cart_image.specs.Layout.{sectors, gate_place as gate_at, sector_place as sector_at, image_len as length_of, overwrite_steps, write_sector_steps, wear_steps, spoil_steps, mark_steps, put as put_steps};
+ghost use Rattle.cart_image.specs.Run.{Runs, Carried};
+
+use crate::layout::{CLOSED, DEFECT, MARK, OPEN, defect_place, gate_place, sector_place};
+use crate::reading::{SectorState, read_byte, read_state};
+use crate::synced::put;
+use qic_base::{Disk, DiskFailed, SectorWrite};
+
+/// Writes the gate of a sector.
+fn put_gate<D: Disk>(disk: &mut D, sector: u64, gate: u8) -> Result<(), DiskFailed>
+    requires place { sector < sectors 65536 }
+    requires covers { gate_at sector < D.means.seen_len disk.old }
+    ensures ran { Runs D.means disk.old disk.new (put_steps (gate_at sector) (gate ∷ [])) result }
+    ensures settled { IsSettled D.means disk.new }
+    ensures seen { D.means.seen_len disk.new ≡ D.means.seen_len disk.old }
+{
+    put(disk, gate_place(sector), &[gate])
+}
+
+/// Writes the bytes of a sector.
+fn put_bytes<D: Disk>(
+    disk: &mut D,
+    segments_per_track: u16,
+    sector: u64,
+    from: &[u8; 1024],
+) -> Result<(), DiskFailed>
+    requires place { sector < sectors segments_per_track }
+    requires covers { length_of segments_per_track ≤ D.means.seen_len disk.old }
+    ensures ran { Runs D.means disk.old disk.new
+        (put_steps (sector_at segments_per_track sector) from.now) result }
+    ensures settled { IsSettled D.means disk.new }
+    ensures seen { D.means.seen_len disk.new ≡ D.means.seen_len disk.old }
+{
+    put(disk, sector_place(segments_per_track, sector), from)
+}
+
+/// Writes a sector whose gate is closed, and opens it.
+fn overwrite_closed<D: Disk>(
+    disk: &mut D,
+    segments_per_track: u16,
+    sector: u64,
+    from: &[u8; 1024],
+) -> Result<(), DiskFailed>
+    requires place { sector < sectors segments_per_track }
+    requires covers { length_of segments_per_track ≤ D.means.seen_len disk.old }
+    ensures ran { Runs D.means disk.old disk.new
+        (overwrite_steps segments_per_track sector false from.now) result }
+    ensures settled { IsSettled D.means disk.new }
+    ensures seen { D.means.seen_len disk.new ≡ D.means.seen_len disk.old }
+{
+    put_bytes(disk, segments_per_track, sector, from)?;
+    put_gate(disk, sector, OPEN)
+}
+
+/// Closes a sector's gate, writes it, and opens it.
+fn overwrite_open<D: Disk>(
+    disk: &mut D,
+    segments_per_track: u16,
+    sector: u64,
+    from: &[u8; 1024],
+) -> Result<(), DiskFailed>
+    requires place { sector < sectors segments_per_track }
+    requires covers { length_of segments_per_track ≤ D.means.seen_len disk.old }
+    ensures ran { Runs D.means disk.old disk.new
+        (overwrite_steps segments_per_track sector true from.now) result }
+    ensures settled { IsSettled D.means disk.new }
+    ensures seen { D.means.seen_len disk.new ≡ D.means.seen_len disk.old }
+{
+    put_gate(disk, sector, CLOSED)?;
+    overwrite_closed(disk, segments_per_track, sector, from)
+}
+
+/// Writes a sector.
+pub fn write_sector<D: Disk>(
+    disk: &mut D,
+    segments_per_track: u16,
+    sector: u64,
+    from: &[u8; 1024],
+) -> Result<SectorWrite, DiskFailed>
+    requires place { sector < sectors segments_per_track }
+    requires covers { length_of segments_per_track ≤ D.means.seen_len disk.old }
+    requires settled { IsSettled D.means disk.old }
+    ensures carried { Carried D.means disk.old disk.new (λ bytes. write_sector_steps
+        segments_per_track sector from.now (view_in segments_per_track bytes sector)) result }
+    ensures answer { IfOk result (λ answer. IfSome (D.means.told disk.old) (λ bytes.
+        answer ≡ write_answer (view_in segments_per_track bytes sector))) }
+    ensures settled { IsSettled D.means disk.new }
+    ensures seen { D.means.seen_len disk.new ≡ D.means.seen_len disk.old }
+{
+    match read_state(disk, segments_per_track, sector)? {
+        SectorState::Blank => return Ok(SectorWrite::Blank),
+        SectorState::Defect => return Ok(SectorWrite::Taken),
+        SectorState::Lost => overwrite_closed(disk, segments_per_track, sector, from)?,
+        SectorState::Readable => overwrite_open(disk, segments_per_track, sector, from)?,
+    }
+    Ok(SectorWrite::Taken)
+}
+
+/// Makes a readable sector unreadable.
+pub fn wear<D: Disk>(disk: &mut D, segments_per_track: u16, sector: u64) -> Result<(), DiskFailed>
+    requires place { sector < sectors segments_per_track }
+    requires covers { length_of segments_per_track ≤ D.means.seen_len disk.old }
+    requires settled { IsSettled D.means disk.old }
+    ensures carried { Carried D.means disk.old disk.new (λ bytes. wear_steps
+        segments_per_track sector (view_in segments_per_track bytes sector)) result }
+    ensures settled { IsSettled D.means disk.new }
+    ensures seen { D.means.seen_len disk.new ≡ D.means.seen_len disk.old }
+{
+    match read_state(disk, segments_per_track, sector)? {
+        SectorState::Readable => put_gate(disk, sector, CLOSED),
+        SectorState::Blank | SectorState::Defect | SectorState::Lost => Ok(()),
+    }
+}
+
+/// Makes a defect of a sector that was never formatted. Answers whether it is a defect now.
+pub fn spoil<D: Disk>(
+    disk: &mut D,
+    segments_per_track: u16,
+    sector: u64,
+) -> Result<bool, DiskFailed>
+    requires place { sector < sectors segments_per_track }
+    requires covers { length_of segments_per_track ≤ D.means.seen_len disk.old }
+    requires settled { IsSettled D.means disk.old }
+    ensures carried { Carried D.means disk.old disk.new (λ bytes. spoil_steps
+        segments_per_track sector (view_in segments_per_track bytes sector)) result }
+    ensures answer { IfOk result (λ answer. IfSome (D.means.told disk.old) (λ bytes.
+        answer ≡ spoil_answer (view_in segments_per_track bytes sector))) }
+    ensures settled { IsSettled D.means disk.new }
+    ensures seen { D.means.seen_len disk.new ≡ D.means.seen_len disk.old }
+{
+    match read_state(disk, segments_per_track, sector)? {
+        SectorState::Blank => {
+            put(disk, defect_place(segments_per_track, sector), &[DEFECT])?;
+            Ok(true)
+        }
+        SectorState::Defect => Ok(true),
+        SectorState::Lost | SectorState::Readable => Ok(false),
+    }
+}
+
+/// Sets or clears the mark whose byte stands at a place.
+pub fn set_mark<D: Disk>(disk: &mut D, place: u64, on: bool) -> Result<(), DiskFailed>
+    requires covers { place < D.means.seen_len disk.old }
+    requires settled { IsSettled D.means disk.old }
+    ensures carried { Carried D.means disk.old disk.new
+        (λ bytes. mark_steps place on (slice_index bytes place)) result }
+    ensures settled { IsSettled D.means disk.new }
+    ensures seen { D.means.seen_len disk.new ≡ D.means.seen_len disk.old }
+{
+    let stands = read_byte(disk, place)? == MARK;
+    match (on, stands) {
+        (true, false) => put(disk, place, &[MARK]),
+        (false, true) => put(disk, place, &[0]),
+        (true, true) | (false, false) => Ok(()),
+    }
+}

@@ -1,0 +1,239 @@
+ghost use Rattle.std.specs.Prelude.{◌≡◌, ◌≢◌, ◌*◌, false, true, None, length, IfOk, IfSome, IsSomeAnd};
+ghost use Rattle.std.specs.Option.{option_map, ForSome};
+ghost use Rattle.qic_base.specs.Cartridge.{IsLength, IsPlace, view_at, place_of};
+ghost use Rattle.qic_base.specs.Step.{WriteSector, FormatSegment, SetReferenced, SetProtected, Renew, Wear, Spoil};
+ghost use Rattle.qic_base.specs.Tape.{Reads, write_answer, spoil_answer};
+ghost use Rattle.qic_mem.specs.TapeChange.{step_of, IsReached, is_past};
+ghost use Rattle.qic_mem.specs.Held.{FitsRoom};
+ghost use Rattle.qic_mem.specs.Outcome.{lost_by, left_by, size_ended};
+
+use crate::tape::change::TapeChange;
+use crate::tape::outcome::Outcome;
+use crate::tape::sectors::Sectors;
+use qic_base::{NoMemory, SectorRead, SectorWrite, TapeInfo};
+use std::alloc::Global;
+
+/// Sectors for each segment per track: 28 tracks of 32 sectors a segment (QIC-80-MC).
+const SECTORS_PER_LENGTH: usize = 896;
+
+/// What a tape in memory holds: the cartridge in it, and whether its size was told. Its calls never fail.
+#[derive(Drop)]
+pub(crate) struct Holder {
+    room: u16,
+    info: Option<TapeInfo>,
+    told: bool,
+    sectors: Sectors,
+    ghost long: { length sectors.views.items ≡ 896 * room },
+    ghost fits: { ForSome info (FitsRoom room) },
+}
+
+#[tactic(auto, unfolding(crate::specs::Holder::holder_state))]
+impl Holder {
+    ghost use Rattle.qic_mem.specs.Holder.{holder_state, made, looked_at};
+
+    /// No cartridge, and room for one of `room` segments per track, which it takes at once.
+    pub(crate) fn new(alloc: Global, room: u16) -> Result<Self, NoMemory>
+        ensures { IfOk result (λ holder. holder_state holder
+            ≡ record { cartridge = None; size = None; room = room }) }
+    {
+        Ok(Holder {
+            room,
+            info: None,
+            told: false,
+            sectors: Sectors::new(alloc, SECTORS_PER_LENGTH * room as usize)?,
+        })
+    }
+
+    /// Whether the change puts in a cartridge that is longer than the room.
+    pub(crate) fn is_past(&self, change: &TapeChange) -> bool
+        ensures { result ≡ is_past (holder_state self.now).room (step_of change.now) }
+    {
+        match change {
+            TapeChange::Renew(segments_per_track) => self.room < *segments_per_track,
+            _ => false,
+        }
+    }
+
+    /// Tells what the cartridge is.
+    pub(crate) fn info(&mut self) -> Option<TapeInfo>
+        ensures info { result ≡ option_map (λ c. c.info) (holder_state self.old).cartridge }
+        ensures state { holder_state self.new ≡ looked_at (holder_state self.old) }
+    {
+        self.told = true;
+        self.info
+    }
+
+    /// Reads a sector. `into` is unchanged unless the answer is `Good`.
+    pub(crate) fn read(&self, segment: u32, sector: u8, into: &mut [u8; 1024]) -> SectorRead
+        requires { IsSomeAnd (holder_state self.now).size (λ n. IsPlace n segment sector) }
+        ensures view { IfSome (holder_state self.now).cartridge (λ c.
+            Reads (view_at c segment sector) into.old into.new result) }
+        ensures unchanged { result ≢ SectorRead.Good → into.new ≡ into.old }
+    {
+        self.sectors.read(view_index(segment, sector), into)
+    }
+
+    /// What a write to a sector answers.
+    pub(crate) fn write_answer(&self, segment: u32, sector: u8) -> SectorWrite
+        requires { IsSomeAnd (holder_state self.now).size (λ n. IsPlace n segment sector) }
+        ensures { IfSome (holder_state self.now).cartridge (λ c.
+            result ≡ write_answer (view_at c segment sector)) }
+    {
+        self.sectors.write_answer(view_index(segment, sector))
+    }
+
+    /// Whether a sector is a defect once it is spoiled.
+    pub(crate) fn spoil_answer(&self, segment: u32, sector: u8) -> bool
+        requires { IsSomeAnd (holder_state self.now).size (λ n. IsPlace n segment sector) }
+        ensures { IfSome (holder_state self.now).cartridge (λ c.
+            result ≡ spoil_answer (view_at c segment sector)) }
+    {
+        self.sectors.spoil_answer(view_index(segment, sector))
+    }
+
+    /// Writes a sector, where it was formatted and is no defect.
+    fn write(&mut self, segment: u32, sector: u8, from: &[u8; 1024])
+        requires { IsSomeAnd (holder_state self.old).size (λ n. IsPlace n segment sector) }
+        ensures { holder_state self.new ≡ made (holder_state self.old) (WriteSector segment sector from.now) }
+    {
+        self.sectors.write(view_index(segment, sector), from);
+    }
+
+    /// Formats a segment.
+    fn format_segment(&mut self, segment: u32)
+        requires { IsSomeAnd (holder_state self.old).size (λ n. IsPlace n segment 0) }
+        ensures { holder_state self.new ≡ made (holder_state self.old) (FormatSegment segment) }
+    {
+        self.sectors.format_segment(view_index(segment, 0));
+    }
+
+    /// Sets the referenced mark.
+    fn set_referenced(&mut self)
+        ensures { holder_state self.new ≡ made (holder_state self.old) SetReferenced }
+    {
+        self.info = self.info.map(|info| TapeInfo {
+            referenced: true,
+            ..info
+        });
+    }
+
+    /// Sets or clears the write protect mark.
+    fn set_protected(&mut self, on: bool)
+        ensures { holder_state self.new ≡ made (holder_state self.old) (SetProtected on) }
+    {
+        self.info = self.info.map(|info| TapeInfo {
+            protected: on,
+            ..info
+        });
+    }
+
+    /// Puts in a new cartridge, and tells its size.
+    fn renew(&mut self, segments_per_track: u16)
+        requires long { IsLength segments_per_track }
+        requires room { is_past (holder_state self.old).room (Renew segments_per_track) ≡ false }
+        ensures { holder_state self.new ≡ made (holder_state self.old) (Renew segments_per_track) }
+    {
+        self.sectors
+            .clear(SECTORS_PER_LENGTH * segments_per_track as usize);
+        self.info = Some(TapeInfo {
+            segments_per_track,
+            protected: false,
+            referenced: false,
+        });
+        self.told = true;
+    }
+
+    /// Makes a sector unreadable, where it holds bytes.
+    fn wear(&mut self, segment: u32, sector: u8)
+        requires { IsSomeAnd (holder_state self.old).size (λ n. IsPlace n segment sector) }
+        ensures { holder_state self.new ≡ made (holder_state self.old) (Wear segment sector) }
+    {
+        self.sectors.wear(view_index(segment, sector));
+    }
+
+    /// Makes a defect of a sector, where it was never formatted.
+    fn spoil(&mut self, segment: u32, sector: u8)
+        requires { IsSomeAnd (holder_state self.old).size (λ n. IsPlace n segment sector) }
+        ensures { holder_state self.new ≡ made (holder_state self.old) (Spoil segment sector) }
+    {
+        self.sectors.spoil(view_index(segment, sector));
+    }
+
+    /// Makes each readable sector of a segment unreadable.
+    fn wear_segment(&mut self, segment: u32)
+        requires { IsSomeAnd (holder_state self.old).size (λ n. IsPlace n segment 0) }
+        ensures { holder_state self.new ≡ record (holder_state self.old) {
+          cartridge = lost_by (FormatSegment segment) (holder_state self.old).cartridge;
+        } }
+    {
+        self.sectors.wear_segment(view_index(segment, 0));
+    }
+
+    /// Takes the cartridge away.
+    fn remove(&mut self)
+        ensures { holder_state self.new ≡ record (holder_state self.old) { cartridge = None; size = None } }
+    {
+        self.info = None;
+        self.told = false;
+    }
+
+    /// Makes a change.
+    pub(crate) fn make(&mut self, change: &TapeChange)
+        requires reached { IsReached (holder_state self.old).size (step_of change.now) }
+        requires room { is_past (holder_state self.old).room (step_of change.now) ≡ false }
+        ensures { holder_state self.new ≡ made (holder_state self.old) (step_of change.now) }
+    {
+        match change {
+            TapeChange::WriteSector(segment, sector, bytes) => self.write(*segment, *sector, bytes),
+            TapeChange::FormatSegment(segment) => self.format_segment(*segment),
+            TapeChange::SetReferenced => self.set_referenced(),
+            TapeChange::SetProtected(on) => self.set_protected(*on),
+            TapeChange::Renew(segments_per_track) => self.renew(*segments_per_track),
+            TapeChange::Wear(segment, sector) => self.wear(*segment, *sector),
+            TapeChange::Spoil(segment, sector) => self.spoil(*segment, *sector),
+        }
+    }
+
+    /// Loses what a change was to write.
+    fn lose(&mut self, change: &TapeChange)
+        requires { IsReached (holder_state self.old).size (step_of change.now) }
+        ensures { holder_state self.new ≡ record (holder_state self.old) {
+          cartridge = lost_by (step_of change.now) (holder_state self.old).cartridge;
+          size = size_ended (step_of change.now) true (holder_state self.old).size;
+        } }
+    {
+        match change {
+            TapeChange::WriteSector(segment, sector, _) => self.wear(*segment, *sector),
+            TapeChange::FormatSegment(segment) => self.wear_segment(*segment),
+            TapeChange::Renew(_) => self.remove(),
+            _ => {}
+        }
+    }
+
+    /// Leaves what a change that fails is to leave.
+    pub(crate) fn fail(&mut self, change: &TapeChange, outcome: Outcome)
+        requires reached { IsReached (holder_state self.old).size (step_of change.now) }
+        requires room { outcome ≢ Outcome.Old
+            → is_past (holder_state self.old).room (step_of change.now) ≡ false }
+        ensures { holder_state self.new ≡ record (holder_state self.old) {
+          cartridge = left_by outcome (step_of change.now) (holder_state self.old).cartridge;
+          size = size_ended (step_of change.now) true (holder_state self.old).size;
+        } }
+    {
+        match outcome {
+            Outcome::Old => {}
+            Outcome::Lost => self.lose(change),
+            Outcome::New => self.make(change),
+        }
+        if let TapeChange::Renew(_) = change {
+            self.told = false;
+        }
+    }
+}
+
+/// Where the view of a sector stands among all of them.
+fn view_index(segment: u32, sector: u8) -> usize
+    ensures { result ≡ place_of segment sector }
+{
+    32 * segment as usize + sector as usize
+}
