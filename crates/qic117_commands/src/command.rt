@@ -1,7 +1,7 @@
 //! The commands of the drive, and the numbers of step pulses that call for them.
 
-ghost use Rattle.std.specs.Prelude.{◌≡◌, ◌↔◌, IsNone, IsTrue, Some};
-ghost use Rattle.qic117_commands.specs.Commands.{command_at, number_of, is_undefined};
+ghost use Rattle.std.specs.Prelude.{◌≡◌, ◌↔◌, ◌≤◌, length, IsNone, IsTrue, Some};
+ghost use Rattle.qic117_commands.specs.Commands.{command_at, number_of, name_of, is_undefined};
 ghost use Rattle.qic117_commands.specs.declared.command.Command.{Command};
 
 /// A command of the drive. Its number is the count of step pulses in its train (QIC-117).
@@ -95,6 +95,53 @@ impl Command {
         ensures { result ≡ number_of self }
     {
         self as u8
+    }
+
+    /// The name of the command, as it is printed: at most 20 bytes.
+    pub fn name(self) -> &'static str
+        ensures name { result.now ≡ name_of self }
+        ensures short { length result.now ≤ 20 }
+    {
+        match self {
+            Command::Reset => "Reset",
+            Command::ReportNextBit => "ReportNextBit",
+            Command::Pause => "Pause",
+            Command::MicroStepPause => "MicroStepPause",
+            Command::AlternateTimeout => "AlternateTimeout",
+            Command::ReportStatus => "ReportStatus",
+            Command::ReportError => "ReportError",
+            Command::ReportConfiguration => "ReportConfiguration",
+            Command::ReportRom => "ReportRom",
+            Command::LogicalForward => "LogicalForward",
+            Command::PhysicalReverse => "PhysicalReverse",
+            Command::PhysicalForward => "PhysicalForward",
+            Command::SeekTrack => "SeekTrack",
+            Command::SeekLoadPoint => "SeekLoadPoint",
+            Command::EnterFormat => "EnterFormat",
+            Command::WriteReference => "WriteReference",
+            Command::EnterVerify => "EnterVerify",
+            Command::StopTape => "StopTape",
+            Command::MicroStepUp => "MicroStepUp",
+            Command::MicroStepDown => "MicroStepDown",
+            Command::SoftSelect => "SoftSelect",
+            Command::SoftDeselect => "SoftDeselect",
+            Command::SkipReverse => "SkipReverse",
+            Command::SkipForward => "SkipForward",
+            Command::SelectRate => "SelectRate",
+            Command::Diagnostic1 => "Diagnostic1",
+            Command::Diagnostic2 => "Diagnostic2",
+            Command::EnterPrimary => "EnterPrimary",
+            Command::VendorUnique => "VendorUnique",
+            Command::ReportVendor => "ReportVendor",
+            Command::ReportTapeStatus => "ReportTapeStatus",
+            Command::ExtendedSkipReverse => "ExtendedSkipReverse",
+            Command::ExtendedSkipForward => "ExtendedSkipForward",
+            Command::CalibrateLength => "CalibrateLength",
+            Command::ReportFormatSegments => "ReportFormatSegments",
+            Command::SetFormatSegments => "SetFormatSegments",
+            Command::PhantomSelect => "PhantomSelect",
+            Command::PhantomDeselect => "PhantomDeselect",
+        }
     }
 }
 

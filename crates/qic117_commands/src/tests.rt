@@ -43,6 +43,22 @@ const COMMANDS: [(u8, Command); 38] = [
     (47, Command::PhantomDeselect),
 ];
 
+const NAMES: [(Command, &str); 6] = [
+    (Command::Reset, "Reset"),
+    (Command::ReportNextBit, "ReportNextBit"),
+    (Command::SkipReverse, "SkipReverse"),
+    (Command::Diagnostic2, "Diagnostic2"),
+    (Command::VendorUnique, "VendorUnique"),
+    (Command::PhantomDeselect, "PhantomDeselect"),
+];
+
+#[test]
+fn commands_have_their_names(rt: HostRuntime) {
+    for (command, name) in NAMES {
+        assert_eq!(rt; command.name(), name);
+    }
+}
+
 #[test]
 fn every_number_has_its_command(rt: HostRuntime) {
     for pulses in 0..=255u8 {

@@ -1,6 +1,6 @@
 //! The host's end of a report.
 
-ghost use Rattle.std.specs.Prelude.{◌≡◌, ◌↔◌, ◌<◌, ◌≤◌, ◌^◌, [], ◌∷◌, ◌++◌, true, drop, length, IsSome, IfSome};
+ghost use Rattle.std.specs.Prelude.{◌≡◌, ◌↔◌, ◌<◌, ◌≤◌, ◌^◌, [], ◌∷◌, ◌++◌, true, drop, length, nat_lt, IsSome, IfSome};
 ghost use Rattle.report_bits.specs.Report.{IsWidth, word_of};
 
 use std::marker::Model;
@@ -54,6 +54,13 @@ impl Collector {
             }
             self.count += 1;
         }
+    }
+
+    /// Whether it took a level more than its width, so that the report is over.
+    pub fn is_full(&self) -> bool
+        ensures { result ≡ nat_lt self.now.width (length self.now.levels) }
+    {
+        self.count > self.width
     }
 
     /// The word, from the moment that `width` levels and then the final 1 were pushed. A level 0 in the

@@ -13,11 +13,11 @@ use Rattle.tape_script.proofs.Lines as lines
 use Rattle.tape_script.proofs.Inputs.{AreItems, items, pulses}
 
 -- the bytes at the first newline
-record Cut (bytes : List ℕ) : Type 0 where
-  before : List ℕ
-  rest : List ℕ
-  one_line : NoNewline before
-  parts : bytes ≡ before ++ 0x0A ∷ rest
+pub record Cut (bytes : List ℕ) : Type 0 where
+  pub before : List ℕ
+  pub rest : List ℕ
+  pub one_line : NoNewline before
+  pub parts : bytes ≡ before ++ 0x0A ∷ rest
 
 longer_line : (b : ℕ) (bytes : List ℕ) → b ≢ 0x0A → NoNewline bytes → NoNewline (b ∷ bytes)
 longer_line b bytes first rest zero d here = first
@@ -26,7 +26,7 @@ longer_line b bytes first rest (suc k) d here = rest k d (omega arith)
 newline_or : (b : ℕ) → (b ≡ 0x0A) ⊎ (b ≢ 0x0A)
 newline_or b = same_number b 0x0A
 
-cut : (bytes : List ℕ) → Cut bytes ⊎ NoNewline bytes
+pub cut : (bytes : List ℕ) → Cut bytes ⊎ NoNewline bytes
 cut [] = inr (λ k d here. absurd (omega arith))
 cut (b ∷ bytes) = elim (newline_or b) [
   | inl e ↦ inl record { before = []; rest = bytes; one_line = λ k d here. absurd (omega arith); parts = ap (λ (x : ℕ). x ∷ bytes) e }
@@ -42,7 +42,7 @@ line_is P bytes text rest c l e =
     one_before l.before c.before rest c.rest l.one_line c.one_line
     (sym (append_assoc l.before (0x0A ∷ []) rest) ∙ ap (λ t. t ++ rest) (sym l.whole) ∙ sym e ∙ c.parts)
 
-no_line_without : (P : List ℕ → Type 0) (bytes text rest : List ℕ) → NoNewline bytes → IsLined P text → bytes ≡ text ++ rest → ⊥
+pub no_line_without : (P : List ℕ → Type 0) (bytes text rest : List ℕ) → NoNewline bytes → IsLined P text → bytes ≡ text ++ rest → ⊥
 no_line_without P bytes text rest none l e =
     let parts : bytes ≡ l.before ++ 0x0A ∷ rest = e ∙ ap (λ t. t ++ rest) l.whole ∙ append_assoc l.before (0x0A ∷ []) rest in
     let long = length-append l.before (0x0A ∷ rest) in

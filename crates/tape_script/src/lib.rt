@@ -16,8 +16,9 @@ mod write;
 
 pub use line::{Line, LineRead};
 pub use made::Made;
+pub use number::read_number;
 pub use summed::Summed;
-pub use taking::skip;
+pub use taking::{Taken, skip, take_line};
 pub use text_line::TextLine;
 pub use train::{Train, TrainRead};
 pub use words::{BadWords, Words};

@@ -1,0 +1,48 @@
+//! A run of the program.
+
+ghost use Rattle.std.specs.Prelude.{◌≡◌, ◌≤◌, map, string_bytes};
+ghost use Rattle.qic_base.specs.Cause.{Rose};
+ghost use Rattle.pulse_trace.specs.Runs.{Runs};
+
+use crate::status::TraceStatus;
+use pulse_dialogue::{TraceFault, tell_recording};
+use qic_base::{Sink, Source};
+use std::alloc::Global;
+use trace_words::{BadWords, read_gap};
+
+/// Reads the words of the command line, the program's name the first of them, and then the recording of the source, whose
+/// dialogue it writes to the sink. Memory is taken for the words, before the first call of the source or the sink.
+pub fn run_trace<S: Source, K: Sink>(
+    alloc: Global,
+    words: &Vec<String>,
+    source: &mut S,
+    sink: &mut K,
+) -> TraceStatus
+    // What the words and the recording ask for; where a fault of the outside broke it off, a front of it.
+    ensures runs { Runs S.means K.means (map string_bytes words.now.items)
+        record { source = source.old; sink = sink.old }
+        record { source = source.new; sink = sink.new } result }
+
+    // Each fault of the outside has its cause.
+    ensures source_fault { result ≡ TraceStatus.SourceFault →
+        Rose (S.means.faults source.old) (S.means.faults source.new) }
+    ensures sink_fault { result ≡ TraceStatus.SinkFault →
+        Rose (K.means.faults sink.old) (K.means.faults sink.new) }
+
+    // No count of faults falls.
+    ensures source_later { S.means.faults source.old ≤ S.means.faults source.new }
+    ensures sink_later { K.means.faults sink.old ≤ K.means.faults sink.new }
+
+    ensures kept { S.means.keeps source.old source.new }
+{
+    match read_gap(alloc, words) {
+        Ok(gap) => match tell_recording(gap, source, sink) {
+            Ok(()) => TraceStatus::Done,
+            Err(TraceFault::Line { line, place }) => TraceStatus::TraceFault { line, place },
+            Err(TraceFault::Source) => TraceStatus::SourceFault,
+            Err(TraceFault::Sink) => TraceStatus::SinkFault,
+        },
+        Err(BadWords::Refused) => TraceStatus::Usage,
+        Err(BadWords::NoMemory) => TraceStatus::NoMemory,
+    }
+}
