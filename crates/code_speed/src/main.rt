@@ -96,11 +96,11 @@ fn overwrite(segment: &mut [[u8; SECTOR]; WHOLE], byte: u8) {
 }
 
 /// The three parity sectors of 29 data sectors.
-fn encoded(data: &[[u8; SECTOR]; DATA]) -> [[u8; SECTOR]; 3]
-    ensures { IsCodeBlock (data.now ++ result) }
+fn encoded(sectors: &[[u8; SECTOR]; DATA]) -> [[u8; SECTOR]; 3]
+    ensures { IsCodeBlock (sectors.now ++ result) }
 {
     let mut parity = Parity::new();
-    for sector in data {
+    for sector in sectors {
         parity.push(sector);
     }
     parity.finish()

@@ -9,7 +9,7 @@ push-requires c = omega arith
 
 pub loop-sector-preserved : goal.loop-sector-preserved
 loop-sector-preserved c =
-    let ss : List (List ℕ) = c.args.data.now in
+    let ss : List (List ℕ) = c.args.sectors.now in
     let i : ℕ = c.loop-sector.sector-index in
     record {
       count = omega arith;
@@ -19,7 +19,7 @@ loop-sector-preserved c =
 
 pub returns : goal.returns
 returns c =
-    let ss : List (List ℕ) = c.args.data.now in
+    let ss : List (List ℕ) = c.args.sectors.now in
     let end : length ss ≤ c.loop-sector.sector-index = omega arith in
     subst (λ (ts : List (List ℕ)). IsCodeBlock (ts ++ c.finish.result)) (take_all c.loop-sector.sector-index ss end)
     (c.finish.ensures.codewords (take c.loop-sector.sector-index ss) c.loop-sector.invariant.holds)

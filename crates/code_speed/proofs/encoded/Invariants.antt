@@ -5,5 +5,5 @@ use Rattle.code_speed.proofs.encoded.Given as goal
 abbrev pub invariant-loop-sector : goal.invariant-loop-sector
 invariant-loop-sector l = record {
   count : pushed l.parity ≡ l.sector-index;
-  holds : Holds l.parity (take l.sector-index l.data);
+  holds : Holds l.parity (take l.sector-index l.sectors);
 }
