@@ -5,53 +5,44 @@ use Rattle.qic_base.specs.Tape.{Meaning, Done, Does}
 use Rattle.qic_base.proofs.Steps.{Done-nothing, Done-Done, Done-Broke}
 use Rattle.qic117_commands.specs.Commands.{command_at, commands}
 use Rattle.qic117_commands.specs.declared.command.Command.{Command}
-use Rattle.qic117_commands.specs.declared.command.Command.TheVariants.{Reset, WriteReference}
-use Rattle.qic117_commands.specs.declared.view.Mode.{Mode}
-use Rattle.qic117_commands.specs.declared.view.Mode.TheVariants as mode
-use Rattle.qic117_commands.specs.Refusals.{waits_for_seek, illegal_in_verify}
-use Rattle.qic117_commands.specs.Views.{is_format}
+use Rattle.qic117_commands.specs.declared.command.Command.TheVariants.{Reset, SkipReverse, SkipForward}
+use Rattle.qic117_commands.specs.Refusals.{waits_for_seek, illegal_in_primary, illegal_in_format, illegal_in_verify}
 use Rattle.drive_states.specs.declared.any_drive.AnyDrive.{AnyDrive}
 use Rattle.drive_states.specs.declared.any_drive.AnyDrive.TheVariants.{LoadPoint, Primary, Format, Verify, SeekingLoadPoint, SeekingPrimary, SeekingFormat, SeekingVerify}
-use Rattle.drive_states.specs.declared.deck.Deck.{Deck}
-use Rattle.drive_states.specs.AnyDrive.{place_of}
-use Rattle.drive_states.specs.Deck.{is_seeking, refusal_of}
+use Rattle.drive_states.specs.AnyDrive.{drive_of, state_of}
+use Rattle.drive_states.specs.Deck.{refusal_of}
 use Rattle.drive_states.specs.Record.{Record}
-use Rattle.drive_states.specs.Row.{steps_of, command_steps, train_steps, is_idle}
-use Rattle.drive_states.specs.Unit.{DriveView}
-use Rattle.drive_states.proofs.Obeying.{refused_in_primary, refused_in_verify, refused_in_seek}
+use Rattle.drive_states.specs.Row.{command_steps, train_steps, is_idle}
+use Rattle.drive_states.specs.Typed.{IsIn, skip_command}
+use Rattle.drive_states.specs.Unit.{DeckAndTape}
+use Rattle.drive_states.proofs.Obeying.{refused_in_seek, legal_in_primary, legal_in_format, legal_in_verify}
 
 -- a tape that no call touched
 pub Done-same : {T : Type 0} (m : Meaning T) (a b : T) (steps : List Step) → steps ≡ [] → b ≡ a → Done m a b steps
 Done-same {T} m a b steps none same =
     subst (λ (ss : List Step). Done m a b ss) (sym none) (subst (λ (x : T). Done m a x []) (sym same) (Done-nothing m a))
 
--- the variants that are no other are the four of a seek
-pub seeks_else : {T : Type 0} (x : AnyDrive T) → ((d : DriveView T) → x ≡ LoadPoint d → ⊥) → ((d : DriveView T) → x ≡ Primary d → ⊥) →
-    ((d : DriveView T) → x ≡ Format d → ⊥) → ((d : DriveView T) → x ≡ Verify d → ⊥) → (place_of x).seeks ≡ true
-seeks_else (LoadPoint d) n0 n1 n2 n3 = absurd (n0 d refl)
-seeks_else (Primary d) n0 n1 n2 n3 = absurd (n1 d refl)
-seeks_else (Format d) n0 n1 n2 n3 = absurd (n2 d refl)
-seeks_else (Verify d) n0 n1 n2 n3 = absurd (n3 d refl)
-seeks_else (SeekingLoadPoint d) n0 n1 n2 n3 = refl
-seeks_else (SeekingPrimary d) n0 n1 n2 n3 = refl
-seeks_else (SeekingFormat d) n0 n1 n2 n3 = refl
-seeks_else (SeekingVerify d) n0 n1 n2 n3 = refl
+-- a command that no row refuses is one of the drive's state
+pub refused_elsewhere : {T : Type 0} (x : AnyDrive T) (c : Command) → IsIn (state_of x) (drive_of x).deck → waits_for_seek c ≡ true →
+    refusal_of (drive_of x).deck c ≡ None → (illegal_in_primary c ≡ false → (d : DeckAndTape T) → x ≡ LoadPoint d → ⊥) →
+    (illegal_in_primary c ≡ false → (d : DeckAndTape T) → x ≡ Primary d → ⊥) →
+    (illegal_in_format c ≡ false → (d : DeckAndTape T) → x ≡ Format d → ⊥) →
+    (illegal_in_verify c ≡ false → (d : DeckAndTape T) → x ≡ Verify d → ⊥) → ⊥
+refused_elsewhere (LoadPoint d) c is waits taken n0 n1 n2 n3 = n0 (legal_in_primary c d.deck is.mode taken) d refl
+refused_elsewhere (Primary d) c is waits taken n0 n1 n2 n3 = n1 (legal_in_primary c d.deck is.mode taken) d refl
+refused_elsewhere (Format d) c is waits taken n0 n1 n2 n3 = n2 (legal_in_format c d.deck is.mode taken) d refl
+refused_elsewhere (Verify d) c is waits taken n0 n1 n2 n3 = n3 (legal_in_verify c d.deck is.mode taken) d refl
+refused_elsewhere (SeekingLoadPoint d) c is waits taken n0 n1 n2 n3 = refused_in_seek d.deck c is.seeks waits taken
+refused_elsewhere (SeekingPrimary d) c is waits taken n0 n1 n2 n3 = refused_in_seek d.deck c is.seeks waits taken
+refused_elsewhere (SeekingFormat d) c is waits taken n0 n1 n2 n3 = refused_in_seek d.deck c is.seeks waits taken
+refused_elsewhere (SeekingVerify d) c is waits taken n0 n1 n2 n3 = refused_in_seek d.deck c is.seeks waits taken
 
--- the reference bursts are written in Format mode alone, and not in a seek
-pub no_reference : (c : Command) (d : Deck) → is_format d.mode ≡ false → refusal_of d c ≡ None → steps_of c ≡ []
-unfolding illegal_in_verify
-no_reference WriteReference d other taken = absurd (by_mode d.mode refl)
-  where
-    by_mode : (m : Mode) → d.mode ≡ m → ⊥
-    by_mode mode.Primary e = refused_in_primary d e taken
-    by_mode mode.Format e = let yes : is_format d.mode ≡ true = rw e refl in cc
-    by_mode mode.Verify e = refused_in_verify d WriteReference e refl taken
-no_reference c d other taken = refl
-
-pub no_reference_in_seek : (c : Command) (d : Deck) → is_seeking d.motion ≡ true → refusal_of d c ≡ None → steps_of c ≡ []
-unfolding waits_for_seek
-no_reference_in_seek WriteReference d seeks taken = absurd (refused_in_seek d WriteReference seeks refl taken)
-no_reference_in_seek c d seeks taken = refl
+pub skips_elsewhere : {T : Type 0} (x : AnyDrive T) (forward : Bool) → IsIn (state_of x) (drive_of x).deck →
+    refusal_of (drive_of x).deck (skip_command forward) ≡ None → ((d : DeckAndTape T) → x ≡ LoadPoint d → ⊥) → ((d : DeckAndTape T) → x ≡ Primary d → ⊥) →
+    ((d : DeckAndTape T) → x ≡ Verify d → ⊥) → ⊥
+unfolding waits_for_seek illegal_in_format
+skips_elsewhere x true is taken n0 n1 n3 = refused_elsewhere x SkipForward is refl taken (λ legal. n0) (λ legal. n1) (λ legal d same. cc) (λ legal. n3)
+skips_elsewhere x false is taken n0 n1 n3 = refused_elsewhere x SkipReverse is refl taken (λ legal. n0) (λ legal. n1) (λ legal d same. cc) (λ legal. n3)
 
 -- a step that was done, and then a call that only read
 pub Done-Does : {S E : Type 0} {m : Meaning S} {a b : S} (c : S) (step : Step) (result : Result (Unit {0}) E) →

@@ -17,8 +17,8 @@ use Rattle.drive_states.specs.declared.deck.Motion.TheVariants.{Stopped, Streami
 use Rattle.drive_states.specs.Deck.{segments_per_track, limit, is_stopped, is_streaming, is_seeking, refusal_of, accepted, ticked, run_on}
 use Rattle.drive_states.specs.Reach.{segment_of, Writes}
 use Rattle.drive_states.specs.Sound.{HasLength, IsSound}
-use Rattle.drive_states.specs.Typed.{Place, IsIn, moved, seeking}
-use Rattle.drive_states.specs.Unit.{Knows, DriveView}
+use Rattle.drive_states.specs.Typed.{TypedState, IsIn, moved, seeking}
+use Rattle.drive_states.specs.Unit.{Knows, DeckAndTape}
 use Rattle.drive_states.proofs.Bounds.{with_cartridge, before_limit, limit_within}
 
 neither : (m : Motion) → is_streaming m ≡ false → is_seeking m ≡ false → m ≡ Stopped
@@ -50,7 +50,7 @@ moves_on d false e leaves stands = record { mode = refl; at_load_point = not_the
     not_there true h = sym (h refl)
     not_there false h = refl
 
-pub IsIn-forward : (p q : Place) (d : Deck) → IsSound d → IsIn p d → p.seeks ≡ false → q ≡ moved p → refusal_of d LogicalForward ≡ None → IsIn q (accepted LogicalForward d)
+pub IsIn-forward : (p q : TypedState) (d : Deck) → IsSound d → IsIn p d → p.seeks ≡ false → q ≡ moved p → refusal_of d LogicalForward ≡ None → IsIn q (accepted LogicalForward d)
 unfolding needs_cartridge
 IsIn-forward p q d s here stands left taken =
     let there = with_cartridge d LogicalForward refl taken in
@@ -64,7 +64,7 @@ stops_seeking (Streaming next) e = cc
 stops_seeking (Seeking left) e = cc
 
 -- a seek that is over has come to the state that it sought
-pub IsIn-there : (p : Place) (d : Deck) → IsIn (seeking p) d → p.seeks ≡ false → is_stopped (ticked d).motion ≡ true → IsIn p (ticked d)
+pub IsIn-there : (p : TypedState) (d : Deck) → IsIn (seeking p) d → p.seeks ≡ false → is_stopped (ticked d).motion ≡ true → IsIn p (ticked d)
 IsIn-there p d here stands stopped = record {
   mode = here.mode;
   at_load_point = here.at_load_point;
@@ -90,7 +90,7 @@ IsPlaceOf-here d size s streams known =
         rw known record { on_tape = omega (arith, mul-add-lt track info.segments_per_track offset 28 t o); in_segment = omega arith }
 
 -- what a protected sector was refused for, said of its place
-pub Writes-protected : {T : Type 0} (m : Meaning T) (old new : DriveView T) (s i segment index : ℕ) (bytes : List ℕ) (protected : Bool) (fault : FdcFault) →
+pub Writes-protected : {T : Type 0} (m : Meaning T) (old new : DeckAndTape T) (s i segment index : ℕ) (bytes : List ℕ) (protected : Bool) (fault : FdcFault) →
     protected ≡ true → s ≡ segment → i ≡ index → Writes m old new s i bytes true (Err fault) → Writes m old new segment index bytes protected (Err fault)
 Writes-protected m old new s i segment index bytes protected fault marked here at refused =
     subst (λ (b : Bool). Writes m old new segment index bytes b (Err fault)) (sym marked)
@@ -103,7 +103,7 @@ streams_still (Streaming next) e = refl
 streams_still (Seeking left) e = cc
 
 -- a tape that runs on stays in its state
-pub IsIn-run_on : (p : Place) (d : Deck) → IsIn p d → is_streaming d.motion ≡ true → IsIn p (run_on d)
+pub IsIn-run_on : (p : TypedState) (d : Deck) → IsIn p d → is_streaming d.motion ≡ true → IsIn p (run_on d)
 IsIn-run_on p d here streams = record {
   mode = here.mode;
   at_load_point = here.at_load_point;

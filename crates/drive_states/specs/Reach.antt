@@ -15,7 +15,7 @@ use Rattle.drive_states.specs.declared.deck.Motion.TheVariants.{Stopped, Streami
 use Rattle.drive_states.specs.declared.fault.FdcFault.{FdcFault}
 use Rattle.drive_states.specs.declared.fault.FdcFault.TheVariants.{NoAddress, Protected, Unreadable, Tape}
 use Rattle.drive_states.specs.Deck.{segments_per_track, is_streaming, passed, run_on}
-use Rattle.drive_states.specs.Unit.{DriveView}
+use Rattle.drive_states.specs.Unit.{DeckAndTape}
 
 -- which calls a mode has: sectors are read in Primary and Verify, written in Primary, and formatted in Format
 abbrev pub reads_in : Mode → Bool
@@ -62,17 +62,17 @@ pub record IsFormatting (d : Deck) : Type 0 where
   pub streams : is_streaming d.motion ≡ true
 
 -- the head passed the sector, and the tape was only read
-pub record Passes {T : Type 0} (m : Meaning T) (old new : DriveView T) (index : ℕ) : Type 0 where
+pub record Passes {T : Type 0} (m : Meaning T) (old new : DeckAndTape T) (index : ℕ) : Type 0 where
   pub deck : new.deck ≡ passed old.deck index
   pub tape : Done m old.tape new.tape []
 
 -- the drive is in what it was in, and the tape was only read
-pub record Stays {T : Type 0} (m : Meaning T) (old new : DriveView T) : Type 0 where
+pub record Stays {T : Type 0} (m : Meaning T) (old new : DeckAndTape T) : Type 0 where
   pub deck : new.deck ≡ old.deck
   pub tape : Done m old.tape new.tape []
 
 -- A read of a sector under the head, by its answer: the bytes that it held before are in into, those after in now.
-abbrev pub Finds : {T : Type 0} (m : Meaning T) (old new : DriveView T) (segment index : ℕ) (into now : List ℕ) → Result (Unit {0}) FdcFault → Type 0
+abbrev pub Finds : {T : Type 0} (m : Meaning T) (old new : DeckAndTape T) (segment index : ℕ) (into now : List ℕ) → Result (Unit {0}) FdcFault → Type 0
 Finds m old new segment index into now (Ok done) =
     Passes m old new index × Tells m old.tape (λ c. view_at c segment index ≡ view.Holds now)
 Finds m old new segment index into now (Err NoAddress) =
@@ -90,7 +90,7 @@ IsFormatted m tape segment index = Tells m tape (λ c. ¬ (view_at c segment ind
 
 -- A write to a sector under the head, by its answer. A protected cartridge is only read, to learn whether the sector
 -- was formatted.
-abbrev pub Writes : {T : Type 0} (m : Meaning T) (old new : DriveView T) (segment index : ℕ) (bytes : List ℕ) → (protected : Bool) → Result (Unit {0}) FdcFault → Type 0
+abbrev pub Writes : {T : Type 0} (m : Meaning T) (old new : DeckAndTape T) (segment index : ℕ) (bytes : List ℕ) → (protected : Bool) → Result (Unit {0}) FdcFault → Type 0
 Writes m old new segment index bytes false (Ok done) =
     (new.deck ≡ passed old.deck index) × Done m old.tape new.tape (WriteSector segment index bytes ∷ [])
     × IsFormatted m old.tape segment index
@@ -110,7 +110,7 @@ Writes m old new segment index bytes true (Err Tape) =
     (new.deck ≡ old.deck) × Broke m old.tape new.tape []
 
 -- A format of the segment under the head, by its answer: the head moves on.
-abbrev pub Formats : {T : Type 0} (m : Meaning T) (old new : DriveView T) → Result (Unit {0}) FdcFault → Type 0
+abbrev pub Formats : {T : Type 0} (m : Meaning T) (old new : DeckAndTape T) → Result (Unit {0}) FdcFault → Type 0
 Formats m old new (Ok done) =
     (new.deck ≡ run_on old.deck) × Done m old.tape new.tape (FormatSegment (segment_of old.deck) ∷ [])
 Formats m old new (Err NoAddress) = ⊥

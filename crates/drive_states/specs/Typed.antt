@@ -10,57 +10,57 @@ use Rattle.qic117_commands.specs.declared.view.Mode.TheVariants.{Primary}
 use Rattle.qic117_commands.specs.Views.{is_primary}
 use Rattle.drive_states.specs.declared.deck.Deck.{Deck}
 use Rattle.drive_states.specs.Deck.{is_seeking, refusal_of}
-use Rattle.drive_states.specs.Unit.{DriveView}
+use Rattle.drive_states.specs.Unit.{DeckAndTape}
 
 -- what a typed state is: a mode, whether the drive stands at the load point or seeks it, and whether it seeks
-pub record Place : Type 0 where
+pub record TypedState : Type 0 where
   pub mode : Mode
   pub at_load_point : Bool
   pub seeks : Bool
 
 -- the deck is in that state
-pub record IsIn (place : Place) (d : Deck) : Type 0 where
-  pub mode : d.mode ≡ place.mode
-  pub at_load_point : d.at_load_point ≡ place.at_load_point
-  pub seeks : is_seeking d.motion ≡ place.seeks
+pub record IsIn (state : TypedState) (d : Deck) : Type 0 where
+  pub mode : d.mode ≡ state.mode
+  pub at_load_point : d.at_load_point ≡ state.at_load_point
+  pub seeks : is_seeking d.motion ≡ state.seeks
 
 -- where a drive is that has left the load point, ..
-abbrev pub moved : Place → Place
-moved place = record place { at_load_point = false }
+abbrev pub moved : TypedState → TypedState
+moved state = record state { at_load_point = false }
 
 -- .. that has sought the start of track 0, ..
-abbrev pub home : Place → Place
-home place = record place { at_load_point = is_primary place.mode }
+abbrev pub at_start : TypedState → TypedState
+at_start state = record state { at_load_point = is_primary state.mode }
 
 -- .. that was reset, and that seeks
-abbrev pub after_reset : Place → Place
-after_reset place = record {
+abbrev pub after_reset : TypedState → TypedState
+after_reset state = record {
   mode = Primary;
-  at_load_point = is_primary place.mode && place.at_load_point;
+  at_load_point = is_primary state.mode && state.at_load_point;
   seeks = false;
 }
 
-abbrev pub seeking : Place → Place
-seeking place = record place { seeks = true }
+abbrev pub seeking : TypedState → TypedState
+seeking state = record state { seeks = true }
 
 -- no row refused the command, and this is the deck after it; the tape is the same
-pub record Obeyed {T : Type 0} (old new : DriveView T) (command : Command) (after : Deck) : Type 0 where
+pub record Obeyed {T : Type 0} (old new : DeckAndTape T) (command : Command) (after : Deck) : Type 0 where
   pub taken : refusal_of old.deck command ≡ None
   pub drive : new ≡ record old { deck = after }
 
 -- a row refused the command with this code, and the drive is handed back unchanged
-pub record Refuses {T : Type 0} (old back : DriveView T) (command : Command) (code : ErrorCode) : Type 0 where
+pub record Refuses {T : Type 0} (old back : DeckAndTape T) (command : Command) (code : ErrorCode) : Type 0 where
   pub refused : refusal_of old.deck command ≡ Some code
   pub unchanged : back ≡ old
 
 -- the reference bursts were written, in a drive that no row refused that, or were not, for a fault of the tape
-pub record References {T : Type 0} (m : Meaning T) (old new : DriveView T) (after : Deck) : Type 0 where
+pub record References {T : Type 0} (m : Meaning T) (old new : DeckAndTape T) (after : Deck) : Type 0 where
   pub size : m.size new.tape ≡ m.size old.tape
   pub taken : refusal_of old.deck WriteReference ≡ None
   pub deck : new.deck ≡ after
   pub tape : Done m old.tape new.tape (SetReferenced ∷ [])
 
-pub record FailsToReference {T : Type 0} (m : Meaning T) (old new : DriveView T) (after : Deck) : Type 0 where
+pub record FailsToReference {T : Type 0} (m : Meaning T) (old new : DeckAndTape T) (after : Deck) : Type 0 where
   pub size : m.size new.tape ≡ m.size old.tape
   pub taken : refusal_of old.deck WriteReference ≡ None
   pub deck : new.deck ≡ after

@@ -9,7 +9,7 @@ use Rattle.drive_states.specs.Record.{Record, power_on}
 use Rattle.drive_states.specs.Sound.{HasLength, IsSoundRecord}
 
 -- a typed drive
-pub record DriveView (T : Type 0) : Type 0 where
+pub record DeckAndTape (T : Type 0) : Type 0 where
   pub deck : Deck
   pub tape : T
 
@@ -19,7 +19,7 @@ pub record UnitView (T : Type 0) : Type 0 where
   pub tape : T
 
 -- the typed drive of a unit
-abbrev pub held : {T : Type 0} → UnitView T → DriveView T
+abbrev pub held : {T : Type 0} → UnitView T → DeckAndTape T
 held u = record { deck = u.drive.deck; tape = u.tape }
 
 -- a cartridge that the drive knows of has the size that the tape told
@@ -33,7 +33,7 @@ pub record IsSoundUnit {T : Type 0} (m : Meaning T) (u : UnitView T) : Type 0 wh
   pub known : Knows u.drive.deck.cartridge (m.size u.tape)
 
 -- the drive just learnt what its cartridge is
-pub record KnowsAll {T : Type 0} (m : Meaning T) (d : DriveView T) : Type 0 where
+pub record KnowsAll {T : Type 0} (m : Meaning T) (d : DeckAndTape T) : Type 0 where
   pub deck : d.deck ≡ power_on_deck d.deck.cartridge
   pub long : HasLength d.deck.cartridge
   pub told : IfSome (m.told d.tape) (λ there. d.deck.cartridge ≡ option_map (λ c. c.info) there)

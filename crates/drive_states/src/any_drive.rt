@@ -5,7 +5,7 @@ ghost use Rattle.qic_base.specs.Cartridge.{view_at};
 ghost use Rattle.qic_base.specs.Step.{Wear, Spoil};
 ghost use Rattle.qic_base.specs.Tape.{Does, Tells, IsPlaceOf, spoil_answer};
 ghost use Rattle.qic117_commands.specs.Views.{is_primary};
-ghost use Rattle.drive_states.specs.AnyDrive.{drive_of, place_of};
+ghost use Rattle.drive_states.specs.AnyDrive.{drive_of, state_of};
 ghost use Rattle.drive_states.specs.Deck.{ticked, reset, run_on, is_streaming, is_protected};
 ghost use Rattle.drive_states.specs.Reach.{reads_in, Reaches, ReachesNone, IsFormatting, Finds, Writes, Formats};
 ghost use Rattle.drive_states.specs.Sound.{IsSound};
@@ -53,11 +53,22 @@ impl<T: Tape> AnyDrive<T> {
     pub fn deck(&self) -> Deck
         ensures deck { result ≡ (drive_of self.now).deck }
         ensures sound { IsSound (drive_of self.now).deck }
-        ensures state { IsIn (place_of self.now) (drive_of self.now).deck }
+        ensures state { IsIn (state_of self.now) (drive_of self.now).deck }
         ensures known { Knows (drive_of self.now).deck.cartridge
             (T.means.size (drive_of self.now).tape) }
     {
         in_each_state!(self, drive => drive.deck())
+    }
+
+    /// Does nothing, but brings into view what each drive is by its invariant: its deck is within its bounds and in the
+    /// state of its variant, and it knows the size of its cartridge.
+    pub fn reveal(&self)
+        ensures sound { IsSound (drive_of self.now).deck }
+        ensures state { IsIn (state_of self.now) (drive_of self.now).deck }
+        ensures known { Knows (drive_of self.now).deck.cartridge
+            (T.means.size (drive_of self.now).tape) }
+    {
+        in_each_state!(self, drive => drive.reveal())
     }
 
     /// The tape.
@@ -90,7 +101,7 @@ impl<T: Tape> AnyDrive<T> {
     pub fn tick(self) -> AnyDrive<T>
         ensures { drive_of result ≡ record (drive_of self) { deck = ticked (drive_of self).deck } }
     {
-        let _ = self.deck();
+        self.reveal();
         match self {
             AnyDrive::SeekingLoadPoint(drive) => match drive.tick() {
                 Ticked::Still(drive) => AnyDrive::SeekingLoadPoint(drive),
@@ -136,7 +147,7 @@ impl<T: Tape> AnyDrive<T> {
             Finds T.means (drive_of self.old) (drive_of self.new) segment index into.old into.new result }
         ensures size { T.means.size (drive_of self.new).tape ≡ T.means.size (drive_of self.old).tape }
     {
-        let _ = self.deck();
+        self.reveal();
         match self {
             AnyDrive::Primary(drive) => drive.read_sector(addr, into),
             AnyDrive::Verify(drive) => drive.read_sector(addr, into),
@@ -153,7 +164,7 @@ impl<T: Tape> AnyDrive<T> {
             (is_protected (drive_of self.old).deck) result }
         ensures size { T.means.size (drive_of self.new).tape ≡ T.means.size (drive_of self.old).tape }
     {
-        let _ = self.deck();
+        self.reveal();
         match self {
             AnyDrive::Primary(drive) => drive.write_sector(addr, from),
             _ => Err(FdcFault::NoAddress),
@@ -168,7 +179,7 @@ impl<T: Tape> AnyDrive<T> {
             Formats T.means (drive_of self.old) (drive_of self.new) result }
         ensures size { T.means.size (drive_of self.new).tape ≡ T.means.size (drive_of self.old).tape }
     {
-        let _ = self.deck();
+        self.reveal();
         match self {
             AnyDrive::Format(drive) => drive.format_segment(),
             _ => Err(FdcFault::NoAddress),

@@ -26,13 +26,13 @@ pub struct Drive<S: State, T: Tape> {
 impl<S: State, T: Tape> Model for Drive<S, T> {
     ghost use Rattle.drive_states.specs.Sound.{IsSound};
     ghost use Rattle.drive_states.specs.Typed.{IsIn};
-    ghost use Rattle.drive_states.specs.Unit.{DriveView, Knows};
+    ghost use Rattle.drive_states.specs.Unit.{DeckAndTape, Knows};
 
-    ghost Value = { DriveView T };
+    ghost Value = { DeckAndTape T };
 
     ghost view = { λ d. record { deck = d.deck; tape = d.tape } };
 
-    ghost invariant = { λ d. IsSound d.deck × IsIn S.place d.deck
+    ghost invariant = { λ d. IsSound d.deck × IsIn S.state d.deck
         × Knows d.deck.cartridge (T.means.size d.tape) };
 }
 
@@ -60,7 +60,7 @@ impl<S: State, T: Tape> Drive<S, T> {
     /// A drive of a deck and a tape.
     pub(crate) fn of(deck: Deck, tape: T) -> Drive<S, T>
         requires sound { IsSound deck }
-        requires state { IsIn S.place deck }
+        requires state { IsIn S.state deck }
         requires known { Knows deck.cartridge (T.means.size tape) }
         ensures { result ≡ record { deck = deck; tape = tape } }
     {
@@ -76,7 +76,7 @@ impl<S: State, T: Tape> Drive<S, T> {
         ensures deck { result.0 ≡ self.deck }
         ensures tape { result.1 ≡ self.tape }
         ensures sound { IsSound self.deck }
-        ensures state { IsIn S.place self.deck }
+        ensures state { IsIn S.state self.deck }
         ensures known { Knows self.deck.cartridge (T.means.size self.tape) }
     {
         let Drive {
@@ -91,10 +91,20 @@ impl<S: State, T: Tape> Drive<S, T> {
     pub(crate) fn deck(&self) -> Deck
         ensures deck { result ≡ self.now.deck }
         ensures sound { IsSound self.now.deck }
-        ensures state { IsIn S.place self.now.deck }
+        ensures state { IsIn S.state self.now.deck }
         ensures known { Knows self.now.deck.cartridge (T.means.size self.now.tape) }
     {
         self.deck
+    }
+
+    /// Does nothing, but brings into view what each drive is by its invariant: its deck is within its bounds and in the
+    /// drive's state, and it knows the size of its cartridge.
+    pub(crate) fn reveal(&self)
+        ensures sound { IsSound self.now.deck }
+        ensures state { IsIn S.state self.now.deck }
+        ensures known { Knows self.now.deck.cartridge (T.means.size self.now.tape) }
+    {
+        let _ = self.deck();
     }
 
     /// Sets the error word and the new cartridge flag.

@@ -4,10 +4,10 @@ use std::marker::PhantomData;
 
 /// A state of a typed drive.
 pub trait State {
-    ghost use Rattle.drive_states.specs.Typed.{Place};
+    ghost use Rattle.drive_states.specs.Typed.{TypedState};
 
     /// The mode, whether the drive stands at the load point or seeks it, and whether it seeks.
-    ghost place: { Place };
+    ghost state: { TypedState };
 }
 
 /// A state that a reset ends in another one.
@@ -18,13 +18,13 @@ pub trait Resets: State {
     type Reset: State;
 
     /// A reset ends in Primary mode, at the load point where the drive stood there or sought it.
-    ghost resets: { Self.Reset.place ≡ after_reset Self.place };
+    ghost resets: { Self.Reset.state ≡ after_reset Self.state };
 }
 
 /// A state in which the drive does not seek.
 pub trait Standing: State {
     ghost use Rattle.std.specs.Prelude.{◌≡◌, false};
-    ghost use Rattle.drive_states.specs.Typed.{moved, home};
+    ghost use Rattle.drive_states.specs.Typed.{moved, at_start};
 
     /// The state once the tape has moved: Primary for LoadPoint, else the same.
     type Moved: State;
@@ -33,13 +33,13 @@ pub trait Standing: State {
     type Home: State;
 
     /// The drive does not seek.
-    ghost stands: { Self.place.seeks ≡ false };
+    ghost stands: { Self.state.seeks ≡ false };
 
     /// The tape has left the load point.
-    ghost moves: { Self.Moved.place ≡ moved Self.place };
+    ghost moves: { Self.Moved.state ≡ moved Self.state };
 
     /// The start of track 0 is the load point in Primary mode alone.
-    ghost goes_home: { Self.Home.place ≡ home Self.place };
+    ghost goes_home: { Self.Home.state ≡ at_start Self.state };
 }
 
 /// A state in which the table has skips: each standing one but Format.
@@ -48,7 +48,7 @@ pub trait Skips: Standing {
     ghost use Rattle.qic117_commands.specs.Views.{is_format};
 
     /// The mode is another one.
-    ghost is_no_format: { is_format Self.place.mode ≡ false };
+    ghost is_no_format: { is_format Self.state.mode ≡ false };
 }
 
 /// A state from which Format mode is entered: LoadPoint and Primary.
@@ -63,7 +63,7 @@ pub trait EntersPrimary: Standing {
     ghost use Rattle.qic117_commands.specs.Views.{is_primary};
 
     /// The mode is another one.
-    ghost is_other: { is_primary Self.place.mode ≡ false };
+    ghost is_other: { is_primary Self.state.mode ≡ false };
 }
 
 /// A state in which sectors are read: Primary and Verify.
@@ -72,7 +72,7 @@ pub trait Reads: Standing {
     ghost use Rattle.drive_states.specs.Reach.{reads_in};
 
     /// The mode has the call.
-    ghost reads: { reads_in Self.place.mode ≡ true };
+    ghost reads: { reads_in Self.state.mode ≡ true };
 }
 
 /// In Primary mode at the load point, where the tape does not stream.
@@ -101,34 +101,34 @@ impl State for LoadPoint {
     ghost use Rattle.std.specs.Prelude.{true, false};
     ghost use Rattle.qic117_commands.specs.declared.view.Mode.TheVariants as mode;
 
-    ghost place = { record { mode = mode.Primary; at_load_point = true; seeks = false } };
+    ghost state = { record { mode = mode.Primary; at_load_point = true; seeks = false } };
 }
 
 impl State for Primary {
     ghost use Rattle.std.specs.Prelude.{false};
     ghost use Rattle.qic117_commands.specs.declared.view.Mode.TheVariants as mode;
 
-    ghost place = { record { mode = mode.Primary; at_load_point = false; seeks = false } };
+    ghost state = { record { mode = mode.Primary; at_load_point = false; seeks = false } };
 }
 
 impl State for Format {
     ghost use Rattle.std.specs.Prelude.{false};
     ghost use Rattle.qic117_commands.specs.declared.view.Mode.TheVariants as mode;
 
-    ghost place = { record { mode = mode.Format; at_load_point = false; seeks = false } };
+    ghost state = { record { mode = mode.Format; at_load_point = false; seeks = false } };
 }
 
 impl State for Verify {
     ghost use Rattle.std.specs.Prelude.{false};
     ghost use Rattle.qic117_commands.specs.declared.view.Mode.TheVariants as mode;
 
-    ghost place = { record { mode = mode.Verify; at_load_point = false; seeks = false } };
+    ghost state = { record { mode = mode.Verify; at_load_point = false; seeks = false } };
 }
 
 impl<Next: State> State for Seeking<Next> {
     ghost use Rattle.drive_states.specs.Typed.{seeking};
 
-    ghost place = { seeking Next.place };
+    ghost state = { seeking Next.state };
 }
 
 impl Standing for LoadPoint {

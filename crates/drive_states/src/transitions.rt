@@ -18,7 +18,7 @@ impl<S: State, T: Tape> Drive<S, T> {
     // The drive after a command that no row refuses.
     fn accepted<N: State>(self, command: Command) -> Drive<N, T>
         requires taken { refusal_of self.deck command ≡ None }
-        requires state { IsIn N.place (accepted command self.deck) }
+        requires state { IsIn N.state (accepted command self.deck) }
         ensures { Obeyed self result command (accepted command self.deck) }
     {
         let (deck, tape) = self.into_parts();
@@ -29,7 +29,7 @@ impl<S: State, T: Tape> Drive<S, T> {
     fn given<N: State>(self, command: Command, parameter: u16) -> Drive<N, T>
         requires taken { refusal_of self.deck command ≡ None }
         requires parameter { IsParameter command parameter }
-        requires state { IsIn N.place (given command parameter self.deck) }
+        requires state { IsIn N.state (given command parameter self.deck) }
         ensures { Obeyed self result command (given command parameter self.deck) }
     {
         let (deck, tape) = self.into_parts();
@@ -56,7 +56,7 @@ impl<M: Standing, T: Tape> Drive<M, T> {
         requires { IsSome self.deck.cartridge }
         ensures { Obeyed self result command.StopTape (accepted command.StopTape self.deck) }
     {
-        let _ = &self.deck;
+        self.reveal();
         self.accepted(Command::StopTape)
     }
 
@@ -148,7 +148,7 @@ impl<M: EntersPrimary, T: Tape> Drive<M, T> {
         requires { is_stopped self.deck.motion ≡ true }
         ensures { Obeyed self result command.EnterPrimary (accepted command.EnterPrimary self.deck) }
     {
-        let _ = &self.deck;
+        self.reveal();
         self.accepted(Command::EnterPrimary)
     }
 }
@@ -180,7 +180,7 @@ impl<T: Tape> Drive<Format, T> {
         ensures { Obeyed self result command.SetFormatSegments
             (given command.SetFormatSegments count self.deck) }
     {
-        let _ = &self.deck;
+        self.reveal();
         self.given(Command::SetFormatSegments, count)
     }
 }

@@ -69,7 +69,7 @@ impl<T: Tape> Unit<T> {
         ensures same_size { OnErr result (T.means.size self.new.tape ≡ T.means.size self.old.tape) }
     {
         let answer = self.dialogue.insert();
-        let _ = self.dialogue.drive.deck();
+        self.dialogue.drive.reveal();
         answer
     }
 
@@ -93,7 +93,7 @@ impl<T: Tape> Unit<T> {
         ensures sound { IsSoundUnit T.means self.new }
     {
         let answer = self.dialogue.gap();
-        let _ = self.dialogue.drive.deck();
+        self.dialogue.drive.reveal();
         answer
     }
 
@@ -119,7 +119,7 @@ impl<T: Tape> Unit<T> {
         ensures sound { IsSoundUnit T.means self.new }
     {
         let answer = self.dialogue.drive.read_sector(addr, into);
-        let _ = self.dialogue.drive.deck();
+        self.dialogue.drive.reveal();
         answer
     }
 
@@ -135,7 +135,7 @@ impl<T: Tape> Unit<T> {
         ensures sound { IsSoundUnit T.means self.new }
     {
         let answer = self.dialogue.drive.write_sector(addr, from);
-        let _ = self.dialogue.drive.deck();
+        self.dialogue.drive.reveal();
         answer
     }
 
@@ -151,7 +151,7 @@ impl<T: Tape> Unit<T> {
         ensures sound { IsSoundUnit T.means self.new }
     {
         let answer = self.dialogue.format_segment();
-        let _ = self.dialogue.drive.deck();
+        self.dialogue.drive.reveal();
         answer
     }
 
@@ -161,7 +161,7 @@ impl<T: Tape> Unit<T> {
         ensures { Replaces T.means self.old self.new (Renew segments_per_track) result }
     {
         let answer = self.dialogue.load_blank(segments_per_track);
-        let _ = self.dialogue.drive.deck();
+        self.dialogue.drive.reveal();
         answer
     }
 
@@ -176,7 +176,7 @@ impl<T: Tape> Unit<T> {
             return Err(HandFault::NoCartridge);
         }
         let answer = self.dialogue.protect(on);
-        let _ = self.dialogue.drive.deck();
+        self.dialogue.drive.reveal();
         answer
     }
 

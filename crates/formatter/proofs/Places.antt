@@ -14,7 +14,7 @@ use Rattle.drive_states.specs.Sound.{IsSound, IsInMotion}
 use Rattle.drive_states.specs.Unit.{UnitView, Knows}
 use Rattle.host_driver.specs.declared.host.Host.{Host}
 use Rattle.host_driver.specs.Fits.{Fits, segments_of}
-use Rattle.host_driver.specs.Place.{StreamsAt, KeepsMode, RunsOn, idled_deck}
+use Rattle.host_driver.specs.Place.{StreamsAt, RunsOn}
 
 -- ---- what a host knows
 
@@ -86,27 +86,6 @@ before_next n track offset old new length sound within streams here runs =
           record { motion = at.motion; here = let next : track * n + (offset + 1) ≡ segment_of old + 1 = omega arith in next ∙ at.here };
       stops = λ past. ap is_stopped (runs.end (omega arith));
     }
-
--- a gap more, where the tape streams
-pub idled_cartridge : (d : Deck) → (idled_deck d).cartridge ≡ d.cartridge
-idled_cartridge d = by_motion (is_streaming d.motion) refl
-  where
-    by_motion : (b : Bool) → is_streaming d.motion ≡ b → (idled_deck d).cartridge ≡ d.cartridge
-    by_motion true e = rw e refl
-    by_motion false e = rw e refl
-
-pub idled_mode : (d : Deck) → (idled_deck d).mode ≡ d.mode
-idled_mode d = by_motion (is_streaming d.motion) refl
-  where
-    by_motion : (b : Bool) → is_streaming d.motion ≡ b → (idled_deck d).mode ≡ d.mode
-    by_motion true e = rw e refl
-    by_motion false e = rw e refl
-
-pub idled_keeps : (old new : Deck) → new ≡ idled_deck old → KeepsMode old new
-idled_keeps old new is = record {
-  cartridge = ap (λ (d : Deck). d.cartridge) is ∙ idled_cartridge old;
-  mode = ap (λ (d : Deck). d.mode) is ∙ idled_mode old;
-}
 
 -- with the reference bursts the length is what it was
 pub length_referenced : (a b : Deck) → b.cartridge ≡ referenced_as true a.cartridge → segments_per_track b ≡ segments_per_track a

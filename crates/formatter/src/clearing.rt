@@ -4,8 +4,8 @@ ghost use Rattle.std.specs.Prelude.{◌≡◌, ◌≢◌, ◌↔◌, ◌<◌, �
 ghost use Rattle.qic_base.specs.Tape.{Does};
 ghost use Rattle.qic117_commands.specs.Views.{is_format};
 ghost use Rattle.drive_states.specs.Deck.{segments_per_track, is_stopped, is_protected, is_referenced, referenced_as};
-ghost use Rattle.host_driver.specs.Fits.{Agrees, Fits, IsAtRest};
-ghost use Rattle.host_driver.specs.Place.{KeepsMode};
+ghost use Rattle.host_driver.specs.Calls.{IsReady, Keeps};
+ghost use Rattle.host_driver.specs.Fits.{AgreesWithTape, Fits, IsAtRest};
 ghost use Rattle.format_plan.specs.Formatting.{segment_formats};
 ghost use Rattle.formatter.specs.Formats.{Clears};
 ghost use Rattle.formatter.specs.Steps.{track_formats};
@@ -19,8 +19,7 @@ use qic117_commands::Mode;
 
 /// Writes the reference bursts, and zero bytes into each sector of the cartridge.
 pub(crate) fn clear<T: Tape>(host: &mut Host, unit: &mut Unit<T>) -> Result<(), FormatFault>
-    requires fits { Fits T.means host.old unit.old }
-    requires rest { IsAtRest unit.old.drive }
+    requires ready { IsReady T.means host.old unit.old }
     ensures protected { (result ≡ Err FormatFault.Protected)
         ↔ (is_protected unit.old.drive.deck ≡ true) }
     ensures untouched { result ≡ Err FormatFault.Protected → unit.new.tape ≡ unit.old.tape }
@@ -30,7 +29,7 @@ pub(crate) fn clear<T: Tape>(host: &mut Host, unit: &mut Unit<T>) -> Result<(), 
         ≡ referenced_as true unit.old.drive.deck.cartridge) }
     ensures stopped { OnOk result (is_stopped unit.new.drive.deck.motion ≡ true) }
     ensures agrees { result ≢ Err FormatFault.Tape →
-        Agrees T.means unit.old → Agrees T.means unit.new }
+        AgreesWithTape T.means unit.old → AgreesWithTape T.means unit.new }
     ensures size { T.means.size unit.new.tape ≡ T.means.size unit.old.tape }
     ensures fits { Fits T.means host.new unit.new }
     ensures rest { result ≢ Err FormatFault.Tape → IsAtRest unit.new.drive }
@@ -46,8 +45,7 @@ pub(crate) fn clear<T: Tape>(host: &mut Host, unit: &mut Unit<T>) -> Result<(), 
 
 // Formats the segments of all tracks, ascending.
 fn clear_tracks<T: Tape>(host: &mut Host, unit: &mut Unit<T>) -> Result<(), HostFault>
-    requires fits { Fits T.means host.old unit.old }
-    requires rest { IsAtRest unit.old.drive }
+    requires ready { IsReady T.means host.old unit.old }
     requires format { is_format unit.old.drive.deck.mode ≡ true }
     requires referenced { is_referenced unit.old.drive.deck ≡ true }
     requires stopped { is_stopped unit.old.drive.deck.motion ≡ true }
@@ -55,11 +53,7 @@ fn clear_tracks<T: Tape>(host: &mut Host, unit: &mut Unit<T>) -> Result<(), Host
         (segment_formats (28 * segments_per_track unit.old.drive.deck)) result }
     ensures fault { IsOkUnless result HostFault.Tape }
     ensures stopped { OnOk result (is_stopped unit.new.drive.deck.motion ≡ true) }
-    ensures same { KeepsMode unit.old.drive.deck unit.new.drive.deck }
-    ensures agrees { Agrees T.means unit.old → Agrees T.means unit.new }
-    ensures size { T.means.size unit.new.tape ≡ T.means.size unit.old.tape }
-    ensures fits { Fits T.means host.new unit.new }
-    ensures rest { IsAtRest unit.new.drive }
+    ensures keeps { Keeps T.means host.new unit.old unit.new }
 {
     for track in 0..TRACKS {
         clear_track(host, unit, track)?;
@@ -69,8 +63,7 @@ fn clear_tracks<T: Tape>(host: &mut Host, unit: &mut Unit<T>) -> Result<(), Host
 
 // Formats the segments of a track, ascending.
 fn clear_track<T: Tape>(host: &mut Host, unit: &mut Unit<T>, track: u32) -> Result<(), HostFault>
-    requires fits { Fits T.means host.old unit.old }
-    requires rest { IsAtRest unit.old.drive }
+    requires ready { IsReady T.means host.old unit.old }
     requires format { is_format unit.old.drive.deck.mode ≡ true }
     requires referenced { is_referenced unit.old.drive.deck ≡ true }
     requires track { track < 28 }
@@ -78,11 +71,7 @@ fn clear_track<T: Tape>(host: &mut Host, unit: &mut Unit<T>, track: u32) -> Resu
         (track_formats (segments_per_track unit.old.drive.deck) track) result }
     ensures fault { IsOkUnless result HostFault.Tape }
     ensures stopped { OnOk result (is_stopped unit.new.drive.deck.motion ≡ true) }
-    ensures same { KeepsMode unit.old.drive.deck unit.new.drive.deck }
-    ensures agrees { Agrees T.means unit.old → Agrees T.means unit.new }
-    ensures size { T.means.size unit.new.tape ≡ T.means.size unit.old.tape }
-    ensures fits { Fits T.means host.new unit.new }
-    ensures rest { IsAtRest unit.new.drive }
+    ensures keeps { Keeps T.means host.new unit.old unit.new }
 {
     let count = u32::from(host.geometry().segments_per_track());
     host.go_to(unit, track * count)?;

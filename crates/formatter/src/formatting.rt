@@ -2,7 +2,8 @@
 
 ghost use Rattle.std.specs.Prelude.{◌≡◌, ◌≢◌, ◌↔◌, true, length};
 ghost use Rattle.drive_states.specs.Deck.{segments_per_track, is_protected};
-ghost use Rattle.host_driver.specs.Fits.{Agrees, Fits, IsAtRest};
+ghost use Rattle.host_driver.specs.Calls.{IsReady};
+ghost use Rattle.host_driver.specs.Fits.{AgreesWithTape, Fits, IsAtRest};
 ghost use Rattle.formatter.specs.Formats.{Formats};
 
 use crate::clearing::clear;
@@ -35,8 +36,7 @@ pub fn format<T: Tape>(
     label: &Name,
     date: u32,
 ) -> Result<FormatReport, FormatFault>
-    requires fits { Fits T.means host.old unit.old }
-    requires rest { IsAtRest unit.old.drive }
+    requires ready { IsReady T.means host.old unit.old }
     ensures protected { (result ≡ Err FormatFault.Protected)
         ↔ (is_protected unit.old.drive.deck ≡ true) }
     ensures untouched { result ≡ Err FormatFault.Protected → unit.new.tape ≡ unit.old.tape }
@@ -47,7 +47,7 @@ pub fn format<T: Tape>(
     ensures rest { result ≢ Err FormatFault.Tape → IsAtRest unit.new.drive }
     ensures size { T.means.size unit.new.tape ≡ T.means.size unit.old.tape }
     ensures agrees { result ≢ Err FormatFault.Tape →
-        Agrees T.means unit.old → Agrees T.means unit.new }
+        AgreesWithTape T.means unit.old → AgreesWithTape T.means unit.new }
     ensures room { length work.new ≡ 32 }
 {
     let sectors = work.sectors_mut();

@@ -8,8 +8,8 @@ ghost use Rattle.cartridge_spec.specs.HeaderAndTable.{IsArea};
 ghost use Rattle.header_segments.specs.Header.{header_of};
 ghost use Rattle.qic117_commands.specs.Views.{is_primary};
 ghost use Rattle.drive_states.specs.Deck.{segments_per_track, is_stopped, is_protected, is_referenced};
-ghost use Rattle.host_driver.specs.Fits.{Agrees, Fits, IsAtRest};
-ghost use Rattle.host_driver.specs.Place.{KeepsMode};
+ghost use Rattle.host_driver.specs.Calls.{IsReady, MayWrite, Keeps};
+ghost use Rattle.host_driver.specs.Fits.{AgreesWithTape};
 ghost use Rattle.gf256_qic.specs.Code.{parity_sectors};
 ghost use Rattle.format_plan.specs.Formatting.{copy_writes};
 ghost use Rattle.cartridge_spec.specs.Says.{with_parity};
@@ -41,8 +41,7 @@ pub(crate) fn write_header<T: Tape>(
     label: &Name,
     date: u32,
 ) -> Result<(), FormatFault>
-    requires fits { Fits T.means host.old unit.old }
-    requires rest { IsAtRest unit.old.drive }
+    requires ready { IsReady T.means host.old unit.old }
     requires writable { is_protected unit.old.drive.deck ≡ false }
     requires referenced { is_referenced unit.old.drive.deck ≡ true }
     requires stopped { is_stopped unit.old.drive.deck.motion ≡ true }
@@ -52,10 +51,9 @@ pub(crate) fn write_header<T: Tape>(
     ensures fault { IsOkUnless result FormatFault.Tape }
     ensures room { length work.new ≡ 32 }
     ensures cartridge { unit.new.drive.deck.cartridge ≡ unit.old.drive.deck.cartridge }
-    ensures agrees { Agrees T.means unit.old → Agrees T.means unit.new }
+    ensures agrees { AgreesWithTape T.means unit.old → AgreesWithTape T.means unit.new }
     ensures size { T.means.size unit.new.tape ≡ T.means.size unit.old.tape }
-    ensures fits { Fits T.means host.new unit.new }
-    ensures rest { IsAtRest unit.new.drive }
+    ensures ready { IsReady T.means host.new unit.new }
 {
     spell(host.geometry(), label, date, map, work.sectors_mut());
     host.enter(unit, Mode::Primary)?;
@@ -109,20 +107,14 @@ fn write_copy<T: Tape>(
     copy: u32,
     work: &Workspace,
 ) -> Result<(), SegFault>
-    requires fits { Fits T.means host.old unit.old }
-    requires rest { IsAtRest unit.old.drive }
-    requires mode { is_primary unit.old.drive.deck.mode ≡ true }
-    requires writable { is_protected unit.old.drive.deck ≡ false }
+    requires ready { IsReady T.means host.old unit.old }
+    requires writable { MayWrite unit.old.drive.deck }
     requires referenced { is_referenced unit.old.drive.deck ≡ true }
     requires copy { copy < 2 }
     requires room { length work.now ≡ 32 }
     ensures did { Does T.means unit.old.tape unit.new.tape (copy_writes copy work.now) result }
     ensures fault { IsOkUnless result SegFault.Tape }
-    ensures same { KeepsMode unit.old.drive.deck unit.new.drive.deck }
-    ensures agrees { Agrees T.means unit.old → Agrees T.means unit.new }
-    ensures size { T.means.size unit.new.tape ≡ T.means.size unit.old.tape }
-    ensures fits { Fits T.means host.new unit.new }
-    ensures rest { IsAtRest unit.new.drive }
+    ensures keeps { Keeps T.means host.new unit.old unit.new }
 {
     let last = LostSet::from_mask(1);
     let others = LostSet::from_mask(!1);

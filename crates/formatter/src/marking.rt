@@ -5,8 +5,8 @@ ghost use Rattle.qic_base.specs.Cartridge.{place_of};
 ghost use Rattle.qic_base.specs.Tape.{Does, Tells};
 ghost use Rattle.drive_states.specs.Deck.{segments_per_track, is_stopped, is_referenced};
 ghost use Rattle.drive_states.specs.Reach.{reads_in, IsUnder};
-ghost use Rattle.host_driver.specs.Fits.{Agrees, Fits, IsAtRest};
-ghost use Rattle.host_driver.specs.Place.{KeepsMode};
+ghost use Rattle.host_driver.specs.Calls.{IsReady, Keeps};
+ghost use Rattle.host_driver.specs.Fits.{AgreesWithTape};
 ghost use Rattle.formatter.specs.Marking.{MarksBelow, MarksUnreadable, IsFirstMarked, HasNoMarkInFront};
 
 use crate::{SECTOR, SECTORS, TRACKS};
@@ -27,8 +27,7 @@ pub(crate) fn mark_all<T: Tape>(
     map: &mut BadMap,
     sectors: &mut [[u8; SECTOR]],
 ) -> Result<(), HostFault>
-    requires fits { Fits T.means host.old unit.old }
-    requires rest { IsAtRest unit.old.drive }
+    requires ready { IsReady T.means host.old unit.old }
     requires stopped { is_stopped unit.old.drive.deck.motion ≡ true }
     requires referenced { is_referenced unit.old.drive.deck ≡ true }
     requires room { 1 ≤ length sectors.old }
@@ -38,10 +37,9 @@ pub(crate) fn mark_all<T: Tape>(
     ensures words { length map.new ≡ 28 * segments_per_track unit.old.drive.deck }
     ensures stopped { OnOk result (is_stopped unit.new.drive.deck.motion ≡ true) }
     ensures cartridge { unit.new.drive.deck.cartridge ≡ unit.old.drive.deck.cartridge }
-    ensures agrees { Agrees T.means unit.old → Agrees T.means unit.new }
+    ensures agrees { AgreesWithTape T.means unit.old → AgreesWithTape T.means unit.new }
     ensures size { T.means.size unit.new.tape ≡ T.means.size unit.old.tape }
-    ensures fits { Fits T.means host.new unit.new }
-    ensures rest { IsAtRest unit.new.drive }
+    ensures ready { IsReady T.means host.new unit.new }
 {
     map.reset(host.geometry().segments());
     host.enter(unit, Mode::Verify)?;
@@ -56,8 +54,7 @@ fn mark_tracks<T: Tape>(
     map: &mut BadMap,
     sectors: &mut [[u8; SECTOR]],
 ) -> Result<(), HostFault>
-    requires fits { Fits T.means host.old unit.old }
-    requires rest { IsAtRest unit.old.drive }
+    requires ready { IsReady T.means host.old unit.old }
     requires mode { reads_in unit.old.drive.deck.mode ≡ true }
     requires stopped { is_stopped unit.old.drive.deck.motion ≡ true }
     requires referenced { is_referenced unit.old.drive.deck ≡ true }
@@ -69,11 +66,7 @@ fn mark_tracks<T: Tape>(
         MarksBelow c map.old 0 → MarksBelow c map.new (32 * length map.old))) }
     ensures words { length map.new ≡ length map.old }
     ensures stopped { OnOk result (is_stopped unit.new.drive.deck.motion ≡ true) }
-    ensures same { KeepsMode unit.old.drive.deck unit.new.drive.deck }
-    ensures agrees { Agrees T.means unit.old → Agrees T.means unit.new }
-    ensures size { T.means.size unit.new.tape ≡ T.means.size unit.old.tape }
-    ensures fits { Fits T.means host.new unit.new }
-    ensures rest { IsAtRest unit.new.drive }
+    ensures keeps { Keeps T.means host.new unit.old unit.new }
 {
     for track in 0..TRACKS {
         mark_track(host, unit, track, map, sectors)?;
@@ -90,8 +83,7 @@ fn mark_track<T: Tape>(
     map: &mut BadMap,
     sectors: &mut [[u8; SECTOR]],
 ) -> Result<(), HostFault>
-    requires fits { Fits T.means host.old unit.old }
-    requires rest { IsAtRest unit.old.drive }
+    requires ready { IsReady T.means host.old unit.old }
     requires mode { reads_in unit.old.drive.deck.mode ≡ true }
     requires referenced { is_referenced unit.old.drive.deck ≡ true }
     requires track { track < 28 }
@@ -104,11 +96,7 @@ fn mark_track<T: Tape>(
         MarksBelow c map.new (32 * ((track + 1) * n)))) }
     ensures words { length map.new ≡ length map.old }
     ensures stopped { OnOk result (is_stopped unit.new.drive.deck.motion ≡ true) }
-    ensures same { KeepsMode unit.old.drive.deck unit.new.drive.deck }
-    ensures agrees { Agrees T.means unit.old → Agrees T.means unit.new }
-    ensures size { T.means.size unit.new.tape ≡ T.means.size unit.old.tape }
-    ensures fits { Fits T.means host.new unit.new }
-    ensures rest { IsAtRest unit.new.drive }
+    ensures keeps { Keeps T.means host.new unit.old unit.new }
 {
     let count = u32::from(host.geometry().segments_per_track());
     let first = track * count;
@@ -129,8 +117,7 @@ fn mark_segment<T: Tape>(
     map: &mut BadMap,
     sectors: &mut [[u8; SECTOR]],
 ) -> Result<(), HostFault>
-    requires fits { Fits T.means host.old unit.old }
-    requires rest { IsAtRest unit.old.drive }
+    requires ready { IsReady T.means host.old unit.old }
     requires mode { reads_in unit.old.drive.deck.mode ≡ true }
     requires under { IsUnder unit.old.drive.deck segment 0 }
     requires segment { segment < length map.old }
@@ -141,11 +128,7 @@ fn mark_segment<T: Tape>(
         MarksBelow c map.old (32 * segment) → MarksBelow c map.new (32 * (segment + 1)))) }
     ensures words { length map.new ≡ length map.old }
     ensures under { OnOk result (IsUnder unit.new.drive.deck segment 32) }
-    ensures same { KeepsMode unit.old.drive.deck unit.new.drive.deck }
-    ensures agrees { Agrees T.means unit.old → Agrees T.means unit.new }
-    ensures size { T.means.size unit.new.tape ≡ T.means.size unit.old.tape }
-    ensures fits { Fits T.means host.new unit.new }
-    ensures rest { IsAtRest unit.new.drive }
+    ensures keeps { Keeps T.means host.new unit.old unit.new }
 {
     for index in 0..SECTORS {
         mark_sector(host, unit, segment, index, map, sectors)?;
@@ -162,8 +145,7 @@ fn mark_sector<T: Tape>(
     map: &mut BadMap,
     sectors: &mut [[u8; SECTOR]],
 ) -> Result<(), HostFault>
-    requires fits { Fits T.means host.old unit.old }
-    requires rest { IsAtRest unit.old.drive }
+    requires ready { IsReady T.means host.old unit.old }
     requires mode { reads_in unit.old.drive.deck.mode ≡ true }
     requires under { IsUnder unit.old.drive.deck segment index }
     requires index { index < 32 }
@@ -176,11 +158,7 @@ fn mark_sector<T: Tape>(
         MarksBelow c map.new (place_of segment index + 1))) }
     ensures words { length map.new ≡ length map.old }
     ensures under { IsUnder unit.new.drive.deck segment (index + 1) }
-    ensures same { KeepsMode unit.old.drive.deck unit.new.drive.deck }
-    ensures agrees { Agrees T.means unit.old → Agrees T.means unit.new }
-    ensures size { T.means.size unit.new.tape ≡ T.means.size unit.old.tape }
-    ensures fits { Fits T.means host.new unit.new }
-    ensures rest { IsAtRest unit.new.drive }
+    ensures keeps { Keeps T.means host.new unit.old unit.new }
 {
     match host.read_sector(unit, segment, index, &mut sectors[0])? {
         SectorRead::Good => {}

@@ -1,5 +1,6 @@
 pub mod Fitting
 pub mod Follows
+pub mod Keeping
 pub mod Kept
 pub mod Marks
 pub mod Motions

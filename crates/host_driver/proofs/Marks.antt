@@ -9,7 +9,7 @@ use Rattle.qic_base.specs.declared.tape.TapeInfo.{TapeInfo}
 use Rattle.qic_base.proofs.Steps.{Torn-all}
 use Rattle.drive_states.specs.Deck.{referenced_as}
 use Rattle.drive_states.specs.Unit.{UnitView}
-use Rattle.host_driver.specs.Fits.{Agrees}
+use Rattle.host_driver.specs.Fits.{AgreesWithTape}
 
 -- steps that leave a cartridge's length and marks, done or stopped
 abbrev pub KeepsInfo : List Step → Type 0
@@ -43,7 +43,7 @@ format_keeps segment info (Some c) left (inr (inr behind)) h = subst (λ (o : Op
 
 module _ {T : Type 0} (m : Meaning T) (u v : UnitView T) (steps : List Step) (keeps : KeepsInfo steps) (same : v.drive.deck.cartridge ≡ u.drive.deck.cartridge) where
   torn_agrees : is_some (m.told v.tape) ≡ is_some (m.told u.tape) →
-      ((held left : Option Cartridge) → m.told u.tape ≡ Some held → m.told v.tape ≡ Some left → Torn steps held left) → Agrees m u → Agrees m v
+      ((held left : Option Cartridge) → m.told u.tape ≡ Some held → m.told v.tape ≡ Some left → Torn steps held left) → AgreesWithTape m u → AgreesWithTape m v
   torn_agrees tells torn agrees =
       subst (λ (o : Option TapeInfo). IfSome o (λ info. IfSome (m.told v.tape) (λ there. IsSomeAnd there (λ c. c.info ≡ info)))) (sym same)
       (by_cartridge u.drive.deck.cartridge agrees)
@@ -59,7 +59,7 @@ module _ {T : Type 0} (m : Meaning T) (u v : UnitView T) (steps : List Step) (ke
       by_cartridge None h = tt
       by_cartridge (Some info) h = by_told info (m.told u.tape) (m.told v.tape) refl refl tells h
 
-  pub broke_agrees : Broke m u.tape v.tape steps → Agrees m u → Agrees m v
+  pub broke_agrees : Broke m u.tape v.tape steps → AgreesWithTape m u → AgreesWithTape m v
   broke_agrees b = torn_agrees b.tells b.torn
 
   told_all : m.told v.tape ≡ option_map (effects steps) (m.told u.tape) → (held left : Option Cartridge) → m.told u.tape ≡ Some held → m.told v.tape ≡ Some left → Torn steps held left
@@ -68,20 +68,20 @@ module _ {T : Type 0} (m : Meaning T) (u v : UnitView T) (steps : List Step) (ke
       let is : left ≡ effects steps held = cc in
       subst (λ (o : Option Cartridge). Torn steps held o) (sym is) (Torn-all steps held)
 
-  pub done_agrees : Done m u.tape v.tape steps → Agrees m u → Agrees m v
+  pub done_agrees : Done m u.tape v.tape steps → AgreesWithTape m u → AgreesWithTape m v
   done_agrees d = torn_agrees (tells (m.told u.tape) d.told) (told_all d.told)
     where
       tells : (o : Option (Option Cartridge)) → m.told v.tape ≡ option_map (effects steps) o → is_some (m.told v.tape) ≡ is_some o
       tells None e = ap is_some e
       tells (Some held) e = ap is_some e
 
-  pub does_agrees : {R E : Type 0} (r : Result R E) → Does m u.tape v.tape steps r → Agrees m u → Agrees m v
+  pub does_agrees : {R E : Type 0} (r : Result R E) → Does m u.tape v.tape steps r → AgreesWithTape m u → AgreesWithTape m v
   does_agrees (Ok x) d = done_agrees d
   does_agrees (Err e) b = broke_agrees b
 
 -- the reference bursts were written, and the drive knows it
 pub reference_agrees : {T : Type 0} (m : Meaning T) (u v : UnitView T) → v.drive.deck.cartridge ≡ referenced_as true u.drive.deck.cartridge →
-    Done m u.tape v.tape (SetReferenced ∷ []) → Agrees m u → Agrees m v
+    Done m u.tape v.tape (SetReferenced ∷ []) → AgreesWithTape m u → AgreesWithTape m v
 reference_agrees m u v marks d agrees =
     subst (λ (o : Option TapeInfo). IfSome o (λ info. IfSome (m.told v.tape) (λ there. IsSomeAnd there (λ c. c.info ≡ info)))) (sym marks)
     (subst (λ (told : Option (Option Cartridge)). IfSome (referenced_as true u.drive.deck.cartridge) (λ info. IfSome told (λ there. IsSomeAnd there (λ c. c.info ≡ info)))) (sym d.told)

@@ -11,7 +11,7 @@ use Rattle.drive_states.specs.Record.{Record}
 use Rattle.drive_states.specs.Row.{idled, moved_on}
 use Rattle.drive_states.proofs.Marks.{gap_steps-none}
 use Rattle.host_driver.specs.Fits.{GeneratesAll}
-use Rattle.host_driver.specs.Place.{RunsOn, StreamsAt, idled_deck}
+use Rattle.host_driver.specs.Place.{KeepsMode, RunsOn, StreamsAt, idled_deck}
 use Rattle.host_driver.specs.Train.{TakesTrain, after_train, train_steps}
 use Rattle.host_driver.proofs.Follows.{after_train-idled}
 use Rattle.host_driver.proofs.Motions.{ticked-still}
@@ -50,6 +50,13 @@ pub record Idles (r : Record) : Type 0 where
 steps-none : (r : Record) → train_steps r 0 ≡ []
 unfolding train_steps
 steps-none r = gap_steps-none (record r { train = 0 }) (λ e. cc)
+
+pub idle_keeps : (d : Deck) → KeepsMode d (idled_deck d)
+idle_keeps d = by_motion (is_streaming d.motion)
+  where
+    by_motion : (b : Bool) → KeepsMode d (if b then run_on d else d)
+    by_motion true = record { cartridge = refl; mode = refl }
+    by_motion false = record { cartridge = refl; mode = refl }
 
 pub idle_still : (d : Deck) (streams : Bool) → is_streaming d.motion ≡ streams → is_seeking d.motion ≡ false → is_seeking (idled_deck d).motion ≡ false
 idle_still d true e still = rw e (by_limit (nat_lt (d.offset + 1) (limit d)))

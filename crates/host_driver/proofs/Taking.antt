@@ -16,11 +16,12 @@ use Rattle.drive_states.specs.declared.under_way.UnderWay.TheVariants.{Nothing, 
 use Rattle.drive_states.specs.Deck.{refusal_of, accepted, view_of, seen_motion, is_seeking, is_stopped, is_protected, is_referenced, limit, segments_per_track, sought, skipped}
 use Rattle.drive_states.specs.Record.{Record}
 use Rattle.drive_states.specs.Row.{begun, given_more, longer}
+use Rattle.drive_states.specs.Typed.{skip_command}
 use Rattle.drive_states.proofs.Taken.{primary_taken}
 use Rattle.drive_states.specs.Unit.{UnitView}
 use Rattle.qic_base.specs.Tape.{Meaning}
 use Rattle.host_driver.specs.declared.host.Host.{Host}
-use Rattle.host_driver.specs.Commands.{TakesValue, entry_of, skip_command}
+use Rattle.host_driver.specs.Commands.{TakesValue, entry_of}
 use Rattle.host_driver.specs.Fits.{Fits, GeneratesAll, parameter_of, segments_of}
 use Rattle.host_driver.specs.Place.{StandsAt}
 use Rattle.host_driver.proofs.Refusals.{seek_taken, skip_forward_taken, skip_reverse_taken, forward_taken, format_taken, verify_taken}
@@ -44,12 +45,12 @@ is_still (Streaming next) e = cc
 is_still (Seeking left) e = cc
 
 -- a tape that stands and is known
-pub record IsReady (d : Deck) : Type 0 where
+pub record StandsKnown (d : Deck) : Type 0 where
   pub present : is_some d.cartridge ≡ true
   pub known : d.fresh ≡ false
   pub stopped : is_stopped d.motion ≡ true
 
-module _ (d : Deck) (ready : IsReady d) where
+module _ (d : Deck) (ready : StandsKnown d) where
   pub primary_of : refusal_of d EnterPrimary ≡ None
   primary_of = primary_taken (view_of d) ready.present (stops d.motion ready.stopped)
 
@@ -157,14 +158,14 @@ takes_high true r d low high half small =
 takes_high false r d low high half small =
     subst (λ (w : UnderWay). IsSomeAnd (parameter_of w) (λ a. TakesValue a high)) (sym half.under_way) record { small = small; moves = λ e. cc }
 
-pub ready_of : {T : Type 0} {m : Meaning T} {h : Host} {u : UnitView T} → Fits m h u → is_stopped u.drive.deck.motion ≡ true → IsReady u.drive.deck
-ready_of {h = h} {u = u} f stopped = record {
+pub stands_known : {T : Type 0} {m : Meaning T} {h : Host} {u : UnitView T} → Fits m h u → is_stopped u.drive.deck.motion ≡ true → StandsKnown u.drive.deck
+stands_known {h = h} {u = u} f stopped = record {
   present = there u.drive.deck.cartridge (λ info. info.segments_per_track ≡ segments_of h) f.cartridge;
   known = f.known;
   stopped = stopped;
 }
 
-pub entry_taken : (mode : Mode) (d : Deck) → IsReady d → d.mode ≡ Primary → (mode ≡ Format → is_protected d ≡ false) → (mode ≡ Verify → is_referenced d ≡ true) →
+pub entry_taken : (mode : Mode) (d : Deck) → StandsKnown d → d.mode ≡ Primary → (mode ≡ Format → is_protected d ≡ false) → (mode ≡ Verify → is_referenced d ≡ true) →
     refusal_of d (entry_of mode) ≡ None
 entry_taken Primary d ready primary writable referenced = primary_of d ready
 entry_taken Format d ready primary writable referenced = format_of d ready primary (writable refl)

@@ -11,10 +11,10 @@ use Rattle.drive_states.specs.declared.fault.HandFault.TheVariants.{NoCartridge,
 use Rattle.drive_states.specs.Hand.{Wears, IsNotReached}
 use Rattle.drive_states.specs.Record.{Record}
 use Rattle.drive_states.specs.Unit.{UnitView}
-use Rattle.host_driver.specs.Fits.{Agrees}
+use Rattle.host_driver.specs.Fits.{AgreesWithTape}
 use Rattle.host_driver.proofs.Marks.{wear_keeps, done_agrees, broke_agrees}
 
-pub wears_agrees : {T : Type 0} (m : Meaning T) (u v : UnitView T) (segment sector : ℕ) (r : Result (Unit {0}) HandFault) → v.drive ≡ u.drive → Wears m u v segment sector r → Agrees m u → Agrees m v
+pub wears_agrees : {T : Type 0} (m : Meaning T) (u v : UnitView T) (segment sector : ℕ) (r : Result (Unit {0}) HandFault) → v.drive ≡ u.drive → Wears m u v segment sector r → AgreesWithTape m u → AgreesWithTape m v
 wears_agrees m u v segment sector (Ok done) same w = done_agrees m u v (Wear segment sector ∷ []) (wear_keeps segment sector) (ap (λ (r : Record). r.deck.cartridge) same) w
 wears_agrees m u v segment sector (Err NoCartridge) same w = absurd w
 wears_agrees m u v segment sector (Err BadPlace) same w = absurd w
@@ -33,16 +33,16 @@ pub wears_of : {T : Type 0} (m : Meaning T) (u v : UnitView T) (n segment sector
     IsSomeAnd u.drive.deck.cartridge (λ info. info.segments_per_track ≡ n) → v.drive ≡ u.drive →
     IfSome u.drive.deck.cartridge (λ info. IsPlace info.segments_per_track segment sector → Wears m u v segment sector r) →
     IfSome u.drive.deck.cartridge (λ info. ¬ (IsPlace info.segments_per_track segment sector) → r ≡ Err BadPlace) →
-    (IsNotReached r → v ≡ u) → Agrees m u → Agrees m v
+    (IsNotReached r → v ≡ u) → AgreesWithTape m u → AgreesWithTape m v
 wears_of m u v n segment sector r there same placed misplaced untouched agrees = by_cartridge u.drive.deck.cartridge there placed misplaced
   where
     by_place : (info : TapeInfo) → IsPlace info.segments_per_track segment sector ⊎ (¬ (IsPlace info.segments_per_track segment sector)) →
-        (IsPlace info.segments_per_track segment sector → Wears m u v segment sector r) → (¬ (IsPlace info.segments_per_track segment sector) → r ≡ Err BadPlace) → Agrees m v
+        (IsPlace info.segments_per_track segment sector → Wears m u v segment sector r) → (¬ (IsPlace info.segments_per_track segment sector) → r ≡ Err BadPlace) → AgreesWithTape m v
     by_place info (inl place) p q = wears_agrees m u v segment sector r same (p place) agrees
-    by_place info (inr none) p q = subst (λ (w : UnitView _). Agrees m w) (sym (untouched (inr (q none)))) agrees
+    by_place info (inr none) p q = subst (λ (w : UnitView _). AgreesWithTape m w) (sym (untouched (inr (q none)))) agrees
 
     by_cartridge : (c : Option TapeInfo) → IsSomeAnd c (λ info. info.segments_per_track ≡ n) →
         IfSome c (λ info. IsPlace info.segments_per_track segment sector → Wears m u v segment sector r) →
-        IfSome c (λ info. ¬ (IsPlace info.segments_per_track segment sector) → r ≡ Err BadPlace) → Agrees m v
+        IfSome c (λ info. ¬ (IsPlace info.segments_per_track segment sector) → r ≡ Err BadPlace) → AgreesWithTape m v
     by_cartridge None h p q = absurd h
     by_cartridge (Some info) h p q = by_place info (placed_or_not info.segments_per_track segment sector) p q

@@ -1,7 +1,7 @@
 -- Which commands the host sends whole, with a gap behind them.
 use Rattle.std.specs.Prelude.{◌≢◌, ℕ, ◌<◌, Bool, true, false, if◌then◌else◌}
 use Rattle.qic117_commands.specs.declared.command.Command.{Command}
-use Rattle.qic117_commands.specs.declared.command.Command.TheVariants.{Reset, ReportNextBit, EnterFormat, WriteReference, EnterVerify, SkipReverse, SkipForward, EnterPrimary, SetFormatSegments}
+use Rattle.qic117_commands.specs.declared.command.Command.TheVariants.{Reset, ReportNextBit, EnterFormat, WriteReference, EnterVerify, EnterPrimary, SetFormatSegments}
 use Rattle.qic117_commands.specs.declared.view.Mode.{Mode}
 use Rattle.qic117_commands.specs.declared.view.Mode.TheVariants.{Primary, Format, Verify}
 use Rattle.drive_states.specs.declared.under_way.Parameter.{Parameter}
@@ -24,7 +24,3 @@ abbrev pub entry_of : Mode → Command
 entry_of Primary = EnterPrimary
 entry_of Format = EnterFormat
 entry_of Verify = EnterVerify
-
--- the command of a skip
-abbrev pub skip_command : (forward : Bool) → Command
-skip_command forward = if forward then SkipForward else SkipReverse

@@ -48,6 +48,6 @@ pub record IsAtRest (r : Record) : Type 0 where
   pub idle : r.under_way ≡ Nothing
 
 -- where the tape tells its cartridge and the drive knows of one, the drive has its length and its marks
-abbrev pub Agrees : {T : Type 0} (m : Meaning T) → UnitView T → Type 0
-Agrees m u =
+abbrev pub AgreesWithTape : {T : Type 0} (m : Meaning T) → UnitView T → Type 0
+AgreesWithTape m u =
     IfSome u.drive.deck.cartridge (λ info. IfSome (m.told u.tape) (λ there. IsSomeAnd there (λ c. c.info ≡ info)))

@@ -3,8 +3,9 @@
 ghost use Rattle.std.specs.Prelude.{◌≡◌, None, true, false, IsOk, IfSome, IsSomeAnd};
 ghost use Rattle.drive_states.specs.Deck.{refusal_of, accepted, is_seeking};
 ghost use Rattle.drive_states.specs.Row.{begun, given_more, longer};
+ghost use Rattle.host_driver.specs.Calls.{IsReady};
 ghost use Rattle.host_driver.specs.Commands.{is_plain, TakesValue};
-ghost use Rattle.host_driver.specs.Fits.{Fits, IsAtRest, parameter_of};
+ghost use Rattle.host_driver.specs.Fits.{Fits, parameter_of};
 
 use crate::fault::HostFault;
 use crate::host::Host;
@@ -19,8 +20,7 @@ impl Host {
         unit: &mut Unit<T>,
         command: Command,
     ) -> Result<(), HostFault>
-        requires fits { Fits T.means self.old unit.old }
-        requires rest { IsAtRest unit.old.drive }
+        requires ready { IsReady T.means self.old unit.old }
         requires plain { is_plain command ≡ true }
         requires taken { refusal_of unit.old.drive.deck command ≡ None }
         ensures ok { IsOk result }

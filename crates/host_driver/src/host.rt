@@ -3,7 +3,8 @@
 ghost use Rattle.std.specs.Prelude.{◌≡◌, ◌≢◌, ◌↔◌, [], None, Some, IsOk, IfOk, OnOk, OnErr, IsOkUnless};
 ghost use Rattle.qic_base.specs.Tape.{Does};
 ghost use Rattle.drive_states.specs.Deck.{is_protected, is_referenced};
-ghost use Rattle.host_driver.specs.Fits.{Fits, IsAtRest, Agrees, segments_of, deck_of};
+ghost use Rattle.host_driver.specs.Calls.{IsReady};
+ghost use Rattle.host_driver.specs.Fits.{Fits, AgreesWithTape, segments_of, deck_of};
 ghost use Rattle.host_driver.specs.Starts.{Starts, KnowsTold, KnowsSize, started_host};
 ghost use Rattle.host_driver.specs.Train.{TakesTrain, after_train, train_steps};
 ghost use Rattle.drive_states.specs.Row.{without_reference};
@@ -31,14 +32,13 @@ impl Host {
     /// Puts the cartridge in, and learns by the reports of the status, the error word and the format segments what it is.
     pub fn start<T: Tape>(unit: &mut Unit<T>) -> Result<Host, HostFault>
         ensures did { Starts T.means unit.old unit.new result }
-        ensures fits { IfOk result (λ host. Fits T.means host unit.new) }
-        ensures rest { OnOk result (IsAtRest unit.new.drive) }
+        ensures ready { IfOk result (λ host. IsReady T.means host unit.new) }
         // NoCartridge comes exactly where the drive knows of none: where the tape tells what it holds, where that is none.
         ensures absent { (result ≡ Err HostFault.NoCartridge) →
             unit.new.drive.deck.cartridge ≡ None }
         ensures told { result ≢ Err HostFault.Tape → KnowsTold T.means unit.new }
         ensures size { result ≢ Err HostFault.Tape → KnowsSize T.means unit.new }
-        ensures agrees { OnOk result (Agrees T.means unit.new) }
+        ensures agrees { OnOk result (AgreesWithTape T.means unit.new) }
         ensures same_size { result ≡ Err HostFault.Tape →
             T.means.size unit.new.tape ≡ T.means.size unit.old.tape }
     {

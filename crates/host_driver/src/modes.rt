@@ -5,8 +5,9 @@ ghost use Rattle.qic_base.specs.Step.{SetReferenced};
 ghost use Rattle.qic_base.specs.Tape.{Does};
 ghost use Rattle.qic117_commands.specs.Views.{is_format};
 ghost use Rattle.drive_states.specs.Deck.{is_stopped, is_protected, is_referenced, referenced_as};
+ghost use Rattle.host_driver.specs.Calls.{IsReady};
 ghost use Rattle.host_driver.specs.Commands.{entry_of};
-ghost use Rattle.host_driver.specs.Fits.{Fits, IsAtRest, Agrees};
+ghost use Rattle.host_driver.specs.Fits.{Fits, IsAtRest, AgreesWithTape};
 ghost use Rattle.host_driver.specs.Place.{StandsAt};
 
 use crate::fault::HostFault;
@@ -19,8 +20,7 @@ impl Host {
     /// Has the drive enter a mode, where the tape stands. Where the present mode refuses that, it enters Primary first.
     /// Verify needs a cartridge with its reference bursts.
     pub fn enter<T: Tape>(&mut self, unit: &mut Unit<T>, mode: Mode) -> Result<(), HostFault>
-        requires fits { Fits T.means self.old unit.old }
-        requires rest { IsAtRest unit.old.drive }
+        requires ready { IsReady T.means self.old unit.old }
         requires stopped { is_stopped unit.old.drive.deck.motion ≡ true }
         requires referenced { mode ≡ Mode.Verify → is_referenced unit.old.drive.deck ≡ true }
         ensures protected { (result ≡ Err HostFault.Protected)
@@ -32,8 +32,7 @@ impl Host {
             unit.new.drive.deck }
         ensures cartridge { unit.new.drive.deck.cartridge ≡ unit.old.drive.deck.cartridge }
         ensures tape { unit.new.tape ≡ unit.old.tape }
-        ensures fits { Fits T.means self.new unit.new }
-        ensures rest { IsAtRest unit.new.drive }
+        ensures ready { IsReady T.means self.new unit.new }
     {
         if mode == Mode::Format && self.protected() {
             return Err(HostFault::Protected);
@@ -49,8 +48,7 @@ impl Host {
     /// Has the drive write the reference bursts, in Format mode where the tape stands, and waits for it. After a failure the
     /// drive still seeks, and knows the cartridge as not referenced.
     pub fn reference<T: Tape>(&mut self, unit: &mut Unit<T>) -> Result<(), HostFault>
-        requires fits { Fits T.means self.old unit.old }
-        requires rest { IsAtRest unit.old.drive }
+        requires ready { IsReady T.means self.old unit.old }
         requires format { is_format unit.old.drive.deck.mode ≡ true }
         requires stopped { is_stopped unit.old.drive.deck.motion ≡ true }
         ensures did { Does T.means unit.old.tape unit.new.tape (SetReferenced ∷ []) result }
@@ -62,7 +60,7 @@ impl Host {
         ensures place { OnOk result (StandsAt 0 0 unit.new.drive.deck) }
         ensures mode { unit.new.drive.deck.mode ≡ unit.old.drive.deck.mode }
         ensures agrees { OnOk result
-            (Agrees T.means unit.old → Agrees T.means unit.new) }
+            (AgreesWithTape T.means unit.old → AgreesWithTape T.means unit.new) }
         ensures size { T.means.size unit.new.tape ≡ T.means.size unit.old.tape }
         ensures fits { Fits T.means self.new unit.new }
         ensures rest { OnOk result (IsAtRest unit.new.drive) }

@@ -5,8 +5,8 @@ ghost use Rattle.tape_geometry.specs.Geometry.{logical_offset};
 ghost use Rattle.qic117_commands.specs.Views.{is_format};
 ghost use Rattle.drive_states.specs.Deck.{segments_per_track, is_stopped, is_streaming, is_referenced, sought, skipped};
 ghost use Rattle.drive_states.specs.Reach.{segment_of};
-ghost use Rattle.host_driver.specs.Commands.{skip_command};
-ghost use Rattle.host_driver.specs.Fits.{Fits, IsAtRest};
+ghost use Rattle.drive_states.specs.Typed.{skip_command};
+ghost use Rattle.host_driver.specs.Calls.{IsReady, Keeps};
 ghost use Rattle.host_driver.specs.Place.{StreamsAt, StandsAt, KeepsMode, RunsOn, idled_deck};
 ghost use Rattle.host_driver.specs.Train.{ready_deck};
 
@@ -20,18 +20,15 @@ impl Host {
     /// Has the tape stream at a segment, before its sector 0, from wherever it stands or streams. The cartridge has its
     /// reference bursts, and in Format mode the segment is the first of its track.
     pub fn go_to<T: Tape>(&mut self, unit: &mut Unit<T>, segment: u32) -> Result<(), HostFault>
-        requires fits { Fits T.means self.old unit.old }
-        requires rest { IsAtRest unit.old.drive }
+        requires ready { IsReady T.means self.old unit.old }
         requires on_tape { segment < 28 * segments_per_track unit.old.drive.deck }
         requires referenced { is_referenced unit.old.drive.deck ≡ true }
         requires first { is_format unit.old.drive.deck.mode ≡ true →
             logical_offset (segments_per_track unit.old.drive.deck) segment ≡ 0 }
         ensures ok { IsOk result }
         ensures place { StreamsAt segment 0 unit.new.drive.deck }
-        ensures same { KeepsMode unit.old.drive.deck unit.new.drive.deck }
         ensures tape { unit.new.tape ≡ unit.old.tape }
-        ensures fits { Fits T.means self.new unit.new }
-        ensures rest { IsAtRest unit.new.drive }
+        ensures keeps { Keeps T.means self.new unit.old unit.new }
     {
         let track = self.geometry.track_of(segment);
         let offset = self.geometry.logical_offset(segment);
@@ -43,41 +40,35 @@ impl Host {
 
     /// Has the tape that streams run on to the next segment of its track, or behind the last; one that stands stays.
     pub fn next_segment<T: Tape>(&mut self, unit: &mut Unit<T>) -> Result<(), HostFault>
-        requires fits { Fits T.means self.old unit.old }
-        requires rest { IsAtRest unit.old.drive }
+        requires ready { IsReady T.means self.old unit.old }
         ensures ok { IsOk result }
         ensures deck { unit.new.drive.deck ≡ idled_deck unit.old.drive.deck }
         ensures next { is_streaming unit.old.drive.deck.motion ≡ true →
             RunsOn unit.old.drive.deck unit.new.drive.deck }
         ensures tape { unit.new.tape ≡ unit.old.tape }
-        ensures fits { Fits T.means self.new unit.new }
-        ensures rest { IsAtRest unit.new.drive }
+        ensures keeps { Keeps T.means self.new unit.old unit.new }
     {
         self.send(unit, 0)
     }
 
     /// Stops the tape; the segment in which it streamed comes next.
     pub fn halt<T: Tape>(&mut self, unit: &mut Unit<T>) -> Result<(), HostFault>
-        requires fits { Fits T.means self.old unit.old }
-        requires rest { IsAtRest unit.old.drive }
+        requires ready { IsReady T.means self.old unit.old }
         ensures ok { IsOk result }
         ensures deck { unit.new.drive.deck ≡ ready_deck unit.old.drive.deck }
         ensures tape { unit.new.tape ≡ unit.old.tape }
-        ensures fits { Fits T.means self.new unit.new }
-        ensures rest { IsAtRest unit.new.drive }
+        ensures keeps { Keeps T.means self.new unit.old unit.new }
     {
         self.command(unit, Command::StopTape)
     }
 
     // Stops the tape where it streams.
     fn stand<T: Tape>(&mut self, unit: &mut Unit<T>) -> Result<(), HostFault>
-        requires fits { Fits T.means self.old unit.old }
-        requires rest { IsAtRest unit.old.drive }
+        requires ready { IsReady T.means self.old unit.old }
         ensures ok { IsOk result }
         ensures deck { unit.new.drive.deck ≡ ready_deck unit.old.drive.deck }
         ensures tape { unit.new.tape ≡ unit.old.tape }
-        ensures fits { Fits T.means self.new unit.new }
-        ensures rest { IsAtRest unit.new.drive }
+        ensures ready { IsReady T.means self.new unit.new }
     {
         if self.deck.is_streaming() {
             self.halt(unit)?;
@@ -87,8 +78,7 @@ impl Host {
 
     // Has the head go to a track, where it isn't there.
     fn align_track<T: Tape>(&mut self, unit: &mut Unit<T>, track: u8) -> Result<(), HostFault>
-        requires fits { Fits T.means self.old unit.old }
-        requires rest { IsAtRest unit.old.drive }
+        requires ready { IsReady T.means self.old unit.old }
         requires stopped { is_stopped unit.old.drive.deck.motion ≡ true }
         requires referenced { is_referenced unit.old.drive.deck ≡ true }
         requires track { track < 28 }
@@ -97,8 +87,7 @@ impl Host {
             unit.new.drive.deck }
         ensures same { KeepsMode unit.old.drive.deck unit.new.drive.deck }
         ensures tape { unit.new.tape ≡ unit.old.tape }
-        ensures fits { Fits T.means self.new unit.new }
-        ensures rest { IsAtRest unit.new.drive }
+        ensures ready { IsReady T.means self.new unit.new }
     {
         if self.deck.track != track {
             self.seek_track(unit, track)?;
@@ -109,8 +98,7 @@ impl Host {
     // Has the tape skip to an offset on its track, where it doesn't stand there. Format mode has no skips: there the drive
     // does it in Primary mode.
     fn align_offset<T: Tape>(&mut self, unit: &mut Unit<T>, offset: u16) -> Result<(), HostFault>
-        requires fits { Fits T.means self.old unit.old }
-        requires rest { IsAtRest unit.old.drive }
+        requires ready { IsReady T.means self.old unit.old }
         requires stopped { is_stopped unit.old.drive.deck.motion ≡ true }
         requires referenced { is_referenced unit.old.drive.deck ≡ true }
         requires within { offset < segments_per_track unit.old.drive.deck }
@@ -118,8 +106,7 @@ impl Host {
         ensures place { StandsAt unit.old.drive.deck.track offset unit.new.drive.deck }
         ensures same { KeepsMode unit.old.drive.deck unit.new.drive.deck }
         ensures tape { unit.new.tape ≡ unit.old.tape }
-        ensures fits { Fits T.means self.new unit.new }
-        ensures rest { IsAtRest unit.new.drive }
+        ensures ready { IsReady T.means self.new unit.new }
     {
         if self.deck.offset == offset {
             return Ok(());
@@ -134,8 +121,7 @@ impl Host {
 
     // Has the tape skip to an offset on its track.
     fn skip_to<T: Tape>(&mut self, unit: &mut Unit<T>, offset: u16) -> Result<(), HostFault>
-        requires fits { Fits T.means self.old unit.old }
-        requires rest { IsAtRest unit.old.drive }
+        requires ready { IsReady T.means self.old unit.old }
         requires stopped { is_stopped unit.old.drive.deck.motion ≡ true }
         requires referenced { is_referenced unit.old.drive.deck ≡ true }
         requires skips { is_format unit.old.drive.deck.mode ≡ false }
@@ -144,8 +130,7 @@ impl Host {
         ensures place { StandsAt unit.old.drive.deck.track offset unit.new.drive.deck }
         ensures same { KeepsMode unit.old.drive.deck unit.new.drive.deck }
         ensures tape { unit.new.tape ≡ unit.old.tape }
-        ensures fits { Fits T.means self.new unit.new }
-        ensures rest { IsAtRest unit.new.drive }
+        ensures ready { IsReady T.means self.new unit.new }
     {
         let here = self.deck.offset;
         if here < offset {
@@ -162,8 +147,7 @@ impl Host {
         forward: bool,
         count: u8,
     ) -> Result<(), HostFault>
-        requires fits { Fits T.means self.old unit.old }
-        requires rest { IsAtRest unit.old.drive }
+        requires ready { IsReady T.means self.old unit.old }
         requires stopped { is_stopped unit.old.drive.deck.motion ≡ true }
         requires referenced { is_referenced unit.old.drive.deck ≡ true }
         requires skips { is_format unit.old.drive.deck.mode ≡ false }
@@ -171,8 +155,7 @@ impl Host {
         ensures deck { unit.new.drive.deck
             ≡ ready_deck (skipped forward count unit.old.drive.deck) }
         ensures tape { unit.new.tape ≡ unit.old.tape }
-        ensures fits { Fits T.means self.new unit.new }
-        ensures rest { IsAtRest unit.new.drive }
+        ensures ready { IsReady T.means self.new unit.new }
     {
         self.command(unit, skip_command(forward))?;
         self.give(unit, count % 16)?;
@@ -183,16 +166,14 @@ impl Host {
 
     // Has the head go to a track.
     fn seek_track<T: Tape>(&mut self, unit: &mut Unit<T>, track: u8) -> Result<(), HostFault>
-        requires fits { Fits T.means self.old unit.old }
-        requires rest { IsAtRest unit.old.drive }
+        requires ready { IsReady T.means self.old unit.old }
         requires stopped { is_stopped unit.old.drive.deck.motion ≡ true }
         requires referenced { is_referenced unit.old.drive.deck ≡ true }
         requires track { track < 28 }
         ensures ok { IsOk result }
         ensures deck { unit.new.drive.deck ≡ ready_deck (sought track unit.old.drive.deck) }
         ensures tape { unit.new.tape ≡ unit.old.tape }
-        ensures fits { Fits T.means self.new unit.new }
-        ensures rest { IsAtRest unit.new.drive }
+        ensures ready { IsReady T.means self.new unit.new }
     {
         self.command(unit, Command::SeekTrack)?;
         self.give(unit, track)?;
@@ -202,8 +183,7 @@ impl Host {
 
     // Has the tape stream from before a segment of its track.
     fn forward<T: Tape>(&mut self, unit: &mut Unit<T>) -> Result<(), HostFault>
-        requires fits { Fits T.means self.old unit.old }
-        requires rest { IsAtRest unit.old.drive }
+        requires ready { IsReady T.means self.old unit.old }
         requires stopped { is_stopped unit.old.drive.deck.motion ≡ true }
         requires referenced { is_referenced unit.old.drive.deck ≡ true }
         requires within { unit.old.drive.deck.offset < segments_per_track unit.old.drive.deck }
@@ -213,8 +193,7 @@ impl Host {
         ensures place { StreamsAt (segment_of unit.old.drive.deck) 0 unit.new.drive.deck }
         ensures same { KeepsMode unit.old.drive.deck unit.new.drive.deck }
         ensures tape { unit.new.tape ≡ unit.old.tape }
-        ensures fits { Fits T.means self.new unit.new }
-        ensures rest { IsAtRest unit.new.drive }
+        ensures ready { IsReady T.means self.new unit.new }
     {
         self.command(unit, Command::LogicalForward)
     }

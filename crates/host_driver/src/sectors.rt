@@ -4,12 +4,11 @@ ghost use Rattle.std.specs.Prelude.{◌≡◌, ◌≢◌, ◌<◌, ◌+◌, [], 
 ghost use Rattle.qic_base.specs.Cartridge.{IsPlace, view_at};
 ghost use Rattle.qic_base.specs.Step.{WriteSector, FormatSegment};
 ghost use Rattle.qic_base.specs.Tape.{Does, Tells, Reads, write_answer};
-ghost use Rattle.qic117_commands.specs.Views.{is_primary};
-ghost use Rattle.drive_states.specs.Deck.{segments_per_track, is_protected, run_on};
+ghost use Rattle.drive_states.specs.Deck.{segments_per_track, run_on};
 ghost use Rattle.drive_states.specs.Hand.{Wears};
 ghost use Rattle.drive_states.specs.Reach.{reads_in, IsUnder, IsFormatting, segment_of};
-ghost use Rattle.host_driver.specs.Fits.{Fits, IsAtRest, Agrees};
-ghost use Rattle.host_driver.specs.Place.{KeepsMode, RunsOn};
+ghost use Rattle.host_driver.specs.Calls.{IsReady, MayWrite, Keeps};
+ghost use Rattle.host_driver.specs.Place.{RunsOn};
 ghost use Rattle.host_driver.specs.Sectors.{deck_after_read, deck_after_write};
 
 use crate::fault::HostFault;
@@ -27,8 +26,7 @@ impl Host {
         sector: u8,
         into: &mut [u8; 1024],
     ) -> Result<SectorRead, HostFault>
-        requires fits { Fits T.means self.old unit.old }
-        requires rest { IsAtRest unit.old.drive }
+        requires ready { IsReady T.means self.old unit.old }
         requires mode { reads_in unit.old.drive.deck.mode ≡ true }
         requires under { IsUnder unit.old.drive.deck segment sector }
         requires sector { sector < 32 }
@@ -41,11 +39,7 @@ impl Host {
             (λ answer. unit.new.drive.deck ≡ deck_after_read answer sector unit.old.drive.deck)
             (λ fault. unit.new.drive.deck ≡ unit.old.drive.deck) }
         ensures under { IsUnder unit.new.drive.deck segment (sector + 1) }
-        ensures same { KeepsMode unit.old.drive.deck unit.new.drive.deck }
-        ensures agrees { Agrees T.means unit.old → Agrees T.means unit.new }
-        ensures size { T.means.size unit.new.tape ≡ T.means.size unit.old.tape }
-        ensures fits { Fits T.means self.new unit.new }
-        ensures rest { IsAtRest unit.new.drive }
+        ensures keeps { Keeps T.means self.new unit.old unit.new }
     {
         let answer = match unit.read_sector(self.geometry.address(segment, sector), into) {
             Ok(()) => SectorRead::Good,
@@ -67,10 +61,8 @@ impl Host {
         sector: u8,
         from: &[u8; 1024],
     ) -> Result<SectorWrite, HostFault>
-        requires fits { Fits T.means self.old unit.old }
-        requires rest { IsAtRest unit.old.drive }
-        requires mode { is_primary unit.old.drive.deck.mode ≡ true }
-        requires writable { is_protected unit.old.drive.deck ≡ false }
+        requires ready { IsReady T.means self.old unit.old }
+        requires writable { MayWrite unit.old.drive.deck }
         requires under { IsUnder unit.old.drive.deck segment sector }
         requires sector { sector < 32 }
         ensures did { Does T.means unit.old.tape unit.new.tape
@@ -82,11 +74,7 @@ impl Host {
             (λ answer. unit.new.drive.deck ≡ deck_after_write answer sector unit.old.drive.deck)
             (λ fault. unit.new.drive.deck ≡ unit.old.drive.deck) }
         ensures under { IsUnder unit.new.drive.deck segment (sector + 1) }
-        ensures same { KeepsMode unit.old.drive.deck unit.new.drive.deck }
-        ensures agrees { Agrees T.means unit.old → Agrees T.means unit.new }
-        ensures size { T.means.size unit.new.tape ≡ T.means.size unit.old.tape }
-        ensures fits { Fits T.means self.new unit.new }
-        ensures rest { IsAtRest unit.new.drive }
+        ensures keeps { Keeps T.means self.new unit.old unit.new }
     {
         match unit.write_sector(self.geometry.address(segment, sector), from) {
             Ok(()) => {
@@ -103,8 +91,7 @@ impl Host {
 
     /// Formats the segment in which the tape streams, in Format mode, and the tape runs on.
     pub fn format_here<T: Tape>(&mut self, unit: &mut Unit<T>) -> Result<(), HostFault>
-        requires fits { Fits T.means self.old unit.old }
-        requires rest { IsAtRest unit.old.drive }
+        requires ready { IsReady T.means self.old unit.old }
         requires formatting { IsFormatting unit.old.drive.deck }
         ensures did { Does T.means unit.old.tape unit.new.tape
             (FormatSegment (segment_of unit.old.drive.deck) ∷ []) result }
@@ -112,11 +99,7 @@ impl Host {
         ensures deck { OnOk result (unit.new.drive.deck ≡ run_on unit.old.drive.deck) }
         ensures next { OnOk result (RunsOn unit.old.drive.deck unit.new.drive.deck) }
         ensures failed { OnErr result (unit.new.drive.deck ≡ unit.old.drive.deck) }
-        ensures same { KeepsMode unit.old.drive.deck unit.new.drive.deck }
-        ensures agrees { Agrees T.means unit.old → Agrees T.means unit.new }
-        ensures size { T.means.size unit.new.tape ≡ T.means.size unit.old.tape }
-        ensures fits { Fits T.means self.new unit.new }
-        ensures rest { IsAtRest unit.new.drive }
+        ensures keeps { Keeps T.means self.new unit.old unit.new }
     {
         match unit.format_segment() {
             Ok(()) => {
@@ -137,17 +120,14 @@ impl Host {
         segment: u32,
         sector: u32,
     ) -> Result<(), HandFault>
-        requires fits { Fits T.means self.old unit.old }
-        requires rest { IsAtRest unit.old.drive }
+        requires ready { IsReady T.means self.old unit.old }
         ensures misplaced { ¬ (IsPlace (segments_per_track unit.old.drive.deck) segment sector) →
             (result ≡ Err HandFault.BadPlace) × (unit.new ≡ unit.old) }
         ensures placed { IsPlace (segments_per_track unit.old.drive.deck) segment sector →
             Wears T.means unit.old unit.new segment sector result }
         ensures drive { unit.new.drive ≡ unit.old.drive }
         ensures host { self.new ≡ self.old }
-        ensures agrees { Agrees T.means unit.old → Agrees T.means unit.new }
-        ensures size { T.means.size unit.new.tape ≡ T.means.size unit.old.tape }
-        ensures fits { Fits T.means self.new unit.new }
+        ensures keeps { Keeps T.means self.new unit.old unit.new }
     {
         unit.wear(segment, sector)
     }

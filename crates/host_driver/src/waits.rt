@@ -6,7 +6,8 @@ ghost use Rattle.drive_states.specs.Row.{report_word};
 ghost use Rattle.drive_states.specs.Unit.{IsSoundUnit};
 ghost use Rattle.drive_states.specs.declared.under_way.UnderWay.TheVariants.{Nothing};
 ghost use Rattle.drive_states.specs.Deck.{is_stopped, ticked};
-ghost use Rattle.host_driver.specs.Fits.{Fits, GeneratesAll, IsAtRest};
+ghost use Rattle.host_driver.specs.Calls.{IsReady};
+ghost use Rattle.host_driver.specs.Fits.{Fits, GeneratesAll};
 ghost use Rattle.host_driver.specs.Reports.{command_of, reports_until_ready, after_report};
 ghost use Rattle.host_driver.specs.Train.{ready_deck};
 ghost use Rattle.host_driver.specs.declared.report.Report.TheVariants.{Status};
@@ -25,15 +26,13 @@ impl Host {
     /// status and its error word alone.
     #[tactic(auto, using(crate::proofs::Reporting::resting))]
     pub fn report<T: Tape>(&mut self, unit: &mut Unit<T>, kind: Report) -> Result<u16, HostFault>
-        requires fits { Fits T.means self.old unit.old }
-        requires rest { IsAtRest unit.old.drive }
+        requires ready { IsReady T.means self.old unit.old }
         requires taken { refusal_of unit.old.drive.deck (command_of kind) ≡ None }
         ensures word { result ≡ Ok (report_word (command_of kind) unit.old.drive.deck) }
         ensures unit { unit.new
             ≡ record unit.old { drive = record unit.old.drive { line = true } } }
         ensures host { self.new ≡ self.old }
-        ensures fits { Fits T.means self.new unit.new }
-        ensures rest { IsAtRest unit.new.drive }
+        ensures ready { IsReady T.means self.new unit.new }
     {
         Ok(read_report(unit, kind)?)
     }
@@ -47,8 +46,7 @@ impl Host {
         ensures most { IfOk result (λ reports. reports ≤ 17) }
         ensures deck { unit.new.drive.deck ≡ ready_deck unit.old.drive.deck }
         ensures tape { unit.new.tape ≡ unit.old.tape }
-        ensures fits { Fits T.means self.new unit.new }
-        ensures rest { IsAtRest unit.new.drive }
+        ensures ready { IsReady T.means self.new unit.new }
     {
         let mut before = 0;
         while !is_ready(unit)? {

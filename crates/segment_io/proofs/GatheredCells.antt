@@ -4,8 +4,10 @@ use Rattle.std.specs.Int.{w32}
 use Rattle.std.specs.Int.RustNames.{bit_or}
 use Rattle.std.proofs.lemmas.Bool.{cases_lt, cases_eq, false≢true}
 use Rattle.std.proofs.lemmas.List.{length_push, length-map, map_push}
-use Rattle.std.proofs.lemmas.Nat.Bits.{bit_at-zero, bit_at_set_same, bit_at_set_other}
-use Rattle.std.proofs.lemmas.Option.{slice_get_within}
+use Rattle.std.proofs.lemmas.Nat.Bits.{bit_at-zero, bit_at_set_same, bit_at_set_other, bit_at_above}
+use Rattle.std.proofs.lemmas.Option.{slice_get_within, slice_get_past}
+use Rattle.std.proofs.lemmas.Nat.{or_lt}
+use Rattle.std.proofs.Math.Pow.{pow-lt}
 use Rattle.qic_base.specs.Cartridge.{Cartridge, view_at}
 use Rattle.qic_base.specs.LostSet.{IsLost, lost_places}
 use Rattle.qic_base.proofs.LostSetLaws.{lost_places-lost, lost_places-kept}
@@ -76,6 +78,12 @@ names_readable cells lost bytes names i = (
 -- the set with one place more
 abbrev pub with_place : (lost place : ℕ) → ℕ
 with_place lost place = bit_or lost (1 * 2 ^ place % 2 ^ 32)
+
+pub with_place-below : (lost place : ℕ) → lost < 2 ^ place → place < 32 → with_place lost place < 2 ^ (place + 1)
+with_place-below lost place below few =
+    let next : 2 ^ place < 2 ^ (place + 1) = pow-lt {i = place} {j = place + 1} (omega arith) in
+    let small : 2 ^ place < 2 ^ 32 = pow-lt {i = place} {j = 32} few in
+    or_lt (place + 1) lost (1 * 2 ^ place % 2 ^ 32) (omega arith) (omega arith)
 
 -- a cell that is unreadable
 names_unreadable : (cells : List SectorView) (lost : ℕ) (cell : SectorView) → length cells < 32 → IsUnreadable cell →

@@ -1,20 +1,24 @@
 -- How a call goes to its segment and through its sectors.
-use Rattle.std.proofs.Common.{◌≡◌, ℕ, ◌+◌, ◌≤◌, Bool, false, sym, ◌∙◌, ap, subst, arith, Option, Some, None, [], Result, Ok, Err}
+use Rattle.std.proofs.Common.{◌≡◌, ℕ, ◌+◌, ◌≤◌, Bool, false, sym, ◌∙◌, ap, subst, arith, Option, Some, None, [], Result, Ok, Err, ◌*◌, ◌<◌, true, refl, List}
 use Rattle.std.specs.Prelude.{IfSome, IsSomeAnd, OnOk}
 use Rattle.std.specs.Option.{option_map_or}
 use Rattle.qic_base.specs.Cartridge.{Cartridge}
 use Rattle.qic_base.specs.Tape.{Meaning, Done, Tells}
-use Rattle.qic_base.proofs.Steps.{Done-nothing, Done-told}
 use Rattle.qic_base.specs.declared.tape.TapeInfo.{TapeInfo}
-use Rattle.qic117_commands.specs.declared.view.Mode.{Mode}
+use Rattle.qic_base.proofs.Steps.{Done-nothing, Done-told}
+use Rattle.cartridge_spec.specs.Shape.{usable_count}
+use Rattle.cartridge_spec.proofs.Segments.{count_of_whole}
 use Rattle.drive_states.specs.declared.deck.Deck.{Deck}
 use Rattle.drive_states.specs.declared.deck.Motion.{Motion}
 use Rattle.drive_states.specs.declared.deck.Motion.TheVariants.{Stopped, Streaming, Seeking}
-use Rattle.drive_states.specs.Deck.{is_protected}
+use Rattle.drive_states.specs.Deck.{is_referenced}
 use Rattle.drive_states.specs.Reach.{StreamsTo, IsUnder}
+use Rattle.drive_states.specs.Sound.{HasLength}
 use Rattle.drive_states.specs.Unit.{UnitView}
-use Rattle.host_driver.specs.Fits.{Agrees}
-use Rattle.host_driver.specs.Place.{StreamsAt, KeepsMode}
+use Rattle.host_driver.specs.declared.host.Host.{Host}
+use Rattle.host_driver.specs.Fits.{Fits, segments_of}
+use Rattle.host_driver.specs.Place.{StreamsAt}
+use Rattle.segment_io.specs.Calls.{HasSegment}
 
 -- the tape streams before sector 0
 pub under_first : (segment : ℕ) (d : Deck) → StreamsAt segment 0 d → IsUnder d segment 0
@@ -32,32 +36,23 @@ under_next segment index d under = record { streams = further d.motion under.str
     further (Streaming next) h = omega arith
     further (Seeking left) h = h
 
-pub keeps_both : (a b c : Deck) → KeepsMode a b → KeepsMode b c → KeepsMode a c
-keeps_both a b c first next = record {
-  cartridge = next.cartridge ∙ first.cartridge;
-  mode = next.mode ∙ first.mode;
+-- the segments of the header copies and of the volume table have 32 usable sectors
+pub front_segment : {T : Type 0} {m : Meaning T} {h : Host} {u : UnitView T} (segment : ℕ) → Fits m h u → is_referenced u.drive.deck ≡ true → segment < 3 →
+    HasSegment u.drive.deck segment 4294967295
+front_segment {h = h} {u = u} segment fits referenced front = record {
+  referenced = referenced;
+  on_tape = by_cartridge u.drive.deck.cartridge fits.cartridge fits.sound.drive.deck.long;
+  carries = let all : usable_count 4294967295 ≡ 32 = count_of_whole in omega arith;
 }
-
--- a test of the mode is what it was
-pub mode_kept : (test : Mode → Bool) (value : Bool) (a b : Deck) → KeepsMode a b → test a.mode ≡ value → test b.mode ≡ value
-mode_kept test value a b keeps was = ap test keeps.mode ∙ was
-
--- and so is the protect mark
-pub protect_kept : (a b : Deck) → KeepsMode a b → is_protected a ≡ false → is_protected b ≡ false
-protect_kept a b keeps was =
-    ap (λ (cartridge : Option TapeInfo). option_map_or (λ (info : TapeInfo). info.protected) cartridge false) keeps.cartridge ∙ was
+  where
+    by_cartridge : (o : Option TapeInfo) → IsSomeAnd o (λ info. info.segments_per_track ≡ segments_of h) → HasLength o →
+        segment < 28 * option_map_or (λ (c : TapeInfo). c.segments_per_track) o 0
+    by_cartridge None there long = absurd there
+    by_cartridge (Some info) there long = let least : 3 ≤ info.segments_per_track = long.shortest in omega arith
 
 -- only the tape moved
 pub done_moved : {T : Type 0} (m : Meaning T) (old new : T) → new ≡ old → Done m old new []
 done_moved {T} m old new same = subst (λ (t : T). Done m old t []) (sym same) (Done-nothing m old)
-
-pub agrees_moved : {T : Type 0} (m : Meaning T) (old new : UnitView T) → KeepsMode old.drive.deck new.drive.deck →
-    new.tape ≡ old.tape → Agrees m old → Agrees m new
-agrees_moved {T} m old new keeps same agrees =
-    let P : Option TapeInfo → T → Type 0 = λ cartridge tape.
-    IfSome cartridge (λ info. IfSome (m.told tape) (λ there. IsSomeAnd there (λ c. c.info ≡ info))) in
-    subst (λ (cartridge : Option TapeInfo). P cartridge new.tape) (sym keeps.cartridge)
-    (subst (λ (tape : T). P old.drive.deck.cartridge tape) (sym same) agrees)
 
 -- ---- what is told
 

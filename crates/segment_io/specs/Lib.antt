@@ -1,3 +1,4 @@
+pub mod Calls
 pub mod Gathered
 pub mod Lending
 pub mod Reading

@@ -1,17 +1,16 @@
 //! A segment read.
 
-ghost use Rattle.std.specs.Prelude.{◌≡◌, ◌≢◌, ◌<◌, ◌+◌, ◌*◌, ◌++◌, ℕ, List, [], ◌∷◌, true, length, take, IfOk, OnOk, IsOkUnless};
+ghost use Rattle.std.specs.Prelude.{◌≡◌, ◌≢◌, ◌<◌, ◌+◌, ◌^◌, ◌++◌, ℕ, List, [], ◌∷◌, true, length, take, IfOk, OnOk, IsOkUnless};
 ghost use Rattle.qic_base.specs.Cartridge.{view_at};
 ghost use Rattle.qic_base.specs.LostSet.{lost_places};
 ghost use Rattle.qic_base.specs.Tape.{Does, Tells};
 ghost use Rattle.qic_base.specs.declared.tape.SectorView.{SectorView};
 ghost use Rattle.gf256_qic.specs.Code.{IsCodeBlock};
-ghost use Rattle.cartridge_spec.specs.Shape.{Carries, usable_count};
+ghost use Rattle.cartridge_spec.specs.Shape.{usable_count};
 ghost use Rattle.cartridge_spec.specs.Says.{cells_of};
-ghost use Rattle.drive_states.specs.Deck.{segments_per_track, is_referenced};
 ghost use Rattle.drive_states.specs.Reach.{reads_in, IsUnder};
-ghost use Rattle.host_driver.specs.Fits.{Agrees, Fits, IsAtRest};
-ghost use Rattle.host_driver.specs.Place.{KeepsMode};
+ghost use Rattle.host_driver.specs.Calls.{IsReady, Keeps};
+ghost use Rattle.segment_io.specs.Calls.{HasSegment};
 ghost use Rattle.segment_io.specs.Gathered.{Gathered, NamesUnreadable, cells_below};
 ghost use Rattle.segment_io.specs.Reading.{OnlyReads, Solves};
 
@@ -32,22 +31,17 @@ pub fn collect<T: Tape>(
     usable: u32,
     work: &mut Workspace,
 ) -> Result<LostSet, SegFault>
-    requires fits { Fits T.means host.old unit.old }
-    requires rest { IsAtRest unit.old.drive }
+    requires ready { IsReady T.means host.old unit.old }
+    requires segment { HasSegment unit.old.drive.deck segment usable }
     requires mode { reads_in unit.old.drive.deck.mode ≡ true }
-    requires referenced { is_referenced unit.old.drive.deck ≡ true }
-    requires on_tape { segment < 28 * segments_per_track unit.old.drive.deck }
-    requires carries { Carries usable }
     ensures did { Does T.means unit.old.tape unit.new.tape [] result }
     ensures fault { IsOkUnless result SegFault.Tape }
     ensures gathered { IfOk result (λ lost. Tells T.means unit.old.tape (λ c.
         Gathered (cells_of c segment usable) lost work.new)) }
+    // The places lie below the number of usable sectors, also where the tape tells nothing.
+    ensures within { IfOk result (λ lost. lost < 2 ^ usable_count usable) }
     ensures room { length work.new ≡ 32 }
-    ensures same { KeepsMode unit.old.drive.deck unit.new.drive.deck }
-    ensures agrees { Agrees T.means unit.old → Agrees T.means unit.new }
-    ensures size { T.means.size unit.new.tape ≡ T.means.size unit.old.tape }
-    ensures fits { Fits T.means host.new unit.new }
-    ensures rest { IsAtRest unit.new.drive }
+    ensures keeps { Keeps T.means host.new unit.old unit.new }
 {
     collect_into(host, unit, segment, usable, &mut work.sectors)
 }
@@ -61,21 +55,16 @@ fn collect_into<T: Tape>(
     usable: u32,
     sectors: &mut [[u8; SECTOR]],
 ) -> Result<LostSet, SegFault>
-    requires fits { Fits T.means host.old unit.old }
-    requires rest { IsAtRest unit.old.drive }
+    requires ready { IsReady T.means host.old unit.old }
+    requires segment { HasSegment unit.old.drive.deck segment usable }
     requires mode { reads_in unit.old.drive.deck.mode ≡ true }
-    requires referenced { is_referenced unit.old.drive.deck ≡ true }
-    requires on_tape { segment < 28 * segments_per_track unit.old.drive.deck }
     requires room { length sectors.old ≡ 32 }
     ensures did { Does T.means unit.old.tape unit.new.tape [] result }
     ensures fault { IsOkUnless result SegFault.Tape }
     ensures gathered { IfOk result (λ lost. Tells T.means unit.old.tape (λ c.
         Gathered (cells_of c segment usable) lost sectors.new)) }
-    ensures same { KeepsMode unit.old.drive.deck unit.new.drive.deck }
-    ensures agrees { Agrees T.means unit.old → Agrees T.means unit.new }
-    ensures size { T.means.size unit.new.tape ≡ T.means.size unit.old.tape }
-    ensures fits { Fits T.means host.new unit.new }
-    ensures rest { IsAtRest unit.new.drive }
+    ensures within { IfOk result (λ lost. lost < 2 ^ usable_count usable) }
+    ensures keeps { Keeps T.means host.new unit.old unit.new }
 {
     host.go_to(unit, segment)?;
     let mut found = Found { places: 0, lost: 0 };
@@ -104,8 +93,7 @@ impl Found {
         index: u8,
         sectors: &mut [[u8; SECTOR]],
     ) -> Result<(), SegFault>
-        requires fits { Fits T.means host.old unit.old }
-        requires rest { IsAtRest unit.old.drive }
+        requires ready { IsReady T.means host.old unit.old }
         requires mode { reads_in unit.old.drive.deck.mode ≡ true }
         requires under { IsUnder unit.old.drive.deck segment index }
         requires index { index < 32 }
@@ -117,12 +105,9 @@ impl Found {
             Gathered (cells_below c segment usable index) self.old.lost sectors.old →
             Gathered (cells_below c segment usable (index + 1)) self.new.lost sectors.new)) }
         ensures places { OnOk result (self.new.places ≡ length (lost_places usable (index + 1))) }
+        ensures within { self.old.lost < 2 ^ self.old.places → self.new.lost < 2 ^ self.new.places }
         ensures under { IsUnder unit.new.drive.deck segment (index + 1) }
-        ensures same { KeepsMode unit.old.drive.deck unit.new.drive.deck }
-        ensures agrees { Agrees T.means unit.old → Agrees T.means unit.new }
-        ensures size { T.means.size unit.new.tape ≡ T.means.size unit.old.tape }
-        ensures fits { Fits T.means host.new unit.new }
-        ensures rest { IsAtRest unit.new.drive }
+        ensures keeps { Keeps T.means host.new unit.old unit.new }
     {
         if !LostSet::from_mask(usable).contains(index) {
             return Ok(());
@@ -139,8 +124,7 @@ impl Found {
         index: u8,
         sectors: &mut [[u8; SECTOR]],
     ) -> Result<(), SegFault>
-        requires fits { Fits T.means host.old unit.old }
-        requires rest { IsAtRest unit.old.drive }
+        requires ready { IsReady T.means host.old unit.old }
         requires mode { reads_in unit.old.drive.deck.mode ≡ true }
         requires under { IsUnder unit.old.drive.deck segment index }
         requires index { index < 32 }
@@ -152,12 +136,9 @@ impl Found {
             length cells ≡ self.old.places → Gathered cells self.old.lost sectors.old →
             Gathered (cells ++ view_at c segment index ∷ []) self.new.lost sectors.new)) }
         ensures places { OnOk result (self.new.places ≡ self.old.places + 1) }
+        ensures within { self.old.lost < 2 ^ self.old.places → self.new.lost < 2 ^ self.new.places }
         ensures under { IsUnder unit.new.drive.deck segment (index + 1) }
-        ensures same { KeepsMode unit.old.drive.deck unit.new.drive.deck }
-        ensures agrees { Agrees T.means unit.old → Agrees T.means unit.new }
-        ensures size { T.means.size unit.new.tape ≡ T.means.size unit.old.tape }
-        ensures fits { Fits T.means host.new unit.new }
-        ensures rest { IsAtRest unit.new.drive }
+        ensures keeps { Keeps T.means host.new unit.old unit.new }
     {
         let into = &mut sectors[self.places as usize];
         match host.read_sector(unit, segment, index, into)? {
@@ -178,29 +159,23 @@ pub fn read_segment<T: Tape>(
     usable: u32,
     work: &mut Workspace,
 ) -> Result<LostSet, SegFault>
-    requires fits { Fits T.means host.old unit.old }
-    requires rest { IsAtRest unit.old.drive }
+    requires ready { IsReady T.means host.old unit.old }
+    requires segment { HasSegment unit.old.drive.deck segment usable }
     requires mode { reads_in unit.old.drive.deck.mode ≡ true }
-    requires referenced { is_referenced unit.old.drive.deck ≡ true }
-    requires on_tape { segment < 28 * segments_per_track unit.old.drive.deck }
-    requires carries { Carries usable }
     ensures did { OnlyReads T.means unit.old.tape unit.new.tape result }
     ensures solves { result ≢ Err SegFault.Tape → Tells T.means unit.old.tape (λ c.
         Solves segment (cells_of c segment usable) work.new result) }
     ensures unreadable { IfOk result (λ lost. Tells T.means unit.old.tape (λ c.
         NamesUnreadable (cells_of c segment usable) lost)) }
     // And where the tape tells nothing:
+    ensures within { IfOk result (λ lost. lost < 2 ^ usable_count usable) }
     ensures block { OnOk result (IsCodeBlock (take (usable_count usable) work.new)) }
     ensures many { (named n : ℕ) → result ≡ Err (SegFault.Lost named n) →
         (named ≡ segment) × (3 < n) }
     ensures mismatch { (named : ℕ) → result ≡ Err (SegFault.Mismatch named) →
         named ≡ segment }
     ensures room { length work.new ≡ 32 }
-    ensures same { KeepsMode unit.old.drive.deck unit.new.drive.deck }
-    ensures agrees { Agrees T.means unit.old → Agrees T.means unit.new }
-    ensures size { T.means.size unit.new.tape ≡ T.means.size unit.old.tape }
-    ensures fits { Fits T.means host.new unit.new }
-    ensures rest { IsAtRest unit.new.drive }
+    ensures keeps { Keeps T.means host.new unit.old unit.new }
 {
     let lost = collect(host, unit, segment, usable, work)?;
     solve_collected(segment, usable, lost, work)?;

@@ -1,14 +1,12 @@
 //! A segment written.
 
-ghost use Rattle.std.specs.Prelude.{◌≡◌, ◌<◌, ◌+◌, ◌*◌, ◌^◌, ◌++◌, true, false, length, take, drop, IsOkUnless, OnOk};
+ghost use Rattle.std.specs.Prelude.{◌≡◌, ◌<◌, ◌+◌, ◌^◌, ◌++◌, length, take, drop, IsOkUnless, OnOk};
 ghost use Rattle.qic_base.specs.LostSet.{lost_places};
 ghost use Rattle.qic_base.specs.Tape.{Does};
-ghost use Rattle.qic117_commands.specs.Views.{is_primary};
-ghost use Rattle.cartridge_spec.specs.Shape.{Carries, usable_count};
-ghost use Rattle.drive_states.specs.Deck.{segments_per_track, is_protected, is_referenced};
+ghost use Rattle.cartridge_spec.specs.Shape.{usable_count};
 ghost use Rattle.drive_states.specs.Reach.{IsUnder};
-ghost use Rattle.host_driver.specs.Fits.{Agrees, Fits, IsAtRest};
-ghost use Rattle.host_driver.specs.Place.{KeepsMode};
+ghost use Rattle.host_driver.specs.Calls.{IsReady, MayWrite, Keeps};
+ghost use Rattle.segment_io.specs.Calls.{HasSegment};
 ghost use Rattle.segment_io.specs.Writes.{named_write, usable_write};
 ghost use Rattle.cartridge_spec.specs.Writes.{block_in, segment_writes, named_writes};
 
@@ -30,22 +28,14 @@ pub fn write_segment<T: Tape>(
     usable: u32,
     work: &mut Workspace,
 ) -> Result<(), SegFault>
-    requires fits { Fits T.means host.old unit.old }
-    requires rest { IsAtRest unit.old.drive }
-    requires mode { is_primary unit.old.drive.deck.mode ≡ true }
-    requires writable { is_protected unit.old.drive.deck ≡ false }
-    requires referenced { is_referenced unit.old.drive.deck ≡ true }
-    requires on_tape { segment < 28 * segments_per_track unit.old.drive.deck }
-    requires carries { Carries usable }
+    requires ready { IsReady T.means host.old unit.old }
+    requires segment { HasSegment unit.old.drive.deck segment usable }
+    requires writable { MayWrite unit.old.drive.deck }
     ensures did { Does T.means unit.old.tape unit.new.tape
         (segment_writes segment usable work.old) result }
     ensures fault { IsOkUnless result SegFault.Tape }
     ensures parity { work.new ≡ block_in usable work.old ++ drop (usable_count usable) work.old }
-    ensures same { KeepsMode unit.old.drive.deck unit.new.drive.deck }
-    ensures agrees { Agrees T.means unit.old → Agrees T.means unit.new }
-    ensures size { T.means.size unit.new.tape ≡ T.means.size unit.old.tape }
-    ensures fits { Fits T.means host.new unit.new }
-    ensures rest { IsAtRest unit.new.drive }
+    ensures keeps { Keeps T.means host.new unit.old unit.new }
 {
     let count = count_usable(usable);
     put_parity(&mut work.sectors, count - 3);
@@ -63,22 +53,14 @@ pub fn write_sectors<T: Tape>(
     places: LostSet,
     work: &Workspace,
 ) -> Result<(), SegFault>
-    requires fits { Fits T.means host.old unit.old }
-    requires rest { IsAtRest unit.old.drive }
-    requires mode { is_primary unit.old.drive.deck.mode ≡ true }
-    requires writable { is_protected unit.old.drive.deck ≡ false }
-    requires referenced { is_referenced unit.old.drive.deck ≡ true }
-    requires on_tape { segment < 28 * segments_per_track unit.old.drive.deck }
-    requires carries { Carries usable }
+    requires ready { IsReady T.means host.old unit.old }
+    requires segment { HasSegment unit.old.drive.deck segment usable }
+    requires writable { MayWrite unit.old.drive.deck }
     requires within { places < 2 ^ usable_count usable }
     ensures did { Does T.means unit.old.tape unit.new.tape
         (named_writes segment usable places work.now) result }
     ensures fault { IsOkUnless result SegFault.Tape }
-    ensures same { KeepsMode unit.old.drive.deck unit.new.drive.deck }
-    ensures agrees { Agrees T.means unit.old → Agrees T.means unit.new }
-    ensures size { T.means.size unit.new.tape ≡ T.means.size unit.old.tape }
-    ensures fits { Fits T.means host.new unit.new }
-    ensures rest { IsAtRest unit.new.drive }
+    ensures keeps { Keeps T.means host.new unit.old unit.new }
 {
     host.go_to(unit, segment)?;
     let sectors = work.sectors();
@@ -103,10 +85,8 @@ fn write_usable<T: Tape>(
     place: &mut u8,
     sectors: &[[u8; SECTOR]],
 ) -> Result<(), SegFault>
-    requires fits { Fits T.means host.old unit.old }
-    requires rest { IsAtRest unit.old.drive }
-    requires mode { is_primary unit.old.drive.deck.mode ≡ true }
-    requires writable { is_protected unit.old.drive.deck ≡ false }
+    requires ready { IsReady T.means host.old unit.old }
+    requires writable { MayWrite unit.old.drive.deck }
     requires under { IsUnder unit.old.drive.deck segment index }
     requires index { index < 32 }
     requires room { length sectors.now ≡ 32 }
@@ -116,11 +96,7 @@ fn write_usable<T: Tape>(
     ensures fault { IsOkUnless result SegFault.Tape }
     ensures place { OnOk result (place.new ≡ length (lost_places usable (index + 1))) }
     ensures under { IsUnder unit.new.drive.deck segment (index + 1) }
-    ensures same { KeepsMode unit.old.drive.deck unit.new.drive.deck }
-    ensures agrees { Agrees T.means unit.old → Agrees T.means unit.new }
-    ensures size { T.means.size unit.new.tape ≡ T.means.size unit.old.tape }
-    ensures fits { Fits T.means host.new unit.new }
-    ensures rest { IsAtRest unit.new.drive }
+    ensures keeps { Keeps T.means host.new unit.old unit.new }
 {
     if !LostSet::from_mask(usable).contains(index) {
         return Ok(());
@@ -140,10 +116,8 @@ fn write_named<T: Tape>(
     place: u8,
     sectors: &[[u8; SECTOR]],
 ) -> Result<(), SegFault>
-    requires fits { Fits T.means host.old unit.old }
-    requires rest { IsAtRest unit.old.drive }
-    requires mode { is_primary unit.old.drive.deck.mode ≡ true }
-    requires writable { is_protected unit.old.drive.deck ≡ false }
+    requires ready { IsReady T.means host.old unit.old }
+    requires writable { MayWrite unit.old.drive.deck }
     requires under { IsUnder unit.old.drive.deck segment index }
     requires index { index < 32 }
     requires room { place < length sectors.now }
@@ -151,11 +125,7 @@ fn write_named<T: Tape>(
         (named_write segment index places place sectors.now) result }
     ensures fault { IsOkUnless result SegFault.Tape }
     ensures under { IsUnder unit.new.drive.deck segment (index + 1) }
-    ensures same { KeepsMode unit.old.drive.deck unit.new.drive.deck }
-    ensures agrees { Agrees T.means unit.old → Agrees T.means unit.new }
-    ensures size { T.means.size unit.new.tape ≡ T.means.size unit.old.tape }
-    ensures fits { Fits T.means host.new unit.new }
-    ensures rest { IsAtRest unit.new.drive }
+    ensures keeps { Keeps T.means host.new unit.old unit.new }
 {
     if places.contains(place) {
         host.write_sector(unit, segment, index, &sectors[place as usize])?;

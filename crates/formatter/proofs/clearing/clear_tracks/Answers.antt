@@ -4,7 +4,7 @@ use Rattle.std.proofs.lemmas.Result.{err_from_is_err_and}
 use Rattle.qic_base.specs.Tape.{Done, Broke}
 use Rattle.qic117_commands.specs.Views.{is_format}
 use Rattle.drive_states.specs.Deck.{segments_per_track}
-use Rattle.segment_io.proofs.Going.{keeps_both, mode_kept}
+use Rattle.host_driver.proofs.Keeping.{keeps_both, mode_kept}
 use Rattle.formatter.specs.Steps.{formats_from, track_formats}
 use Rattle.formatter.proofs.Parts.{done_track, broke_track}
 use Rattle.formatter.proofs.Places.{length_kept}
@@ -15,17 +15,13 @@ loop-track-preserved g c =
     let before = c.loop-track.invariant in
     let more = c.in_ok-clear_track.ensures in
     let n : ℕ = segments_per_track c.args.unit.now.drive.deck in
-    let length : segments_per_track c.loop-track.unit.drive.deck ≡ n = length_kept c.args.unit.now.drive.deck c.loop-track.unit.drive.deck before.same.cartridge in
+    let length : segments_per_track c.loop-track.unit.drive.deck ≡ n = length_kept c.args.unit.now.drive.deck c.loop-track.unit.drive.deck before.keeps.same.cartridge in
     record {
       formatted = done_track n c.loop-track.track before.formatted
           (subst (λ (k : ℕ). Done g.T.Tape.means c.loop-track.unit.tape c.clear_track.new.unit.tape (track_formats k c.loop-track.track)) length more.did);
       stopped = more.stopped;
-      mode = mode_kept is_format true c.loop-track.unit.drive.deck c.clear_track.new.unit.drive.deck more.same before.mode;
-      same = keeps_both c.args.unit.now.drive.deck c.loop-track.unit.drive.deck c.clear_track.new.unit.drive.deck before.same more.same;
-      agrees = λ agrees. more.agrees (before.agrees agrees);
-      told_size = more.size ∙ before.told_size;
-      fits = more.fits;
-      rest = more.rest;
+      mode = mode_kept is_format true c.loop-track.unit.drive.deck c.clear_track.new.unit.drive.deck more.keeps.same before.mode;
+      keeps = keeps_both before.keeps more.keeps;
     }
 
 -- broken off in one of the tracks
@@ -33,7 +29,7 @@ pub returns-in_err-clear_track-clause-did : goal.returns-in_err-clear_track-clau
 returns-in_err-clear_track-clause-did g c =
     let before = c.loop-track.invariant in
     let n : ℕ = segments_per_track c.args.unit.now.drive.deck in
-    let length : segments_per_track c.loop-track.unit.drive.deck ≡ n = length_kept c.args.unit.now.drive.deck c.loop-track.unit.drive.deck before.same.cartridge in
+    let length : segments_per_track c.loop-track.unit.drive.deck ≡ n = length_kept c.args.unit.now.drive.deck c.loop-track.unit.drive.deck before.keeps.same.cartridge in
     let track : c.loop-track.track + 1 ≤ 28 = omega arith in
     let within : (c.loop-track.track + 1) * n ≤ 28 * n = mul-le-mul_right n track in
     let whole : Broke g.T.Tape.means c.args.unit.now.tape c.clear_track.new.unit.tape (formats_from 0 (28 * n)) =

@@ -3,8 +3,7 @@ use Rattle.std.proofs.Common.{◌≡◌, ◌*◌, true}
 use Rattle.qic_base.specs.Tape.{Done}
 use Rattle.qic117_commands.specs.Views.{is_format}
 use Rattle.drive_states.specs.Deck.{segments_per_track, is_stopped}
-use Rattle.host_driver.specs.Fits.{Agrees, Fits, IsAtRest}
-use Rattle.host_driver.specs.Place.{KeepsMode}
+use Rattle.host_driver.specs.Calls.{Keeps}
 use Rattle.formatter.specs.Steps.{formats_from}
 use Rattle.formatter.proofs.clearing.clear_tracks.Given as goal
 
@@ -13,9 +12,5 @@ invariant-loop-track g l = record {
   formatted : Done g.T.Tape.means l.fn.unit.tape l.unit.tape (formats_from 0 (l.track * segments_per_track l.fn.unit.drive.deck));
   stopped : is_stopped l.unit.drive.deck.motion ≡ true;
   mode : is_format l.unit.drive.deck.mode ≡ true;
-  same : KeepsMode l.fn.unit.drive.deck l.unit.drive.deck;
-  agrees : Agrees g.T.Tape.means l.fn.unit → Agrees g.T.Tape.means l.unit;
-  told_size : g.T.Tape.means.size l.unit.tape ≡ g.T.Tape.means.size l.fn.unit.tape;
-  fits : Fits g.T.Tape.means l.host l.unit;
-  rest : IsAtRest l.unit.drive;
+  keeps : Keeps g.T.Tape.means l.host l.fn.unit l.unit;
 }

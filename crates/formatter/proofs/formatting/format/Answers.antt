@@ -27,7 +27,7 @@ returns-in-Some-clause-did g c =
       in_front = c.in-Some.ensures.in_front;
       did = Done-before_reads c.in_ok-clear.ensures.did c.in_ok-mark_all.ensures.did;
       first = first_defect g.T.Tape.means c.args.unit.now.tape c.clear.new.unit.tape n c.mark_all.new.map c.in-Some.segment
-          (g.met.T.Tape.told_right c.args.unit.now.tape) (size_known c.requires.fits) long
+          (g.met.T.Tape.told_right c.args.unit.now.tape) (size_known c.requires.ready.fits) long
           c.in_ok-clear.ensures.did c.in_ok-mark_all.ensures.marks c.in-Some.ensures;
     }
 
@@ -49,7 +49,7 @@ returns-in_err-write_header-clause-did g c =
       fresh = subst (λ (k : ℕ). IsFreshArea k c.args.label.now c.args.date c.mark_all.new.map written.area) same written.fresh;
       broke = all_broken g.T.Tape.means c.args.unit.now.tape c.mark_all.new.unit.tape c.write_header.new.unit.tape n written.area cleared written.did;
       marks = marks_formattable g.T.Tape.means c.args.unit.now.tape c.clear.new.unit.tape n c.mark_all.new.map
-          (g.met.T.Tape.told_right c.args.unit.now.tape) (size_known c.requires.fits) long
+          (g.met.T.Tape.told_right c.args.unit.now.tape) (size_known c.requires.ready.fits) long
           c.in_ok-clear.ensures.did c.in_ok-mark_all.ensures.marks c.in_default.ensures;
     }))
 
@@ -70,8 +70,8 @@ returns-clause-did g c =
       fresh = subst (λ (k : ℕ). IsFreshArea k c.args.label.now c.args.date c.mark_all.new.map written.area) same written.fresh;
       did = all_done g.T.Tape.means c.args.unit.now.tape c.mark_all.new.unit.tape c.write_header.new.unit.tape n written.area cleared written.did;
       marks = marks_formattable g.T.Tape.means c.args.unit.now.tape c.clear.new.unit.tape n c.mark_all.new.map
-          (g.met.T.Tape.told_right c.args.unit.now.tape) (size_known c.requires.fits) long
+          (g.met.T.Tape.told_right c.args.unit.now.tape) (size_known c.requires.ready.fits) long
           c.in_ok-clear.ensures.did c.in_ok-mark_all.ensures.marks c.in_default.ensures;
-      segments = c.segments.ensures.value ∙ ap (λ (k : ℕ). 28 * k) (c.geometry.ensures ∙ length_known c.write_header.ensures.fits ∙ whole);
+      segments = c.segments.ensures.value ∙ ap (λ (k : ℕ). 28 * k) (c.geometry.ensures ∙ length_known c.write_header.ensures.ready.fits ∙ whole);
       bad = c.marked.ensures;
     }

@@ -25,7 +25,7 @@ returns-in_err-write_copy-clause-did g c =
     let p = err_from_is_err_and c.from_residual-in_err-write_copy.result c.from_residual-in_err-write_copy.ensures.1 in
     record {
       area = area;
-      fresh = subst (λ (n : ℕ). IsFreshArea n c.args.label.now c.args.date c.args.map.now area) (c.geometry.ensures ∙ length_known c.requires.fits) c.spell.ensures.fresh;
+      fresh = subst (λ (n : ℕ). IsFreshArea n c.args.label.now c.args.date c.args.map.now area) (c.geometry.ensures ∙ length_known c.requires.ready.fits) c.spell.ensures.fresh;
       did = rw p.1 whole;
     }
 
@@ -46,7 +46,7 @@ returns-in_err-write_copy-2-clause-did g c =
     let p = err_from_is_err_and c.from_residual-in_err-write_copy-2.result c.from_residual-in_err-write_copy-2.ensures.1 in
     record {
       area = area;
-      fresh = subst (λ (n : ℕ). IsFreshArea n c.args.label.now c.args.date c.args.map.now area) (c.geometry.ensures ∙ length_known c.requires.fits) c.spell.ensures.fresh;
+      fresh = subst (λ (n : ℕ). IsFreshArea n c.args.label.now c.args.date c.args.map.now area) (c.geometry.ensures ∙ length_known c.requires.ready.fits) c.spell.ensures.fresh;
       did = rw p.1 whole;
     }
 
@@ -65,6 +65,6 @@ returns-clause-did g c =
     (Done-Done {xs = copy_writes 0 (with_parity area)} {ys = copy_writes 1 (with_parity area)} first next) in
     record {
       area = area;
-      fresh = subst (λ (n : ℕ). IsFreshArea n c.args.label.now c.args.date c.args.map.now area) (c.geometry.ensures ∙ length_known c.requires.fits) c.spell.ensures.fresh;
+      fresh = subst (λ (n : ℕ). IsFreshArea n c.args.label.now c.args.date c.args.map.now area) (c.geometry.ensures ∙ length_known c.requires.ready.fits) c.spell.ensures.fresh;
       did = whole;
     }

@@ -3,7 +3,8 @@ use Rattle.qic_base.specs.Cartridge.{place_of}
 use Rattle.qic_base.specs.Tape.{Tells}
 use Rattle.qic_base.proofs.Steps.{Done-after_reads, Done-nothing, Tells-read}
 use Rattle.drive_states.specs.Reach.{reads_in}
-use Rattle.segment_io.proofs.Going.{keeps_both, mode_kept, tells_always}
+use Rattle.host_driver.proofs.Keeping.{keeps_none, keeps_both, mode_kept}
+use Rattle.segment_io.proofs.Going.{tells_always}
 use Rattle.formatter.specs.Marking.{MarksBelow}
 use Rattle.formatter.proofs.Marks.{tells_chain}
 use Rattle.formatter.proofs.marking.mark_segment.Goals as goal
@@ -17,11 +18,7 @@ loop-index-init g c = record {
   room = refl;
   under = c.requires.under;
   mode = c.requires.mode;
-  same = record { cartridge = refl; mode = refl };
-  agrees = λ agrees. agrees;
-  told_size = refl;
-  fits = c.requires.fits;
-  rest = c.requires.rest;
+  keeps = keeps_none c.requires.ready;
 }
 
 pub loop-index-preserved : goal.loop-index-preserved
@@ -41,10 +38,6 @@ loop-index-preserved g c =
       words = more.words ∙ before.words;
       room = omega arith;
       under = more.under;
-      mode = mode_kept reads_in true c.loop-index.unit.drive.deck c.mark_sector.new.unit.drive.deck more.same before.mode;
-      same = keeps_both c.args.unit.now.drive.deck c.loop-index.unit.drive.deck c.mark_sector.new.unit.drive.deck before.same more.same;
-      agrees = λ agrees. more.agrees (before.agrees agrees);
-      told_size = more.size ∙ before.told_size;
-      fits = more.fits;
-      rest = more.rest;
+      mode = mode_kept reads_in true c.loop-index.unit.drive.deck c.mark_sector.new.unit.drive.deck more.keeps.same before.mode;
+      keeps = keeps_both before.keeps more.keeps;
     }

@@ -3,10 +3,11 @@ use Rattle.qic_base.specs.Tape.{Done, Tells}
 use Rattle.qic_base.proofs.Steps.{Done-after_reads, Tells-read}
 use Rattle.drive_states.specs.Deck.{segments_per_track, is_streaming}
 use Rattle.drive_states.specs.Reach.{reads_in, segment_of}
-use Rattle.segment_io.proofs.Going.{keeps_both, mode_kept, done_moved, agrees_moved, tells_always}
+use Rattle.host_driver.proofs.Keeping.{keeps_both, mode_kept}
+use Rattle.segment_io.proofs.Going.{done_moved, tells_always}
 use Rattle.formatter.specs.Marking.{MarksBelow}
 use Rattle.formatter.proofs.Marks.{tells_chain}
-use Rattle.formatter.proofs.Places.{length_known, length_kept, before_first, before_next, streaming_under, idled_keeps}
+use Rattle.formatter.proofs.Places.{length_known, length_kept, before_first, before_next, streaming_under}
 use Rattle.formatter.proofs.marking.mark_track.Goals as goal
 
 pub loop-offset-init : goal.loop-offset-init
@@ -23,12 +24,8 @@ loop-offset-init g c =
       words = refl;
       room = refl;
       before = before_first n (c.args.track * n) c.go_to.new.unit.drive.deck some c.go_to.ensures.place;
-      mode = mode_kept reads_in true c.args.unit.now.drive.deck c.go_to.new.unit.drive.deck c.go_to.ensures.same c.requires.mode;
-      same = c.go_to.ensures.same;
-      agrees = agrees_moved g.T.Tape.means c.args.unit.now c.go_to.new.unit c.go_to.ensures.same c.go_to.ensures.tape;
-      told_size = ap g.T.Tape.means.size c.go_to.ensures.tape;
-      fits = c.go_to.ensures.fits;
-      rest = c.go_to.ensures.rest;
+      mode = mode_kept reads_in true c.args.unit.now.drive.deck c.go_to.new.unit.drive.deck c.go_to.ensures.keeps.same c.requires.mode;
+      keeps = c.go_to.ensures.keeps;
     }
 
 pub loop-offset-preserved : goal.loop-offset-preserved
@@ -38,13 +35,12 @@ loop-offset-preserved g c =
     let idle = c.next_segment.ensures in
     let n : ℕ = c.from-count.result in
     let count : n ≡ segments_per_track c.args.unit.now.drive.deck =
-    c.from-count.ensures ∙ c.segments_per_track.ensures.value ∙ c.geometry.ensures ∙ length_known c.requires.fits in
+    c.from-count.ensures ∙ c.segments_per_track.ensures.value ∙ c.geometry.ensures ∙ length_known c.requires.ready.fits in
     let within : c.loop-offset.offset < n = c.loop-offset-test.true in
     let streams : is_streaming c.mark_segment.new.unit.drive.deck.motion ≡ true = streaming_under _ 32 c.mark_segment.new.unit.drive.deck more.under in
     let here : c.args.track * n + c.loop-offset.offset ≡ segment_of c.mark_segment.new.unit.drive.deck = more.under.here in
     let read : Done g.T.Tape.means c.args.unit.now.tape c.mark_segment.new.unit.tape [] = Done-after_reads before.read more.did in
-    let both = keeps_both c.args.unit.now.drive.deck c.loop-offset.unit.drive.deck c.mark_segment.new.unit.drive.deck before.same more.same in
-    let idled = idled_keeps c.mark_segment.new.unit.drive.deck c.next_segment.new.unit.drive.deck idle.deck in
+    let both = keeps_both before.keeps more.keeps in
     record {
       read = subst (λ (t : _). Done g.T.Tape.means c.args.unit.now.tape t []) (sym idle.tape) read;
       marks = tells_chain g.T.Tape.means c.args.unit.now.tape
@@ -58,13 +54,8 @@ loop-offset-preserved g c =
       words = more.words ∙ before.words;
       room = omega arith;
       before = before_next n c.args.track c.loop-offset.offset c.mark_segment.new.unit.drive.deck c.next_segment.new.unit.drive.deck
-          (length_kept c.args.unit.now.drive.deck c.mark_segment.new.unit.drive.deck both.cartridge ∙ sym count)
-          more.fits.sound.drive.deck within streams here (idle.next streams);
-      mode = mode_kept reads_in true c.mark_segment.new.unit.drive.deck c.next_segment.new.unit.drive.deck idled
-          (mode_kept reads_in true c.loop-offset.unit.drive.deck c.mark_segment.new.unit.drive.deck more.same before.mode);
-      same = keeps_both c.args.unit.now.drive.deck c.mark_segment.new.unit.drive.deck c.next_segment.new.unit.drive.deck both idled;
-      agrees = λ agrees. agrees_moved g.T.Tape.means c.mark_segment.new.unit c.next_segment.new.unit idled idle.tape (more.agrees (before.agrees agrees));
-      told_size = ap g.T.Tape.means.size idle.tape ∙ more.size ∙ before.told_size;
-      fits = idle.fits;
-      rest = idle.rest;
+          (length_kept c.args.unit.now.drive.deck c.mark_segment.new.unit.drive.deck both.same.cartridge ∙ sym count)
+          more.keeps.ready.fits.sound.drive.deck within streams here (idle.next streams);
+      mode = mode_kept reads_in true c.args.unit.now.drive.deck c.next_segment.new.unit.drive.deck (keeps_both both idle.keeps).same c.requires.mode;
+      keeps = keeps_both both idle.keeps;
     }

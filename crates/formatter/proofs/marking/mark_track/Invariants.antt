@@ -2,8 +2,7 @@
 use Rattle.std.proofs.Common.{◌≡◌, ◌+◌, ◌*◌, [], true, length}
 use Rattle.qic_base.specs.Tape.{Done, Tells}
 use Rattle.drive_states.specs.Reach.{reads_in}
-use Rattle.host_driver.specs.Fits.{Agrees, Fits, IsAtRest}
-use Rattle.host_driver.specs.Place.{KeepsMode}
+use Rattle.host_driver.specs.Calls.{Keeps}
 use Rattle.formatter.specs.Marking.{MarksBelow}
 use Rattle.formatter.proofs.Places.{IsBefore}
 use Rattle.formatter.proofs.marking.mark_track.Given as goal
@@ -17,9 +16,5 @@ invariant-loop-offset g l = record {
   room : length l.sectors ≡ length l.fn.sectors;
   before : IsBefore l.count l.first l.offset l.unit.drive.deck;
   mode : reads_in l.unit.drive.deck.mode ≡ true;
-  same : KeepsMode l.fn.unit.drive.deck l.unit.drive.deck;
-  agrees : Agrees g.T.Tape.means l.fn.unit → Agrees g.T.Tape.means l.unit;
-  told_size : g.T.Tape.means.size l.unit.tape ≡ g.T.Tape.means.size l.fn.unit.tape;
-  fits : Fits g.T.Tape.means l.host l.unit;
-  rest : IsAtRest l.unit.drive;
+  keeps : Keeps g.T.Tape.means l.host l.fn.unit l.unit;
 }

@@ -3,7 +3,8 @@ use Rattle.qic_base.specs.Tape.{Tells}
 use Rattle.qic_base.proofs.Steps.{Done-after_reads, Done-nothing, Tells-read}
 use Rattle.drive_states.specs.Deck.{segments_per_track}
 use Rattle.drive_states.specs.Reach.{reads_in}
-use Rattle.segment_io.proofs.Going.{keeps_both, mode_kept, tells_always}
+use Rattle.host_driver.proofs.Keeping.{keeps_none, keeps_both, mode_kept}
+use Rattle.segment_io.proofs.Going.{tells_always}
 use Rattle.formatter.specs.Marking.{MarksBelow}
 use Rattle.formatter.proofs.Marks.{tells_chain}
 use Rattle.formatter.proofs.Places.{length_kept}
@@ -19,11 +20,7 @@ loop-track-init g c = record {
   room = refl;
   stopped = c.requires.stopped;
   mode = c.requires.mode;
-  same = record { cartridge = refl; mode = refl };
-  agrees = λ agrees. agrees;
-  told_size = refl;
-  fits = c.requires.fits;
-  rest = c.requires.rest;
+  keeps = keeps_none c.requires.ready;
 }
 
 pub loop-track-preserved : goal.loop-track-preserved
@@ -31,7 +28,7 @@ loop-track-preserved g c =
     let before = c.loop-track.invariant in
     let more = c.in_ok-mark_track.ensures in
     let n : ℕ = segments_per_track c.args.unit.now.drive.deck in
-    let length : segments_per_track c.loop-track.unit.drive.deck ≡ n = length_kept c.args.unit.now.drive.deck c.loop-track.unit.drive.deck before.same.cartridge in
+    let length : segments_per_track c.loop-track.unit.drive.deck ≡ n = length_kept c.args.unit.now.drive.deck c.loop-track.unit.drive.deck before.keeps.same.cartridge in
     record {
       read = Done-after_reads before.read more.did;
       marks = tells_chain g.T.Tape.means c.args.unit.now.tape
@@ -44,10 +41,6 @@ loop-track-preserved g c =
       words = more.words ∙ before.words;
       room = omega arith;
       stopped = more.stopped;
-      mode = mode_kept reads_in true c.loop-track.unit.drive.deck c.mark_track.new.unit.drive.deck more.same before.mode;
-      same = keeps_both c.args.unit.now.drive.deck c.loop-track.unit.drive.deck c.mark_track.new.unit.drive.deck before.same more.same;
-      agrees = λ agrees. more.agrees (before.agrees agrees);
-      told_size = more.size ∙ before.told_size;
-      fits = more.fits;
-      rest = more.rest;
+      mode = mode_kept reads_in true c.loop-track.unit.drive.deck c.mark_track.new.unit.drive.deck more.keeps.same before.mode;
+      keeps = keeps_both before.keeps more.keeps;
     }

@@ -1,10 +1,9 @@
 -- The sectors below the index are gathered, and the tape was only read.
-use Rattle.std.proofs.Common.{◌≡◌, [], true, length}
+use Rattle.std.proofs.Common.{◌≡◌, [], true, length, ◌+◌, ◌^◌, ◌<◌}
 use Rattle.qic_base.specs.LostSet.{lost_places}
 use Rattle.qic_base.specs.Tape.{Done, Tells}
 use Rattle.drive_states.specs.Reach.{reads_in, IsUnder}
-use Rattle.host_driver.specs.Fits.{Agrees, Fits, IsAtRest}
-use Rattle.host_driver.specs.Place.{KeepsMode}
+use Rattle.host_driver.specs.Calls.{Keeps}
 use Rattle.segment_io.specs.Gathered.{Gathered, cells_below}
 use Rattle.segment_io.proofs.reading.collect_into.Given as goal
 
@@ -15,11 +14,8 @@ invariant-loop-index g l = record {
   read : Done g.T.Tape.means l.fn.unit.tape l.unit.tape [];
   gathered : Tells g.T.Tape.means l.unit.tape (λ c.
       Gathered (cells_below c l.segment l.usable l.index) l.found.lost l.sectors);
+  within : l.found.lost < 2 ^ l.found.places;
   under : IsUnder l.unit.drive.deck l.segment l.index;
   mode : reads_in l.unit.drive.deck.mode ≡ true;
-  same : KeepsMode l.fn.unit.drive.deck l.unit.drive.deck;
-  agrees : Agrees g.T.Tape.means l.fn.unit → Agrees g.T.Tape.means l.unit;
-  told_size : g.T.Tape.means.size l.unit.tape ≡ g.T.Tape.means.size l.fn.unit.tape;
-  fits : Fits g.T.Tape.means l.host l.unit;
-  rest : IsAtRest l.unit.drive;
+  keeps : Keeps g.T.Tape.means l.host l.fn.unit l.unit;
 }

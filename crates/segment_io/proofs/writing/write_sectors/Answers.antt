@@ -1,4 +1,4 @@
-use Rattle.std.proofs.Common.{◌≡◌, ℕ, ◌+◌, ◌≤◌, ◌++◌, true, List, length, ap, subst, sym, ◌∙◌, arith}
+use Rattle.std.proofs.Common.{◌≡◌, ℕ, ◌+◌, ◌≤◌, ◌++◌, true, List, length, ap, subst, sym, ◌∙◌, arith, []}
 use Rattle.std.proofs.lemmas.Result.{err_from_is_err_and}
 use Rattle.qic_base.specs.LostSet.{lost_places}
 use Rattle.qic_base.specs.Step.{Step}
@@ -8,7 +8,8 @@ use Rattle.qic117_commands.specs.Views.{is_primary}
 use Rattle.cartridge_spec.specs.Shape.{usable_count}
 use Rattle.segment_io.specs.Writes.{usable_write}
 use Rattle.cartridge_spec.specs.Writes.{named_writes}
-use Rattle.segment_io.proofs.Going.{under_first, keeps_both, mode_kept, protect_kept, done_moved, agrees_moved}
+use Rattle.host_driver.proofs.Keeping.{keeps_both, may_write_kept}
+use Rattle.segment_io.proofs.Going.{under_first, done_moved}
 use Rattle.segment_io.proofs.NamedWrites.{writes_below, writes_below_none, writes_below_next, writes_below_all, front_of_writes}
 use Rattle.cartridge_spec.proofs.Places.{none_below, count_below, Front}
 use Rattle.segment_io.proofs.writing.write_sectors.Goals as goal
@@ -21,13 +22,8 @@ loop-index-init g c = record {
       (sym (writes_below_none c.args.segment c.args.usable c.args.places c.sectors-sectors.result.now))
       (done_moved g.T.Tape.means c.args.unit.now.tape c.go_to.new.unit.tape c.go_to.ensures.tape);
   under = under_first c.args.segment c.go_to.new.unit.drive.deck c.go_to.ensures.place;
-  mode = mode_kept is_primary true c.args.unit.now.drive.deck c.go_to.new.unit.drive.deck c.go_to.ensures.same c.requires.mode;
-  writable = protect_kept c.args.unit.now.drive.deck c.go_to.new.unit.drive.deck c.go_to.ensures.same c.requires.writable;
-  same = c.go_to.ensures.same;
-  agrees = agrees_moved g.T.Tape.means c.args.unit.now c.go_to.new.unit c.go_to.ensures.same c.go_to.ensures.tape;
-  told_size = ap g.T.Tape.means.size c.go_to.ensures.tape;
-  fits = c.go_to.ensures.fits;
-  rest = c.go_to.ensures.rest;
+  writable = may_write_kept c.args.unit.now.drive.deck c.go_to.new.unit.drive.deck c.go_to.ensures.keeps.same c.requires.writable;
+  keeps = c.go_to.ensures.keeps;
 }
 
 pub loop-index-preserved : goal.loop-index-preserved
@@ -47,13 +43,8 @@ loop-index-preserved g c =
       written = subst (λ (steps : List Step). Done g.T.Tape.means c.args.unit.now.tape c.write_usable.new.unit.tape steps) (sym next)
           (Done-Done {xs = written} {ys = here} before.written more.did);
       under = more.under;
-      mode = mode_kept is_primary true c.loop-index.unit.drive.deck c.write_usable.new.unit.drive.deck more.same before.mode;
-      writable = protect_kept c.loop-index.unit.drive.deck c.write_usable.new.unit.drive.deck more.same before.writable;
-      same = keeps_both c.args.unit.now.drive.deck c.loop-index.unit.drive.deck c.write_usable.new.unit.drive.deck before.same more.same;
-      agrees = λ agrees. more.agrees (before.agrees agrees);
-      told_size = more.size ∙ before.told_size;
-      fits = more.fits;
-      rest = more.rest;
+      writable = may_write_kept c.loop-index.unit.drive.deck c.write_usable.new.unit.drive.deck more.keeps.same before.writable;
+      keeps = keeps_both before.keeps more.keeps;
     }
 
 -- broken off at an index: a front of the writes

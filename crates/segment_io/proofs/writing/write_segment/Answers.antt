@@ -32,7 +32,7 @@ returns-clause-did g c =
     let same_size : length c.deref_mut.result.now ≡ length old = ap (λ (l : List (List ℕ)). length l) was in
     let few : n ≤ 32 = c.count_usable-count.ensures.most in
     let room : usable_count c.args.usable ≤ length old = omega arith in
-    let least : 4 ≤ usable_count c.args.usable = c.requires.carries in
+    let least : 4 ≤ usable_count c.args.usable = c.requires.segment.carries in
     let shown : take c.work.inside.sectors.len (new ++ drop (length new) c.work.inside.sectors.items)
     ≡ block_in c.args.usable old ++ drop (usable_count c.args.usable) old =
     now ∙ c.put_parity.ensures

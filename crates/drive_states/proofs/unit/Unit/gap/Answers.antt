@@ -6,7 +6,7 @@ pub invariant_of-self : goal.invariant_of-self
 invariant_of-self g c =
     let e = c.gap-answer.ensures in
     IsSoundUnit-gap _ g.T.Tape.means (unit_of c.self.inside.dialogue) (unit_of c.gap-answer.new.self) c.gap-answer.result c.self.invariant.drive
-    e.ok e.failed e.over c.deck.ensures.sound c.deck.ensures.known
+    e.ok e.failed e.over c.reveal.ensures.sound c.reveal.ensures.known
 
 pub returns-clause-sound : goal.returns-clause-sound
 returns-clause-sound g c = invariant_of-self g c

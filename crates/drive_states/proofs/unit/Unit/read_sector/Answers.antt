@@ -13,7 +13,7 @@ invariant_of-self g c =
     let old = c.self.inside.dialogue in
     IsSoundUnit-moved g.T.Tape.means (record_of old) (drive_of c.read_sector-answer.new.self).deck (drive_of c.read_sector-answer.new.self).tape c.self.invariant.drive
     (λ stopped. ap (λ (x : AnyDrive g.row.T.Denot). (drive_of x).deck) (e.unreached (unreached reads_in (record_of old).deck c.args.addr stopped)).1)
-    c.deck.ensures.sound c.deck.ensures.known
+    c.reveal.ensures.sound c.reveal.ensures.known
 
 pub returns-clause-sound : goal.returns-clause-sound
 returns-clause-sound g c = invariant_of-self g c

@@ -19,15 +19,15 @@ use Rattle.host_driver.proofs.host.Host.reference.Goals as goal
 pub send-requires-clause-taken : goal.send-requires-clause-taken
 send-requires-clause-taken g c =
     let d : Deck = c.args.unit.now.drive.deck in
-    let refs = references c.args.unit.now.drive c.requires.rest.still c.requires.rest.idle
-    (reference_of d c.requires.fits.sound.drive.deck (format_mode d.mode c.requires.format) c.requires.stopped) c.requires.fits.no_error c.requires.fits.generates in
+    let refs = references c.args.unit.now.drive c.requires.ready.rest.still c.requires.ready.rest.idle
+    (reference_of d c.requires.ready.fits.sound.drive.deck (format_mode d.mode c.requires.format) c.requires.stopped) c.requires.ready.fits.no_error c.requires.ready.fits.generates in
     subst (λ (n : ℕ). TakesTrain c.args.unit.now.drive n) (sym c.number.ensures) refs.takes
 
 pub returns-in_err-send-clause-did : goal.returns-in_err-send-clause-did
 returns-in_err-send-clause-did g c =
     let d : Deck = c.args.unit.now.drive.deck in
-    let refs = references c.args.unit.now.drive c.requires.rest.still c.requires.rest.idle
-    (reference_of d c.requires.fits.sound.drive.deck (format_mode d.mode c.requires.format) c.requires.stopped) c.requires.fits.no_error c.requires.fits.generates in
+    let refs = references c.args.unit.now.drive c.requires.ready.rest.still c.requires.ready.rest.idle
+    (reference_of d c.requires.ready.fits.sound.drive.deck (format_mode d.mode c.requires.format) c.requires.stopped) c.requires.ready.fits.no_error c.requires.ready.fits.generates in
     let steps : train_steps c.args.unit.now.drive c.number.result ≡ SetReferenced ∷ [] = ap (train_steps c.args.unit.now.drive) c.number.ensures ∙ refs.steps in
     let broke : Broke g.T.Tape.means c.args.unit.now.tape c.send.new.unit.tape (SetReferenced ∷ []) =
     subst (λ (ss : List Step). Broke g.T.Tape.means c.args.unit.now.tape c.send.new.unit.tape ss) steps c.in_err-send.ensures.did in
@@ -36,8 +36,8 @@ returns-in_err-send-clause-did g c =
 pub returns-in_err-send-clause-unmarked : goal.returns-in_err-send-clause-unmarked
 returns-in_err-send-clause-unmarked g c =
     let d : Deck = c.args.unit.now.drive.deck in
-    let refs = references c.args.unit.now.drive c.requires.rest.still c.requires.rest.idle
-    (reference_of d c.requires.fits.sound.drive.deck (format_mode d.mode c.requires.format) c.requires.stopped) c.requires.fits.no_error c.requires.fits.generates in
+    let refs = references c.args.unit.now.drive c.requires.ready.rest.still c.requires.ready.rest.idle
+    (reference_of d c.requires.ready.fits.sound.drive.deck (format_mode d.mode c.requires.format) c.requires.stopped) c.requires.ready.fits.no_error c.requires.ready.fits.generates in
     let failed : c.send.new.unit.drive ≡ without_reference (obeying (record c.args.unit.now.drive { line = false; train = 0 }) WriteReference) =
     c.in_err-send.ensures.failed ∙ ap without_reference (ap (after_train c.args.unit.now.drive) c.number.ensures ∙ refs.after) in
     let p = err_from_is_err_and c.from_residual.result c.from_residual.ensures.1 in
@@ -46,8 +46,8 @@ returns-in_err-send-clause-unmarked g c =
 pub returns-in_err-send-clause-mode : goal.returns-in_err-send-clause-mode
 returns-in_err-send-clause-mode g c =
     let d : Deck = c.args.unit.now.drive.deck in
-    let refs = references c.args.unit.now.drive c.requires.rest.still c.requires.rest.idle
-    (reference_of d c.requires.fits.sound.drive.deck (format_mode d.mode c.requires.format) c.requires.stopped) c.requires.fits.no_error c.requires.fits.generates in
+    let refs = references c.args.unit.now.drive c.requires.ready.rest.still c.requires.ready.rest.idle
+    (reference_of d c.requires.ready.fits.sound.drive.deck (format_mode d.mode c.requires.format) c.requires.stopped) c.requires.ready.fits.no_error c.requires.ready.fits.generates in
     let failed : c.send.new.unit.drive ≡ without_reference (obeying (record c.args.unit.now.drive { line = false; train = 0 }) WriteReference) =
     c.in_err-send.ensures.failed ∙ ap without_reference (ap (after_train c.args.unit.now.drive) c.number.ensures ∙ refs.after) in
     ap (λ (r : Record). r.deck.mode) failed
@@ -55,8 +55,8 @@ returns-in_err-send-clause-mode g c =
 pub wait_ready-requires-clause-idle : goal.wait_ready-requires-clause-idle
 wait_ready-requires-clause-idle g c =
     let d : Deck = c.args.unit.now.drive.deck in
-    let refs = references c.args.unit.now.drive c.requires.rest.still c.requires.rest.idle
-    (reference_of d c.requires.fits.sound.drive.deck (format_mode d.mode c.requires.format) c.requires.stopped) c.requires.fits.no_error c.requires.fits.generates in
+    let refs = references c.args.unit.now.drive c.requires.ready.rest.still c.requires.ready.rest.idle
+    (reference_of d c.requires.ready.fits.sound.drive.deck (format_mode d.mode c.requires.format) c.requires.stopped) c.requires.ready.fits.no_error c.requires.ready.fits.generates in
     let row : c.send.new.unit.drive ≡ obeying (record c.args.unit.now.drive { line = false; train = 0 }) WriteReference =
     c.in_ok-send.ensures.row ∙ ap (after_train c.args.unit.now.drive) c.number.ensures ∙ refs.after in
     ap (λ (r : Record). r.under_way) row
@@ -64,8 +64,8 @@ wait_ready-requires-clause-idle g c =
 pub wait_ready-requires-clause-still : goal.wait_ready-requires-clause-still
 wait_ready-requires-clause-still g c =
     let d : Deck = c.args.unit.now.drive.deck in
-    let refs = references c.args.unit.now.drive c.requires.rest.still c.requires.rest.idle
-    (reference_of d c.requires.fits.sound.drive.deck (format_mode d.mode c.requires.format) c.requires.stopped) c.requires.fits.no_error c.requires.fits.generates in
+    let refs = references c.args.unit.now.drive c.requires.ready.rest.still c.requires.ready.rest.idle
+    (reference_of d c.requires.ready.fits.sound.drive.deck (format_mode d.mode c.requires.format) c.requires.stopped) c.requires.ready.fits.no_error c.requires.ready.fits.generates in
     let row : c.send.new.unit.drive ≡ obeying (record c.args.unit.now.drive { line = false; train = 0 }) WriteReference =
     c.in_ok-send.ensures.row ∙ ap (after_train c.args.unit.now.drive) c.number.ensures ∙ refs.after in
     ap (λ (r : Record). is_streaming r.deck.motion) row
@@ -73,8 +73,8 @@ wait_ready-requires-clause-still g c =
 pub returns-clause-did : goal.returns-clause-did
 returns-clause-did g c =
     let d : Deck = c.args.unit.now.drive.deck in
-    let refs = references c.args.unit.now.drive c.requires.rest.still c.requires.rest.idle
-    (reference_of d c.requires.fits.sound.drive.deck (format_mode d.mode c.requires.format) c.requires.stopped) c.requires.fits.no_error c.requires.fits.generates in
+    let refs = references c.args.unit.now.drive c.requires.ready.rest.still c.requires.ready.rest.idle
+    (reference_of d c.requires.ready.fits.sound.drive.deck (format_mode d.mode c.requires.format) c.requires.stopped) c.requires.ready.fits.no_error c.requires.ready.fits.generates in
     let steps : train_steps c.args.unit.now.drive c.number.result ≡ SetReferenced ∷ [] = ap (train_steps c.args.unit.now.drive) c.number.ensures ∙ refs.steps in
     let wrote : Done g.T.Tape.means c.args.unit.now.tape c.send.new.unit.tape (SetReferenced ∷ []) =
     subst (λ (ss : List Step). Done g.T.Tape.means c.args.unit.now.tape c.send.new.unit.tape ss) steps c.in_ok-send.ensures.did in
@@ -85,8 +85,8 @@ returns-clause-did g c =
 pub returns-clause-marks : goal.returns-clause-marks
 returns-clause-marks g c =
     let d : Deck = c.args.unit.now.drive.deck in
-    let refs = references c.args.unit.now.drive c.requires.rest.still c.requires.rest.idle
-    (reference_of d c.requires.fits.sound.drive.deck (format_mode d.mode c.requires.format) c.requires.stopped) c.requires.fits.no_error c.requires.fits.generates in
+    let refs = references c.args.unit.now.drive c.requires.ready.rest.still c.requires.ready.rest.idle
+    (reference_of d c.requires.ready.fits.sound.drive.deck (format_mode d.mode c.requires.format) c.requires.stopped) c.requires.ready.fits.no_error c.requires.ready.fits.generates in
     let row : c.send.new.unit.drive ≡ obeying (record c.args.unit.now.drive { line = false; train = 0 }) WriteReference =
     c.in_ok-send.ensures.row ∙ ap (after_train c.args.unit.now.drive) c.number.ensures ∙ refs.after in
     ap (λ (e : Deck). e.cartridge) c.in_ok-wait_ready.ensures.deck ∙ ap (λ (r : Record). r.deck.cartridge) row
@@ -94,8 +94,8 @@ returns-clause-marks g c =
 pub returns-clause-place : goal.returns-clause-place
 returns-clause-place g c =
     let d : Deck = c.args.unit.now.drive.deck in
-    let refs = references c.args.unit.now.drive c.requires.rest.still c.requires.rest.idle
-    (reference_of d c.requires.fits.sound.drive.deck (format_mode d.mode c.requires.format) c.requires.stopped) c.requires.fits.no_error c.requires.fits.generates in
+    let refs = references c.args.unit.now.drive c.requires.ready.rest.still c.requires.ready.rest.idle
+    (reference_of d c.requires.ready.fits.sound.drive.deck (format_mode d.mode c.requires.format) c.requires.stopped) c.requires.ready.fits.no_error c.requires.ready.fits.generates in
     let row : c.send.new.unit.drive ≡ obeying (record c.args.unit.now.drive { line = false; train = 0 }) WriteReference =
     c.in_ok-send.ensures.row ∙ ap (after_train c.args.unit.now.drive) c.number.ensures ∙ refs.after in
     subst (λ (e : Deck). StandsAt 0 0 e) (sym (c.in_ok-wait_ready.ensures.deck ∙ ap (λ (r : Record). ready_deck r.deck) row)) record { motion = refl; on_track = refl; at_offset = refl }
@@ -103,8 +103,8 @@ returns-clause-place g c =
 pub returns-clause-mode : goal.returns-clause-mode
 returns-clause-mode g c =
     let d : Deck = c.args.unit.now.drive.deck in
-    let refs = references c.args.unit.now.drive c.requires.rest.still c.requires.rest.idle
-    (reference_of d c.requires.fits.sound.drive.deck (format_mode d.mode c.requires.format) c.requires.stopped) c.requires.fits.no_error c.requires.fits.generates in
+    let refs = references c.args.unit.now.drive c.requires.ready.rest.still c.requires.ready.rest.idle
+    (reference_of d c.requires.ready.fits.sound.drive.deck (format_mode d.mode c.requires.format) c.requires.stopped) c.requires.ready.fits.no_error c.requires.ready.fits.generates in
     let row : c.send.new.unit.drive ≡ obeying (record c.args.unit.now.drive { line = false; train = 0 }) WriteReference =
     c.in_ok-send.ensures.row ∙ ap (after_train c.args.unit.now.drive) c.number.ensures ∙ refs.after in
     ap (λ (e : Deck). e.mode) c.in_ok-wait_ready.ensures.deck ∙ ap (λ (r : Record). r.deck.mode) row
@@ -112,8 +112,8 @@ returns-clause-mode g c =
 pub returns-clause-agrees : goal.returns-clause-agrees
 returns-clause-agrees g c =
     let d : Deck = c.args.unit.now.drive.deck in
-    let refs = references c.args.unit.now.drive c.requires.rest.still c.requires.rest.idle
-    (reference_of d c.requires.fits.sound.drive.deck (format_mode d.mode c.requires.format) c.requires.stopped) c.requires.fits.no_error c.requires.fits.generates in
+    let refs = references c.args.unit.now.drive c.requires.ready.rest.still c.requires.ready.rest.idle
+    (reference_of d c.requires.ready.fits.sound.drive.deck (format_mode d.mode c.requires.format) c.requires.stopped) c.requires.ready.fits.no_error c.requires.ready.fits.generates in
     let steps : train_steps c.args.unit.now.drive c.number.result ≡ SetReferenced ∷ [] = ap (train_steps c.args.unit.now.drive) c.number.ensures ∙ refs.steps in
     let row : c.send.new.unit.drive ≡ obeying (record c.args.unit.now.drive { line = false; train = 0 }) WriteReference =
     c.in_ok-send.ensures.row ∙ ap (after_train c.args.unit.now.drive) c.number.ensures ∙ refs.after in

@@ -1,5 +1,5 @@
-use Rattle.host_driver.proofs.Taking.{ready_of, seek_of}
+use Rattle.host_driver.proofs.Taking.{stands_known, seek_of}
 use Rattle.host_driver.proofs.host.Host.seek_track.Goals as goal
 
 pub command-requires-clause-taken : goal.command-requires-clause-taken
-command-requires-clause-taken g c = seek_of c.args.unit.now.drive.deck (ready_of c.requires.fits c.requires.stopped) c.requires.referenced
+command-requires-clause-taken g c = seek_of c.args.unit.now.drive.deck (stands_known c.requires.ready.fits c.requires.stopped) c.requires.referenced

@@ -3,7 +3,7 @@ use Rattle.std.proofs.lemmas.Bool.{false≢true}
 use Rattle.qic_base.specs.Cartridge.{IsLength}
 use Rattle.qic_base.specs.Tape.{Done}
 use Rattle.qic_base.specs.declared.tape.TapeInfo.{TapeInfo}
-use Rattle.drive_states.specs.Deck.{view_of, seen_motion, ticked, ticked_motion, power_on_deck, segments_per_track, status_word}
+use Rattle.drive_states.specs.Deck.{view_of, is_seeking, seen_motion, ticked, ticked_motion, power_on_deck, segments_per_track, status_word}
 use Rattle.drive_states.specs.Record.{Record, power_on}
 use Rattle.drive_states.specs.Unit.{UnitView}
 use Rattle.host_driver.specs.declared.host.Host.{Host}
@@ -96,8 +96,8 @@ unreachable-requires g c =
     let ok : IsOk c.new.result = c.new.ensures.ok.1 length in
     false≢true (sym (ap is_ok c.in_default.is) ∙ ok)
 
-pub returns-clause-fits : goal.returns-clause-fits
-returns-clause-fits g c =
+pub returns-clause-ready : goal.returns-clause-ready
+returns-clause-ready g c =
     let r1 : c.insert.new.self.drive ≡ power_on c.insert.new.self.drive.deck.cartridge = c.in_ok-insert.ensures.inserted.drive in
     let r2 : c.read_report.new.unit.drive ≡ record (power_on c.insert.new.self.drive.deck.cartridge) { line = true } =
     ap (λ (u : UnitView _). u.drive) c.read_report.ensures.drive ∙ acknowledged_status c.insert.new.self.drive c.insert.new.self.drive.deck.cartridge r1 in
@@ -113,9 +113,12 @@ returns-clause-fits g c =
     let reported : c.in_ok-segments_per_track.segments_per_track ≡ reported_word FormatSegments c.read_report-2.new.unit.drive = cc in
     let long : c.in_ok-segments_per_track.segments_per_track ≡ segments_per_track (power_on_deck c.insert.new.self.drive.deck.cartridge) = reported ∙ ap (reported_word FormatSegments) r3 in
     let r4 = ap (λ (u : UnitView _). u.drive) c.read_report-3.ensures.drive ∙ read_segments c.read_report-2.new.unit.drive c.insert.new.self.drive.deck.cartridge r3 in
-    subst (λ (h : Host). Fits g.T.Tape.means h c.read_report-3.new.unit) (sym c.learnt.ensures)
-    (fits_started {m = g.T.Tape.means} {u = c.read_report-3.new.unit} c.insert.new.self.drive.deck.cartridge c.in-Ok.geometry c.contains-protected.result c.contains-2.result r4 seen
-    (c.in-Ok.ensures.value ∙ long)
-    (c.contains-protected.ensures tt ∙ ap (λ (n : ℕ). bit_and n 0x08 == 0x08) bits ∙ status_word-protected (power_on_deck c.insert.new.self.drive.deck.cartridge))
-    (c.contains-2.ensures tt ∙ ap (λ (n : ℕ). bit_and n 0x20 == 0x20) bits ∙ status_word-referenced (power_on_deck c.insert.new.self.drive.deck.cartridge))
-    c.read_report-3.ensures.sound)
+    record {
+      fits = subst (λ (h : Host). Fits g.T.Tape.means h c.read_report-3.new.unit) (sym c.learnt.ensures)
+          (fits_started {m = g.T.Tape.means} {u = c.read_report-3.new.unit} c.insert.new.self.drive.deck.cartridge c.in-Ok.geometry c.contains-protected.result c.contains-2.result r4 seen
+          (c.in-Ok.ensures.value ∙ long)
+          (c.contains-protected.ensures tt ∙ ap (λ (n : ℕ). bit_and n 0x08 == 0x08) bits ∙ status_word-protected (power_on_deck c.insert.new.self.drive.deck.cartridge))
+          (c.contains-2.ensures tt ∙ ap (λ (n : ℕ). bit_and n 0x20 == 0x20) bits ∙ status_word-referenced (power_on_deck c.insert.new.self.drive.deck.cartridge))
+          c.read_report-3.ensures.sound);
+      rest = record { still = ap (λ (r : Record). is_seeking r.deck.motion) r4; idle = ap (λ (r : Record). r.under_way) r4 };
+    }

@@ -1,4 +1,5 @@
-use Rattle.std.proofs.Common.{◌≡◌, ◌≢◌, ℕ, List, [], ◌∷◌, ◌++◌, length, get_or, set, subst, sym, inl, inr}
+use Rattle.std.proofs.Common.{◌≡◌, ◌≢◌, ℕ, ◌+◌, ◌^◌, ◌<◌, arith, List, [], ◌∷◌, ◌++◌, length, get_or, set, subst, sym, inl, inr}
+use Rattle.std.proofs.Math.Pow.{pow-lt}
 use Rattle.qic_base.specs.Cartridge.{view_at}
 use Rattle.qic_base.specs.Tape.{Reads}
 use Rattle.qic_base.specs.declared.tape.SectorRead.{SectorRead}
@@ -7,7 +8,7 @@ use Rattle.qic_base.specs.declared.tape.SectorView.{SectorView}
 use Rattle.qic_base.proofs.Steps.{Tells-map}
 use Rattle.segment_io.specs.declared.reading.Found.{Found}
 use Rattle.segment_io.specs.Gathered.{Gathered}
-use Rattle.segment_io.proofs.GatheredCells.{gathered_good, gathered_bad}
+use Rattle.segment_io.proofs.GatheredCells.{gathered_good, gathered_bad, with_place-below}
 use Rattle.segment_io.proofs.reading.Found.read_next.Goals as goal
 use Rattle.segment_io.proofs.reading.Found.read_next.Goals.{in-Good, in-Lost}
 
@@ -36,3 +37,12 @@ returns-clause-gathered g c =
           c.in_ok-read_sector.field-0 count c.requires.few bad reads gathered)
     ])
     c.in_ok-read_sector.ensures.view
+
+pub returns-clause-within : goal.returns-clause-within
+returns-clause-within g c below =
+    let place : ℕ = c.args.self.now.places in
+    let wider : 2 ^ place < 2 ^ (place + 1) = pow-lt {i = place} {j = place + 1} (omega arith) in
+    elim c.match-branch-2.branch [
+      | in-Good w ↦ subst (λ (f : Found). f.lost < 2 ^ (f.places + 1)) (sym w.self-is) (omega arith)
+      | in-Lost w ↦ subst (λ (f : Found). f.lost < 2 ^ (f.places + 1)) (sym w.self-is) (with_place-below c.args.self.now.lost place below c.requires.few)
+    ]

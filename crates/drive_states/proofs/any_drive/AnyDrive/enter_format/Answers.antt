@@ -1,0 +1,11 @@
+use Rattle.std.proofs.Common.{refl}
+use Rattle.qic117_commands.specs.declared.command.Command.TheVariants.{EnterFormat}
+use Rattle.qic117_commands.specs.Refusals.{waits_for_seek, illegal_in_format, illegal_in_verify}
+use Rattle.drive_states.proofs.AnyDrives.{refused_elsewhere}
+use Rattle.drive_states.proofs.any_drive.AnyDrive.enter_format.Goals as goal
+
+pub unreachable-requires-in_default : goal.unreachable-requires-in_default
+unfolding waits_for_seek illegal_in_format illegal_in_verify
+unreachable-requires-in_default g c =
+    refused_elsewhere c.args.self EnterFormat c.reveal.ensures.state refl c.requires
+    (λ legal. c.in_default.not-LoadPoint) (λ legal. c.in_default.not-Primary) (λ legal d same. cc) (λ legal d same. cc)
