@@ -8,7 +8,7 @@ use Rattle.qic_base.specs.declared.tape.TapeInfo.{TapeInfo}
 use Rattle.drive_states.specs.Deck.{is_referenced, is_protected}
 use Rattle.drive_states.specs.Unit.{UnitView}
 use Rattle.host_driver.specs.declared.host.Host.{Host}
-use Rattle.host_driver.specs.Fits.{Fits, Agrees, segments_of, deck_of}
+use Rattle.host_driver.specs.Fits.{Fits, AgreesWithTape, segments_of, deck_of}
 use Rattle.qic_base.proofs.Steps.{Done-after_reads, Broke-after_reads}
 use Rattle.cartridge_spec.specs.Header.{HeaderFault, number, header_fault, has_signature, number_in}
 use Rattle.cartridge_spec.specs.Says.{Saying, Says, Data}
@@ -56,7 +56,7 @@ pub record IsLearnt (host : Host) (c : Cartridge) : Type 0 where
   pub referenced : c.info.referenced ≡ is_referenced (deck_of host)
   pub protected : c.info.protected ≡ is_protected (deck_of host)
 
-pub told_learnt : {T : Type 0} (m : Meaning T) (host : Host) (u : UnitView T) → Fits m host u → Agrees m u → Tells m u.tape (IsLearnt host)
+pub told_learnt : {T : Type 0} (m : Meaning T) (host : Host) (u : UnitView T) → Fits m host u → AgreesWithTape m u → Tells m u.tape (IsLearnt host)
 told_learnt m host u fits agrees = by_cases u.drive.deck.cartridge (m.told u.tape) fits.cartridge agrees (ap is_referenced fits.deck) (ap is_protected fits.deck)
   where
     by_cases : (cartridge : Option TapeInfo) (held : Option (Option Cartridge)) → IsSomeAnd cartridge (λ info. info.segments_per_track ≡ segments_of host) →

@@ -21,7 +21,7 @@ use Rattle.drive_states.specs.Deck.{is_protected, is_referenced}
 use Rattle.drive_states.specs.Sound.{HasLength}
 use Rattle.drive_states.specs.Unit.{UnitView}
 use Rattle.host_driver.specs.declared.host.Host.{Host}
-use Rattle.host_driver.specs.Fits.{Fits, Agrees, segments_of, deck_of}
+use Rattle.host_driver.specs.Fits.{Fits, AgreesWithTape, segments_of, deck_of}
 use Rattle.host_driver.specs.Place.{KeepsMode}
 use Rattle.qic117_commands.specs.Views.{is_primary}
 use Rattle.drive_states.specs.declared.deck.Deck.{Deck}
@@ -150,7 +150,7 @@ told_lists m old new header words entries steps right none done settles =
 
 -- where the tape tells, the settling's writes are those of the cartridge that was mounted
 pub told_settles : {T : Type 0} (m : Meaning T) (host : Host) (old : T) (u : UnitView T) (words : List ℕ) (sectors : List (List ℕ)) (entries : List Entry) (learnt : Learnt) →
-    Fits m host u → Agrees m u → Done m old u.tape [] → length sectors ≡ 32 → Tells m old (λ c. HasLearnt c words sectors entries learnt) →
+    Fits m host u → AgreesWithTape m u → Done m old u.tape [] → length sectors ≡ 32 → Tells m old (λ c. HasLearnt c words sectors entries learnt) →
     Tells m old (λ c. Settles c (header_of learnt.header) words entries (mending_steps (is_protected u.drive.deck) learnt.lost sectors))
 told_settles m host old u words sectors entries learnt fits agrees read room has =
     tells_two m old (IsLearnt host) (λ c. HasLearnt c words sectors entries learnt)

@@ -15,8 +15,7 @@ use Rattle.cartridge_spec.specs.Mounting as mounting
 use Rattle.drive_states.specs.Deck.{is_referenced}
 use Rattle.drive_states.specs.Unit.{UnitView}
 use Rattle.host_driver.specs.declared.host.Host.{Host}
-use Rattle.host_driver.specs.Fits.{Fits, IsAtRest, segments_of}
-use Rattle.host_driver.specs.Fits as hosts
+use Rattle.host_driver.specs.Fits.{Fits, IsAtRest, AgreesWithTape, segments_of}
 use Rattle.header_segments.specs.Header.{header_of}
 use Rattle.segment_io.specs.Gathered.{Gathered}
 use Rattle.volume_store.specs.declared.fault.StoreFault.{StoreFault}
@@ -105,7 +104,7 @@ pub record StoreFits {T : Type 0} (m : Meaning T) (store : StoreView) (u : UnitV
   pub rest : IsAtRest u.drive
   pub mode : is_primary u.drive.deck.mode ≡ true
   pub referenced : is_referenced u.drive.deck ≡ true
-  pub agrees : hosts.Agrees m u
+  pub agrees : AgreesWithTape m u
   pub header : store.header.segments_per_track ≡ segments_of store.host
   pub words : length store.words ≡ 28 * segments_of store.host
   pub list : IsSoundList (28 * segments_of store.host - 1) store.entries

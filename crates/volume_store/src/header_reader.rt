@@ -4,8 +4,8 @@ ghost use Rattle.std.specs.Prelude.{◌≡◌, ◌≢◌, ◌<◌, ◌≤◌, �
 ghost use Rattle.qic_base.specs.Tape.{Tells};
 ghost use Rattle.drive_states.specs.Deck.{is_referenced};
 ghost use Rattle.drive_states.specs.Reach.{reads_in};
-ghost use Rattle.host_driver.specs.Fits.{Agrees, Fits, IsAtRest, segments_of};
-ghost use Rattle.host_driver.specs.Place.{KeepsMode};
+ghost use Rattle.host_driver.specs.Calls.{IsReady, Keeps};
+ghost use Rattle.host_driver.specs.Fits.{AgreesWithTape, segments_of};
 ghost use Rattle.qic_base.specs.Cartridge.{IsLength};
 ghost use Rattle.volume_store.specs.Finding.{Leaves, RefusesMounting, FindsCopy, FindsHeader, TakesHeader, HasMap};
 
@@ -23,7 +23,7 @@ const FIRST_COPY: u32 = 0;
 
 const SECOND_COPY: u32 = 1;
 
-/// The header and the map that a copy's data are, or None where they have no header's signature.
+// The header and the map that a copy's data are, or None where they have no header's signature.
 fn decode_copy(
     area: &[[u8; 1024]],
     segments_per_track: u16,
@@ -41,7 +41,7 @@ fn decode_copy(
     }
 }
 
-/// The header and the map of a copy, 0 or 1, or None where the copy can't be read.
+// The header and the map of a copy, 0 or 1, or None where the copy can't be read.
 fn read_copy<T: Tape>(
     host: &mut Host,
     unit: &mut Unit<T>,
@@ -49,8 +49,7 @@ fn read_copy<T: Tape>(
     work: &mut Workspace,
     map: &mut BadMap,
 ) -> Result<Option<Header>, StoreFault>
-    requires fits { Fits T.means host.old unit.old }
-    requires rest { IsAtRest unit.old.drive }
+    requires ready { IsReady T.means host.old unit.old }
     requires mode { reads_in unit.old.drive.deck.mode ≡ true }
     requires referenced { is_referenced unit.old.drive.deck ≡ true }
     requires copy { copy < 2 }
@@ -59,11 +58,7 @@ fn read_copy<T: Tape>(
         FindsCopy c copy (segments_of host.old) map.new result) }
     ensures kind { RefusesMounting result }
     ensures map { IfOk result (HasMap (segments_of host.old) map.new) }
-    ensures same { KeepsMode unit.old.drive.deck unit.new.drive.deck }
-    ensures agrees { Agrees T.means unit.old → Agrees T.means unit.new }
-    ensures size { T.means.size unit.new.tape ≡ T.means.size unit.old.tape }
-    ensures fits { Fits T.means host.new unit.new }
-    ensures rest { IsAtRest unit.new.drive }
+    ensures keeps { Keeps T.means host.new unit.old unit.new }
 {
     let segments_per_track = host.geometry().segments_per_track();
     match read_segment(host, unit, copy, WHOLE, work) {
@@ -80,21 +75,16 @@ pub(crate) fn read_header<T: Tape>(
     work: &mut Workspace,
     map: &mut BadMap,
 ) -> Result<Header, StoreFault>
-    requires fits { Fits T.means host.old unit.old }
-    requires rest { IsAtRest unit.old.drive }
+    requires ready { IsReady T.means host.old unit.old }
     requires mode { reads_in unit.old.drive.deck.mode ≡ true }
-    requires agrees { Agrees T.means unit.old }
+    requires agrees { AgreesWithTape T.means unit.old }
     ensures did { Leaves T.means unit.old.tape unit.new.tape [] result }
     ensures found { result ≢ Err StoreFault.Tape → Tells T.means unit.old.tape (λ c.
         FindsHeader c map.new result) }
     ensures kind { RefusesMounting result }
     ensures map { IfOk result (λ header. HasMap (segments_of host.old) map.new (Some header)) }
     ensures referenced { OnOk result (is_referenced unit.old.drive.deck ≡ true) }
-    ensures same { KeepsMode unit.old.drive.deck unit.new.drive.deck }
-    ensures agrees { Agrees T.means unit.new }
-    ensures size { T.means.size unit.new.tape ≡ T.means.size unit.old.tape }
-    ensures fits { Fits T.means host.new unit.new }
-    ensures rest { IsAtRest unit.new.drive }
+    ensures keeps { Keeps T.means host.new unit.old unit.new }
 {
     if !host.referenced() {
         return Err(StoreFault::NotFormatted);

@@ -4,7 +4,8 @@ ghost use Rattle.std.specs.Prelude.{◌≡◌, ◌≢◌, ◌-◌, ◌*◌, [], 
 ghost use Rattle.qic_base.specs.Tape.{Tells};
 ghost use Rattle.qic117_commands.specs.Views.{is_primary};
 ghost use Rattle.drive_states.specs.Deck.{is_referenced};
-ghost use Rattle.host_driver.specs.Fits.{Agrees, Fits, IsAtRest, segments_of};
+ghost use Rattle.host_driver.specs.Calls.{IsReady};
+ghost use Rattle.host_driver.specs.Fits.{AgreesWithTape, segments_of};
 ghost use Rattle.volume_store.specs.Finding.{Leaves, RefusesMounting, HasWords, ShowsVolumes};
 ghost use Rattle.volume_store.specs.Mounting.{Learns};
 
@@ -27,16 +28,14 @@ pub(crate) struct Learnt {
     pub lost: LostSet,
 }
 
-/// Has the drive stop the tape and enter Primary mode.
+// Has the drive stop the tape and enter Primary mode.
 fn enter_primary<T: Tape>(host: &mut Host, unit: &mut Unit<T>) -> Result<(), StoreFault>
-    requires fits { Fits T.means host.old unit.old }
-    requires rest { IsAtRest unit.old.drive }
+    requires ready { IsReady T.means host.old unit.old }
     ensures ok { IsOk result }
     ensures mode { unit.new.drive.deck.mode ≡ Mode.Primary }
     ensures cartridge { unit.new.drive.deck.cartridge ≡ unit.old.drive.deck.cartridge }
     ensures tape { unit.new.tape ≡ unit.old.tape }
-    ensures fits { Fits T.means host.new unit.new }
-    ensures rest { IsAtRest unit.new.drive }
+    ensures ready { IsReady T.means host.new unit.new }
 {
     host.halt(unit)?;
     host.enter(unit, Mode::Primary)?;
@@ -51,9 +50,8 @@ pub(crate) fn learn<T: Tape>(
     map: &mut BadMap,
     table: &mut Table,
 ) -> Result<Learnt, StoreFault>
-    requires fits { Fits T.means host.old unit.old }
-    requires rest { IsAtRest unit.old.drive }
-    requires agrees { Agrees T.means unit.old }
+    requires ready { IsReady T.means host.old unit.old }
+    requires agrees { AgreesWithTape T.means unit.old }
     ensures did { Leaves T.means unit.old.tape unit.new.tape [] result }
     ensures found { result ≢ Err StoreFault.Tape → Tells T.means unit.old.tape (λ c.
         Learns c map.new work.new table.new result) }
@@ -65,10 +63,9 @@ pub(crate) fn learn<T: Tape>(
     ensures room { OnOk result (length work.new ≡ 32) }
     ensures mode { OnOk result (is_primary unit.new.drive.deck.mode ≡ true) }
     ensures referenced { OnOk result (is_referenced unit.new.drive.deck ≡ true) }
-    ensures agrees { Agrees T.means unit.new }
+    ensures agrees { AgreesWithTape T.means unit.new }
     ensures size { T.means.size unit.new.tape ≡ T.means.size unit.old.tape }
-    ensures fits { Fits T.means host.new unit.new }
-    ensures rest { IsAtRest unit.new.drive }
+    ensures ready { IsReady T.means host.new unit.new }
 {
     enter_primary(host, unit)?;
     let header = read_header(host, unit, work, map)?;

@@ -8,8 +8,7 @@ ghost use Rattle.qic117_commands.specs.Views.{is_primary};
 ghost use Rattle.gf256_qic.specs.Code.{parity_sectors};
 ghost use Rattle.erasure_solve.specs.Lost.{is_lost};
 ghost use Rattle.drive_states.specs.Deck.{is_protected, is_referenced};
-ghost use Rattle.host_driver.specs.Fits.{Agrees, Fits, IsAtRest};
-ghost use Rattle.host_driver.specs.Place.{KeepsMode};
+ghost use Rattle.host_driver.specs.Calls.{IsReady, Keeps};
 ghost use Rattle.volume_store.specs.Settling.{collected_block, is_stale, mending_steps};
 
 use crate::fault::StoreFault;
@@ -23,7 +22,7 @@ use segment_parity::Parity;
 /// The places of a whole segment's parity.
 const PARITY: [u8; 3] = [29, 30, 31];
 
-/// The parity of a whole segment's data.
+// The parity of a whole segment's data.
 fn parity_of(sectors: &[[u8; 1024]]) -> [[u8; 1024]; 3]
     requires { length sectors.now ≡ 29 }
     ensures { result ≡ parity_sectors sectors.now }
@@ -35,7 +34,7 @@ fn parity_of(sectors: &[[u8; 1024]]) -> [[u8; 1024]; 3]
     parity.finish()
 }
 
-/// The mask with the bit of a place where its sector isn't the one that belongs there.
+// The mask with the bit of a place where its sector isn't the one that belongs there.
 fn with_stale(stale: u32, place: u8, held: &[u8; 1024], wanted: &[u8; 1024]) -> u32
     requires { place < 32 }
     ensures { (i : ℕ) → is_lost result i ≡
@@ -47,8 +46,8 @@ fn with_stale(stale: u32, place: u8, held: &[u8; 1024], wanted: &[u8; 1024]) -> 
     stale | 1 << place
 }
 
-/// Puts the parity behind the data. The answer is the mask of the lost places, and of those of the parity that was
-/// another.
+// Puts the parity behind the data. The answer is the mask of the lost places, and of those of the parity that was
+// another.
 fn put_parity(sectors: &mut [[u8; 1024]], lost: u32, parity: &[[u8; 1024]; 3]) -> u32
     requires { length sectors.old ≡ 32 }
     ensures sectors { sectors.new ≡ take 29 sectors.old ++ parity.now }
@@ -62,8 +61,8 @@ fn put_parity(sectors: &mut [[u8; 1024]], lost: u32, parity: &[[u8; 1024]; 3]) -
     stale
 }
 
-/// Makes the workspace the code block of its data sectors. The answer is the lost places, and those of the parity that
-/// was another.
+// Makes the workspace the code block of its data sectors. The answer is the lost places, and those of the parity that
+// was another.
 fn renew_parity(lost: LostSet, work: &mut Workspace) -> LostSet
     requires { length work.old ≡ 32 }
     ensures block { work.new ≡ collected_block work.old }
@@ -83,19 +82,14 @@ pub(crate) fn settle<T: Tape>(
     lost: LostSet,
     work: &mut Workspace,
 ) -> Result<(), StoreFault>
-    requires fits { Fits T.means host.old unit.old }
-    requires rest { IsAtRest unit.old.drive }
+    requires ready { IsReady T.means host.old unit.old }
     requires mode { is_primary unit.old.drive.deck.mode ≡ true }
     requires referenced { is_referenced unit.old.drive.deck ≡ true }
     requires room { length work.old ≡ 32 }
     ensures did { Does T.means unit.old.tape unit.new.tape
         (mending_steps (is_protected unit.old.drive.deck) lost work.old) result }
     ensures fault { IsOkUnless result StoreFault.Tape }
-    ensures same { KeepsMode unit.old.drive.deck unit.new.drive.deck }
-    ensures agrees { Agrees T.means unit.old → Agrees T.means unit.new }
-    ensures size { T.means.size unit.new.tape ≡ T.means.size unit.old.tape }
-    ensures fits { Fits T.means host.new unit.new }
-    ensures rest { IsAtRest unit.new.drive }
+    ensures keeps { Keeps T.means host.new unit.old unit.new }
 {
     if host.protected() {
         return Ok(());

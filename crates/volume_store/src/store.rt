@@ -1,7 +1,8 @@
 //! A mounted cartridge.
 
 ghost use Rattle.std.specs.Prelude.{◌≡◌, ◌+◌, ◌-◌, ◌*◌, ◌<◌, ◌≤◌, IfOk, IfSome, slice_get, length};
-ghost use Rattle.host_driver.specs.Fits.{Agrees, Fits, IsAtRest};
+ghost use Rattle.host_driver.specs.Calls.{IsReady};
+ghost use Rattle.host_driver.specs.Fits.{AgreesWithTape};
 ghost use Rattle.cartridge_spec.specs.Shape.{mask_at, marked_sectors};
 ghost use Rattle.cartridge_spec.specs.Volumes.{capacity_between, volume_length};
 ghost use Rattle.header_segments.specs.Header.{header_of};
@@ -51,7 +52,7 @@ impl Model for Store {
         × IsSoundList (length store.map - 1) store.table };
 }
 
-/// The bytes of data that the segments from one to another carry.
+// The bytes of data that the segments from one to another carry.
 fn capacity_between(map: &BadMap, start: u16, end: u16) -> u64
     requires { end < length map.now }
     ensures { result ≡ capacity_between map.now start end }
@@ -74,9 +75,8 @@ impl Store {
         mut map: BadMap,
         mut table: Table,
     ) -> Result<Store, StoreFault>
-        requires fits { Fits T.means host unit.old }
-        requires rest { IsAtRest unit.old.drive }
-        requires agrees { Agrees T.means unit.old }
+        requires ready { IsReady T.means host unit.old }
+        requires agrees { AgreesWithTape T.means unit.old }
         ensures did { MountDoes T.means unit.old.tape unit.new.tape result }
         ensures kind { RefusesMounting result }
         ensures fits { IfOk result (λ store. StoreFits T.means store unit.new) }

@@ -5,8 +5,7 @@ ghost use Rattle.qic_base.specs.Tape.{Tells};
 ghost use Rattle.cartridge_spec.specs.HeaderAndTable.{table_cells};
 ghost use Rattle.drive_states.specs.Deck.{is_referenced};
 ghost use Rattle.drive_states.specs.Reach.{reads_in};
-ghost use Rattle.host_driver.specs.Fits.{Agrees, Fits, IsAtRest};
-ghost use Rattle.host_driver.specs.Place.{KeepsMode};
+ghost use Rattle.host_driver.specs.Calls.{IsReady, Keeps};
 ghost use Rattle.segment_io.specs.Gathered.{Gathered, NamesUnreadable};
 ghost use Rattle.segment_io.specs.Reading.{OnlyReads};
 ghost use Rattle.volume_store.specs.Finding.{FindsTable};
@@ -42,8 +41,7 @@ pub fn read_table<T: Tape>(
     unit: &mut Unit<T>,
     work: &mut Workspace,
 ) -> Result<LostSet, SegFault>
-    requires fits { Fits T.means host.old unit.old }
-    requires rest { IsAtRest unit.old.drive }
+    requires ready { IsReady T.means host.old unit.old }
     requires mode { reads_in unit.old.drive.deck.mode ≡ true }
     requires referenced { is_referenced unit.old.drive.deck ≡ true }
     ensures did { OnlyReads T.means unit.old.tape unit.new.tape result }
@@ -59,11 +57,7 @@ pub fn read_table<T: Tape>(
         (named ≡ 2) × (3 < n) }
     ensures mismatch { (named : ℕ) → result ≡ Err (SegFault.Mismatch named) → named ≡ 2 }
     ensures room { length work.new ≡ 32 }
-    ensures same { KeepsMode unit.old.drive.deck unit.new.drive.deck }
-    ensures agrees { Agrees T.means unit.old → Agrees T.means unit.new }
-    ensures size { T.means.size unit.new.tape ≡ T.means.size unit.old.tape }
-    ensures fits { Fits T.means host.new unit.new }
-    ensures rest { IsAtRest unit.new.drive }
+    ensures keeps { Keeps T.means host.new unit.old unit.new }
 {
     let lost = collect(host, unit, TABLE_SEGMENT, WHOLE, work)?;
     match Table::reading(lost) {

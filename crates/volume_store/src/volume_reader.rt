@@ -4,8 +4,8 @@ ghost use Rattle.std.specs.Prelude.{◌≡◌, ◌≢◌, ◌-◌, ◌*◌, [], 
 ghost use Rattle.qic_base.specs.Tape.{Tells};
 ghost use Rattle.drive_states.specs.Deck.{is_referenced};
 ghost use Rattle.drive_states.specs.Reach.{reads_in};
-ghost use Rattle.host_driver.specs.Fits.{Agrees, Fits, IsAtRest, segments_of};
-ghost use Rattle.host_driver.specs.Place.{KeepsMode};
+ghost use Rattle.host_driver.specs.Calls.{IsReady, Keeps};
+ghost use Rattle.host_driver.specs.Fits.{segments_of};
 ghost use Rattle.volume_store.specs.Finding.{Leaves, RefusesMounting, FindsVolumes, ShowsVolumes, DecodesTable, refusal_of};
 
 use crate::fault::StoreFault;
@@ -16,7 +16,7 @@ use qic_base::{ForeignField, LostSet, Tape};
 use segment_io::{SegFault, Workspace};
 use volume_table::{Table, TableFault};
 
-/// Why the table's segment has no data.
+// Why the table's segment has no data.
 fn table_fault(fault: SegFault) -> StoreFault
     ensures { result ≡ refusal_of fault }
 {
@@ -27,8 +27,8 @@ fn table_fault(fault: SegFault) -> StoreFault
     }
 }
 
-/// The list of volumes that the table's data show, on a cartridge whose last segment is `last`, or the first slot at
-/// fault.
+// The list of volumes that the table's data show, on a cartridge whose last segment is `last`, or the first slot at
+// fault.
 fn decode_table(table: &mut Table, area: &[[u8; 1024]], last: u32) -> Result<(), StoreFault>
     requires { length area.now ≡ 29 }
     ensures shown { DecodesTable area.now last table.new result }
@@ -55,8 +55,7 @@ pub(crate) fn read_volumes<T: Tape>(
     work: &mut Workspace,
     table: &mut Table,
 ) -> Result<LostSet, StoreFault>
-    requires fits { Fits T.means host.old unit.old }
-    requires rest { IsAtRest unit.old.drive }
+    requires ready { IsReady T.means host.old unit.old }
     requires mode { reads_in unit.old.drive.deck.mode ≡ true }
     requires referenced { is_referenced unit.old.drive.deck ≡ true }
     ensures did { Leaves T.means unit.old.tape unit.new.tape [] result }
@@ -66,11 +65,7 @@ pub(crate) fn read_volumes<T: Tape>(
     ensures shown { OnOk result
         (ShowsVolumes (take 29 work.new) (28 * segments_of host.old - 1) table.new) }
     ensures room { length work.new ≡ 32 }
-    ensures same { KeepsMode unit.old.drive.deck unit.new.drive.deck }
-    ensures agrees { Agrees T.means unit.old → Agrees T.means unit.new }
-    ensures size { T.means.size unit.new.tape ≡ T.means.size unit.old.tape }
-    ensures fits { Fits T.means host.new unit.new }
-    ensures rest { IsAtRest unit.new.drive }
+    ensures keeps { Keeps T.means host.new unit.old unit.new }
 {
     let last = 28 * u32::from(host.geometry().segments_per_track()) - 1;
     match read_table(host, unit, work) {

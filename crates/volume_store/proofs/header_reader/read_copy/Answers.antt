@@ -1,15 +1,15 @@
-use Rattle.std.proofs.Common.{ℕ, List, take, refl, ◌∙◌}
+use Rattle.std.proofs.Common.{ℕ, List, take, refl, ◌∙◌, arith}
 use Rattle.qic_base.proofs.Steps.{Tells-map}
 use Rattle.cartridge_spec.specs.HeaderAndTable.{copy_cells}
 use Rattle.host_driver.specs.Fits.{segments_of}
+use Rattle.segment_io.proofs.Going.{front_segment}
 use Rattle.segment_io.specs.Reading.{HasSolved}
 use Rattle.volume_store.specs.Finding.{FindsCopy, TakesHeader}
-use Rattle.volume_store.proofs.TableSegment.{carries_whole}
 use Rattle.volume_store.proofs.Copies.{finds_copy, taken_map, takes_at}
 use Rattle.volume_store.proofs.header_reader.read_copy.Goals as goal
 
-pub read_segment-requires-clause-carries : goal.read_segment-requires-clause-carries
-read_segment-requires-clause-carries g c = carries_whole
+pub read_segment-requires-clause-segment : goal.read_segment-requires-clause-segment
+read_segment-requires-clause-segment g c = front_segment c.args.copy c.requires.ready.fits c.requires.referenced (omega arith)
 
 pub returns-in-Ok-clause-found : goal.returns-in-Ok-clause-found
 returns-in-Ok-clause-found g c = λ sound.

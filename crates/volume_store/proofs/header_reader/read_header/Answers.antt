@@ -33,11 +33,11 @@ returns-in_err-header-in-None-clause-found g c = λ sound.
     let words : List ℕ = c.read_copy-in-None.new.map in
     let host : Host = c.read_copy.new.host in
     let mark : true ≡ is_referenced (deck_of host) =
-    c.if-not-referenced.ensures ∙ ap is_referenced (sym c.requires.fits.deck)
-    ∙ ap (λ (cartridge : Option TapeInfo). option_map_or (λ (info : TapeInfo). info.referenced) cartridge false) (sym c.in_ok-header.ensures.same.cartridge)
-    ∙ ap is_referenced c.in_ok-header.ensures.fits.deck in
+    c.if-not-referenced.ensures ∙ ap is_referenced (sym c.requires.ready.fits.deck)
+    ∙ ap (λ (cartridge : Option TapeInfo). option_map_or (λ (info : TapeInfo). info.referenced) cartridge false) (sym c.in_ok-header.ensures.keeps.same.cartridge)
+    ∙ ap is_referenced c.in_ok-header.ensures.keeps.ready.fits.deck in
     let learnt : Tells g.T.Tape.means c.args.unit.now.tape (IsLearnt host) =
-    Tells-read (IsLearnt host) c.in_ok-header.ensures.did (told_learnt g.T.Tape.means host c.read_copy.new.unit c.in_ok-header.ensures.fits (c.in_ok-header.ensures.agrees c.requires.agrees)) in
+    Tells-read (IsLearnt host) c.in_ok-header.ensures.did (told_learnt g.T.Tape.means host c.read_copy.new.unit c.in_ok-header.ensures.keeps.ready.fits (c.in_ok-header.ensures.keeps.agrees c.requires.agrees)) in
     let none : Tells g.T.Tape.means c.args.unit.now.tape (λ c'. CopyDoesNotRead c' 0) =
     subst (λ (answer : Option Header). Tells g.T.Tape.means c.args.unit.now.tape (λ c'. FindsCopy c' 0 (segments_of c.args.host.now) c.read_copy.new.map (Ok answer))) c.in-None.is
     (c.in_ok-header.ensures.found (λ same. cc)) in

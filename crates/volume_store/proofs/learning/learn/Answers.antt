@@ -5,7 +5,8 @@ use Rattle.qic_base.proofs.Steps.{Done-after_reads, Tells-read}
 use Rattle.cartridge_spec.specs.Table.{Entry}
 use Rattle.header_segments.specs.declared.header.Header.{Header}
 use Rattle.host_driver.specs.declared.host.Host.{Host}
-use Rattle.host_driver.specs.Fits.{segments_of}
+use Rattle.host_driver.specs.Fits.{AgreesWithTape, segments_of}
+use Rattle.host_driver.proofs.Keeping.{agrees_tape}
 use Rattle.volume_store.specs.declared.fault.StoreFault.{StoreFault}
 use Rattle.volume_store.specs.declared.fault.StoreFault.TheVariants.{Tape}
 use Rattle.volume_store.specs.declared.learning.Learnt.{Learnt}
@@ -46,8 +47,9 @@ returns-in_err-lost-clause-found g c = λ sound.
     let last : ℕ = 28 * segments_of host - 1 in
     let first : Done m c.args.unit.now.tape c.read_header.new.unit.tape [] =
     subst (λ tape. Done m tape c.read_header.new.unit.tape []) c.in_ok-enter_primary.ensures.tape c.in_ok-header.ensures.did in
+    let agreed : AgreesWithTape m c.enter_primary.new.unit = agrees_tape m c.args.unit.now c.enter_primary.new.unit c.in_ok-enter_primary.ensures.cartridge c.in_ok-enter_primary.ensures.tape c.requires.agrees in
     let learnt : Tells m c.args.unit.now.tape (IsLearnt host) =
-    Tells-read (IsLearnt host) first (told_learnt m host c.read_header.new.unit c.in_ok-header.ensures.fits c.in_ok-header.ensures.agrees) in
+    Tells-read (IsLearnt host) first (told_learnt m host c.read_header.new.unit c.in_ok-header.ensures.keeps.ready.fits (c.in_ok-header.ensures.keeps.agrees agreed)) in
     let format : Tells m c.args.unit.now.tape (λ c'. HasFormat c' words header) =
     subst (λ tape. Tells m tape (λ c'. HasFormat c' words header)) c.in_ok-enter_primary.ensures.tape (c.in_ok-header.ensures.found (λ same. cc)) in
     let both : Tells m c.args.unit.now.tape (λ c'. IsLearnt host c' × HasFormat c' words header) =

@@ -1,16 +1,16 @@
-use Rattle.std.proofs.Common.{◌≡◌, [], ℕ, ◌<◌, ◌^◌, Bool, sym, ap, subst, ◌∙◌}
+use Rattle.std.proofs.Common.{◌≡◌, [], ℕ, ◌<◌, ◌^◌, Bool, sym, ap, subst, ◌∙◌, arith}
 use Rattle.qic_base.specs.Tape.{Done, Broke}
 use Rattle.qic_base.proofs.Steps.{Done-nothing}
 use Rattle.cartridge_spec.proofs.Segments.{count_of_whole}
 use Rattle.drive_states.specs.Deck.{is_protected}
 use Rattle.cartridge_spec.specs.Writes.{named_writes}
+use Rattle.segment_io.proofs.Going.{front_segment}
 use Rattle.volume_store.specs.Settling.{mending_steps}
-use Rattle.volume_store.proofs.TableSegment.{carries_whole}
 use Rattle.volume_store.proofs.Mending.{mend_writes, no_writes}
 use Rattle.volume_store.proofs.settling.settle.Goals as goal
 
-pub write_sectors-requires-clause-carries : goal.write_sectors-requires-clause-carries
-write_sectors-requires-clause-carries g c = carries_whole
+pub write_sectors-requires-clause-segment : goal.write_sectors-requires-clause-segment
+write_sectors-requires-clause-segment g c = front_segment 2 c.requires.ready.fits c.requires.referenced (omega arith)
 
 pub write_sectors-requires-clause-within : goal.write_sectors-requires-clause-within
 write_sectors-requires-clause-within g c =
@@ -20,14 +20,14 @@ pub returns-in-Ok-clause-did : goal.returns-in-Ok-clause-did
 returns-in-Ok-clause-did g c =
     let steps : named_writes 2 4294967295 c.renew_parity-stale.result c.renew_parity-stale.new.work ≡ mending_steps (is_protected c.args.unit.now.drive.deck) c.args.lost c.args.work.now =
     mend_writes c.renew_parity-stale.result c.args.lost c.args.work.now c.renew_parity-stale.new.work c.renew_parity-stale.ensures.block c.renew_parity-stale.ensures.stale
-    ∙ ap (λ (b : Bool). mending_steps b c.args.lost c.args.work.now) (c.if-protected.ensures ∙ sym (ap is_protected c.requires.fits.deck)) in
+    ∙ ap (λ (b : Bool). mending_steps b c.args.lost c.args.work.now) (c.if-protected.ensures ∙ sym (ap is_protected c.requires.ready.fits.deck)) in
     subst (Done g.T.Tape.means c.args.unit.now.tape c.write_sectors.new.unit.tape) steps c.in-Ok.ensures.did
 
 pub returns-in-Err-clause-did : goal.returns-in-Err-clause-did
 returns-in-Err-clause-did g c =
     let steps : named_writes 2 4294967295 c.renew_parity-stale.result c.renew_parity-stale.new.work ≡ mending_steps (is_protected c.args.unit.now.drive.deck) c.args.lost c.args.work.now =
     mend_writes c.renew_parity-stale.result c.args.lost c.args.work.now c.renew_parity-stale.new.work c.renew_parity-stale.ensures.block c.renew_parity-stale.ensures.stale
-    ∙ ap (λ (b : Bool). mending_steps b c.args.lost c.args.work.now) (c.if-protected.ensures ∙ sym (ap is_protected c.requires.fits.deck)) in
+    ∙ ap (λ (b : Bool). mending_steps b c.args.lost c.args.work.now) (c.if-protected.ensures ∙ sym (ap is_protected c.requires.ready.fits.deck)) in
     subst (Broke g.T.Tape.means c.args.unit.now.tape c.write_sectors.new.unit.tape) steps c.in-Err.ensures.did
 
 pub returns-then-mask-eq0-clause-did : goal.returns-then-mask-eq0-clause-did
@@ -37,5 +37,5 @@ returns-then-mask-eq0-clause-did g c =
     sym (no_writes c.renew_parity-stale.new.work)
     ∙ ap (λ (places : ℕ). named_writes 2 4294967295 places c.renew_parity-stale.new.work) (sym none)
     ∙ mend_writes c.renew_parity-stale.result c.args.lost c.args.work.now c.renew_parity-stale.new.work c.renew_parity-stale.ensures.block c.renew_parity-stale.ensures.stale
-    ∙ ap (λ (b : Bool). mending_steps b c.args.lost c.args.work.now) (c.if-protected.ensures ∙ sym (ap is_protected c.requires.fits.deck)) in
+    ∙ ap (λ (b : Bool). mending_steps b c.args.lost c.args.work.now) (c.if-protected.ensures ∙ sym (ap is_protected c.requires.ready.fits.deck)) in
     subst (Done g.T.Tape.means c.args.unit.now.tape c.args.unit.now.tape) steps (Done-nothing g.T.Tape.means c.args.unit.now.tape)

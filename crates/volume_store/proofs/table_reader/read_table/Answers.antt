@@ -4,13 +4,14 @@ use Rattle.qic_base.proofs.Steps.{Tells-map}
 use Rattle.cartridge_spec.specs.Says.{LosesData, LostSectors, ByCode, TableSays}
 use Rattle.cartridge_spec.specs.HeaderAndTable.{table_cells, TableIs}
 use Rattle.segment_io.specs.Gathered.{Gathered}
+use Rattle.segment_io.proofs.Going.{front_segment}
 use Rattle.segment_io.specs.declared.fault.SegFault.{SegFault}
 use Rattle.volume_store.specs.Finding.{FindsTable}
 use Rattle.volume_store.proofs.TableSegment.{finds_read, finds_solved, finds_answer, finds_many, gathered_solved, carries_whole, whole_count}
 use Rattle.volume_store.proofs.table_reader.read_table.Goals as goal
 
-pub collect-requires-clause-carries : goal.collect-requires-clause-carries
-collect-requires-clause-carries g c = carries_whole
+pub collect-requires-clause-segment : goal.collect-requires-clause-segment
+collect-requires-clause-segment g c = front_segment 2 c.requires.ready.fits c.requires.referenced (omega arith)
 
 pub solve_collected-requires : goal.solve_collected-requires
 solve_collected-requires g c = carries_whole

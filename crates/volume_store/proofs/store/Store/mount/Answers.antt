@@ -29,7 +29,7 @@ returns-clause-did g c = record {
   steps = mending_steps (is_protected c.learn.new.unit.drive.deck) c.in_ok-learnt.learnt.lost c.learn.new.work;
   done = Done-after_reads c.in_ok-learnt.ensures.did c.in_ok-settle.ensures.did;
   told = told_settles g.T.Tape.means c.learn.new.host c.args.unit.now.tape c.learn.new.unit c.learn.new.map c.learn.new.work c.learn.new.table c.in_ok-learnt.learnt
-      c.in_ok-learnt.ensures.fits c.in_ok-learnt.ensures.agrees c.in_ok-learnt.ensures.did c.in_ok-learnt.ensures.room (c.in_ok-learnt.ensures.found (λ same. cc));
+      c.in_ok-learnt.ensures.ready.fits c.in_ok-learnt.ensures.agrees c.in_ok-learnt.ensures.did c.in_ok-learnt.ensures.room (c.in_ok-learnt.ensures.found (λ same. cc));
 }
 
 pub returns-clause-fits : goal.returns-clause-fits
@@ -37,14 +37,14 @@ returns-clause-fits g c =
     let m = g.T.Tape.means in
     let words = c.in_ok-learnt.ensures.words in
     let one : segments_of c.learn.new.host ≡ segments_of c.settle.new.host =
-    one_length m c.learn.new.host c.settle.new.host c.learn.new.unit c.settle.new.unit c.in_ok-learnt.ensures.fits c.in_ok-settle.ensures.fits c.in_ok-settle.ensures.same.cartridge in
+    one_length m c.learn.new.host c.settle.new.host c.learn.new.unit c.settle.new.unit c.in_ok-learnt.ensures.ready.fits c.in_ok-settle.ensures.keeps.ready.fits c.in_ok-settle.ensures.keeps.same.cartridge in
     let steps : List Step = mending_steps (is_protected c.learn.new.unit.drive.deck) c.in_ok-learnt.learnt.lost c.learn.new.work in
     record {
-      host = c.in_ok-settle.ensures.fits;
-      rest = c.in_ok-settle.ensures.rest;
-      mode = still_primary c.learn.new.unit.drive.deck c.settle.new.unit.drive.deck c.in_ok-settle.ensures.same c.in_ok-learnt.ensures.mode;
-      referenced = still_referenced c.learn.new.unit.drive.deck c.settle.new.unit.drive.deck c.in_ok-settle.ensures.same c.in_ok-learnt.ensures.referenced;
-      agrees = c.in_ok-settle.ensures.agrees c.in_ok-learnt.ensures.agrees;
+      host = c.in_ok-settle.ensures.keeps.ready.fits;
+      rest = c.in_ok-settle.ensures.keeps.ready.rest;
+      mode = still_primary c.learn.new.unit.drive.deck c.settle.new.unit.drive.deck c.in_ok-settle.ensures.keeps.same c.in_ok-learnt.ensures.mode;
+      referenced = still_referenced c.learn.new.unit.drive.deck c.settle.new.unit.drive.deck c.in_ok-settle.ensures.keeps.same c.in_ok-learnt.ensures.referenced;
+      agrees = c.in_ok-settle.ensures.keeps.agrees c.in_ok-learnt.ensures.agrees;
       header = words.length_told ∙ one;
       words = words.size ∙ ap (λ (n : ℕ). 28 * n) one;
       list = subst (λ (n : ℕ). IsSoundList (28 * n - 1) c.learn.new.table) one
@@ -53,7 +53,7 @@ returns-clause-fits g c =
           (g.met.T.Tape.told_right c.args.unit.now.tape) (none_mended (is_protected c.learn.new.unit.drive.deck) c.in_ok-learnt.learnt.lost c.learn.new.work)
           (Done-after_reads c.in_ok-learnt.ensures.did c.in_ok-settle.ensures.did)
           (told_settles m c.learn.new.host c.args.unit.now.tape c.learn.new.unit c.learn.new.map c.learn.new.work c.learn.new.table c.in_ok-learnt.learnt
-          c.in_ok-learnt.ensures.fits c.in_ok-learnt.ensures.agrees c.in_ok-learnt.ensures.did c.in_ok-learnt.ensures.room (c.in_ok-learnt.ensures.found (λ same. cc)));
+          c.in_ok-learnt.ensures.ready.fits c.in_ok-learnt.ensures.agrees c.in_ok-learnt.ensures.did c.in_ok-learnt.ensures.room (c.in_ok-learnt.ensures.found (λ same. cc)));
     }
 
 pub returns-in_err-settle-clause-did : goal.returns-in_err-settle-clause-did
@@ -71,6 +71,6 @@ returns-in_err-settle-clause-did g c =
           (λ c'. (steps ≡ []) ⊎ IsSettling c' steps)
           (λ c' settles. inr (record { header = header_of c.in_ok-learnt.learnt.header; words = c.learn.new.map; entries = c.learn.new.table; settles = settles }))
           (told_settles m c.learn.new.host c.args.unit.now.tape c.learn.new.unit c.learn.new.map c.learn.new.work c.learn.new.table c.in_ok-learnt.learnt
-          c.in_ok-learnt.ensures.fits c.in_ok-learnt.ensures.agrees c.in_ok-learnt.ensures.did c.in_ok-learnt.ensures.room (c.in_ok-learnt.ensures.found (λ same. cc)));
+          c.in_ok-learnt.ensures.ready.fits c.in_ok-learnt.ensures.agrees c.in_ok-learnt.ensures.did c.in_ok-learnt.ensures.room (c.in_ok-learnt.ensures.found (λ same. cc)));
     } in
     subst (λ (answer : Result StoreView StoreFault). MountDoes m c.args.unit.now.tape c.settle.new.unit.tape answer) (sym (is ∙ ap Err tape)) broken
