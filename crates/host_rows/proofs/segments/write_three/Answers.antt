@@ -1,9 +1,9 @@
-use Rattle.std.proofs.Common.{◌≡◌, ℕ, ◌^◌, ◌<◌, subst, sym, arith}
+use Rattle.std.proofs.Common.{rules, ◌≡◌, ℕ, ◌^◌, ◌<◌, subst, sym, arith}
 use Rattle.host_rows.proofs.Masks.{marked_carries, marked_count}
 use Rattle.host_rows.proofs.segments.write_three.Goals as goal
 
-pub write_sectors-requires-clause-carries : goal.write_sectors-requires-clause-carries
-write_sectors-requires-clause-carries c = marked_carries
+pub write_sectors-requires-clause-segment : goal.write_sectors-requires-clause-segment
+write_sectors-requires-clause-segment c = record { referenced = search rules; on_tape = search rules; carries = marked_carries }
 
 pub write_sectors-requires-clause-within : goal.write_sectors-requires-clause-within
 write_sectors-requires-clause-within c =

@@ -15,7 +15,7 @@ returns-in-Err-NoCartridge-clause-ends g c =
 
 pub returns-in-Ok-write_text-clause-ends : goal.returns-in-Ok-write_text-clause-ends
 returns-in-Ok-write_text-clause-ends g c =
-    let there = is_there c.start.new.unit.drive.deck.cartridge _ c.in-Ok.ensures.fits.cartridge in
+    let there = is_there c.start.new.unit.drive.deck.cartridge _ c.in-Ok.ensures.ready.fits.cartridge in
     let long : segments_per_track c.start.new.unit.drive.deck ≡ there.info.segments_per_track = ap (λ i. option_map_or (λ c. c.segments_per_track) i 0) there.is in
     let mark : is_protected c.start.new.unit.drive.deck ≡ there.info.protected = ap (λ i. option_map_or (λ c. c.protected) i false) there.is in
     let unlocked : there.info.protected ≡ false = not_true there.info.protected (λ same. let is = c.in-Ok-format.ensures.protected.1 (mark ∙ same) in cc) in
@@ -27,7 +27,7 @@ returns-in-Ok-write_text-clause-ends g c =
 
 pub returns-in-Err-write_text-clause-ends : goal.returns-in-Err-write_text-clause-ends
 returns-in-Err-write_text-clause-ends g c =
-    let there = is_there c.start.new.unit.drive.deck.cartridge _ c.in-Ok.ensures.fits.cartridge in
+    let there = is_there c.start.new.unit.drive.deck.cartridge _ c.in-Ok.ensures.ready.fits.cartridge in
     let long : segments_per_track c.start.new.unit.drive.deck ≡ there.info.segments_per_track = ap (λ i. option_map_or (λ c. c.segments_per_track) i 0) there.is in
     let mark : is_protected c.start.new.unit.drive.deck ≡ there.info.protected = ap (λ i. option_map_or (λ c. c.protected) i false) there.is in
     let unlocked : there.info.protected ≡ false = not_true there.info.protected (λ same. let is = c.in-Ok-format.ensures.protected.1 (mark ∙ same) in cc) in
@@ -39,7 +39,7 @@ returns-in-Err-write_text-clause-ends g c =
 
 pub returns-in-Err-clause-ends : goal.returns-in-Err-clause-ends
 returns-in-Err-clause-ends g c =
-    let there = is_there c.start.new.unit.drive.deck.cartridge _ c.in-Ok.ensures.fits.cartridge in
+    let there = is_there c.start.new.unit.drive.deck.cartridge _ c.in-Ok.ensures.ready.fits.cartridge in
     let long : segments_per_track c.start.new.unit.drive.deck ≡ there.info.segments_per_track = ap (λ i. option_map_or (λ c. c.segments_per_track) i 0) there.is in
     let mark : is_protected c.start.new.unit.drive.deck ≡ there.info.protected = ap (λ i. option_map_or (λ c. c.protected) i false) there.is in
     let marked : (c.in-Err.fault ≡ fault.Protected) ↔ (there.info.protected ≡ true) =

@@ -17,14 +17,14 @@ returns-in-Err-Tape g c =
 
 pub returns-in-Ok-mount : goal.returns-in-Ok-mount
 returns-in-Ok-mount g c =
-    let there = is_there c.start.new.unit.drive.deck.cartridge _ c.in-Ok.ensures.fits.cartridge in
+    let there = is_there c.start.new.unit.drive.deck.cartridge _ c.in-Ok.ensures.ready.fits.cartridge in
     mount_shown g.T.Tape.means c.args.unit.now.tape c.start.new.unit.tape c.mount.new.unit.tape there.info c.in-Ok-mount.store
     (present g.T.Tape.means c.args.unit.now.tape c.start.new.unit.tape c.start.new.unit.drive.deck.cartridge c.in-Ok.ensures.did.1 (c.in-Ok.ensures.told (λ is. cc)) there)
     c.in-Ok-mount.ensures.did
 
 pub returns-in-Err : goal.returns-in-Err
 returns-in-Err g c =
-    let there = is_there c.start.new.unit.drive.deck.cartridge _ c.in-Ok.ensures.fits.cartridge in
+    let there = is_there c.start.new.unit.drive.deck.cartridge _ c.in-Ok.ensures.ready.fits.cartridge in
     rw c.mount_status.ensures (mount_failed g.T.Tape.means c.args.unit.now.tape c.start.new.unit.tape c.mount.new.unit.tape there.info c.in-Err.fault
     (present g.T.Tape.means c.args.unit.now.tape c.start.new.unit.tape c.start.new.unit.drive.deck.cartridge c.in-Ok.ensures.did.1 (c.in-Ok.ensures.told (λ is. cc)) there)
     c.in-Err.ensures.did c.in-Err.ensures.kind)
