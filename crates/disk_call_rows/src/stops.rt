@@ -1,7 +1,7 @@
 //! What a write of a sector leaves of the other sectors, whichever of its calls of the disk fails. It is sector 1 of segment
 //! 2, which has the number 65.
 
-ghost use Rattle.std.specs.Prelude.{◌<◌, ◌*◌, IfOk};
+ghost use Rattle.std.specs.Prelude.{◌<◌, IfOk};
 ghost use Rattle.qic_base.specs.Disk.{IsSettled};
 ghost use Rattle.qic_mem.specs.Disk.{disk_means};
 

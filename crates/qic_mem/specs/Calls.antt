@@ -1,5 +1,5 @@
 -- The calls of a tape's record, as steps and ends (this project's profile).
-use Rattle.std.specs.Prelude.{ℕ, ◌+◌, ◌≤◌, List, [], ◌∷◌, vec_len}
+use Rattle.std.specs.Prelude.{◌+◌, ◌≤◌, List, [], ◌∷◌, vec_len}
 use Rattle.std.specs.Vec.{vec_capacity}
 use Rattle.qic_mem.specs.declared.tape.log.Call.{Call}
 use Rattle.qic_mem.specs.declared.tape.log.TapeRecord.TheInside.{Inside}

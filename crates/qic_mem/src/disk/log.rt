@@ -1,6 +1,6 @@
-ghost use Rattle.std.specs.Prelude.{◌≡◌, ◌≤◌, ◌+◌, ◌∷◌, ◌++◌, false, Some, [], length, IfOk};
+ghost use Rattle.std.specs.Prelude.{◌≡◌, false, Some, length, IfOk};
 ghost use Rattle.qic_mem.specs.DiskLog.{new_log, is_full, logged, settled};
-ghost use Rattle.qic_mem.specs.DiskEntry.{entry_size, event_of, leaves_pending};
+ghost use Rattle.qic_mem.specs.DiskEntry.{entry_size, event_of};
 
 use crate::disk::entry::DiskEntry;
 use qic_base::NoMemory;

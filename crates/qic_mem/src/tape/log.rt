@@ -1,4 +1,4 @@
-ghost use Rattle.std.specs.Prelude.{◌≡◌, ◌≤◌, ◌+◌, None, Some, [], IfOk};
+ghost use Rattle.std.specs.Prelude.{◌≡◌, None, Some, IfOk};
 ghost use Rattle.qic_mem.specs.Call.{call_of};
 ghost use Rattle.qic_mem.specs.TapeLog.{new_log, is_full, logged};
 
