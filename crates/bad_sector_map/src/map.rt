@@ -151,6 +151,56 @@ mod tests {
         Ok(())
     }
 
+    /// The mask of a segment and its bytes of data, by the map of so many segments in the area.
+    fn read_back(map: &mut BadMap, area: &[[u8; 1024]], segments: u32, segment: u32) -> (u32, u32)
+        requires sectors { length area.now ≡ 29 }
+        requires segments { segments ≤ 28 * LONGEST }
+        requires segment { segment < segments }
+    {
+        map.read(area, segments);
+        (map.usable(segment), map.capacity(segment))
+    }
+
+    #[test]
+    fn the_longest_map_ends_in_the_area(rt: HostRuntime) -> Result<(), Fail> {
+        let mut area = vec![in rt.alloc(); [0xAAu8; 1024]; 29]?;
+        assert_eq!(rt; area.len(), 29);
+        let mut map = BadMap::new(rt.alloc())?;
+        map.reset(6888);
+        map.mark(6887, 0);
+        map.mark(6887, 31);
+        map.write(&mut area);
+        for (sector, at, want) in [
+            (28, 923, 0),
+            (28, 924, 1),
+            (28, 925, 0),
+            (28, 926, 0),
+            (28, 927, 0x80),
+            (28, 928, 0xAA),
+        ] {
+            assert_eq!(rt; area[sector][at], want, "sector {sector}, byte {at}");
+        }
+        let mut other = BadMap::new(rt.alloc())?;
+        let last = read_back(&mut other, &area, 6888, 6887);
+        assert_eq!(rt; last, (0x7FFF_FFFE, 27_648));
+        let before = read_back(&mut other, &area, 6888, 6886);
+        assert_eq!(rt; before, (0xFFFF_FFFF, 29_696));
+        assert_eq!(rt; other.marked(), 2);
+        Ok(())
+    }
+
+    #[test]
+    fn the_longest_cartridge_carries_204_456_960_bytes(rt: HostRuntime) -> Result<(), Fail> {
+        let mut map = BadMap::new(rt.alloc())?;
+        map.reset(6888);
+        let mut bytes = 0u64;
+        for segment in 3..6888 {
+            bytes = bytes.wrapping_add(u64::from(map.capacity(segment)));
+        }
+        assert_eq!(rt; bytes, 204_456_960);
+        Ok(())
+    }
+
     #[test]
     fn three_usable_sectors_carry_nothing(rt: HostRuntime) -> Result<(), Fail> {
         let mut area = vec![in rt.alloc(); [0u8; 1024]; 29]?;
