@@ -148,7 +148,14 @@ mod tests {
 
     #[test]
     fn a_cartridge_has_3_to_246_segments_a_track(rt: HostRuntime) {
-        for (length, want) in [(0, false), (2, false), (3, true), (151, true), (246, true), (247, false)] {
+        for (length, want) in [
+            (0, false),
+            (2, false),
+            (3, true),
+            (151, true),
+            (246, true),
+            (247, false),
+        ] {
             let made = Geometry::new(length);
             assert_eq!(rt; made.is_ok(), want, "at {length}");
         }
