@@ -25,7 +25,7 @@ use host_driver::Host;
 use qic_base::{LostSet, Name, Tape};
 use qic117_commands::Mode;
 use segment_io::{SegFault, Workspace, write_sectors};
-use segment_parity::Parity;
+use segment_parity::parity_of;
 use tape_geometry::Geometry;
 
 /// The data sectors of a header copy.
@@ -120,17 +120,4 @@ fn write_copy<T: Tape>(
     let others = LostSet::from_mask(!1);
     write_sectors(host, unit, copy, u32::MAX, others, work)?;
     write_sectors(host, unit, copy, u32::MAX, last, work)
-}
-
-// The parity of the header's data.
-fn parity_of(area: &[[u8; SECTOR]]) -> [[u8; SECTOR]; 3]
-    requires { length area.now ≡ 29 }
-    ensures parity { result ≡ parity_sectors area.now }
-    ensures sectors { All IsSector area.now }
-{
-    let mut parity = Parity::new();
-    for sector in area {
-        parity.push(sector);
-    }
-    parity.finish()
 }

@@ -4,7 +4,7 @@ ghost use Rattle.std.specs.Prelude.{◌≡◌, ◌+◌, ◌≤◌, ◌++◌, len
 ghost use Rattle.gf256_qic.specs.Code.{parity_sectors};
 
 use crate::SECTOR;
-use segment_parity::Parity;
+use segment_parity::parity_of;
 
 /// Puts the parity of the sectors before `count` into the three behind them.
 pub(crate) fn put_parity(sectors: &mut [[u8; SECTOR]], count: u8)
@@ -17,17 +17,4 @@ pub(crate) fn put_parity(sectors: &mut [[u8; SECTOR]], count: u8)
     let parity = parity_of(&sectors[..count as usize]);
     let behind = count as usize;
     sectors[behind..behind + 3].copy_from_slice(&parity);
-}
-
-// The parity of 1 to 29 sectors.
-fn parity_of(sectors: &[[u8; SECTOR]]) -> [[u8; SECTOR]; 3]
-    requires least { 1 ≤ length sectors.now }
-    requires most { length sectors.now ≤ 29 }
-    ensures { result ≡ parity_sectors sectors.now }
-{
-    let mut parity = Parity::new();
-    for sector in sectors {
-        parity.push(sector);
-    }
-    parity.finish()
 }

@@ -1,7 +1,8 @@
-pub mod TableSegment
 pub mod Copies
-pub mod Stale
 pub mod Mending
 pub mod Mounts
 pub mod Settled
+pub mod Slots
+pub mod Stale
 pub mod Storing
+pub mod TableSegment

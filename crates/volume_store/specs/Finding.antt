@@ -1,9 +1,11 @@
 -- What the calls that read a cartridge's header and its volume table find, and what they do to the tape (this project's
 -- own).
-use Rattle.std.specs.Prelude.{◌≡◌, ℕ, ◌*◌, Bool, true, false, List, [], length, take, Option, Some, None, Result, Ok, Err}
+use Rattle.std.specs.Prelude.{◌≡◌, ◌≢◌, ℕ, ◌-◌, ◌*◌, ◌<◌, Bool, true, false, List, [], length, take, Option, Some, None, Result, Ok, Err}
 use Rattle.qic_base.specs.Cartridge.{Cartridge}
 use Rattle.qic_base.specs.Step.{Step}
 use Rattle.qic_base.specs.Tape.{Meaning, Done, Broke}
+use Rattle.qic_base.specs.declared.foreign.ForeignField.{ForeignField}
+use Rattle.qic_base.specs.declared.foreign.ForeignField.TheVariants.{FormatCode, FirstHeader, SecondHeader, FirstData, LastData, SegmentsPerTrack, Tracks, TrackMaximum, SectorMaximum, Map, Slot, Range}
 use Rattle.cartridge_spec.specs.Header.{HeaderFault, fault_as, has_signature, header_fault, Shows}
 use Rattle.cartridge_spec.specs.Says.{TableSays}
 use Rattle.cartridge_spec.specs.Says as says
@@ -49,6 +51,30 @@ is_of_mounting fault = false
 abbrev pub RefusesMounting : {A : Type 0} → Result A StoreFault → Type 0
 RefusesMounting (Ok answer) = Unit {0}
 RefusesMounting (Err fault) = is_of_mounting fault ≡ true
+
+-- ---- why, also where the tape tells nothing
+
+-- The test of this field refuses the value, on a drive that reports so many segments per track: it is not the one that the
+-- header has to have. Of the map the value is a segment in front with a bad sector, of the table a slot's number.
+abbrev pub IsForeign : (n : ℕ) → ForeignField → (value : ℕ) → Type 0
+IsForeign n FormatCode value = value ≢ 2
+IsForeign n FirstHeader value = value ≢ 0
+IsForeign n SecondHeader value = value ≢ 1
+IsForeign n FirstData value = value ≢ 2
+IsForeign n LastData value = value ≢ 28 * n - 1
+IsForeign n SegmentsPerTrack value = value ≢ n
+IsForeign n Tracks value = value ≢ 28
+IsForeign n TrackMaximum value = value ≢ 149
+IsForeign n SectorMaximum value = value ≢ 128
+IsForeign n Map value = value < 3
+IsForeign n Slot value = value < 232
+IsForeign n Range value = value < 232
+
+-- a mounting that is refused for a foreign value names one, and for lost sectors segment 2 and more than three
+abbrev pub NamesCause : {A : Type 0} → (n : ℕ) → Result A StoreFault → Type 0
+NamesCause n (Err (Foreign field value)) = IsForeign n field value
+NamesCause n (Err (Lost segment lost)) = (segment ≡ 2) × (3 < lost)
+NamesCause n answer = Unit {0}
 
 -- ---- the header
 

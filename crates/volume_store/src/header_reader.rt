@@ -7,7 +7,7 @@ ghost use Rattle.drive_states.specs.Reach.{reads_in};
 ghost use Rattle.host_driver.specs.Calls.{IsReady, Keeps};
 ghost use Rattle.host_driver.specs.Fits.{AgreesWithTape, segments_of};
 ghost use Rattle.qic_base.specs.Cartridge.{IsLength};
-ghost use Rattle.volume_store.specs.Finding.{Leaves, RefusesMounting, FindsCopy, FindsHeader, TakesHeader, HasMap};
+ghost use Rattle.volume_store.specs.Finding.{Leaves, RefusesMounting, FindsCopy, FindsHeader, NamesCause, TakesHeader, HasMap};
 
 use crate::fault::StoreFault;
 use crate::table_reader::{WHOLE, data_sectors};
@@ -33,6 +33,7 @@ fn decode_copy(
     requires long { IsLength segments_per_track }
     ensures taken { TakesHeader area.now segments_per_track map.new result }
     ensures kind { RefusesMounting result }
+    ensures cause { NamesCause segments_per_track result }
 {
     match decode(area, segments_per_track, map) {
         Ok(header) => Ok(Some(header)),
@@ -57,6 +58,7 @@ fn read_copy<T: Tape>(
     ensures found { result ≢ Err StoreFault.Tape → Tells T.means unit.old.tape (λ c.
         FindsCopy c copy (segments_of host.old) map.new result) }
     ensures kind { RefusesMounting result }
+    ensures cause { NamesCause (segments_of host.old) result }
     ensures map { IfOk result (HasMap (segments_of host.old) map.new) }
     ensures keeps { Keeps T.means host.new unit.old unit.new }
 {
@@ -82,6 +84,7 @@ pub(crate) fn read_header<T: Tape>(
     ensures found { result ≢ Err StoreFault.Tape → Tells T.means unit.old.tape (λ c.
         FindsHeader c map.new result) }
     ensures kind { RefusesMounting result }
+    ensures cause { NamesCause (segments_of host.old) result }
     ensures map { IfOk result (λ header. HasMap (segments_of host.old) map.new (Some header)) }
     ensures referenced { OnOk result (is_referenced unit.old.drive.deck ≡ true) }
     ensures keeps { Keeps T.means host.new unit.old unit.new }

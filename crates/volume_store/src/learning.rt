@@ -6,7 +6,7 @@ ghost use Rattle.qic117_commands.specs.Views.{is_primary};
 ghost use Rattle.drive_states.specs.Deck.{is_referenced};
 ghost use Rattle.host_driver.specs.Calls.{IsReady};
 ghost use Rattle.host_driver.specs.Fits.{AgreesWithTape, segments_of};
-ghost use Rattle.volume_store.specs.Finding.{Leaves, RefusesMounting, HasWords, ShowsVolumes};
+ghost use Rattle.volume_store.specs.Finding.{Leaves, NamesCause, RefusesMounting, HasWords, ShowsVolumes};
 ghost use Rattle.volume_store.specs.Mounting.{Learns};
 
 use crate::fault::StoreFault;
@@ -56,6 +56,7 @@ pub(crate) fn learn<T: Tape>(
     ensures found { result ≢ Err StoreFault.Tape → Tells T.means unit.old.tape (λ c.
         Learns c map.new work.new table.new result) }
     ensures kind { RefusesMounting result }
+    ensures cause { NamesCause (segments_of host.old) result }
     ensures words { IfOk result (λ learnt.
         HasWords (segments_of host.new) map.new learnt.header) }
     ensures volumes { OnOk result

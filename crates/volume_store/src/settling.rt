@@ -17,22 +17,10 @@ use drive_states::Unit;
 use host_driver::Host;
 use qic_base::{LostSet, Tape};
 use segment_io::{Workspace, write_sectors};
-use segment_parity::Parity;
+use segment_parity::parity_of;
 
 /// The places of a whole segment's parity.
 const PARITY: [u8; 3] = [29, 30, 31];
-
-// The parity of a whole segment's data.
-fn parity_of(sectors: &[[u8; 1024]]) -> [[u8; 1024]; 3]
-    requires { length sectors.now ≡ 29 }
-    ensures { result ≡ parity_sectors sectors.now }
-{
-    let mut parity = Parity::new();
-    for sector in sectors {
-        parity.push(sector);
-    }
-    parity.finish()
-}
 
 // The mask with the bit of a place where its sector isn't the one that belongs there.
 fn with_stale(stale: u32, place: u8, held: &[u8; 1024], wanted: &[u8; 1024]) -> u32

@@ -2,11 +2,11 @@
 
 ghost use Rattle.std.specs.Prelude.{◌≡◌, ◌+◌, ◌-◌, ◌*◌, ◌<◌, ◌≤◌, IfOk, IfSome, slice_get, length};
 ghost use Rattle.host_driver.specs.Calls.{IsReady};
-ghost use Rattle.host_driver.specs.Fits.{AgreesWithTape};
+ghost use Rattle.host_driver.specs.Fits.{AgreesWithTape, segments_of};
 ghost use Rattle.cartridge_spec.specs.Shape.{mask_at, marked_sectors};
 ghost use Rattle.cartridge_spec.specs.Volumes.{capacity_between, volume_length};
 ghost use Rattle.header_segments.specs.Header.{header_of};
-ghost use Rattle.volume_store.specs.Finding.{RefusesMounting};
+ghost use Rattle.volume_store.specs.Finding.{NamesCause, RefusesMounting};
 ghost use Rattle.volume_store.specs.Mounting.{MountDoes, StoreFits};
 ghost use Rattle.volume_table.specs.Entry.{entry_of};
 
@@ -79,6 +79,7 @@ impl Store {
         requires agrees { AgreesWithTape T.means unit.old }
         ensures did { MountDoes T.means unit.old.tape unit.new.tape result }
         ensures kind { RefusesMounting result }
+        ensures cause { NamesCause (segments_of host) result }
         ensures fits { IfOk result (λ store. StoreFits T.means store unit.new) }
         ensures size { T.means.size unit.new.tape ≡ T.means.size unit.old.tape }
     {

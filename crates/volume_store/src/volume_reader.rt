@@ -1,12 +1,12 @@
 //! The list of volumes read.
 
-ghost use Rattle.std.specs.Prelude.{◌≡◌, ◌≢◌, ◌-◌, ◌*◌, [], true, length, take, OnOk, IfOk};
+ghost use Rattle.std.specs.Prelude.{◌≡◌, ◌≢◌, ℕ, ◌-◌, ◌*◌, [], true, length, take, OnOk, IfOk};
 ghost use Rattle.qic_base.specs.Tape.{Tells};
 ghost use Rattle.drive_states.specs.Deck.{is_referenced};
 ghost use Rattle.drive_states.specs.Reach.{reads_in};
 ghost use Rattle.host_driver.specs.Calls.{IsReady, Keeps};
 ghost use Rattle.host_driver.specs.Fits.{segments_of};
-ghost use Rattle.volume_store.specs.Finding.{Leaves, RefusesMounting, FindsVolumes, ShowsVolumes, DecodesTable, refusal_of};
+ghost use Rattle.volume_store.specs.Finding.{Leaves, NamesCause, RefusesMounting, FindsVolumes, ShowsVolumes, DecodesTable, refusal_of};
 
 use crate::fault::StoreFault;
 use crate::table_reader::{data_sectors, read_table};
@@ -33,6 +33,7 @@ fn decode_table(table: &mut Table, area: &[[u8; 1024]], last: u32) -> Result<(),
     requires { length area.now ≡ 29 }
     ensures shown { DecodesTable area.now last table.new result }
     ensures kind { RefusesMounting result }
+    ensures cause { (n : ℕ) → NamesCause n result }
 {
     match table.decode(area, last) {
         Ok(()) => Ok(()),
@@ -62,6 +63,7 @@ pub(crate) fn read_volumes<T: Tape>(
     ensures found { result ≢ Err StoreFault.Tape → Tells T.means unit.old.tape (λ c.
         FindsVolumes c (28 * segments_of host.old - 1) work.new table.new result) }
     ensures kind { RefusesMounting result }
+    ensures cause { NamesCause (segments_of host.old) result }
     ensures shown { OnOk result
         (ShowsVolumes (take 29 work.new) (28 * segments_of host.old - 1) table.new) }
     ensures room { length work.new ≡ 32 }

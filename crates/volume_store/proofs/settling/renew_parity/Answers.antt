@@ -16,7 +16,7 @@ put_in old lent parity new left was is put long =
 pub returns-clause-block : goal.returns-clause-block
 returns-clause-block c =
     put_in c.args.work.now c.sectors_mut.result.now c.parity_of-parity.result c.put_parity-stale.new.sectors (drop (length c.put_parity-stale.new.sectors) c.args.work.now)
-    c.sectors_mut.ensures.value (c.parity_of-parity.ensures ∙ ap parity_sectors c.data_sectors.ensures.value) c.put_parity-stale.ensures.sectors
+    c.sectors_mut.ensures.value (c.parity_of-parity.ensures.parity ∙ ap parity_sectors c.data_sectors.ensures.value) c.put_parity-stale.ensures.sectors
     (omega (arith, c.sectors_mut.ensures.size))
 
 pub returns-clause-stale : goal.returns-clause-stale
