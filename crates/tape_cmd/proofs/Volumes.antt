@@ -1,5 +1,5 @@
 -- What a run leaves of what a cartridge stands for, by what a stop in its command leaves.
-use Rattle.std.proofs.Common.{◌≡◌, ◌⊎◌, ℕ, Bool, true, List, [], ◌∷◌, Option, Some, IfSome, IsSomeAnd, sym, ap, ◌∙◌, subst, inl, inr, None, false, refl}
+use Rattle.std.proofs.Common.{◌≡◌, ◌⊎◌, ℕ, Bool, true, List, [], ◌∷◌, Option, Some, IfSome, IsSomeAnd, sym, ap, ◌∙◌, subst, inl, inr, None, false, refl, arith}
 use Rattle.qic_base.specs.Cartridge.{Cartridge, IsCartridge, new_cartridge}
 use Rattle.qic_base.specs.Step.{Step as TapeStep, Renew, SetReferenced, SetProtected, Wear, Spoil, changed, effects}
 use Rattle.qic_base.specs.Stop.{Torn}
@@ -15,7 +15,7 @@ use Rattle.cartridge_spec.specs.Writes.{changed_by}
 use Rattle.format_plan.specs.Formatting.{HasNoDefectInFront, clearing_steps, format_steps}
 use Rattle.format_plan.specs.Clean.{StandsCleanly, HasNoHeader}
 use Rattle.format_plan.specs.Fresh.{IsFreshFor, IsFreshWith}
-use Rattle.format_plan.proofs.Clearing.{clearing_clears, cleared_is_unformatted}
+use Rattle.format_plan.proofs.Clearing.{clearing_clears, cleared_copies_are_zero}
 use Rattle.format_plan.proofs.Copies.{unformatted_from_bare}
 use Rattle.format_plan.proofs.Formatted.{formatting_formats, formatted_stands}
 use Rattle.format_plan.proofs.Stops.{stopped_clearing, stopped_clearing_new, stopped_format, stopped_format_new}
@@ -32,7 +32,7 @@ use Rattle.tape_cmd.specs.declared.status.Status.{Status}
 use Rattle.tape_cmd.specs.declared.status.Status.TheVariants as status
 use Rattle.tape_cmd.specs.Plain.{Outcome, HasPlace, SectorLeaves, NewOutcome, FormatOutcome, FormatLeaves, MountLeaves, CommandLeaves, reads_input}
 use Rattle.tape_cmd.specs.Machine.{Spells, SpellsNone, Rules, is_finding, Runs, RunsOver, EachLeft, EachNow, Leaves, WordsLeave}
-use Rattle.tape_cmd.specs.Volumes.{KeepsVolumes, StillStands, VolumesStay, KeepsList, StillMounts, ListStays, StandsEmpty, FormatsOrNot, StopsFormat, StandsFresh, IsCarriedOut, IsChanged}
+use Rattle.tape_cmd.specs.Volumes.{KeepsVolumes, StillStands, VolumesStay, KeepsList, StillMounts, ListStays, StandsEmpty, FormatsOrNot, StopsFormat, StandsFresh, IsCarriedOut, IsChanged, IsBare}
 use Rattle.tape_cmd.proofs.Ends.{around, told_at, told_weaker, after_steps}
 use Rattle.tape_cmd.proofs.Runs.{told_whole}
 
@@ -301,15 +301,23 @@ formatted_fresh label date c outcome whole (inr (inr (free, none, (words, (area,
     })
     (ap (λ (o : Outcome). effects o.steps (Some c)) is ∙ effects-some (format_steps n area) c)
 
-cleared_unformatted : (label : List ℕ) (date front : ℕ) (c : Cartridge) (outcome : Outcome) → IsCartridge c → FormatOutcome label date (Some c) outcome → outcome.status ≡ status.DefectInFront front →
-    IsSomeAnd (effects outcome.steps (Some c)) IsUnformatted
-cleared_unformatted label date front c outcome whole (inl (locked, is)) done = let other = ap (λ (o : Outcome). o.status) is in absurd (cc)
-cleared_unformatted label date front c outcome whole (inr (inl (free, (segment, first, is)))) done =
+cleared_bare : (c : Cartridge) → IsCartridge c → IsBare (changed_by (clearing_steps c.info.segments_per_track) c)
+cleared_bare c whole =
+    let d : Cartridge = changed_by (clearing_steps c.info.segments_per_track) c in
+    let bare : HasNoHeader d = record {
+      first = inl (cleared_copies_are_zero c d 0 whole (clearing_clears c whole) (omega arith));
+      second = inl (cleared_copies_are_zero c d 1 whole (clearing_clears c whole) (omega arith));
+    } in
+    (bare, unformatted_from_bare d bare)
+
+cleared_is_bare : (label : List ℕ) (date front : ℕ) (c : Cartridge) (outcome : Outcome) → IsCartridge c → FormatOutcome label date (Some c) outcome → outcome.status ≡ status.DefectInFront front →
+    IsSomeAnd (effects outcome.steps (Some c)) IsBare
+cleared_is_bare label date front c outcome whole (inl (locked, is)) done = let other = ap (λ (o : Outcome). o.status) is in absurd (cc)
+cleared_is_bare label date front c outcome whole (inr (inl (free, (segment, first, is)))) done =
     let n : ℕ = c.info.segments_per_track in
-    some_and IsUnformatted (changed_by (clearing_steps n) c) (effects outcome.steps (Some c))
-    (cleared_is_unformatted c (changed_by (clearing_steps n) c) whole (clearing_clears c whole))
+    some_and IsBare (changed_by (clearing_steps n) c) (effects outcome.steps (Some c)) (cleared_bare c whole)
     (ap (λ (o : Outcome). effects o.steps (Some c)) is ∙ effects-some (clearing_steps n) c)
-cleared_unformatted label date front c outcome whole (inr (inr (free, none, (words, (area, fresh, is))))) done = let other = ap (λ (o : Outcome). o.status) is in absurd (cc)
+cleared_is_bare label date front c outcome whole (inr (inr (free, none, (words, (area, fresh, is))))) done = let other = ap (λ (o : Outcome). o.status) is in absurd (cc)
 
 -- a command that reads no input ran as such
 blind_runs : {T S K : Type 0} (t : tapes.Meaning T) (s : sources.Meaning S) (k : sinks.Meaning K) (command other : Words) (a b : T) (i j : S) (x y : K) (answer : Status) →
@@ -342,10 +350,10 @@ is_changed t s k words command a b i j x y answer spelled right after runs = rec
       let same : command ≡ other = one_command words command other spelled spells.spelled in
       let d : Did t command a b (status.DefectInFront segment) = cleared_did t k command a b x y answer segment front (blind_runs t s k command other a b i j x y answer same refl runs) in
       let rule : FormatOutcome label date (Some c) d.outcome = did_rule t command other a b (status.DefectInFront segment) (Some c) same told d [] in
-      let none : IsSomeAnd (effects d.outcome.steps (Some c)) IsUnformatted =
-      cleared_unformatted label date segment c d.outcome (told_whole (Some c) (t.told a) (t.size a) right told) rule d.sound in
+      let none : IsSomeAnd (effects d.outcome.steps (Some c)) IsBare =
+      cleared_is_bare label date segment c d.outcome (told_whole (Some c) (t.told a) (t.size a) right told) rule d.sound in
       now_weaker t a b
-      (λ left is. subst (λ (o : Option Cartridge). IsSomeAnd o IsUnformatted) (sym is) none)
+      (λ left is. subst (λ (o : Option Cartridge). IsSomeAnd o IsBare) (sym is) none)
       (done_now t a b d.outcome.steps (Some c) after d.did told);
 }
 

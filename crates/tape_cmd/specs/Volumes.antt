@@ -102,8 +102,12 @@ pub record StandsFresh (c : Cartridge) (label : List ℕ) (date : ℕ) (d : Cart
 abbrev pub IsCarriedOut : Status → Type 0
 IsCarriedOut answer = (answer ≡ status.Done) ⊎ (answer ≡ status.SinkFault)
 
+-- both header copies are bare, and so the cartridge is unformatted
+abbrev pub IsBare : Cartridge → Type 0
+IsBare c = HasNoHeader c × IsUnformatted c
+
 -- What stands when a run is over: behind `new` the new cartridge, behind `format` the empty one; where a defect in front
--- was answered, an unformatted one.
+-- was answered, a bare one.
 pub record IsChanged {T : Type 0} (t : tapes.Meaning T) (words : List (List ℕ)) (old new : T) (answer : Status) : Type 0 where
   pub renewed : (segments : ℕ) (held : Option Cartridge) → IsCarriedOut answer → Spells words (commands.New segments) →
       t.told old ≡ Some held → EachNow t old new (λ left. left ≡ Some (new_cartridge segments))
@@ -111,4 +115,4 @@ pub record IsChanged {T : Type 0} (t : tapes.Meaning T) (words : List (List ℕ)
       t.told old ≡ Some (Some c) → EachNow t old new (λ left. IsSomeAnd left (StandsFresh c label date))
   pub cleared : (label : List ℕ) (date segment : ℕ) (c : Cartridge) → answer ≡ status.DefectInFront segment →
       Spells words (commands.Format label date) → t.told old ≡ Some (Some c) →
-      EachNow t old new (λ left. IsSomeAnd left IsUnformatted)
+      EachNow t old new (λ left. IsSomeAnd left IsBare)
