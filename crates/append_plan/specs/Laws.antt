@@ -1,0 +1,85 @@
+-- What an append leaves, done or stopped, as facts.
+use Rattle.std.specs.Prelude.{◌≡◌, ◌≢◌, ◌⊎◌, ℕ, ◌^◌, ◌<◌, true, List, length, All, Option, Some, IsSomeAnd}
+use Rattle.qic_base.specs.Cartridge.{Cartridge, IsCartridge, view_at}
+use Rattle.qic_base.specs.Stop.{Torn}
+use Rattle.cartridge_spec.specs.HeaderAndTable.{IsArea, TableIs, last_segment}
+use Rattle.cartridge_spec.specs.Table.{Entry, Shows, IsSoundList, entry_in, slot}
+use Rattle.cartridge_spec.specs.Volumes.{Plain, Volume, Stands, entries_of}
+use Rattle.cartridge_spec.specs.Writes.{changed_by}
+use Rattle.format_plan.specs.Fresh.{IsLabel}
+use Rattle.append_plan.specs.Appending.{appended_volume, appended_table, with_volume, volume_writes, list_writes, append_steps}
+use Rattle.append_plan.specs.Between.{IsWhole, IsBegun, IsTurned, Between}
+use Rattle.append_plan.specs.Room.{has_room}
+use Rattle.append_plan.specs.Slots.{slot_sector}
+
+-- ---- before an append
+
+-- The cartridge stands for a plain one, its table is settled with all sectors readable, and a volume with this name of 44
+-- bytes, this date word and these bytes has room.
+pub record IsReady (c : Cartridge) (plain : Plain) (name : List ℕ) (date : ℕ) (bytes : List ℕ) : Type 0 where
+  pub cartridge : IsCartridge c
+  pub stands : Stands c plain
+  pub whole : IsWhole c plain.table_area
+  pub room : has_room plain.words (entries_of plain) (last_segment c) (length bytes) ≡ true
+  pub label : IsLabel name
+  pub word : date < 2 ^ 32
+  pub content : All (λ b. b < 256) bytes
+
+-- ---- a state between two tables
+
+-- it is read as the old data until the changed sector of data is new, and as the new data from then on
+abbrev pub BeforeReadsOld : Type 0
+BeforeReadsOld =
+    (c : Cartridge) (old : List (List ℕ)) (changed : ℕ) → IsArea old → changed < 29 → IsWhole c old ⊎ IsBegun c old changed →
+    TableIs c old
+
+abbrev pub TurnedReadsNew : Type 0
+TurnedReadsNew = (c : Cartridge) (old new : List (List ℕ)) → IsArea new → IsTurned c old new → TableIs c new
+
+-- ---- the table with one slot more
+
+-- the new data are 29 sectors, which show the old list and the new entry behind it, in order
+abbrev pub AppendedTableShows : Type 0
+AppendedTableShows =
+    (c : Cartridge) (plain : Plain) (name : List ℕ) (date : ℕ) (bytes : List ℕ) → IsReady c plain name date bytes →
+    IsArea (appended_table plain (appended_volume plain (last_segment c) name date bytes).entry)
+    × Shows (appended_table plain (appended_volume plain (last_segment c) name date bytes).entry)
+    (entries_of (with_volume plain (appended_volume plain (last_segment c) name date bytes)))
+    × IsSoundList (last_segment c) (entries_of (with_volume plain (appended_volume plain (last_segment c) name date bytes)))
+
+-- ---- all steps done
+
+-- the cartridge stands for the plain one with the volume
+abbrev pub AppendedStands : Type 0
+AppendedStands =
+    (c : Cartridge) (plain : Plain) (name : List ℕ) (date : ℕ) (bytes : List ℕ) → IsReady c plain name date bytes →
+    Stands (changed_by (append_steps plain (last_segment c) bytes (appended_volume plain (last_segment c) name date bytes)) c)
+    (with_volume plain (appended_volume plain (last_segment c) name date bytes))
+
+-- ---- a stop
+
+-- a stop among the writes of the volume's segments leaves what stood, with its table whole
+abbrev pub StoppedVolume : Type 0
+StoppedVolume =
+    (c : Cartridge) (plain : Plain) (name : List ℕ) (date : ℕ) (bytes : List ℕ) (left : Option Cartridge) →
+    IsReady c plain name date bytes →
+    Torn (volume_writes plain (last_segment c) bytes (appended_volume plain (last_segment c) name date bytes)) (Some c) left →
+    IsSomeAnd left (λ d. Stands d plain × IsWhole d plain.table_area)
+
+-- a stop among the writes of the table leaves its segment between its two data
+abbrev pub StoppedList : Type 0
+StoppedList =
+    (c d : Cartridge) (plain : Plain) (name : List ℕ) (date : ℕ) (bytes : List ℕ) (left : Option Cartridge) →
+    IsReady c plain name date bytes →
+    d ≡ changed_by (volume_writes plain (last_segment c) bytes (appended_volume plain (last_segment c) name date bytes)) c →
+    Torn (list_writes plain (appended_volume plain (last_segment c) name date bytes)) (Some d) left →
+    IsSomeAnd left (λ e. Between e plain.table_area
+    (appended_table plain (appended_volume plain (last_segment c) name date bytes).entry) (slot_sector (length plain.volumes)))
+
+-- a stop among all of them leaves what stood, or the plain cartridge with the volume
+abbrev pub StoppedAppend : Type 0
+StoppedAppend =
+    (c : Cartridge) (plain : Plain) (name : List ℕ) (date : ℕ) (bytes : List ℕ) (left : Option Cartridge) →
+    IsReady c plain name date bytes →
+    Torn (append_steps plain (last_segment c) bytes (appended_volume plain (last_segment c) name date bytes)) (Some c) left →
+    IsSomeAnd left (λ d. Stands d plain ⊎ Stands d (with_volume plain (appended_volume plain (last_segment c) name date bytes)))
