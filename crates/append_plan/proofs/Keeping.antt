@@ -1,0 +1,110 @@
+-- Writes to sectors of some segments change no others, done or stopped.
+use Rattle.std.proofs.Common.{◌≡◌, ℕ, suc, ◌<◌, inl, inr, List, [], ◌∷◌, ◌++◌, length, take, drop, Option, Some, All, IsSomeAnd, refl, sym, ap, ◌∙◌, subst, arith}
+use Rattle.std.proofs.lemmas.List.Elements.{All-head, All-tail}
+use Rattle.qic_base.specs.declared.tape.SectorView.{SectorView}
+use Rattle.qic_base.specs.Cartridge.{Cartridge, view_at, with_view}
+use Rattle.qic_base.specs.Step.{Step, WriteSector, FormatSegment, SetReferenced, SetProtected, Renew, Wear, Spoil, changed, written_view, worn_view}
+use Rattle.qic_base.specs.Stop.{Halfway, Torn}
+use Rattle.cartridge_spec.specs.Shape.{mask_at, usable_places, data_count}
+use Rattle.cartridge_spec.specs.Says.{with_parity}
+use Rattle.cartridge_spec.specs.Volumes.{Part, parts_of}
+use Rattle.cartridge_spec.specs.Writes.{writes_of, changed_by}
+use Rattle.cartridge_spec.proofs.Places.{AreSmall, usable_small}
+use Rattle.format_plan.proofs.Views.{view_of_other_sector}
+use Rattle.format_plan.proofs.Writing.{some_and, some_weaker}
+use Rattle.append_plan.specs.Appending.{part_writes, parts_writes}
+
+-- ---- steps
+
+-- a write to a sector of such a segment
+abbrev pub IsIn : (allowed : ℕ → Type 0) → Step → Type 0
+IsIn allowed (WriteSector segment sector bytes) = allowed segment × (sector < 32)
+IsIn allowed (FormatSegment segment) = ⊥
+IsIn allowed SetReferenced = ⊥
+IsIn allowed (SetProtected on) = ⊥
+IsIn allowed (Renew n) = ⊥
+IsIn allowed (Wear segment sector) = ⊥
+IsIn allowed (Spoil segment sector) = ⊥
+
+abbrev pub AreIn : (allowed : ℕ → Type 0) → List Step → Type 0
+AreIn allowed [] = Unit {0}
+AreIn allowed (s ∷ ss) = IsIn allowed s × AreIn allowed ss
+
+pub in_append : (allowed : ℕ → Type 0) (xs ys : List Step) → AreIn allowed xs → AreIn allowed ys → AreIn allowed (xs ++ ys)
+in_append allowed [] ys front rear = rear
+in_append allowed (x ∷ xs) ys front rear = (front.0, in_append allowed xs ys front.1 rear)
+
+-- nothing but sectors of such segments changed
+pub record IsKeptBut (allowed : ℕ → Type 0) (c d : Cartridge) : Type 0 where
+  pub info : d.info ≡ c.info
+  pub others : (s i : ℕ) → i < 32 → (allowed s → ⊥) → view_at d s i ≡ view_at c s i
+
+pub kept_begun : (allowed : ℕ → Type 0) (c : Cartridge) → IsKeptBut allowed c c
+kept_begun allowed c = record { info = refl; others = λ s i h other. refl }
+
+pub kept_then : {allowed : ℕ → Type 0} {c d e : Cartridge} → IsKeptBut allowed c d → IsKeptBut allowed d e → IsKeptBut allowed c e
+kept_then first next = record {
+  info = next.info ∙ first.info;
+  others = λ s i h other. next.others s i h other ∙ first.others s i h other;
+}
+
+view_kept : (allowed : ℕ → Type 0) (c : Cartridge) (segment sector : ℕ) (view : SectorView) → allowed segment → sector < 32 →
+    IsKeptBut allowed c (with_view c segment sector view)
+view_kept allowed c segment sector view is small = record {
+  info = refl;
+  others = λ s i h other.
+      view_of_other_sector c segment sector s i view small h (λ same e. other (subst allowed (sym same) is));
+}
+
+step_kept : (allowed : ℕ → Type 0) (s : Step) (c : Cartridge) → IsIn allowed s → IsKeptBut allowed c (changed s c)
+step_kept allowed (WriteSector segment sector bytes) c is =
+    view_kept allowed c segment sector (written_view bytes (view_at c segment sector)) is.0 is.1
+step_kept allowed (FormatSegment segment) c is = absurd is
+step_kept allowed SetReferenced c is = absurd is
+step_kept allowed (SetProtected on) c is = absurd is
+step_kept allowed (Renew n) c is = absurd is
+step_kept allowed (Wear segment sector) c is = absurd is
+step_kept allowed (Spoil segment sector) c is = absurd is
+
+step_stopped : (allowed : ℕ → Type 0) (s : Step) (c : Cartridge) (left : Option Cartridge) → IsIn allowed s → Halfway s (Some c) left →
+    IsSomeAnd left (IsKeptBut allowed c)
+step_stopped allowed (WriteSector segment sector bytes) c left is half =
+    some_and (IsKeptBut allowed c) (changed (Wear segment sector) c) left
+    (view_kept allowed c segment sector (worn_view (view_at c segment sector)) is.0 is.1) half
+step_stopped allowed (FormatSegment segment) c left is half = absurd is
+step_stopped allowed SetReferenced c left is half = absurd is
+step_stopped allowed (SetProtected on) c left is half = absurd is
+step_stopped allowed (Renew n) c left is half = absurd is
+step_stopped allowed (Wear segment sector) c left is half = absurd is
+step_stopped allowed (Spoil segment sector) c left is half = absurd is
+
+pub steps_kept : (allowed : ℕ → Type 0) (ss : List Step) (c : Cartridge) → AreIn allowed ss → IsKeptBut allowed c (changed_by ss c)
+steps_kept allowed [] c are = kept_begun allowed c
+steps_kept allowed (s ∷ ss) c are = kept_then (step_kept allowed s c are.0) (steps_kept allowed ss (changed s c) are.1)
+
+pub steps_stopped : (allowed : ℕ → Type 0) (ss : List Step) (c : Cartridge) (left : Option Cartridge) → AreIn allowed ss →
+    Torn ss (Some c) left → IsSomeAnd left (IsKeptBut allowed c)
+steps_stopped allowed [] c left are is = some_and (IsKeptBut allowed c) c left (kept_begun allowed c) is
+steps_stopped allowed (s ∷ ss) c left are (inl is) = some_and (IsKeptBut allowed c) c left (kept_begun allowed c) is
+steps_stopped allowed (s ∷ ss) c left are (inr (inl half)) = step_stopped allowed s c left are.0 half
+steps_stopped allowed (s ∷ ss) c left are (inr (inr torn)) =
+    some_weaker left (λ d. kept_then (step_kept allowed s c are.0)) (steps_stopped allowed ss (changed s c) left are.1 torn)
+
+-- ---- the writes of segments
+
+pub writes_in : (allowed : ℕ → Type 0) (segment : ℕ) (places : List ℕ) (sectors : List (List ℕ)) → allowed segment → AreSmall places →
+    AreIn allowed (writes_of segment places sectors)
+writes_in allowed segment [] sectors is small = tt
+writes_in allowed segment (place ∷ places) [] is small = tt
+writes_in allowed segment (place ∷ places) (bytes ∷ sectors) is small =
+    ((is, small 0 (omega arith)), writes_in allowed segment places sectors is (λ k h. small (suc k) (omega arith)))
+
+pub parts_in : (allowed : ℕ → Type 0) (words segments : List ℕ) (area : List (List ℕ)) → All allowed segments →
+    AreIn allowed (parts_writes words (parts_of words segments area))
+parts_in allowed words [] area are = tt
+parts_in allowed words (s ∷ ss) area are =
+    let part : Part = record { segment = s; sectors = take (data_count (mask_at words s)) area } in
+    let rest : List Part = parts_of words ss (drop (data_count (mask_at words s)) area) in
+    in_append allowed (part_writes words part) (parts_writes words rest)
+    (writes_in allowed s (usable_places (mask_at words s)) (with_parity part.sectors) (All-head allowed s ss are) (usable_small (mask_at words s)))
+    (parts_in allowed words ss (drop (data_count (mask_at words s)) area) (All-tail allowed s ss are))
