@@ -6,3 +6,4 @@ pub mod Segments
 pub mod Volume
 pub mod Slots
 pub mod TableWrites
+pub mod SlotBytes
