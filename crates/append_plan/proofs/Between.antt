@@ -76,7 +76,7 @@ one_at_most (cell ∷ cells) (suc k) each =
     let first = none_if_readable (is_unreadable cell) (readable_front cell cells (each 0 (omega arith) (λ e. omega arith))) in
     omega (arith, unreadable_count-first cell cells)
 
-begun_written : (c : Cartridge) (old : List (List ℕ)) (changed : ℕ) → IsArea old → IsBegun c old changed → Written (table_cells c) old
+pub begun_written : (c : Cartridge) (old : List (List ℕ)) (changed : ℕ) → IsArea old → IsBegun c old changed → Written (table_cells c) old
 begun_written c old changed is begun =
     block_written c old (length-block old is) (λ i held h view.
     elim (cases_eq i changed) [

@@ -7,3 +7,6 @@ pub mod Volume
 pub mod Slots
 pub mod TableWrites
 pub mod SlotBytes
+pub mod Table
+pub mod Parts
+pub mod Appended

@@ -1,7 +1,7 @@
 //! What an append leaves, done or stopped. Each law is the contract of a function that does nothing, so that other crates
 //! can rest on it; their proofs import the lemmas of this crate's `proofs`.
 
-ghost use Rattle.append_plan.specs.Laws.{BeforeReadsOld, TurnedReadsNew, StoppedVolume};
+ghost use Rattle.append_plan.specs.Laws.{BeforeReadsOld, TurnedReadsNew, AppendedTableShows, AppendedStands, StoppedVolume, StoppedList, StoppedAppend};
 
 /// A table's segment between two data is read as the old ones until the changed sector of data is new, and as the new ones
 /// from then on.
@@ -10,7 +10,17 @@ pub fn between_tables()
     ensures new { TurnedReadsNew }
 {}
 
-/// A stop among the writes of an append leaves what stood, or the plain cartridge with the new volume.
+/// After all steps of an append the table shows the new volume behind the old ones, and the cartridge stands for the plain
+/// one with that volume.
+pub fn done_append()
+    ensures shows { AppendedTableShows }
+    ensures stands { AppendedStands }
+{}
+
+/// A stop among the steps of an append leaves what stood, or the plain cartridge with the new volume. Among the writes of the
+/// volume it leaves the table whole, and among those of the table it leaves it between its two data.
 pub fn stopped_append()
     ensures volume { StoppedVolume }
+    ensures list { StoppedList }
+    ensures stands { StoppedAppend }
 {}

@@ -1,5 +1,12 @@
+use Rattle.append_plan.proofs.Appended.{stopped_list, stopped_append}
 use Rattle.append_plan.proofs.Volume.{stopped_volume}
 use Rattle.append_plan.proofs.laws.stopped_append.Goals as goal
 
-pub returns : goal.returns
-returns c = record { volume = stopped_volume }
+pub returns-clause-volume : goal.returns-clause-volume
+returns-clause-volume c = stopped_volume
+
+pub returns-clause-list : goal.returns-clause-list
+returns-clause-list c = stopped_list
+
+pub returns-clause-stands : goal.returns-clause-stands
+returns-clause-stands c = stopped_append
