@@ -15,9 +15,9 @@ use Rattle.cartridge_spec.specs.Writes.{changed_by}
 use Rattle.format_plan.proofs.Standing.{AreKept, BeginsBehind, volumes_kept}
 use Rattle.format_plan.proofs.Writing.{changed_by-append, effects-some, some_weaker}
 use Rattle.volume_table.proofs.Orders.{sound_is_faultless}
-use Rattle.append_plan.specs.Appending.{new_segments, appended_volume, appended_table, with_volume, volume_writes, list_writes}
+use Rattle.append_plan.specs.Appending.{new_segments, appended_volume, appended_table, with_volume, volume_writes, list_writes, append_steps}
 use Rattle.append_plan.specs.Between.{HoldsPart, IsWhole, IsBegun, IsTurned, Between}
-use Rattle.append_plan.specs.Laws.{IsReady, AppendedStands, StoppedList, StoppedAppend}
+use Rattle.append_plan.specs.Laws.{IsReady, AppendedStands, AppendedIsWhole, StoppedList, StoppedAppend}
 use Rattle.append_plan.specs.Room.{last_end}
 use Rattle.append_plan.specs.Slots.{slot_bytes, slot_sector}
 use Rattle.append_plan.proofs.Between.{data_read, begun_written}
@@ -163,16 +163,25 @@ stopped_list c d plain name date bytes left ready is torn =
 
 -- ---- all steps
 
+pub appended_is_whole : AppendedIsWhole
+appended_is_whole c plain name date bytes ready =
+    let volume : Volume = appended_volume plain (last_segment c) name date bytes in
+    let first : List Step = volume_writes plain (last_segment c) bytes volume in
+    let next : List Step = list_writes plain volume in
+    subst (λ (e : Cartridge). IsWhole e (appended_table plain volume.entry)) (sym (changed_by-append first next c))
+    (table_written (changed_by first c) plain.table_area (appended_table plain volume.entry) (slot_sector (length plain.volumes))
+    (changed_small c plain name date bytes ready) (new_differs c plain name date bytes ready) (whole_then c plain name date bytes ready))
+
 pub appended_stands : AppendedStands
 appended_stands c plain name date bytes ready =
     let volume : Volume = appended_volume plain (last_segment c) name date bytes in
     let first : List Step = volume_writes plain (last_segment c) bytes volume in
     let next : List Step = list_writes plain volume in
     let d : Cartridge = changed_by first c in
+    let all : changed_by (append_steps plain (last_segment c) bytes volume) c ≡ changed_by next d = changed_by-append first next c in
     let whole : IsWhole (changed_by next d) (appended_table plain volume.entry) =
-    table_written d plain.table_area (appended_table plain volume.entry) (slot_sector (length plain.volumes))
-    (changed_small c plain name date bytes ready) (new_differs c plain name date bytes ready) (whole_then c plain name date bytes ready) in
-    subst (λ (e : Cartridge). Stands e (with_volume plain volume)) (sym (changed_by-append first next c))
+    subst (λ (e : Cartridge). IsWhole e (appended_table plain volume.entry)) all (appended_is_whole c plain name date bytes ready) in
+    subst (λ (e : Cartridge). Stands e (with_volume plain volume)) (sym all)
     (stands_new c (changed_by next d) plain name date bytes ready
     (steps_kept OfTable next d (list_in plain volume (ready_count c plain name date bytes ready)))
     (λ i h. whole i (omega arith)))

@@ -13,22 +13,16 @@ use Rattle.cartridge_spec.proofs.Places.{AreSmall, usable_small}
 use Rattle.format_plan.proofs.Views.{view_of_other_sector}
 use Rattle.format_plan.proofs.Writing.{some_and, some_weaker}
 use Rattle.append_plan.specs.Appending.{part_writes, parts_writes}
+use Rattle.append_plan.specs.Writes.{IsWrite, AreWrites}
 
 -- ---- steps
 
 -- a write to a sector of such a segment
 abbrev pub IsIn : (allowed : ℕ → Type 0) → Step → Type 0
-IsIn allowed (WriteSector segment sector bytes) = allowed segment × (sector < 32)
-IsIn allowed (FormatSegment segment) = ⊥
-IsIn allowed SetReferenced = ⊥
-IsIn allowed (SetProtected on) = ⊥
-IsIn allowed (Renew n) = ⊥
-IsIn allowed (Wear segment sector) = ⊥
-IsIn allowed (Spoil segment sector) = ⊥
+IsIn allowed s = IsWrite (λ segment sector bytes. allowed segment × (sector < 32)) s
 
 abbrev pub AreIn : (allowed : ℕ → Type 0) → List Step → Type 0
-AreIn allowed [] = Unit {0}
-AreIn allowed (s ∷ ss) = IsIn allowed s × AreIn allowed ss
+AreIn allowed ss = AreWrites (λ segment sector bytes. allowed segment × (sector < 32)) ss
 
 pub in_append : (allowed : ℕ → Type 0) (xs ys : List Step) → AreIn allowed xs → AreIn allowed ys → AreIn allowed (xs ++ ys)
 in_append allowed [] ys front rear = rear

@@ -10,3 +10,4 @@ pub mod SlotBytes
 pub mod Table
 pub mod Parts
 pub mod Appended
+pub mod Whole

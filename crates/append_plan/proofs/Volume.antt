@@ -1,17 +1,20 @@
 -- A stop among the writes of a new volume's segments.
-use Rattle.std.proofs.Common.{◌≡◌, ℕ, ◌<◌, ◌≤◌, inl, inr, List, length, map, All, Option, Some, IsSomeAnd, sym, ap, ◌∙◌, subst, arith}
+use Rattle.std.proofs.Common.{◌≡◌, ◌⊎◌, ℕ, ◌<◌, ◌≤◌, inl, inr, List, length, map, All, Option, Some, IsSomeAnd, sym, ap, ◌∙◌, subst, arith}
 use Rattle.std.proofs.lemmas.List.Elements.{All-weaker}
-use Rattle.qic_base.specs.Cartridge.{Cartridge}
+use Rattle.qic_base.specs.declared.tape.SectorView.{SectorView}
+use Rattle.qic_base.specs.Cartridge.{Cartridge, view_at}
 use Rattle.qic_base.specs.Stop.{Torn}
-use Rattle.cartridge_spec.specs.HeaderAndTable.{last_segment}
+use Rattle.cartridge_spec.specs.HeaderAndTable.{table_cells, last_segment}
+use Rattle.cartridge_spec.specs.Says.{whole_mask, Written, ReadsAll}
 use Rattle.cartridge_spec.specs.Table.{LieBehind}
 use Rattle.cartridge_spec.specs.Volumes.{Plain, Volume, VolumeStands, Stands, carrying, entries_of}
 use Rattle.cartridge_spec.specs.Writes.{changed_by}
+use Rattle.format_plan.proofs.Standing.{same_cells}
 use Rattle.format_plan.proofs.Writing.{some_weaker}
 use Rattle.volume_table.proofs.Orders.{faultless_is_sound}
 use Rattle.append_plan.specs.Appending.{new_segments, appended_volume, volume_writes}
 use Rattle.append_plan.specs.Between.{IsWhole}
-use Rattle.append_plan.specs.Laws.{IsReady, StoppedVolume}
+use Rattle.append_plan.specs.Laws.{IsReady, FreeWritesStand, StoppedVolume}
 use Rattle.append_plan.specs.Room.{last_end}
 use Rattle.append_plan.proofs.Between.{data_read}
 use Rattle.append_plan.proofs.Keeping.{AreIn, IsKeptBut, parts_in, steps_kept, steps_stopped}
@@ -69,25 +72,31 @@ old_stand c d plain stood kept =
     volumes_kept_to c d plain.words 2 (last_end (entries_of plain)) plain.volumes kept (old_volumes c plain stood) stood.volumes
 
 
-stands_still : (c d : Cartridge) (plain : Plain) → Stands c plain → IsWhole c plain.table_area → IsKeptBut (Behind plain) c d →
-    Stands d plain × IsWhole d plain.table_area
-stands_still c d plain stood whole kept =
+-- a cartridge of which nothing but sectors behind the volumes changed
+stands_still : (c d : Cartridge) (plain : Plain) → Stands c plain → IsKeptBut (Behind plain) c d → Stands d plain
+stands_still c d plain stood kept =
     let least : 2 ≤ last_end (entries_of plain) = last_end_least c plain stood in
-    let is_whole : IsWhole d plain.table_area = whole_kept c d plain.table_area (kept_to c d plain 2 least kept) whole in (
-      stands_with c d plain plain.table_area plain.volumes stood kept.info (kept_to c d plain 1 (omega arith) kept) (record {
-        area = stood.whole.table_area;
-        areas = stood.whole.areas;
-        sound = stood.sound_table;
-        shown = stood.shown;
-        stand = old_stand c d plain stood (kept_to c d plain (last_end (entries_of plain)) (omega arith) kept);
-        reads = inr (data_read d plain.table_area stood.whole.table_area (λ i h. is_whole i (omega arith)));
-      }),
-      is_whole,
-    )
+    let same : table_cells d ≡ table_cells c = same_cells c d 2 whole_mask (λ i h. kept_to c d plain 2 least kept 2 i (omega arith) h) in
+    stands_with c d plain plain.table_area plain.volumes stood kept.info (kept_to c d plain 1 (omega arith) kept) (record {
+      area = stood.whole.table_area;
+      areas = stood.whole.areas;
+      sound = stood.sound_table;
+      shown = stood.shown;
+      stand = old_stand c d plain stood (kept_to c d plain (last_end (entries_of plain)) (omega arith) kept);
+      reads = subst (λ (cells : List SectorView). Written cells plain.table_area ⊎ ReadsAll cells plain.table_area) (sym same) stood.table;
+    })
+
+pub free_writes_stand : FreeWritesStand
+free_writes_stand c plain steps left stood free torn =
+    some_weaker left (λ d kept. (
+      stands_still c d plain stood kept,
+      λ i h. kept_to c d plain 2 (last_end_least c plain stood) kept 2 i (omega arith) h,
+    ))
+    (steps_stopped (Behind plain) steps c left free torn)
 
 pub stopped_volume : StoppedVolume
 stopped_volume c plain name date bytes left ready torn =
     let volume : Volume = appended_volume plain (last_segment c) name date bytes in
-    some_weaker left (λ d. stands_still c d plain ready.stands ready.whole)
-    (steps_stopped (Behind plain) (volume_writes plain (last_segment c) bytes volume) c left
+    some_weaker left (λ d known. (known.0, λ i h. known.1 i h ∙ ready.whole i h))
+    (free_writes_stand c plain (volume_writes plain (last_segment c) bytes volume) left ready.stands
     (volume_writes_behind c plain name date bytes volume ready) torn)

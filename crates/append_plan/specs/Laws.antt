@@ -1,6 +1,7 @@
 -- What an append leaves, done or stopped, as facts.
 use Rattle.std.specs.Prelude.{◌≡◌, ◌≢◌, ◌⊎◌, ℕ, ◌^◌, ◌<◌, true, List, length, All, Option, Some, IsSomeAnd}
 use Rattle.qic_base.specs.Cartridge.{Cartridge, IsCartridge, view_at}
+use Rattle.qic_base.specs.Step.{Step}
 use Rattle.qic_base.specs.Stop.{Torn}
 use Rattle.cartridge_spec.specs.HeaderAndTable.{IsArea, TableIs, last_segment}
 use Rattle.cartridge_spec.specs.Table.{Entry, Shows, IsSoundList, entry_in, slot}
@@ -9,8 +10,9 @@ use Rattle.cartridge_spec.specs.Writes.{changed_by}
 use Rattle.format_plan.specs.Fresh.{IsLabel}
 use Rattle.append_plan.specs.Appending.{appended_volume, appended_table, with_volume, volume_writes, list_writes, append_steps}
 use Rattle.append_plan.specs.Between.{IsWhole, IsBegun, IsTurned, Between}
-use Rattle.append_plan.specs.Room.{has_room}
+use Rattle.append_plan.specs.Room.{has_room, last_end}
 use Rattle.append_plan.specs.Slots.{slot_sector}
+use Rattle.append_plan.specs.Writes.{AreWrites, IsFree}
 
 -- ---- before an append
 
@@ -56,7 +58,27 @@ AppendedStands =
     Stands (changed_by (append_steps plain (last_segment c) bytes (appended_volume plain (last_segment c) name date bytes)) c)
     (with_volume plain (appended_volume plain (last_segment c) name date bytes))
 
+-- the table's segment is whole, so that one may append again
+abbrev pub AppendedIsWhole : Type 0
+AppendedIsWhole =
+    (c : Cartridge) (plain : Plain) (name : List ℕ) (date : ℕ) (bytes : List ℕ) → IsReady c plain name date bytes →
+    IsWhole (changed_by (append_steps plain (last_segment c) bytes (appended_volume plain (last_segment c) name date bytes)) c)
+    (appended_table plain (appended_volume plain (last_segment c) name date bytes).entry)
+
+-- what is left is a cartridge
+abbrev pub AppendedIsCartridge : Type 0
+AppendedIsCartridge =
+    (c : Cartridge) (plain : Plain) (name : List ℕ) (date : ℕ) (bytes : List ℕ) → IsReady c plain name date bytes →
+    IsCartridge (changed_by (append_steps plain (last_segment c) bytes (appended_volume plain (last_segment c) name date bytes)) c)
+
 -- ---- a stop
+
+-- whatever is written behind the last volume, stopped or not, leaves what stood, and the table's segment as it was
+abbrev pub FreeWritesStand : Type 0
+FreeWritesStand =
+    (c : Cartridge) (plain : Plain) (steps : List Step) (left : Option Cartridge) →
+    Stands c plain → AreWrites (IsFree (last_end (entries_of plain))) steps → Torn steps (Some c) left →
+    IsSomeAnd left (λ d. Stands d plain × ((i : ℕ) → i < 32 → view_at d 2 i ≡ view_at c 2 i))
 
 -- a stop among the writes of the volume's segments leaves what stood, with its table whole
 abbrev pub StoppedVolume : Type 0
@@ -83,3 +105,11 @@ StoppedAppend =
     IsReady c plain name date bytes →
     Torn (append_steps plain (last_segment c) bytes (appended_volume plain (last_segment c) name date bytes)) (Some c) left →
     IsSomeAnd left (λ d. Stands d plain ⊎ Stands d (with_volume plain (appended_volume plain (last_segment c) name date bytes)))
+
+-- and it is a cartridge
+abbrev pub StoppedAppendIsCartridge : Type 0
+StoppedAppendIsCartridge =
+    (c : Cartridge) (plain : Plain) (name : List ℕ) (date : ℕ) (bytes : List ℕ) (left : Option Cartridge) →
+    IsReady c plain name date bytes →
+    Torn (append_steps plain (last_segment c) bytes (appended_volume plain (last_segment c) name date bytes)) (Some c) left →
+    IsSomeAnd left IsCartridge

@@ -4,3 +4,4 @@ pub mod Laws
 pub mod NewVolume
 pub mod Room
 pub mod Slots
+pub mod Writes

@@ -1,7 +1,7 @@
 //! What an append leaves, done or stopped. Each law is the contract of a function that does nothing, so that other crates
 //! can rest on it; their proofs import the lemmas of this crate's `proofs`.
 
-ghost use Rattle.append_plan.specs.Laws.{BeforeReadsOld, TurnedReadsNew, AppendedTableShows, AppendedStands, StoppedVolume, StoppedList, StoppedAppend};
+ghost use Rattle.append_plan.specs.Laws.{BeforeReadsOld, TurnedReadsNew, AppendedTableShows, AppendedStands, AppendedIsWhole, AppendedIsCartridge, FreeWritesStand, StoppedVolume, StoppedList, StoppedAppend, StoppedAppendIsCartridge};
 
 /// A table's segment between two data is read as the old ones until the changed sector of data is new, and as the new ones
 /// from then on.
@@ -15,6 +15,13 @@ pub fn between_tables()
 pub fn done_append()
     ensures shows { AppendedTableShows }
     ensures stands { AppendedStands }
+    ensures table { AppendedIsWhole }
+    ensures whole { AppendedIsCartridge }
+{}
+
+/// Whatever is written behind the last volume, stopped or not, leaves what stood.
+pub fn free_writes()
+    ensures { FreeWritesStand }
 {}
 
 /// A stop among the steps of an append leaves what stood, or the plain cartridge with the new volume. Among the writes of the
@@ -23,4 +30,5 @@ pub fn stopped_append()
     ensures volume { StoppedVolume }
     ensures list { StoppedList }
     ensures stands { StoppedAppend }
+    ensures whole { StoppedAppendIsCartridge }
 {}

@@ -1,5 +1,6 @@
-use Rattle.append_plan.proofs.Appended.{appended_stands}
+use Rattle.append_plan.proofs.Appended.{appended_stands, appended_is_whole}
 use Rattle.append_plan.proofs.Table.{appended_table_shows}
+use Rattle.append_plan.proofs.Whole.{appended_is_cartridge}
 use Rattle.append_plan.proofs.laws.done_append.Goals as goal
 
 pub returns-clause-shows : goal.returns-clause-shows
@@ -7,3 +8,9 @@ returns-clause-shows c = appended_table_shows
 
 pub returns-clause-stands : goal.returns-clause-stands
 returns-clause-stands c = appended_stands
+
+pub returns-clause-table : goal.returns-clause-table
+returns-clause-table c = appended_is_whole
+
+pub returns-clause-whole : goal.returns-clause-whole
+returns-clause-whole c = appended_is_cartridge

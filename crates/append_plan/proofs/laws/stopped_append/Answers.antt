@@ -1,5 +1,6 @@
 use Rattle.append_plan.proofs.Appended.{stopped_list, stopped_append}
 use Rattle.append_plan.proofs.Volume.{stopped_volume}
+use Rattle.append_plan.proofs.Whole.{stopped_append_is_cartridge}
 use Rattle.append_plan.proofs.laws.stopped_append.Goals as goal
 
 pub returns-clause-volume : goal.returns-clause-volume
@@ -10,3 +11,6 @@ returns-clause-list c = stopped_list
 
 pub returns-clause-stands : goal.returns-clause-stands
 returns-clause-stands c = stopped_append
+
+pub returns-clause-whole : goal.returns-clause-whole
+returns-clause-whole c = stopped_append_is_cartridge
