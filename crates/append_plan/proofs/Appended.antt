@@ -32,7 +32,7 @@ use Rattle.append_plan.proofs.Volume.{Behind, old_volumes, last_end_least, ready
 
 -- ---- the new volume
 
-segments_are : (words : List ℕ) (from last : ℕ) (segments : List ℕ) → AreTaken words from last segments →
+pub segments_are : (words : List ℕ) (from last : ℕ) (segments : List ℕ) → AreTaken words from last segments →
     carrying words (slice_index segments 0) (slice_index segments (length segments - 1)) ≡ segments
 segments_are words from last segments taken =
     ap (λ (start : ℕ). carrying words start (slice_index segments (length segments - 1))) taken.starts

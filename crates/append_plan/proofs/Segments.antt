@@ -156,7 +156,7 @@ begins test (suc k) from xs is some =
 abbrev pub carries : List ℕ → ℕ → Bool
 carries words s = nat_le 4 (usable_count (mask_at words s))
 
-carrying_are : (words : List ℕ) (start end : ℕ) → carrying words start end ≡ places_that (carries words) start (end + 1 - start)
+pub carrying_are : (words : List ℕ) (start end : ℕ) → carrying words start end ≡ places_that (carries words) start (end + 1 - start)
 unfolding places_that
 carrying_are words start end = refl
 
@@ -175,7 +175,7 @@ carrying_from words start end =
 -- ---- how much they carry
 
 -- what one of them carries, by whether it carries data
-carried : (b : Bool) (n : ℕ) → b ≡ false → cond b n 0 ≤ 0
+pub carried : (b : Bool) (n : ℕ) → b ≡ false → cond b n 0 ≤ 0
 carried true n is = absurd (cc)
 carried false n is = omega arith
 

@@ -1,15 +1,18 @@
 -- What an append leaves, done or stopped, as facts.
-use Rattle.std.specs.Prelude.{◌≡◌, ◌≢◌, ◌⊎◌, ℕ, ◌^◌, ◌<◌, true, List, length, All, Option, Some, IsSomeAnd}
+use Rattle.std.specs.Prelude.{◌≡◌, ◌≢◌, ◌⊎◌, ℕ, ◌^◌, ◌<◌, true, false, List, length, All, Option, Some, IsSomeAnd}
 use Rattle.qic_base.specs.Cartridge.{Cartridge, IsCartridge, view_at}
 use Rattle.qic_base.specs.Step.{Step}
 use Rattle.qic_base.specs.Stop.{Torn}
 use Rattle.cartridge_spec.specs.HeaderAndTable.{IsArea, TableIs, last_segment}
 use Rattle.cartridge_spec.specs.Table.{Entry, Shows, IsSoundList, entry_in, slot}
-use Rattle.cartridge_spec.specs.Volumes.{Plain, Volume, Stands, entries_of}
+use Rattle.cartridge_spec.specs.Mounting.{settled}
+use Rattle.cartridge_spec.specs.Volumes.{Plain, Volume, Stands, entries_of, volume_length}
 use Rattle.cartridge_spec.specs.Writes.{changed_by}
 use Rattle.format_plan.specs.Fresh.{IsLabel}
+use Rattle.mount_laws.specs.Laws.{IsTableLive}
 use Rattle.append_plan.specs.Appending.{appended_volume, appended_table, with_volume, volume_writes, list_writes, append_steps}
 use Rattle.append_plan.specs.Between.{IsWhole, IsBegun, IsTurned, Between}
+use Rattle.append_plan.specs.NewVolume.{volume_bytes}
 use Rattle.append_plan.specs.Room.{has_room, last_end}
 use Rattle.append_plan.specs.Slots.{slot_sector}
 use Rattle.append_plan.specs.Writes.{AreWrites, IsFree}
@@ -26,6 +29,15 @@ pub record IsReady (c : Cartridge) (plain : Plain) (name : List ℕ) (date : ℕ
   pub label : IsLabel name
   pub word : date < 2 ^ 32
   pub content : All (λ b. b < 256) bytes
+
+-- a settled cartridge is so, where each sector of its table's segment takes what is written to it
+abbrev pub SettledIsReady : Type 0
+SettledIsReady =
+    (c : Cartridge) (plain : Plain) (name : List ℕ) (date : ℕ) (bytes : List ℕ) →
+    IsCartridge c → Stands c plain → TableIs c plain.table_area → c.info.protected ≡ false → IsTableLive c →
+    has_room plain.words (entries_of plain) (last_segment c) (length bytes) ≡ true →
+    IsLabel name → date < 2 ^ 32 → All (λ b. b < 256) bytes →
+    IsReady (settled plain.table_area c) plain name date bytes
 
 -- ---- a state between two tables
 
@@ -48,6 +60,15 @@ AppendedTableShows =
     × Shows (appended_table plain (appended_volume plain (last_segment c) name date bytes).entry)
     (entries_of (with_volume plain (appended_volume plain (last_segment c) name date bytes)))
     × IsSoundList (last_segment c) (entries_of (with_volume plain (appended_volume plain (last_segment c) name date bytes)))
+
+-- ---- the new volume
+
+-- its length is the number of the bytes that were appended, and its bytes are those
+abbrev pub AppendedBytes : Type 0
+AppendedBytes =
+    (c : Cartridge) (plain : Plain) (name : List ℕ) (date : ℕ) (bytes : List ℕ) → IsReady c plain name date bytes →
+    (volume_length plain.words (appended_volume plain (last_segment c) name date bytes).entry ≡ length bytes)
+    × (volume_bytes plain.words (appended_volume plain (last_segment c) name date bytes) ≡ bytes)
 
 -- ---- all steps done
 

@@ -1,7 +1,7 @@
 -- A new volume: its entry, and its bytes in the sectors of its segments (this project's profile).
 use Rattle.std.specs.Prelude.{ℕ, zero, suc, ◌-◌, List, [], ◌∷◌, ◌++◌, length, take, drop, replicate, slice_index}
 use Rattle.cartridge_spec.specs.Table.{Entry}
-use Rattle.cartridge_spec.specs.Volumes.{Volume, sectors_in}
+use Rattle.cartridge_spec.specs.Volumes.{Volume, sectors_in, volume_length}
 
 -- bytes of one sector, with zero bytes behind them
 abbrev pub filled_up : List ℕ → List ℕ
@@ -32,3 +32,14 @@ new_volume words segments name date bytes = record {
   entry = new_entry segments name date (length bytes);
   area = in_sectors (sectors_in words segments) bytes;
 }
+
+-- ---- the bytes of a volume
+
+-- the bytes of some sectors, one after the other
+abbrev pub bytes_in : List (List ℕ) → List ℕ
+bytes_in [] = []
+bytes_in (sector ∷ sectors) = sector ++ bytes_in sectors
+
+-- the first ones of its area, as many as its length says
+abbrev pub volume_bytes : (words : List ℕ) → Volume → List ℕ
+volume_bytes words volume = take (volume_length words volume.entry) (bytes_in volume.area)

@@ -1,13 +1,24 @@
 //! What an append leaves, done or stopped. Each law is the contract of a function that does nothing, so that other crates
 //! can rest on it; their proofs import the lemmas of this crate's `proofs`.
 
-ghost use Rattle.append_plan.specs.Laws.{BeforeReadsOld, TurnedReadsNew, AppendedTableShows, AppendedStands, AppendedIsWhole, AppendedIsCartridge, FreeWritesStand, StoppedVolume, StoppedList, StoppedAppend, StoppedAppendIsCartridge};
+ghost use Rattle.append_plan.specs.Laws.{SettledIsReady, BeforeReadsOld, TurnedReadsNew, AppendedTableShows, AppendedBytes, AppendedStands, AppendedIsWhole, AppendedIsCartridge, FreeWritesStand, StoppedVolume, StoppedList, StoppedAppend, StoppedAppendIsCartridge};
+
+/// A cartridge that was settled is ready for an append that has room, where each sector of its table's segment takes what is
+/// written to it.
+pub fn settled_is_ready()
+    ensures { SettledIsReady }
+{}
 
 /// A table's segment between two data is read as the old ones until the changed sector of data is new, and as the new ones
 /// from then on.
 pub fn between_tables()
     ensures old { BeforeReadsOld }
     ensures new { TurnedReadsNew }
+{}
+
+/// The new volume has just the bytes that were appended.
+pub fn appended_bytes()
+    ensures { AppendedBytes }
 {}
 
 /// After all steps of an append the table shows the new volume behind the old ones, and the cartridge stands for the plain
