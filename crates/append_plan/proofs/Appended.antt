@@ -6,7 +6,7 @@ use Rattle.qic_base.specs.Cartridge.{Cartridge, IsSector, view_at}
 use Rattle.qic_base.specs.Step.{Step}
 use Rattle.qic_base.specs.Stop.{Torn}
 use Rattle.qic_base.proofs.Steps.{Torn-append}
-use Rattle.cartridge_spec.specs.HeaderAndTable.{IsArea, table_cells, last_segment}
+use Rattle.cartridge_spec.specs.HeaderAndTable.{IsArea, TableIs, table_cells, last_segment}
 use Rattle.cartridge_spec.specs.Shape.{Carries, mask_at}
 use Rattle.cartridge_spec.specs.Says.{Written, ReadsAll}
 use Rattle.cartridge_spec.specs.Table.{Entry}
@@ -20,7 +20,7 @@ use Rattle.append_plan.specs.Between.{HoldsPart, IsWhole, IsBegun, IsTurned, Bet
 use Rattle.append_plan.specs.Laws.{IsReady, AppendedStands, AppendedIsWhole, StoppedList, StoppedAppend}
 use Rattle.append_plan.specs.Room.{last_end}
 use Rattle.append_plan.specs.Slots.{slot_bytes, slot_sector}
-use Rattle.append_plan.proofs.Between.{data_read, begun_written}
+use Rattle.append_plan.proofs.Between.{data_read, begun_written, before_reads_old, turned_reads_new}
 use Rattle.append_plan.proofs.Keeping.{AreIn, IsKeptBut, steps_kept, steps_stopped}
 use Rattle.append_plan.proofs.Orders.{LiesWithin}
 use Rattle.append_plan.proofs.Parts.{parts_written, length-in_sectors, are_sectors}
@@ -134,7 +134,7 @@ stands_new c e plain name date bytes ready next holds =
 
 -- ---- the four writes
 
-list_in : (plain : Plain) (volume : Volume) → length plain.volumes < 232 → AreIn OfTable (list_writes plain volume)
+pub list_in : (plain : Plain) (volume : Volume) → length plain.volumes < 232 → AreIn OfTable (list_writes plain volume)
 list_in plain volume few = ((refl, omega arith), ((refl, omega arith), ((refl, omega arith), ((refl, omega arith), tt))))
 
 whole_then : (c : Cartridge) (plain : Plain) (name : List ℕ) (date : ℕ) (bytes : List ℕ) → IsReady c plain name date bytes →
@@ -186,15 +186,22 @@ appended_stands c plain name date bytes ready =
     (steps_kept OfTable next d (list_in plain volume (ready_count c plain name date bytes ready)))
     (λ i h. whole i (omega arith)))
 
-some_both : (P Q : Cartridge → Type 0) (left : Option Cartridge) → IsSomeAnd left P → IsSomeAnd left Q → IsSomeAnd left (λ d. P d × Q d)
+pub some_both : (P Q : Cartridge → Type 0) (left : Option Cartridge) → IsSomeAnd left P → IsSomeAnd left Q → IsSomeAnd left (λ d. P d × Q d)
 some_both P Q None p q = absurd p
 some_both P Q (Some d) p q = (p, q)
+
+-- ---- a stop among them
+
+-- it stands for a plain one, and its table says that one's data
+pub record IsReadAs (d : Cartridge) (plain : Plain) : Type 0 where
+  pub stands : Stands d plain
+  pub table : TableIs d plain.table_area
 
 -- what stands while the table is written
 by_between : (c e : Cartridge) (plain : Plain) (name : List ℕ) (date : ℕ) (bytes : List ℕ) → IsReady c plain name date bytes →
     IsKeptBut OfTable (changed_by (volume_writes plain (last_segment c) bytes (appended_volume plain (last_segment c) name date bytes)) c) e →
     Between e plain.table_area (appended_table plain (appended_volume plain (last_segment c) name date bytes).entry) (slot_sector (length plain.volumes)) →
-    Stands e plain ⊎ Stands e (with_volume plain (appended_volume plain (last_segment c) name date bytes))
+    IsReadAs e plain ⊎ IsReadAs e (with_volume plain (appended_volume plain (last_segment c) name date bytes))
 by_between c e plain name date bytes ready next between = by_state between
   where
     volume : Volume
@@ -205,26 +212,49 @@ by_between c e plain name date bytes ready next between = by_state between
         steps_kept (Behind plain) (volume_writes plain (last_segment c) bytes volume) c
         (volume_writes_behind c plain name date bytes volume ready)
 
-    old : Written (table_cells e) plain.table_area ⊎ ReadsAll (table_cells e) plain.table_area → Stands e plain
-    old reads = stands_old c (changed_by (volume_writes plain (last_segment c) bytes volume) c) e plain ready.stands first next reads
+    small : slot_sector (length plain.volumes) < 29
+    small = changed_small c plain name date bytes ready
+
+    area : IsArea plain.table_area
+    area = ready.stands.whole.table_area
+
+    old : Written (table_cells e) plain.table_area ⊎ ReadsAll (table_cells e) plain.table_area →
+        IsWhole e plain.table_area ⊎ IsBegun e plain.table_area (slot_sector (length plain.volumes)) → IsReadAs e plain
+    old reads state = record {
+      stands = stands_old c (changed_by (volume_writes plain (last_segment c) bytes volume) c) e plain ready.stands first next reads;
+      table = before_reads_old e plain.table_area (slot_sector (length plain.volumes)) area small state;
+    }
 
     by_state : Between e plain.table_area (appended_table plain volume.entry) (slot_sector (length plain.volumes)) →
-        Stands e plain ⊎ Stands e (with_volume plain volume)
-    by_state (inl whole) = inl (old (inr (data_read e plain.table_area ready.stands.whole.table_area (λ i h. whole i (omega arith)))))
+        IsReadAs e plain ⊎ IsReadAs e (with_volume plain volume)
+    by_state (inl whole) = inl (old (inr (data_read e plain.table_area area (λ i h. whole i (omega arith)))) (inl whole))
     by_state (inr (inl begun)) =
-        inl (old (inl (begun_written e plain.table_area (slot_sector (length plain.volumes)) ready.stands.whole.table_area begun)))
+        inl (old (inl (begun_written e plain.table_area (slot_sector (length plain.volumes)) area begun)) (inr begun))
     by_state (inr (inr turned)) =
         let from : 29 ≤ turned.turn = turned.from in
-        inr (stands_new c e plain name date bytes ready next (λ i h. turned.before i (omega arith)))
+        inr (record {
+          stands = stands_new c e plain name date bytes ready next (λ i h. turned.before i (omega arith));
+          table = turned_reads_new e plain.table_area (appended_table plain volume.entry)
+              (appended_table_shows c plain name date bytes ready).0 turned;
+        })
 
-pub stopped_append : StoppedAppend
-stopped_append c plain name date bytes left ready torn =
+pub stopped_reads : (c : Cartridge) (plain : Plain) (name : List ℕ) (date : ℕ) (bytes : List ℕ) (left : Option Cartridge) →
+    IsReady c plain name date bytes →
+    Torn (append_steps plain (last_segment c) bytes (appended_volume plain (last_segment c) name date bytes)) (Some c) left →
+    IsSomeAnd left (λ d. IsReadAs d plain ⊎ IsReadAs d (with_volume plain (appended_volume plain (last_segment c) name date bytes)))
+stopped_reads c plain name date bytes left ready torn =
     let volume : Volume = appended_volume plain (last_segment c) name date bytes in
     let first : List Step = volume_writes plain (last_segment c) bytes volume in
     let next : List Step = list_writes plain volume in
     let d : Cartridge = changed_by first c in
     elim (Torn-append first next (Some c) left torn) [
-      | inl front ↦ some_weaker left (λ e stood. inl stood.0) (stopped_volume c plain name date bytes left ready front)
+      | inl front ↦
+          some_weaker left (λ e stood. inl (record {
+            stands = stood.0;
+            table = before_reads_old e plain.table_area (slot_sector (length plain.volumes)) ready.stands.whole.table_area
+                (changed_small c plain name date bytes ready) (inl stood.1);
+          }))
+          (stopped_volume c plain name date bytes left ready front)
       | inr behind ↦
           let rear : Torn next (Some d) left = subst (λ (held : Option Cartridge). Torn next held left) (effects-some first c) behind in
           some_weaker left (λ e known. by_between c e plain name date bytes ready known.0 known.1)
@@ -233,3 +263,11 @@ stopped_append c plain name date bytes left ready torn =
           (steps_stopped OfTable next d left (list_in plain volume (ready_count c plain name date bytes ready)) rear)
           (stopped_list c d plain name date bytes left ready refl rear))
     ]
+
+pub either_of : {A B C D : Type 0} → (A → C) → (B → D) → A ⊎ B → C ⊎ D
+either_of f g (inl a) = inl (f a)
+either_of f g (inr b) = inr (g b)
+
+pub stopped_append : StoppedAppend
+stopped_append c plain name date bytes left ready torn =
+    some_weaker left (λ d known. either_of (λ reads. reads.stands) (λ reads. reads.stands) known) (stopped_reads c plain name date bytes left ready torn)

@@ -2,6 +2,7 @@ pub mod Appended
 pub mod Between
 pub mod Bytes
 pub mod Keeping
+pub mod Mounted
 pub mod Orders
 pub mod Parts
 pub mod Ready

@@ -90,13 +90,13 @@ pub free_writes_stand : FreeWritesStand
 free_writes_stand c plain steps left stood free torn =
     some_weaker left (λ d kept. (
       stands_still c d plain stood kept,
-      λ i h. kept_to c d plain 2 (last_end_least c plain stood) kept 2 i (omega arith) h,
+      record { info = kept.info; sectors = kept_to c d plain (last_end (entries_of plain)) (omega arith) kept },
     ))
     (steps_stopped (Behind plain) steps c left free torn)
 
 pub stopped_volume : StoppedVolume
 stopped_volume c plain name date bytes left ready torn =
     let volume : Volume = appended_volume plain (last_segment c) name date bytes in
-    some_weaker left (λ d known. (known.0, λ i h. known.1 i h ∙ ready.whole i h))
+    some_weaker left (λ d known. (known.0, λ i h. known.1.sectors 2 i (last_end_least c plain ready.stands) h ∙ ready.whole i h))
     (free_writes_stand c plain (volume_writes plain (last_segment c) bytes volume) left ready.stands
     (volume_writes_behind c plain name date bytes volume ready) torn)

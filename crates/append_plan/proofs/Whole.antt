@@ -21,20 +21,16 @@ use Rattle.cartridge_spec.proofs.Sayings.{cartridge_sectors, code_sectors}
 use Rattle.cartridge_spec.proofs.Segments.{view_of_cartridge}
 use Rattle.format_plan.proofs.Writing.{effects-some, some_and}
 use Rattle.append_plan.specs.Appending.{part_writes, parts_writes, new_segments, appended_volume, appended_table, volume_writes, list_writes, append_steps}
-use Rattle.append_plan.specs.Laws.{IsReady, AppendedIsCartridge, StoppedAppendIsCartridge}
+use Rattle.append_plan.specs.Laws.{IsReady, AppendedIsCartridge, StoppedAppendIsCartridge, SectorWritesAreCartridge}
 use Rattle.append_plan.specs.Slots.{slot_sector}
-use Rattle.append_plan.specs.Writes.{IsWrite, AreWrites}
+use Rattle.append_plan.specs.Writes.{IsWrite, AreWrites, IsOfSector}
 use Rattle.append_plan.proofs.Between.{length-block}
 use Rattle.append_plan.proofs.Parts.{are_sectors}
 use Rattle.append_plan.proofs.Table.{appended_table_shows, ready_count}
 
 -- ---- writes of whole sectors
 
--- a write of 1,024 bytes
-abbrev OfSector : (segment sector : ℕ) → List ℕ → Type 0
-OfSector segment sector bytes = IsSector bytes
-
-writes_more : (xs ys : List Step) → AreWrites OfSector xs → AreWrites OfSector ys → AreWrites OfSector (xs ++ ys)
+writes_more : (xs ys : List Step) → AreWrites IsOfSector xs → AreWrites IsOfSector ys → AreWrites IsOfSector (xs ++ ys)
 writes_more [] ys front rear = rear
 writes_more (x ∷ xs) ys front rear = (front.0, writes_more xs ys front.1 rear)
 
@@ -57,7 +53,7 @@ worn_is_view Defect good = tt
 worn_is_view Lost good = tt
 worn_is_view (Holds old) good = tt
 
-step_whole : (s : Step) (c : Cartridge) → IsWrite OfSector s → IsCartridge c → IsCartridge (changed s c)
+step_whole : (s : Step) (c : Cartridge) → IsWrite IsOfSector s → IsCartridge c → IsCartridge (changed s c)
 step_whole (WriteSector segment sector bytes) c is whole =
     with_view_whole c segment sector (written_view bytes (view_at c segment sector)) whole
     (written_is_view bytes (view_at c segment sector) is (view_of_cartridge c segment sector whole))
@@ -68,7 +64,7 @@ step_whole (Renew n) c is whole = absurd is
 step_whole (Wear segment sector) c is whole = absurd is
 step_whole (Spoil segment sector) c is whole = absurd is
 
-step_stopped : (s : Step) (c : Cartridge) (left : Option Cartridge) → IsWrite OfSector s → IsCartridge c → Halfway s (Some c) left →
+step_stopped : (s : Step) (c : Cartridge) (left : Option Cartridge) → IsWrite IsOfSector s → IsCartridge c → Halfway s (Some c) left →
     IsSomeAnd left IsCartridge
 step_stopped (WriteSector segment sector bytes) c left is whole half =
     some_and IsCartridge (changed (Wear segment sector) c) left
@@ -81,12 +77,15 @@ step_stopped (Renew n) c left is whole half = absurd is
 step_stopped (Wear segment sector) c left is whole half = absurd is
 step_stopped (Spoil segment sector) c left is whole half = absurd is
 
-steps_stopped : (ss : List Step) (c : Cartridge) (left : Option Cartridge) → AreWrites OfSector ss → IsCartridge c → Torn ss (Some c) left →
+steps_stopped : (ss : List Step) (c : Cartridge) (left : Option Cartridge) → AreWrites IsOfSector ss → IsCartridge c → Torn ss (Some c) left →
     IsSomeAnd left IsCartridge
 steps_stopped [] c left are whole is = some_and IsCartridge c left whole is
 steps_stopped (s ∷ ss) c left are whole (inl is) = some_and IsCartridge c left whole is
 steps_stopped (s ∷ ss) c left are whole (inr (inl half)) = step_stopped s c left are.0 whole half
 steps_stopped (s ∷ ss) c left are whole (inr (inr torn)) = steps_stopped ss (changed s c) left are.1 (step_whole s c are.0 whole) torn
+
+pub sector_writes_are_cartridge : SectorWritesAreCartridge
+sector_writes_are_cartridge c steps left whole are torn = steps_stopped steps c left are whole torn
 
 -- ---- those of an append
 
@@ -95,13 +94,13 @@ block_sectors sectors are =
     All-append IsSector sectors (parity_sectors sectors) are
     (cartridge_sectors (parity_sectors sectors) (parity_sectors-are_sectors sectors (code_sectors sectors are)))
 
-writes_whole : (segment : ℕ) (places : List ℕ) (sectors : List (List ℕ)) → All IsSector sectors → AreWrites OfSector (writes_of segment places sectors)
+writes_whole : (segment : ℕ) (places : List ℕ) (sectors : List (List ℕ)) → All IsSector sectors → AreWrites IsOfSector (writes_of segment places sectors)
 writes_whole segment [] sectors are = tt
 writes_whole segment (place ∷ places) [] are = tt
 writes_whole segment (place ∷ places) (bytes ∷ sectors) are =
     (All-head IsSector bytes sectors are, writes_whole segment places sectors (All-tail IsSector bytes sectors are))
 
-parts_whole : (words segments : List ℕ) (area : List (List ℕ)) → All IsSector area → AreWrites OfSector (parts_writes words (parts_of words segments area))
+parts_whole : (words segments : List ℕ) (area : List (List ℕ)) → All IsSector area → AreWrites IsOfSector (parts_writes words (parts_of words segments area))
 parts_whole words [] area are = tt
 parts_whole words (s ∷ ss) area are =
     let n : ℕ = data_count (mask_at words s) in
@@ -117,7 +116,7 @@ block_sector area i is h =
     (All-get_or IsSector (with_parity area) i [] (omega (arith, length-block area is)) (block_sectors area is.sectors))
 
 append_whole : (c : Cartridge) (plain : Plain) (name : List ℕ) (date : ℕ) (bytes : List ℕ) → IsReady c plain name date bytes →
-    AreWrites OfSector (append_steps plain (last_segment c) bytes (appended_volume plain (last_segment c) name date bytes))
+    AreWrites IsOfSector (append_steps plain (last_segment c) bytes (appended_volume plain (last_segment c) name date bytes))
 append_whole c plain name date bytes ready =
     let last : ℕ = last_segment c in
     let volume : Volume = appended_volume plain last name date bytes in

@@ -5,17 +5,18 @@ use Rattle.qic_base.specs.Step.{Step}
 use Rattle.qic_base.specs.Stop.{Torn}
 use Rattle.cartridge_spec.specs.HeaderAndTable.{IsArea, TableIs, last_segment}
 use Rattle.cartridge_spec.specs.Table.{Entry, Shows, IsSoundList, entry_in, slot}
-use Rattle.cartridge_spec.specs.Mounting.{settled}
+use Rattle.cartridge_spec.specs.Mounting.{Mounts, settled}
 use Rattle.cartridge_spec.specs.Volumes.{Plain, Volume, Stands, entries_of, volume_length}
 use Rattle.cartridge_spec.specs.Writes.{changed_by}
+use Rattle.format_plan.specs.Clean.{StandsCleanly}
 use Rattle.format_plan.specs.Fresh.{IsLabel}
-use Rattle.mount_laws.specs.Laws.{IsTableLive}
+use Rattle.mount_laws.specs.Laws.{IsTableLive, mounted_as}
 use Rattle.append_plan.specs.Appending.{appended_volume, appended_table, with_volume, volume_writes, list_writes, append_steps}
 use Rattle.append_plan.specs.Between.{IsWhole, IsBegun, IsTurned, Between}
 use Rattle.append_plan.specs.NewVolume.{volume_bytes}
 use Rattle.append_plan.specs.Room.{has_room, last_end}
 use Rattle.append_plan.specs.Slots.{slot_sector}
-use Rattle.append_plan.specs.Writes.{AreWrites, IsFree}
+use Rattle.append_plan.specs.Writes.{AreWrites, IsFree, IsOfSector, KeepsTo}
 
 -- ---- before an append
 
@@ -79,6 +80,20 @@ AppendedStands =
     Stands (changed_by (append_steps plain (last_segment c) bytes (appended_volume plain (last_segment c) name date bytes)) c)
     (with_volume plain (appended_volume plain (last_segment c) name date bytes))
 
+-- and it is mounted as that
+abbrev pub AppendedMounts : Type 0
+AppendedMounts =
+    (c : Cartridge) (plain : Plain) (name : List ℕ) (date : ℕ) (bytes : List ℕ) → IsReady c plain name date bytes →
+    Mounts (changed_by (append_steps plain (last_segment c) bytes (appended_volume plain (last_segment c) name date bytes)) c)
+    (mounted_as (with_volume plain (appended_volume plain (last_segment c) name date bytes)))
+
+-- header copies that formatting may begin over stay so
+abbrev pub AppendedIsClean : Type 0
+AppendedIsClean =
+    (c : Cartridge) (plain : Plain) (name : List ℕ) (date : ℕ) (bytes : List ℕ) → IsReady c plain name date bytes → StandsCleanly c plain →
+    StandsCleanly (changed_by (append_steps plain (last_segment c) bytes (appended_volume plain (last_segment c) name date bytes)) c)
+    (with_volume plain (appended_volume plain (last_segment c) name date bytes))
+
 -- the table's segment is whole, so that one may append again
 abbrev pub AppendedIsWhole : Type 0
 AppendedIsWhole =
@@ -94,12 +109,18 @@ AppendedIsCartridge =
 
 -- ---- a stop
 
--- whatever is written behind the last volume, stopped or not, leaves what stood, and the table's segment as it was
+-- whatever is written behind the last volume, stopped or not, leaves what stood, and the segments up to there as they were
 abbrev pub FreeWritesStand : Type 0
 FreeWritesStand =
     (c : Cartridge) (plain : Plain) (steps : List Step) (left : Option Cartridge) →
     Stands c plain → AreWrites (IsFree (last_end (entries_of plain))) steps → Torn steps (Some c) left →
-    IsSomeAnd left (λ d. Stands d plain × ((i : ℕ) → i < 32 → view_at d 2 i ≡ view_at c 2 i))
+    IsSomeAnd left (λ d. Stands d plain × KeepsTo (last_end (entries_of plain)) c d)
+
+-- whatever sectors are written, a cartridge is left
+abbrev pub SectorWritesAreCartridge : Type 0
+SectorWritesAreCartridge =
+    (c : Cartridge) (steps : List Step) (left : Option Cartridge) →
+    IsCartridge c → AreWrites IsOfSector steps → Torn steps (Some c) left → IsSomeAnd left IsCartridge
 
 -- a stop among the writes of the volume's segments leaves what stood, with its table whole
 abbrev pub StoppedVolume : Type 0
@@ -126,6 +147,24 @@ StoppedAppend =
     IsReady c plain name date bytes →
     Torn (append_steps plain (last_segment c) bytes (appended_volume plain (last_segment c) name date bytes)) (Some c) left →
     IsSomeAnd left (λ d. Stands d plain ⊎ Stands d (with_volume plain (appended_volume plain (last_segment c) name date bytes)))
+
+-- it is mounted as one of them
+abbrev pub StoppedAppendMounts : Type 0
+StoppedAppendMounts =
+    (c : Cartridge) (plain : Plain) (name : List ℕ) (date : ℕ) (bytes : List ℕ) (left : Option Cartridge) →
+    IsReady c plain name date bytes →
+    Torn (append_steps plain (last_segment c) bytes (appended_volume plain (last_segment c) name date bytes)) (Some c) left →
+    IsSomeAnd left (λ d. Mounts d (mounted_as plain)
+    ⊎ Mounts d (mounted_as (with_volume plain (appended_volume plain (last_segment c) name date bytes))))
+
+-- header copies that formatting may begin over stay so
+abbrev pub StoppedAppendIsClean : Type 0
+StoppedAppendIsClean =
+    (c : Cartridge) (plain : Plain) (name : List ℕ) (date : ℕ) (bytes : List ℕ) (left : Option Cartridge) →
+    IsReady c plain name date bytes → StandsCleanly c plain →
+    Torn (append_steps plain (last_segment c) bytes (appended_volume plain (last_segment c) name date bytes)) (Some c) left →
+    IsSomeAnd left (λ d. StandsCleanly d plain
+    ⊎ StandsCleanly d (with_volume plain (appended_volume plain (last_segment c) name date bytes)))
 
 -- and it is a cartridge
 abbrev pub StoppedAppendIsCartridge : Type 0

@@ -1,7 +1,7 @@
 //! What an append leaves, done or stopped. Each law is the contract of a function that does nothing, so that other crates
 //! can rest on it; their proofs import the lemmas of this crate's `proofs`.
 
-ghost use Rattle.append_plan.specs.Laws.{SettledIsReady, BeforeReadsOld, TurnedReadsNew, AppendedTableShows, AppendedBytes, AppendedStands, AppendedIsWhole, AppendedIsCartridge, FreeWritesStand, StoppedVolume, StoppedList, StoppedAppend, StoppedAppendIsCartridge};
+ghost use Rattle.append_plan.specs.Laws.{SettledIsReady, BeforeReadsOld, TurnedReadsNew, AppendedTableShows, AppendedBytes, AppendedStands, AppendedMounts, AppendedIsClean, AppendedIsWhole, AppendedIsCartridge, FreeWritesStand, SectorWritesAreCartridge, StoppedVolume, StoppedList, StoppedAppend, StoppedAppendMounts, StoppedAppendIsClean, StoppedAppendIsCartridge};
 
 /// A cartridge that was settled is ready for an append that has room, where each sector of its table's segment takes what is
 /// written to it.
@@ -26,13 +26,17 @@ pub fn appended_bytes()
 pub fn done_append()
     ensures shows { AppendedTableShows }
     ensures stands { AppendedStands }
+    ensures mounts { AppendedMounts }
+    ensures clean { AppendedIsClean }
     ensures table { AppendedIsWhole }
     ensures whole { AppendedIsCartridge }
 {}
 
-/// Whatever is written behind the last volume, stopped or not, leaves what stood.
+/// Whatever is written behind the last volume, stopped or not, leaves what stood; and whatever sectors are written, a
+/// cartridge is left.
 pub fn free_writes()
-    ensures { FreeWritesStand }
+    ensures stands { FreeWritesStand }
+    ensures whole { SectorWritesAreCartridge }
 {}
 
 /// A stop among the steps of an append leaves what stood, or the plain cartridge with the new volume. Among the writes of the
@@ -41,5 +45,7 @@ pub fn stopped_append()
     ensures volume { StoppedVolume }
     ensures list { StoppedList }
     ensures stands { StoppedAppend }
+    ensures mounts { StoppedAppendMounts }
+    ensures clean { StoppedAppendIsClean }
     ensures whole { StoppedAppendIsCartridge }
 {}
