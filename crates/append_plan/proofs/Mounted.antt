@@ -1,8 +1,9 @@
 -- What an append leaves, done or stopped, is mounted as what it stands for, and its header copies are as they were.
-use Rattle.std.proofs.Common.{◌≡◌, ◌⊎◌, ℕ, ◌+◌, ◌<◌, ◌≤◌, inl, inr, List, length, Option, Some, IsSomeAnd, All, refl, sym, ap, ◌∙◌, subst, arith}
+use Rattle.std.proofs.Common.{◌≡◌, ◌⊎◌, ℕ, ◌+◌, ◌-◌, ◌*◌, ◌<◌, ◌≤◌, inl, inr, List, length, Option, Some, IsSomeAnd, All, refl, sym, ap, ◌∙◌, subst, arith}
 use Rattle.std.proofs.lemmas.List.Elements.{All-weaker}
 use Rattle.qic_base.specs.declared.tape.SectorView.{SectorView}
-use Rattle.qic_base.specs.Cartridge.{Cartridge, view_at}
+use Rattle.qic_base.specs.declared.tape.TapeInfo.{TapeInfo}
+use Rattle.qic_base.specs.Cartridge.{Cartridge, IsCartridge, view_at}
 use Rattle.qic_base.specs.Step.{Step}
 use Rattle.qic_base.specs.Stop.{Torn}
 use Rattle.cartridge_spec.specs.HeaderAndTable.{IsArea, copy_cells, last_segment}
@@ -16,13 +17,15 @@ use Rattle.format_plan.specs.Clean.{IsCleanCopy, StandsCleanly}
 use Rattle.mount_laws.proofs.Standing.{can_be_read, standing_mounts}
 use Rattle.mount_laws.specs.Laws.{mounted_as}
 use Rattle.append_plan.specs.Appending.{new_segments, appended_volume, appended_table, with_volume, volume_writes, list_writes, append_steps}
-use Rattle.append_plan.specs.Laws.{IsReady, AppendedMounts, AppendedIsClean, StoppedAppendMounts, StoppedAppendIsClean}
-use Rattle.append_plan.specs.Room.{last_end}
+use Rattle.append_plan.specs.Laws.{IsReady, AppendedMounts, AppendedIsClean, StoppedAppendMounts, StoppedAppendIsClean, FreeWritesLeaveReady, FreeWritesAreClean}
+use Rattle.append_plan.specs.Room.{has_room, last_end}
+use Rattle.append_plan.specs.Writes.{KeepsTo}
 use Rattle.append_plan.proofs.Appended.{IsReadAs, list_in, some_both, either_of, stopped_reads, stopped_append, appended_stands, appended_is_whole}
 use Rattle.append_plan.proofs.Between.{data_read}
 use Rattle.append_plan.proofs.Keeping.{AreIn, IsKeptBut, in_append, parts_in, steps_kept, steps_stopped}
 use Rattle.append_plan.proofs.Table.{appended_table_shows, ready_count}
-use Rattle.append_plan.proofs.Volume.{last_end_least, ready_taken, taken_behind}
+use Rattle.append_plan.proofs.Volume.{free_writes_stand, last_end_least, ready_taken, taken_behind}
+use Rattle.append_plan.proofs.Whole.{sector_writes_are_cartridge}
 
 -- ---- mounting
 
@@ -97,3 +100,39 @@ stopped_append_is_clean c plain name date bytes left ready clean torn =
     (some_both (IsKeptBut BehindCopies c) (λ d. Stands d plain ⊎ Stands d (with_volume plain volume)) left
     (steps_stopped BehindCopies steps c left (append_in c plain name date bytes ready) torn)
     (stopped_append c plain name date bytes left ready torn))
+
+-- ---- whatever is written behind the last volume
+
+free_clean : (c d : Cartridge) (plain : Plain) → StandsCleanly c plain → Stands d plain → KeepsTo (last_end (entries_of plain)) c d → StandsCleanly d plain
+free_clean c d plain clean stands kept =
+    let least : 2 ≤ last_end (entries_of plain) = last_end_least c plain clean.stands in
+    let first : copy_cells d 0 ≡ copy_cells c 0 = same_cells c d 0 whole_mask (λ i h. kept.sectors 0 i (omega arith) h) in
+    let second : copy_cells d 1 ≡ copy_cells c 1 = same_cells c d 1 whole_mask (λ i h. kept.sectors 1 i (omega arith) h) in
+    record {
+      stands = stands;
+      first = subst (λ (cells : List SectorView). Written cells plain.header_area ⊎ Zero cells) (sym first) clean.first;
+      second = subst (λ (cells : List SectorView). Written cells plain.header_area ⊎ Zero cells) (sym second) clean.second;
+    }
+
+pub free_writes_are_clean : FreeWritesAreClean
+free_writes_are_clean c plain steps left clean free torn =
+    some_weaker left (λ d known. free_clean c d plain clean known.0 known.1) (free_writes_stand c plain steps left clean.stands free torn)
+
+free_ready : (c d : Cartridge) (plain : Plain) (name : List ℕ) (date : ℕ) (bytes : List ℕ) → IsReady c plain name date bytes → IsCartridge d →
+    Stands d plain → KeepsTo (last_end (entries_of plain)) c d → IsReady d plain name date bytes
+free_ready c d plain name date bytes ready cartridge stands kept = record {
+  cartridge = cartridge;
+  stands = stands;
+  whole = λ i h. kept.sectors 2 i (last_end_least c plain ready.stands) h ∙ ready.whole i h;
+  room = ap (λ (i : TapeInfo). has_room plain.words (entries_of plain) (28 * i.segments_per_track - 1) (length bytes)) kept.info ∙ ready.room;
+  label = ready.label;
+  word = ready.word;
+  content = ready.content;
+}
+
+pub free_writes_leave_ready : FreeWritesLeaveReady
+free_writes_leave_ready c plain name date bytes steps left ready free sectors torn =
+    some_weaker left (λ d known. free_ready c d plain name date bytes ready known.0 known.1.0 known.1.1)
+    (some_both IsCartridge (λ d. Stands d plain × KeepsTo (last_end (entries_of plain)) c d) left
+    (sector_writes_are_cartridge c steps left ready.cartridge sectors torn)
+    (free_writes_stand c plain steps left ready.stands free torn))

@@ -116,6 +116,20 @@ FreeWritesStand =
     Stands c plain → AreWrites (IsFree (last_end (entries_of plain))) steps → Torn steps (Some c) left →
     IsSomeAnd left (λ d. Stands d plain × KeepsTo (last_end (entries_of plain)) c d)
 
+-- so may one append after it
+abbrev pub FreeWritesLeaveReady : Type 0
+FreeWritesLeaveReady =
+    (c : Cartridge) (plain : Plain) (name : List ℕ) (date : ℕ) (bytes : List ℕ) (steps : List Step) (left : Option Cartridge) →
+    IsReady c plain name date bytes → AreWrites (IsFree (last_end (entries_of plain))) steps → AreWrites IsOfSector steps →
+    Torn steps (Some c) left → IsSomeAnd left (λ d. IsReady d plain name date bytes)
+
+-- and header copies that formatting may begin over stay so
+abbrev pub FreeWritesAreClean : Type 0
+FreeWritesAreClean =
+    (c : Cartridge) (plain : Plain) (steps : List Step) (left : Option Cartridge) →
+    StandsCleanly c plain → AreWrites (IsFree (last_end (entries_of plain))) steps → Torn steps (Some c) left →
+    IsSomeAnd left (λ d. StandsCleanly d plain)
+
 -- whatever sectors are written, a cartridge is left
 abbrev pub SectorWritesAreCartridge : Type 0
 SectorWritesAreCartridge =

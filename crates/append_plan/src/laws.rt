@@ -1,7 +1,7 @@
 //! What an append leaves, done or stopped. Each law is the contract of a function that does nothing, so that other crates
 //! can rest on it; their proofs import the lemmas of this crate's `proofs`.
 
-ghost use Rattle.append_plan.specs.Laws.{SettledIsReady, BeforeReadsOld, TurnedReadsNew, AppendedTableShows, AppendedBytes, AppendedStands, AppendedMounts, AppendedIsClean, AppendedIsWhole, AppendedIsCartridge, FreeWritesStand, SectorWritesAreCartridge, StoppedVolume, StoppedList, StoppedAppend, StoppedAppendMounts, StoppedAppendIsClean, StoppedAppendIsCartridge};
+ghost use Rattle.append_plan.specs.Laws.{SettledIsReady, BeforeReadsOld, TurnedReadsNew, AppendedTableShows, AppendedBytes, AppendedStands, AppendedMounts, AppendedIsClean, AppendedIsWhole, AppendedIsCartridge, FreeWritesStand, FreeWritesLeaveReady, FreeWritesAreClean, SectorWritesAreCartridge, StoppedVolume, StoppedList, StoppedAppend, StoppedAppendMounts, StoppedAppendIsClean, StoppedAppendIsCartridge};
 
 /// A cartridge that was settled is ready for an append that has room, where each sector of its table's segment takes what is
 /// written to it.
@@ -36,6 +36,8 @@ pub fn done_append()
 /// cartridge is left.
 pub fn free_writes()
     ensures stands { FreeWritesStand }
+    ensures ready { FreeWritesLeaveReady }
+    ensures clean { FreeWritesAreClean }
     ensures whole { SectorWritesAreCartridge }
 {}
 
