@@ -1,22 +1,21 @@
 -- What all steps of an append leave, and what a stop among them leaves.
-use Rattle.std.proofs.Common.{◌≡◌, ◌⊎◌, ℕ, ◌+◌, ◌-◌, ◌<◌, ◌≤◌, inl, inr, List, [], ◌∷◌, ◌++◌, length, get_or, map, All, Option, Some, None, IsSomeAnd, refl, sym, ap, ◌∙◌, subst, arith}
+use Rattle.std.proofs.Common.{◌≡◌, ◌⊎◌, ℕ, ◌-◌, ◌<◌, ◌≤◌, inl, inr, List, [], ◌∷◌, ◌++◌, length, All, Option, Some, None, IsSomeAnd, refl, sym, ap, ◌∙◌, subst, arith}
 use Rattle.std.specs.Prelude.{slice_index}
 use Rattle.std.proofs.lemmas.List.Elements.{All-append, All-cons, All-nil, All-weaker}
-use Rattle.qic_base.specs.Cartridge.{Cartridge, IsSector, view_at}
+use Rattle.qic_base.specs.Cartridge.{Cartridge, IsSector}
 use Rattle.qic_base.specs.Step.{Step}
 use Rattle.qic_base.specs.Stop.{Torn}
 use Rattle.qic_base.proofs.Steps.{Torn-append}
 use Rattle.cartridge_spec.specs.HeaderAndTable.{IsArea, TableIs, table_cells, last_segment}
 use Rattle.cartridge_spec.specs.Shape.{Carries, mask_at}
 use Rattle.cartridge_spec.specs.Says.{Written, ReadsAll}
-use Rattle.cartridge_spec.specs.Table.{Entry}
-use Rattle.cartridge_spec.specs.Volumes.{Plain, Volume, VolumeStands, Part, PartStands, Stands, carrying, entries_of, parts_of, sectors_in, segments_of}
+use Rattle.cartridge_spec.specs.Volumes.{Plain, Volume, VolumeStands, PartStands, Stands, carrying, entries_of, parts_of, sectors_in, segments_of}
 use Rattle.cartridge_spec.specs.Writes.{changed_by}
 use Rattle.format_plan.proofs.Standing.{AreKept, BeginsBehind, volumes_kept}
 use Rattle.format_plan.proofs.Writing.{changed_by-append, effects-some, some_weaker}
 use Rattle.volume_table.proofs.Orders.{sound_is_faultless}
 use Rattle.append_plan.specs.Appending.{new_segments, appended_volume, appended_table, with_volume, volume_writes, list_writes, append_steps}
-use Rattle.append_plan.specs.Between.{HoldsPart, IsWhole, IsBegun, IsTurned, Between}
+use Rattle.append_plan.specs.Between.{HoldsPart, IsWhole, IsBegun, Between}
 use Rattle.append_plan.specs.Laws.{IsReady, AppendedStands, AppendedIsWhole, StoppedList, StoppedAppend}
 use Rattle.append_plan.specs.Room.{last_end}
 use Rattle.append_plan.specs.Slots.{slot_bytes, slot_sector}

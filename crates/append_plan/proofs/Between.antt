@@ -1,5 +1,5 @@
 -- What the table's segment says while an append writes it.
-use Rattle.std.proofs.Common.{◌≡◌, ◌≢◌, ◌⊎◌, ℕ, zero, suc, ◌+◌, ◌<◌, ◌≤◌, inl, inr, Bool, true, false, cond, List, [], ◌∷◌, ◌++◌, length, get_or, slice_get, Some, refl, sym, ap, ◌∙◌, subst, arith, length-append, zero-add}
+use Rattle.std.proofs.Common.{◌≡◌, ◌≢◌, ℕ, zero, suc, ◌<◌, ◌≤◌, inl, inr, Bool, true, false, cond, List, [], ◌∷◌, length, get_or, Some, refl, sym, ap, ◌∙◌, arith, length-append}
 use Rattle.std.proofs.lemmas.Bool.{cases_eq}
 use Rattle.std.proofs.lemmas.List.{take_all, get_or_append_left}
 use Rattle.std.proofs.lemmas.Option.{slice_get-get_or, unwrap_or-slice_get}
@@ -10,13 +10,13 @@ use Rattle.gf256_qic.specs.Code.{parity_sectors}
 use Rattle.gf256_qic.proofs.Parities.{length-parity_sectors}
 use Rattle.cartridge_spec.specs.Segment.{sector_at, is_unreadable}
 use Rattle.cartridge_spec.specs.Says.{unreadable_count, ReadsAll, Written, with_parity}
-use Rattle.cartridge_spec.specs.HeaderAndTable.{IsArea, TableIs, table_cells}
+use Rattle.cartridge_spec.specs.HeaderAndTable.{IsArea, table_cells}
 use Rattle.cartridge_spec.proofs.Cells.{IsReadable, count_of_readable, unreadable_count-first}
 use Rattle.cartridge_spec.proofs.Segments.{length-whole_cells}
 use Rattle.format_plan.proofs.Copies.{view_held}
 use Rattle.mount_laws.proofs.Standing.{written_table}
 use Rattle.mount_laws.proofs.Stops.{block_written}
-use Rattle.append_plan.specs.Between.{HoldsPart, IsWhole, IsBegun, IsTurned}
+use Rattle.append_plan.specs.Between.{HoldsPart, IsBegun}
 use Rattle.append_plan.specs.Laws.{BeforeReadsOld, TurnedReadsNew}
 
 -- ---- the sectors of a table's block

@@ -1,20 +1,19 @@
 -- The new volume's segments carry its bytes, and its area begins with them.
-use Rattle.std.proofs.Common.{◌≡◌, ℕ, zero, suc, ◌+◌, ◌-◌, ◌*◌, ◌<◌, ◌≤◌, ◌&&◌, ◌==◌, inl, inr, Bool, true, false, cond, List, [], ◌∷◌, ◌++◌, length, take, drop, replicate, All, refl, sym, ap, ◌∙◌, subst, arith, nat_le, length-append}
+use Rattle.std.proofs.Common.{◌≡◌, ℕ, zero, suc, ◌+◌, ◌-◌, ◌*◌, ◌≤◌, inl, inr, Bool, true, false, cond, List, [], ◌∷◌, ◌++◌, length, take, drop, replicate, All, refl, sym, ap, ◌∙◌, subst, arith, nat_le}
 use Rattle.std.specs.Prelude.{sum_by}
 use Rattle.std.specs.List.{range_with_len}
-use Rattle.std.proofs.lemmas.Bool.{cases_Bool, cases_lt, leb-true, leb-false, le-leb}
+use Rattle.std.proofs.lemmas.Bool.{cases_Bool, cases_lt, leb-true, le-leb}
 use Rattle.std.proofs.lemmas.List.{append_assoc, append-nil, take_all, take_at, take-append-drop, length-take, length-drop}
 use Rattle.std.proofs.lemmas.List.Elements.{All-head, All-tail}
 use Rattle.std.proofs.lemmas.List.Sums.{sum_by-cons}
-use Rattle.qic_base.specs.Cartridge.{Cartridge}
 use Rattle.cartridge_spec.specs.HeaderAndTable.{last_segment}
 use Rattle.cartridge_spec.specs.Shape.{Carries, mask_at, usable_count, data_count, capacity}
 use Rattle.cartridge_spec.specs.Table.{Entry}
-use Rattle.cartridge_spec.specs.Volumes.{Plain, Volume, carrying, capacity_between, entries_of, sectors_in, segments_of, volume_length}
+use Rattle.cartridge_spec.specs.Volumes.{Volume, carrying, capacity_between, entries_of, sectors_in, volume_length}
 use Rattle.mount_laws.proofs.Writing.{places_that, places_none, places_passes, places_fails}
 use Rattle.append_plan.specs.Appending.{new_segments, appended_volume}
-use Rattle.append_plan.specs.Laws.{IsReady, AppendedBytes}
-use Rattle.append_plan.specs.NewVolume.{filled_up, in_sectors, bytes_in, volume_bytes}
+use Rattle.append_plan.specs.Laws.{AppendedBytes}
+use Rattle.append_plan.specs.NewVolume.{filled_up, in_sectors, bytes_in}
 use Rattle.append_plan.specs.Room.{last_end, free_segments, taken_by}
 use Rattle.append_plan.proofs.Appended.{segments_are}
 use Rattle.append_plan.proofs.Segments.{AreTaken, HasRoom, carries, carried, carrying_are, carrying_carry, room_is}

@@ -1,11 +1,10 @@
 -- What an append leaves, done or stopped, is mounted as what it stands for, and its header copies are as they were.
-use Rattle.std.proofs.Common.{◌≡◌, ◌⊎◌, ℕ, ◌+◌, ◌-◌, ◌*◌, ◌<◌, ◌≤◌, inl, inr, List, length, Option, Some, IsSomeAnd, All, refl, sym, ap, ◌∙◌, subst, arith}
+use Rattle.std.proofs.Common.{◌≡◌, ◌⊎◌, ℕ, ◌-◌, ◌*◌, ◌<◌, ◌≤◌, inl, List, length, refl, sym, ap, ◌∙◌, subst, arith}
 use Rattle.std.proofs.lemmas.List.Elements.{All-weaker}
 use Rattle.qic_base.specs.declared.tape.SectorView.{SectorView}
 use Rattle.qic_base.specs.declared.tape.TapeInfo.{TapeInfo}
-use Rattle.qic_base.specs.Cartridge.{Cartridge, IsCartridge, view_at}
+use Rattle.qic_base.specs.Cartridge.{Cartridge, IsCartridge}
 use Rattle.qic_base.specs.Step.{Step}
-use Rattle.qic_base.specs.Stop.{Torn}
 use Rattle.cartridge_spec.specs.HeaderAndTable.{IsArea, copy_cells, last_segment}
 use Rattle.cartridge_spec.specs.Mounting.{Mounts}
 use Rattle.cartridge_spec.specs.Says.{whole_mask, Written, Zero}
@@ -20,7 +19,7 @@ use Rattle.append_plan.specs.Appending.{new_segments, appended_volume, appended_
 use Rattle.append_plan.specs.Laws.{IsReady, AppendedMounts, AppendedIsClean, StoppedAppendMounts, StoppedAppendIsClean, FreeWritesLeaveReady, FreeWritesAreClean}
 use Rattle.append_plan.specs.Room.{has_room, last_end}
 use Rattle.append_plan.specs.Writes.{KeepsTo}
-use Rattle.append_plan.proofs.Appended.{IsReadAs, list_in, some_both, either_of, stopped_reads, stopped_append, appended_stands, appended_is_whole}
+use Rattle.append_plan.proofs.Appended.{IsReadAs, some_both, either_of, stopped_reads, stopped_append, appended_stands, appended_is_whole}
 use Rattle.append_plan.proofs.Between.{data_read}
 use Rattle.append_plan.proofs.Keeping.{AreIn, IsKeptBut, in_append, parts_in, steps_kept, steps_stopped}
 use Rattle.append_plan.proofs.Table.{appended_table_shows, ready_count}

@@ -1,7 +1,6 @@
 -- Where the volumes of a list in order lie, and the free segments behind them.
-use Rattle.std.proofs.Common.{◌≡◌, ℕ, zero, suc, ◌+◌, ◌-◌, ◌<◌, ◌≤◌, inl, inr, Bool, true, false, cond, List, [], ◌∷◌, ◌++◌, length, map, filter, All, get_or, refl, sym, ap, ◌∙◌, subst, arith, nat_le}
-use Rattle.std.specs.List.{range_with_len}
-use Rattle.std.proofs.lemmas.List.Elements.{All-nil, All-cons, All-head, All-tail, All-weaker, All-filter}
+use Rattle.std.proofs.Common.{ℕ, ◌<◌, ◌≤◌, List, [], ◌∷◌, ◌++◌, map, All, arith}
+use Rattle.std.proofs.lemmas.List.Elements.{All-nil, All-cons, All-weaker}
 use Rattle.cartridge_spec.specs.Table.{Entry, LieBehind}
 use Rattle.cartridge_spec.specs.Volumes.{Volume}
 use Rattle.append_plan.specs.Room.{end_behind}

@@ -1,7 +1,6 @@
 -- A settled cartridge is ready for an append.
-use Rattle.std.proofs.Common.{◌≡◌, ℕ, ◌-◌, ◌*◌, true, List, length, sym, ap, ◌∙◌}
+use Rattle.std.proofs.Common.{◌-◌, ◌*◌, length, ap, ◌∙◌}
 use Rattle.qic_base.specs.declared.tape.TapeInfo.{TapeInfo}
-use Rattle.cartridge_spec.specs.Mounting.{settled}
 use Rattle.cartridge_spec.specs.Volumes.{entries_of}
 use Rattle.mount_laws.proofs.Settled.{settled_keeps_table, settled_stands, settled_is_whole}
 use Rattle.mount_laws.proofs.Whole.{settled_is_cartridge}

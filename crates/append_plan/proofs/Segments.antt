@@ -1,5 +1,5 @@
 -- The segments that a new volume takes: the carrying ones from its first to its last, behind all that were taken.
-use Rattle.std.proofs.Common.{◌≡◌, ◌⊎◌, ℕ, zero, suc, ◌+◌, ◌-◌, ◌*◌, ◌<◌, ◌≤◌, ◌&&◌, inl, inr, Bool, true, false, cond, List, [], ◌∷◌, length, map, filter, All, get_or, refl, sym, ap, ◌∙◌, subst, arith, nat_le, nat_lt, sum_by}
+use Rattle.std.proofs.Common.{◌≡◌, ◌⊎◌, ℕ, zero, suc, ◌+◌, ◌-◌, ◌*◌, ◌<◌, ◌≤◌, ◌&&◌, inl, inr, Bool, true, false, cond, List, [], ◌∷◌, length, All, get_or, refl, sym, ap, ◌∙◌, subst, arith, nat_le, nat_lt, sum_by}
 use Rattle.std.specs.List.{range_with_len}
 use Rattle.std.proofs.lemmas.Bool.{cases_Bool, leb-true, ltb-true, false≢true, and_parts}
 use Rattle.std.proofs.lemmas.List.Elements.{All-nil, All-cons, All-weaker, All-filter, filter_passes}
@@ -10,7 +10,7 @@ use Rattle.cartridge_spec.specs.Table.{Entry}
 use Rattle.cartridge_spec.specs.Volumes.{carrying, capacity_between}
 use Rattle.cartridge_spec.proofs.Places.{count_below}
 use Rattle.mount_laws.proofs.Writing.{places_that, places_none, places_passes, places_fails}
-use Rattle.append_plan.specs.Room.{last_end, free_segments, room, taken_by, has_room}
+use Rattle.append_plan.specs.Room.{last_end, free_segments, taken_by, has_room}
 
 -- ---- the places from one on that pass a test
 
@@ -34,9 +34,10 @@ rising test zero from = subst IsRising (sym (places_none test from)) tt
 rising test (suc m) from =
     elim (cases_Bool (test from)) [
       | inl passes ↦
-          subst IsRising (sym (places_passes test from m passes))
-          (All-weaker (λ (s : ℕ). from + 1 ≤ s) (λ (s : ℕ). from < s) (λ s (h : from + 1 ≤ s). omega arith) (places_that test (from + 1) m) (places_from test m (from + 1)),
-          rising test m (from + 1))
+          subst IsRising (sym (places_passes test from m passes)) (
+            All-weaker (λ (s : ℕ). from + 1 ≤ s) (λ (s : ℕ). from < s) (λ s (h : from + 1 ≤ s). omega arith) (places_that test (from + 1) m) (places_from test m (from + 1)),
+            rising test m (from + 1),
+          )
       | inr fails ↦ subst IsRising (sym (places_fails test from m fails)) (rising test m (from + 1))
     ]
 
@@ -211,8 +212,12 @@ capacity_most words s =
 sum_most : (words : List ℕ) (m from : ℕ) → sum_by (λ s. capacity (mask_at words s)) (range_with_len from m) ≤ 29696 * m
 sum_most words zero from = omega arith
 sum_most words (suc m) from =
-    omega (arith, capacity_most words from, sum_most words m (from + 1),
-    sum_by-cons (λ s. capacity (mask_at words s)) from (range_with_len (from + 1) m))
+    omega (
+      arith,
+      capacity_most words from,
+      sum_most words m (from + 1),
+      sum_by-cons (λ s. capacity (mask_at words s)) from (range_with_len (from + 1) m),
+    )
 
 -- ---- the segments of a new volume
 

@@ -1,5 +1,5 @@
 -- The table's data with one slot more show the old list and the new entry behind it, in order.
-use Rattle.std.proofs.Common.{◌≡◌, ◌≢◌, ℕ, ◌+◌, ◌-◌, ◌*◌, ◌/◌, ◌%◌, ◌^◌, ◌<◌, ◌≤◌, inl, inr, true, List, [], ◌∷◌, ◌++◌, length, map, get_or, slice_get, set, All, Some, refl, sym, ap, ◌∙◌, subst, arith, length-append}
+use Rattle.std.proofs.Common.{◌≡◌, ◌≢◌, ℕ, ◌+◌, ◌-◌, ◌*◌, ◌%◌, ◌^◌, ◌<◌, ◌≤◌, inl, inr, true, List, [], ◌∷◌, ◌++◌, length, map, slice_get, set, Some, refl, sym, ap, ◌∙◌, subst, arith}
 use Rattle.std.specs.Prelude.{slice_index}
 use Rattle.std.proofs.lemmas.Bool.{cases_eq}
 use Rattle.std.proofs.lemmas.List.{length_push, length-map, length-set, get_or_at, get_or_append_left, get_or-set_other}
@@ -9,7 +9,7 @@ use Rattle.qic_base.specs.Field.{overwritten}
 use Rattle.cartridge_spec.specs.HeaderAndTable.{IsArea, last_segment}
 use Rattle.cartridge_spec.specs.Segment.{sector_at}
 use Rattle.cartridge_spec.specs.Table.{Entry, Shows, IsSoundList, slot, entry_in, is_used, is_free}
-use Rattle.cartridge_spec.specs.Volumes.{Plain, Volume, Stands, entries_of, capacity_between}
+use Rattle.cartridge_spec.specs.Volumes.{Plain, Volume, entries_of, capacity_between}
 use Rattle.append_plan.specs.Appending.{new_segments, appended_volume, appended_table}
 use Rattle.append_plan.specs.Laws.{IsReady, AppendedTableShows}
 use Rattle.append_plan.specs.Room.{last_end}

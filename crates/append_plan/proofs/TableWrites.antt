@@ -1,7 +1,6 @@
 -- The four writes of a table's new data: what a stop among them leaves, and all of them.
-use Rattle.std.proofs.Common.{◌≡◌, ◌≢◌, ◌⊎◌, ℕ, ◌+◌, ◌<◌, ◌≤◌, inl, inr, List, [], ◌∷◌, length, Option, Some, IsSomeAnd, refl, sym, ap, ◌∙◌, subst, arith}
-use Rattle.std.proofs.lemmas.Bool.{cases_eq, cases_lt}
-use Rattle.qic_base.specs.declared.tape.SectorView.{SectorView}
+use Rattle.std.proofs.Common.{◌≡◌, ◌≢◌, ℕ, ◌+◌, ◌<◌, ◌≤◌, inl, inr, List, [], ◌∷◌, Option, Some, IsSomeAnd, refl, sym, ap, ◌∙◌, subst, arith}
+use Rattle.std.proofs.lemmas.Bool.{cases_eq}
 use Rattle.qic_base.specs.declared.tape.SectorView.TheVariants.{Lost, Holds}
 use Rattle.qic_base.specs.Cartridge.{Cartridge, view_at}
 use Rattle.qic_base.specs.Step.{Step, WriteSector, Wear, changed, written_view, worn_view}

@@ -1,14 +1,12 @@
 -- A stop among the writes of a new volume's segments.
-use Rattle.std.proofs.Common.{◌≡◌, ◌⊎◌, ℕ, ◌<◌, ◌≤◌, inl, inr, List, length, map, All, Option, Some, IsSomeAnd, sym, ap, ◌∙◌, subst, arith}
+use Rattle.std.proofs.Common.{◌≡◌, ◌⊎◌, ℕ, ◌<◌, ◌≤◌, List, length, All, sym, ◌∙◌, subst, arith}
 use Rattle.std.proofs.lemmas.List.Elements.{All-weaker}
 use Rattle.qic_base.specs.declared.tape.SectorView.{SectorView}
-use Rattle.qic_base.specs.Cartridge.{Cartridge, view_at}
-use Rattle.qic_base.specs.Stop.{Torn}
+use Rattle.qic_base.specs.Cartridge.{Cartridge}
 use Rattle.cartridge_spec.specs.HeaderAndTable.{table_cells, last_segment}
 use Rattle.cartridge_spec.specs.Says.{whole_mask, Written, ReadsAll}
 use Rattle.cartridge_spec.specs.Table.{LieBehind}
 use Rattle.cartridge_spec.specs.Volumes.{Plain, Volume, VolumeStands, Stands, carrying, entries_of}
-use Rattle.cartridge_spec.specs.Writes.{changed_by}
 use Rattle.format_plan.proofs.Standing.{same_cells}
 use Rattle.format_plan.proofs.Writing.{some_weaker}
 use Rattle.volume_table.proofs.Orders.{faultless_is_sound}
@@ -16,10 +14,9 @@ use Rattle.append_plan.specs.Appending.{new_segments, appended_volume, volume_wr
 use Rattle.append_plan.specs.Between.{IsWhole}
 use Rattle.append_plan.specs.Laws.{IsReady, FreeWritesStand, StoppedVolume}
 use Rattle.append_plan.specs.Room.{last_end}
-use Rattle.append_plan.proofs.Between.{data_read}
-use Rattle.append_plan.proofs.Keeping.{AreIn, IsKeptBut, parts_in, steps_kept, steps_stopped}
+use Rattle.append_plan.proofs.Keeping.{AreIn, IsKeptBut, parts_in, steps_stopped}
 use Rattle.append_plan.proofs.Orders.{LiesWithin, end_least, lie_within}
-use Rattle.append_plan.proofs.Segments.{AreTaken, HasRoom, carrying_from, room_is, segments_taken}
+use Rattle.append_plan.proofs.Segments.{AreTaken, carrying_from, room_is, segments_taken}
 use Rattle.append_plan.proofs.Standing.{AreKeptTo, volumes_kept_to, stands_with}
 
 -- ---- what is known of a cartridge that is ready
@@ -70,7 +67,6 @@ pub old_stand : (c d : Cartridge) (plain : Plain) → Stands c plain → AreKept
     All (VolumeStands d plain.words) plain.volumes
 old_stand c d plain stood kept =
     volumes_kept_to c d plain.words 2 (last_end (entries_of plain)) plain.volumes kept (old_volumes c plain stood) stood.volumes
-
 
 -- a cartridge of which nothing but sectors behind the volumes changed
 stands_still : (c d : Cartridge) (plain : Plain) → Stands c plain → IsKeptBut (Behind plain) c d → Stands d plain

@@ -1,6 +1,6 @@
 -- What an append leaves, done or stopped, is a cartridge.
-use Rattle.std.proofs.Common.{◌≡◌, ℕ, zero, suc, ◌+◌, ◌-◌, ◌*◌, ◌<◌, ◌≤◌, inl, inr, List, [], ◌∷◌, ◌++◌, length, take, drop, Option, Some, IsSomeAnd, All, sym, ap, ◌∙◌, subst, arith}
-use Rattle.std.proofs.lemmas.List.{length-set, length-take}
+use Rattle.std.proofs.Common.{ℕ, ◌+◌, ◌*◌, ◌<◌, inl, inr, List, [], ◌∷◌, ◌++◌, length, take, drop, Option, Some, IsSomeAnd, All, sym, ◌∙◌, subst, arith}
+use Rattle.std.proofs.lemmas.List.{length-set}
 use Rattle.std.proofs.lemmas.List.Elements.{All-get_or, All-set, All-head, All-tail, All-take, All-drop, All-append}
 use Rattle.std.proofs.lemmas.Option.{unwrap_or-slice_get}
 use Rattle.qic_base.specs.declared.tape.SectorView.{SectorView}
@@ -16,7 +16,7 @@ use Rattle.cartridge_spec.specs.Segment.{sector_at}
 use Rattle.cartridge_spec.specs.Says.{with_parity}
 use Rattle.cartridge_spec.specs.Shape.{mask_at, usable_places, data_count}
 use Rattle.cartridge_spec.specs.Volumes.{Plain, Volume, Part, parts_of, sectors_in}
-use Rattle.cartridge_spec.specs.Writes.{writes_of, changed_by}
+use Rattle.cartridge_spec.specs.Writes.{writes_of}
 use Rattle.cartridge_spec.proofs.Sayings.{cartridge_sectors, code_sectors}
 use Rattle.cartridge_spec.proofs.Segments.{view_of_cartridge}
 use Rattle.format_plan.proofs.Writing.{effects-some, some_and}
@@ -125,10 +125,13 @@ append_whole c plain name date bytes ready =
     let area : IsArea table = (appended_table_shows c plain name date bytes ready).0 in
     let few = ready_count c plain name date bytes ready in
     writes_more (volume_writes plain last bytes volume) (list_writes plain volume)
-    (parts_whole plain.words segments volume.area (are_sectors (sectors_in plain.words segments) bytes ready.content))
-    (block_sector table (slot_sector (length plain.volumes)) area (omega arith),
-      (block_sector table 29 area (omega arith),
-        (block_sector table 30 area (omega arith), (block_sector table 31 area (omega arith), tt))))
+    (parts_whole plain.words segments volume.area (are_sectors (sectors_in plain.words segments) bytes ready.content)) (
+      block_sector table (slot_sector (length plain.volumes)) area (omega arith),
+      (
+        block_sector table 29 area (omega arith),
+        (block_sector table 30 area (omega arith), (block_sector table 31 area (omega arith), tt)),
+      ),
+    )
 
 pub stopped_append_is_cartridge : StoppedAppendIsCartridge
 stopped_append_is_cartridge c plain name date bytes left ready torn =

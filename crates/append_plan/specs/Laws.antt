@@ -1,10 +1,10 @@
 -- What an append leaves, done or stopped, as facts.
-use Rattle.std.specs.Prelude.{◌≡◌, ◌≢◌, ◌⊎◌, ℕ, ◌^◌, ◌<◌, true, false, List, length, All, Option, Some, IsSomeAnd}
-use Rattle.qic_base.specs.Cartridge.{Cartridge, IsCartridge, view_at}
+use Rattle.std.specs.Prelude.{◌≡◌, ◌⊎◌, ℕ, ◌^◌, ◌<◌, true, false, List, length, All, Option, Some, IsSomeAnd}
+use Rattle.qic_base.specs.Cartridge.{Cartridge, IsCartridge}
 use Rattle.qic_base.specs.Step.{Step}
 use Rattle.qic_base.specs.Stop.{Torn}
 use Rattle.cartridge_spec.specs.HeaderAndTable.{IsArea, TableIs, last_segment}
-use Rattle.cartridge_spec.specs.Table.{Entry, Shows, IsSoundList, entry_in, slot}
+use Rattle.cartridge_spec.specs.Table.{Shows, IsSoundList}
 use Rattle.cartridge_spec.specs.Mounting.{Mounts, settled}
 use Rattle.cartridge_spec.specs.Volumes.{Plain, Volume, Stands, entries_of, volume_length}
 use Rattle.cartridge_spec.specs.Writes.{changed_by}
@@ -17,6 +17,28 @@ use Rattle.append_plan.specs.NewVolume.{volume_bytes}
 use Rattle.append_plan.specs.Room.{has_room, last_end}
 use Rattle.append_plan.specs.Slots.{slot_sector}
 use Rattle.append_plan.specs.Writes.{AreWrites, IsFree, IsOfSector, KeepsTo}
+
+-- ---- an append to a cartridge that stands for a plain one: of a name of 44 bytes, a date word, and bytes
+
+abbrev pub volume_of : Cartridge → Plain → (name : List ℕ) → (date : ℕ) → (bytes : List ℕ) → Volume
+volume_of c plain name date bytes = appended_volume plain (last_segment c) name date bytes
+
+-- the plain cartridge with that volume, and its table's data
+abbrev pub new_plain : Cartridge → Plain → (name : List ℕ) → (date : ℕ) → (bytes : List ℕ) → Plain
+new_plain c plain name date bytes = with_volume plain (volume_of c plain name date bytes)
+
+abbrev pub new_table : Cartridge → Plain → (name : List ℕ) → (date : ℕ) → (bytes : List ℕ) → List (List ℕ)
+new_table c plain name date bytes = appended_table plain (volume_of c plain name date bytes).entry
+
+-- the writes of the volume's segments, those of the table, and all of them
+abbrev pub volume_steps : Cartridge → Plain → (name : List ℕ) → (date : ℕ) → (bytes : List ℕ) → List Step
+volume_steps c plain name date bytes = volume_writes plain (last_segment c) bytes (volume_of c plain name date bytes)
+
+abbrev pub list_steps : Cartridge → Plain → (name : List ℕ) → (date : ℕ) → (bytes : List ℕ) → List Step
+list_steps c plain name date bytes = list_writes plain (volume_of c plain name date bytes)
+
+abbrev pub steps_of : Cartridge → Plain → (name : List ℕ) → (date : ℕ) → (bytes : List ℕ) → List Step
+steps_of c plain name date bytes = append_steps plain (last_segment c) bytes (volume_of c plain name date bytes)
 
 -- ---- before an append
 
@@ -57,10 +79,9 @@ TurnedReadsNew = (c : Cartridge) (old new : List (List ℕ)) → IsArea new → 
 abbrev pub AppendedTableShows : Type 0
 AppendedTableShows =
     (c : Cartridge) (plain : Plain) (name : List ℕ) (date : ℕ) (bytes : List ℕ) → IsReady c plain name date bytes →
-    IsArea (appended_table plain (appended_volume plain (last_segment c) name date bytes).entry)
-    × Shows (appended_table plain (appended_volume plain (last_segment c) name date bytes).entry)
-    (entries_of (with_volume plain (appended_volume plain (last_segment c) name date bytes)))
-    × IsSoundList (last_segment c) (entries_of (with_volume plain (appended_volume plain (last_segment c) name date bytes)))
+    IsArea (new_table c plain name date bytes) × Shows (new_table c plain name date bytes)
+    (entries_of (new_plain c plain name date bytes))
+    × IsSoundList (last_segment c) (entries_of (new_plain c plain name date bytes))
 
 -- ---- the new volume
 
@@ -68,8 +89,8 @@ AppendedTableShows =
 abbrev pub AppendedBytes : Type 0
 AppendedBytes =
     (c : Cartridge) (plain : Plain) (name : List ℕ) (date : ℕ) (bytes : List ℕ) → IsReady c plain name date bytes →
-    (volume_length plain.words (appended_volume plain (last_segment c) name date bytes).entry ≡ length bytes)
-    × (volume_bytes plain.words (appended_volume plain (last_segment c) name date bytes) ≡ bytes)
+    (volume_length plain.words (volume_of c plain name date bytes).entry ≡ length bytes)
+    × (volume_bytes plain.words (volume_of c plain name date bytes) ≡ bytes)
 
 -- ---- all steps done
 
@@ -77,37 +98,33 @@ AppendedBytes =
 abbrev pub AppendedStands : Type 0
 AppendedStands =
     (c : Cartridge) (plain : Plain) (name : List ℕ) (date : ℕ) (bytes : List ℕ) → IsReady c plain name date bytes →
-    Stands (changed_by (append_steps plain (last_segment c) bytes (appended_volume plain (last_segment c) name date bytes)) c)
-    (with_volume plain (appended_volume plain (last_segment c) name date bytes))
+    Stands (changed_by (steps_of c plain name date bytes) c) (new_plain c plain name date bytes)
 
 -- and it is mounted as that
 abbrev pub AppendedMounts : Type 0
 AppendedMounts =
     (c : Cartridge) (plain : Plain) (name : List ℕ) (date : ℕ) (bytes : List ℕ) → IsReady c plain name date bytes →
-    Mounts (changed_by (append_steps plain (last_segment c) bytes (appended_volume plain (last_segment c) name date bytes)) c)
-    (mounted_as (with_volume plain (appended_volume plain (last_segment c) name date bytes)))
+    Mounts (changed_by (steps_of c plain name date bytes) c) (mounted_as (new_plain c plain name date bytes))
 
 -- header copies that formatting may begin over stay so
 abbrev pub AppendedIsClean : Type 0
 AppendedIsClean =
     (c : Cartridge) (plain : Plain) (name : List ℕ) (date : ℕ) (bytes : List ℕ) → IsReady c plain name date bytes → StandsCleanly c plain →
-    StandsCleanly (changed_by (append_steps plain (last_segment c) bytes (appended_volume plain (last_segment c) name date bytes)) c)
-    (with_volume plain (appended_volume plain (last_segment c) name date bytes))
+    StandsCleanly (changed_by (steps_of c plain name date bytes) c) (new_plain c plain name date bytes)
 
 -- the table's segment is whole, so that one may append again
 abbrev pub AppendedIsWhole : Type 0
 AppendedIsWhole =
     (c : Cartridge) (plain : Plain) (name : List ℕ) (date : ℕ) (bytes : List ℕ) → IsReady c plain name date bytes →
-    IsWhole (changed_by (append_steps plain (last_segment c) bytes (appended_volume plain (last_segment c) name date bytes)) c)
-    (appended_table plain (appended_volume plain (last_segment c) name date bytes).entry)
+    IsWhole (changed_by (steps_of c plain name date bytes) c) (new_table c plain name date bytes)
 
 -- what is left is a cartridge
 abbrev pub AppendedIsCartridge : Type 0
 AppendedIsCartridge =
     (c : Cartridge) (plain : Plain) (name : List ℕ) (date : ℕ) (bytes : List ℕ) → IsReady c plain name date bytes →
-    IsCartridge (changed_by (append_steps plain (last_segment c) bytes (appended_volume plain (last_segment c) name date bytes)) c)
+    IsCartridge (changed_by (steps_of c plain name date bytes) c)
 
--- ---- a stop
+-- ---- writes behind the volumes
 
 -- whatever is written behind the last volume, stopped or not, leaves what stood, and the segments up to there as they were
 abbrev pub FreeWritesStand : Type 0
@@ -136,54 +153,48 @@ SectorWritesAreCartridge =
     (c : Cartridge) (steps : List Step) (left : Option Cartridge) →
     IsCartridge c → AreWrites IsOfSector steps → Torn steps (Some c) left → IsSomeAnd left IsCartridge
 
+-- ---- a stop
+
 -- a stop among the writes of the volume's segments leaves what stood, with its table whole
 abbrev pub StoppedVolume : Type 0
 StoppedVolume =
     (c : Cartridge) (plain : Plain) (name : List ℕ) (date : ℕ) (bytes : List ℕ) (left : Option Cartridge) →
-    IsReady c plain name date bytes →
-    Torn (volume_writes plain (last_segment c) bytes (appended_volume plain (last_segment c) name date bytes)) (Some c) left →
+    IsReady c plain name date bytes → Torn (volume_steps c plain name date bytes) (Some c) left →
     IsSomeAnd left (λ d. Stands d plain × IsWhole d plain.table_area)
 
 -- a stop among the writes of the table leaves its segment between its two data
 abbrev pub StoppedList : Type 0
 StoppedList =
     (c d : Cartridge) (plain : Plain) (name : List ℕ) (date : ℕ) (bytes : List ℕ) (left : Option Cartridge) →
-    IsReady c plain name date bytes →
-    d ≡ changed_by (volume_writes plain (last_segment c) bytes (appended_volume plain (last_segment c) name date bytes)) c →
-    Torn (list_writes plain (appended_volume plain (last_segment c) name date bytes)) (Some d) left →
+    IsReady c plain name date bytes → d ≡ changed_by (volume_steps c plain name date bytes) c →
+    Torn (list_steps c plain name date bytes) (Some d) left →
     IsSomeAnd left (λ e. Between e plain.table_area
-    (appended_table plain (appended_volume plain (last_segment c) name date bytes).entry) (slot_sector (length plain.volumes)))
+    (new_table c plain name date bytes) (slot_sector (length plain.volumes)))
 
 -- a stop among all of them leaves what stood, or the plain cartridge with the volume
 abbrev pub StoppedAppend : Type 0
 StoppedAppend =
     (c : Cartridge) (plain : Plain) (name : List ℕ) (date : ℕ) (bytes : List ℕ) (left : Option Cartridge) →
-    IsReady c plain name date bytes →
-    Torn (append_steps plain (last_segment c) bytes (appended_volume plain (last_segment c) name date bytes)) (Some c) left →
-    IsSomeAnd left (λ d. Stands d plain ⊎ Stands d (with_volume plain (appended_volume plain (last_segment c) name date bytes)))
+    IsReady c plain name date bytes → Torn (steps_of c plain name date bytes) (Some c) left →
+    IsSomeAnd left (λ d. Stands d plain ⊎ Stands d (new_plain c plain name date bytes))
 
 -- it is mounted as one of them
 abbrev pub StoppedAppendMounts : Type 0
 StoppedAppendMounts =
     (c : Cartridge) (plain : Plain) (name : List ℕ) (date : ℕ) (bytes : List ℕ) (left : Option Cartridge) →
-    IsReady c plain name date bytes →
-    Torn (append_steps plain (last_segment c) bytes (appended_volume plain (last_segment c) name date bytes)) (Some c) left →
-    IsSomeAnd left (λ d. Mounts d (mounted_as plain)
-    ⊎ Mounts d (mounted_as (with_volume plain (appended_volume plain (last_segment c) name date bytes))))
+    IsReady c plain name date bytes → Torn (steps_of c plain name date bytes) (Some c) left →
+    IsSomeAnd left (λ d. Mounts d (mounted_as plain) ⊎ Mounts d (mounted_as (new_plain c plain name date bytes)))
 
 -- header copies that formatting may begin over stay so
 abbrev pub StoppedAppendIsClean : Type 0
 StoppedAppendIsClean =
     (c : Cartridge) (plain : Plain) (name : List ℕ) (date : ℕ) (bytes : List ℕ) (left : Option Cartridge) →
-    IsReady c plain name date bytes → StandsCleanly c plain →
-    Torn (append_steps plain (last_segment c) bytes (appended_volume plain (last_segment c) name date bytes)) (Some c) left →
-    IsSomeAnd left (λ d. StandsCleanly d plain
-    ⊎ StandsCleanly d (with_volume plain (appended_volume plain (last_segment c) name date bytes)))
+    IsReady c plain name date bytes → StandsCleanly c plain → Torn (steps_of c plain name date bytes) (Some c) left →
+    IsSomeAnd left (λ d. StandsCleanly d plain ⊎ StandsCleanly d (new_plain c plain name date bytes))
 
 -- and it is a cartridge
 abbrev pub StoppedAppendIsCartridge : Type 0
 StoppedAppendIsCartridge =
     (c : Cartridge) (plain : Plain) (name : List ℕ) (date : ℕ) (bytes : List ℕ) (left : Option Cartridge) →
-    IsReady c plain name date bytes →
-    Torn (append_steps plain (last_segment c) bytes (appended_volume plain (last_segment c) name date bytes)) (Some c) left →
+    IsReady c plain name date bytes → Torn (steps_of c plain name date bytes) (Some c) left →
     IsSomeAnd left IsCartridge

@@ -1,6 +1,6 @@
 -- The slot that an append writes into the volume table (Linux ftape headers: the volume table entry of 128 bytes;
 -- QIC-80-MC: the signature `VTBL`).
-use Rattle.std.specs.Prelude.{ℕ, ◌+◌, ◌*◌, ◌/◌, ◌%◌, List, [], ◌∷◌, ◌++◌, codes, replicate, slice_set}
+use Rattle.std.specs.Prelude.{ℕ, ◌*◌, ◌/◌, ◌%◌, List, [], ◌∷◌, ◌++◌, codes, replicate, slice_set}
 use Rattle.qic_base.specs.Field.{little_endian_bytes, overwritten}
 use Rattle.cartridge_spec.specs.Segment.{sector_at}
 use Rattle.cartridge_spec.specs.Table.{Entry}
