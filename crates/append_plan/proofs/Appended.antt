@@ -68,8 +68,8 @@ begin_behind c plain stood =
     (λ (volume : Volume) lies. let from : 2 < volume.entry.start = lies.behind in omega arith)
     plain.volumes (old_volumes c plain stood)
 
-abbrev OfTable : ℕ → Type 0
-OfTable s = s ≡ 2
+abbrev OfTable : (segment sector : ℕ) → Type 0
+OfTable segment sector = segment ≡ 2
 
 behind_table : (d e : Cartridge) → IsKeptBut OfTable d e → AreKept d e
 behind_table d e kept s i from h = kept.others s i h (λ (is : s ≡ 2). omega arith)

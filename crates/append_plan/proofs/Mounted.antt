@@ -1,6 +1,6 @@
 -- What an append leaves, done or stopped, is mounted as what it stands for, and its header copies are as they were.
-use Rattle.std.proofs.Common.{◌≡◌, ◌⊎◌, ℕ, ◌-◌, ◌*◌, ◌<◌, ◌≤◌, inl, List, length, refl, sym, ap, ◌∙◌, subst, arith}
-use Rattle.std.proofs.lemmas.List.Elements.{All-weaker}
+use Rattle.std.proofs.Common.{◌≡◌, ◌⊎◌, ℕ, ◌-◌, ◌*◌, ◌<◌, ◌≤◌, inl, inr, List, Contains, length, refl, sym, ap, ◌∙◌, subst, arith}
+use Rattle.std.proofs.lemmas.List.Elements.{All-weaker, All-contains_itself, Contains-get_or}
 use Rattle.qic_base.specs.declared.tape.SectorView.{SectorView}
 use Rattle.qic_base.specs.declared.tape.TapeInfo.{TapeInfo}
 use Rattle.qic_base.specs.Cartridge.{Cartridge, IsCartridge}
@@ -15,13 +15,15 @@ use Rattle.format_plan.proofs.Writing.{some_weaker}
 use Rattle.format_plan.specs.Clean.{IsCleanCopy, StandsCleanly}
 use Rattle.mount_laws.proofs.Standing.{can_be_read, standing_mounts}
 use Rattle.mount_laws.specs.Laws.{mounted_as}
-use Rattle.append_plan.specs.Appending.{new_segments, appended_volume, appended_table, with_volume, volume_writes, list_writes, append_steps}
-use Rattle.append_plan.specs.Laws.{IsReady, AppendedMounts, AppendedIsClean, StoppedAppendMounts, StoppedAppendIsClean, FreeWritesLeaveReady, FreeWritesAreClean}
+use Rattle.append_plan.specs.Appending.{new_segments, appended_volume, appended_table, with_volume, volume_writes, list_writes, append_steps, IsNamed}
+use Rattle.append_plan.specs.Between.{table_places}
+use Rattle.append_plan.specs.Laws.{steps_of, IsReady, AppendTouchesOnly, AppendedMounts, AppendedIsClean, StoppedAppendMounts, StoppedAppendIsClean, FreeWritesLeaveReady, FreeWritesAreClean}
 use Rattle.append_plan.specs.Room.{has_room, last_end}
+use Rattle.append_plan.specs.Slots.{slot_sector}
 use Rattle.append_plan.specs.Writes.{KeepsTo}
 use Rattle.append_plan.proofs.Appended.{IsReadAs, some_both, either_of, stopped_reads, stopped_append, appended_stands, appended_is_whole}
 use Rattle.append_plan.proofs.Between.{data_read}
-use Rattle.append_plan.proofs.Keeping.{AreIn, IsKeptBut, in_append, parts_in, steps_kept, steps_stopped}
+use Rattle.append_plan.proofs.Keeping.{AreIn, AllowsUsable, IsKeptBut, in_append, parts_in, parts_of_segments, steps_kept, steps_stopped}
 use Rattle.append_plan.proofs.Table.{appended_table_shows, ready_count}
 use Rattle.append_plan.proofs.Volume.{free_writes_stand, last_end_least, ready_taken, taken_behind}
 use Rattle.append_plan.proofs.Whole.{sector_writes_are_cartridge}
@@ -51,8 +53,8 @@ stopped_append_mounts c plain name date bytes left ready torn =
 -- ---- header copies
 
 -- no step writes one
-abbrev BehindCopies : ℕ → Type 0
-BehindCopies s = 2 ≤ s
+abbrev BehindCopies : (segment sector : ℕ) → Type 0
+BehindCopies segment sector = 2 ≤ segment
 
 append_in : (c : Cartridge) (plain : Plain) (name : List ℕ) (date : ℕ) (bytes : List ℕ) → IsReady c plain name date bytes →
     AreIn BehindCopies (append_steps plain (last_segment c) bytes (appended_volume plain (last_segment c) name date bytes))
@@ -64,8 +66,8 @@ append_in c plain name date bytes ready =
     let least : 2 ≤ from = last_end_least c plain ready.stands in
     let few = ready_count c plain name date bytes ready in
     in_append BehindCopies (volume_writes plain last bytes volume) (list_writes plain volume)
-    (parts_in BehindCopies plain.words segments volume.area
-    (All-weaker (λ (s : ℕ). from < s) BehindCopies (λ s (past : from < s). omega arith) segments
+    (parts_of_segments (λ s. 2 ≤ s) plain.words segments volume.area
+    (All-weaker (λ (s : ℕ). from < s) (λ (s : ℕ). 2 ≤ s) (λ s (past : from < s). omega arith) segments
     (taken_behind plain.words from last segments (ready_taken c plain name date bytes ready))))
     ((omega arith, omega arith), ((omega arith, omega arith), ((omega arith, omega arith), ((omega arith, omega arith), tt))))
 
@@ -99,6 +101,36 @@ stopped_append_is_clean c plain name date bytes left ready clean torn =
     (some_both (IsKeptBut BehindCopies c) (λ d. Stands d plain ⊎ Stands d (with_volume plain volume)) left
     (steps_stopped BehindCopies steps c left (append_in c plain name date bytes ready) torn)
     (stopped_append c plain name date bytes left ready torn))
+
+-- ---- which sectors are written
+
+named_in : (c : Cartridge) (plain : Plain) (name : List ℕ) (date : ℕ) (bytes : List ℕ) → IsReady c plain name date bytes →
+    AreIn (IsNamed plain (last_segment c) bytes) (steps_of c plain name date bytes)
+named_in c plain name date bytes ready =
+    let last : ℕ = last_segment c in
+    let volume : Volume = appended_volume plain last name date bytes in
+    let segments : List ℕ = new_segments plain last bytes in
+    let places : List ℕ = table_places (slot_sector (length plain.volumes)) in
+    let few = ready_count c plain name date bytes ready in
+    in_append (IsNamed plain last bytes) (volume_writes plain last bytes volume) (list_writes plain volume)
+    (parts_in (IsNamed plain last bytes) plain.words segments volume.area
+    (All-weaker (Contains segments) (AllowsUsable (IsNamed plain last bytes) plain.words) (λ s inside i usable. inr (inside, usable)) segments
+    (All-contains_itself segments))) (
+      (inl (refl, Contains-get_or places 0 0 (omega arith)), omega arith),
+      (
+        (inl (refl, Contains-get_or places 1 0 (omega arith)), omega arith),
+        (
+          (inl (refl, Contains-get_or places 2 0 (omega arith)), omega arith),
+          ((inl (refl, Contains-get_or places 3 0 (omega arith)), omega arith), tt),
+        ),
+      ),
+    )
+
+pub append_touches_only : AppendTouchesOnly
+append_touches_only c plain name date bytes left ready torn =
+    some_weaker left (λ d kept. (kept.info, kept.others))
+    (steps_stopped (IsNamed plain (last_segment c) bytes) (steps_of c plain name date bytes) c left
+    (named_in c plain name date bytes ready) torn)
 
 -- ---- whatever is written behind the last volume
 

@@ -14,7 +14,7 @@ use Rattle.format_plan.proofs.Standing.{same_cells}
 use Rattle.format_plan.proofs.Writing.{changed_by-append}
 use Rattle.append_plan.specs.Appending.{part_writes, parts_writes}
 use Rattle.append_plan.specs.NewVolume.{filled_up, in_sectors}
-use Rattle.append_plan.proofs.Keeping.{parts_in, steps_kept}
+use Rattle.append_plan.proofs.Keeping.{parts_of_segments, steps_kept}
 use Rattle.append_plan.proofs.Segments.{IsRising}
 
 -- ---- one segment
@@ -48,7 +48,7 @@ parts_written c words (s ∷ ss) area rise carry long =
     let whole : length area ≡ n + sectors_in words ss = long ∙ sum_by-cons (λ t. data_count (mask_at words t)) s ss in
     let front : length (take n area) ≡ n = omega (arith, length-take n area) in
     let rear : length (drop n area) ≡ sectors_in words ss = omega (arith, length-drop n area) in
-    let kept = steps_kept (λ t. s < t) (parts_writes words rest) first (parts_in (λ t. s < t) words ss (drop n area) rise.0) in
+    let kept = steps_kept (λ t i. s < t) (parts_writes words rest) first (parts_of_segments (λ t. s < t) words ss (drop n area) rise.0) in
     subst (λ (d : Cartridge). All (PartStands d words) (part ∷ rest))
     (sym (changed_by-append (part_writes words part) (parts_writes words rest) c))
     (All-cons (PartStands last words) part rest

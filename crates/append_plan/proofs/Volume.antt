@@ -14,7 +14,7 @@ use Rattle.append_plan.specs.Appending.{new_segments, appended_volume, volume_wr
 use Rattle.append_plan.specs.Between.{IsWhole}
 use Rattle.append_plan.specs.Laws.{IsReady, FreeWritesStand, StoppedVolume}
 use Rattle.append_plan.specs.Room.{last_end}
-use Rattle.append_plan.proofs.Keeping.{AreIn, IsKeptBut, parts_in, steps_stopped}
+use Rattle.append_plan.proofs.Keeping.{AreIn, IsKeptBut, parts_of_segments, steps_stopped}
 use Rattle.append_plan.proofs.Orders.{LiesWithin, end_least, lie_within}
 use Rattle.append_plan.proofs.Segments.{AreTaken, carrying_from, room_is, segments_taken}
 use Rattle.append_plan.proofs.Standing.{AreKeptTo, volumes_kept_to, stands_with}
@@ -44,14 +44,14 @@ taken_behind words from last segments taken =
     (carrying words taken.start taken.end) (carrying_from words taken.start taken.end))
 
 -- the writes lie behind the last volume
-abbrev pub Behind : Plain → ℕ → Type 0
-Behind plain s = last_end (entries_of plain) < s
+abbrev pub Behind : Plain → (segment sector : ℕ) → Type 0
+Behind plain segment sector = last_end (entries_of plain) < segment
 
 pub volume_writes_behind : (c : Cartridge) (plain : Plain) (name : List ℕ) (date : ℕ) (bytes : List ℕ) (volume : Volume) →
     IsReady c plain name date bytes → AreIn (Behind plain) (volume_writes plain (last_segment c) bytes volume)
 volume_writes_behind c plain name date bytes volume ready =
     let segments : List ℕ = new_segments plain (last_segment c) bytes in
-    parts_in (Behind plain) plain.words segments volume.area
+    parts_of_segments (λ s. last_end (entries_of plain) < s) plain.words segments volume.area
     (taken_behind plain.words (last_end (entries_of plain)) (last_segment c) segments (ready_taken c plain name date bytes ready))
 
 -- ---- what they leave

@@ -1,13 +1,13 @@
 -- What an append does to a cartridge: the segments of the new volume, and then the table; and the plain cartridge with one
 -- volume more (this project's profile).
-use Rattle.std.specs.Prelude.{ℕ, List, [], ◌∷◌, ◌++◌, length}
+use Rattle.std.specs.Prelude.{◌≡◌, ◌⊎◌, ℕ, List, [], ◌∷◌, ◌++◌, length, Contains}
 use Rattle.qic_base.specs.Step.{Step}
 use Rattle.cartridge_spec.specs.Shape.{mask_at, usable_places}
 use Rattle.cartridge_spec.specs.Says.{with_parity}
 use Rattle.cartridge_spec.specs.Table.{Entry}
 use Rattle.cartridge_spec.specs.Volumes.{Part, Plain, Volume, parts_of, entries_of}
 use Rattle.cartridge_spec.specs.Writes.{writes_of}
-use Rattle.append_plan.specs.Between.{table_writes}
+use Rattle.append_plan.specs.Between.{table_places, table_writes}
 use Rattle.append_plan.specs.NewVolume.{new_volume}
 use Rattle.append_plan.specs.Room.{free_segments, taken_by}
 use Rattle.append_plan.specs.Slots.{slot_bytes, slot_sector, with_slot}
@@ -51,3 +51,9 @@ list_writes plain volume =
 -- all of them
 abbrev pub append_steps : Plain → (last : ℕ) → (bytes : List ℕ) → Volume → List Step
 append_steps plain last bytes volume = volume_writes plain last bytes volume ++ list_writes plain volume
+
+-- the sectors that they name: four of the table's segment, and all usable ones of the volume's segments
+abbrev pub IsNamed : Plain → (last : ℕ) → (bytes : List ℕ) → (segment sector : ℕ) → Type 0
+IsNamed plain last bytes segment sector =
+    ((segment ≡ 2) × Contains (table_places (slot_sector (length plain.volumes))) sector)
+    ⊎ (Contains (new_segments plain last bytes) segment × Contains (usable_places (mask_at plain.words segment)) sector)

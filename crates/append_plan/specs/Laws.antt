@@ -1,6 +1,6 @@
 -- What an append leaves, done or stopped, as facts.
 use Rattle.std.specs.Prelude.{◌≡◌, ◌⊎◌, ℕ, ◌^◌, ◌<◌, true, false, List, length, All, Option, Some, IsSomeAnd}
-use Rattle.qic_base.specs.Cartridge.{Cartridge, IsCartridge}
+use Rattle.qic_base.specs.Cartridge.{Cartridge, IsCartridge, view_at}
 use Rattle.qic_base.specs.Step.{Step}
 use Rattle.qic_base.specs.Stop.{Torn}
 use Rattle.cartridge_spec.specs.HeaderAndTable.{IsArea, TableIs, last_segment}
@@ -11,7 +11,7 @@ use Rattle.cartridge_spec.specs.Writes.{changed_by}
 use Rattle.format_plan.specs.Clean.{StandsCleanly}
 use Rattle.format_plan.specs.Fresh.{IsLabel}
 use Rattle.mount_laws.specs.Laws.{IsTableLive, mounted_as}
-use Rattle.append_plan.specs.Appending.{appended_volume, appended_table, with_volume, volume_writes, list_writes, append_steps}
+use Rattle.append_plan.specs.Appending.{appended_volume, appended_table, with_volume, volume_writes, list_writes, append_steps, IsNamed}
 use Rattle.append_plan.specs.Between.{IsWhole, IsBegun, IsTurned, Between}
 use Rattle.append_plan.specs.NewVolume.{volume_bytes}
 use Rattle.append_plan.specs.Room.{has_room, last_end}
@@ -177,6 +177,14 @@ StoppedAppend =
     (c : Cartridge) (plain : Plain) (name : List ℕ) (date : ℕ) (bytes : List ℕ) (left : Option Cartridge) →
     IsReady c plain name date bytes → Torn (steps_of c plain name date bytes) (Some c) left →
     IsSomeAnd left (λ d. Stands d plain ⊎ Stands d (new_plain c plain name date bytes))
+
+-- no sector changes but those that the steps name; a stop may come behind the last of them
+abbrev pub AppendTouchesOnly : Type 0
+AppendTouchesOnly =
+    (c : Cartridge) (plain : Plain) (name : List ℕ) (date : ℕ) (bytes : List ℕ) (left : Option Cartridge) →
+    IsReady c plain name date bytes → Torn (steps_of c plain name date bytes) (Some c) left →
+    IsSomeAnd left (λ d. (d.info ≡ c.info) × ((segment sector : ℕ) → sector < 32 →
+    (IsNamed plain (last_segment c) bytes segment sector → ⊥) → view_at d segment sector ≡ view_at c segment sector))
 
 -- it is mounted as one of them
 abbrev pub StoppedAppendMounts : Type 0
