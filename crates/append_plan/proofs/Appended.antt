@@ -133,7 +133,7 @@ stands_new c e plain name date bytes ready next holds =
 
 -- ---- the four writes
 
-pub list_in : (plain : Plain) (volume : Volume) → length plain.volumes < 232 → AreIn OfTable (list_writes plain volume)
+list_in : (plain : Plain) (volume : Volume) → length plain.volumes < 232 → AreIn OfTable (list_writes plain volume)
 list_in plain volume few = ((refl, omega arith), ((refl, omega arith), ((refl, omega arith), ((refl, omega arith), tt))))
 
 whole_then : (c : Cartridge) (plain : Plain) (name : List ℕ) (date : ℕ) (bytes : List ℕ) → IsReady c plain name date bytes →

@@ -62,7 +62,7 @@ taken_enough words bytes (s ∷ ss) enough =
     (taken_enough words (bytes - capacity (mask_at words s)) ss (omega (arith, enough, capacity_cons words s ss)))
 
 -- each sector carries 1,024 bytes
-carried_all : (words : List ℕ) (s : ℕ) → Carries (mask_at words s) → capacity (mask_at words s) ≡ 1024 * data_count (mask_at words s)
+pub carried_all : (words : List ℕ) (s : ℕ) → Carries (mask_at words s) → capacity (mask_at words s) ≡ 1024 * data_count (mask_at words s)
 carried_all words s carry =
     ap (λ (b : Bool). cond b (1024 * data_count (mask_at words s)) 0) (le-leb 4 (usable_count (mask_at words s)) carry)
 

@@ -33,10 +33,10 @@ pub record IsKeptBut (allowed : ℕ → ℕ → Type 0) (c d : Cartridge) : Type
   pub info : d.info ≡ c.info
   pub others : (s i : ℕ) → i < 32 → (allowed s i → ⊥) → view_at d s i ≡ view_at c s i
 
-pub kept_begun : (allowed : ℕ → ℕ → Type 0) (c : Cartridge) → IsKeptBut allowed c c
+kept_begun : (allowed : ℕ → ℕ → Type 0) (c : Cartridge) → IsKeptBut allowed c c
 kept_begun allowed c = record { info = refl; others = λ s i h other. refl }
 
-pub kept_then : {allowed : ℕ → ℕ → Type 0} {c d e : Cartridge} → IsKeptBut allowed c d → IsKeptBut allowed d e → IsKeptBut allowed c e
+kept_then : {allowed : ℕ → ℕ → Type 0} {c d e : Cartridge} → IsKeptBut allowed c d → IsKeptBut allowed d e → IsKeptBut allowed c e
 kept_then first next = record {
   info = next.info ∙ first.info;
   others = λ s i h other. next.others s i h other ∙ first.others s i h other;

@@ -1,5 +1,6 @@
 pub mod Appended
 pub mod Between
+pub mod BySegments
 pub mod Bytes
 pub mod Keeping
 pub mod Mounted

@@ -203,7 +203,7 @@ some_carries words (suc m) from some =
           omega arith
     ]
 
-pub capacity_most : (words : List ℕ) (s : ℕ) → capacity (mask_at words s) ≤ 29696
+capacity_most : (words : List ℕ) (s : ℕ) → capacity (mask_at words s) ≤ 29696
 capacity_most words s =
     let usable : length (lost_places (mask_at words s) 32) ≤ 32 = count_below (mask_at words s) 32 in
     let most = carried_most (carries words s) (1024 * data_count (mask_at words s)) in

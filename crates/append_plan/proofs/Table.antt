@@ -24,12 +24,12 @@ use Rattle.append_plan.proofs.Volume.{old_order, ready_taken}
 
 -- ---- lists
 
-pub entries_more : (volumes : List Volume) (volume : Volume) →
+entries_more : (volumes : List Volume) (volume : Volume) →
     map (λ v. v.entry) (volumes ++ volume ∷ []) ≡ map (λ v. v.entry) volumes ++ volume.entry ∷ []
 entries_more [] volume = refl
 entries_more (v ∷ vs) volume = ap (λ (es : List Entry). v.entry ∷ es) (entries_more vs volume)
 
-pub count_of_entries : (plain : Plain) → length (entries_of plain) ≡ length plain.volumes
+count_of_entries : (plain : Plain) → length (entries_of plain) ≡ length plain.volumes
 count_of_entries plain = length-map plain.volumes (λ (v : Volume). v.entry)
 
 entry_before : (es : List Entry) (e x : Entry) (i : ℕ) → slice_get es i ≡ Some x → slice_get (es ++ e ∷ []) i ≡ Some x

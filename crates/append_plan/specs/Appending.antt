@@ -5,10 +5,10 @@ use Rattle.qic_base.specs.Step.{Step}
 use Rattle.cartridge_spec.specs.Shape.{mask_at, usable_places}
 use Rattle.cartridge_spec.specs.Says.{with_parity}
 use Rattle.cartridge_spec.specs.Table.{Entry}
-use Rattle.cartridge_spec.specs.Volumes.{Part, Plain, Volume, parts_of, entries_of}
+use Rattle.cartridge_spec.specs.Volumes.{Part, Plain, Volume, parts_of, sectors_in, entries_of}
 use Rattle.cartridge_spec.specs.Writes.{writes_of}
 use Rattle.append_plan.specs.Between.{table_places, table_writes}
-use Rattle.append_plan.specs.NewVolume.{new_volume}
+use Rattle.append_plan.specs.NewVolume.{in_sectors, new_volume}
 use Rattle.append_plan.specs.Room.{free_segments, taken_by}
 use Rattle.append_plan.specs.Slots.{slot_bytes, slot_sector, with_slot}
 
@@ -37,6 +37,12 @@ appended_table plain entry = with_slot plain.table_area (length plain.volumes) (
 abbrev pub with_volume : Plain → Volume → Plain
 with_volume plain volume =
     record plain { table_area = appended_table plain volume.entry; volumes = plain.volumes ++ volume ∷ [] }
+
+-- the writes of a volume of these bytes, in as many of these carrying segments as it takes
+abbrev pub writes_into : (words segments : List ℕ) → (bytes : List ℕ) → List Step
+writes_into words segments bytes =
+    let taken : List ℕ = taken_by words (length bytes) segments in
+    parts_writes words (parts_of words taken (in_sectors (sectors_in words taken) bytes))
 
 -- the writes of the volume's segments, ascending
 abbrev pub volume_writes : Plain → (last : ℕ) → (bytes : List ℕ) → Volume → List Step

@@ -1,20 +1,21 @@
 -- What an append leaves, done or stopped, as facts.
-use Rattle.std.specs.Prelude.{◌≡◌, ◌⊎◌, ℕ, ◌^◌, ◌<◌, true, false, List, length, All, Option, Some, IsSomeAnd}
+use Rattle.std.specs.Prelude.{◌≡◌, ◌⊎◌, ℕ, ◌*◌, ◌^◌, ◌<◌, ◌++◌, true, false, List, [], ◌∷◌, length, take, drop, nat_le, if◌then◌else◌, All, Option, Some, IsSomeAnd}
 use Rattle.qic_base.specs.Cartridge.{Cartridge, IsCartridge, view_at}
 use Rattle.qic_base.specs.Step.{Step}
 use Rattle.qic_base.specs.Stop.{Torn}
 use Rattle.cartridge_spec.specs.HeaderAndTable.{IsArea, TableIs, last_segment}
 use Rattle.cartridge_spec.specs.Table.{Shows, IsSoundList}
+use Rattle.cartridge_spec.specs.Shape.{Carries, mask_at, data_count, capacity}
 use Rattle.cartridge_spec.specs.Mounting.{Mounts, settled}
 use Rattle.cartridge_spec.specs.Volumes.{Plain, Volume, Stands, entries_of, volume_length}
 use Rattle.cartridge_spec.specs.Writes.{changed_by}
 use Rattle.format_plan.specs.Clean.{StandsCleanly}
 use Rattle.format_plan.specs.Fresh.{IsLabel}
 use Rattle.mount_laws.specs.Laws.{IsTableLive, mounted_as}
-use Rattle.append_plan.specs.Appending.{appended_volume, appended_table, with_volume, volume_writes, list_writes, append_steps, IsNamed}
+use Rattle.append_plan.specs.Appending.{appended_volume, appended_table, with_volume, volume_writes, list_writes, append_steps, part_writes, writes_into, IsNamed}
 use Rattle.append_plan.specs.Between.{IsWhole, IsBegun, IsTurned, Between}
-use Rattle.append_plan.specs.NewVolume.{volume_bytes}
-use Rattle.append_plan.specs.Room.{has_room, last_end}
+use Rattle.append_plan.specs.NewVolume.{in_sectors, volume_bytes}
+use Rattle.append_plan.specs.Room.{free_segments, has_room, last_end}
 use Rattle.append_plan.specs.Slots.{slot_sector}
 use Rattle.append_plan.specs.Writes.{AreWrites, IsFree, IsOfSector, KeepsTo}
 
@@ -91,6 +92,28 @@ AppendedBytes =
     (c : Cartridge) (plain : Plain) (name : List ℕ) (date : ℕ) (bytes : List ℕ) → IsReady c plain name date bytes →
     (volume_length plain.words (volume_of c plain name date bytes).entry ≡ length bytes)
     × (volume_bytes plain.words (volume_of c plain name date bytes) ≡ bytes)
+
+-- ---- the volume's writes, segment by segment
+
+-- they are those of its bytes into the free segments, ..
+abbrev pub VolumeStepsByBytes : Type 0
+VolumeStepsByBytes =
+    (c : Cartridge) (plain : Plain) (name : List ℕ) (date : ℕ) (bytes : List ℕ) →
+    volume_steps c plain name date bytes
+    ≡ writes_into plain.words (free_segments plain.words (entries_of plain) (last_segment c)) bytes
+
+-- .. which are those of the first segment, and then those of the bytes behind it into the others, where there are any
+abbrev pub WritesBySegment : Type 0
+WritesBySegment =
+    (words : List ℕ) (segment : ℕ) (segments bytes : List ℕ) → Carries (mask_at words segment) →
+    writes_into words (segment ∷ segments) bytes
+    ≡ part_writes words (record { segment = segment; sectors = in_sectors (data_count (mask_at words segment)) bytes })
+    ++ (if nat_le (length bytes) (capacity (mask_at words segment)) then []
+    else writes_into words segments (drop (capacity (mask_at words segment)) bytes))
+
+-- sectors hold no byte behind those that they have room for
+abbrev pub SectorsTakeTheirs : Type 0
+SectorsTakeTheirs = (count : ℕ) (bytes : List ℕ) → in_sectors count (take (1024 * count) bytes) ≡ in_sectors count bytes
 
 -- ---- all steps done
 

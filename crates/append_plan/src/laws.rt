@@ -1,7 +1,7 @@
 //! What an append leaves, done or stopped. Each law is the contract of a function that does nothing, so that other crates
 //! can rest on it; their proofs import the lemmas of this crate's `proofs`.
 
-ghost use Rattle.append_plan.specs.Laws.{SettledIsReady, BeforeReadsOld, TurnedReadsNew, AppendedTableShows, AppendedBytes, AppendedStands, AppendedMounts, AppendedIsClean, AppendedIsWhole, AppendedIsCartridge, FreeWritesStand, FreeWritesLeaveReady, FreeWritesAreClean, SectorWritesAreCartridge, StoppedVolume, StoppedList, StoppedAppend, AppendTouchesOnly, StoppedAppendMounts, StoppedAppendIsClean, StoppedAppendIsCartridge};
+ghost use Rattle.append_plan.specs.Laws.{SettledIsReady, BeforeReadsOld, TurnedReadsNew, AppendedTableShows, AppendedBytes, VolumeStepsByBytes, WritesBySegment, SectorsTakeTheirs, AppendedStands, AppendedMounts, AppendedIsClean, AppendedIsWhole, AppendedIsCartridge, FreeWritesStand, FreeWritesLeaveReady, FreeWritesAreClean, SectorWritesAreCartridge, StoppedVolume, StoppedList, StoppedAppend, AppendTouchesOnly, StoppedAppendMounts, StoppedAppendIsClean, StoppedAppendIsCartridge};
 
 /// A cartridge that was settled is ready for an append that has room, where each sector of its table's segment takes what is
 /// written to it.
@@ -19,6 +19,13 @@ pub fn between_tables()
 /// The new volume has just the bytes that were appended.
 pub fn appended_bytes()
     ensures { AppendedBytes }
+{}
+
+/// The writes of the new volume go segment by segment: each takes the bytes that it has room for, and the rest goes behind it.
+pub fn by_segments()
+    ensures bytes { VolumeStepsByBytes }
+    ensures first { WritesBySegment }
+    ensures sectors { SectorsTakeTheirs }
 {}
 
 /// After all steps of an append the table shows the new volume behind the old ones, and the cartridge stands for the plain
