@@ -34,7 +34,7 @@ copy_reads c d copy area same reads = record {
 copy_does_not_read : (c d : Cartridge) (copy : ℕ) → copy_cells d copy ≡ copy_cells c copy → CopyDoesNotRead c copy → CopyDoesNotRead d copy
 copy_does_not_read c d copy same none area reads = none area (copy_reads d c copy area (sym same) reads)
 
-in_force : (c d : Cartridge) (area : List (List ℕ)) → copy_cells d 0 ≡ copy_cells c 0 → copy_cells d 1 ≡ copy_cells c 1 → IsInForce c area → IsInForce d area
+pub in_force : (c d : Cartridge) (area : List (List ℕ)) → copy_cells d 0 ≡ copy_cells c 0 → copy_cells d 1 ≡ copy_cells c 1 → IsInForce c area → IsInForce d area
 in_force c d area first second (inl reads) = inl (copy_reads c d 0 area first reads)
 in_force c d area first second (inr reads) = inr (copy_does_not_read c d 0 first reads.0, copy_reads c d 1 area second reads.1)
 
@@ -44,7 +44,7 @@ has_header c d table area kept has = record {
   in_force = in_force c d area (same_copy 0 kept (omega arith)) (same_copy 1 kept (omega arith)) has.in_force;
 }
 
-copies_are : (c d : Cartridge) (area : List (List ℕ)) → copy_cells d 0 ≡ copy_cells c 0 → copy_cells d 1 ≡ copy_cells c 1 → CopiesAre c area → CopiesAre d area
+pub copies_are : (c d : Cartridge) (area : List (List ℕ)) → copy_cells d 0 ≡ copy_cells c 0 → copy_cells d 1 ≡ copy_cells c 1 → CopiesAre c area → CopiesAre d area
 copies_are c d area first second (inl written) = inl (subst (λ (cells : List SectorView). Written cells area) (sym first) written)
 copies_are c d area first second (inr other) = inr (
   subst (λ (cells : List SectorView). Zero cells) (sym first) other.0,

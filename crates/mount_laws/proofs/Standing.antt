@@ -54,7 +54,7 @@ standing_table c area is_area (inl written) read = written_table c area is_area 
 standing_table c area is_area (inr reads) read = inl reads
 
 -- a table whose data are known can be read
-can_be_read : (c : Cartridge) (area : List (List ℕ)) → TableIs c area → CanBeRead c
+pub can_be_read : (c : Cartridge) (area : List (List ℕ)) → TableIs c area → CanBeRead c
 can_be_read c area (inl reads) = inl (count_of_readable 29 (table_cells c) (λ i h. ((reads.each i h).0, (reads.each i h).1)))
 can_be_read c area (inr says) = inr (code_says (table_cells c) (Data area) says).0
 

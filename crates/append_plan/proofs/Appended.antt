@@ -1,0 +1,272 @@
+-- What all steps of an append leave, and what a stop among them leaves.
+use Rattle.std.proofs.Common.{◌≡◌, ◌⊎◌, ℕ, ◌-◌, ◌<◌, ◌≤◌, inl, inr, List, [], ◌∷◌, ◌++◌, length, All, Option, Some, None, IsSomeAnd, refl, sym, ap, ◌∙◌, subst, arith}
+use Rattle.std.specs.Prelude.{slice_index}
+use Rattle.std.proofs.lemmas.List.Elements.{All-append, All-cons, All-nil, All-weaker}
+use Rattle.qic_base.specs.Cartridge.{Cartridge, IsSector}
+use Rattle.qic_base.specs.Step.{Step}
+use Rattle.qic_base.specs.Stop.{Torn}
+use Rattle.qic_base.proofs.Steps.{Torn-append}
+use Rattle.cartridge_spec.specs.HeaderAndTable.{IsArea, TableIs, table_cells, last_segment}
+use Rattle.cartridge_spec.specs.Shape.{Carries, mask_at}
+use Rattle.cartridge_spec.specs.Says.{Written, ReadsAll}
+use Rattle.cartridge_spec.specs.Volumes.{Plain, Volume, VolumeStands, PartStands, Stands, carrying, entries_of, parts_of, sectors_in, segments_of}
+use Rattle.cartridge_spec.specs.Writes.{changed_by}
+use Rattle.format_plan.proofs.Standing.{AreKept, BeginsBehind, volumes_kept}
+use Rattle.format_plan.proofs.Writing.{changed_by-append, effects-some, some_weaker}
+use Rattle.volume_table.proofs.Orders.{sound_is_faultless}
+use Rattle.append_plan.specs.Appending.{new_segments, appended_volume, appended_table, with_volume, volume_writes, list_writes, append_steps}
+use Rattle.append_plan.specs.Between.{HoldsPart, IsWhole, IsBegun, Between}
+use Rattle.append_plan.specs.Laws.{IsReady, AppendedStands, AppendedIsWhole, StoppedList, StoppedAppend}
+use Rattle.append_plan.specs.Room.{last_end}
+use Rattle.append_plan.specs.Slots.{slot_bytes, slot_sector}
+use Rattle.append_plan.proofs.Between.{data_read, begun_written, before_reads_old, turned_reads_new}
+use Rattle.append_plan.proofs.Keeping.{AreIn, IsKeptBut, steps_kept, steps_stopped}
+use Rattle.append_plan.proofs.Orders.{LiesWithin}
+use Rattle.append_plan.proofs.Parts.{parts_written, length-in_sectors, are_sectors}
+use Rattle.append_plan.proofs.Segments.{AreTaken, IsRising, carrying_carry, carrying_rise}
+use Rattle.append_plan.proofs.Standing.{AreKeptTo, stands_with}
+use Rattle.append_plan.proofs.Table.{appended_table_shows, slot_differs, ready_count}
+use Rattle.append_plan.proofs.TableWrites.{DifferIn, table_stopped, table_written}
+use Rattle.append_plan.proofs.Volume.{Behind, old_volumes, last_end_least, ready_taken, volume_writes_behind, kept_to, whole_kept, old_stand, stopped_volume}
+
+-- ---- the new volume
+
+pub segments_are : (words : List ℕ) (from last : ℕ) (segments : List ℕ) → AreTaken words from last segments →
+    carrying words (slice_index segments 0) (slice_index segments (length segments - 1)) ≡ segments
+segments_are words from last segments taken =
+    ap (λ (start : ℕ). carrying words start (slice_index segments (length segments - 1))) taken.starts
+    ∙ ap (λ (end : ℕ). carrying words taken.start end) taken.ends
+    ∙ sym taken.are
+
+new_stands : (c : Cartridge) (plain : Plain) (name : List ℕ) (date : ℕ) (bytes : List ℕ) → IsReady c plain name date bytes →
+    VolumeStands (changed_by (volume_writes plain (last_segment c) bytes (appended_volume plain (last_segment c) name date bytes)) c)
+    plain.words (appended_volume plain (last_segment c) name date bytes)
+new_stands c plain name date bytes ready =
+    let words : List ℕ = plain.words in
+    let last : ℕ = last_segment c in
+    let segments : List ℕ = new_segments plain last bytes in
+    let volume : Volume = appended_volume plain last name date bytes in
+    let d : Cartridge = changed_by (volume_writes plain last bytes volume) c in
+    let taken : AreTaken words (last_end (entries_of plain)) last segments = ready_taken c plain name date bytes ready in
+    let are : segments_of words volume.entry ≡ segments = segments_are words (last_end (entries_of plain)) last segments taken in
+    let long : length volume.area ≡ sectors_in words segments = length-in_sectors (sectors_in words segments) bytes in
+    let rise : IsRising segments = subst IsRising (sym taken.are) (carrying_rise words taken.start taken.end) in
+    let carry : All (λ s. Carries (mask_at words s)) segments =
+    subst (λ (ss : List ℕ). All (λ s. Carries (mask_at words s)) ss) (sym taken.are) (carrying_carry words taken.start taken.end) in
+    record {
+      parts = subst (λ (ss : List ℕ). All (PartStands d words) (parts_of words ss volume.area)) (sym are)
+          (parts_written c words segments volume.area rise carry long);
+      size = long ∙ ap (sectors_in words) (sym are);
+    }
+
+-- ---- the table's segment written, or on the way
+
+-- the volumes of a list, and one more, behind the table
+begin_behind : (c : Cartridge) (plain : Plain) → Stands c plain → All BeginsBehind plain.volumes
+begin_behind c plain stood =
+    All-weaker (LiesWithin 2 (last_end (entries_of plain))) BeginsBehind
+    (λ (volume : Volume) lies. let from : 2 < volume.entry.start = lies.behind in omega arith)
+    plain.volumes (old_volumes c plain stood)
+
+abbrev OfTable : (segment sector : ℕ) → Type 0
+OfTable segment sector = segment ≡ 2
+
+behind_table : (d e : Cartridge) → IsKeptBut OfTable d e → AreKept d e
+behind_table d e kept s i from h = kept.others s i h (λ (is : s ≡ 2). omega arith)
+
+-- header copies are as they were after both
+copies_kept : (c d e : Cartridge) (plain : Plain) → Stands c plain → IsKeptBut (Behind plain) c d → IsKeptBut OfTable d e → AreKeptTo 1 c e
+copies_kept c d e plain stood first next s i within h =
+    let least : 2 ≤ last_end (entries_of plain) = last_end_least c plain stood in
+    next.others s i h (λ (is : s ≡ 2). omega arith)
+    ∙ first.others s i h (λ (past : last_end (entries_of plain) < s). omega arith)
+
+-- a cartridge whose table is read as before stands for what stood
+stands_old : (c d e : Cartridge) (plain : Plain) → Stands c plain → IsKeptBut (Behind plain) c d → IsKeptBut OfTable d e →
+    Written (table_cells e) plain.table_area ⊎ ReadsAll (table_cells e) plain.table_area → Stands e plain
+stands_old c d e plain stood first next reads =
+    stands_with c e plain plain.table_area plain.volumes stood (next.info ∙ first.info) (copies_kept c d e plain stood first next) (record {
+      area = stood.whole.table_area;
+      areas = stood.whole.areas;
+      sound = stood.sound_table;
+      shown = stood.shown;
+      stand = volumes_kept d e plain.words plain.volumes (behind_table d e next) (begin_behind c plain stood)
+          (old_stand c d plain stood (kept_to c d plain (last_end (entries_of plain)) (omega arith) first));
+      reads = reads;
+    })
+
+-- and one whose table is read as the new one stands for the plain one with the volume
+stands_new : (c e : Cartridge) (plain : Plain) (name : List ℕ) (date : ℕ) (bytes : List ℕ) → IsReady c plain name date bytes →
+    IsKeptBut OfTable (changed_by (volume_writes plain (last_segment c) bytes (appended_volume plain (last_segment c) name date bytes)) c) e →
+    ((i : ℕ) → i < 29 → HoldsPart e (appended_table plain (appended_volume plain (last_segment c) name date bytes).entry) i) →
+    Stands e (with_volume plain (appended_volume plain (last_segment c) name date bytes))
+stands_new c e plain name date bytes ready next holds =
+    let words : List ℕ = plain.words in
+    let last : ℕ = last_segment c in
+    let volume : Volume = appended_volume plain last name date bytes in
+    let table : List (List ℕ) = appended_table plain volume.entry in
+    let volumes : List Volume = plain.volumes ++ volume ∷ [] in
+    let d : Cartridge = changed_by (volume_writes plain last bytes volume) c in
+    let stood : Stands c plain = ready.stands in
+    let first : IsKeptBut (Behind plain) c d =
+    steps_kept (Behind plain) (volume_writes plain last bytes volume) c (volume_writes_behind c plain name date bytes volume ready) in
+    let shows = appended_table_shows c plain name date bytes ready in
+    let taken = ready_taken c plain name date bytes ready in
+    let least : 2 ≤ last_end (entries_of plain) = last_end_least c plain stood in
+    let behind : last_end (entries_of plain) < taken.start = taken.behind in
+    let starts : volume.entry.start ≡ taken.start = taken.starts in
+    let from : BeginsBehind volume = omega arith in
+    stands_with c e plain table volumes stood (next.info ∙ first.info) (copies_kept c d e plain stood first next) (record {
+      area = shows.0;
+      areas = All-append (λ (v : Volume). All IsSector v.area) plain.volumes (volume ∷ []) stood.whole.areas
+          (All-cons (λ (v : Volume). All IsSector v.area) volume []
+          (are_sectors (sectors_in words (new_segments plain last bytes)) bytes ready.content) (All-nil (λ (v : Volume). All IsSector v.area)));
+      sound = sound_is_faultless table last (entries_of (with_volume plain volume)) shows.2 shows.1;
+      shown = shows.1;
+      stand = volumes_kept d e words volumes (behind_table d e next)
+          (All-append BeginsBehind plain.volumes (volume ∷ []) (begin_behind c plain stood) (All-cons BeginsBehind volume [] from (All-nil BeginsBehind)))
+          (All-append (VolumeStands d words) plain.volumes (volume ∷ [])
+          (old_stand c d plain stood (kept_to c d plain (last_end (entries_of plain)) (omega arith) first))
+          (All-cons (VolumeStands d words) volume [] (new_stands c plain name date bytes ready) (All-nil (VolumeStands d words))));
+      reads = inr (data_read e table shows.0 holds);
+    })
+
+-- ---- the four writes
+
+list_in : (plain : Plain) (volume : Volume) → length plain.volumes < 232 → AreIn OfTable (list_writes plain volume)
+list_in plain volume few = ((refl, omega arith), ((refl, omega arith), ((refl, omega arith), ((refl, omega arith), tt))))
+
+whole_then : (c : Cartridge) (plain : Plain) (name : List ℕ) (date : ℕ) (bytes : List ℕ) → IsReady c plain name date bytes →
+    IsWhole (changed_by (volume_writes plain (last_segment c) bytes (appended_volume plain (last_segment c) name date bytes)) c) plain.table_area
+whole_then c plain name date bytes ready =
+    let volume : Volume = appended_volume plain (last_segment c) name date bytes in
+    let writes : List Step = volume_writes plain (last_segment c) bytes volume in
+    let kept : IsKeptBut (Behind plain) c (changed_by writes c) =
+    steps_kept (Behind plain) writes c (volume_writes_behind c plain name date bytes volume ready) in
+    whole_kept c (changed_by writes c) plain.table_area (kept_to c (changed_by writes c) plain 2 (last_end_least c plain ready.stands) kept) ready.whole
+
+new_differs : (c : Cartridge) (plain : Plain) (name : List ℕ) (date : ℕ) (bytes : List ℕ) → IsReady c plain name date bytes →
+    DifferIn plain.table_area (appended_table plain (appended_volume plain (last_segment c) name date bytes).entry) (slot_sector (length plain.volumes))
+new_differs c plain name date bytes ready =
+    slot_differs plain.table_area (length plain.volumes) (slot_bytes (appended_volume plain (last_segment c) name date bytes).entry) ready.stands.whole.table_area
+
+changed_small : (c : Cartridge) (plain : Plain) (name : List ℕ) (date : ℕ) (bytes : List ℕ) → IsReady c plain name date bytes →
+    slot_sector (length plain.volumes) < 29
+changed_small c plain name date bytes ready = let few = ready_count c plain name date bytes ready in omega arith
+
+pub stopped_list : StoppedList
+stopped_list c d plain name date bytes left ready is torn =
+    let whole : IsWhole d plain.table_area = subst (λ (e : Cartridge). IsWhole e plain.table_area) (sym is) (whole_then c plain name date bytes ready) in
+    table_stopped d plain.table_area (appended_table plain (appended_volume plain (last_segment c) name date bytes).entry)
+    (slot_sector (length plain.volumes)) left (changed_small c plain name date bytes ready) (new_differs c plain name date bytes ready) whole torn
+
+-- ---- all steps
+
+pub appended_is_whole : AppendedIsWhole
+appended_is_whole c plain name date bytes ready =
+    let volume : Volume = appended_volume plain (last_segment c) name date bytes in
+    let first : List Step = volume_writes plain (last_segment c) bytes volume in
+    let next : List Step = list_writes plain volume in
+    subst (λ (e : Cartridge). IsWhole e (appended_table plain volume.entry)) (sym (changed_by-append first next c))
+    (table_written (changed_by first c) plain.table_area (appended_table plain volume.entry) (slot_sector (length plain.volumes))
+    (changed_small c plain name date bytes ready) (new_differs c plain name date bytes ready) (whole_then c plain name date bytes ready))
+
+pub appended_stands : AppendedStands
+appended_stands c plain name date bytes ready =
+    let volume : Volume = appended_volume plain (last_segment c) name date bytes in
+    let first : List Step = volume_writes plain (last_segment c) bytes volume in
+    let next : List Step = list_writes plain volume in
+    let d : Cartridge = changed_by first c in
+    let all : changed_by (append_steps plain (last_segment c) bytes volume) c ≡ changed_by next d = changed_by-append first next c in
+    let whole : IsWhole (changed_by next d) (appended_table plain volume.entry) =
+    subst (λ (e : Cartridge). IsWhole e (appended_table plain volume.entry)) all (appended_is_whole c plain name date bytes ready) in
+    subst (λ (e : Cartridge). Stands e (with_volume plain volume)) (sym all)
+    (stands_new c (changed_by next d) plain name date bytes ready
+    (steps_kept OfTable next d (list_in plain volume (ready_count c plain name date bytes ready)))
+    (λ i h. whole i (omega arith)))
+
+pub some_both : (P Q : Cartridge → Type 0) (left : Option Cartridge) → IsSomeAnd left P → IsSomeAnd left Q → IsSomeAnd left (λ d. P d × Q d)
+some_both P Q None p q = absurd p
+some_both P Q (Some d) p q = (p, q)
+
+-- ---- a stop among them
+
+-- it stands for a plain one, and its table says that one's data
+pub record IsReadAs (d : Cartridge) (plain : Plain) : Type 0 where
+  pub stands : Stands d plain
+  pub table : TableIs d plain.table_area
+
+-- what stands while the table is written
+by_between : (c e : Cartridge) (plain : Plain) (name : List ℕ) (date : ℕ) (bytes : List ℕ) → IsReady c plain name date bytes →
+    IsKeptBut OfTable (changed_by (volume_writes plain (last_segment c) bytes (appended_volume plain (last_segment c) name date bytes)) c) e →
+    Between e plain.table_area (appended_table plain (appended_volume plain (last_segment c) name date bytes).entry) (slot_sector (length plain.volumes)) →
+    IsReadAs e plain ⊎ IsReadAs e (with_volume plain (appended_volume plain (last_segment c) name date bytes))
+by_between c e plain name date bytes ready next between = by_state between
+  where
+    volume : Volume
+    volume = appended_volume plain (last_segment c) name date bytes
+
+    first : IsKeptBut (Behind plain) c (changed_by (volume_writes plain (last_segment c) bytes volume) c)
+    first =
+        steps_kept (Behind plain) (volume_writes plain (last_segment c) bytes volume) c
+        (volume_writes_behind c plain name date bytes volume ready)
+
+    small : slot_sector (length plain.volumes) < 29
+    small = changed_small c plain name date bytes ready
+
+    area : IsArea plain.table_area
+    area = ready.stands.whole.table_area
+
+    old : Written (table_cells e) plain.table_area ⊎ ReadsAll (table_cells e) plain.table_area →
+        IsWhole e plain.table_area ⊎ IsBegun e plain.table_area (slot_sector (length plain.volumes)) → IsReadAs e plain
+    old reads state = record {
+      stands = stands_old c (changed_by (volume_writes plain (last_segment c) bytes volume) c) e plain ready.stands first next reads;
+      table = before_reads_old e plain.table_area (slot_sector (length plain.volumes)) area small state;
+    }
+
+    by_state : Between e plain.table_area (appended_table plain volume.entry) (slot_sector (length plain.volumes)) →
+        IsReadAs e plain ⊎ IsReadAs e (with_volume plain volume)
+    by_state (inl whole) = inl (old (inr (data_read e plain.table_area area (λ i h. whole i (omega arith)))) (inl whole))
+    by_state (inr (inl begun)) =
+        inl (old (inl (begun_written e plain.table_area (slot_sector (length plain.volumes)) area begun)) (inr begun))
+    by_state (inr (inr turned)) =
+        let from : 29 ≤ turned.turn = turned.from in
+        inr (record {
+          stands = stands_new c e plain name date bytes ready next (λ i h. turned.before i (omega arith));
+          table = turned_reads_new e plain.table_area (appended_table plain volume.entry)
+              (appended_table_shows c plain name date bytes ready).0 turned;
+        })
+
+pub stopped_reads : (c : Cartridge) (plain : Plain) (name : List ℕ) (date : ℕ) (bytes : List ℕ) (left : Option Cartridge) →
+    IsReady c plain name date bytes →
+    Torn (append_steps plain (last_segment c) bytes (appended_volume plain (last_segment c) name date bytes)) (Some c) left →
+    IsSomeAnd left (λ d. IsReadAs d plain ⊎ IsReadAs d (with_volume plain (appended_volume plain (last_segment c) name date bytes)))
+stopped_reads c plain name date bytes left ready torn =
+    let volume : Volume = appended_volume plain (last_segment c) name date bytes in
+    let first : List Step = volume_writes plain (last_segment c) bytes volume in
+    let next : List Step = list_writes plain volume in
+    let d : Cartridge = changed_by first c in
+    elim (Torn-append first next (Some c) left torn) [
+      | inl front ↦
+          some_weaker left (λ e stood. inl (record {
+            stands = stood.0;
+            table = before_reads_old e plain.table_area (slot_sector (length plain.volumes)) ready.stands.whole.table_area
+                (changed_small c plain name date bytes ready) (inl stood.1);
+          }))
+          (stopped_volume c plain name date bytes left ready front)
+      | inr behind ↦
+          let rear : Torn next (Some d) left = subst (λ (held : Option Cartridge). Torn next held left) (effects-some first c) behind in
+          some_weaker left (λ e known. by_between c e plain name date bytes ready known.0 known.1)
+          (some_both (IsKeptBut OfTable d)
+          (λ e. Between e plain.table_area (appended_table plain volume.entry) (slot_sector (length plain.volumes))) left
+          (steps_stopped OfTable next d left (list_in plain volume (ready_count c plain name date bytes ready)) rear)
+          (stopped_list c d plain name date bytes left ready refl rear))
+    ]
+
+pub either_of : {A B C D : Type 0} → (A → C) → (B → D) → A ⊎ B → C ⊎ D
+either_of f g (inl a) = inl (f a)
+either_of f g (inr b) = inr (g b)
+
+pub stopped_append : StoppedAppend
+stopped_append c plain name date bytes left ready torn =
+    some_weaker left (λ d known. either_of (λ reads. reads.stands) (λ reads. reads.stands) known) (stopped_reads c plain name date bytes left ready torn)

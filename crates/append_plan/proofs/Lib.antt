@@ -1,0 +1,17 @@
+pub mod Appended
+pub mod Between
+pub mod BySegments
+pub mod Bytes
+pub mod Keeping
+pub mod Mounted
+pub mod Orders
+pub mod Parts
+pub mod Ready
+pub mod Segments
+pub mod SlotBytes
+pub mod Slots
+pub mod Standing
+pub mod Table
+pub mod TableWrites
+pub mod Volume
+pub mod Whole

@@ -1,0 +1,101 @@
+-- A table's data with one slot written: that slot has its bytes, and all others are as they were.
+use Rattle.std.proofs.Common.{◌≡◌, ◌≢◌, ℕ, ◌+◌, ◌-◌, ◌*◌, ◌/◌, ◌%◌, ◌<◌, inl, inr, List, [], ◌++◌, length, take, drop, set, All, Option, sym, ap, ◌∙◌, subst, arith}
+use Rattle.std.specs.Prelude.{unwrap_or}
+use Rattle.std.specs.List.{slice_range}
+use Rattle.std.proofs.lemmas.Bool.{cases_eq, cases_lt}
+use Rattle.std.proofs.lemmas.List.{length-set}
+use Rattle.std.proofs.lemmas.List.Elements.{All-append, All-take, All-drop, All-set, All-get_or}
+use Rattle.std.proofs.lemmas.Option.{unwrap_or-slice_get}
+use Rattle.qic_base.specs.Cartridge.{IsSector}
+use Rattle.qic_base.specs.Field.{overwritten}
+use Rattle.qic_base.proofs.FieldLaws.{length-overwritten, slice_range-overwritten, slice_range-overwritten_below, slice_range-overwritten_above}
+use Rattle.cartridge_spec.specs.HeaderAndTable.{IsArea}
+use Rattle.cartridge_spec.specs.Segment.{sector_at}
+use Rattle.cartridge_spec.specs.Table.{slot}
+use Rattle.cartridge_spec.proofs.Writing.{slice_get-set_same, slice_get-set_other}
+use Rattle.append_plan.specs.Slots.{slot_sector, with_slot}
+
+-- ---- the sectors
+
+sector_of_set : (area : List (List ℕ)) (k : ℕ) (bytes : List ℕ) → k < length area → sector_at (set area k bytes) k ≡ bytes
+sector_of_set area k bytes h = ap (λ (o : Option (List ℕ)). unwrap_or o []) (slice_get-set_same area k bytes h)
+
+pub other_sector : (area : List (List ℕ)) (k i : ℕ) (bytes : List ℕ) → i ≢ k → sector_at (set area k bytes) i ≡ sector_at area i
+other_sector area k i bytes apart = ap (λ (o : Option (List ℕ)). unwrap_or o []) (slice_get-set_other area k i bytes apart)
+
+sector_is : (area : List (List ℕ)) (k : ℕ) → IsArea area → k < 29 → IsSector (sector_at area k)
+sector_is area k is h =
+    let size : length area ≡ 29 = is.size in
+    subst IsSector (sym (unwrap_or-slice_get area k [])) (All-get_or IsSector area k [] (omega arith) is.sectors)
+
+bytes_of_overwritten : (bytes part : List ℕ) (at : ℕ) → All (λ b. b < 256) bytes → All (λ b. b < 256) part → All (λ b. b < 256) (overwritten bytes at part)
+unfolding overwritten
+bytes_of_overwritten bytes part at are part_are =
+    All-append (λ (b : ℕ). b < 256) (take at bytes ++ part) (drop (at + length part) bytes)
+    (All-append (λ (b : ℕ). b < 256) (take at bytes) part (All-take (λ (b : ℕ). b < 256) at bytes are) part_are)
+    (All-drop (λ (b : ℕ). b < 256) (at + length part) bytes are)
+
+pub slot_area : (area : List (List ℕ)) (i : ℕ) (bytes : List ℕ) → IsArea area → i < 232 → length bytes ≡ 128 → All (λ b. b < 256) bytes →
+    IsArea (with_slot area i bytes)
+slot_area area i bytes is within long are =
+    let k : ℕ = slot_sector i in
+    let old = sector_is area k is (omega arith) in
+    let size : length (sector_at area k) ≡ 1024 = old.size in
+    record {
+      size = length-set area k (overwritten (sector_at area k) (128 * (i % 8)) bytes) ∙ is.size;
+      sectors = All-set IsSector area k (overwritten (sector_at area k) (128 * (i % 8)) bytes) (record {
+        size = length-overwritten (sector_at area k) bytes (128 * (i % 8)) (omega arith) ∙ size;
+        each = bytes_of_overwritten (sector_at area k) bytes (128 * (i % 8)) old.each are;
+      }) is.sectors;
+    }
+
+-- ---- the slots
+
+-- the slot's bytes, as a range of its sector
+slot_range : (area : List (List ℕ)) (i : ℕ) → slot area i ≡ slice_range (sector_at area (i / 8)) (128 * (i % 8)) (128 * (i % 8) + 128)
+unfolding slot
+slot_range area i =
+    let long : 128 ≡ 128 * (i % 8) + 128 - 128 * (i % 8) = omega arith in
+    ap (λ (n : ℕ). take n (drop (128 * (i % 8)) (sector_at area (i / 8)))) long
+
+pub slot_written : (area : List (List ℕ)) (i : ℕ) (bytes : List ℕ) → IsArea area → i < 232 → length bytes ≡ 128 → slot (with_slot area i bytes) i ≡ bytes
+slot_written area i bytes is within long =
+    let k : ℕ = i / 8 in
+    let at : ℕ = 128 * (i % 8) in
+    let count : length area ≡ 29 = is.size in
+    let size : length (sector_at area k) ≡ 1024 = (sector_is area k is (omega arith)).size in
+    slot_range (with_slot area i bytes) i
+    ∙ ap (λ (sector : List ℕ). slice_range sector at (at + 128)) (sector_of_set area k (overwritten (sector_at area k) at bytes) (omega arith))
+    ∙ slice_range-overwritten (sector_at area k) bytes at (at + 128) (omega arith) (omega arith)
+
+same_sector : (area : List (List ℕ)) (i j : ℕ) (bytes : List ℕ) → IsArea area → i < 232 → length bytes ≡ 128 → j ≢ i → j / 8 ≡ i / 8 →
+    slice_range (overwritten (sector_at area (i / 8)) (128 * (i % 8)) bytes) (128 * (j % 8)) (128 * (j % 8) + 128)
+    ≡ slice_range (sector_at area (i / 8)) (128 * (j % 8)) (128 * (j % 8) + 128)
+same_sector area i j bytes is within long apart same =
+    let size : length (sector_at area (i / 8)) ≡ 1024 = (sector_is area (i / 8) is (omega arith)).size in
+    elim (cases_lt (j % 8) (i % 8)) [
+      | inl below ↦
+          slice_range-overwritten_below (sector_at area (i / 8)) bytes (128 * (i % 8)) (128 * (j % 8)) (128 * (j % 8) + 128)
+          (omega arith) (omega arith) (omega arith)
+      | inr above ↦
+          slice_range-overwritten_above (sector_at area (i / 8)) bytes (128 * (i % 8)) (128 * (j % 8)) (128 * (j % 8) + 128)
+          (omega arith) (omega arith) (omega arith)
+    ]
+
+pub other_slot : (area : List (List ℕ)) (i j : ℕ) (bytes : List ℕ) → IsArea area → i < 232 → length bytes ≡ 128 → j ≢ i →
+    slot (with_slot area i bytes) j ≡ slot area j
+other_slot area i j bytes is within long apart =
+    let k : ℕ = i / 8 in
+    let new : List ℕ = overwritten (sector_at area k) (128 * (i % 8)) bytes in
+    let from : ℕ = 128 * (j % 8) in
+    let count : length area ≡ 29 = is.size in
+    slot_range (with_slot area i bytes) j
+    ∙ elim (cases_eq (j / 8) k) [
+      | inl same ↦
+          ap (λ (n : ℕ). slice_range (sector_at (set area k new) n) from (from + 128)) same
+          ∙ ap (λ (sector : List ℕ). slice_range sector from (from + 128)) (sector_of_set area k new (omega arith))
+          ∙ same_sector area i j bytes is within long apart same
+          ∙ ap (λ (n : ℕ). slice_range (sector_at area n) from (from + 128)) (sym same)
+      | inr other ↦ ap (λ (sector : List ℕ). slice_range sector from (from + 128)) (other_sector area k (j / 8) new other)
+    ]
+    ∙ sym (slot_range area j)

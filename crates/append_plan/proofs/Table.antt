@@ -1,0 +1,138 @@
+-- The table's data with one slot more show the old list and the new entry behind it, in order.
+use Rattle.std.proofs.Common.{◌≡◌, ◌≢◌, ℕ, ◌+◌, ◌-◌, ◌*◌, ◌%◌, ◌^◌, ◌<◌, ◌≤◌, inl, inr, true, List, [], ◌∷◌, ◌++◌, length, map, slice_get, set, Some, refl, sym, ap, ◌∙◌, subst, arith}
+use Rattle.std.specs.Prelude.{slice_index}
+use Rattle.std.proofs.lemmas.Bool.{cases_eq}
+use Rattle.std.proofs.lemmas.List.{length_push, length-map, length-set, get_or_at, get_or_append_left, get_or-set_other}
+use Rattle.std.proofs.lemmas.Option.{slice_get-get_or, slice_get_within, get_or_from_slice_get}
+use Rattle.qic_base.specs.Cartridge.{Cartridge}
+use Rattle.qic_base.specs.Field.{overwritten}
+use Rattle.cartridge_spec.specs.HeaderAndTable.{IsArea, last_segment}
+use Rattle.cartridge_spec.specs.Segment.{sector_at}
+use Rattle.cartridge_spec.specs.Table.{Entry, Shows, IsSoundList, slot, entry_in, is_used, is_free}
+use Rattle.cartridge_spec.specs.Volumes.{Plain, Volume, entries_of, capacity_between}
+use Rattle.append_plan.specs.Appending.{new_segments, appended_volume, appended_table}
+use Rattle.append_plan.specs.Laws.{IsReady, AppendedTableShows}
+use Rattle.append_plan.specs.Room.{last_end}
+use Rattle.append_plan.specs.Slots.{slot_bytes, slot_sector, with_slot}
+use Rattle.append_plan.proofs.Between.{data_sector}
+use Rattle.append_plan.proofs.Orders.{order_more}
+use Rattle.append_plan.proofs.Segments.{AreTaken, HasRoom, room_is, room_most}
+use Rattle.append_plan.proofs.SlotBytes.{FitsSlot, length-slot_bytes, slot_is_used, slot_shows, slot_are_bytes}
+use Rattle.append_plan.proofs.Slots.{slot_area, slot_written, other_slot}
+use Rattle.append_plan.proofs.TableWrites.{DifferIn}
+use Rattle.append_plan.proofs.Volume.{old_order, ready_taken}
+
+-- ---- lists
+
+entries_more : (volumes : List Volume) (volume : Volume) →
+    map (λ v. v.entry) (volumes ++ volume ∷ []) ≡ map (λ v. v.entry) volumes ++ volume.entry ∷ []
+entries_more [] volume = refl
+entries_more (v ∷ vs) volume = ap (λ (es : List Entry). v.entry ∷ es) (entries_more vs volume)
+
+count_of_entries : (plain : Plain) → length (entries_of plain) ≡ length plain.volumes
+count_of_entries plain = length-map plain.volumes (λ (v : Volume). v.entry)
+
+entry_before : (es : List Entry) (e x : Entry) (i : ℕ) → slice_get es i ≡ Some x → slice_get (es ++ e ∷ []) i ≡ Some x
+entry_before es e x i at =
+    let within : i < length es = slice_get_within es i x at in
+    slice_get-get_or (es ++ e ∷ []) i x (omega (arith, length_push es e))
+    ∙ ap Some (get_or_append_left es (e ∷ []) x i within ∙ get_or_from_slice_get es i x x at)
+
+entry_last : (es : List Entry) (e : Entry) (i : ℕ) → i ≡ length es → slice_get (es ++ e ∷ []) i ≡ Some e
+entry_last es e i is =
+    slice_get-get_or (es ++ e ∷ []) i e (omega (arith, length_push es e)) ∙ ap Some (get_or_at es e [] e i (sym is))
+
+-- ---- one slot more
+
+shows_more : (area : List (List ℕ)) (es : List Entry) (e : Entry) (bytes : List ℕ) (n : ℕ) → IsArea area → Shows area es → length es ≡ n → n < 232 →
+    length bytes ≡ 128 → is_used bytes ≡ true → entry_in bytes ≡ e → Shows (with_slot area n bytes) (es ++ e ∷ [])
+shows_more area es e bytes n is shows count within long used shown =
+    let new : List (List ℕ) = with_slot area n bytes in
+    let here : slot new n ≡ bytes = slot_written area n bytes is within long in
+    record {
+      room = omega (arith, length_push es e);
+      used = λ i h.
+          elim (cases_eq i n) [
+            | inl same ↦ ap (λ (k : ℕ). is_used (slot new k)) same ∙ ap is_used here ∙ used
+            | inr apart ↦ ap is_used (other_slot area n i bytes is within long apart) ∙ shows.used i (omega (arith, length_push es e, apart))
+          ];
+      shown = λ i h.
+          elim (cases_eq i n) [
+            | inl same ↦
+                entry_last es e i (omega arith)
+                ∙ sym (ap (λ (k : ℕ). Some (entry_in (slot new k))) same ∙ ap (λ (b : List ℕ). Some (entry_in b)) here ∙ ap Some shown)
+            | inr apart ↦
+                entry_before es e (entry_in (slot new i)) i
+                (shows.shown i (omega (arith, length_push es e, apart))
+                ∙ sym (ap (λ (b : List ℕ). Some (entry_in b)) (other_slot area n i bytes is within long apart)))
+          ];
+      free = λ i past h.
+          let apart : i ≢ n = λ e'. omega (arith, length_push es e) in
+          ap is_free (other_slot area n i bytes is within long apart) ∙ shows.free i (omega (arith, length_push es e)) h;
+    }
+
+-- the sectors of data that have not this slot are as they were
+pub slot_differs : (area : List (List ℕ)) (n : ℕ) (bytes : List ℕ) → IsArea area → DifferIn area (with_slot area n bytes) (slot_sector n)
+slot_differs area n bytes is i h apart =
+    let k : ℕ = slot_sector n in
+    let new : List ℕ = overwritten (sector_at area k) (128 * (n % 8)) bytes in
+    let count : length area ≡ 29 = is.size in
+    data_sector (set area k new) i (omega (arith, length-set area k new))
+    ∙ get_or-set_other area k i new [] apart
+    ∙ sym (data_sector area i (omega arith))
+
+-- ---- the new entry
+
+pub ready_count : (c : Cartridge) (plain : Plain) (name : List ℕ) (date : ℕ) (bytes : List ℕ) → IsReady c plain name date bytes → length plain.volumes < 232
+ready_count c plain name date bytes ready =
+    let free : length (entries_of plain) < 232 = (room_is plain.words (entries_of plain) (last_segment c) (length bytes) ready.room).free_slot in
+    omega (arith, count_of_entries plain)
+
+ready_fits : (c : Cartridge) (plain : Plain) (name : List ℕ) (date : ℕ) (bytes : List ℕ) → IsReady c plain name date bytes →
+    FitsSlot (appended_volume plain (last_segment c) name date bytes).entry
+ready_fits c plain name date bytes ready =
+    let last : ℕ = last_segment c in
+    let segments : List ℕ = new_segments plain last bytes in
+    let taken : AreTaken plain.words (last_end (entries_of plain)) last segments = ready_taken c plain name date bytes ready in
+    let room : HasRoom plain.words (entries_of plain) last (length bytes) = room_is plain.words (entries_of plain) last (length bytes) ready.room in
+    let long : c.info.segments_per_track ≤ 246 = ready.cartridge.long.longest in
+    let starts : slice_index segments 0 ≡ taken.start = taken.starts in
+    let ends : slice_index segments (length segments - 1) ≡ taken.end = taken.ends in
+    let forwards : taken.start ≤ taken.end = taken.forwards in
+    let within : taken.end ≤ last = taken.within in
+    let enough : length bytes ≤ capacity_between plain.words (last_end (entries_of plain) + 1) last = room.enough in
+    let word : date < 2 ^ 32 = ready.word in
+    record {
+      start = omega arith;
+      end = omega arith;
+      name = ready.label.size;
+      date = omega arith;
+      directory = omega arith;
+      size = omega (arith, room_most plain.words (entries_of plain) last);
+    }
+
+pub appended_table_shows : AppendedTableShows
+appended_table_shows c plain name date bytes ready =
+    let last : ℕ = last_segment c in
+    let segments : List ℕ = new_segments plain last bytes in
+    let volume : Volume = appended_volume plain last name date bytes in
+    let entry : Entry = volume.entry in
+    let n : ℕ = length plain.volumes in
+    let fits : FitsSlot entry = ready_fits c plain name date bytes ready in
+    let within : n < 232 = ready_count c plain name date bytes ready in
+    let long : length (slot_bytes entry) ≡ 128 = length-slot_bytes entry fits.name in
+    let area : IsArea plain.table_area = ready.stands.whole.table_area in
+    let more = entries_more plain.volumes volume in
+    let taken : AreTaken plain.words (last_end (entries_of plain)) last segments = ready_taken c plain name date bytes ready in
+    let starts : entry.start ≡ taken.start = taken.starts in
+    let ends : entry.end ≡ taken.end = taken.ends in
+    let behind : last_end (entries_of plain) < taken.start = taken.behind in
+    let forwards : taken.start ≤ taken.end = taken.forwards in
+    let end : taken.end ≤ last = taken.within in (
+      slot_area plain.table_area n (slot_bytes entry) area within long (slot_are_bytes entry ready.label.bytes (omega arith) (omega arith)),
+      subst (λ (es : List Entry). Shows (appended_table plain entry) es) (sym more)
+          (shows_more plain.table_area (entries_of plain) entry (slot_bytes entry) n area ready.stands.shown (count_of_entries plain) within long
+          (slot_is_used entry fits.name) (slot_shows entry fits)),
+      subst (λ (es : List Entry). IsSoundList last es) (sym more)
+          (order_more 2 last (entries_of plain) entry (old_order c plain ready.stands) (omega arith) (omega arith) (omega arith)),
+    )

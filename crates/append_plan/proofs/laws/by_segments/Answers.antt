@@ -1,0 +1,11 @@
+use Rattle.append_plan.proofs.BySegments.{writes_by_segment, volume_steps_by_bytes, sectors_take_theirs}
+use Rattle.append_plan.proofs.laws.by_segments.Goals as goal
+
+pub returns-clause-bytes : goal.returns-clause-bytes
+returns-clause-bytes c = volume_steps_by_bytes
+
+pub returns-clause-first : goal.returns-clause-first
+returns-clause-first c = writes_by_segment
+
+pub returns-clause-sectors : goal.returns-clause-sectors
+returns-clause-sectors c = sectors_take_theirs

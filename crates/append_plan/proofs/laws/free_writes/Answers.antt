@@ -1,0 +1,16 @@
+use Rattle.append_plan.proofs.Mounted.{free_writes_leave_ready, free_writes_are_clean}
+use Rattle.append_plan.proofs.Volume.{free_writes_stand}
+use Rattle.append_plan.proofs.Whole.{sector_writes_are_cartridge}
+use Rattle.append_plan.proofs.laws.free_writes.Goals as goal
+
+pub returns-clause-stands : goal.returns-clause-stands
+returns-clause-stands c = free_writes_stand
+
+pub returns-clause-whole : goal.returns-clause-whole
+returns-clause-whole c = sector_writes_are_cartridge
+
+pub returns-clause-ready : goal.returns-clause-ready
+returns-clause-ready c = free_writes_leave_ready
+
+pub returns-clause-clean : goal.returns-clause-clean
+returns-clause-clean c = free_writes_are_clean

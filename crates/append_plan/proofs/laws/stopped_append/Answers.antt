@@ -1,0 +1,26 @@
+use Rattle.append_plan.proofs.Appended.{stopped_list, stopped_append}
+use Rattle.append_plan.proofs.Mounted.{append_touches_only, stopped_append_mounts, stopped_append_is_clean}
+use Rattle.append_plan.proofs.Volume.{stopped_volume}
+use Rattle.append_plan.proofs.Whole.{stopped_append_is_cartridge}
+use Rattle.append_plan.proofs.laws.stopped_append.Goals as goal
+
+pub returns-clause-volume : goal.returns-clause-volume
+returns-clause-volume c = stopped_volume
+
+pub returns-clause-list : goal.returns-clause-list
+returns-clause-list c = stopped_list
+
+pub returns-clause-stands : goal.returns-clause-stands
+returns-clause-stands c = stopped_append
+
+pub returns-clause-whole : goal.returns-clause-whole
+returns-clause-whole c = stopped_append_is_cartridge
+
+pub returns-clause-mounts : goal.returns-clause-mounts
+returns-clause-mounts c = stopped_append_mounts
+
+pub returns-clause-clean : goal.returns-clause-clean
+returns-clause-clean c = stopped_append_is_clean
+
+pub returns-clause-others : goal.returns-clause-others
+returns-clause-others c = append_touches_only

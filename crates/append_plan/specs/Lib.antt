@@ -1,0 +1,7 @@
+pub mod Appending
+pub mod Between
+pub mod Laws
+pub mod NewVolume
+pub mod Room
+pub mod Slots
+pub mod Writes
