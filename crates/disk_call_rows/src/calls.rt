@@ -158,19 +158,24 @@ fn a_sector_is_written_in_three_steps_or_two_or_none(rt: HostRuntime) -> Result<
     Ok(())
 }
 
+/// The 32 sectors of segment 2 with zero bytes, and their open gates.
+const CLEAN: Row = Row::Fill(73_664, 32_768, 0);
+
+const OPEN: Row = Row::Fill(128, 32, 0x5A);
+
+/// The 29 formed bytes of the sectors of segment 2 that were never formatted.
+const FORM: Row = Row::Fill(2_819, 29, 0xF0);
+
 #[test]
-fn a_segment_is_formatted_in_four_steps_or_three(rt: HostRuntime) -> Result<(), Fail> {
-    let clean = Row::Fill(73_664, 32_768, 0);
-    let form = Row::Fill(2_819, 29, 0xF0);
-    let open = Row::Fill(128, 32, 0x5A);
+fn a_segment_is_formatted_in_four_steps(rt: HostRuntime) -> Result<(), Fail> {
     let first = [
         Row::Fill(128, 3, 0xC1),
         Row::Sync,
-        clean,
+        CLEAN,
         Row::Sync,
-        form,
+        FORM,
         Row::Sync,
-        open,
+        OPEN,
         Row::Sync,
     ];
     // Each run of gates that are open goes as one write, and one sync stands behind them.
@@ -178,19 +183,11 @@ fn a_segment_is_formatted_in_four_steps_or_three(rt: HostRuntime) -> Result<(), 
         Row::Fill(128, 1, 0xC1),
         Row::Fill(130, 1, 0xC1),
         Row::Sync,
-        clean,
+        CLEAN,
         Row::Sync,
-        form,
+        FORM,
         Row::Sync,
-        open,
-        Row::Sync,
-    ];
-    let again = [
-        Row::Fill(128, 32, 0xC1),
-        Row::Sync,
-        clean,
-        Row::Sync,
-        open,
+        OPEN,
         Row::Sync,
     ];
     assert_eq!(rt;
@@ -201,6 +198,19 @@ fn a_segment_is_formatted_in_four_steps_or_three(rt: HostRuntime) -> Result<(), 
         rows_of(rt.alloc(), &[Call::Wear(1), Call::Format])?.as_slice(),
         in_runs.as_slice()
     );
+    Ok(())
+}
+
+#[test]
+fn a_segment_is_formatted_again_in_three_steps(rt: HostRuntime) -> Result<(), Fail> {
+    let again = [
+        Row::Fill(128, 32, 0xC1),
+        Row::Sync,
+        CLEAN,
+        Row::Sync,
+        OPEN,
+        Row::Sync,
+    ];
     assert_eq!(rt;
         rows_of(rt.alloc(), &[Call::Format, Call::Format])?.as_slice(),
         again.as_slice()
