@@ -1,12 +1,15 @@
 -- How runs over acts join.
-use Rattle.std.proofs.Common.{◌≡◌, ℕ, List, [], ◌∷◌, ◌++◌, refl, sym, ap, ◌∙◌, subst, arith, append_assoc}
-use Rattle.qic_base.specs.Step.{Step}
+use Rattle.std.proofs.Common.{◌≡◌, ℕ, List, [], ◌∷◌, ◌++◌, refl, sym, ap, ◌∙◌, subst, arith, append_assoc, Option, append-nil, Some}
+use Rattle.std.specs.Option.{option_map}
+use Rattle.qic_base.specs.Cartridge.{Cartridge}
+use Rattle.qic_base.specs.Step.{Step, effects}
+use Rattle.qic_base.specs.Stop.{Torn}
 use Rattle.qic_base.specs.Sink as sinks
 use Rattle.qic_base.specs.Source as sources
 use Rattle.qic_base.specs.Tape as tapes
-use Rattle.qic_base.proofs.Steps.{Rose-after, Done-nothing, Done-Done, Done-Broke}
+use Rattle.qic_base.proofs.Steps.{Rose-after, effects-append, Torn-nothing, Done-nothing, Done-Done, Done-Broke, Broke-front}
 use Rattle.qic_base.proofs.Writing.{TakesBoth, Wrote-Wrote}
-use Rattle.acts.specs.Acts.{Act, steps_of, text_of, Outside, TapeFails, SourceFails, SinkFails, Went, Parted, TapeCut, SinkCut, SourceCut, WroteAndBroke}
+use Rattle.acts.specs.Acts.{Act, steps_of, text_of, next_steps, Outside, TapeFails, SourceFails, SinkFails, Went, Parted, TapeCut, SinkCut, SourceCut, WroteAndBroke}
 use Rattle.acts.specs.Laws.{NothingWent, WentBoth, WentThenCut, CutIsLonger}
 
 -- ---- lists of acts
@@ -23,11 +26,18 @@ text_of-append (x ∷ xs) ys =
     ap (λ (text : List ℕ). x.text ++ text) (text_of-append xs ys)
     ∙ sym (append_assoc x.text (text_of xs) (text_of ys))
 
--- the steps of a front and of the next act, behind others
-steps_behind : (xs front : List Act) (act : Act) → steps_of xs ++ (steps_of front ++ act.steps) ≡ steps_of (xs ++ front) ++ act.steps
-steps_behind xs front act =
-    sym (append_assoc (steps_of xs) (steps_of front) act.steps)
-    ∙ ap (λ (steps : List Step). steps ++ act.steps) (sym (steps_of-append xs front))
+-- the steps of a front and some steps, behind others
+steps_behind : (xs front : List Act) (next : List Step) → steps_of xs ++ (steps_of front ++ next) ≡ steps_of (xs ++ front) ++ next
+steps_behind xs front next =
+    sym (append_assoc (steps_of xs) (steps_of front) next)
+    ∙ ap (λ (steps : List Step). steps ++ next) (sym (steps_of-append xs front))
+
+-- what acts and others behind them make of a cartridge
+effects_behind : (xs front : List Act) (held : Option Cartridge) →
+    effects (steps_of front) (effects (steps_of xs) held) ≡ effects (steps_of (xs ++ front)) held
+effects_behind xs front held =
+    sym (effects-append (steps_of xs) (steps_of front) held)
+    ∙ ap (λ (steps : List Step). effects steps held) (sym (steps_of-append xs front))
 
 abbrev parted_behind : (xs ys : List Act) → Parted ys → Parted (xs ++ ys)
 parted_behind xs ys at = record {
@@ -72,18 +82,41 @@ module _ {T S K : Type 0} (t : tapes.Meaning T) (s : sources.Meaning S) (k : sin
     later = let e = first.later in let f = broke.later in omega arith;
   }
 
+  -- what stands behind the front of later acts, told from the start
+  here_behind : (a b c : Outside T S K) (xs ys : List Act) → Went t s k a b xs → (cut : TapeCut t s k b c ys) → (held left : Option Cartridge) →
+      t.told a.tape ≡ Some held → t.told c.tape ≡ Some left → Torn (next_steps cut.rest) (effects (steps_of (xs ++ cut.front)) held) left
+  here_behind a b c xs ys first cut held left told now =
+      let between : t.told b.tape ≡ Some (effects (steps_of xs) held) =
+      first.did.told ∙ ap (λ (o : Option (Option Cartridge)). option_map (effects (steps_of xs)) o) told in
+      subst (λ (h : Option Cartridge). Torn (next_steps cut.rest) h left) (effects_behind xs cut.front held)
+      (cut.here (effects (steps_of xs) held) left between now)
+
   tape_cut : TakesBoth k → (a b c : Outside T S K) (xs ys : List Act) → Went t s k a b xs → TapeCut t s k b c ys → TapeCut t s k a c (xs ++ ys)
   tape_cut both a b c xs ys first cut = record {
-    at = parted_behind xs ys cut.at;
-    broke = subst (tapes.Broke t a.tape c.tape) (steps_behind xs cut.at.front cut.at.act) (Done-Broke first.did cut.broke);
-    wrote = subst (sinks.Wrote k a.sink c.sink) (sym (text_of-append xs cut.at.front)) (Wrote-Wrote both first.wrote cut.wrote);
+    front = xs ++ cut.front;
+    rest = cut.rest;
+    parts = append_assoc xs cut.front cut.rest ∙ ap (λ (zs : List Act). xs ++ zs) cut.parts;
+    broke = subst (tapes.Broke t a.tape c.tape) (steps_behind xs cut.front (next_steps cut.rest)) (Done-Broke first.did cut.broke);
+    here = here_behind a b c xs ys first cut;
+    wrote = subst (sinks.Wrote k a.sink c.sink) (sym (text_of-append xs cut.front)) (Wrote-Wrote both first.wrote cut.wrote);
     source_later = let e = first.source_later in let f = cut.source_later in omega arith;
   }
+
+  -- acts behind those that were left
+  broke_longer : (x y : T) (steps : List Step) (rest ys : List Act) → tapes.Broke t x y (steps ++ next_steps rest) →
+      tapes.Broke t x y (steps ++ next_steps (rest ++ ys))
+  broke_longer x y steps [] ys broke =
+      subst (tapes.Broke t x y) (ap (λ (ss : List Step). ss ++ next_steps ys) (append-nil steps)) (Broke-front (next_steps ys) broke)
+  broke_longer x y steps (act ∷ rest) ys broke = broke
+
+  torn_longer : (rest ys : List Act) (held left : Option Cartridge) → Torn (next_steps rest) held left → Torn (next_steps (rest ++ ys)) held left
+  torn_longer [] ys held left is = subst (Torn (next_steps ys) held) (sym is) (Torn-nothing (next_steps ys) held)
+  torn_longer (act ∷ rest) ys held left torn = torn
 
   sink_cut : TakesBoth k → (a b c : Outside T S K) (xs ys : List Act) → Went t s k a b xs → SinkCut t s k b c ys → SinkCut t s k a c (xs ++ ys)
   sink_cut both a b c xs ys first cut = record {
     at = parted_behind xs ys cut.at;
-    did = subst (tapes.Done t a.tape c.tape) (steps_behind xs cut.at.front cut.at.act) (Done-Done first.did cut.did);
+    did = subst (tapes.Done t a.tape c.tape) (steps_behind xs cut.at.front cut.at.act.steps) (Done-Done first.did cut.did);
     broke = subst (λ (text : List ℕ). WroteAndBroke k a.sink c.sink text cut.at.act.text) (sym (text_of-append xs cut.at.front))
         (then_broke both a.sink b.sink c.sink (text_of xs) (text_of cut.at.front) cut.at.act.text first.wrote cut.broke);
     source_later = let e = first.source_later in let f = cut.source_later in omega arith;
@@ -107,8 +140,11 @@ module _ {T S K : Type 0} (t : tapes.Meaning T) (s : sources.Meaning S) (k : sin
 
   pub cut_is_longer : CutIsLonger t s k
   cut_is_longer a b xs ys TapeFails cut = record {
-    at = parted_before xs ys cut.at;
-    broke = cut.broke;
+    front = cut.front;
+    rest = cut.rest ++ ys;
+    parts = sym (append_assoc cut.front cut.rest ys) ∙ ap (λ (zs : List Act). zs ++ ys) cut.parts;
+    broke = broke_longer a.tape b.tape (steps_of cut.front) cut.rest ys cut.broke;
+    here = λ held left told now. torn_longer cut.rest ys (effects (steps_of cut.front) held) left (cut.here held left told now);
     wrote = cut.wrote;
     source_later = cut.source_later;
   }

@@ -1,5 +1,5 @@
 -- What follows of acts that were cut off: for the tape, for its stops, for the text and for the counts.
-use Rattle.std.proofs.Common.{◌≡◌, ℕ, List, ◌∷◌, ◌++◌, Option, Some, None, IsSomeAnd, refl, sym, ap, ◌∙◌, subst, append_assoc}
+use Rattle.std.proofs.Common.{[], ◌≡◌, ℕ, List, ◌∷◌, ◌++◌, Option, Some, None, IsSomeAnd, refl, sym, ap, ◌∙◌, subst, append_assoc}
 use Rattle.std.specs.Option.{option_map}
 use Rattle.std.specs.Prelude.{is_some}
 use Rattle.qic_base.specs.Cartridge.{Cartridge}
@@ -9,7 +9,7 @@ use Rattle.qic_base.specs.Sink as sinks
 use Rattle.qic_base.specs.Source as sources
 use Rattle.qic_base.specs.Tape as tapes
 use Rattle.qic_base.proofs.Steps.{Torn-all, Torn-front, Stops-front}
-use Rattle.acts.specs.Acts.{Act, steps_of, text_of, TapeFails, SourceFails, SinkFails, Parted}
+use Rattle.acts.specs.Acts.{Act, steps_of, text_of, next_steps, TapeFails, SourceFails, SinkFails, Parted}
 use Rattle.acts.specs.Laws.{CutIsTorn, CutStops, CutTookFront, CutFellNone, CutRose}
 use Rattle.acts.proofs.Joins.{steps_of-append, text_of-append}
 
@@ -19,6 +19,24 @@ steps_parted acts at =
     append_assoc (steps_of at.front) at.act.steps (steps_of at.rest)
     ∙ sym (steps_of-append at.front (at.act ∷ at.rest))
     ∙ ap (λ (xs : List Act). steps_of xs) at.parts
+
+-- and so are those of a front, and of the first act behind it
+behind_next : List Act → List Act
+behind_next [] = []
+behind_next (act ∷ acts) = acts
+
+next_first : (rest : List Act) → next_steps rest ++ steps_of (behind_next rest) ≡ steps_of rest
+unfolding behind_next
+next_first [] = refl
+next_first (act ∷ rest) = refl
+
+steps_cut : (acts front rest : List Act) → front ++ rest ≡ acts →
+    (steps_of front ++ next_steps rest) ++ steps_of (behind_next rest) ≡ steps_of acts
+steps_cut acts front rest parts =
+    append_assoc (steps_of front) (next_steps rest) (steps_of (behind_next rest))
+    ∙ ap (λ (steps : List Step). steps_of front ++ steps) (next_first rest)
+    ∙ sym (steps_of-append front rest)
+    ∙ ap (λ (xs : List Act). steps_of xs) parts
 
 steps_fronted : (acts front rest : List Act) → front ++ rest ≡ acts → steps_of front ++ steps_of rest ≡ steps_of acts
 steps_fronted acts front rest parts = sym (steps_of-append front rest) ∙ ap (λ (xs : List Act). steps_of xs) parts
@@ -50,8 +68,8 @@ module _ {T S K : Type 0} (t : tapes.Meaning T) (s : sources.Meaning S) (k : sin
 
   pub cut_is_torn : CutIsTorn t s k
   cut_is_torn a b acts TapeFails held cut told =
-      broke_torn a.tape b.tape (steps_of cut.at.front ++ cut.at.act.steps) (steps_of cut.at.rest) (steps_of acts) held
-      (steps_parted acts cut.at) cut.broke told
+      broke_torn a.tape b.tape (steps_of cut.front ++ next_steps cut.rest) (steps_of (behind_next cut.rest)) (steps_of acts) held
+      (steps_cut acts cut.front cut.rest cut.parts) cut.broke told
   cut_is_torn a b acts SourceFails held cut told =
       done_torn a.tape b.tape (steps_of cut.front) (steps_of cut.rest) (steps_of acts) held
       (steps_fronted acts cut.front cut.rest cut.parts) cut.did told
@@ -61,7 +79,7 @@ module _ {T S K : Type 0} (t : tapes.Meaning T) (s : sources.Meaning S) (k : sin
 
   pub cut_stops : CutStops t s k
   cut_stops a b acts TapeFails cut =
-      subst (tapes.Stops t a.tape b.tape) (steps_parted acts cut.at) (Stops-front (steps_of cut.at.rest) cut.broke.stops)
+      subst (tapes.Stops t a.tape b.tape) (steps_cut acts cut.front cut.rest cut.parts) (Stops-front (steps_of (behind_next cut.rest)) cut.broke.stops)
   cut_stops a b acts SourceFails cut =
       subst (tapes.Stops t a.tape b.tape) (steps_fronted acts cut.front cut.rest cut.parts) (Stops-front (steps_of cut.rest) cut.did.stops)
   cut_stops a b acts SinkFails cut =
@@ -69,9 +87,9 @@ module _ {T S K : Type 0} (t : tapes.Meaning T) (s : sources.Meaning S) (k : sin
 
   pub cut_took_front : CutTookFront t s k
   cut_took_front a b acts TapeFails cut = record {
-    front = text_of cut.at.front;
-    rest = text_of (cut.at.act ∷ cut.at.rest);
-    parts = text_fronted acts cut.at.front (cut.at.act ∷ cut.at.rest) cut.at.parts;
+    front = text_of cut.front;
+    rest = text_of cut.rest;
+    parts = text_fronted acts cut.front cut.rest cut.parts;
     took = cut.wrote.took;
   }
   cut_took_front a b acts SourceFails cut = record {

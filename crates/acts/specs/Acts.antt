@@ -1,8 +1,10 @@
 -- Acts: what a command does to the tape and what it prints, part by part; and how a run over them went (this project's
 -- own). Steps and text are tied to one number of acts, so that a text that was printed tells which steps were done.
-use Rattle.std.specs.Prelude.{◌≡◌, ℕ, ◌≤◌, List, [], ◌∷◌, ◌++◌}
+use Rattle.std.specs.Prelude.{◌≡◌, ℕ, ◌≤◌, List, [], ◌∷◌, ◌++◌, Option, Some}
 use Rattle.qic_base.specs.Cause.{Rose}
-use Rattle.qic_base.specs.Step.{Step}
+use Rattle.qic_base.specs.Cartridge.{Cartridge}
+use Rattle.qic_base.specs.Step.{Step, effects}
+use Rattle.qic_base.specs.Stop.{Torn}
 use Rattle.qic_base.specs.Sink as sinks
 use Rattle.qic_base.specs.Source as sources
 use Rattle.qic_base.specs.Tape as tapes
@@ -44,19 +46,22 @@ pub record Went {T S K : Type 0} (t : tapes.Meaning T) (s : sources.Meaning S) (
   pub wrote : sinks.Wrote k old.sink new.sink (text_of acts)
   pub source_later : s.faults old.source ≤ s.faults new.source
 
--- a front of acts, the next act, and those behind it
-pub record Parted (acts : List Act) : Type 0 where
-  pub front : List Act
-  pub act : Act
-  pub rest : List Act
-  pub parts : front ++ act ∷ rest ≡ acts
+-- the steps of the first of some acts
+abbrev pub next_steps : List Act → List Step
+next_steps [] = []
+next_steps (act ∷ acts) = act.steps
 
 -- The acts of a front were done and written; a fault of the tape broke the steps of the next one off, whose text was not
--- begun.
+-- begun. It may come behind the last act, too, and where there is none: in a call that only reads.
 pub record TapeCut {T S K : Type 0} (t : tapes.Meaning T) (s : sources.Meaning S) (k : sinks.Meaning K) (old new : Outside T S K) (acts : List Act) : Type 0 where
-  pub at : Parted acts
-  pub broke : tapes.Broke t old.tape new.tape (steps_of at.front ++ at.act.steps)
-  pub wrote : sinks.Wrote k old.sink new.sink (text_of at.front)
+  pub front : List Act
+  pub rest : List Act
+  pub parts : front ++ rest ≡ acts
+  pub broke : tapes.Broke t old.tape new.tape (steps_of front ++ next_steps rest)
+  -- all of the front was done, whatever the fault left of the next steps
+  pub here : (held left : Option Cartridge) → t.told old.tape ≡ Some held → t.told new.tape ≡ Some left →
+      Torn (next_steps rest) (effects (steps_of front) held) left
+  pub wrote : sinks.Wrote k old.sink new.sink (text_of front)
   pub source_later : s.faults old.source ≤ s.faults new.source
 
 -- a text was taken whole, and a fault of the sink broke the next one off
@@ -67,6 +72,13 @@ pub record WroteAndBroke {K : Type 0} (k : sinks.Meaning K) (old new : K) (text 
   pub took : k.took old (text ++ part) new
   pub cause : Rose (k.faults old) (k.faults new)
   pub later : k.faults old ≤ k.faults new
+
+-- a front of acts, the next act, and those behind it
+pub record Parted (acts : List Act) : Type 0 where
+  pub front : List Act
+  pub act : Act
+  pub rest : List Act
+  pub parts : front ++ act ∷ rest ≡ acts
 
 -- The acts of a front were done and written, and the steps of the next one done; a fault of the sink broke its text off.
 pub record SinkCut {T S K : Type 0} (t : tapes.Meaning T) (s : sources.Meaning S) (k : sinks.Meaning K) (old new : Outside T S K) (acts : List Act) : Type 0 where
