@@ -135,7 +135,7 @@ AppendedIsClean =
     (c : Cartridge) (plain : Plain) (name : List ℕ) (date : ℕ) (bytes : List ℕ) → IsReady c plain name date bytes → StandsCleanly c plain →
     StandsCleanly (changed_by (steps_of c plain name date bytes) c) (new_plain c plain name date bytes)
 
--- the table's segment is whole, so that one may append again
+-- the table's segment is whole
 abbrev pub AppendedIsWhole : Type 0
 AppendedIsWhole =
     (c : Cartridge) (plain : Plain) (name : List ℕ) (date : ℕ) (bytes : List ℕ) → IsReady c plain name date bytes →
@@ -146,6 +146,15 @@ abbrev pub AppendedIsCartridge : Type 0
 AppendedIsCartridge =
     (c : Cartridge) (plain : Plain) (name : List ℕ) (date : ℕ) (bytes : List ℕ) → IsReady c plain name date bytes →
     IsCartridge (changed_by (steps_of c plain name date bytes) c)
+
+-- it is ready for an append that has room behind it
+abbrev pub AppendedIsReady : Type 0
+AppendedIsReady =
+    (c : Cartridge) (plain : Plain) (name : List ℕ) (date : ℕ) (bytes : List ℕ) (other : List ℕ) (day : ℕ) (more : List ℕ) →
+    IsReady c plain name date bytes →
+    has_room plain.words (entries_of (new_plain c plain name date bytes)) (last_segment c) (length more) ≡ true →
+    IsLabel other → day < 2 ^ 32 → All (λ b. b < 256) more →
+    IsReady (changed_by (steps_of c plain name date bytes) c) (new_plain c plain name date bytes) other day more
 
 -- ---- writes behind the volumes
 
