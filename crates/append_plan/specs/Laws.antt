@@ -12,6 +12,7 @@ use Rattle.cartridge_spec.specs.Writes.{changed_by}
 use Rattle.format_plan.specs.Clean.{StandsCleanly}
 use Rattle.format_plan.specs.Fresh.{IsLabel}
 use Rattle.mount_laws.specs.Laws.{IsTableLive, mounted_as}
+use Rattle.mount_laws.specs.Settling.{settling_steps}
 use Rattle.append_plan.specs.Appending.{appended_volume, appended_table, with_volume, volume_writes, list_writes, append_steps, part_writes, writes_into, IsNamed}
 use Rattle.append_plan.specs.Between.{IsWhole, IsBegun, IsTurned, Between}
 use Rattle.append_plan.specs.NewVolume.{in_sectors, volume_bytes}
@@ -54,13 +55,22 @@ pub record IsReady (c : Cartridge) (plain : Plain) (name : List ℕ) (date : ℕ
   pub word : date < 2 ^ 32
   pub content : All (λ b. b < 256) bytes
 
--- a settled cartridge is so, where each sector of its table's segment takes what is written to it
+-- The cartridge is so once its table is settled: it stands for a plain one, the table can be read, each sector of the
+-- table's segment takes what is written to it, and the volume has room.
+pub record MayAppend (c : Cartridge) (plain : Plain) (name : List ℕ) (date : ℕ) (bytes : List ℕ) : Type 0 where
+  pub cartridge : IsCartridge c
+  pub stands : Stands c plain
+  pub table : TableIs c plain.table_area
+  pub live : IsTableLive c
+  pub unprotected : c.info.protected ≡ false
+  pub room : has_room plain.words (entries_of plain) (last_segment c) (length bytes) ≡ true
+  pub label : IsLabel name
+  pub word : date < 2 ^ 32
+  pub content : All (λ b. b < 256) bytes
+
 abbrev pub SettledIsReady : Type 0
 SettledIsReady =
-    (c : Cartridge) (plain : Plain) (name : List ℕ) (date : ℕ) (bytes : List ℕ) →
-    IsCartridge c → Stands c plain → TableIs c plain.table_area → c.info.protected ≡ false → IsTableLive c →
-    has_room plain.words (entries_of plain) (last_segment c) (length bytes) ≡ true →
-    IsLabel name → date < 2 ^ 32 → All (λ b. b < 256) bytes →
+    (c : Cartridge) (plain : Plain) (name : List ℕ) (date : ℕ) (bytes : List ℕ) → MayAppend c plain name date bytes →
     IsReady (settled plain.table_area c) plain name date bytes
 
 -- ---- a state between two tables
@@ -135,7 +145,7 @@ AppendedIsClean =
     (c : Cartridge) (plain : Plain) (name : List ℕ) (date : ℕ) (bytes : List ℕ) → IsReady c plain name date bytes → StandsCleanly c plain →
     StandsCleanly (changed_by (steps_of c plain name date bytes) c) (new_plain c plain name date bytes)
 
--- the table's segment is whole, so that one may append again
+-- the table's segment is whole
 abbrev pub AppendedIsWhole : Type 0
 AppendedIsWhole =
     (c : Cartridge) (plain : Plain) (name : List ℕ) (date : ℕ) (bytes : List ℕ) → IsReady c plain name date bytes →
@@ -146,6 +156,15 @@ abbrev pub AppendedIsCartridge : Type 0
 AppendedIsCartridge =
     (c : Cartridge) (plain : Plain) (name : List ℕ) (date : ℕ) (bytes : List ℕ) → IsReady c plain name date bytes →
     IsCartridge (changed_by (steps_of c plain name date bytes) c)
+
+-- it is ready for an append that has room behind it
+abbrev pub AppendedIsReady : Type 0
+AppendedIsReady =
+    (c : Cartridge) (plain : Plain) (name : List ℕ) (date : ℕ) (bytes : List ℕ) (other : List ℕ) (day : ℕ) (more : List ℕ) →
+    IsReady c plain name date bytes →
+    has_room plain.words (entries_of (new_plain c plain name date bytes)) (last_segment c) (length more) ≡ true →
+    IsLabel other → day < 2 ^ 32 → All (λ b. b < 256) more →
+    IsReady (changed_by (steps_of c plain name date bytes) c) (new_plain c plain name date bytes) other day more
 
 -- ---- writes behind the volumes
 
@@ -200,6 +219,14 @@ StoppedAppend =
     (c : Cartridge) (plain : Plain) (name : List ℕ) (date : ℕ) (bytes : List ℕ) (left : Option Cartridge) →
     IsReady c plain name date bytes → Torn (steps_of c plain name date bytes) (Some c) left →
     IsSomeAnd left (λ d. Stands d plain ⊎ Stands d (new_plain c plain name date bytes))
+
+-- so does a stop among the steps that settle the table and those that append behind them
+abbrev pub StoppedFromTheStart : Type 0
+StoppedFromTheStart =
+    (c : Cartridge) (plain : Plain) (name : List ℕ) (date : ℕ) (bytes : List ℕ) (left : Option Cartridge) →
+    MayAppend c plain name date bytes →
+    Torn (settling_steps plain.table_area c ++ steps_of (settled plain.table_area c) plain name date bytes) (Some c) left →
+    IsSomeAnd left (λ d. Stands d plain ⊎ Stands d (new_plain (settled plain.table_area c) plain name date bytes))
 
 -- no sector changes but those that the steps name; a stop may come behind the last of them
 abbrev pub AppendTouchesOnly : Type 0

@@ -1,7 +1,7 @@
 //! What an append leaves, done or stopped. Each law is the contract of a function that does nothing, so that other crates
 //! can rest on it; their proofs import the lemmas of this crate's `proofs`.
 
-ghost use Rattle.append_plan.specs.Laws.{SettledIsReady, BeforeReadsOld, TurnedReadsNew, AppendedTableShows, AppendedBytes, VolumeStepsByBytes, WritesBySegment, SectorsTakeTheirs, AppendedStands, AppendedMounts, AppendedIsClean, AppendedIsWhole, AppendedIsCartridge, FreeWritesStand, FreeWritesLeaveReady, FreeWritesAreClean, SectorWritesAreCartridge, StoppedVolume, StoppedList, StoppedAppend, AppendTouchesOnly, StoppedAppendMounts, StoppedAppendIsClean, StoppedAppendIsCartridge};
+ghost use Rattle.append_plan.specs.Laws.{SettledIsReady, BeforeReadsOld, TurnedReadsNew, AppendedTableShows, AppendedBytes, VolumeStepsByBytes, WritesBySegment, SectorsTakeTheirs, AppendedStands, AppendedMounts, AppendedIsClean, AppendedIsWhole, AppendedIsCartridge, AppendedIsReady, FreeWritesStand, FreeWritesLeaveReady, FreeWritesAreClean, SectorWritesAreCartridge, StoppedVolume, StoppedList, StoppedAppend, StoppedFromTheStart, AppendTouchesOnly, StoppedAppendMounts, StoppedAppendIsClean, StoppedAppendIsCartridge};
 
 /// A cartridge that was settled is ready for an append that has room, where each sector of its table's segment takes what is
 /// written to it.
@@ -37,6 +37,7 @@ pub fn done_append()
     ensures clean { AppendedIsClean }
     ensures table { AppendedIsWhole }
     ensures whole { AppendedIsCartridge }
+    ensures ready { AppendedIsReady }
 {}
 
 /// Whatever is written behind the last volume, stopped or not, leaves what stood; and whatever sectors are written, a
@@ -54,6 +55,7 @@ pub fn stopped_append()
     ensures volume { StoppedVolume }
     ensures list { StoppedList }
     ensures stands { StoppedAppend }
+    ensures from_the_start { StoppedFromTheStart }
     ensures others { AppendTouchesOnly }
     ensures mounts { StoppedAppendMounts }
     ensures clean { StoppedAppendIsClean }

@@ -1,5 +1,6 @@
 use Rattle.append_plan.proofs.Appended.{stopped_list, stopped_append}
 use Rattle.append_plan.proofs.Mounted.{append_touches_only, stopped_append_mounts, stopped_append_is_clean}
+use Rattle.append_plan.proofs.Ready.{stopped_from_the_start}
 use Rattle.append_plan.proofs.Volume.{stopped_volume}
 use Rattle.append_plan.proofs.Whole.{stopped_append_is_cartridge}
 use Rattle.append_plan.proofs.laws.stopped_append.Goals as goal
@@ -24,3 +25,6 @@ returns-clause-clean c = stopped_append_is_clean
 
 pub returns-clause-others : goal.returns-clause-others
 returns-clause-others c = append_touches_only
+
+pub returns-clause-from_the_start : goal.returns-clause-from_the_start
+returns-clause-from_the_start c = stopped_from_the_start
