@@ -13,7 +13,7 @@ use Rattle.host_driver.specs.declared.report.Report.{Report}
 use Rattle.host_driver.specs.declared.report.Report.TheVariants.{Status, Error, Configuration, Rom, Vendor, TapeStatus, FormatSegments}
 use Rattle.host_driver.specs.Fits.{Fits}
 use Rattle.host_driver.specs.Reports.{command_of}
-use Rattle.host_driver.proofs.Taking.{ready_of}
+use Rattle.host_driver.proofs.Taking.{stands_known}
 
 stands : (m : Motion) → is_stopped m ≡ true → seen_motion m ≡ seen_as.Stopped
 stands Stopped e = refl
@@ -34,4 +34,4 @@ kind_taken FormatSegments v present stopped = rw (present, stopped) refl
 pub report_taken : {T : Type 0} {m : Meaning T} {h : Host} {u : UnitView T} (kind : Report) → Fits m h u → is_stopped u.drive.deck.motion ≡ true →
     refusal_of u.drive.deck (command_of kind) ≡ None
 report_taken {u = u} kind fits stopped =
-    kind_taken kind (view_of u.drive.deck) (ready_of fits stopped).present (stands u.drive.deck.motion stopped)
+    kind_taken kind (view_of u.drive.deck) (stands_known fits stopped).present (stands u.drive.deck.motion stopped)
