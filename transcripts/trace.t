@@ -25,6 +25,11 @@ Another gap tells trains apart that were one before.
   100 1 Reset
   $ printf '%s\n' 0 100 | pulse_trace --
   0 2 ReportNextBit
+  $ { seq 0 12; seq 5000 5004; seq 9000 9005; echo '9100 0'; } | pulse_trace --gap 100
+  0 13 SeekTrack
+  5000 5 value 3
+  9000 6 ReportStatus
+  9100 not acknowledged
 
 A report
 --------
