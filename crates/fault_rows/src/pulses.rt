@@ -148,23 +148,3 @@ fn a_tape_that_fails_at_first_has_no_train_read(rt: HostRuntime) -> Result<(), F
     assert!(rt; is_unreferenced(rt.alloc(), &mut unit)?);
     Ok(())
 }
-
-/// Trains by which a new cartridge is made to have its reference bursts: the error word is told, which clears the new
-/// cartridge flag, Format mode is entered, and the bursts are written. The status would follow.
-const REFERENCES: &str = "7\n2\n2\n2\n2\n2\n2\n2\n2\n2\n2\n2\n2\n2\n2\n2\n2\n2\n15\n16\n6\n";
-
-/// The levels of these trains but the last two.
-const LEVELS: &str = "1\n0\n0\n0\n0\n0\n0\n0\n0\n0\n0\n0\n0\n0\n0\n0\n0\n1\n0\n";
-
-#[test]
-fn a_tape_that_fails_in_a_gap_leaves_the_levels_before(rt: HostRuntime) -> Result<(), Fail> {
-    // Call 1 of the tape puts the cartridge in, and call 2 writes the reference bursts.
-    let mut unit = blank(rt.alloc(), 2)?;
-    let mut out = sink(rt.alloc())?;
-    assert_eq!(rt;
-        answer(rt.alloc(), &mut unit, REFERENCES, &mut out, LEVELS)?,
-        (Status::TapeFault, true, Some(2))
-    );
-    assert!(rt; is_unreferenced(rt.alloc(), &mut unit)?);
-    Ok(())
-}
