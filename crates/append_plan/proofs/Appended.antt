@@ -9,7 +9,7 @@ use Rattle.qic_base.proofs.Steps.{Torn-append}
 use Rattle.cartridge_spec.specs.HeaderAndTable.{IsArea, TableIs, table_cells, last_segment}
 use Rattle.cartridge_spec.specs.Shape.{Carries, mask_at}
 use Rattle.cartridge_spec.specs.Says.{Written, ReadsAll}
-use Rattle.cartridge_spec.specs.Volumes.{Plain, Volume, VolumeStands, PartStands, Stands, carrying, entries_of, parts_of, sectors_in, segments_of}
+use Rattle.cartridge_spec.specs.Volumes.{Plain, Volume, VolumeStands, PartStands, Stands, carrying, entries_of, parts_of, sectors_in, carrying_segments}
 use Rattle.cartridge_spec.specs.Writes.{changed_by}
 use Rattle.format_plan.proofs.Standing.{AreKept, BeginsBehind, volumes_kept}
 use Rattle.format_plan.proofs.Writing.{changed_by-append, effects-some, some_weaker}
@@ -18,7 +18,7 @@ use Rattle.append_plan.specs.Appending.{new_segments, appended_volume, appended_
 use Rattle.append_plan.specs.Between.{HoldsPart, IsWhole, IsBegun, Between}
 use Rattle.append_plan.specs.Laws.{IsReady, AppendedStands, AppendedIsWhole, StoppedList, StoppedAppend}
 use Rattle.append_plan.specs.Room.{last_end}
-use Rattle.append_plan.specs.Slots.{slot_bytes, slot_sector}
+use Rattle.cartridge_spec.specs.Slots.{slot_bytes, slot_sector}
 use Rattle.append_plan.proofs.Between.{data_read, begun_written, before_reads_old, turned_reads_new}
 use Rattle.append_plan.proofs.Keeping.{AreIn, IsKeptBut, steps_kept, steps_stopped}
 use Rattle.append_plan.proofs.Orders.{LiesWithin}
@@ -48,7 +48,7 @@ new_stands c plain name date bytes ready =
     let volume : Volume = appended_volume plain last name date bytes in
     let d : Cartridge = changed_by (volume_writes plain last bytes volume) c in
     let taken : AreTaken words (last_end (entries_of plain)) last segments = ready_taken c plain name date bytes ready in
-    let are : segments_of words volume.entry ≡ segments = segments_are words (last_end (entries_of plain)) last segments taken in
+    let are : carrying_segments words volume.entry ≡ segments = segments_are words (last_end (entries_of plain)) last segments taken in
     let long : length volume.area ≡ sectors_in words segments = length-in_sectors (sectors_in words segments) bytes in
     let rise : IsRising segments = subst IsRising (sym taken.are) (carrying_rise words taken.start taken.end) in
     let carry : All (λ s. Carries (mask_at words s)) segments =

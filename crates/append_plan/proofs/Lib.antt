@@ -8,8 +8,6 @@ pub mod Orders
 pub mod Parts
 pub mod Ready
 pub mod Segments
-pub mod SlotBytes
-pub mod Slots
 pub mod Standing
 pub mod Table
 pub mod TableWrites

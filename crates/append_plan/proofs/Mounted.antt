@@ -19,7 +19,7 @@ use Rattle.append_plan.specs.Appending.{new_segments, appended_volume, appended_
 use Rattle.append_plan.specs.Between.{table_places}
 use Rattle.append_plan.specs.Laws.{steps_of, IsReady, AppendTouchesOnly, AppendedMounts, AppendedIsClean, StoppedAppendMounts, StoppedAppendIsClean, FreeWritesLeaveReady, FreeWritesAreClean}
 use Rattle.append_plan.specs.Room.{has_room, last_end}
-use Rattle.append_plan.specs.Slots.{slot_sector}
+use Rattle.cartridge_spec.specs.Slots.{slot_sector}
 use Rattle.append_plan.specs.Writes.{KeepsTo}
 use Rattle.append_plan.proofs.Appended.{IsReadAs, some_both, either_of, stopped_reads, stopped_append, appended_stands, appended_is_whole}
 use Rattle.append_plan.proofs.Between.{data_read}

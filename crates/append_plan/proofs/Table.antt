@@ -13,12 +13,12 @@ use Rattle.cartridge_spec.specs.Volumes.{Plain, Volume, entries_of, capacity_bet
 use Rattle.append_plan.specs.Appending.{new_segments, appended_volume, appended_table}
 use Rattle.append_plan.specs.Laws.{IsReady, AppendedTableShows}
 use Rattle.append_plan.specs.Room.{last_end}
-use Rattle.append_plan.specs.Slots.{slot_bytes, slot_sector, with_slot}
+use Rattle.cartridge_spec.specs.Slots.{slot_bytes, FitsSlot, slot_sector, with_slot}
 use Rattle.append_plan.proofs.Between.{data_sector}
 use Rattle.append_plan.proofs.Orders.{order_more}
 use Rattle.append_plan.proofs.Segments.{AreTaken, HasRoom, room_is, room_most}
-use Rattle.append_plan.proofs.SlotBytes.{FitsSlot, length-slot_bytes, slot_is_used, slot_shows, slot_are_bytes}
-use Rattle.append_plan.proofs.Slots.{slot_area, slot_written, other_slot}
+use Rattle.cartridge_spec.proofs.SlotBytes.{length-slot_bytes, slot_is_used, slot_shows, slot_are_bytes}
+use Rattle.cartridge_spec.proofs.Slots.{slot_area, shows_more}
 use Rattle.append_plan.proofs.TableWrites.{DifferIn}
 use Rattle.append_plan.proofs.Volume.{old_order, ready_taken}
 
@@ -32,44 +32,7 @@ entries_more (v ∷ vs) volume = ap (λ (es : List Entry). v.entry ∷ es) (entr
 count_of_entries : (plain : Plain) → length (entries_of plain) ≡ length plain.volumes
 count_of_entries plain = length-map plain.volumes (λ (v : Volume). v.entry)
 
-entry_before : (es : List Entry) (e x : Entry) (i : ℕ) → slice_get es i ≡ Some x → slice_get (es ++ e ∷ []) i ≡ Some x
-entry_before es e x i at =
-    let within : i < length es = slice_get_within es i x at in
-    slice_get-get_or (es ++ e ∷ []) i x (omega (arith, length_push es e))
-    ∙ ap Some (get_or_append_left es (e ∷ []) x i within ∙ get_or_from_slice_get es i x x at)
-
-entry_last : (es : List Entry) (e : Entry) (i : ℕ) → i ≡ length es → slice_get (es ++ e ∷ []) i ≡ Some e
-entry_last es e i is =
-    slice_get-get_or (es ++ e ∷ []) i e (omega (arith, length_push es e)) ∙ ap Some (get_or_at es e [] e i (sym is))
-
 -- ---- one slot more
-
-shows_more : (area : List (List ℕ)) (es : List Entry) (e : Entry) (bytes : List ℕ) (n : ℕ) → IsArea area → Shows area es → length es ≡ n → n < 232 →
-    length bytes ≡ 128 → is_used bytes ≡ true → entry_in bytes ≡ e → Shows (with_slot area n bytes) (es ++ e ∷ [])
-shows_more area es e bytes n is shows count within long used shown =
-    let new : List (List ℕ) = with_slot area n bytes in
-    let here : slot new n ≡ bytes = slot_written area n bytes is within long in
-    record {
-      room = omega (arith, length_push es e);
-      used = λ i h.
-          elim (cases_eq i n) [
-            | inl same ↦ ap (λ (k : ℕ). is_used (slot new k)) same ∙ ap is_used here ∙ used
-            | inr apart ↦ ap is_used (other_slot area n i bytes is within long apart) ∙ shows.used i (omega (arith, length_push es e, apart))
-          ];
-      shown = λ i h.
-          elim (cases_eq i n) [
-            | inl same ↦
-                entry_last es e i (omega arith)
-                ∙ sym (ap (λ (k : ℕ). Some (entry_in (slot new k))) same ∙ ap (λ (b : List ℕ). Some (entry_in b)) here ∙ ap Some shown)
-            | inr apart ↦
-                entry_before es e (entry_in (slot new i)) i
-                (shows.shown i (omega (arith, length_push es e, apart))
-                ∙ sym (ap (λ (b : List ℕ). Some (entry_in b)) (other_slot area n i bytes is within long apart)))
-          ];
-      free = λ i past h.
-          let apart : i ≢ n = λ e'. omega (arith, length_push es e) in
-          ap is_free (other_slot area n i bytes is within long apart) ∙ shows.free i (omega (arith, length_push es e)) h;
-    }
 
 -- the sectors of data that have not this slot are as they were
 pub slot_differs : (area : List (List ℕ)) (n : ℕ) (bytes : List ℕ) → IsArea area → DifferIn area (with_slot area n bytes) (slot_sector n)

@@ -19,10 +19,11 @@ use Rattle.cartridge_spec.specs.Volumes.{Plain, Volume, Part, parts_of, sectors_
 use Rattle.cartridge_spec.specs.Writes.{writes_of}
 use Rattle.cartridge_spec.proofs.Sayings.{cartridge_sectors, code_sectors}
 use Rattle.cartridge_spec.proofs.Segments.{view_of_cartridge}
+use Rattle.cartridge_spec.proofs.Whole.{with_view_whole, written_is_view, worn_is_view}
 use Rattle.format_plan.proofs.Writing.{effects-some, some_and}
 use Rattle.append_plan.specs.Appending.{part_writes, parts_writes, new_segments, appended_volume, appended_table, volume_writes, list_writes, append_steps}
 use Rattle.append_plan.specs.Laws.{IsReady, AppendedIsCartridge, StoppedAppendIsCartridge, SectorWritesAreCartridge}
-use Rattle.append_plan.specs.Slots.{slot_sector}
+use Rattle.cartridge_spec.specs.Slots.{slot_sector}
 use Rattle.append_plan.specs.Writes.{IsWrite, AreWrites, IsOfSector}
 use Rattle.append_plan.proofs.Between.{length-block}
 use Rattle.append_plan.proofs.Parts.{are_sectors}
@@ -33,25 +34,6 @@ use Rattle.append_plan.proofs.Table.{appended_table_shows, ready_count}
 writes_more : (xs ys : List Step) → AreWrites IsOfSector xs → AreWrites IsOfSector ys → AreWrites IsOfSector (xs ++ ys)
 writes_more [] ys front rear = rear
 writes_more (x ∷ xs) ys front rear = (front.0, writes_more xs ys front.1 rear)
-
-with_view_whole : (d : Cartridge) (s i : ℕ) (view : SectorView) → IsCartridge d → IsView view → IsCartridge (with_view d s i view)
-with_view_whole d s i view whole good = record {
-  long = whole.long;
-  sectors = length-set d.views (32 * s + i) view ∙ whole.sectors;
-  views = All-set IsView d.views (32 * s + i) view good whole.views;
-}
-
-written_is_view : (bytes : List ℕ) (view : SectorView) → IsSector bytes → IsView view → IsView (written_view bytes view)
-written_is_view bytes Blank sector good = tt
-written_is_view bytes Defect sector good = tt
-written_is_view bytes Lost sector good = sector
-written_is_view bytes (Holds old) sector good = sector
-
-worn_is_view : (view : SectorView) → IsView view → IsView (worn_view view)
-worn_is_view Blank good = tt
-worn_is_view Defect good = tt
-worn_is_view Lost good = tt
-worn_is_view (Holds old) good = tt
 
 step_whole : (s : Step) (c : Cartridge) → IsWrite IsOfSector s → IsCartridge c → IsCartridge (changed s c)
 step_whole (WriteSector segment sector bytes) c is whole =

@@ -10,7 +10,7 @@ use Rattle.cartridge_spec.specs.Writes.{writes_of}
 use Rattle.append_plan.specs.Between.{table_places, table_writes}
 use Rattle.append_plan.specs.NewVolume.{in_sectors, new_volume}
 use Rattle.append_plan.specs.Room.{free_segments, taken_by}
-use Rattle.append_plan.specs.Slots.{slot_bytes, slot_sector, with_slot}
+use Rattle.cartridge_spec.specs.Slots.{slot_bytes, slot_sector, with_slot}
 
 -- all usable sectors of a segment, ascending: its part of an area, and the parity of it
 abbrev pub part_writes : (words : List ℕ) → Part → List Step

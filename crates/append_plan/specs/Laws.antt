@@ -17,7 +17,7 @@ use Rattle.append_plan.specs.Appending.{appended_volume, appended_table, with_vo
 use Rattle.append_plan.specs.Between.{IsWhole, IsBegun, IsTurned, Between}
 use Rattle.append_plan.specs.NewVolume.{in_sectors, volume_bytes}
 use Rattle.append_plan.specs.Room.{free_segments, has_room, last_end}
-use Rattle.append_plan.specs.Slots.{slot_sector}
+use Rattle.cartridge_spec.specs.Slots.{slot_sector}
 use Rattle.append_plan.specs.Writes.{AreWrites, IsFree, IsOfSector, KeepsTo}
 
 -- ---- an append to a cartridge that stands for a plain one: of a name of 44 bytes, a date word, and bytes

@@ -3,5 +3,4 @@ pub mod Between
 pub mod Laws
 pub mod NewVolume
 pub mod Room
-pub mod Slots
 pub mod Writes

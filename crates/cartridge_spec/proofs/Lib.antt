@@ -6,6 +6,9 @@ pub mod Sayings
 pub mod Search
 pub mod Segments
 pub mod Shapes
+pub mod SlotBytes
+pub mod Slots
 pub mod TableSayings
+pub mod Whole
 pub mod Writing
 pub mod Zeros

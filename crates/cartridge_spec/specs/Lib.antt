@@ -7,6 +7,7 @@ pub mod Says
 pub mod SayingLaws
 pub mod Segment
 pub mod Shape
+pub mod Slots
 pub mod Table
 pub mod Volumes
 pub mod Writes

@@ -38,8 +38,8 @@ pub record Volume : Type 0 where
   pub area : List (List ℕ)
 
 -- the carrying segments of a volume
-abbrev pub segments_of : List ℕ → Entry → List ℕ
-segments_of words e = carrying words e.start e.end
+abbrev pub carrying_segments : List ℕ → Entry → List ℕ
+carrying_segments words e = carrying words e.start e.end
 
 -- a segment, and the sectors of an area that it holds
 pub record Part : Type 0 where
@@ -59,8 +59,8 @@ PartStands c words part = Written (cells_of c part.segment (mask_at words part.s
 
 -- each carrying segment of a volume was written with its part of the area, which has no sector more
 pub record VolumeStands (c : Cartridge) (words : List ℕ) (volume : Volume) : Type 0 where
-  pub parts : All (PartStands c words) (parts_of words (segments_of words volume.entry) volume.area)
-  pub size : length volume.area ≡ sectors_in words (segments_of words volume.entry)
+  pub parts : All (PartStands c words) (parts_of words (carrying_segments words volume.entry) volume.area)
+  pub size : length volume.area ≡ sectors_in words (carrying_segments words volume.entry)
 
 -- ---- the plain cartridge
 

@@ -72,7 +72,7 @@ pub fn zero_says_no_header()
 {}
 
 /// A reading that leaves no sector out of account is what the segment says.
-pub fn nothing_left_out()
+pub fn nothing_is_hidden()
     ensures cells { NothingIsHidden }
     ensures says { SaysByNone }
 {}

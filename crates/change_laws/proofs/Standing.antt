@@ -10,7 +10,7 @@ use Rattle.qic_base.specs.Step.{SetReferenced, SetProtected, Spoil, changed, wor
 use Rattle.cartridge_spec.specs.Header.{has_signature}
 use Rattle.cartridge_spec.specs.Shape.{mask_at, usable_places}
 use Rattle.cartridge_spec.specs.Says.{whole_mask, cells_of, unreadable_count, Says, Data, Written, Zero, ReadsAll}
-use Rattle.cartridge_spec.specs.Volumes.{Plain, Volume, VolumeStands, PartStands, parts_of, segments_of, Stands, CopiesAre}
+use Rattle.cartridge_spec.specs.Volumes.{Plain, Volume, VolumeStands, PartStands, parts_of, carrying_segments, Stands, CopiesAre}
 use Rattle.cartridge_spec.specs.HeaderAndTable.{IsArea, HasHeader, IsInForce, CopyReads, CopyDoesNotRead, copy_cells, table_cells}
 use Rattle.cartridge_spec.proofs.Sayings.{said_is_written}
 use Rattle.cartridge_spec.proofs.Segments.{count_of_cells, zero_does_not_read}
@@ -39,7 +39,7 @@ volume_less : (c d : Cartridge) (words : List ℕ) (volume : Volume) → ReadsNo
 volume_less c d words volume less stood = record {
   parts = All-weaker (PartStands c words) (PartStands d words)
       (λ part stands. written_less c d part.segment (mask_at words part.segment) part.sectors less stands)
-      (parts_of words (segments_of words volume.entry) volume.area) stood.parts;
+      (parts_of words (carrying_segments words volume.entry) volume.area) stood.parts;
   size = stood.size;
 }
 

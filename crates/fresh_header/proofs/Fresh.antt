@@ -101,11 +101,11 @@ defect_word-bit : (c : Cartridge) (segment index : ℕ) → index < 32 → defec
 unfolding defect_word
 defect_word-bit c segment index within = from_bits-bit (λ i. is_defect (view_at c segment i)) 32 index within
 
-abbrev segments_of : Cartridge → ℕ
-segments_of c = 28 * c.info.segments_per_track
+abbrev segment_count : Cartridge → ℕ
+segment_count c = 28 * c.info.segments_per_track
 
 defect_words : Cartridge → List ℕ
-defect_words c = map (defect_word c) (range_with_len 0 (segments_of c))
+defect_words c = map (defect_word c) (range_with_len 0 (segment_count c))
 
 length-defect_words : (c : Cartridge) → length (defect_words c) ≡ 28 * c.info.segments_per_track
 unfolding defect_words
@@ -131,7 +131,7 @@ marks_defects c = record {
 -- ---- the area
 
 mapped : Cartridge → List (List ℕ)
-mapped c = with_words (defect_word c) (segments_of c) zero_area
+mapped c = with_words (defect_word c) (segment_count c) zero_area
 
 is_mapped : (c : Cartridge) → IsCartridge c → IsMapped (defect_word c) (28 * c.info.segments_per_track) zero_area (mapped c)
 unfolding mapped

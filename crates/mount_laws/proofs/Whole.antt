@@ -15,6 +15,7 @@ use Rattle.cartridge_spec.specs.Says.{whole_mask, Data}
 use Rattle.cartridge_spec.specs.HeaderAndTable.{IsArea, TableIs, table_cells}
 use Rattle.cartridge_spec.proofs.Sayings.{cartridge_sectors, code_sectors}
 use Rattle.cartridge_spec.proofs.Segments.{cells_are_views, view_of_cartridge}
+use Rattle.cartridge_spec.proofs.Whole.{with_view_whole, written_is_view, worn_is_view}
 use Rattle.cartridge_spec.proofs.TableSayings.{read_are_sectors, code_says}
 use Rattle.format_plan.proofs.Writing.{effects-some, some_and}
 use Rattle.mount_laws.specs.Settling.{is_unsettled, settling_steps}
@@ -42,35 +43,16 @@ block_sector c area i whole table h =
     subst IsSector (sym (unwrap_or-slice_get (table_block area) i []))
     (All-get_or IsSector (table_block area) i [] (omega arith) (block_sectors area (table_is_area c area whole table)))
 
--- ---- one write
-
-with_view_whole : (d : Cartridge) (i : ℕ) (view : SectorView) → IsCartridge d → IsView view → IsCartridge (with_view d 2 i view)
-with_view_whole d i view whole good = record {
-  long = whole.long;
-  sectors = length-set d.views (32 * 2 + i) view ∙ whole.sectors;
-  views = All-set IsView d.views (32 * 2 + i) view good whole.views;
-}
-
-written_is_view : (bytes : List ℕ) (view : SectorView) → IsSector bytes → IsView view → IsView (written_view bytes view)
-written_is_view bytes Blank sector good = tt
-written_is_view bytes Defect sector good = tt
-written_is_view bytes Lost sector good = sector
-written_is_view bytes (Holds old) sector good = sector
-
-worn_is_view : (view : SectorView) → IsView view → IsView (worn_view view)
-worn_is_view Blank good = tt
-worn_is_view Defect good = tt
-worn_is_view Lost good = tt
-worn_is_view (Holds old) good = tt
+-- ---- the settling's writes
 
 whole_kept : (c : Cartridge) (area : List (List ℕ)) → IsCartridge c → TableIs c area →
     IsKept IsCartridge (is_unsettled c (table_block area)) (table_block area)
 whole_kept c area whole table = record {
   written = λ i d h passes is.
-      with_view_whole d i (written_view (sector_at (table_block area) i) (view_at d 2 i)) is
+      with_view_whole d 2 i (written_view (sector_at (table_block area) i) (view_at d 2 i)) is
       (written_is_view (sector_at (table_block area) i) (view_at d 2 i) (block_sector c area i whole table h) (view_of_cartridge d 2 i is));
   worn = λ i d h passes is.
-      with_view_whole d i (worn_view (view_at d 2 i)) is (worn_is_view (view_at d 2 i) (view_of_cartridge d 2 i is));
+      with_view_whole d 2 i (worn_view (view_at d 2 i)) is (worn_is_view (view_at d 2 i) (view_of_cartridge d 2 i is));
 }
 
 -- ---- all of them

@@ -1,41 +1,15 @@
--- The cells of a segment by place: which of them are unreadable, and how many.
+-- Sets of places, and the unreadable cells among them.
 use Rattle.std.proofs.Common.{◌≡◌, ℕ, zero, suc, ◌+◌, ◌<◌, ◌≤◌, refl, sym, ◌∙◌, ap, arith, inl, inr, Bool, true, false, cond, List, [], ◌∷◌, length, slice_get, Some, nat_eq, ◌||◌}
 use Rattle.std.proofs.lemmas.Bool.{cases_eq, cases_Bool, false≢true, ne_eqb, or_from, or_left}
-use Rattle.std.proofs.lemmas.List.Sums.{sum_by-cons}
 use Rattle.qic_base.specs.declared.tape.SectorView.{SectorView}
 use Rattle.qic_base.specs.declared.tape.SectorView.TheVariants.{Blank, Defect, Lost, Holds}
 use Rattle.gf256_qic.specs.Code.{lost_below}
-use Rattle.silent_locate.specs.Deep.{is_unreadable, unreadable_count}
-
--- whether the cell at a place is unreadable
-unfoldable pub unreadable_at : List SectorView → ℕ → Bool
-unreadable_at [] i = false
-unreadable_at (cell ∷ cells) zero = is_unreadable cell
-unreadable_at (cell ∷ cells) (suc i) = unreadable_at cells i
+use Rattle.cartridge_spec.proofs.Cells.{unreadable_at, IsReadable, readable_at}
 
 abbrev one_if : Bool → ℕ
 one_if t = cond t 1 0
 
 -- ---- how many
-
--- the lost places, the first of them apart
-lost_below-first : (lost : ℕ → Bool) (n : ℕ) →
-    lost_below lost (suc n) ≡ one_if (lost 0) + lost_below (λ i. lost (suc i)) n
-unfolding lost_below
-lost_below-first lost zero = refl
-lost_below-first lost (suc n) =
-    let before : lost_below lost (suc n) ≡ one_if (lost 0) + lost_below (λ i. lost (suc i)) n =
-    lost_below-first lost n in
-    omega arith
-
--- as many places are lost as cells are unreadable
-pub lost_below-cells : (cells : List SectorView) → lost_below (unreadable_at cells) (length cells) ≡ unreadable_count cells
-unfolding unreadable_at lost_below
-lost_below-cells [] = refl
-lost_below-cells (cell ∷ cells) =
-    lost_below-first (unreadable_at (cell ∷ cells)) (length cells)
-    ∙ ap (λ (n : ℕ). one_if (is_unreadable cell) + n) (lost_below-cells cells)
-    ∙ sym (sum_by-cons (λ c. one_if (is_unreadable c)) cell cells)
 
 -- sets that agree below a number have as many places below it
 pub lost_below-same : (p q : ℕ → Bool) (n : ℕ) → ((i : ℕ) → i < n → p i ≡ q i) → lost_below p n ≡ lost_below q n
@@ -81,21 +55,7 @@ lost_below-or lost place (suc n) =
 
 -- ---- which
 
--- the cell at a place holds bytes
-abbrev pub IsReadable : List SectorView → ℕ → Type 0
-IsReadable cells i = (bytes : List ℕ) × (slice_get cells i ≡ Some (Holds bytes))
-
--- a cell that is not unreadable holds bytes
-pub readable_at : (cells : List SectorView) (i : ℕ) → i < length cells → unreadable_at cells i ≡ false → IsReadable cells i
-unfolding unreadable_at
-readable_at [] i h kept = absurd (omega arith)
-readable_at (Blank ∷ cells) zero h kept = absurd (cc)
-readable_at (Defect ∷ cells) zero h kept = absurd (cc)
-readable_at (Lost ∷ cells) zero h kept = absurd (cc)
-readable_at (Holds bytes ∷ cells) zero h kept = (bytes, refl)
-readable_at (cell ∷ cells) (suc i) h kept = readable_at cells i (omega arith) kept
-
--- and one that holds bytes is not unreadable
+-- a cell that holds bytes is not unreadable
 pub held_at : (cells : List SectorView) (i : ℕ) (bytes : List ℕ) → slice_get cells i ≡ Some (Holds bytes) →
     unreadable_at cells i ≡ false
 unfolding unreadable_at

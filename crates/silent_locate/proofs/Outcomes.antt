@@ -7,7 +7,8 @@ use Rattle.silent_locate.specs.declared.Located.{Located}
 use Rattle.silent_locate.specs.declared.Located.TheVariants as located
 use Rattle.silent_locate.specs.declared.LocateFault.{LocateFault}
 use Rattle.silent_locate.specs.declared.LocateFault.TheVariants as fault
-use Rattle.silent_locate.specs.Deep.{unreadable_count, IsAllRight, IsWrongAt, Deep, HasNoReading, cells_without}
+use Rattle.cartridge_spec.specs.Says.{unreadable_count}
+use Rattle.silent_locate.specs.Deep.{IsAllRight, IsWrongAt, Deep, HasNoReading, cells_without}
 use Rattle.silent_locate.specs.Tries.{lost_or}
 use Rattle.silent_locate.proofs.Readings.{one_deep_reading}
 use Rattle.silent_locate.proofs.Sectors.{IsAmong, cells_among, count_among, all_right, wrong_at, no_reading}

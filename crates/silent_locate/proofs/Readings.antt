@@ -5,29 +5,15 @@ use Rattle.qic_base.specs.declared.tape.SectorView.{SectorView}
 use Rattle.qic_base.specs.declared.tape.SectorView.TheVariants.{Blank, Defect, Lost, Holds}
 use Rattle.gf256_qic.specs.Code.{IsCodeBlock, lost_below}
 use Rattle.gf256_qic.proofs.Agreement.{one_block}
-use Rattle.silent_locate.specs.Deep.{unreadable_count, Agrees, AgreesBut, IsWrongAt, Deep}
+use Rattle.cartridge_spec.specs.Says.{unreadable_count, Agrees}
+use Rattle.silent_locate.specs.Deep.{AgreesBut, IsWrongAt, Deep}
 use Rattle.silent_locate.specs.Laws.{DiffersAt, ReadAlike}
-use Rattle.silent_locate.proofs.Cells.{unreadable_at, or_place, IsReadable, readable_at, held_at, same_test, lost_below-cells, lost_below-same, lost_below-or}
+use Rattle.cartridge_spec.proofs.Cells.{unreadable_at, IsReadable, readable_at, lost_below-cells, one_agreeing_block}
+use Rattle.silent_locate.proofs.Cells.{or_place, held_at, same_test, lost_below-same, lost_below-or}
 
 -- ---- blocks that agree with the same cells
 
--- two code blocks that agree with all cells that can be read, of which at most three can't be
-one_right : (cells : List SectorView) (ss ts : List (List ℕ)) → IsCodeBlock ss → IsCodeBlock ts →
-    Agrees cells ss → Agrees cells ts → unreadable_count cells ≤ 3 → ss ≡ ts
-one_right cells ss ts cs ct hs ht few =
-    let lost : lost_below (unreadable_at cells) (length ss) ≡ unreadable_count cells =
-    ap (lost_below (unreadable_at cells)) hs.size ∙ lost_below-cells cells in
-    one_block (unreadable_at cells) ss ts cs ct
-    (record {
-      size = hs.size ∙ sym ht.size;
-      others = λ i h kept.
-          let long : length ss ≡ length cells = hs.size in
-          let held : IsReadable cells i = readable_at cells i (omega arith) kept in
-          hs.each i held.0 held.1 ∙ sym (ht.each i held.0 held.1);
-    })
-    (omega arith)
-
--- two that agree with all but one each, of which at most one can't be read
+-- two code blocks that agree with all cells that can be read but one each, of which at most one can't be read
 one_mended : (cells : List SectorView) (p q : ℕ) (ss ts : List (List ℕ)) → IsCodeBlock ss → IsCodeBlock ts →
     AgreesBut cells p ss → AgreesBut cells q ts → unreadable_count cells ≤ 1 → ss ≡ ts
 one_mended cells p q ss ts cs ct hs ht few =
@@ -80,7 +66,7 @@ same_place cells a b p q ha hb same =
 
 pub one_deep_reading : (cells : List SectorView) (a b : List (List ℕ)) (v w : Option ℕ) →
     Deep cells a v → Deep cells b w → (a ≡ b) × (v ≡ w)
-one_deep_reading cells a b None None ha hb = (one_right cells a b ha.code hb.code ha.agrees hb.agrees ha.few, refl)
+one_deep_reading cells a b None None ha hb = (one_agreeing_block cells a b ha.code hb.code ha.agrees hb.agrees ha.few, refl)
 one_deep_reading cells a b None (Some q) ha hb = absurd (hb.none_agrees a ha.code ha.agrees)
 one_deep_reading cells a b (Some p) None ha hb = absurd (ha.none_agrees b hb.code hb.agrees)
 one_deep_reading cells a b (Some p) (Some q) ha hb =

@@ -10,10 +10,12 @@ use Rattle.qic_base.specs.declared.tape.SectorView.TheVariants.{Holds}
 use Rattle.gf256_qic.specs.Code.{IsCodeBlock, AgreesOutside, IsSolvable, lost_below}
 use Rattle.erasure_solve.specs.Lost.{is_lost, lost_count}
 use Rattle.erasure_solve.proofs.Places.{is_lost_from, lost_below-places}
-use Rattle.silent_locate.specs.Deep.{unreadable_count, Agrees, AgreesBut, IsAllRight, IsWrongAt, HasNoReading, cell_of, cells_from, cells_without}
+use Rattle.cartridge_spec.specs.Says.{unreadable_count, Agrees}
+use Rattle.silent_locate.specs.Deep.{AgreesBut, IsAllRight, IsWrongAt, HasNoReading, cell_of, cells_from, cells_without}
 use Rattle.silent_locate.specs.Laws.{DiffersAt}
 use Rattle.silent_locate.specs.Tries.{lost_or}
-use Rattle.silent_locate.proofs.Cells.{unreadable_at, same_test, lost_below-cells, lost_below-same}
+use Rattle.cartridge_spec.proofs.Cells.{unreadable_at, lost_below-cells}
+use Rattle.silent_locate.proofs.Cells.{same_test, lost_below-same}
 use Rattle.silent_locate.proofs.Readings.{wrong_place_differs}
 
 -- ---- the cell at a place

@@ -1,28 +1,15 @@
 -- What a segment says where one of its sectors may hold wrong bytes and can be read all the same: the code block of its
 -- cells, and the place of the wrong one (QIC-80-MC: two code blocks differ in at least four sectors; the rest is this
 -- project's profile).
-use Rattle.std.specs.Prelude.{◌≡◌, ◌≢◌, ℕ, suc, ◌/◌, ◌%◌, ◌^◌, ◌≤◌, ◌==◌, Bool, true, false, List, [], ◌∷◌, length, count_by, Option, Some, None, slice_get}
+use Rattle.std.specs.Prelude.{◌≡◌, ◌≢◌, ℕ, suc, ◌/◌, ◌%◌, ◌^◌, ◌≤◌, ◌==◌, Bool, true, false, List, [], ◌∷◌, length, Option, Some, None, slice_get}
 use Rattle.qic_base.specs.declared.tape.SectorView.{SectorView}
-use Rattle.qic_base.specs.declared.tape.SectorView.TheVariants.{Blank, Defect, Lost, Holds}
+use Rattle.qic_base.specs.declared.tape.SectorView.TheVariants.{Lost, Holds}
 use Rattle.gf256_qic.specs.Code.{IsCodeBlock}
+use Rattle.cartridge_spec.specs.Says.{unreadable_count, Agrees, HasNoBlock}
 
 -- ---- cells
 
-abbrev pub is_unreadable : SectorView → Bool
-is_unreadable Blank = true
-is_unreadable Defect = true
-is_unreadable Lost = true
-is_unreadable (Holds bytes) = false
-
-abbrev pub unreadable_count : List SectorView → ℕ
-unreadable_count cells = count_by is_unreadable cells
-
--- each cell that can be read holds its sector of the block
-pub record Agrees (cells : List SectorView) (block : List (List ℕ)) : Type 0 where
-  pub size : length block ≡ length cells
-  pub each : (i : ℕ) (bytes : List ℕ) → slice_get cells i ≡ Some (Holds bytes) → slice_get block i ≡ Some bytes
-
--- each but the one at a place
+-- each cell that can be read holds its sector of the block, but for the one at a place
 pub record AgreesBut (cells : List SectorView) (place : ℕ) (block : List (List ℕ)) : Type 0 where
   pub size : length block ≡ length cells
   pub each : (i : ℕ) (bytes : List ℕ) → i ≢ place → slice_get cells i ≡ Some (Holds bytes) → slice_get block i ≡ Some bytes
@@ -38,7 +25,7 @@ pub record IsAllRight (cells : List SectorView) (block : List (List ℕ)) : Type
 -- The cell at a place is wrong: no code block agrees with all cells that can be read, at most one cell is unreadable, and
 -- the code block agrees with all that can be read but this one.
 pub record IsWrongAt (cells : List SectorView) (place : ℕ) (block : List (List ℕ)) : Type 0 where
-  pub none_agrees : (other : List (List ℕ)) → IsCodeBlock other → Agrees cells other → ⊥
+  pub none_agrees : HasNoBlock cells
   pub few : unreadable_count cells ≤ 1
   pub code : IsCodeBlock block
   pub agrees : AgreesBut cells place block

@@ -3,7 +3,8 @@ use Rattle.std.specs.Prelude.{◌≡◌, ◌≢◌, ◌↔◌, ℕ, ◌≤◌, L
 use Rattle.qic_base.specs.declared.tape.SectorView.{SectorView}
 use Rattle.qic_base.specs.declared.tape.SectorView.TheVariants.{Holds}
 use Rattle.gf256_qic.specs.Code.{IsCodeBlock}
-use Rattle.silent_locate.specs.Deep.{unreadable_count, AgreesBut, Deep}
+use Rattle.cartridge_spec.specs.Says.{unreadable_count}
+use Rattle.silent_locate.specs.Deep.{AgreesBut, Deep}
 
 -- cells have at most one deep reading: one block, and one place or none
 abbrev pub OneDeepReading : Type 0

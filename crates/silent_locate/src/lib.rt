@@ -2,7 +2,8 @@
 #![tactic(auto)]
 
 ghost use Rattle.std.specs.Prelude.{◌≡◌, ℕ, ◌<◌, ◌≤◌, ◌↔◌, List, length, OnErr};
-ghost use Rattle.silent_locate.specs.Deep.{Deep, HasNoReading, cells_without, unreadable_count};
+ghost use Rattle.cartridge_spec.specs.Says.{unreadable_count};
+ghost use Rattle.silent_locate.specs.Deep.{Deep, HasNoReading, cells_without};
 
 pub mod laws;
 mod places;

@@ -1,5 +1,5 @@
 -- The bytes of a slot show the entry that they were made from.
-use Rattle.std.proofs.Common.{◌≡◌, ℕ, zero, suc, ◌+◌, ◌-◌, ◌/◌, ◌%◌, ◌^◌, ◌<◌, ◌≤◌, true, List, [], ◌∷◌, ◌++◌, length, take, drop, replicate, get_or, All, codes, refl, sym, ap, ◌∙◌, arith, length-append, eq-eqb}
+use Rattle.std.proofs.Common.{◌≡◌, ℕ, zero, suc, ◌+◌, ◌-◌, ◌/◌, ◌%◌, ◌<◌, ◌≤◌, true, List, [], ◌∷◌, ◌++◌, length, take, drop, replicate, get_or, All, codes, refl, sym, ap, ◌∙◌, arith, length-append, eq-eqb}
 use Rattle.std.specs.Prelude.{slice_index}
 use Rattle.std.specs.List.{slice_range}
 use Rattle.std.proofs.lemmas.List.{append_assoc, take_all, drop_at, get_or_at, get_or_append_left, length-replicate}
@@ -7,7 +7,7 @@ use Rattle.std.proofs.lemmas.List.Elements.{All-nil, All-cons, All-append, All-r
 use Rattle.qic_base.specs.Field.{little_endian, number_at, little_endian_bytes}
 use Rattle.qic_base.proofs.FieldLaws.{length-little_endian_bytes, little_endian-bytes}
 use Rattle.cartridge_spec.specs.Table.{Entry, entry_in, is_used}
-use Rattle.append_plan.specs.Slots.{slot_bytes}
+use Rattle.cartridge_spec.specs.Slots.{slot_bytes, FitsSlot}
 use lib.Seq.{take-append-le, drop-append-le}
 use lib.ListN.{length-drop}
 
@@ -21,15 +21,6 @@ range_last : (xs ys : List ℕ) (i j : ℕ) → length xs ≡ i → length ys �
 range_last xs ys i j front long = ap (take (j - i)) (drop_at xs ys i front) ∙ take_all (j - i) ys (omega arith)
 
 -- ---- the fields
-
--- each field of an entry fits its place
-pub record FitsSlot (e : Entry) : Type 0 where
-  pub start : e.start < 256 ^ 2
-  pub end : e.end < 256 ^ 2
-  pub name : length e.name ≡ 44
-  pub date : e.date < 256 ^ 4
-  pub directory : e.directory < 256 ^ 4
-  pub size : e.size < 256 ^ 8
 
 -- the bytes in front of a place
 abbrev front_6 : Entry → List ℕ

@@ -1,6 +1,6 @@
--- The slot that an append writes into the volume table (Linux ftape headers: the volume table entry of 128 bytes;
+-- A slot of the volume table as it is written (Linux ftape headers: the volume table entry of 128 bytes;
 -- QIC-80-MC: the signature `VTBL`).
-use Rattle.std.specs.Prelude.{ℕ, ◌*◌, ◌/◌, ◌%◌, List, [], ◌∷◌, ◌++◌, codes, replicate, slice_set}
+use Rattle.std.specs.Prelude.{◌≡◌, ℕ, ◌*◌, ◌/◌, ◌%◌, ◌^◌, ◌<◌, List, [], ◌∷◌, ◌++◌, codes, length, replicate, slice_set}
 use Rattle.qic_base.specs.Field.{little_endian_bytes, overwritten}
 use Rattle.cartridge_spec.specs.Segment.{sector_at}
 use Rattle.cartridge_spec.specs.Table.{Entry}
@@ -18,6 +18,15 @@ slot_bytes e =
     ++ little_endian_bytes 4 e.directory
     ++ little_endian_bytes 8 e.size
     ++ replicate 24 0
+
+-- each field of an entry fits its place
+pub record FitsSlot (e : Entry) : Type 0 where
+  pub start : e.start < 256 ^ 2
+  pub end : e.end < 256 ^ 2
+  pub name : length e.name ≡ 44
+  pub date : e.date < 256 ^ 4
+  pub directory : e.directory < 256 ^ 4
+  pub size : e.size < 256 ^ 8
 
 -- the sector of the table's data that has slot i
 abbrev pub slot_sector : ℕ → ℕ

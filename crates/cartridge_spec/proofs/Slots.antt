@@ -1,19 +1,20 @@
--- A table's data with one slot written: that slot has its bytes, and all others are as they were.
-use Rattle.std.proofs.Common.{◌≡◌, ◌≢◌, ℕ, ◌+◌, ◌-◌, ◌*◌, ◌/◌, ◌%◌, ◌<◌, inl, inr, List, [], ◌++◌, length, take, drop, set, All, Option, sym, ap, ◌∙◌, subst, arith}
+-- A table's data with one slot written: that slot has its bytes, and all others are as they were; so the data show one
+-- entry more.
+use Rattle.std.proofs.Common.{◌≡◌, ◌≢◌, ℕ, ◌+◌, ◌-◌, ◌*◌, ◌/◌, ◌%◌, ◌<◌, inl, inr, true, List, [], ◌∷◌, ◌++◌, length, take, drop, set, slice_get, Some, All, Option, sym, ap, ◌∙◌, subst, arith}
 use Rattle.std.specs.Prelude.{unwrap_or}
 use Rattle.std.specs.List.{slice_range}
 use Rattle.std.proofs.lemmas.Bool.{cases_eq, cases_lt}
-use Rattle.std.proofs.lemmas.List.{length-set}
+use Rattle.std.proofs.lemmas.List.{length_push, length-set, get_or_at, get_or_append_left}
 use Rattle.std.proofs.lemmas.List.Elements.{All-append, All-take, All-drop, All-set, All-get_or}
-use Rattle.std.proofs.lemmas.Option.{unwrap_or-slice_get}
+use Rattle.std.proofs.lemmas.Option.{unwrap_or-slice_get, slice_get-get_or, slice_get_within, get_or_from_slice_get}
 use Rattle.qic_base.specs.Cartridge.{IsSector}
 use Rattle.qic_base.specs.Field.{overwritten}
 use Rattle.qic_base.proofs.FieldLaws.{length-overwritten, slice_range-overwritten, slice_range-overwritten_below, slice_range-overwritten_above}
 use Rattle.cartridge_spec.specs.HeaderAndTable.{IsArea}
 use Rattle.cartridge_spec.specs.Segment.{sector_at}
-use Rattle.cartridge_spec.specs.Table.{slot}
+use Rattle.cartridge_spec.specs.Table.{Entry, Shows, slot, entry_in, is_used, is_free}
 use Rattle.cartridge_spec.proofs.Writing.{slice_get-set_same, slice_get-set_other}
-use Rattle.append_plan.specs.Slots.{slot_sector, with_slot}
+use Rattle.cartridge_spec.specs.Slots.{slot_sector, with_slot}
 
 -- ---- the sectors
 
@@ -99,3 +100,42 @@ other_slot area i j bytes is within long apart =
       | inr other ↦ ap (λ (sector : List ℕ). slice_range sector from (from + 128)) (other_sector area k (j / 8) new other)
     ]
     ∙ sym (slot_range area j)
+
+-- ---- one slot more
+
+entry_before : (es : List Entry) (e x : Entry) (i : ℕ) → slice_get es i ≡ Some x → slice_get (es ++ e ∷ []) i ≡ Some x
+entry_before es e x i at =
+    let within : i < length es = slice_get_within es i x at in
+    slice_get-get_or (es ++ e ∷ []) i x (omega (arith, length_push es e))
+    ∙ ap Some (get_or_append_left es (e ∷ []) x i within ∙ get_or_from_slice_get es i x x at)
+
+entry_last : (es : List Entry) (e : Entry) (i : ℕ) → i ≡ length es → slice_get (es ++ e ∷ []) i ≡ Some e
+entry_last es e i is =
+    slice_get-get_or (es ++ e ∷ []) i e (omega (arith, length_push es e)) ∙ ap Some (get_or_at es e [] e i (sym is))
+
+pub shows_more : (area : List (List ℕ)) (es : List Entry) (e : Entry) (bytes : List ℕ) (n : ℕ) → IsArea area → Shows area es → length es ≡ n → n < 232 →
+    length bytes ≡ 128 → is_used bytes ≡ true → entry_in bytes ≡ e → Shows (with_slot area n bytes) (es ++ e ∷ [])
+shows_more area es e bytes n is shows count within long used shown =
+    let new : List (List ℕ) = with_slot area n bytes in
+    let here : slot new n ≡ bytes = slot_written area n bytes is within long in
+    record {
+      room = omega (arith, length_push es e);
+      used = λ i h.
+          elim (cases_eq i n) [
+            | inl same ↦ ap (λ (k : ℕ). is_used (slot new k)) same ∙ ap is_used here ∙ used
+            | inr apart ↦ ap is_used (other_slot area n i bytes is within long apart) ∙ shows.used i (omega (arith, length_push es e, apart))
+          ];
+      shown = λ i h.
+          elim (cases_eq i n) [
+            | inl same ↦
+                entry_last es e i (omega arith)
+                ∙ sym (ap (λ (k : ℕ). Some (entry_in (slot new k))) same ∙ ap (λ (b : List ℕ). Some (entry_in b)) here ∙ ap Some shown)
+            | inr apart ↦
+                entry_before es e (entry_in (slot new i)) i
+                (shows.shown i (omega (arith, length_push es e, apart))
+                ∙ sym (ap (λ (b : List ℕ). Some (entry_in b)) (other_slot area n i bytes is within long apart)))
+          ];
+      free = λ i past h.
+          let apart : i ≢ n = λ e'. omega (arith, length_push es e) in
+          ap is_free (other_slot area n i bytes is within long apart) ∙ shows.free i (omega (arith, length_push es e)) h;
+    }

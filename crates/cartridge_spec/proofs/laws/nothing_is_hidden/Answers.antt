@@ -1,5 +1,5 @@
 use Rattle.cartridge_spec.proofs.Hiding.{nothing_is_hidden, says_by_none}
-use Rattle.cartridge_spec.proofs.laws.nothing_left_out.Goals as goal
+use Rattle.cartridge_spec.proofs.laws.nothing_is_hidden.Goals as goal
 
 pub returns-clause-cells : goal.returns-clause-cells
 returns-clause-cells c = nothing_is_hidden
