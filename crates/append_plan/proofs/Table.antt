@@ -1,14 +1,12 @@
 -- The table's data with one slot more show the old list and the new entry behind it, in order.
-use Rattle.std.proofs.Common.{◌≡◌, ◌≢◌, ℕ, ◌+◌, ◌-◌, ◌*◌, ◌%◌, ◌^◌, ◌<◌, ◌≤◌, inl, inr, true, List, [], ◌∷◌, ◌++◌, length, map, slice_get, set, Some, refl, sym, ap, ◌∙◌, subst, arith}
+use Rattle.std.proofs.Common.{◌≡◌, ℕ, ◌+◌, ◌-◌, ◌*◌, ◌%◌, ◌^◌, ◌<◌, ◌≤◌, List, [], ◌∷◌, ◌++◌, length, map, set, refl, sym, ap, ◌∙◌, subst, arith}
 use Rattle.std.specs.Prelude.{slice_index}
-use Rattle.std.proofs.lemmas.Bool.{cases_eq}
-use Rattle.std.proofs.lemmas.List.{length_push, length-map, length-set, get_or_at, get_or_append_left, get_or-set_other}
-use Rattle.std.proofs.lemmas.Option.{slice_get-get_or, slice_get_within, get_or_from_slice_get}
+use Rattle.std.proofs.lemmas.List.{length-map, length-set, get_or-set_other}
 use Rattle.qic_base.specs.Cartridge.{Cartridge}
 use Rattle.qic_base.specs.Field.{overwritten}
 use Rattle.cartridge_spec.specs.HeaderAndTable.{IsArea, last_segment}
 use Rattle.cartridge_spec.specs.Segment.{sector_at}
-use Rattle.cartridge_spec.specs.Table.{Entry, Shows, IsSoundList, slot, entry_in, is_used, is_free}
+use Rattle.cartridge_spec.specs.Table.{Entry, Shows, IsSoundList}
 use Rattle.cartridge_spec.specs.Volumes.{Plain, Volume, entries_of, capacity_between}
 use Rattle.append_plan.specs.Appending.{new_segments, appended_volume, appended_table}
 use Rattle.append_plan.specs.Laws.{IsReady, AppendedTableShows}

@@ -1,11 +1,8 @@
 -- What an append leaves, done or stopped, is a cartridge.
-use Rattle.std.proofs.Common.{ℕ, ◌+◌, ◌*◌, ◌<◌, inl, inr, List, [], ◌∷◌, ◌++◌, length, take, drop, Option, Some, IsSomeAnd, All, sym, ◌∙◌, subst, arith}
-use Rattle.std.proofs.lemmas.List.{length-set}
-use Rattle.std.proofs.lemmas.List.Elements.{All-get_or, All-set, All-head, All-tail, All-take, All-drop, All-append}
+use Rattle.std.proofs.Common.{ℕ, ◌<◌, inl, inr, List, [], ◌∷◌, ◌++◌, length, take, drop, Option, Some, IsSomeAnd, All, sym, subst, arith}
+use Rattle.std.proofs.lemmas.List.Elements.{All-get_or, All-head, All-tail, All-take, All-drop, All-append}
 use Rattle.std.proofs.lemmas.Option.{unwrap_or-slice_get}
-use Rattle.qic_base.specs.declared.tape.SectorView.{SectorView}
-use Rattle.qic_base.specs.declared.tape.SectorView.TheVariants.{Blank, Defect, Lost, Holds}
-use Rattle.qic_base.specs.Cartridge.{Cartridge, IsCartridge, IsSector, IsView, view_at, with_view}
+use Rattle.qic_base.specs.Cartridge.{Cartridge, IsCartridge, IsSector, view_at}
 use Rattle.qic_base.specs.Step.{Step, WriteSector, FormatSegment, SetReferenced, SetProtected, Renew, Wear, Spoil, changed, written_view, worn_view, effects}
 use Rattle.qic_base.specs.Stop.{Halfway, Torn}
 use Rattle.qic_base.proofs.Steps.{Torn-all}

@@ -1,7 +1,7 @@
 -- Laws of a segment's shape (QIC-80-MC).
-use Rattle.std.specs.Prelude.{◌≡◌, ℕ, ◌+◌, ◌*◌, ◌^◌, ◌<◌, ◌++◌, length}
+use Rattle.std.specs.Prelude.{◌≡◌, ℕ, ◌*◌, ◌^◌, ◌<◌, length}
 use Rattle.qic_base.specs.LostSet.{IsLost}
-use Rattle.cartridge_spec.specs.Shape.{mask_of, usable_places, data_places, parity_places, capacity}
+use Rattle.cartridge_spec.specs.Shape.{mask_of, data_places, capacity}
 
 -- the bit of the mask is the turned bit of the map's word
 abbrev pub MarkedAreUnusable : Type 0

@@ -1,10 +1,10 @@
 -- Fields written into a sector one after the other: each holds its value then, and no other byte changes.
-use Rattle.std.proofs.Common.{◌≡◌, ◌⊎◌, inl, inr, ℕ, zero, suc, ◌+◌, ◌-◌, ◌*◌, ◌^◌, ◌<◌, ◌≤◌, ◌&&◌, ◌||◌, Bool, true, false, List, [], ◌∷◌, ◌++◌, length, get_or, take, drop, refl, sym, ap, ◌∙◌, arith, nat_le, nat_lt, min, length-append, length-take, length-drop, Some, None}
+use Rattle.std.proofs.Common.{◌≡◌, ◌⊎◌, inl, inr, ℕ, ◌+◌, ◌-◌, ◌<◌, ◌≤◌, ◌&&◌, ◌||◌, Bool, true, false, List, [], ◌∷◌, length, get_or, refl, ◌∙◌, arith, nat_le, nat_lt, min, length-append, length-take, length-drop}
 use Rattle.std.specs.List.{slice_range, All}
 use Rattle.std.proofs.lemmas.List.Elements.{All-nil, All-cons, All-head, All-tail}
 use Rattle.std.proofs.lemmas.Bool.{cases_lt}
 use Rattle.std.proofs.lemmas.Bool.Decides.{nat_tests}
-use Rattle.qic_base.specs.Field.{number_at, little_endian_bytes, overwritten}
+use Rattle.qic_base.specs.Field.{number_at, overwritten}
 use Rattle.qic_base.proofs.FieldLaws.{length-overwritten, length-little_endian_bytes, number_at-overwritten, number_at-overwritten_below, number_at-overwritten_above, slice_range-overwritten, slice_range-overwritten_below, slice_range-overwritten_above, get_or-overwritten_below, get_or-overwritten_above}
 use Rattle.cartridge_spec.specs.Header.{Field, Value, Number, Text, IsInField}
 use Rattle.header_segments.specs.Writing.{HasRoom, FieldFits, value_bytes, with_fields}

@@ -1,7 +1,7 @@
 -- What data show, and that what spells a header and a map is read as them.
-use Rattle.std.proofs.Common.{◌≡◌, ℕ, ◌+◌, ◌*◌, ◌<◌, ◌≤◌, true, List, length, get_or, None, Option, refl, sym, ap, ◌∙◌, arith, eq-eqb}
+use Rattle.std.proofs.Common.{◌≡◌, ℕ, ◌*◌, ◌≤◌, List, None, Option, refl, sym, ap, ◌∙◌, arith, eq-eqb}
 use Rattle.std.specs.Option.{option_or}
-use Rattle.cartridge_spec.specs.Header.{Header, Field, HeaderFault, number, number_in, text_in, word_in, words_in, Holds, Shows, Spells, has_signature, header_fault, first_fault, map_fault, header_fields, profile_fields}
+use Rattle.cartridge_spec.specs.Header.{Header, Field, HeaderFault, number, number_in, text_in, words_in, Shows, first_fault, map_fault, profile_fields}
 use Rattle.header_segments.specs.Laws.{HeaderIsDetermined, SpelledIsRead}
 use Rattle.header_segments.proofs.Refusals.{first_fault-holds, map_fault-none, word_in-read}
 

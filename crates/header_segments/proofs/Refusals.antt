@@ -1,5 +1,5 @@
 -- The tests of a header's fields, as a reader makes them.
-use Rattle.std.proofs.Common.{◌≡◌, ℕ, zero, suc, ◌+◌, ◌-◌, ◌*◌, ◌/◌, ◌%◌, ◌<◌, ◌≤◌, ◌==◌, Bool, true, false, List, [], ◌∷◌, get_or, take, drop, length, Option, Some, None, cond, refl, sym, ap, ◌∙◌, arith, eq-eqb}
+use Rattle.std.proofs.Common.{◌≡◌, ℕ, zero, suc, ◌+◌, ◌-◌, ◌/◌, ◌%◌, ◌<◌, ◌==◌, Bool, true, false, List, [], ◌∷◌, get_or, take, drop, length, Option, Some, None, cond, refl, sym, ap, ◌∙◌, arith, eq-eqb}
 use Rattle.std.specs.Option.{option_map, option_or}
 use Rattle.std.specs.List.{All}
 use Rattle.std.proofs.lemmas.Bool.{ne_eqb, eqb-true}
@@ -9,7 +9,6 @@ use Rattle.std.proofs.lemmas.Option.{unwrap_or-slice_get}
 use Rattle.qic_base.specs.declared.foreign.ForeignField.{ForeignField}
 use Rattle.qic_base.specs.declared.foreign.ForeignField.TheVariants.{SegmentsPerTrack, Map}
 use Rattle.qic_base.specs.Field.{number_at, little_endian}
-use Rattle.cartridge_spec.specs.Segment.{sector_at}
 use Rattle.cartridge_spec.specs.Header.{Field, Value, Number, Text, HeaderFault, number_in, word_in, words_in, Holds, HoldsValue, value_fault, field_fault, first_fault, map_fault, header_fault, has_signature, fault_as, number, tested, profile_fields}
 use Rattle.header_segments.specs.declared.fault.HeaderFault.TheVariants.{NoSignature, Foreign}
 use Rattle.header_segments.specs.Refusal.{foreign, refusal}

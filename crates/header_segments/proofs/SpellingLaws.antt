@@ -1,6 +1,6 @@
 -- What an encoder writes spells the header and its map.
-use Rattle.std.proofs.Common.{◌≡◌, ◌≢◌, ◌⊎◌, inl, inr, ℕ, zero, suc, ◌+◌, ◌-◌, ◌*◌, ◌/◌, ◌%◌, ◌^◌, ◌<◌, ◌≤◌, ◌&&◌, Bool, true, false, List, [], ◌∷◌, ◌++◌, map, length, get_or, set, take, drop, replicate, refl, sym, ap, ◌∙◌, arith, nat_lt, get_or-set_other, get_or-set_same}
-use Rattle.std.specs.List.{slice_range, range_with_len, All, AllByRecursion}
+use Rattle.std.proofs.Common.{◌≡◌, ◌≢◌, ◌⊎◌, inl, inr, ℕ, suc, ◌+◌, ◌*◌, ◌/◌, ◌%◌, ◌<◌, ◌≤◌, ◌&&◌, Bool, true, false, List, [], ◌∷◌, ◌++◌, map, length, get_or, set, take, drop, replicate, refl, sym, ap, ◌∙◌, arith, nat_lt, get_or-set_other, get_or-set_same}
+use Rattle.std.specs.List.{range_with_len, All, AllByRecursion}
 use Rattle.std.proofs.lemmas.Bool.{cases_eq, cases_lt}
 use Rattle.std.proofs.lemmas.Bool.Decides.{nat_tests}
 use Rattle.std.proofs.lemmas.List.{set_split, get_or_past, get_or-replicate, append_assoc, drop-drop}
@@ -9,7 +9,7 @@ use Rattle.std.proofs.lemmas.Option.{unwrap_or-slice_get}
 use Rattle.qic_base.specs.Cartridge.{IsLength}
 use Rattle.qic_base.specs.Field.{number_at, little_endian_bytes, overwritten}
 use Rattle.cartridge_spec.specs.Segment.{sector_at}
-use Rattle.cartridge_spec.specs.Header.{Header, Field, Value, Number, Text, number, byte_in, word_in, words_in, Holds, HoldsValue, IsInField, IsInMap, Shows, Spells, profile_fields, header_fields}
+use Rattle.cartridge_spec.specs.Header.{Header, Field, Value, Number, Text, number, byte_in, word_in, words_in, Holds, HoldsValue, IsInField, IsInMap, Spells, profile_fields, header_fields}
 use Rattle.header_segments.specs.Writing.{FieldFits, with_fields, told_fields}
 use Rattle.header_segments.proofs.FieldSets.{HoldsIn, HoldsHere, are_placed, HoldsIn-with_fields, get_or-with_fields, length-before_fields}
 use borrow.Rule.Slice.PartMut.{put_mid}

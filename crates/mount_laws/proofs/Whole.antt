@@ -1,11 +1,8 @@
 -- The data of a table are sectors, and its settling leaves a cartridge, done or stopped.
-use Rattle.std.proofs.Common.{◌≡◌, ℕ, ◌+◌, ◌*◌, ◌<◌, inl, inr, Bool, true, false, cond, List, [], length, Option, Some, IsSomeAnd, sym, ap, ◌∙◌, subst, arith, All}
-use Rattle.std.proofs.lemmas.List.{length-set}
-use Rattle.std.proofs.lemmas.List.Elements.{All-get_or, All-set}
+use Rattle.std.proofs.Common.{◌≡◌, ℕ, ◌<◌, inl, inr, Bool, true, false, cond, List, [], length, Option, Some, IsSomeAnd, sym, ap, ◌∙◌, subst, arith, All}
+use Rattle.std.proofs.lemmas.List.Elements.{All-get_or}
 use Rattle.std.proofs.lemmas.Option.{unwrap_or-slice_get}
-use Rattle.qic_base.specs.declared.tape.SectorView.{SectorView}
-use Rattle.qic_base.specs.declared.tape.SectorView.TheVariants.{Blank, Defect, Lost, Holds}
-use Rattle.qic_base.specs.Cartridge.{Cartridge, IsCartridge, IsSector, IsView, view_at, with_view}
+use Rattle.qic_base.specs.Cartridge.{Cartridge, IsCartridge, IsSector, view_at}
 use Rattle.qic_base.specs.Step.{Step, written_view, worn_view, effects}
 use Rattle.qic_base.specs.Stop.{Torn}
 use Rattle.qic_base.proofs.Steps.{Torn-all}

@@ -1,4 +1,4 @@
-use Rattle.std.proofs.Common.{◌≡◌, ◌-◌, ◌^◌, ◌<◌, w32, arith}
+use Rattle.std.proofs.Common.{◌≡◌, ◌-◌, ◌<◌, w32, arith}
 use Rattle.std.specs.Int.{bit_at}
 use Rattle.std.proofs.lemmas.Nat.Bits.{bit_at_not, bit_at-lt}
 use Rattle.cartridge_spec.specs.Shape.{mask_of}

@@ -1,6 +1,6 @@
-use Rattle.std.proofs.Common.{◌≡◌, ◌≢◌, ℕ, ◌+◌, ◌<◌, get_or, sym, ◌∙◌, ap, arith, refl, below_more}
+use Rattle.std.proofs.Common.{◌≡◌, ℕ, get_or, sym, ◌∙◌, arith, refl, below_more}
 use Rattle.std.proofs.lemmas.List.FromFn.{fill_by_all}
-use Rattle.cartridge_spec.specs.Header.{byte_in, word_in, IsInMap}
+use Rattle.cartridge_spec.specs.Header.{word_in}
 use Rattle.bad_sector_map.proofs.AreaLaws.{word_in-others, IsInMap-more}
 use Rattle.bad_sector_map.proofs.words.write_words.Goals as goal
 

@@ -1,5 +1,4 @@
 use Rattle.std.proofs.Common.{◌≡◌, ℕ, List, ◌-◌, ◌*◌, ◌/◌, length, set, arith, length-set}
-use Rattle.qic_base.specs.Field.{overwritten, little_endian_bytes}
 use Rattle.header_segments.proofs.SpellingLaws.{set-overwritten}
 use Rattle.header_segments.proofs.writing.write_profile.Goals as goal
 
