@@ -150,9 +150,35 @@ moves degree row old new all bytes inside fits applied =
 
 -- ---- the three places' powers
 
-powers_of : (d e f : ℕ) → d < 35 → e < 35 → f < 35 → d ≢ e → d ≢ f → e ≢ f →
+-- degrees below 35, no two the same
+record ThreeDegrees (d e f : ℕ) : Type 0 where
+  hd : d < 35
+  he : e < 35
+  hf : f < 35
+  de : d ≢ e
+  df : d ≢ f
+  ef : e ≢ f
+
+three_degrees : (mask count d e f : ℕ) → AreDegrees mask count (d ∷ e ∷ f ∷ []) → ThreeDegrees d e f
+three_degrees mask count d e f degrees = record {
+  hd = degrees.small 0 (omega arith);
+  he = degrees.small 1 (omega arith);
+  hf = degrees.small 2 (omega arith);
+  de = degrees.apart 0 1 (omega arith) (omega arith) (omega arith);
+  df = degrees.apart 0 2 (omega arith) (omega arith) (omega arith);
+  ef = degrees.apart 1 2 (omega arith) (omega arith) (omega arith);
+}
+
+-- the second of three degrees put first, or the third
+second_ahead : (d e f : ℕ) → ThreeDegrees d e f → ThreeDegrees e d f
+second_ahead d e f t = record { hd = t.he; he = t.hd; hf = t.hf; de = λ eq. t.de (sym eq); df = t.ef; ef = t.df }
+
+third_ahead : (d e f : ℕ) → ThreeDegrees d e f → ThreeDegrees f d e
+third_ahead d e f t = record { hd = t.hf; he = t.hd; hf = t.he; de = λ eq. t.df (sym eq); df = λ eq. t.ef (sym eq); ef = t.de }
+
+powers_of : (d e f : ℕ) → ThreeDegrees d e f →
     Powers (power 2 d) (power 2 e) (power 2 f) (power 0xC3 d) (power 0xC3 e) (power 0xC3 f)
-powers_of d e f hd he hf de df ef =
+powers_of d e f t =
     let two : 2 < 256 = omega arith in
     let low : 0xC3 < 256 = omega arith in
     record {
@@ -162,12 +188,12 @@ powers_of d e f hd he hf de df ef =
       bx' = power_byte 0xC3 d low;
       by' = power_byte 0xC3 e low;
       bz' = power_byte 0xC3 f low;
-      xy = power_apart d e hd he de;
-      xz = power_apart d f hd hf df;
-      yz = power_apart e f he hf ef;
-      ix = power_inverse d hd;
-      iy = power_inverse e he;
-      iz = power_inverse f hf;
+      xy = power_apart d e t.hd t.he t.de;
+      xz = power_apart d f t.hd t.hf t.df;
+      yz = power_apart e f t.he t.hf t.ef;
+      ix = power_inverse d t.hd;
+      iy = power_inverse e t.he;
+      iz = power_inverse f t.hf;
     }
 
 -- a term at the root 1
@@ -201,12 +227,7 @@ made_block mask old new corrections least most found agree applied =
     let e : ℕ = corrections.second.degree in
     let f : ℕ = corrections.third.degree in
     let degrees : AreDegrees mask (length old) (d ∷ e ∷ f ∷ []) = found.degrees in
-    let hd : d < 35 = degrees.small 0 (omega arith) in
-    let he : e < 35 = degrees.small 1 (omega arith) in
-    let hf : f < 35 = degrees.small 2 (omega arith) in
-    let de : d ≢ e = degrees.apart 0 1 (omega arith) (omega arith) (omega arith) in
-    let df : d ≢ f = degrees.apart 0 2 (omega arith) (omega arith) (omega arith) in
-    let ef : e ≢ f = degrees.apart 1 2 (omega arith) (omega arith) (omega arith) in
+    let places : ThreeDegrees d e f = three_degrees mask (length old) d e f degrees in
     let two : 2 < 256 = omega arith in
     let low : 0xC3 < 256 = omega arith in
     let x : ℕ = power 2 d in
@@ -260,7 +281,7 @@ made_block mask old new corrections least most found agree applied =
     let c : ℕ = correction z x y (s j) (t j) (u j) in
     let fit : Q a b c =
     corrections_fit x y z (power 0xC3 d) (power 0xC3 e) (power 0xC3 f) (s j) (t j) (u j)
-    (powers_of d e f hd he hf de df ef) (hs j h) (ht j h) (hu j h) in
+    (powers_of d e f places) (hs j h) (ht j h) (hu j h) in
     subst (λ (v : ℕ). Q v (get_or corrections.second.bytes j 0) (get_or corrections.third.bytes j 0)) (sym (found.first.each j h))
     (subst (λ (v : ℕ). Q a v (get_or corrections.third.bytes j 0)) (sym (found.second.each j h))
     (subst (λ (v : ℕ). Q a b v) (sym (found.third.each j h)) fit)) in
@@ -474,13 +495,7 @@ must_agree mask old corrections most found solvable =
     let e : ℕ = corrections.second.degree in
     let f : ℕ = corrections.third.degree in
     let degrees : AreDegrees mask (length old) (d ∷ e ∷ f ∷ []) = found.degrees in
-    let hd : d < 35 = degrees.small 0 (omega arith) in
-    let he : e < 35 = degrees.small 1 (omega arith) in
-    let hf : f < 35 = degrees.small 2 (omega arith) in
-    let de : d ≢ e = degrees.apart 0 1 (omega arith) (omega arith) (omega arith) in
-    let df : d ≢ f = degrees.apart 0 2 (omega arith) (omega arith) (omega arith) in
-    let ef : e ≢ f = degrees.apart 1 2 (omega arith) (omega arith) (omega arith) in
-    let flip : (i j : ℕ) → i ≢ j → j ≢ i = λ i j ne eq. ne (sym eq) in
+    let places : ThreeDegrees d e f = three_degrees mask (length old) d e f degrees in
     let three : (j : ℕ) → j < 1024 → ThreeBytes d e f (length old)
     (value_at 0xC3 (column j old)) (value_at 1 (column j old)) (value_at 2 (column j old)) =
     λ j h.
@@ -499,7 +514,7 @@ must_agree mask old corrections most found solvable =
               found.first.each j h
               ∙ sym (only_correction (power 2 d) (power 2 e) (power 2 f) (power 0xC3 d) (power 0xC3 e) (power 0xC3 f) w.a w.b w.c
               (value_at 0xC3 (column j old)) (value_at 1 (column j old)) (value_at 2 (column j old))
-              (powers_of d e f hd he hf de df ef) w.ha w.hb w.hc
+              (powers_of d e f places) w.ha w.hb w.hc
               (record { at_inverse = w.at_inverse; at_one = w.at_one; at_generator = w.at_generator }))
               ∙ w.none_a (omega arith);
         };
@@ -511,7 +526,7 @@ must_agree mask old corrections most found solvable =
               found.second.each j h
               ∙ sym (only_correction (power 2 e) (power 2 d) (power 2 f) (power 0xC3 e) (power 0xC3 d) (power 0xC3 f) w.b w.a w.c
               (value_at 0xC3 (column j old)) (value_at 1 (column j old)) (value_at 2 (column j old))
-              (powers_of e d f he hd hf (flip d e de) ef df) w.hb w.ha w.hc
+              (powers_of e d f (second_ahead d e f places)) w.hb w.ha w.hc
               (record {
                 at_inverse = second_first (product w.a (power 0xC3 d)) (product w.b (power 0xC3 e)) (product w.c (power 0xC3 f))
                     (value_at 0xC3 (column j old)) w.at_inverse;
@@ -529,7 +544,7 @@ must_agree mask old corrections most found solvable =
               found.third.each j h
               ∙ sym (only_correction (power 2 f) (power 2 d) (power 2 e) (power 0xC3 f) (power 0xC3 d) (power 0xC3 e) w.c w.a w.b
               (value_at 0xC3 (column j old)) (value_at 1 (column j old)) (value_at 2 (column j old))
-              (powers_of f d e hf hd he (flip d f df) (flip e f ef) de) w.hc w.ha w.hb
+              (powers_of f d e (third_ahead d e f places)) w.hc w.ha w.hb
               (record {
                 at_inverse = third_first (product w.a (power 0xC3 d)) (product w.b (power 0xC3 e)) (product w.c (power 0xC3 f))
                     (value_at 0xC3 (column j old)) w.at_inverse;

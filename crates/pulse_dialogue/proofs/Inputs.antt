@@ -1,11 +1,11 @@
 -- Inputs that begin with lines: each has lines and an ending, and only those.
-use Rattle.std.proofs.Common.{◌≡◌, ◌≢◌, ◌⊎◌, inl, inr, ℕ, zero, suc, ◌+◌, ◌≤◌, ◌<◌, List, [], ◌∷◌, ◌++◌, length, drop, Option, Some, None, IfSome, refl, sym, ap, ◌∙◌, subst, arith, append_assoc, append-nil}
+use Rattle.std.proofs.Common.{◌≡◌, ◌≢◌, ◌⊎◌, inl, inr, ℕ, zero, suc, ◌+◌, ◌≤◌, ◌<◌, List, [], ◌∷◌, ◌++◌, length, Option, Some, None, IfSome, refl, sym, ap, ◌∙◌, subst, arith, append_assoc, append-nil}
 use Rattle.std.specs.Option.{option_map}
-use Rattle.std.proofs.Math.Seq.{drop-append_seam}
 use Rattle.std.proofs.lemmas.List.{length-append, nil_from_length}
 use Rattle.tape_script.proofs.Deciding.{Decided, along, both, at_most, same_bytes}
 use Rattle.tape_script.proofs.Lined.{one_before}
 use Rattle.tape_script.proofs.Readings.{Cut, cut, no_line_without}
+use Rattle.tape_script.proofs.Rests.{Rest}
 use Rattle.pulse_dialogue.specs.declared.line.Line.{Line}
 use Rattle.pulse_dialogue.specs.Lines.{time_of, line_text, line_bytes, greatest_time, most_lines, IsLine, Ending, AtEnd, AtFault, Follows, HasLine, IsFault, Ends, HasLines}
 use Rattle.pulse_dialogue.specs.Reading.{IsLineText}
@@ -177,20 +177,6 @@ read_behind (x ∷ xs) ys rest last line place here at ending are few same equal
 
 -- ---- the input, from what is left
 
--- what is left where the source tells it, and else some bytes that have the property
-pub record Rest (o : Option (List ℕ)) (P : List ℕ → Type 0) : Type 0 where
-  pub rest : List ℕ
-  pub told : IfSome o (λ bytes. bytes ≡ rest)
-  pub has : P rest
-
-pub any_rest : (o : Option (List ℕ)) → Rest o (λ rest. Unit {0})
-any_rest None = record { rest = []; told = tt; has = tt }
-any_rest (Some bytes) = record { rest = bytes; told = refl; has = tt }
-
-pub ended_rest : (o : Option (List ℕ)) → IfSome o (λ bytes. bytes ≡ []) → Rest o (λ rest. rest ≡ [])
-ended_rest None ended = record { rest = []; told = tt; has = refl }
-ended_rest (Some bytes) ended = record { rest = bytes; told = refl; has = ended }
-
 -- a byte that begins no line
 no_line : (last line : ℕ) → IsFault last line (0 ∷ [])
 no_line last line = record {
@@ -220,19 +206,3 @@ fault_rest (Some all) p last line n bytes some long gave none = record {
       let same : all ≡ bytes ++ rest = cc in
       let l = ap length (sym e ∙ same) in
       let m = length-append bytes rest in omega arith
-
--- the whole input, from what was given and what is left
-pub whole_told : (o p : Option (List ℕ)) (given rest : List ℕ) → o ≡ option_map (λ rest. given ++ rest) p → IfSome p (λ bytes. bytes ≡ rest) →
-    IfSome o (λ bytes. given ++ rest ≡ bytes)
-whole_told None p given rest gave told = tt
-whole_told (Some all) None given rest gave told = absurd (cc)
-whole_told (Some all) (Some bytes) given rest gave told =
-    let same : all ≡ given ++ bytes = cc in
-    sym (same ∙ ap (λ t. given ++ t) told)
-
--- what is left is what stands behind the bytes given
-pub left_behind : (o p : Option (List ℕ)) (given : List ℕ) (n : ℕ) → o ≡ option_map (λ rest. given ++ rest) p → n ≡ length given →
-    p ≡ option_map (drop n) o
-left_behind o None given n gave long = sym (ap (option_map (drop n)) gave)
-left_behind o (Some rest) given n gave long =
-    sym (ap (option_map (drop n)) gave ∙ ap (λ (k : ℕ). Some (drop k (given ++ rest))) long ∙ ap Some (drop-append_seam given rest))

@@ -8,6 +8,7 @@ use Rattle.qic_base.specs.Source as sources
 use Rattle.qic_base.proofs.Writing.{TakesBoth, Wrote-Wrote, Wrote-BrokeOff, BrokeOff-longer}
 use Rattle.tape_script.specs.Reading.{Gave}
 use Rattle.tape_script.proofs.Giving.{Gave-Gave, Gave-end, Gave-nothing}
+use Rattle.tape_script.proofs.Rests.{any_rest, ended_rest, whole_told, left_behind}
 use Rattle.pulse_dialogue.specs.declared.context.Context.TheVariants.{Nothing}
 use Rattle.pulse_dialogue.specs.declared.fault.TraceFault.{TraceFault}
 use Rattle.pulse_dialogue.specs.declared.fault.TraceFault.TheVariants as fault
@@ -21,7 +22,7 @@ use Rattle.pulse_dialogue.specs.Telling.{HasRoom, continues, continued, told_at,
 use Rattle.pulse_dialogue.specs.Steps.{Scene, Read, Told, ToldEnd, LineBroke, EndBroke, HasNoLine, Hears, HearsEnd}
 use Rattle.pulse_dialogue.specs.Reading.{GaveOn}
 use Rattle.pulse_dialogue.specs.Runs.{Outside, Leaves, IsInput, Ended, Unread, Unwritten, Tells}
-use Rattle.pulse_dialogue.proofs.Inputs.{Lined, lined_from, AreLines, AreLines-push, last_time, last_time-push, lines_bytes, lines_bytes-push, push, read_behind, Rest, any_rest, ended_rest, fault_rest, whole_told, left_behind}
+use Rattle.pulse_dialogue.proofs.Inputs.{Lined, lined_from, AreLines, AreLines-push, last_time, last_time-push, lines_bytes, lines_bytes-push, push, read_behind, fault_rest}
 use Rattle.pulse_dialogue.proofs.Tellings.{to_tell, one_line_more, told_at_end, told_at_fault}
 
 -- the open train has no more pulses than lines were read

@@ -1,12 +1,12 @@
 -- Inputs that begin with the lines of trains.
-use Rattle.std.proofs.Common.{◌≡◌, ℕ, ◌+◌, ◌≤◌, ◌<◌, List, [], ◌∷◌, ◌++◌, length, drop, Option, Some, None, IfSome, codes, get_or, refl, sym, ap, ◌∙◌, subst, arith, append_assoc}
+use Rattle.std.proofs.Common.{◌≡◌, ℕ, ◌+◌, ◌≤◌, ◌<◌, List, [], ◌∷◌, ◌++◌, length, Option, Some, None, IfSome, codes, get_or, refl, sym, ap, ◌∙◌, subst, arith, append_assoc}
 use Rattle.std.specs.Option.{option_map}
-use Rattle.std.proofs.Math.Seq.{drop-append_seam}
 use Rattle.std.proofs.lemmas.List.{length-append, append_cancel_left, nil_from_length}
 use Rattle.tape_script.specs.Input.{IsTrain, IsPulse, Ending, AtEnd, AtStop, AtFault, HasStop, IsFault, Ends, HasItems, most_items}
 use Rattle.tape_script.proofs.Decimals.{one_number}
 use Rattle.tape_script.proofs.Inputs as inputs
 use Rattle.tape_script.proofs.Lined.{one_before}
+use Rattle.tape_script.proofs.Rests.{Rest}
 use Rattle.tape_pulses.specs.Pulses.{train_line, train_lines}
 use Rattle.tape_pulses.specs.Runs.{IsFront}
 
@@ -97,20 +97,6 @@ comes_first (p ∷ ps) rest line place (q ∷ qs) ending are few read =
 
 -- ---- the input, from what is left
 
--- what is left where the source tells it, and else some bytes that have the property
-pub record Rest (o : Option (List ℕ)) (P : List ℕ → Type 0) : Type 0 where
-  pub rest : List ℕ
-  pub told : IfSome o (λ bytes. bytes ≡ rest)
-  pub has : P rest
-
-pub any_rest : (o : Option (List ℕ)) → Rest o (λ rest. Unit {0})
-any_rest None = record { rest = []; told = tt; has = tt }
-any_rest (Some bytes) = record { rest = bytes; told = refl; has = tt }
-
-pub ended_rest : (o : Option (List ℕ)) → IfSome o (λ bytes. bytes ≡ []) → Rest o (λ rest. rest ≡ [])
-ended_rest None ended = record { rest = []; told = tt; has = refl }
-ended_rest (Some bytes) ended = record { rest = bytes; told = refl; has = ended }
-
 stop_told : (o : Option (List ℕ)) (rest : List ℕ) → o ≡ Some (codes "end\n" ++ rest) → IfSome o (λ bytes. bytes ≡ codes "end\n" ++ rest)
 stop_told None rest e = tt
 stop_told (Some bytes) rest e = cc
@@ -164,19 +150,3 @@ fault_rest (Some all) p line n bytes some long gave no_stop no_train = record {
       let same : all ≡ bytes ++ rest = cc in
       let l = ap length (sym e ∙ same) in
       let m = length-append bytes rest in omega arith
-
--- the whole input, from what was given and what is left
-pub whole_told : (o p : Option (List ℕ)) (given rest : List ℕ) → o ≡ option_map (λ rest. given ++ rest) p → IfSome p (λ bytes. bytes ≡ rest) →
-    IfSome o (λ bytes. given ++ rest ≡ bytes)
-whole_told None p given rest gave told = tt
-whole_told (Some all) None given rest gave told = absurd (cc)
-whole_told (Some all) (Some bytes) given rest gave told =
-    let same : all ≡ given ++ bytes = cc in
-    sym (same ∙ ap (λ t. given ++ t) told)
-
--- what is left is what stands behind the bytes given
-pub left_behind : (o p : Option (List ℕ)) (given : List ℕ) (n : ℕ) → o ≡ option_map (λ rest. given ++ rest) p → n ≡ length given →
-    p ≡ option_map (drop n) o
-left_behind o None given n gave long = sym (ap (option_map (drop n)) gave)
-left_behind o (Some rest) given n gave long =
-    sym (ap (option_map (drop n)) gave ∙ ap (λ (k : ℕ). Some (drop k (given ++ rest))) long ∙ ap Some (drop-append_seam given rest))

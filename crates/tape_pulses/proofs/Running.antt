@@ -16,13 +16,14 @@ use Rattle.tape_script.specs.Input.{IsPulse, Ending, AtEnd, AtStop, AtFault, End
 use Rattle.tape_script.specs.Reading.{Gave}
 use Rattle.tape_script.proofs.Giving.{Gave-Gave, Gave-end, Gave-nothing}
 use Rattle.tape_script.proofs.Readings.{each_pulses}
+use Rattle.tape_script.proofs.Rests.{any_rest, ended_rest, whole_told, left_behind}
 use Rattle.tape_pulses.specs.declared.fault.PulseFault.{PulseFault}
 use Rattle.tape_pulses.specs.declared.fault.PulseFault.TheVariants as fault
 use Rattle.tape_pulses.specs.Pulses.{after_train, after_trains, train_steps, trains_steps, level_line, levels, train_line, train_lines, Answer, AllSent, ScriptFault, taken_by, answer_by, outcome_of}
 use Rattle.tape_pulses.specs.Runs.{Outside, Leaves, Ended, Shown, Unshown, Unsent, CutOff}
 use Rattle.tape_pulses.specs.Runs as runs
 use Rattle.tape_pulses.specs.Lines.{GaveOn, HasNoTrain, GaveEnd, Rests, Heard, Hears, HearsEnd}
-use Rattle.tape_pulses.proofs.Inputs.{ArePulses, ArePulses-push, read_behind, comes_first, any_rest, ended_rest, stop_rest, fault_rest, whole_told, left_behind}
+use Rattle.tape_pulses.proofs.Inputs.{ArePulses, ArePulses-push, read_behind, comes_first, stop_rest, fault_rest}
 use Rattle.tape_pulses.proofs.Trains.{after_trains-append, trains_steps-append, levels-append, train_lines-append, after_train-counted}
 
 -- ---- one train more

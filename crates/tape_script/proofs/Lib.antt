@@ -9,5 +9,6 @@ pub mod Lines
 pub mod Making
 pub mod Printing
 pub mod Readings
+pub mod Rests
 pub mod Splits
 pub mod Texts
