@@ -1,5 +1,7 @@
 pub mod Orders
+pub mod Putting
 pub mod SlotLaws
 pub mod SoFar
+pub mod Spelling
 pub mod TableLaws
 pub mod Totals

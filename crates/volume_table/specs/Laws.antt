@@ -1,5 +1,7 @@
 -- Laws of the volume table (this project's profile).
-use Rattle.std.specs.Prelude.{◌≡◌, ◌⊎◌, ℕ, List}
+use Rattle.std.specs.Prelude.{◌≡◌, ◌⊎◌, ℕ, ◌<◌, List, [], ◌∷◌, ◌++◌, length}
+use Rattle.cartridge_spec.specs.HeaderAndTable.{IsArea}
+use Rattle.cartridge_spec.specs.Slots.{slot_bytes, FitsSlot, with_slot}
 use Rattle.cartridge_spec.specs.Table.{Entry, Shows, TableFault, HasNoFault, IsFirstFault, IsSoundList}
 
 -- two lists that the same data show are equal
@@ -28,3 +30,17 @@ abbrev pub SoundIsFaultless : Type 0
 SoundIsFaultless =
     (area : List (List ℕ)) (last : ℕ) (entries : List Entry) → IsSoundList last entries → Shows area entries →
     HasNoFault area last
+
+-- the data with an entry in the slot behind a list's show the list with that entry
+abbrev pub PutEntryIsShown : Type 0
+PutEntryIsShown =
+    (area : List (List ℕ)) (entries : List Entry) (entry : Entry) →
+    IsArea area → Shows area entries → length entries < 232 → FitsSlot entry →
+    Shows (with_slot area (length entries) (slot_bytes entry)) (entries ++ entry ∷ [])
+
+-- and no other list
+abbrev pub PutEntryAloneIsShown : Type 0
+PutEntryAloneIsShown =
+    (area : List (List ℕ)) (entries : List Entry) (entry : Entry) (others : List Entry) →
+    IsArea area → Shows area entries → length entries < 232 → FitsSlot entry →
+    Shows (with_slot area (length entries) (slot_bytes entry)) others → others ≡ entries ++ entry ∷ []

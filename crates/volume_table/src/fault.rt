@@ -1,4 +1,4 @@
-//! Why the bytes of a volume table are refused.
+//! Why the bytes of a volume table, or one entry more, are refused.
 
 use thiserror::Error;
 
@@ -13,3 +13,8 @@ pub enum TableFault {
     #[error("slot {slot} of the volume table names segments that no volume can take there")]
     BadRange { slot: u8 },
 }
+
+/// The table has 232 volumes, and no slot for another one.
+#[derive(Clone, Copy, Debug, PartialEq, Eq, Error)]
+#[error("the volume table is full")]
+pub struct TableFull;

@@ -1,6 +1,6 @@
 //! Laws of the volume table that are proved of its definitions; the functions do nothing.
 
-ghost use Rattle.volume_table.specs.Laws.{DataAreSoundOrFaulty, FaultlessIsSound, SoundDataShowVolumes, SoundIsFaultless, VolumesAreDetermined};
+ghost use Rattle.volume_table.specs.Laws.{DataAreSoundOrFaulty, FaultlessIsSound, PutEntryAloneIsShown, PutEntryIsShown, SoundDataShowVolumes, SoundIsFaultless, VolumesAreDetermined};
 
 /// The bytes of a table show at most one list of volumes.
 pub fn volumes_are_determined()
@@ -22,4 +22,11 @@ pub fn data_are_sound_or_faulty()
 pub fn sound_lists()
     ensures faultless { FaultlessIsSound }
     ensures sound { SoundIsFaultless }
+{}
+
+/// An entry that is put is read again: with it in the slot behind those of a list, the bytes of a table show the list
+/// with that entry, and no other one.
+pub fn a_put_entry_is_read_again()
+    ensures shown { PutEntryIsShown }
+    ensures alone { PutEntryAloneIsShown }
 {}

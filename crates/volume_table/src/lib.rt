@@ -7,8 +7,9 @@ pub mod laws;
 mod reading;
 mod slots;
 mod table;
+mod writing;
 
 pub use entry::Entry;
-pub use fault::TableFault;
+pub use fault::{TableFault, TableFull};
 pub use reading::TableReading;
 pub use table::Table;

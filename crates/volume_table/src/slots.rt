@@ -89,7 +89,7 @@ fn read_slot(
 }
 
 /// Adds an entry to a list that has room for it, so that no memory is taken.
-fn push_within(entries: &mut Vec<Entry>, entry: Entry)
+pub fn push_within(entries: &mut Vec<Entry>, entry: Entry)
     requires { vec_len entries.old < vec_capacity entries.old }
     ensures items { entries.new.items ≡ entries.old.items ++ entry ∷ [] }
     ensures capacity { vec_capacity entries.old ≤ vec_capacity entries.new }

@@ -1,11 +1,13 @@
 //! The list of volumes that a volume table shows.
 
-ghost use Rattle.std.specs.Prelude.{◌≡◌, ◌<◌, ◌≤◌, ◌↔◌, [], length, slice_get, IsTrue, IsOk, IfOk, OnOk, OnErr, IfErr};
+ghost use Rattle.std.specs.Prelude.{◌≡◌, ◌<◌, ◌≤◌, ◌↔◌, ◌++◌, ◌∷◌, [], length, slice_get, IsTrue, IsOk, IsErr, IfOk, OnOk, OnErr, IfErr};
+ghost use Rattle.cartridge_spec.specs.Slots.{slot_bytes, slot_sector, with_slot};
 ghost use Rattle.cartridge_spec.specs.Table.{Shows, HasNoFault, IsFirstFault};
 
 use crate::entry::Entry;
-use crate::fault::TableFault;
-use crate::slots::{SLOTS, read_slots};
+use crate::fault::{TableFault, TableFull};
+use crate::slots::{SLOTS, push_within, read_slots};
+use crate::writing::write_slot;
 use qic_base::NoMemory;
 use std::alloc::Global;
 use std::marker::Model;
@@ -59,6 +61,29 @@ impl Table {
             self.entries.clear();
         }
         outcome
+    }
+
+    /// Writes the entry into the next slot of the table's data area, 29 sectors that show the list,
+    /// and adds it to the list. Answers the index of the sector that has the slot.
+    pub fn put(&mut self, entry: &Entry, area: &mut [[u8; 1024]]) -> Result<u8, TableFull>
+        requires sectors { length area.old ≡ 29 }
+        requires list { Shows area.old self.old }
+        ensures full { IsErr result ↔ (length self.old ≡ 232) }
+        ensures sector { IfOk result (λ sector. sector ≡ slot_sector (length self.old)) }
+        ensures written { OnOk result (area.new
+            ≡ with_slot area.old (length self.old) (slot_bytes (entry_of entry.now))) }
+        ensures added { OnOk result (self.new ≡ self.old ++ entry_of entry.now ∷ []) }
+        ensures shown { OnOk result (Shows area.new self.new) }
+        ensures data_kept { OnErr result (area.new ≡ area.old) }
+        ensures list_kept { OnErr result (self.new ≡ self.old) }
+    {
+        let index = self.len();
+        if index == SLOTS {
+            return Err(TableFull);
+        }
+        write_slot(area, index, entry);
+        push_within(&mut self.entries, *entry);
+        Ok(index / 8)
     }
 
     /// The number of volumes, 0 to 232.
@@ -119,18 +144,21 @@ mod tests {
         }
     }
 
-    #[test]
-    fn a_slot_of_the_table_is_read(rt: HostRuntime) -> Result<(), Fail> {
-        let mut area = vec![in rt.alloc(); [0u8; 1024]; 29]?;
-        assert_eq!(rt; area.len(), 29);
-        let sector = &mut area[0];
-        sector[..9].copy_from_slice(b"\x56\x54\x42\x4C\x03\x00\x03\x00\x61");
-        sector[9..52].copy_from_slice(&[b' '; 43]);
-        sector[52..58].copy_from_slice(b"\xC0\x65\x52\x30\x01\x01");
-        sector[96..104].copy_from_slice(b"\x0A\x00\x00\x00\x00\x00\x00\x00");
+    /// Slot 0 after the first append to a cartridge: ten bytes, named `a`, of 1994-03-01T12:00:00.
+    fn first_slot() -> [u8; 128] {
+        let mut bytes = [0; 128];
+        bytes[..9].copy_from_slice(b"\x56\x54\x42\x4C\x03\x00\x03\x00\x61");
+        bytes[9..52].copy_from_slice(&[b' '; 43]);
+        bytes[52..58].copy_from_slice(b"\xC0\x65\x52\x30\x01\x01");
+        bytes[96..104].copy_from_slice(b"\x0A\x00\x00\x00\x00\x00\x00\x00");
+        bytes
+    }
+
+    /// What that slot tells.
+    fn first_entry() -> Entry {
         let mut name = [b' '; 44];
         name[0] = b'a';
-        let want = Entry {
+        Entry {
             start: 3,
             end: 3,
             name: Name::from_bytes(&name),
@@ -139,12 +167,59 @@ mod tests {
             sequence: 1,
             directory: 0,
             size: 10,
-        };
+        }
+    }
+
+    #[test]
+    fn a_slot_of_the_table_is_read(rt: HostRuntime) -> Result<(), Fail> {
+        let mut area = vec![in rt.alloc(); [0u8; 1024]; 29]?;
+        assert_eq!(rt; area.len(), 29);
+        let sector = &mut area[0];
+        sector[0..128].copy_from_slice(&first_slot());
         let mut table = Table::new(rt.alloc())?;
         assert!(rt; table.is_empty());
         assert_eq!(rt; table.decode(&area, 83), Ok(()));
         assert_eq!(rt; table.len(), 1);
-        assert_eq!(rt; *table.entry(0), want);
+        assert_eq!(rt; *table.entry(0), first_entry());
+        Ok(())
+    }
+
+    #[test]
+    fn an_entry_is_put_and_read_again(rt: HostRuntime) -> Result<(), Fail> {
+        let mut area = vec![in rt.alloc(); [0u8; 1024]; 29]?;
+        assert_eq!(rt; area.len(), 29);
+        let sector = &mut area[0];
+        sector[4..128].copy_from_slice(&[0xAA; 124]);
+        let mut table = Table::new(rt.alloc())?;
+        assert_eq!(rt; table.decode(&area, 83), Ok(()));
+        assert_eq!(rt; table.put(&first_entry(), &mut area), Ok(0));
+        assert_eq!(rt; &area[0][..128], first_slot().as_slice());
+        assert_eq!(rt; &area[0][128..], [0; 896].as_slice());
+        assert_eq!(rt; table.len(), 1);
+        let mut again = Table::new(rt.alloc())?;
+        assert_eq!(rt; again.decode(&area, 83), Ok(()));
+        assert_eq!(rt; again.len(), 1);
+        assert_eq!(rt; *again.entry(0), first_entry());
+        Ok(())
+    }
+
+    #[test]
+    fn the_last_slot_fills_the_table(rt: HostRuntime) -> Result<(), Fail> {
+        let mut area = vec![in rt.alloc(); [0u8; 1024]; 29]?;
+        assert_eq!(rt; area.len(), 29);
+        set_volumes(&mut area, 231);
+        let mut entry = first_entry();
+        entry.start = 234;
+        entry.end = 234;
+        let mut slot = first_slot();
+        slot[4..8].copy_from_slice(b"\xEA\x00\xEA\x00");
+        let mut table = Table::new(rt.alloc())?;
+        assert_eq!(rt; table.decode(&area, 4199), Ok(()));
+        assert_eq!(rt; table.put(&entry, &mut area), Ok(28));
+        assert_eq!(rt; table.decode(&area, 4199), Ok(()));
+        assert_eq!(rt; table.put(&entry, &mut area), Err(TableFull));
+        assert_eq!(rt; &area[28][896..], slot.as_slice());
+        assert_eq!(rt; table.len(), 232);
         Ok(())
     }
 
