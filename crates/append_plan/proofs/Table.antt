@@ -16,7 +16,7 @@ use Rattle.append_plan.proofs.Between.{data_sector}
 use Rattle.append_plan.proofs.Orders.{order_more}
 use Rattle.append_plan.proofs.Segments.{AreTaken, HasRoom, room_is, room_most}
 use Rattle.cartridge_spec.proofs.SlotBytes.{length-slot_bytes, slot_is_used, slot_shows, slot_are_bytes}
-use Rattle.cartridge_spec.proofs.Slots.{slot_area, shows_more}
+use Rattle.cartridge_spec.proofs.Slots.{slot_area, area_is_long, shows_more}
 use Rattle.append_plan.proofs.TableWrites.{DifferIn}
 use Rattle.append_plan.proofs.Volume.{old_order, ready_taken}
 
@@ -92,7 +92,7 @@ appended_table_shows c plain name date bytes ready =
     let end : taken.end ≤ last = taken.within in (
       slot_area plain.table_area n (slot_bytes entry) area within long (slot_are_bytes entry ready.label.bytes (omega arith) (omega arith)),
       subst (λ (es : List Entry). Shows (appended_table plain entry) es) (sym more)
-          (shows_more plain.table_area (entries_of plain) entry (slot_bytes entry) n area ready.stands.shown (count_of_entries plain) within long
+          (shows_more plain.table_area (entries_of plain) entry (slot_bytes entry) n (area_is_long plain.table_area area) ready.stands.shown (count_of_entries plain) within long
           (slot_is_used entry fits.name) (slot_shows entry fits)),
       subst (λ (es : List Entry). IsSoundList last es) (sym more)
           (order_more 2 last (entries_of plain) entry (old_order c plain ready.stands) (omega arith) (omega arith) (omega arith)),

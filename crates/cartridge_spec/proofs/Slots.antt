@@ -24,10 +24,18 @@ sector_of_set area k bytes h = ap (λ (o : Option (List ℕ)). unwrap_or o []) (
 pub other_sector : (area : List (List ℕ)) (k i : ℕ) (bytes : List ℕ) → i ≢ k → sector_at (set area k bytes) i ≡ sector_at area i
 other_sector area k i bytes apart = ap (λ (o : Option (List ℕ)). unwrap_or o []) (slice_get-set_other area k i bytes apart)
 
+-- 29 sectors of 1,024 numbers, which may be no bytes
+pub record IsLong (area : List (List ℕ)) : Type 0 where
+  pub size : length area ≡ 29
+  pub sectors : (i : ℕ) → i < 29 → length (sector_at area i) ≡ 1024
+
 sector_is : (area : List (List ℕ)) (k : ℕ) → IsArea area → k < 29 → IsSector (sector_at area k)
 sector_is area k is h =
     let size : length area ≡ 29 = is.size in
     subst IsSector (sym (unwrap_or-slice_get area k [])) (All-get_or IsSector area k [] (omega arith) is.sectors)
+
+pub area_is_long : (area : List (List ℕ)) → IsArea area → IsLong area
+area_is_long area is = record { size = is.size; sectors = λ i h. (sector_is area i is h).size }
 
 bytes_of_overwritten : (bytes part : List ℕ) (at : ℕ) → All (λ b. b < 256) bytes → All (λ b. b < 256) part → All (λ b. b < 256) (overwritten bytes at part)
 unfolding overwritten
@@ -59,21 +67,21 @@ slot_range area i =
     let long : 128 ≡ 128 * (i % 8) + 128 - 128 * (i % 8) = omega arith in
     ap (λ (n : ℕ). take n (drop (128 * (i % 8)) (sector_at area (i / 8)))) long
 
-pub slot_written : (area : List (List ℕ)) (i : ℕ) (bytes : List ℕ) → IsArea area → i < 232 → length bytes ≡ 128 → slot (with_slot area i bytes) i ≡ bytes
+pub slot_written : (area : List (List ℕ)) (i : ℕ) (bytes : List ℕ) → IsLong area → i < 232 → length bytes ≡ 128 → slot (with_slot area i bytes) i ≡ bytes
 slot_written area i bytes is within long =
     let k : ℕ = i / 8 in
     let at : ℕ = 128 * (i % 8) in
     let count : length area ≡ 29 = is.size in
-    let size : length (sector_at area k) ≡ 1024 = (sector_is area k is (omega arith)).size in
+    let size : length (sector_at area k) ≡ 1024 = is.sectors k (omega arith) in
     slot_range (with_slot area i bytes) i
     ∙ ap (λ (sector : List ℕ). slice_range sector at (at + 128)) (sector_of_set area k (overwritten (sector_at area k) at bytes) (omega arith))
     ∙ slice_range-overwritten (sector_at area k) bytes at (at + 128) (omega arith) (omega arith)
 
-same_sector : (area : List (List ℕ)) (i j : ℕ) (bytes : List ℕ) → IsArea area → i < 232 → length bytes ≡ 128 → j ≢ i → j / 8 ≡ i / 8 →
+same_sector : (area : List (List ℕ)) (i j : ℕ) (bytes : List ℕ) → IsLong area → i < 232 → length bytes ≡ 128 → j ≢ i → j / 8 ≡ i / 8 →
     slice_range (overwritten (sector_at area (i / 8)) (128 * (i % 8)) bytes) (128 * (j % 8)) (128 * (j % 8) + 128)
     ≡ slice_range (sector_at area (i / 8)) (128 * (j % 8)) (128 * (j % 8) + 128)
 same_sector area i j bytes is within long apart same =
-    let size : length (sector_at area (i / 8)) ≡ 1024 = (sector_is area (i / 8) is (omega arith)).size in
+    let size : length (sector_at area (i / 8)) ≡ 1024 = is.sectors (i / 8) (omega arith) in
     elim (cases_lt (j % 8) (i % 8)) [
       | inl below ↦
           slice_range-overwritten_below (sector_at area (i / 8)) bytes (128 * (i % 8)) (128 * (j % 8)) (128 * (j % 8) + 128)
@@ -83,7 +91,7 @@ same_sector area i j bytes is within long apart same =
           (omega arith) (omega arith) (omega arith)
     ]
 
-pub other_slot : (area : List (List ℕ)) (i j : ℕ) (bytes : List ℕ) → IsArea area → i < 232 → length bytes ≡ 128 → j ≢ i →
+pub other_slot : (area : List (List ℕ)) (i j : ℕ) (bytes : List ℕ) → IsLong area → i < 232 → length bytes ≡ 128 → j ≢ i →
     slot (with_slot area i bytes) j ≡ slot area j
 other_slot area i j bytes is within long apart =
     let k : ℕ = i / 8 in
@@ -113,7 +121,7 @@ entry_last : (es : List Entry) (e : Entry) (i : ℕ) → i ≡ length es → sli
 entry_last es e i is =
     slice_get-get_or (es ++ e ∷ []) i e (omega (arith, length_push es e)) ∙ ap Some (get_or_at es e [] e i (sym is))
 
-pub shows_more : (area : List (List ℕ)) (es : List Entry) (e : Entry) (bytes : List ℕ) (n : ℕ) → IsArea area → Shows area es → length es ≡ n → n < 232 →
+pub shows_more : (area : List (List ℕ)) (es : List Entry) (e : Entry) (bytes : List ℕ) (n : ℕ) → IsLong area → Shows area es → length es ≡ n → n < 232 →
     length bytes ≡ 128 → is_used bytes ≡ true → entry_in bytes ≡ e → Shows (with_slot area n bytes) (es ++ e ∷ [])
 shows_more area es e bytes n is shows count within long used shown =
     let new : List (List ℕ) = with_slot area n bytes in

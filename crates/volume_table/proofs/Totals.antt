@@ -86,13 +86,13 @@ front_free area n front free = record {
     by_place i past (inl before) = front.free i past before
     by_place i past (inr same) = ap (λ k. is_free (slot area k)) same ∙ free
 
-pub slice_get-left : (xs ys : List Entry) (i : ℕ) (e : Entry) → slice_get xs i ≡ Some e → slice_get (xs ++ ys) i ≡ Some e
+slice_get-left : (xs ys : List Entry) (i : ℕ) (e : Entry) → slice_get xs i ≡ Some e → slice_get (xs ++ ys) i ≡ Some e
 slice_get-left xs ys i e here =
     let within = slice_get_within xs i e here in
     slice_get-get_or (xs ++ ys) i e (omega (arith, length-append xs ys, within))
     ∙ ap Some (get_or_append_left xs ys e i within ∙ get_or_from_slice_get xs i e e here)
 
-pub slice_get-last : (xs : List Entry) (e : Entry) (i : ℕ) → i ≡ length xs → slice_get (xs ++ e ∷ []) i ≡ Some e
+slice_get-last : (xs : List Entry) (e : Entry) (i : ℕ) → i ≡ length xs → slice_get (xs ++ e ∷ []) i ≡ Some e
 slice_get-last xs e i here =
     slice_get-get_or (xs ++ e ∷ []) i e (omega (arith, length-append xs (e ∷ []), here))
     ∙ ap Some (ap (λ k. get_or (xs ++ e ∷ []) k e) here ∙ get_or-append_seam xs e [] e)
