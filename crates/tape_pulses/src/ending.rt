@@ -1,7 +1,6 @@
 //! The line behind the last that may be a train.
 
-ghost use Rattle.std.specs.Prelude.{◌≡◌, ◌≤◌, Err};
-ghost use Rattle.qic_base.specs.Cause.{Rose};
+ghost use Rattle.std.specs.Prelude.{◌≤◌};
 ghost use Rattle.tape_pulses.specs.Lines.{HearsEnd};
 
 use crate::PulseFault;
@@ -18,8 +17,6 @@ pub fn end_input<S: Source>(
     ensures hears { HearsEnd S.means source.old source.new line place result }
     ensures kept { S.means.keeps source.old source.new }
     ensures later { S.means.faults source.old ≤ S.means.faults source.new }
-    ensures cause { result ≡ Err PulseFault.Source →
-        Rose (S.means.faults source.old) (S.means.faults source.new) }
 {
     match Train::read(source, buffer) {
         Ok(TrainRead::End | TrainRead::Stop) => Ok(()),

@@ -21,10 +21,11 @@ pub fn run_pulses<T: Tape, S: Source, K: Sink>(
     source: &mut S,
     sink: &mut K,
 ) -> Result<(), PulseFault>
-    // The outcome of the plain machine; where a fault of the outside cut it off, so much of it as was carried out.
+    // The outcome of the plain machine; where a fault of the outside cut it off, the acts up to that one and no more.
     ensures ends { Ends T.means S.means K.means
-        record { unit = unit.old; source = source.old; sink = sink.old }
-        record { unit = unit.new; source = source.new; sink = sink.new } result }
+        record { tape = unit.old.tape; source = source.old; sink = sink.old }
+        record { tape = unit.new.tape; source = source.new; sink = sink.new }
+        unit.new.drive result }
 
     // Each fault of the outside has its cause.
     ensures tape_fault { result ≡ Err PulseFault.Tape →

@@ -1,4 +1,4 @@
--- The lines so far were trains, all of them shown.
+-- The lines so far were trains, and their acts went.
 use Rattle.std.proofs.Common.{◌≤◌, ◌*◌}
 use Rattle.tape_pulses.proofs.Running.{SoFar}
 use Rattle.tape_pulses.proofs.run.run_pulses.Given as goal
@@ -6,9 +6,8 @@ use Rattle.tape_pulses.proofs.run.run_pulses.Given as goal
 abbrev pub invariant-loop-line : goal.invariant-loop-line
 invariant-loop-line g l = record {
   far : SoFar g.T.Tape.means g.S.Source.means g.K.Sink.means
-      record { unit = l.fn.unit; source = l.fn.source; sink = l.fn.sink }
-      record { unit = l.unit; source = l.source; sink = l.sink } l.line l.place;
+      record { tape = l.fn.unit.tape; source = l.fn.source; sink = l.fn.sink }
+      record { tape = l.unit.tape; source = l.source; sink = l.sink } l.unit.drive l.line l.place;
   bound : l.place ≤ 128 * l.line;
   kept : g.S.Source.means.keeps l.fn.source l.source;
-  later : g.S.Source.means.faults l.fn.source ≤ g.S.Source.means.faults l.source;
 }
