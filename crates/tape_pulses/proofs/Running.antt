@@ -1,5 +1,5 @@
 -- A run of `pulses`, line after line: the acts so far went, and then those of what is left went or were cut off.
-use Rattle.std.proofs.Common.{◌≡◌, inl, inr, ℕ, ◌+◌, ◌≤◌, ◌<◌, List, [], ◌∷◌, ◌++◌, length, Option, Some, None, IfSome, Result, Ok, Err, codes, refl, sym, ap, ◌∙◌, subst, arith, append-nil}
+use Rattle.std.proofs.Common.{◌≡◌, inl, inr, ℕ, ◌+◌, ◌*◌, ◌≤◌, ◌<◌, List, [], ◌∷◌, ◌++◌, length, Option, Some, None, IfSome, Result, Ok, Err, codes, refl, sym, ap, ◌∙◌, subst, arith, append-nil}
 use Rattle.std.specs.Option.{option_map}
 use Rattle.std.proofs.lemmas.List.{length-append, length_push}
 use Rattle.qic_base.specs.declared.tape.TapeInfo.{TapeInfo}
@@ -22,11 +22,11 @@ use Rattle.tape_pulses.specs.declared.fault.PulseFault.TheVariants as fault
 use Rattle.tape_pulses.specs.Pulses.{after_train, after_trains, train_act, train_acts, train_line, train_lines, Answer, AllSent, ScriptFault, taken_by, answer_by, outcome_of}
 use Rattle.tape_pulses.specs.Runs.{Leaves, Ended, CutOff}
 use Rattle.tape_pulses.specs.Runs as runs
-use Rattle.tape_pulses.specs.Lines.{Heard, GaveOn, HasNoTrain, GaveEnd, Hears, HearsEnd}
+use Rattle.tape_pulses.specs.Lines.{Heard, GaveOn, HasNoTrain, Hears, HearsEnd}
 use Rattle.tape_pulses.proofs.Hearing.{rests, source_cut, steps_cut}
 use Rattle.tape_pulses.proofs.Inputs.{ArePulses, ArePulses-push, read_behind, comes_first, any_rest, ended_rest, stop_rest, fault_rest, whole_told, left_behind}
 use Rattle.tape_pulses.proofs.MachineLaws.{fronts_do_fronts}
-use Rattle.tape_pulses.proofs.Trains.{after_trains-append, train_acts-append, train_lines-append, after_train-counted}
+use Rattle.tape_pulses.proofs.Trains.{after_trains-append, train_acts-append, train_lines-append, pulse_short, after_train-counted}
 
 -- one train more
 abbrev push : List ℕ → ℕ → List ℕ
@@ -48,6 +48,7 @@ pub record SoFar {T S K : Type 0} (t : tapes.Meaning T) (s : sources.Meaning S) 
   pub are : ArePulses trains
   pub number : length trains ≡ lines
   pub bytes : place ≡ length (train_lines trains)
+  pub short : place ≤ 128 * lines
   pub drive : r ≡ after_trains (power_on known) trains
   pub no_pulse : r.train ≡ 0
   pub went : Went t s k start now (train_acts (power_on known) trains)
@@ -72,6 +73,7 @@ module _ {T S K : Type 0} {t : tapes.Meaning T} {s : sources.Meaning S} {k : sin
     are = tt;
     number = refl;
     bytes = refl;
+    short = omega arith;
     drive = inserted.drive;
     no_pulse = ap (λ (x : Record). x.train) inserted.drive;
     went = record { did = did; wrote = record { took = nothing; later = omega arith }; source_later = omega arith };
@@ -126,6 +128,7 @@ module _ {T S K : Type 0} {t : tapes.Meaning T} {s : sources.Meaning S} {k : sin
           number = length_push far.trains heard.train ∙ ap (λ (m : ℕ). m + 1) far.number;
           bytes = (let e = far.bytes in let m = heard.came.0 in let l = length-append (train_lines far.trains) (train_line heard.train) in
               let p = ap length (train_lines-push far.trains heard.train) in omega arith);
+          short = (let e = far.short in let m = heard.came.0 in let l = pulse_short (train_line heard.train) heard.train heard.pulse in omega arith);
           drive = drive ∙ sym (after_trains-append (power_on far.known) far.trains (heard.train ∷ []));
           no_pulse = ap (λ (x : Record). x.train) drive ∙ after_train-counted before heard.train;
           went = subst (Went t s k start new) (sym (train_acts-append (power_on far.known) far.trains (heard.train ∷ [])))

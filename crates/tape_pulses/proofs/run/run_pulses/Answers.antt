@@ -1,6 +1,5 @@
 use Rattle.std.proofs.Common.{arith}
 use Rattle.tape_pulses.proofs.Running.{begin, next, over, insert_failed, line_failed, end_came}
-use Rattle.tape_pulses.proofs.Trains.{pulse_short}
 use Rattle.tape_pulses.proofs.run.run_pulses.Goals as goal
 
 pub returns-in-Err-clause-ends : goal.returns-in-Err-clause-ends
@@ -12,7 +11,6 @@ pub loop-line-init : goal.loop-line-init
 loop-line-init g c = record {
   far = begin record { tape = c.args.unit.now.tape; source = c.args.source.now; sink = c.args.sink.now }
       c.insert.new.self (g.met.K.Sink.took_nothing c.args.sink.now) c.in_default.ensures.did c.in_default.ensures.inserted;
-  bound = omega arith;
   kept = g.met.S.Source.keeps_itself c.args.source.now;
 }
 
@@ -36,15 +34,13 @@ returns-in-Err-carry_out_line-clause-ends g c =
 
 pub loop-line-preserved : goal.loop-line-preserved
 loop-line-preserved g c =
-    let hears = rw c.in-Ok-Some.field-0-is at c.in-Ok-Some.ensures.hears in
     record {
       far = next g.met.K.Sink.took_both
           record { tape = c.args.unit.now.tape; source = c.args.source.now; sink = c.args.sink.now }
           record { tape = c.loop-line.unit.tape; source = c.loop-line.source; sink = c.loop-line.sink }
           record { tape = c.carry_out_line.new.unit.tape; source = c.carry_out_line.new.source; sink = c.carry_out_line.new.sink }
           c.loop-line.unit.drive c.carry_out_line.new.unit.drive c.loop-line.line c.loop-line.place c.loop-line.invariant.far
-          c.from-place.result (rw c.from-place.ensures hears);
-      bound = let short = pulse_short _ _ hears.pulse in let long = hears.came.0 in let value = c.from-place.ensures in omega arith;
+          c.from-place.result (rw c.from-place.ensures (rw c.in-Ok-Some.field-0-is at c.in-Ok-Some.ensures.hears));
       kept = g.met.S.Source.keeps_on c.args.source.now c.loop-line.source c.carry_out_line.new.source c.loop-line.invariant.kept c.in-Ok-Some.ensures.kept;
     }
 

@@ -1,5 +1,4 @@
 -- The lines so far were trains, and their acts went.
-use Rattle.std.proofs.Common.{◌≤◌, ◌*◌}
 use Rattle.tape_pulses.proofs.Running.{SoFar}
 use Rattle.tape_pulses.proofs.run.run_pulses.Given as goal
 
@@ -8,6 +7,5 @@ invariant-loop-line g l = record {
   far : SoFar g.T.Tape.means g.S.Source.means g.K.Sink.means
       record { tape = l.fn.unit.tape; source = l.fn.source; sink = l.fn.sink }
       record { tape = l.unit.tape; source = l.source; sink = l.sink } l.unit.drive l.line l.place;
-  bound : l.place ≤ 128 * l.line;
   kept : g.S.Source.means.keeps l.fn.source l.source;
 }
