@@ -67,10 +67,6 @@ module _ {T S K : Type 0} {t : tapes.Meaning T} {s : sources.Meaning S} {k : sin
 
 -- ---- a train
 
--- the level that was written is the one behind the train
-level_is : (line : Bool) (now after : Record) (text : List ℕ) → text ≡ level_line line → line ≡ now.line → now ≡ after → text ≡ level_line after.line
-level_is line now after text text_is line_is now_is = text_is ∙ ap level_line line_is ∙ ap (λ (r : Record). level_line r.line) now_is
-
 module _ {T S K : Type 0} (t : tapes.Meaning T) (s : sources.Meaning S) (k : sinks.Meaning K) (a b : Outside T S K) (r : Record) (train n : ℕ) (read : GaveTrain s a.source b.source train n) (later : s.faults a.source ≤ s.faults b.source) where
   -- what was read is its line
   heard : (Came : ℕ → Type 0) → Came train → Heard s a.source b.source Came
@@ -89,36 +85,29 @@ module _ {T S K : Type 0} (t : tapes.Meaning T) (s : sources.Meaning S) (k : sin
       heard (λ p. Cut t s k a b (train_act r p ∷ []) TapeFails)
       (steps_cut a b (train_act r train ∷ []) later broke (record { took = nothing; later = sink_later }))
 
-  module _ (line : Bool) (now : Record) (text : List ℕ) (text_is : text ≡ level_line line) (line_is : line ≡ now.line) (now_is : now ≡ after_train r train) (did : tapes.Done t a.tape b.tape (train_steps r train)) where
+  module _ (line : Bool) (now : Record) (level : line ≡ now.line) (row : now ≡ after_train r train) (did : tapes.Done t a.tape b.tape (train_steps r train)) where
+    printed : level_line line ≡ level_line (after_train r train).line
+    printed = ap level_line (level ∙ ap (λ (x : Record). x.line) row)
+
     -- it was sent, and its level not written
-    pub unshown : sinks.BrokeOff k a.sink b.sink text → Heard s a.source b.source (λ p. Cut t s k a b (train_act r p ∷ []) SinkFails)
-    unshown broke =
-        let level = level_is line now (after_train r train) text text_is line_is now_is in
-        heard (λ p. Cut t s k a b (train_act r p ∷ []) SinkFails) (record {
-          at = record { front = []; act = train_act r train; rest = []; parts = refl };
-          did = did;
-          broke = record {
-            part = broke.front;
-            rest = broke.rest;
-            parts = broke.parts ∙ level;
-            took = broke.took;
-            cause = broke.cause;
-            later = broke.later;
-          };
-          source_later = later;
-        })
+    pub unshown : sinks.BrokeOff k a.sink b.sink (level_line line) → Heard s a.source b.source (λ p. Cut t s k a b (train_act r p ∷ []) SinkFails)
+    unshown off = heard (λ p. Cut t s k a b (train_act r p ∷ []) SinkFails) (record {
+      at = record { front = []; act = train_act r train; rest = []; parts = refl };
+      did = did;
+      broke = record { part = off.front; rest = off.rest; parts = off.parts ∙ printed; took = off.took; cause = off.cause; later = off.later };
+      source_later = later;
+    })
 
     -- its level was written, too
-    pub shown : sinks.Wrote k a.sink b.sink text →
+    pub shown : sinks.Wrote k a.sink b.sink (level_line line) →
         Heard s a.source b.source (λ p. (n ≡ length (train_line p)) × (now ≡ after_train r p) × Went t s k a b (train_act r p ∷ []))
     shown wrote =
-        let level = level_is line now (after_train r train) text text_is line_is now_is in
         heard (λ p. (n ≡ length (train_line p)) × (now ≡ after_train r p) × Went t s k a b (train_act r p ∷ [])) (
           sym read.2 ∙ ap length (pulse_line read.0 train read.1),
-          now_is,
+          row,
           record {
             did = subst (tapes.Done t a.tape b.tape) (sym (append-nil (train_steps r train))) did;
-            wrote = subst (sinks.Wrote k a.sink b.sink) (level ∙ sym (append-nil (level_line (after_train r train).line))) wrote;
+            wrote = subst (sinks.Wrote k a.sink b.sink) (printed ∙ sym (append-nil (level_line (after_train r train).line))) wrote;
             source_later = later;
           },
         )

@@ -4,10 +4,10 @@ ghost use Rattle.std.specs.Prelude.{◌≡◌};
 ghost use Rattle.tape_pulses.specs.Lines.{Hears};
 
 use crate::PulseFault;
-use crate::sending::{level_text, send_train};
+use crate::sending::{print_level, send_train};
 use drive_states::Unit;
 use qic_base::{Sink, SinkFailed, Source, SourceFailed, Tape, TapeFailed};
-use tape_script::{Train, TrainRead, write_text};
+use tape_script::{Train, TrainRead};
 
 /// Reads a line and carries it out: the number of its bytes, or none where the input is over. `line` is the line's number
 /// and `place` the number of bytes before it.
@@ -31,7 +31,8 @@ pub fn carry_out_line<T: Tape, S: Source, K: Sink>(
             if let Err(TapeFailed) = send_train(unit, pulses) {
                 return Err(PulseFault::Tape);
             }
-            match write_text(level_text(unit.line()), sink) {
+            let level = unit.line();
+            match print_level(level, sink) {
                 Ok(()) => Ok(Some(read)),
                 Err(SinkFailed) => Err(PulseFault::Sink),
             }

@@ -1,17 +1,26 @@
-//! A train is sent; the line of the level that it leaves.
+//! A train is sent, and a level is printed.
 
 ghost use Rattle.std.specs.Prelude.{◌≡◌, OnOk};
+ghost use Rattle.qic_base.specs.Sink.{Writes};
 ghost use Rattle.qic_base.specs.Tape.{Does};
 ghost use Rattle.tape_pulses.specs.Pulses.{after_train, train_steps, level_line};
 
 use drive_states::Unit;
-use qic_base::{Tape, TapeFailed};
+use qic_base::{Sink, SinkFailed, Tape, TapeFailed};
+use tape_script::write_text;
 
 /// The line of a level.
-pub fn level_text(level: bool) -> &'static [u8]
+fn level_text(level: bool) -> &'static [u8]
     ensures { result.now ≡ level_line level }
 {
     if level { b"1\n" } else { b"0\n" }
+}
+
+/// Prints the line of a level.
+pub fn print_level<K: Sink>(level: bool, sink: &mut K) -> Result<(), SinkFailed>
+    ensures { Writes K.means sink.old sink.new (level_line level) result }
+{
+    write_text(level_text(level), sink)
 }
 
 /// Sends so many pulses and a gap. Each refusal of the drive is a latched error code.
