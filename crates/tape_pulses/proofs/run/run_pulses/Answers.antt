@@ -25,12 +25,11 @@ returns-in-Err-carry_out_line-clause-ends g c =
     c.in-Err-carry_out_line.fault c.in-Err-carry_out_line.ensures.hears
 
 pub loop-line-preserved : goal.loop-line-preserved
-loop-line-preserved g c =
-    record {
-      far = next g.met.K.Sink.took_both _ _ _ _ _ _ _ c.loop-line.invariant.far
-          c.from-place.result (rw c.from-place.ensures (rw c.in-Ok-Some.field-0-is at c.in-Ok-Some.ensures.hears));
-      kept = g.met.S.Source.keeps_on c.args.source.now c.loop-line.source c.carry_out_line.new.source c.loop-line.invariant.kept c.in-Ok-Some.ensures.kept;
-    }
+loop-line-preserved g c = record {
+  far = next g.met.K.Sink.took_both _ _ _ _ _ _ _ c.loop-line.invariant.far c.from-place.result
+      (rw c.from-place.ensures (rw c.in-Ok-Some.field-0-is at c.in-Ok-Some.ensures.hears));
+  kept = g.met.S.Source.keeps_on c.args.source.now c.loop-line.source c.carry_out_line.new.source c.loop-line.invariant.kept c.in-Ok-Some.ensures.kept;
+}
 
 pub returns-clause-ends : goal.returns-clause-ends
 returns-clause-ends g c =
