@@ -10,7 +10,8 @@ returns-in-Err-clause-hears g c =
 pub returns-in-Err-send_train-clause-hears : goal.returns-in-Err-send_train-clause-hears
 returns-in-Err-send_train-clause-hears g c =
     unsent g.T.Tape.means g.S.Source.means g.K.Sink.means _ _ c.args.unit.now.drive c.in-Ok-Train.pulses c.in-Ok-Train.read
-    (rw c.in-Ok-Train.field-0-is at c.in-Ok-Train.ensures.read) c.in-Ok-Train.ensures.cause.later (g.met.K.Sink.took_nothing c.args.sink.now) (omega arith) c.in-Err-send_train.ensures.did
+    (rw c.in-Ok-Train.field-0-is at c.in-Ok-Train.ensures.read) c.in-Ok-Train.ensures.cause.later
+    (g.met.K.Sink.took_nothing c.args.sink.now) (omega arith) c.in-Err-send_train.ensures.did
 
 pub returns-in-Err-print_level-clause-hears : goal.returns-in-Err-print_level-clause-hears
 returns-in-Err-print_level-clause-hears g c =
