@@ -21,7 +21,7 @@ pub fn run_pulses<T: Tape, S: Source, K: Sink>(
     source: &mut S,
     sink: &mut K,
 ) -> Result<(), PulseFault>
-    // The outcome of the plain machine; where a fault of the outside cut it off, the acts up to that one and no more.
+    // The outcome of the plain machine; where a fault of the outside cut it off, its acts up to the fault and no more.
     ensures ends { Ends T.means S.means K.means
         record { tape = unit.old.tape; source = source.old; sink = sink.old }
         record { tape = unit.new.tape; source = source.new; sink = sink.new }
