@@ -8,7 +8,7 @@ use Rattle.tape_script.proofs.Inputs as inputs
 use Rattle.tape_script.proofs.Lined.{one_before}
 use Rattle.tape_script.proofs.Rests.{Rest}
 use Rattle.tape_pulses.specs.Pulses.{train_line, train_lines}
-use Rattle.tape_pulses.specs.Runs.{IsFront}
+use Rattle.tape_pulses.specs.Laws.{IsFront}
 
 -- the lines of the trains are such as are read
 abbrev pub ArePulses : List ℕ → Type 0

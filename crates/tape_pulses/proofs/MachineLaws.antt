@@ -6,8 +6,8 @@ use Rattle.tape_script.specs.Input.{IsPulse, Ending, AtFault, HasItems, most_ite
 use Rattle.tape_script.proofs.Inputs.{one_reading, pulses}
 use Rattle.tape_script.proofs.Readings.{each_pulses}
 use Rattle.tape_pulses.specs.Laws.{EachOutcome, OneOutcome, TrainsAreLines, FaultsAreBehind, FrontsDoFronts}
-use Rattle.tape_pulses.specs.Pulses.{outcome_of, after_trains, trains_steps, levels, train_line, train_lines}
-use Rattle.tape_pulses.proofs.Trains.{trains_steps-append, levels-append, pulse_line}
+use Rattle.tape_pulses.specs.Pulses.{outcome_of, after_trains, train_acts, train_line, train_lines}
+use Rattle.tape_pulses.proofs.Trains.{train_acts-append, pulse_line}
 
 pub each_outcome : EachOutcome
 each_outcome known input =
@@ -57,7 +57,5 @@ faults_are_behind input trains line place read =
     record { number = let e = behind.0 in omega arith; bytes = let e = behind.1 in omega arith }
 
 pub fronts_do_fronts : FrontsDoFronts
-fronts_do_fronts r sent trains front = record {
-  steps = (trains_steps (after_trains r sent) front.0, sym (trains_steps-append r sent front.0) ∙ ap (trains_steps r) front.1);
-  output = (levels (after_trains r sent) front.0, sym (levels-append r sent front.0) ∙ ap (levels r) front.1);
-}
+fronts_do_fronts r sent trains front =
+    (train_acts (after_trains r sent) front.0, sym (train_acts-append r sent front.0) ∙ ap (train_acts r) front.1)

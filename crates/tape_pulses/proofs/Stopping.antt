@@ -3,6 +3,7 @@ use Rattle.std.proofs.Common.{◌≡◌, ◌⊎◌, inl, inr, ℕ, Bool, true, f
 use Rattle.qic_base.specs.Cartridge.{Cartridge}
 use Rattle.qic_base.specs.Step.{Step, SetReferenced, effect}
 use Rattle.qic_base.specs.Stop.{Torn}
+use Rattle.acts.specs.Acts as acts
 use Rattle.qic117_commands.specs.Commands.{command_at}
 use Rattle.qic117_commands.specs.declared.command.Command.{Command}
 use Rattle.qic117_commands.specs.declared.command.Command.TheVariants.{WriteReference}
@@ -11,7 +12,7 @@ use Rattle.drive_states.specs.Deck.{refusal_of, ticked}
 use Rattle.drive_states.specs.Record.{Record}
 use Rattle.drive_states.specs.Row.{is_idle, steps_of, command_steps}
 use Rattle.tape_pulses.specs.Laws.{StopsLeave}
-use Rattle.tape_pulses.specs.Pulses.{after_train, train_steps, trains_steps}
+use Rattle.tape_pulses.specs.Pulses.{after_train, train_steps, train_acts}
 
 -- all of the steps write the reference bursts
 abbrev AreReferences : List Step → Type 0
@@ -38,9 +39,9 @@ of_both : (xs ys : List Step) → AreReferences xs → AreReferences ys → AreR
 of_both [] ys first next = next
 of_both (x ∷ xs) ys first next = (first.0, of_both xs ys first.1 next)
 
-of_trains : (r : Record) (trains : List ℕ) → AreReferences (trains_steps r trains)
+of_trains : (r : Record) (trains : List ℕ) → AreReferences (acts.steps_of (train_acts r trains))
 of_trains r [] = tt
-of_trains r (train ∷ trains) = of_both (train_steps r train) (trains_steps (after_train r train) trains) (of_train r train) (of_trains (after_train r train) trains)
+of_trains r (train ∷ trains) = of_both (train_steps r train) (acts.steps_of (train_acts (after_train r train) trains)) (of_train r train) (of_trains (after_train r train) trains)
 
 -- they are written once for all
 once : (held : Option Cartridge) → effect SetReferenced (effect SetReferenced held) ≡ effect SetReferenced held
@@ -68,4 +69,4 @@ torn (s ∷ ss) held left are there = elim (before_or_behind s ss held left are.
 ]
 
 pub stops_leave : StopsLeave
-stops_leave r trains held left is = torn (trains_steps r trains) held left (of_trains r trains) is
+stops_leave r trains held left is = torn (acts.steps_of (train_acts r trains)) held left (of_trains r trains) is

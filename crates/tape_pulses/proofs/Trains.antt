@@ -2,7 +2,7 @@
 use Rattle.std.proofs.Common.{◌≡◌, ℕ, ◌≤◌, List, [], ◌∷◌, ◌++◌, length, Bool, true, false, if◌then◌else◌, ◌==◌, nat_lt, ◌-◌, Option, Some, None, refl, sym, ap, ◌∙◌, append_assoc, arith}
 use Rattle.std.proofs.lemmas.Bool.Decides.{nat_tests}
 use Rattle.std.proofs.lemmas.List.{length_push}
-use Rattle.qic_base.specs.Step.{Step}
+use Rattle.acts.specs.Acts.{Act}
 use Rattle.qic117_commands.specs.Commands.{number_of, command_at}
 use Rattle.qic117_commands.specs.declared.command.Command.{Command}
 use Rattle.qic117_commands.specs.declared.command.Command.TheVariants.{Reset, ReportNextBit}
@@ -15,7 +15,7 @@ use Rattle.drive_states.specs.Deck.{refusal_of, given, reset, ticked, is_streami
 use Rattle.drive_states.specs.Record.{Record}
 use Rattle.drive_states.specs.Row.{after_gap, gap_steps, heard, obeyed, by_command, by_refusal, given_more, longer, idled, moved_on, parameter_trains, parameter_values, parameter_code, latched, showing}
 use Rattle.tape_script.specs.Input.{IsPulse}
-use Rattle.tape_pulses.specs.Pulses.{after_train, train_steps, after_trains, trains_steps, level_line, levels, train_line, train_lines}
+use Rattle.tape_pulses.specs.Pulses.{after_train, train_steps, after_trains, train_act, train_acts, train_line, train_lines}
 
 -- ---- trains in two parts
 
@@ -23,17 +23,9 @@ pub after_trains-append : (r : Record) (ps qs : List ℕ) → after_trains r (ps
 after_trains-append r [] qs = refl
 after_trains-append r (p ∷ ps) qs = after_trains-append (after_train r p) ps qs
 
-pub trains_steps-append : (r : Record) (ps qs : List ℕ) → trains_steps r (ps ++ qs) ≡ trains_steps r ps ++ trains_steps (after_trains r ps) qs
-trains_steps-append r [] qs = refl
-trains_steps-append r (p ∷ ps) qs =
-    ap (λ (ss : List Step). train_steps r p ++ ss) (trains_steps-append (after_train r p) ps qs)
-    ∙ sym (append_assoc (train_steps r p) (trains_steps (after_train r p) ps) (trains_steps (after_trains (after_train r p) ps) qs))
-
-pub levels-append : (r : Record) (ps qs : List ℕ) → levels r (ps ++ qs) ≡ levels r ps ++ levels (after_trains r ps) qs
-levels-append r [] qs = refl
-levels-append r (p ∷ ps) qs =
-    ap (λ text. level_line (after_train r p).line ++ text) (levels-append (after_train r p) ps qs)
-    ∙ sym (append_assoc (level_line (after_train r p).line) (levels (after_train r p) ps) (levels (after_trains (after_train r p) ps) qs))
+pub train_acts-append : (r : Record) (ps qs : List ℕ) → train_acts r (ps ++ qs) ≡ train_acts r ps ++ train_acts (after_trains r ps) qs
+train_acts-append r [] qs = refl
+train_acts-append r (p ∷ ps) qs = ap (λ (acts : List Act). train_act r p ∷ acts) (train_acts-append (after_train r p) ps qs)
 
 pub train_lines-append : (ps qs : List ℕ) → train_lines (ps ++ qs) ≡ train_lines ps ++ train_lines qs
 train_lines-append [] qs = refl

@@ -4,10 +4,10 @@ use Rattle.qic_base.specs.Cartridge.{Cartridge}
 use Rattle.qic_base.specs.declared.tape.TapeInfo.{TapeInfo}
 use Rattle.qic_base.specs.Step.{SetReferenced, effect}
 use Rattle.qic_base.specs.Stop.{Torn}
+use Rattle.acts.specs.Acts.{steps_of}
 use Rattle.drive_states.specs.Record.{Record}
 use Rattle.tape_script.specs.Input.{Ending, AtFault, IsPulses, most_items}
-use Rattle.tape_pulses.specs.Pulses.{Outcome, PulsesOutcome, trains_steps, levels, train_lines}
-use Rattle.tape_pulses.specs.Runs.{IsFront}
+use Rattle.tape_pulses.specs.Pulses.{Outcome, PulsesOutcome, train_acts, train_lines}
 
 -- each input has an outcome, over each cartridge and none
 abbrev pub EachOutcome : Type 0
@@ -38,16 +38,16 @@ abbrev pub FaultsAreBehind : Type 0
 FaultsAreBehind =
     (input trains : List ℕ) (line place : ℕ) → IsPulses input trains (AtFault line place) → IsBehind trains line place
 
--- what a front of the trains does is a front of what they all do
-pub record AreFronts (r : Record) (sent trains : List ℕ) : Type 0 where
-  pub steps : IsFront (trains_steps r sent) (trains_steps r trains)
-  pub output : IsFront (levels r sent) (levels r trains)
+-- a list begins another
+abbrev pub IsFront : {A : Type 0} → (front whole : List A) → Type 0
+IsFront {A} front whole = (rest : List A) × (front ++ rest ≡ whole)
 
+-- what a front of the trains does is a front of what they all do
 abbrev pub FrontsDoFronts : Type 0
-FrontsDoFronts = (r : Record) (sent trains : List ℕ) → IsFront sent trains → AreFronts r sent trains
+FrontsDoFronts = (r : Record) (sent trains : List ℕ) → IsFront sent trains → IsFront (train_acts r sent) (train_acts r trains)
 
 -- a stop in trains, before them or behind them leaves the cartridge as it was, or referenced and else as it was
 abbrev pub StopsLeave : Type 0
 StopsLeave =
-    (r : Record) (trains : List ℕ) (held left : Option Cartridge) → Torn (trains_steps r trains) held left →
+    (r : Record) (trains : List ℕ) (held left : Option Cartridge) → Torn (steps_of (train_acts r trains)) held left →
     (left ≡ held) ⊎ (left ≡ effect SetReferenced held)

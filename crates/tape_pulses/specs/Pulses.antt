@@ -3,6 +3,7 @@
 use Rattle.std.specs.Prelude.{◌≡◌, ℕ, ◌+◌, Bool, true, false, List, [], ◌∷◌, ◌++◌, length, Option, codes, decimal}
 use Rattle.qic_base.specs.declared.tape.TapeInfo.{TapeInfo}
 use Rattle.qic_base.specs.Step.{Step}
+use Rattle.acts.specs.Acts.{Act}
 use Rattle.drive_states.specs.Record.{Record, power_on}
 use Rattle.drive_states.specs.Row.{after_gap, gap_steps}
 use Rattle.tape_script.specs.Input.{Ending, AtEnd, AtStop, AtFault, IsPulses}
@@ -22,11 +23,6 @@ abbrev pub after_trains : Record → (trains : List ℕ) → Record
 after_trains r [] = r
 after_trains r (train ∷ trains) = after_trains (after_train r train) trains
 
--- what they do to the cartridge: it is referenced where a train 16 was accepted
-abbrev pub trains_steps : Record → (trains : List ℕ) → List Step
-trains_steps r [] = []
-trains_steps r (train ∷ trains) = train_steps r train ++ trains_steps (after_train r train) trains
-
 -- ---- what is printed
 
 -- the level of the track-0 line, as a line
@@ -34,10 +30,17 @@ abbrev pub level_line : Bool → List ℕ
 level_line true = codes "1\n"
 level_line false = codes "0\n"
 
--- the levels that the trains leave, one after the other
-abbrev pub levels : Record → (trains : List ℕ) → List ℕ
-levels r [] = []
-levels r (train ∷ trains) = level_line (after_train r train).line ++ levels (after_train r train) trains
+-- ---- acts
+
+-- what a train does: to the cartridge, which is referenced where a train 16 was accepted; and then the level that it
+-- leaves is printed
+abbrev pub train_act : Record → (train : ℕ) → Act
+train_act r train = record { steps = train_steps r train; text = level_line (after_train r train).line }
+
+-- and several, one after the other
+abbrev pub train_acts : Record → (trains : List ℕ) → List Act
+train_acts r [] = []
+train_acts r (train ∷ trains) = train_act r train ∷ train_acts (after_train r train) trains
 
 -- ---- the input
 
@@ -58,11 +61,10 @@ pub data Answer : Type 0 where
   AllSent : Answer
   ScriptFault : ℕ → ℕ → Answer
 
--- what was done to the cartridge, what was printed, what the drive is in then, how many bytes of the input were taken,
--- at least so many where a line is none, and the answer
+-- the acts of its trains, what the drive is in then, how many bytes of the input were taken, at least so many where a
+-- line is none, and the answer
 pub record Outcome : Type 0 where
-  pub steps : List Step
-  pub output : List ℕ
+  pub acts : List Act
   pub drive : Record
   pub taken : ℕ
   pub answer : Answer
@@ -81,8 +83,7 @@ answer_by (AtFault line place) = ScriptFault line place
 -- what comes of an input with these trains and this ending, over a drive
 abbrev pub outcome_of : Record → (input trains : List ℕ) → Ending → Outcome
 outcome_of r input trains ending = record {
-  steps = trains_steps r trains;
-  output = levels r trains;
+  acts = train_acts r trains;
   drive = after_trains r trains;
   taken = taken_by input trains ending;
   answer = answer_by ending;

@@ -1,7 +1,6 @@
 //! The line behind the last that may be a train.
 
-ghost use Rattle.std.specs.Prelude.{◌≡◌, ◌≤◌, Err};
-ghost use Rattle.qic_base.specs.Cause.{Rose};
+ghost use Rattle.std.specs.Prelude.{◌≤◌, ◌≡◌, is_some};
 ghost use Rattle.tape_pulses.specs.Lines.{HearsEnd};
 
 use crate::PulseFault;
@@ -17,9 +16,9 @@ pub fn end_input<S: Source>(
 ) -> Result<(), PulseFault>
     ensures hears { HearsEnd S.means source.old source.new line place result }
     ensures kept { S.means.keeps source.old source.new }
+    ensures source_tells { is_some (S.means.left source.new) ≡
+        is_some (S.means.left source.old) }
     ensures later { S.means.faults source.old ≤ S.means.faults source.new }
-    ensures cause { result ≡ Err PulseFault.Source →
-        Rose (S.means.faults source.old) (S.means.faults source.new) }
 {
     match Train::read(source, buffer) {
         Ok(TrainRead::End | TrainRead::Stop) => Ok(()),

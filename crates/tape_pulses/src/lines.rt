@@ -1,14 +1,13 @@
 //! A line that may be a train.
 
-ghost use Rattle.std.specs.Prelude.{◌≡◌, ◌≤◌, Err};
-ghost use Rattle.qic_base.specs.Cause.{Rose};
+ghost use Rattle.std.specs.Prelude.{◌≡◌, is_some};
 ghost use Rattle.tape_pulses.specs.Lines.{Hears};
 
 use crate::PulseFault;
-use crate::sending::show_train;
+use crate::sending::{level_text, send_train};
 use drive_states::Unit;
-use qic_base::{Sink, Source, SourceFailed, Tape};
-use tape_script::{Train, TrainRead};
+use qic_base::{Sink, SinkFailed, Source, SourceFailed, Tape, TapeFailed};
+use tape_script::{Train, TrainRead, write_text};
 
 /// Reads a line and carries it out: the number of its bytes, or none where the input is over. `line` is the line's number
 /// and `place` the number of bytes before it.
@@ -22,18 +21,23 @@ pub fn carry_out_line<T: Tape, S: Source, K: Sink>(
 ) -> Result<Option<u8>, PulseFault>
     requires no_pulse { unit.old.drive.train ≡ 0 }
     ensures hears { Hears T.means S.means K.means
-        record { unit = unit.old; source = source.old; sink = sink.old }
-        record { unit = unit.new; source = source.new; sink = sink.new } line place result }
+        record { tape = unit.old.tape; source = source.old; sink = sink.old }
+        record { tape = unit.new.tape; source = source.new; sink = sink.new }
+        unit.old.drive unit.new.drive line place result }
     ensures kept { S.means.keeps source.old source.new }
-    ensures later { S.means.faults source.old ≤ S.means.faults source.new }
-    ensures cause { result ≡ Err PulseFault.Source →
-        Rose (S.means.faults source.old) (S.means.faults source.new) }
+    ensures source_tells { is_some (S.means.left source.new) ≡
+        is_some (S.means.left source.old) }
 {
     match Train::read(source, buffer) {
-        Ok(TrainRead::Train { pulses, read }) => match show_train(unit, pulses, sink) {
-            Ok(()) => Ok(Some(read)),
-            Err(fault) => Err(fault),
-        },
+        Ok(TrainRead::Train { pulses, read }) => {
+            if let Err(TapeFailed) = send_train(unit, pulses) {
+                return Err(PulseFault::Tape);
+            }
+            match write_text(level_text(unit.line()), sink) {
+                Ok(()) => Ok(Some(read)),
+                Err(SinkFailed) => Err(PulseFault::Sink),
+            }
+        }
         Ok(TrainRead::End | TrainRead::Stop) => Ok(None),
         Ok(TrainRead::Bad { .. }) => Err(PulseFault::Script { line, place }),
         Err(SourceFailed) => Err(PulseFault::Source),

@@ -1,6 +1,6 @@
 //! The whole input.
 
-ghost use Rattle.std.specs.Prelude.{◌≡◌, ◌≤◌, Err};
+ghost use Rattle.std.specs.Prelude.{◌≡◌, ◌≤◌, Err, is_some};
 ghost use Rattle.qic_base.specs.Cause.{Rose};
 ghost use Rattle.tape_pulses.specs.Runs.{Ends};
 
@@ -21,10 +21,11 @@ pub fn run_pulses<T: Tape, S: Source, K: Sink>(
     source: &mut S,
     sink: &mut K,
 ) -> Result<(), PulseFault>
-    // The outcome of the plain machine; where a fault of the outside cut it off, so much of it as was carried out.
+    // The outcome of the plain machine; where a fault of the outside cut it off, the acts up to that one and no more.
     ensures ends { Ends T.means S.means K.means
-        record { unit = unit.old; source = source.old; sink = sink.old }
-        record { unit = unit.new; source = source.new; sink = sink.new } result }
+        record { tape = unit.old.tape; source = source.old; sink = sink.old }
+        record { tape = unit.new.tape; source = source.new; sink = sink.new }
+        unit.new.drive result }
 
     // Each fault of the outside has its cause.
     ensures tape_fault { result ≡ Err PulseFault.Tape →
@@ -40,6 +41,9 @@ pub fn run_pulses<T: Tape, S: Source, K: Sink>(
     ensures sink_later { K.means.faults sink.old ≤ K.means.faults sink.new }
 
     ensures kept { S.means.keeps source.old source.new }
+    // The source tells its bytes, or none, as before.
+    ensures source_tells { is_some (S.means.left source.new) ≡
+        is_some (S.means.left source.old) }
 {
     if let Err(TapeFailed) = unit.insert() {
         return Err(PulseFault::Tape);

@@ -9,5 +9,4 @@ returns-in-Ok-Bad-clause-hears g c =
 
 pub returns-in-Ok-Train-clause-hears : goal.returns-in-Ok-Train-clause-hears
 returns-in-Ok-Train-clause-hears g c =
-    let read = rw c.in-Ok-Train.field-0-is at c.in-Ok-Train.ensures.read in
-    (refl, refl, gave_on g.S.Source.means c.args.source.now c.read.new.source _ _ read.0 read.1 read.2 read.3)
+    (refl, refl, gave_on g.S.Source.means c.args.source.now c.read.new.source _ _ (rw c.in-Ok-Train.field-0-is at c.in-Ok-Train.ensures.read))
