@@ -1,85 +1,260 @@
--- The ways in which a command ends.
-use Rattle.std.proofs.Common.{◌≡◌, ◌≢◌, ℕ, Bool, true, false, List, [], ◌∷◌, ◌++◌, Option, Some, None, IfSome, refl, sym, ap, subst, inl, inr, arith}
+-- The ways in which a command ends that reads no input and prints once all is done.
+use Rattle.std.proofs.Common.{◌≡◌, ◌≢◌, ℕ, Bool, true, false, List, [], ◌∷◌, ◌++◌, Option, Some, None, IfSome, Result, Ok, Err, refl, sym, ap, ◌∙◌, subst, inl, inr, arith, append-nil}
 use Rattle.std.specs.Option.{option_map}
 use Rattle.qic_base.specs.Cartridge.{Cartridge, IsPlace, view_at}
 use Rattle.qic_base.specs.declared.tape.TapeInfo.{TapeInfo}
+use Rattle.qic_base.specs.declared.sink.SinkFailed.{SinkFailed}
 use Rattle.qic_base.specs.Sink as sinks
 use Rattle.qic_base.specs.Step.{Step as TapeStep, SetProtected, Wear, Spoil}
 use Rattle.qic_base.specs.Tape as tapes
 use Rattle.qic_base.specs.Tape.{spoil_answer}
+use Rattle.qic_base.proofs.Steps.{Broke-front}
+use Rattle.acts.specs.Acts.{Act, next_steps, TapeFails, SinkFails, Went, TapeCut, SinkCut}
 use Rattle.tape_script.specs.declared.words.Words.{Words}
+use Rattle.tape_script.specs.declared.words.Words.TheVariants as words
 use Rattle.tape_cmd.specs.declared.status.Status.{Status}
 use Rattle.tape_cmd.specs.declared.status.Status.TheVariants as status
 use Rattle.tape_cmd.specs.Lines.{protected_line, lost_line, defect_line}
-use Rattle.tape_cmd.specs.Plain.{Outcome, refused, carried_out, CommandPrints, ProtectOutcome, LoseOutcome, DefectOutcome}
-use Rattle.tape_cmd.specs.Machine.{Rules, Ends, is_finding}
+use Rattle.tape_cmd.specs.Outcome.{Outcome, refused, refused_behind, acted, carried_out, first_steps}
+use Rattle.tape_cmd.specs.Traits.{traits_of}
+use Rattle.tape_cmd.specs.Defect.{DefectOutcome}
+use Rattle.tape_cmd.specs.Lose.{LoseOutcome}
+use Rattle.tape_cmd.specs.Protect.{ProtectOutcome}
+use Rattle.tape_cmd.specs.Machine.{Plain, CommandPrints}
+use Rattle.tape_cmd.specs.Printing.{printed_status}
+use Rattle.tape_cmd.specs.Runs.{InputLeft, may_come_from, no_source, around, IsCutOff, EndsBlind}
+use Rattle.tape_cmd.proofs.PlainLaws.{plain_is_function}
 
--- it was carried out, and printed its output
-pub done : {T K : Type 0} (t : tapes.Meaning T) (k : sinks.Meaning K) (command : Words) (a b : T) (x y : K) (outcome : Outcome) →
-    outcome.status ≡ status.Done → outcome.taken ≡ 0 → CommandPrints command outcome.output → IfSome (t.told a) (λ held. Rules command held outcome) →
-    tapes.Done t a b outcome.steps → sinks.Wrote k x y outcome.output → Ends t k command a b x y status.Done
-done t k command a b x y outcome ends none prints told did wrote = inl (record {
-  outcome = outcome;
-  answered = sym ends;
-  sound = refl;
-  nothing_taken = none;
-  told = told;
-  did = did;
-  wrote = wrote;
-  prints = λ same. prints;
-  silent = λ other. absurd (other refl);
-})
+-- ---- commands that read no input
 
--- the sink broke its output off
-pub unprinted : {T K : Type 0} (t : tapes.Meaning T) (k : sinks.Meaning K) (command : Words) (a b : T) (x y : K) (outcome : Outcome) →
-    outcome.status ≡ status.Done → outcome.taken ≡ 0 → IfSome (t.told a) (λ held. Rules command held outcome) →
-    tapes.Done t a b outcome.steps → sinks.BrokeOff k x y outcome.output → Ends t k command a b x y status.SinkFault
-unprinted t k command a b x y outcome ends none told did broke = inr (inl (record {
-  outcome = outcome;
-  answered = refl;
-  carried_out = ends;
-  nothing_taken = none;
-  told = told;
-  did = did;
-  broke = broke;
-}))
+pub record IsBlind (command : Words) : Type 0 where
+  pub built : (traits_of command).built ≡ true
+  pub reads : (traits_of command).reads ≡ false
+  pub goes : (traits_of command).goes ≡ false
 
--- it was refused, with these steps done and nothing printed
-pub turned_down : {T K : Type 0} (t : tapes.Meaning T) (k : sinks.Meaning K) (command : Words) (a b : T) (x : K) (why : Status) (steps : List TapeStep) →
-    ((z : K) → k.took z [] z) → is_finding command why ≡ true → why ≢ status.Done → IfSome (t.told a) (λ held. Rules command held (record (refused why) { steps = steps })) →
-    tapes.Done t a b steps → Ends t k command a b x x why
-turned_down t k command a b x why steps nothing sound other told did = inl (record {
-  outcome = record (refused why) { steps = steps };
-  answered = refl;
-  sound = sound;
-  nothing_taken = refl;
-  told = told;
-  did = did;
-  wrote = record { took = nothing x; later = omega arith };
-  prints = λ same. absurd (other same);
-  silent = λ unlike. refl;
-})
+-- what such a command does over what the drive holds, whatever the input
+abbrev pub Rules : Words → Option Cartridge → Outcome → Type 0
+Rules command held outcome = (input : List ℕ) → Plain command held input outcome
 
--- the tape failed in a front of its steps
-pub cut_off : {T K : Type 0} (t : tapes.Meaning T) (k : sinks.Meaning K) (command : Words) (a b : T) (x : K) (steps : List TapeStep) →
-    IfSome (t.told a) (λ held. (outcome : Outcome) → Rules command held outcome → (rest : List TapeStep) × (steps ++ rest ≡ outcome.steps)) →
-    tapes.Broke t a b steps → Ends t k command a b x x status.TapeFault
-cut_off t k command a b x steps front broke = inr (inr (record {
-  steps = steps;
-  answered = refl;
-  front = front;
-  broke = broke;
-  silent = refl;
-}))
+-- it does over one input what it does over any
+pub any_input : (command : Words) (held : Option Cartridge) (input : List ℕ) (outcome : Outcome) → (traits_of command).reads ≡ false →
+    Plain command held input outcome → Rules command held outcome
+any_input words.Pulses held input outcome blind plain other = absurd (cc)
+any_input (words.New segments) held input outcome blind plain other = plain
+any_input (words.Defect segment sector) held input outcome blind plain other = plain
+any_input (words.Lose segment sector) held input outcome blind plain other = plain
+any_input (words.Protect on) held input outcome blind plain other = plain
+any_input (words.Format label date) held input outcome blind plain other = plain
+any_input words.Info held input outcome blind plain other = plain
+any_input words.List held input outcome blind plain other = plain
+any_input command held input outcome blind plain other = absurd plain
 
--- .. before the first of them
-pub cut_off_first : {T K : Type 0} (t : tapes.Meaning T) (k : sinks.Meaning K) (command : Words) (a b : T) (x : K) →
-    tapes.Broke t a b [] → Ends t k command a b x x status.TapeFault
-cut_off_first t k command a b x broke = cut_off t k command a b x [] (nothing_yet (t.told a)) broke
-  where
-    nothing_yet : (held : Option (Option Cartridge)) → IfSome held (λ h. (outcome : Outcome) → Rules command h outcome → (rest : List TapeStep) × ([] ++ rest ≡ outcome.steps))
-    nothing_yet None = tt
-    nothing_yet (Some h) = λ outcome plain. (outcome.steps, refl)
+-- each command that is built prints something
+pub some_text : (command : Words) → (traits_of command).built ≡ true → (text : List ℕ) × CommandPrints command text
+some_text (words.New segments) built = (_, refl)
+some_text (words.Defect segment sector) built = (_, refl)
+some_text (words.Lose segment sector) built = (_, refl)
+some_text (words.Protect on) built = (_, refl)
+some_text (words.Format label date) built = (_, (0, (0, refl)))
+some_text words.Info built = (_, (record { format_date = 0; write_date = 0; segments_per_track = 0; label = []; label_date = 0 }, ([], (0, refl))))
+some_text words.List built = (_, ([], ([], refl)))
+some_text words.Pulses built = (_, (None, ([], refl)))
+some_text command built = absurd (cc)
+
+-- the first act of an outcome
+abbrev first_of : List Act → Act
+first_of [] = record { steps = []; text = [] }
+first_of (act ∷ acts) = act
+
+abbrev pub first_act : Outcome → Act
+first_act outcome = first_of outcome.acts
+
+-- no byte was taken of a source that is never asked
+none_taken : (answer : Status) (taken : ℕ) → InputLeft answer taken None None
+none_taken (status.ScriptFault line place) taken = (0, refl)
+none_taken answer taken = refl
+
+-- a fact of what is told, with some input
+over_any : {A : Type 0} (held : Option A) (P : A → List ℕ → Type 0) → IfSome held (λ a. (input : List ℕ) → P a input) →
+    IfSome held (λ a. (input : List ℕ) × Unit {0} × P a input)
+over_any None P known = tt
+over_any (Some a) P known = ([], tt, known [])
+
+module _ {T K : Type 0} (t : tapes.Meaning T) (k : sinks.Meaning K) where
+  -- one act went
+  went_one : (a b : T) (x y : K) (steps : List TapeStep) (text : List ℕ) → tapes.Done t a b steps → sinks.Wrote k x y text →
+      Went t no_source k (around a x) (around b y) (record { steps = steps; text = text } ∷ [])
+  went_one a b x y steps text did wrote = record {
+    did = subst (tapes.Done t a b) (sym (append-nil steps)) did;
+    wrote = subst (sinks.Wrote k x y) (sym (append-nil text)) wrote;
+    source_later = omega arith;
+  }
+
+  -- it was carried out, and printed its output
+  done : (command : Words) → IsBlind command → (a b : T) (x y : K) (outcome : Outcome) →
+      outcome.status ≡ status.Done → outcome ≡ acted (first_act outcome).steps (first_act outcome).text → CommandPrints command (first_act outcome).text →
+      IfSome (t.told a) (λ held. Rules command held outcome) →
+      tapes.Done t a b (first_act outcome).steps → sinks.Wrote k x y (first_act outcome).text → EndsBlind t k command a b x y status.Done
+  done command blind a b x y outcome ends one prints told did wrote =
+      let act : Act = first_act outcome in
+      inl (record {
+        outcome = acted act.steps act.text;
+        answered = refl;
+        told = over_any (t.told a) (λ held input. Plain command held input (acted act.steps act.text))
+            (subst (λ (o : Outcome). IfSome (t.told a) (λ held. Rules command held o)) one told);
+        went = went_one a b x y act.steps act.text did wrote;
+        left = refl;
+        sound = refl;
+        none_taken = λ blind. refl;
+        prints = ((λ which. subst (CommandPrints command) (sym (append-nil act.text)) prints), (λ still other. absurd (other refl)));
+        silent = λ still other. absurd (other refl);
+        fault = tt;
+      })
+
+  -- it was refused, with nothing done and nothing printed
+  pub turned_down : (command : Words) → IsBlind command → (a b : T) (x : K) (why : Status) → ((z : K) → k.took z [] z) →
+      may_come_from why command ≡ true → why ≢ status.Done → IfSome (t.told a) (λ held. Rules command held (refused why)) →
+      tapes.Done t a b [] → EndsBlind t k command a b x x why
+  turned_down command blind a b x why nothing sound other told did = inl (record {
+    outcome = refused why;
+    answered = refl;
+    told = over_any (t.told a) (λ held input. Plain command held input (refused why)) told;
+    went = record { did = did; wrote = record { took = nothing x; later = omega arith }; source_later = omega arith };
+    left = none_taken why 0;
+    sound = sound;
+    none_taken = λ blind. refl;
+    prints = ((λ which. elim which [ inl is ↦ absurd (other is) | inr goes ↦ (let still = blind.goes in absurd (cc)) ]), (λ still unlike. refl));
+    silent = λ still unlike. refl;
+    fault = tt;
+  })
+
+  -- .. with some steps done
+  pub turned_behind : (command : Words) → IsBlind command → (a b : T) (x : K) (why : Status) (steps : List TapeStep) → ((z : K) → k.took z [] z) →
+      may_come_from why command ≡ true → why ≢ status.Done → IfSome (t.told a) (λ held. Rules command held (refused_behind steps why)) →
+      tapes.Done t a b steps → EndsBlind t k command a b x x why
+  turned_behind command blind a b x why steps nothing sound other told did = inl (record {
+    outcome = refused_behind steps why;
+    answered = refl;
+    told = over_any (t.told a) (λ held input. Plain command held input (refused_behind steps why)) told;
+    went = went_one a b x x steps [] did (record { took = nothing x; later = omega arith });
+    left = none_taken why 0;
+    sound = sound;
+    none_taken = λ blind. refl;
+    prints = ((λ which. elim which [ inl is ↦ absurd (other is) | inr goes ↦ (let still = blind.goes in absurd (cc)) ]), (λ still unlike. refl));
+    silent = λ still unlike. refl;
+    fault = tt;
+  })
+
+  sink_cut_one : (a b : T) (x y : K) (steps : List TapeStep) (text : List ℕ) → tapes.Done t a b steps → sinks.BrokeOff k x y text →
+      SinkCut t no_source k (around a x) (around b y) (record { steps = steps; text = text } ∷ [])
+  sink_cut_one a b x y steps text did broke = record {
+    at = record { front = []; act = record { steps = steps; text = text }; rest = []; parts = refl };
+    did = did;
+    broke = record { part = broke.front; rest = broke.rest; parts = broke.parts; took = broke.took; cause = broke.cause; later = broke.later };
+    source_later = omega arith;
+  }
+
+  -- the sink broke its output off
+  unprinted : (command : Words) → IsBlind command → (a b : T) (x y : K) (outcome : Outcome) →
+      outcome.status ≡ status.Done → outcome ≡ acted (first_act outcome).steps (first_act outcome).text → CommandPrints command (first_act outcome).text →
+      IfSome (t.told a) (λ held. Rules command held outcome) →
+      tapes.Done t a b (first_act outcome).steps → sinks.BrokeOff k x y (first_act outcome).text → EndsBlind t k command a b x y status.SinkFault
+  unprinted command blind a b x y outcome ends one prints told did broke =
+      let act : Act = first_act outcome in
+      let cut : SinkCut t no_source k (around a x) (around b y) (act ∷ []) = sink_cut_one a b x y act.steps act.text did broke in
+      let off : IsCutOff t no_source k command (around a x) (around b y) SinkFails outcome = record {
+        cut = subst (λ (o : Outcome). SinkCut t no_source k (around a x) (around b y) o.acts) (sym one) cut;
+        done = λ same still. ends;
+      } in
+      inr (
+        SinkFails,
+        refl,
+        record {
+          told = by_told (t.told a) told off;
+          acts = act ∷ [];
+          cut = cut;
+          front = ([], subst (CommandPrints command) (sym (append-nil (act.text ++ []) ∙ append-nil act.text)) prints);
+          silent = λ still other. absurd (other refl);
+          source_tells = refl;
+        },
+      )
+    where
+      by_told : (o : Option (Option Cartridge)) → IfSome o (λ held. Rules command held outcome) →
+          IsCutOff t no_source k command (around a x) (around b y) SinkFails outcome →
+          IfSome o (λ held. (input : List ℕ) × Unit {0} × ((other : Outcome) → Plain command held input other →
+          IsCutOff t no_source k command (around a x) (around b y) SinkFails other))
+      by_told None told off = tt
+      by_told (Some held) told off = (
+        [],
+        tt,
+        λ other plain.
+            subst (IsCutOff t no_source k command (around a x) (around b y) SinkFails)
+            (plain_is_function command held [] outcome other (told []) plain) off,
+      )
+
+  -- it was carried out, and its output written or broken off
+  pub printed : (command : Words) → IsBlind command → (a b : T) (x y : K) (outcome : Outcome) (r : Result (Unit {0}) SinkFailed) →
+      outcome.status ≡ status.Done → outcome ≡ acted (first_act outcome).steps (first_act outcome).text → CommandPrints command (first_act outcome).text →
+      IfSome (t.told a) (λ held. Rules command held outcome) →
+      tapes.Done t a b (first_act outcome).steps → sinks.Writes k x y (first_act outcome).text r → EndsBlind t k command a b x y (printed_status r)
+  printed command blind a b x y outcome (Ok all) ends one prints told did wrote = done command blind a b x y outcome ends one prints told did wrote
+  printed command blind a b x y outcome (Err failed) ends one prints told did broke = unprinted command blind a b x y outcome ends one prints told did broke
+
+  tape_cut_first : (a b : T) (x : K) (acts : List Act) → ((z : K) → k.took z [] z) → tapes.Broke t a b (next_steps acts) →
+      TapeCut t no_source k (around a x) (around b x) acts
+  tape_cut_first a b x acts nothing broke = record {
+    front = [];
+    rest = acts;
+    parts = refl;
+    broke = broke;
+    here = λ held left told now. broke.torn held left told now;
+    wrote = record { took = nothing x; later = omega arith };
+    source_later = omega arith;
+  }
+
+  -- the tape failed in a front of its steps
+  pub cut_off : (command : Words) → IsBlind command → (a b : T) (x : K) (steps : List TapeStep) → ((z : K) → k.took z [] z) →
+      IfSome (t.told a) (λ held. (outcome : Outcome) → Rules command held outcome → (rest : List TapeStep) × (steps ++ rest ≡ first_steps outcome)) →
+      tapes.Broke t a b steps → EndsBlind t k command a b x x status.TapeFault
+  cut_off command blind a b x steps nothing front broke =
+      inr (
+        TapeFails,
+        refl,
+        record {
+          told = by_told (t.told a) front;
+          acts = record { steps = steps; text = [] } ∷ [];
+          cut = tape_cut_first a b x (record { steps = steps; text = [] } ∷ []) nothing broke;
+          front = some_text command blind.built;
+          silent = λ still other. refl;
+          source_tells = refl;
+        },
+      )
+    where
+      by_told : (o : Option (Option Cartridge)) →
+          IfSome o (λ held. (outcome : Outcome) → Rules command held outcome → (rest : List TapeStep) × (steps ++ rest ≡ first_steps outcome)) →
+          IfSome o (λ held. (input : List ℕ) × Unit {0} × ((outcome : Outcome) → Plain command held input outcome →
+          IsCutOff t no_source k command (around a x) (around b x) TapeFails outcome))
+      by_told None front = tt
+      by_told (Some held) front = (
+        [],
+        tt,
+        λ outcome plain.
+            let longer = front outcome (any_input command held [] outcome blind.reads plain) in
+            record {
+              cut = tape_cut_first a b x outcome.acts nothing (subst (tapes.Broke t a b) longer.1 (Broke-front longer.0 broke));
+              done = λ same still. absurd (cc);
+            },
+      )
+
+  -- .. before the first of them
+  pub cut_off_first : (command : Words) → IsBlind command → (a b : T) (x : K) → ((z : K) → k.took z [] z) →
+      tapes.Broke t a b [] → EndsBlind t k command a b x x status.TapeFault
+  cut_off_first command blind a b x nothing broke = cut_off command blind a b x [] nothing (nothing_yet (t.told a)) broke
+    where
+      nothing_yet : (held : Option (Option Cartridge)) →
+          IfSome held (λ h. (outcome : Outcome) → Rules command h outcome → (rest : List TapeStep) × ([] ++ rest ≡ first_steps outcome))
+      nothing_yet None = tt
+      nothing_yet (Some h) = λ outcome plain. (first_steps outcome, refl)
 
 -- a fact of what is told follows from one
 pub told_map : {A : Type 0} (held : Option A) (P Q : A → Type 0) → IfSome held P → ((a : A) → P a → Q a) → IfSome held Q
@@ -100,9 +275,9 @@ pub protect_present : (on : Bool) (info : TapeInfo) (held : Option Cartridge) �
 protect_present on info None known = cc
 protect_present on info (Some c) known = refl
 
-pub protect_front : (on : Bool) (info : TapeInfo) (held : Option Cartridge) (outcome : Outcome) → Known (Some info) held → ProtectOutcome on held outcome → SetProtected on ∷ [] ≡ outcome.steps
+pub protect_front : (on : Bool) (info : TapeInfo) (held : Option Cartridge) (outcome : Outcome) → Known (Some info) held → ProtectOutcome on held outcome → SetProtected on ∷ [] ≡ first_steps outcome
 protect_front on info None outcome known plain = cc
-protect_front on info (Some c) outcome known plain = sym (ap (λ (o : Outcome). o.steps) plain)
+protect_front on info (Some c) outcome known plain = sym (ap (λ (o : Outcome). first_steps o) plain)
 
 pub lose_absent : (segment sector : ℕ) (held : Option Cartridge) → Known None held → LoseOutcome segment sector held (refused status.NoCartridge)
 lose_absent segment sector None known = refl
@@ -127,10 +302,10 @@ pub lose_placed : (segment sector : ℕ) (info : TapeInfo) (held : Option Cartri
 lose_placed segment sector info None known place = cc
 lose_placed segment sector info (Some c) known place = inr (place_known info c segment sector known place, refl)
 
-pub lose_front : (segment sector : ℕ) (info : TapeInfo) (held : Option Cartridge) (outcome : Outcome) → Known (Some info) held → IsPlace info.segments_per_track segment sector → LoseOutcome segment sector held outcome → Wear segment sector ∷ [] ≡ outcome.steps
+pub lose_front : (segment sector : ℕ) (info : TapeInfo) (held : Option Cartridge) (outcome : Outcome) → Known (Some info) held → IsPlace info.segments_per_track segment sector → LoseOutcome segment sector held outcome → Wear segment sector ∷ [] ≡ first_steps outcome
 lose_front segment sector info None outcome known place plain = cc
 lose_front segment sector info (Some c) outcome known place (inl plain) = absurd (plain.0 (place_known info c segment sector known place))
-lose_front segment sector info (Some c) outcome known place (inr plain) = sym (ap (λ (o : Outcome). o.steps) plain.1)
+lose_front segment sector info (Some c) outcome known place (inr plain) = sym (ap (λ (o : Outcome). first_steps o) plain.1)
 
 pub defect_absent : (segment sector : ℕ) (held : Option Cartridge) → Known None held → DefectOutcome segment sector held (refused status.NoCartridge)
 defect_absent segment sector None known = refl
@@ -144,12 +319,12 @@ pub defect_placed : (segment sector : ℕ) (info : TapeInfo) (held : Option Cart
 defect_placed segment sector info None known place spoiled = cc
 defect_placed segment sector info (Some c) known place spoiled = inr (inr (place_known info c segment sector known place, spoiled, refl))
 
-pub defect_formatted : (segment sector : ℕ) (info : TapeInfo) (held : Option Cartridge) → Known (Some info) held → IsPlace info.segments_per_track segment sector → IfSome held (λ c. spoil_answer (view_at c segment sector) ≡ false) → DefectOutcome segment sector held (record (refused status.NotBlank) { steps = Spoil segment sector ∷ [] })
+pub defect_formatted : (segment sector : ℕ) (info : TapeInfo) (held : Option Cartridge) → Known (Some info) held → IsPlace info.segments_per_track segment sector → IfSome held (λ c. spoil_answer (view_at c segment sector) ≡ false) → DefectOutcome segment sector held (refused_behind (Spoil segment sector ∷ []) status.NotBlank)
 defect_formatted segment sector info None known place kept = cc
 defect_formatted segment sector info (Some c) known place kept = inr (inl (place_known info c segment sector known place, kept, refl))
 
-pub defect_front : (segment sector : ℕ) (info : TapeInfo) (held : Option Cartridge) (outcome : Outcome) → Known (Some info) held → IsPlace info.segments_per_track segment sector → DefectOutcome segment sector held outcome → Spoil segment sector ∷ [] ≡ outcome.steps
+pub defect_front : (segment sector : ℕ) (info : TapeInfo) (held : Option Cartridge) (outcome : Outcome) → Known (Some info) held → IsPlace info.segments_per_track segment sector → DefectOutcome segment sector held outcome → Spoil segment sector ∷ [] ≡ first_steps outcome
 defect_front segment sector info None outcome known place plain = cc
 defect_front segment sector info (Some c) outcome known place (inl plain) = absurd (plain.0 (place_known info c segment sector known place))
-defect_front segment sector info (Some c) outcome known place (inr (inl plain)) = sym (ap (λ (o : Outcome). o.steps) plain.2)
-defect_front segment sector info (Some c) outcome known place (inr (inr plain)) = sym (ap (λ (o : Outcome). o.steps) plain.2)
+defect_front segment sector info (Some c) outcome known place (inr (inl plain)) = sym (ap (λ (o : Outcome). first_steps o) plain.2)
+defect_front segment sector info (Some c) outcome known place (inr (inr plain)) = sym (ap (λ (o : Outcome). first_steps o) plain.2)

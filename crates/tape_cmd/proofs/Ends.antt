@@ -1,30 +1,55 @@
--- How a command ended is the plain machine's step, whatever the command is.
-use Rattle.std.proofs.Common.{◌≡◌, ℕ, Bool, true, false, List, [], ◌++◌, Option, Some, None, IfSome, refl, sym, ap, ◌∙◌, subst, inl, inr, IsSomeAnd}
+-- What follows of how a command ended, whatever the command is.
+use Rattle.std.proofs.Common.{◌≡◌, ◌≢◌, ◌⊎◌, ℕ, Bool, true, false, List, [], ◌++◌, Option, Some, None, IfSome, IsSomeAnd, refl, sym, ap, ◌∙◌, subst, inl, inr, append_assoc, append-nil}
 use Rattle.std.specs.Option.{option_map}
-use Rattle.qic_base.specs.Cartridge.{Cartridge}
+use Rattle.std.specs.Prelude.{is_some}
+use Rattle.qic_base.specs.Cartridge.{Cartridge, IsCartridge}
 use Rattle.qic_base.specs.Sink as sinks
 use Rattle.qic_base.specs.Source as sources
 use Rattle.qic_base.specs.Step.{Step as TapeStep, effects}
 use Rattle.qic_base.specs.Stop.{Torn}
 use Rattle.qic_base.specs.Tape as tapes
-use Rattle.qic_base.proofs.Steps.{Torn-all, Torn-front, Stops-left}
+use Rattle.qic_base.proofs.Steps.{Torn-all, Stops-left}
+use Rattle.acts.specs.Acts.{Act, steps_of, Outside, Failing, TapeFails, SourceFails, SinkFails, Cut, FailingRose}
+use Rattle.acts.proofs.Outcomes.{cut_is_torn, cut_stops, cut_took_front, cut_fell_none, cut_rose}
 use Rattle.tape_script.specs.declared.words.Words.{Words}
-use Rattle.tape_pulses.specs.Runs.{IsFront}
 use Rattle.tape_cmd.specs.declared.status.Status.{Status}
 use Rattle.tape_cmd.specs.declared.status.Status.TheVariants as status
-use Rattle.tape_cmd.specs.Plain.{Outcome, prints_as_it_goes}
-use Rattle.tape_cmd.specs.Machine.{Spells, Outside, Rules, InputLeft, Ended, Ends, is_fault, is_outcome, may_come_from, is_finding, Stepped, Answers, CarriesOut, PrintsFront, WasDone, StaysDone, WordsLeave, Leaves, FaultLeaves}
-use Rattle.tape_cmd.specs.Laws.{MachineIsFunction}
-use Rattle.tape_cmd.proofs.PlainLaws.{plain_is_function, plain_leaves}
+use Rattle.tape_cmd.specs.Outcome.{Outcome, output_of}
+use Rattle.tape_cmd.specs.Traits.{traits_of}
+use Rattle.tape_cmd.specs.Machine.{HasValues, Plain, CommandPrints, Spells}
+use Rattle.tape_cmd.specs.Runs.{InputLeft, is_fault, fault_of, is_outcome, may_come_from, Finished, Ends}
+use Rattle.tape_cmd.specs.Headline.{Stepped, Answers, NoneRose, WasCut, IsCut, EachLeft, WordsLeave, StopsGoOn, Joins, PrintsFront}
+use Rattle.tape_cmd.proofs.Endings.{some_text}
+use Rattle.tape_cmd.proofs.Totals.{plain_answers}
 
--- an answer of a command is no fault
-pub outcome_no_fault : (answer : Status) → is_outcome answer ≡ true → is_fault answer ≡ false
-outcome_no_fault status.Usage is = cc
-outcome_no_fault status.SourceFault is = cc
-outcome_no_fault status.SinkFault is = cc
-outcome_no_fault status.TapeFault is = cc
-outcome_no_fault status.NoMemory is = cc
-outcome_no_fault answer is = refl
+-- ---- answers
+
+-- no fault of the outside is an answer of a command to what it finds
+pub no_fault_comes : (command : Words) (failing : Failing) → may_come_from (fault_of failing) command ≡ false
+no_fault_comes command TapeFails = refl
+no_fault_comes command SourceFails = refl
+no_fault_comes command SinkFails = refl
+
+pub same_failing : (one other : Failing) → fault_of one ≡ fault_of other → one ≡ other
+same_failing TapeFails TapeFails same = refl
+same_failing TapeFails SourceFails same = cc
+same_failing TapeFails SinkFails same = cc
+same_failing SourceFails TapeFails same = cc
+same_failing SourceFails SourceFails same = refl
+same_failing SourceFails SinkFails same = cc
+same_failing SinkFails TapeFails same = cc
+same_failing SinkFails SourceFails same = cc
+same_failing SinkFails SinkFails same = refl
+
+pub is_a_fault : (failing : Failing) → is_fault (fault_of failing) ≡ true
+is_a_fault TapeFails = refl
+is_a_fault SourceFails = refl
+is_a_fault SinkFails = refl
+
+fault_no_outcome : (failing : Failing) → is_outcome (fault_of failing) ≡ false
+fault_no_outcome TapeFails = refl
+fault_no_outcome SourceFails = refl
+fault_no_outcome SinkFails = refl
 
 pub named_outcome : (command : Words) (answer : Status) → may_come_from answer command ≡ true → is_outcome answer ≡ true
 named_outcome command status.Usage is = cc
@@ -34,258 +59,256 @@ named_outcome command status.TapeFault is = cc
 named_outcome command status.NoMemory is = cc
 named_outcome command answer is = refl
 
-pub finding_named : (command : Words) (answer : Status) → is_finding command answer ≡ true → may_come_from answer command ≡ true
-finding_named command (status.ScriptFault line place) is = absurd (cc)
-finding_named command answer is = is
+done_or_not : (answer : Status) → (answer ≡ status.Done) ⊎ (answer ≢ status.Done)
+done_or_not status.Done = inl refl
+done_or_not answer = inr (λ is. cc)
 
-finding_no_fault : (command : Words) (answer : Status) → is_finding command answer ≡ true → is_fault answer ≡ false
-finding_no_fault command answer is = outcome_no_fault answer (named_outcome command answer (finding_named command answer is))
+-- ---- what is told
 
--- what the laws of a sink give
-pub record SinkLaws {K : Type 0} (k : sinks.Meaning K) : Type 0 where
+-- what the laws of the objects give, before a run and after it
+pub record Laws {T S K : Type 0} (t : tapes.Meaning T) (s : sources.Meaning S) (k : sinks.Meaning K) (old new : Outside T S K) : Type 0 where
   pub nothing : (x : K) → k.took x [] x
   pub told : (x y : K) (text : List ℕ) → k.took x text y → k.written y ≡ option_map (λ bytes. bytes ++ text) (k.written x)
+  pub right : tapes.IsToldRight (t.told old.tape) (t.size old.tape)
+  pub before : tapes.IsLeftNow t old.tape
+  pub after : tapes.IsLeftNow t new.tape
 
--- a fact of all that is told, from one of the cartridge
-told_both : {A B : Type 0} (held : Option A) (left : Option B) (P : A → Type 0) (R : A → B → Type 0) →
-    IfSome held P → ((a : A) (b : B) → held ≡ Some a → left ≡ Some b → P a → R a b) → IfSome held (λ a. IfSome left (R a))
-told_both None left P R known follows = tt
-told_both (Some a) None P R known follows = tt
-told_both (Some a) (Some b) P R known follows = follows a b refl refl known
+-- what is told is a whole cartridge, or none
+pub told_whole : (held : Option Cartridge) (told : Option (Option Cartridge)) (size : Option ℕ) → tapes.IsToldRight told size → told ≡ Some held → IfSome held IsCartridge
+told_whole held None size right told = cc
+told_whole None (Some other) size right told = tt
+told_whole (Some c) (Some None) size right told = cc
+told_whole (Some c) (Some (Some d)) size right told =
+    let same : d ≡ c = cc in subst IsCartridge same right.0
 
-pub told_any : {A B : Type 0} (held : Option A) (left : Option B) (R : A → B → Type 0) →
-    ((a : A) (b : B) → held ≡ Some a → left ≡ Some b → R a b) → IfSome held (λ a. IfSome left (R a))
-told_any None left R follows = tt
-told_any (Some a) None R follows = tt
-told_any (Some a) (Some b) R follows = follows a b refl refl
+pub over_map : {A : Type 0} (held : Option A) (left : Option (List ℕ)) (P R : A → List ℕ → Type 0) →
+    IfSome held (λ a. (input : List ℕ) × IfSome left (λ bytes. input ≡ bytes) × P a input) →
+    ((a : A) (input : List ℕ) → held ≡ Some a → P a input → R a input) → IfSome held (λ a. (input : List ℕ) × IfSome left (λ bytes. input ≡ bytes) × R a input)
+over_map None left P R known follows = tt
+over_map (Some a) left P R known follows = (known.0, known.1, follows a known.0 refl known.2)
 
--- the input that is told, or else none
-abbrev input_of : Option (List ℕ) → List ℕ
-input_of None = []
-input_of (Some bytes) = bytes
-
-input_told : (left : Option (List ℕ)) → IfSome left (λ bytes. input_of left ≡ bytes)
-input_told None = tt
-input_told (Some bytes) = refl
-
-over_some : {A : Type 0} (held : Option A) (left : Option (List ℕ)) (P : A → Type 0) (R : A → List ℕ → Type 0) →
-    IfSome held P → ((a : A) (input : List ℕ) → P a → R a input) →
-    IfSome held (λ a. (input : List ℕ) × IfSome left (λ bytes. input ≡ bytes) × R a input)
-over_some None left P R known follows = tt
-over_some (Some a) left P R known follows = (input_of left, input_told left, follows a (input_of left) known)
-
-pub told_at : {A : Type 0} (held : Option A) (P : A → Type 0) (a : A) → IfSome held P → held ≡ Some a → P a
-told_at None P a known told = absurd (cc)
-told_at (Some x) P a known told =
+-- a fact over what is told, at what is told
+pub over_at : {A : Type 0} (held : Option A) (P : A → Type 0) (a : A) → IfSome held P → held ≡ Some a → P a
+over_at None P a known told = absurd (cc)
+over_at (Some x) P a known told =
     let same : x ≡ a = cc in
     subst P same known
 
--- what was told, and what it is after the steps
-pub after_steps : {T : Type 0} (t : tapes.Meaning T) (a b : T) (steps : List TapeStep) (held : Option Cartridge) → tapes.Done t a b steps → t.told a ≡ Some held → t.told b ≡ Some (effects steps held)
-after_steps t a b steps held did told = did.told ∙ ap (option_map (effects steps)) told
+pub told_weaker : {P Q : Option Cartridge → Type 0} (o : Option (Option Cartridge)) → ((left : Option Cartridge) → P left → Q left) → IsSomeAnd o P → IsSomeAnd o Q
+told_weaker None follows holds = absurd holds
+told_weaker (Some left) follows holds = follows left holds
 
--- where no byte was taken, all are left
-nothing_taken : (command : Words) (answer : Status) (taken : ℕ) (left : Option (List ℕ)) (input : List ℕ) → is_finding command answer ≡ true → taken ≡ 0 → left ≡ Some input → InputLeft answer taken (Some input) left
-nothing_taken command (status.ScriptFault line place) taken left input sound none told = absurd (cc)
-nothing_taken command answer taken left input sound none told = rw none told
-
--- the objects of the outside around a command that reads no input
-abbrev pub around : {T S K : Type 0} → T → S → K → Outside T S K
-around tape source sink = record { tape = tape; source = source; sink = sink }
-
-stepped : {T S K : Type 0} (t : tapes.Meaning T) (s : sources.Meaning S) (k : sinks.Meaning K) (words : List (List ℕ)) (command : Words) (held : Option Cartridge) (input : List ℕ)
-    (a b : T) (i : S) (x y : K) (answer : Status) → SinkLaws k → Spells words command → (ended : Ended t k command a b x y answer) →
-    t.told a ≡ Some held → s.left i ≡ Some input → Rules command held ended.outcome →
-    Stepped t s k words held input (around a i x) (around b i y) answer
-stepped t s k words command held input a b i x y answer laws spelled ended told left plain = record {
-  held' = effects ended.outcome.steps held;
-  output = ended.outcome.output;
-  taken = ended.outcome.taken;
-  step = inr (command, spelled, (ended.outcome, plain input, refl, refl, refl, ended.answered));
-  tape = after_steps t a b ended.outcome.steps held ended.did told;
-  source = nothing_taken command answer ended.outcome.taken (s.left i) input ended.sound ended.nothing_taken left;
-  took = ended.wrote.took;
-  written = laws.told x y ended.outcome.output ended.wrote.took;
-}
-
--- where no fault of the outside ended it, a command is the plain machine's step
-pub ends_carries : {T S K : Type 0} (t : tapes.Meaning T) (s : sources.Meaning S) (k : sinks.Meaning K) (words : List (List ℕ)) (command : Words)
-    (a b : T) (i : S) (x y : K) (answer : Status) → SinkLaws k → Spells words command → Ends t k command a b x y answer →
-    CarriesOut t s k words (around a i x) (around b i y) answer
-ends_carries t s k words command a b i x y answer laws spelled (inl ended) sound =
-    told_both (t.told a) (s.left i) _ _ ended.told (λ held input told left plain.
-    inr (stepped t s k words command held input a b i x y answer laws spelled ended told left plain))
-ends_carries t s k words command a b i x y answer laws spelled (inr (inl broke)) sound =
-    let fault : is_fault answer ≡ true = ap is_fault broke.answered in absurd (cc)
-ends_carries t s k words command a b i x y answer laws spelled (inr (inr broke)) sound =
-    let fault : is_fault answer ≡ true = ap is_fault broke.answered in absurd (cc)
-
--- .. and so where no count of faults rose
-pub ends_answers : {T S K : Type 0} (t : tapes.Meaning T) (s : sources.Meaning S) (k : sinks.Meaning K) (words : List (List ℕ)) (command : Words)
-    (a b : T) (i : S) (x y : K) (answer : Status) → SinkLaws k → Spells words command → Ends t k command a b x y answer →
-    Answers t s k words (around a i x) (around b i y) answer
-ends_answers t s k words command a b i x y answer laws spelled (inl ended) none =
-    told_both (t.told a) (s.left i) _ _ ended.told (λ held input told left plain.
-    inr (stepped t s k words command held input a b i x y answer laws spelled ended told left plain))
-ends_answers t s k words command a b i x y answer laws spelled (inr (inl broke)) none = absurd (none.sink broke.broke.cause)
-ends_answers t s k words command a b i x y answer laws spelled (inr (inr broke)) none = absurd (none.tape broke.broke.cause)
-
--- after a fault the sink took a front of the output
-pub ends_front : {T S K : Type 0} (t : tapes.Meaning T) (s : sources.Meaning S) (k : sinks.Meaning K) (words : List (List ℕ)) (command : Words)
-    (a b : T) (i : S) (x y : K) (answer : Status) → SinkLaws k → MachineIsFunction →
-    Spells words command → Ends t k command a b x y answer → PrintsFront t s k words (around a i x) (around b i y) answer
-ends_front t s k words command a b i x y answer laws one spelled (inl ended) fault = let sound = finding_no_fault command answer ended.sound in absurd (cc)
-ends_front t s k words command a b i x y answer laws one spelled (inr (inl broke)) fault =
-    over_some (t.told a) (s.left i) _ _ broke.told (λ held input plain held' output taken other step.
-    let same = one words held input held' (effects broke.outcome.steps held) output broke.outcome.output taken broke.outcome.taken other broke.outcome.status
-    step (inr (command, spelled, (broke.outcome, plain input, refl, refl, refl, refl))) in
-    record {
-      front = broke.broke.front;
-      rest = broke.broke.rest;
-      parts = broke.broke.parts ∙ sym same.same_output;
-      took = broke.broke.took;
-    })
-ends_front t s k words command a b i x y answer laws one spelled (inr (inr broke)) fault =
-    over_some (t.told a) (s.left i) _ _ broke.front (λ held input front held' output taken other step. record {
-      front = [];
-      rest = output;
-      parts = refl;
-      took = subst (λ z. k.took x [] z) (sym broke.silent) (laws.nothing x);
-    })
-
--- after a fault of the sink a command that prints behind its steps was carried out
-was_done : {T : Type 0} (t : tapes.Meaning T) (goes : Bool) (held : Option Cartridge) (outcome : Outcome) (b : T) → goes ≡ false →
-    (outcome.status ≡ status.Done) × (t.told b ≡ Some (effects outcome.steps held)) → WasDone t goes held outcome b
-was_done t true held outcome b behind did = absurd (cc)
-was_done t false held outcome b behind did = did
-
-pub ends_done : {T S K : Type 0} (t : tapes.Meaning T) (s : sources.Meaning S) (k : sinks.Meaning K) (words : List (List ℕ)) (command : Words)
-    (a b : T) (i : S) (x y : K) (answer : Status) → prints_as_it_goes command ≡ false → Spells words command → Ends t k command a b x y answer →
-    StaysDone t s words (around a i x) (around b i y) answer
-ends_done t s k words command a b i x y answer behind spelled (inl ended) fault =
-    let sound = finding_no_fault command answer ended.sound in let same : is_fault answer ≡ true = ap is_fault fault in absurd (cc)
-ends_done t s k words command a b i x y answer behind spelled (inr (inl broke)) fault = (
-  command,
-  spelled,
-  told_both (t.told a) (s.left i) _ _ broke.told (λ held input told left plain outcome rule.
-      let same : outcome ≡ broke.outcome = plain_is_function command held input outcome broke.outcome rule (plain input) in
-      was_done t (prints_as_it_goes command) held outcome b behind (
-        ap (λ (o : Outcome). o.status) same ∙ broke.carried_out,
-        after_steps t a b broke.outcome.steps held broke.did told ∙ ap (λ (o : Outcome). Some (effects o.steps held)) (sym same),
-      )),
-)
-ends_done t s k words command a b i x y answer behind spelled (inr (inr broke)) fault = let other = broke.answered in absurd (cc)
-
--- ---- what a run leaves
-
--- what the tape tells behind steps that were done, or broken off
-pub done_torn : {T : Type 0} (t : tapes.Meaning T) (a b : T) (steps : List TapeStep) (held : Option Cartridge) → tapes.Done t a b steps → t.told a ≡ Some held →
-    IsSomeAnd (t.told b) (λ left. Torn steps held left)
-done_torn t a b steps held did told =
-    subst (λ (o : Option (Option Cartridge)). IsSomeAnd o (λ left. Torn steps held left)) (sym (after_steps t a b steps held did told)) (Torn-all steps held)
-
-pub broke_torn : {T : Type 0} (t : tapes.Meaning T) (a b : T) (steps : List TapeStep) (held : Option Cartridge) → tapes.Broke t a b steps → t.told a ≡ Some held →
-    IsSomeAnd (t.told b) (λ left. Torn steps held left)
-broke_torn t a b steps held broke told = by_told (t.told b) refl
-  where
-    by_told : (o : Option (Option Cartridge)) → t.told b ≡ o → IsSomeAnd o (λ left. Torn steps held left)
-    by_told None is = let tells = broke.tells in absurd (cc)
-    by_told (Some left) is = broke.torn held left told is
-
--- a fact of what is told, by what is told, and from another fact
 told_is : (o : Option (Option Cartridge)) (P : Option Cartridge → Type 0) (left : Option Cartridge) → IsSomeAnd o P → o ≡ Some left → P left
 told_is None P left holds is = absurd holds
 told_is (Some other) P left holds is =
     let same : other ≡ left = cc in
     subst P same holds
 
-pub told_weaker : {P Q : Option Cartridge → Type 0} (o : Option (Option Cartridge)) → ((left : Option Cartridge) → P left → Q left) → IsSomeAnd o P → IsSomeAnd o Q
-told_weaker None follows holds = absurd holds
-told_weaker (Some left) follows holds = follows left holds
+-- what was told, and what it is after the steps
+pub after_steps : {T : Type 0} (t : tapes.Meaning T) (a b : T) (steps : List TapeStep) (held : Option Cartridge) → tapes.Done t a b steps → t.told a ≡ Some held → t.told b ≡ Some (effects steps held)
+after_steps t a b steps held did told = did.told ∙ ap (option_map (effects steps)) told
 
--- what stops in steps leave, where the tape tells them, and the steps when they are over
-pub stops_leave : {T : Type 0} (t : tapes.Meaning T) (words : List (List ℕ)) (a b : T) (steps : List TapeStep) → tapes.IsLeftNow t a → tapes.IsLeftNow t b → tapes.Stops t a b steps →
-    ((held : Option Cartridge) → t.told a ≡ Some held → IsSomeAnd (t.told b) (λ left. Torn steps held left)) →
-    ((held left : Option Cartridge) → t.told a ≡ Some held → Torn steps held left → WordsLeave words held left) → Leaves t words a b
-stops_leave t words a b steps before after stops torn follows = record {
-  told = λ held told. told_weaker (t.told b) (λ left is. follows held left told is) (torn held told);
-  since = λ held left telling told is. follows held left told (Stops-left held left before telling told stops is);
+done_torn : {T : Type 0} (t : tapes.Meaning T) (a b : T) (steps : List TapeStep) (held : Option Cartridge) → tapes.Done t a b steps → t.told a ≡ Some held →
+    IsSomeAnd (t.told b) (λ left. Torn steps held left)
+done_torn t a b steps held did told =
+    subst (λ (o : Option (Option Cartridge)). IsSomeAnd o (λ left. Torn steps held left)) (sym (after_steps t a b steps held did told)) (Torn-all steps held)
+
+is_some-map : {A B : Type 0} (f : A → B) (o : Option A) → is_some (option_map f o) ≡ is_some o
+is_some-map f None = refl
+is_some-map f (Some a) = refl
+
+-- ---- stops
+
+-- over what the tape told, the run did steps, and this is what a stop in them leaves
+pub record LeftBy {T : Type 0} (t : tapes.Meaning T) (a b : T) (held : Option Cartridge) (P : Option Cartridge → Type 0) : Type 0 where
+  pub steps : List TapeStep
+  pub stops : tapes.Stops t a b steps
+  pub torn : IsSomeAnd (t.told b) (λ left. Torn steps held left)
+  pub leaves : (left : Option Cartridge) → Torn steps held left → P left
+
+pub each_left : {T : Type 0} (t : tapes.Meaning T) (a b : T) (P : (held left : Option Cartridge) → Type 0) → tapes.IsLeftNow t a → tapes.IsLeftNow t b →
+    ((held : Option Cartridge) → t.told a ≡ Some held → LeftBy t a b held (P held)) → EachLeft t a b P
+each_left t a b P before after by = record {
+  told = λ held told. let l = by held told in told_weaker (t.told b) l.leaves l.torn;
+  since = λ held left telling told is. let l = by held told in l.leaves left (Stops-left held left before telling told l.stops is);
   now = λ held left telling told is.
-      follows held left told (told_is (t.told b) (λ l. Torn steps held l) left (torn held told) (after.only left (stops.telling ∙ telling) is));
+      let l = by held told in
+      l.leaves left (told_is (t.told b) (λ d. Torn l.steps held d) left l.torn (after.only left (l.stops.telling ∙ telling) is));
 }
 
--- .. of steps that were done
-pub done_leaves : {T : Type 0} (t : tapes.Meaning T) (words : List (List ℕ)) (a b : T) (steps : List TapeStep) → tapes.IsLeftNow t a → tapes.IsLeftNow t b → tapes.Done t a b steps →
-    ((held left : Option Cartridge) → t.told a ≡ Some held → Torn steps held left → WordsLeave words held left) → Leaves t words a b
-done_leaves t words a b steps before after did follows =
-    stops_leave t words a b steps before after did.stops (λ held told. done_torn t a b steps held did told) follows
+pub stops_go_on : {T : Type 0} (t : tapes.Meaning T) (a b : T) (steps : List TapeStep) → tapes.Stops t a b steps → StopsGoOn t a b
+stops_go_on t a b steps stops = record { telling = stops.telling; clock = stops.clock; kept = stops.kept; parted = stops.parted }
 
--- .. and of steps that were broken off
-pub broke_leaves : {T : Type 0} (t : tapes.Meaning T) (words : List (List ℕ)) (a b : T) (steps : List TapeStep) → tapes.IsLeftNow t a → tapes.IsLeftNow t b → tapes.Broke t a b steps →
-    ((held left : Option Cartridge) → t.told a ≡ Some held → Torn steps held left → WordsLeave words held left) → Leaves t words a b
-broke_leaves t words a b steps before after broke follows =
-    stops_leave t words a b steps before after broke.stops (λ held told. broke_torn t a b steps held broke told) follows
+-- ---- runs
 
-ended_leaves : {T : Type 0} (t : tapes.Meaning T) (words : List (List ℕ)) (command : Words) (a b : T) (outcome : Outcome) →
-    tapes.IsLeftNow t a → tapes.IsLeftNow t b → Spells words command →
-    IfSome (t.told a) (λ held. Rules command held outcome) → tapes.Done t a b outcome.steps → Leaves t words a b
-ended_leaves t words command a b outcome before after spelled told did =
-    done_leaves t words a b outcome.steps before after did
-    (λ held left here torn.
-    inr (command, spelled, plain_leaves command held left [] outcome (told_at (t.told a) _ held told here []) torn))
+module _ {T S K : Type 0} (t : tapes.Meaning T) (s : sources.Meaning S) (k : sinks.Meaning K) (words : List (List ℕ)) (command : Words) (old new : Outside T S K) (answer : Status) where
+  stepped : Laws t s k old new → Spells words command → (finished : Finished t s k command old new answer) → (held : Option Cartridge) (input : List ℕ) →
+      t.told old.tape ≡ Some held → Plain command held input finished.outcome → Stepped t s k words held input old new answer
+  stepped laws spelled finished held input told plain = record {
+    held' = effects (steps_of finished.outcome.acts) held;
+    output = output_of finished.outcome;
+    taken = finished.outcome.taken;
+    step = inr (command, spelled, (finished.outcome, plain, refl, refl, refl, finished.answered));
+    tape = after_steps t old.tape new.tape (steps_of finished.outcome.acts) held finished.went.did told;
+    source = finished.left;
+    took = finished.went.wrote.took;
+    written = laws.told old.sink new.sink (output_of finished.outcome) finished.went.wrote.took;
+  }
 
--- where the tape tells its stops, what one in a command leaves; the command has an outcome over what is told
-pub ends_leave : {T K : Type 0} (t : tapes.Meaning T) (k : sinks.Meaning K) (words : List (List ℕ)) (command : Words) (a b : T) (x y : K) (answer : Status) →
-    tapes.IsLeftNow t a → tapes.IsLeftNow t b → Spells words command →
-    ((held : Option Cartridge) → t.told a ≡ Some held → (outcome : Outcome) × Rules command held outcome) →
-    Ends t k command a b x y answer → Leaves t words a b
-ends_leave t k words command a b x y answer before after spelled total (inl ended) =
-    ended_leaves t words command a b ended.outcome before after spelled ended.told ended.did
-ends_leave t k words command a b x y answer before after spelled total (inr (inl broke)) =
-    ended_leaves t words command a b broke.outcome before after spelled broke.told broke.did
-ends_leave t k words command a b x y answer before after spelled total (inr (inr broke)) =
-    broke_leaves t words a b broke.steps before after broke.broke
-    (λ held left here torn.
-    let some = total held here in
-    let longer = told_at (t.told a) _ held broke.front here some.0 some.1 in
-    let all : Torn some.0.steps held left =
-    subst (λ (steps : List TapeStep). Torn steps held left) longer.1 (Torn-front broke.steps longer.0 held left torn) in
-    inr (command, spelled, plain_leaves command held left [] some.0 (some.1 []) all))
+  finished_answers : Laws t s k old new → Spells words command → Finished t s k command old new answer → Answers t s k words old new answer
+  finished_answers laws spelled finished =
+      over_map (t.told old.tape) (s.left old.source) _ _ finished.told (λ held input told plain.
+      inr (stepped laws spelled finished held input told plain))
 
--- ---- what the tape tells after a fault
+  pub ends_cause : Ends t s k command old new answer → (failing : Failing) → answer ≡ fault_of failing → FailingRose t s k old new failing
+  ends_cause (inl finished) failing is =
+      let no = no_fault_comes command failing in let sound = ap (λ (a : Status). may_come_from a command) (sym is) ∙ finished.sound in absurd (cc)
+  ends_cause (inr (other, was, stopped)) failing is =
+      subst (FailingRose t s k old new) (same_failing other failing (sym was ∙ is)) (cut_rose t s k old new stopped.acts other stopped.cut)
 
-over_any : {A : Type 0} (held : Option A) (left : Option (List ℕ)) (R : A → List ℕ → Type 0) → ((a : A) (input : List ℕ) → held ≡ Some a → R a input) →
-    IfSome held (λ a. (input : List ℕ) × IfSome left (λ bytes. input ≡ bytes) × R a input)
-over_any None left R follows = tt
-over_any (Some a) left R follows = (input_of left, input_told left, follows a (input_of left) refl)
+  none_rose : (failing : Failing) → NoneRose t s k old new → FailingRose t s k old new failing → ⊥
+  none_rose TapeFails none rose = none.tape rose
+  none_rose SourceFails none rose = none.source rose
+  none_rose SinkFails none rose = none.sink rose
 
--- .. in a front of the steps, and so in all of them
-pub torn_in_whole : (o : Option (Option Cartridge)) (front whole : List TapeStep) (held : Option Cartridge) → IsFront front whole →
-    IsSomeAnd o (λ left. Torn front held left) → IsSomeAnd o (λ left. Torn whole held left)
-torn_in_whole None front whole held is torn = torn
-torn_in_whole (Some left) front whole held is torn =
-    subst (λ (steps : List TapeStep). Torn steps held left) is.1 (Torn-front front is.0 held left torn)
+  pub ends_answers : Laws t s k old new → Spells words command → Ends t s k command old new answer → NoneRose t s k old new → Answers t s k words old new answer
+  ends_answers laws spelled (inl finished) none = finished_answers laws spelled finished
+  ends_answers laws spelled (inr (failing, is, stopped)) none =
+      absurd (none_rose failing none (cut_rose t s k old new stopped.acts failing stopped.cut))
 
-pub ends_torn : {T S K : Type 0} (t : tapes.Meaning T) (s : sources.Meaning S) (k : sinks.Meaning K) (words : List (List ℕ)) (command : Words)
-    (a b : T) (i : S) (x y : K) (answer : Status) → Spells words command →
-    ((held : Option Cartridge) → t.told a ≡ Some held → (outcome : Outcome) × Rules command held outcome) →
-    Ends t k command a b x y answer → FaultLeaves t s words (around a i x) (around b i y) answer
-ends_torn t s k words command a b i x y answer spelled total (inl ended) fault = let sound = finding_no_fault command answer ended.sound in absurd (cc)
-ends_torn t s k words command a b i x y answer spelled total (inr (inl broke)) fault = (
-  command,
-  spelled,
-  over_any (t.told a) (s.left i) _ (λ held input told outcome rule.
-      let rules = told_at (t.told a) _ held broke.told told in
-      let same : broke.outcome ≡ outcome = plain_is_function command held input broke.outcome outcome (rules input) rule in
-      subst (λ (o : Outcome). IsSomeAnd (t.told b) (λ left. Torn o.steps held left)) same (done_torn t a b broke.outcome.steps held broke.did told)),
-)
-ends_torn t s k words command a b i x y answer spelled total (inr (inr broke)) fault = (
-  command,
-  spelled,
-  over_any (t.told a) (s.left i) _ (λ held input told outcome rule.
-      let some = total held told in
-      let longer = told_at (t.told a) _ held broke.front told some.0 some.1 in
-      let same : some.0 ≡ outcome = plain_is_function command held input some.0 outcome (some.1 input) rule in
-      subst (λ (o : Outcome). IsSomeAnd (t.told b) (λ left. Torn o.steps held left)) same
-      (torn_in_whole (t.told b) broke.steps some.0.steps held longer (broke_torn t a b broke.steps held broke.broke told))),
-)
+  pub ends_carried : Laws t s k old new → Spells words command → Ends t s k command old new answer → is_fault answer ≡ false → Answers t s k words old new answer
+  ends_carried laws spelled (inl finished) sound = finished_answers laws spelled finished
+  ends_carried laws spelled (inr (failing, is, stopped)) sound =
+      let fault : is_fault answer ≡ true = ap is_fault is ∙ is_a_fault failing in absurd (cc)
+
+  -- over what is told there is an outcome
+  has_outcome : Laws t s k old new → Spells words command → HasValues command → (held : Option Cartridge) (input : List ℕ) → t.told old.tape ≡ Some held →
+      (outcome : Outcome) × Plain command held input outcome
+  has_outcome laws spelled values held input told =
+      plain_answers command held input values spelled.built (told_whole held (t.told old.tape) (t.size old.tape) laws.right told)
+
+  pub ends_cut : Laws t s k old new → Spells words command → HasValues command → Ends t s k command old new answer → (failing : Failing) → answer ≡ fault_of failing →
+      IsCut t s k words old new failing
+  ends_cut laws spelled values (inl finished) failing is =
+      let no = no_fault_comes command failing in let sound = ap (λ (a : Status). may_come_from a command) (sym is) ∙ finished.sound in absurd (cc)
+  ends_cut laws spelled values (inr (other, was, stopped)) failing is = (
+    command,
+    spelled,
+    over_map (t.told old.tape) (s.left old.source) _ _ stopped.told (λ held input told off.
+        let some = has_outcome laws spelled values held input told in
+        subst (WasCut t s k command held input old new) (same_failing other failing (sym was ∙ is))
+        (record { outcome = some.0; plain = some.1; off = off some.0 some.1 })),
+  )
+
+  -- what a run did, over what the tape told
+  left_by : Laws t s k old new → Spells words command → HasValues command → Ends t s k command old new answer → (held : Option Cartridge) → t.told old.tape ≡ Some held →
+      LeftBy t old.tape new.tape held (WordsLeave (s.left old.source) words held)
+  left_by laws spelled values (inl finished) held told =
+      let over = over_at (t.told old.tape) _ held finished.told told in record {
+        steps = steps_of finished.outcome.acts;
+        stops = finished.went.did.stops;
+        torn = done_torn t old.tape new.tape (steps_of finished.outcome.acts) held finished.went.did told;
+        leaves = λ left torn.
+            inr (command, spelled, record { input = over.0; is_told = over.1; outcome = finished.outcome; plain = over.2; torn = torn });
+      }
+  left_by laws spelled values (inr (failing, is, stopped)) held told =
+      let over = over_at (t.told old.tape) _ held stopped.told told in
+      let some = has_outcome laws spelled values held over.0 told in
+      let off = over.2 some.0 some.1 in record {
+        steps = steps_of some.0.acts;
+        stops = cut_stops t s k old new some.0.acts failing off.cut;
+        torn = cut_is_torn t s k old new some.0.acts failing held off.cut told;
+        leaves = λ left torn.
+            inr (command, spelled, record { input = over.0; is_told = over.1; outcome = some.0; plain = some.1; torn = torn });
+      }
+
+  pub ends_stops : Laws t s k old new → Spells words command → HasValues command → Ends t s k command old new answer →
+      EachLeft t old.tape new.tape (WordsLeave (s.left old.source) words)
+  ends_stops laws spelled values ends =
+      each_left t old.tape new.tape (WordsLeave (s.left old.source) words) laws.before laws.after (left_by laws spelled values ends)
+
+  -- ---- runs one after the other
+
+  input_tells : (why : Status) (taken : ℕ) (before after : Option (List ℕ)) → InputLeft why taken before after → is_some after ≡ is_some before
+  input_tells (status.ScriptFault line place) taken before after left = ap is_some left.1 ∙ is_some-map _ before
+  input_tells why taken before after left = ap is_some left ∙ is_some-map _ before
+
+  sink_tells : Laws t s k old new → (text : List ℕ) → k.took old.sink text new.sink → is_some (k.written new.sink) ≡ is_some (k.written old.sink)
+  sink_tells laws text took = ap is_some (laws.told old.sink new.sink text took) ∙ is_some-map (λ bytes. bytes ++ text) (k.written old.sink)
+
+  tape_tells : (acts : List Act) (failing : Failing) → Cut t s k old new acts failing → is_some (t.told new.tape) ≡ is_some (t.told old.tape)
+  tape_tells acts TapeFails cut = cut.broke.tells
+  tape_tells acts SourceFails cut = ap is_some cut.did.told ∙ is_some-map (effects (steps_of cut.front)) (t.told old.tape)
+  tape_tells acts SinkFails cut = ap is_some cut.did.told ∙ is_some-map (effects (steps_of cut.at.front ++ cut.at.act.steps)) (t.told old.tape)
+
+  pub ends_joins : Laws t s k old new → Ends t s k command old new answer → Joins t s k old new
+  ends_joins laws (inl finished) = record {
+    counts = record { tape = finished.went.did.later; source = finished.went.source_later; sink = finished.went.wrote.later };
+    tape = ap is_some finished.went.did.told ∙ is_some-map (effects (steps_of finished.outcome.acts)) (t.told old.tape);
+    source = input_tells answer finished.outcome.taken (s.left old.source) (s.left new.source) finished.left;
+    sink = sink_tells laws (output_of finished.outcome) finished.went.wrote.took;
+    stops = stops_go_on t old.tape new.tape (steps_of finished.outcome.acts) finished.went.did.stops;
+  }
+  ends_joins laws (inr (failing, is, stopped)) =
+      let took = cut_took_front t s k old new stopped.acts failing stopped.cut in record {
+        counts = cut_fell_none t s k old new stopped.acts failing stopped.cut;
+        tape = tape_tells stopped.acts failing stopped.cut;
+        source = stopped.source_tells;
+        sink = sink_tells laws took.front took.took;
+        stops = stops_go_on t old.tape new.tape (steps_of stopped.acts) (cut_stops t s k old new stopped.acts failing stopped.cut);
+      }
+
+  -- ---- over any tape, source and sink
+
+  -- it ends so, and not otherwise
+  pub ends_otherwise : Ends t s k command old new answer → (answer ≡ status.Usage) ⊎ (answer ≡ status.NoMemory) → ⊥
+  ends_otherwise (inl finished) (inl is) = let no = ap (λ (a : Status). may_come_from a command) is in let sound = finished.sound in cc
+  ends_otherwise (inl finished) (inr is) = let no = ap (λ (a : Status). may_come_from a command) is in let sound = finished.sound in cc
+  ends_otherwise (inr (failing, was, stopped)) (inl is) =
+      let no = ap is_fault (sym was ∙ is) in let fault = is_a_fault failing in cc
+  ends_otherwise (inr (failing, was, stopped)) (inr is) =
+      let no = ap is_fault (sym was ∙ is) in let fault = is_a_fault failing in cc
+
+  pub ends_named : Ends t s k command old new answer → is_outcome answer ≡ true → may_come_from answer command ≡ true
+  ends_named (inl finished) outcome = finished.sound
+  ends_named (inr (failing, is, stopped)) outcome =
+      let no : is_outcome answer ≡ false = ap is_outcome is ∙ fault_no_outcome failing in absurd (cc)
+
+  pub ends_finished : Ends t s k command old new answer → is_fault answer ≡ false → Finished t s k command old new answer
+  ends_finished (inl finished) sound = finished
+  ends_finished (inr (failing, is, stopped)) sound =
+      let fault : is_fault answer ≡ true = ap is_fault is ∙ is_a_fault failing in absurd (cc)
+
+  pub ends_begun : Laws t s k old new → Spells words command → Ends t s k command old new answer → PrintsFront k command old.sink new.sink
+  ends_begun laws spelled (inl finished) = by_answer (done_or_not answer) ((traits_of command).goes) refl
+    where
+      whole : CommandPrints command (output_of finished.outcome) → PrintsFront k command old.sink new.sink
+      whole prints = record {
+        text = output_of finished.outcome;
+        rest = [];
+        is_front = subst (CommandPrints command) (sym (append-nil (output_of finished.outcome))) prints;
+        took = finished.went.wrote.took;
+      }
+
+      by_answer : (answer ≡ status.Done) ⊎ (answer ≢ status.Done) → (goes : Bool) → (traits_of command).goes ≡ goes → PrintsFront k command old.sink new.sink
+      by_answer (inl is) goes same = whole (finished.prints.0 (inl is))
+      by_answer (inr other) true same = whole (finished.prints.0 (inr same))
+      by_answer (inr other) false same =
+          let some = some_text command spelled.built in record {
+            text = output_of finished.outcome;
+            rest = some.0;
+            is_front = subst (λ (text : List ℕ). CommandPrints command (text ++ some.0)) (sym (finished.prints.1 same other)) some.1;
+            took = finished.went.wrote.took;
+          }
+  ends_begun laws spelled (inr (failing, is, stopped)) =
+      let took = cut_took_front t s k old new stopped.acts failing stopped.cut in record {
+        text = took.front;
+        rest = took.rest ++ stopped.front.0;
+        is_front = subst (CommandPrints command)
+            (ap (λ (text : List ℕ). text ++ stopped.front.0) (sym took.parts) ∙ append_assoc took.front took.rest stopped.front.0) stopped.front.1;
+        took = took.took;
+      }
+
+  pub ends_silent : Ends t s k command old new answer → (traits_of command).goes ≡ false → answer ≢ status.Done → answer ≢ status.SinkFault → new.sink ≡ old.sink
+  ends_silent (inl finished) still other fault = finished.silent still other
+  ends_silent (inr (failing, is, stopped)) still other fault = stopped.silent still (λ same. fault (is ∙ ap fault_of same))

@@ -1,9 +1,9 @@
 -- How the formatting of a cartridge ends.
-use Rattle.std.proofs.Common.{◌≡◌, ◌↔◌, ℕ, ◌*◌, Bool, true, false, List, [], ◌++◌, Option, Some, None, IfSome, IsSomeAnd, Err, refl, sym, ap, ◌∙◌, subst, inl, inr}
-use Rattle.std.specs.Option.{option_map}
+use Rattle.std.proofs.Common.{◌≡◌, ◌↔◌, ℕ, ◌*◌, Bool, true, false, List, [], ◌++◌, Option, Some, None, IfSome, IsSomeAnd, Err, refl, sym, ap, ◌∙◌, subst, inl, inr, Result}
 use Rattle.std.proofs.lemmas.List.{append-nil, append_assoc}
 use Rattle.qic_base.specs.Cartridge.{Cartridge}
 use Rattle.qic_base.specs.declared.tape.TapeInfo.{TapeInfo}
+use Rattle.qic_base.specs.declared.sink.SinkFailed.{SinkFailed}
 use Rattle.qic_base.specs.Sink as sinks
 use Rattle.qic_base.specs.Step.{Step as TapeStep}
 use Rattle.qic_base.specs.Tape as tapes
@@ -15,17 +15,22 @@ use Rattle.cartridge_spec.specs.Says.{with_parity}
 use Rattle.format_plan.specs.Fresh.{IsFreshArea, IsFreshWith}
 use Rattle.fresh_header.proofs.Front.{first_defect_is_none}
 use Rattle.fresh_header.proofs.Marks.{fresh_area_is_one}
+use Rattle.drive_states.specs.Unit.{UnitView}
+use Rattle.host_driver.specs.declared.host.Host.{Host}
 use Rattle.formatter.specs.declared.fault.FormatFault.{FormatFault}
 use Rattle.formatter.specs.declared.fault.FormatFault.TheVariants as fault
 use Rattle.formatter.specs.declared.formatting.FormatReport.{FormatReport}
 use Rattle.formatter.specs.Formats.{Formats, HasFormatted}
 use Rattle.tape_script.specs.declared.words.Words.TheVariants.{Format}
+use Rattle.tape_cmd.specs.declared.status.Status.{Status}
 use Rattle.tape_cmd.specs.declared.status.Status.TheVariants as status
-use Rattle.tape_cmd.specs.Formats.{format_status}
 use Rattle.tape_cmd.specs.Lines.{formatted_line}
-use Rattle.tape_cmd.specs.Plain.{Outcome, refused, cleared, formatted, FormatOutcome}
-use Rattle.tape_cmd.specs.Machine.{Rules, Ends}
-use Rattle.tape_cmd.proofs.Endings.{done, unprinted, turned_down, cut_off}
+use Rattle.tape_cmd.specs.Outcome.{Outcome, refused, first_steps}
+use Rattle.tape_cmd.specs.Format.{cleared, formatted, FormatOutcome, format_status}
+use Rattle.tape_cmd.specs.Opening.{HasStarted, StartFails}
+use Rattle.tape_cmd.specs.Printing.{printed_status}
+use Rattle.tape_cmd.specs.Runs.{EndsBlind}
+use Rattle.tape_cmd.proofs.Endings.{IsBlind, Rules, printed, turned_down, turned_behind, cut_off, cut_off_first}
 use Rattle.tape_cmd.proofs.Hands.{Knows, known_before, told_known, told_known_beside, told_at_start}
 
 -- ---- what is told of the cartridge
@@ -44,11 +49,13 @@ pub record Present {T : Type 0} (t : tapes.Meaning T) (a b : T) (info : TapeInfo
   pub did : tapes.Done t a b []
   pub known : IfSome (t.told a) (Knows (Some info))
 
-pub present : {T : Type 0} (t : tapes.Meaning T) (a b : T) (cartridge : Option TapeInfo) → tapes.Done t a b [] →
-    IfSome (t.told b) (λ there. cartridge ≡ option_map (λ c. c.info) there) → (there : IsThere cartridge) → Present t a b there.info
-present t a b cartridge did told there = record {
-  did = did;
-  known = subst (λ (i : Option TapeInfo). IfSome (t.told a) (Knows i)) there.is (known_before t a b cartridge did told);
+pub there_of : {T : Type 0} {t : tapes.Meaning T} {a b : UnitView T} {host : Host} → HasStarted t a b host → IsThere b.drive.deck.cartridge
+there_of started = is_there _ _ started.ready.fits.cartridge
+
+pub present : {T : Type 0} {t : tapes.Meaning T} {a b : UnitView T} {host : Host} → (started : HasStarted t a b host) → Present t a.tape b.tape (there_of started).info
+present {t = t} {a = a} {b = b} started = record {
+  did = started.did;
+  known = subst (λ (i : Option TapeInfo). IfSome (t.told a.tape) (Knows i)) (there_of started).is (known_before t a.tape b.tape b.drive.deck.cartridge started.did started.known);
 }
 
 pub not_true : (b : Bool) → (b ≡ true → ⊥) → b ≡ false
@@ -56,10 +63,6 @@ not_true true other = absurd (other refl)
 not_true false other = refl
 
 -- ---- outcomes
-
-absent_is : (label : List ℕ) (date : ℕ) (held : Option Cartridge) → Knows None held → FormatOutcome label date held (refused status.NoCartridge)
-absent_is label date None known = refl
-absent_is label date (Some c) known = cc
 
 protected_is : (label : List ℕ) (date : ℕ) (info : TapeInfo) (held : Option Cartridge) → info.protected ≡ true → Knows (Some info) held → FormatOutcome label date held (refused status.Protected)
 protected_is label date info None mark known = cc
@@ -96,7 +99,7 @@ formatted_is label date info words area (Some c) mark fresh known marks =
 -- ---- fronts of their steps
 
 abbrev BeginsSteps : List TapeStep → Outcome → Type 0
-BeginsSteps steps outcome = (rest : List TapeStep) × (steps ++ rest ≡ outcome.steps)
+BeginsSteps steps outcome = (rest : List TapeStep) × (steps ++ rest ≡ first_steps outcome)
 
 clearing_begins : (label : List ℕ) (date : ℕ) (info : TapeInfo) (held : Option Cartridge) (outcome : Outcome) → info.protected ≡ false → Knows (Some info) held →
     FormatOutcome label date held outcome → BeginsSteps (clearing_steps info.segments_per_track) outcome
@@ -105,11 +108,11 @@ clearing_begins label date info (Some c) outcome mark known (inl plain) =
     let same : info ≡ c.info = cc in let other = ap (λ (i : TapeInfo). i.protected) same in let is = plain.0 in absurd (cc)
 clearing_begins label date info (Some c) outcome mark known (inr (inl (unlocked, (segment, first, is)))) =
     let same : info ≡ c.info = cc in
-    ([], append-nil (clearing_steps info.segments_per_track) ∙ ap (λ (i : TapeInfo). clearing_steps i.segments_per_track) same ∙ sym (ap (λ (o : Outcome). o.steps) is))
+    ([], append-nil (clearing_steps info.segments_per_track) ∙ ap (λ (i : TapeInfo). clearing_steps i.segments_per_track) same ∙ sym (ap (λ (o : Outcome). first_steps o) is))
 clearing_begins label date info (Some c) outcome mark known (inr (inr (unlocked, none, (words, (area, fresh, is))))) =
     let same : info ≡ c.info = cc in (
       copy_writes 0 (with_parity area) ++ copy_writes 1 (with_parity area),
-      sym (append_assoc (clearing_steps info.segments_per_track) (copy_writes 0 (with_parity area)) (copy_writes 1 (with_parity area))) ∙ ap (λ (i : TapeInfo). format_steps i.segments_per_track area) same ∙ sym (ap (λ (o : Outcome). o.steps) is),
+      sym (append_assoc (clearing_steps info.segments_per_track) (copy_writes 0 (with_parity area)) (copy_writes 1 (with_parity area))) ∙ ap (λ (i : TapeInfo). format_steps i.segments_per_track area) same ∙ sym (ap (λ (o : Outcome). first_steps o) is),
     )
 
 formatting_begins : (label : List ℕ) (date : ℕ) (info : TapeInfo) (words : List ℕ) (area : List (List ℕ)) (held : Option Cartridge) (outcome : Outcome) → info.protected ≡ false →
@@ -125,39 +128,49 @@ formatting_begins label date info words area (Some c) outcome mark fresh known m
     let one = fresh_area_is_one c label date words others area other (fresh_with label date info words area c same fresh marks) news in (
       [],
       append-nil (format_steps info.segments_per_track area) ∙ ap (λ (i : TapeInfo). format_steps i.segments_per_track area) same
-          ∙ ap (format_steps c.info.segments_per_track) one.1 ∙ sym (ap (λ (o : Outcome). o.steps) is),
+          ∙ ap (format_steps c.info.segments_per_track) one.1 ∙ sym (ap (λ (o : Outcome). first_steps o) is),
     )
 
 -- ---- how it ends
 
-pub format_absent : {T K : Type 0} (t : tapes.Meaning T) (k : sinks.Meaning K) (label : List ℕ) (date : ℕ) (a b : T) (x : K) (cartridge : Option TapeInfo) → ((z : K) → k.took z [] z) →
-    tapes.Done t a b [] → IfSome (t.told b) (λ there. cartridge ≡ option_map (λ c. c.info) there) → cartridge ≡ None → Ends t k (Format label date) a b x x status.NoCartridge
-format_absent t k label date a b x cartridge nothing did told none =
-    turned_down t k (Format label date) a b x status.NoCartridge [] nothing refl (λ is. cc)
-    (told_known (t.told a) None (λ h. Rules (Format label date) h (refused status.NoCartridge))
-    (subst (λ (i : Option TapeInfo). IfSome (t.told a) (Knows i)) none (known_before t a b cartridge did told)) (λ held known input. absent_is label date held known)) did
+is_blind : {label : List ℕ} {date : ℕ} → IsBlind (Format label date)
+is_blind = record { built = refl; reads = refl; goes = refl }
+
+no_cartridge : (label : List ℕ) (date : ℕ) (o : Option (Option Cartridge)) → IfSome o (λ held. held ≡ None) →
+    IfSome o (λ held. Rules (Format label date) held (refused status.NoCartridge))
+no_cartridge label date None none = tt
+no_cartridge label date (Some None) none = λ input. refl
+no_cartridge label date (Some (Some c)) none = absurd (cc)
+
+-- there was no start
+pub format_unstarted : {T K : Type 0} (t : tapes.Meaning T) (k : sinks.Meaning K) (label : List ℕ) (date : ℕ) (a b : T) (x : K) (why : Status) → ((z : K) → k.took z [] z) →
+    StartFails t a b why → EndsBlind t k (Format label date) a b x x why
+format_unstarted t k label date a b x why nothing (inl (is, did, none)) =
+    rw is (turned_down t k (Format label date) is_blind a b x status.NoCartridge nothing refl (λ same. cc) (no_cartridge label date (t.told a) none) did)
+format_unstarted t k label date a b x why nothing (inr (is, broke)) =
+    rw is (cut_off_first t k (Format label date) is_blind a b x nothing broke)
 
 pub format_faulted : {T K : Type 0} (t : tapes.Meaning T) (k : sinks.Meaning K) (label : List ℕ) (date : ℕ) (a b c : T) (x : K) (info : TapeInfo) (words : List ℕ) (f : FormatFault) →
     ((z : K) → k.took z [] z) → Present t a b info → (f ≡ fault.Protected) ↔ (info.protected ≡ true) → Formats t info.segments_per_track label date b c words (Err f) →
-    Ends t k (Format label date) a c x x (format_status f)
+    EndsBlind t k (Format label date) a c x x (format_status f)
 format_faulted t k label date a b c x info words fault.Protected nothing there marked came =
-    turned_down t k (Format label date) a c x status.Protected [] nothing refl (λ is. cc)
+    turned_down t k (Format label date) is_blind a c x status.Protected nothing refl (λ is. cc)
     (told_known (t.told a) (Some info) (λ h. Rules (Format label date) h (refused status.Protected)) there.known
     (λ held known input. protected_is label date info held (marked.0 refl) known)) (Done-Done there.did came)
 format_faulted t k label date a b c x info words (fault.DefectInFront segment) nothing there marked came =
     let unlocked : info.protected ≡ false = not_true info.protected (λ mark. let is = marked.1 mark in cc) in
-    turned_down t k (Format label date) a c x (status.DefectInFront segment) (clearing_steps info.segments_per_track) nothing refl (λ is. cc)
+    turned_behind t k (Format label date) is_blind a c x (status.DefectInFront segment) (clearing_steps info.segments_per_track) nothing refl (λ is. cc)
     (told_known_beside (t.told a) (Some info) (λ d. IsFirstDefectInFront d segment) (λ h. Rules (Format label date) h (cleared info.segments_per_track segment)) there.known
     (told_at_start t a b there.did (λ d. IsFirstDefectInFront d segment) came.first)
     (λ held known first input. cleared_is label date info segment held unlocked known first)) (Done-Done there.did came.did)
 format_faulted t k label date a b c x info words fault.Tape nothing there marked (inl broke) =
     let unlocked : info.protected ≡ false = not_true info.protected (λ mark. let is = marked.1 mark in cc) in
-    cut_off t k (Format label date) a c x (clearing_steps info.segments_per_track)
+    cut_off t k (Format label date) is_blind a c x (clearing_steps info.segments_per_track) nothing
     (told_known (t.told a) (Some info) (λ h. (outcome : Outcome) → Rules (Format label date) h outcome → BeginsSteps (clearing_steps info.segments_per_track) outcome) there.known
     (λ held known outcome rules. clearing_begins label date info held outcome unlocked known (rules []))) (Done-Broke there.did broke)
 format_faulted t k label date a b c x info words fault.Tape nothing there marked (inr came) =
     let unlocked : info.protected ≡ false = not_true info.protected (λ mark. let is = marked.1 mark in cc) in
-    cut_off t k (Format label date) a c x (format_steps info.segments_per_track came.area)
+    cut_off t k (Format label date) is_blind a c x (format_steps info.segments_per_track came.area) nothing
     (told_known_beside (t.told a) (Some info) (AreMarks words) (λ h. (outcome : Outcome) → Rules (Format label date) h outcome → BeginsSteps (format_steps info.segments_per_track came.area) outcome) there.known
     (told_at_start t a b there.did (AreMarks words) came.marks)
     (λ held known marks outcome rules. formatting_begins label date info words came.area held outcome unlocked came.fresh known marks (rules []))) (Done-Broke there.did came.broke)
@@ -175,18 +188,10 @@ line_is : {T : Type 0} (t : tapes.Meaning T) (label : List ℕ) (date n : ℕ) (
 line_is t label date n b c words report came =
     ap (λ (m : ℕ). formatted_line m report.bad) came.segments ∙ ap (formatted_line (28 * n)) came.bad
 
-pub format_done : {T K : Type 0} (t : tapes.Meaning T) (k : sinks.Meaning K) (label : List ℕ) (date : ℕ) (a b c : T) (x y : K) (info : TapeInfo) (words : List ℕ) (report : FormatReport) →
+pub format_printed : {T K : Type 0} (t : tapes.Meaning T) (k : sinks.Meaning K) (label : List ℕ) (date : ℕ) (a b c : T) (x y : K) (info : TapeInfo) (words : List ℕ) (report : FormatReport) (r : Result (Unit {0}) SinkFailed) →
     Present t a b info → info.protected ≡ false → HasFormatted t info.segments_per_track label date b c words report →
-    sinks.Wrote k x y (formatted_line report.segments report.bad) → Ends t k (Format label date) a c x y status.Done
-format_done t k label date a b c x y info words report there unlocked came wrote =
-    done t k (Format label date) a c x y (formatted info.segments_per_track words came.area) refl refl (28 * info.segments_per_track, (marked_sectors words, refl))
+    sinks.Writes k x y (formatted_line report.segments report.bad) r → EndsBlind t k (Format label date) a c x y (printed_status r)
+format_printed t k label date a b c x y info words report r there unlocked came writes =
+    printed t k (Format label date) is_blind a c x y (formatted info.segments_per_track words came.area) r refl refl (28 * info.segments_per_track, (marked_sectors words, refl))
     (told_formatted t label date a b c info words report there unlocked came) (Done-Done there.did came.did)
-    (subst (sinks.Wrote k x y) (line_is t label date info.segments_per_track b c words report came) wrote)
-
-pub format_unprinted : {T K : Type 0} (t : tapes.Meaning T) (k : sinks.Meaning K) (label : List ℕ) (date : ℕ) (a b c : T) (x y : K) (info : TapeInfo) (words : List ℕ) (report : FormatReport) →
-    Present t a b info → info.protected ≡ false → HasFormatted t info.segments_per_track label date b c words report →
-    sinks.BrokeOff k x y (formatted_line report.segments report.bad) → Ends t k (Format label date) a c x y status.SinkFault
-format_unprinted t k label date a b c x y info words report there unlocked came broke =
-    unprinted t k (Format label date) a c x y (formatted info.segments_per_track words came.area) refl refl
-    (told_formatted t label date a b c info words report there unlocked came) (Done-Done there.did came.did)
-    (subst (sinks.BrokeOff k x y) (line_is t label date info.segments_per_track b c words report came) broke)
+    (subst (λ (text : List ℕ). sinks.Writes k x y text r) (line_is t label date info.segments_per_track b c words report came) writes)

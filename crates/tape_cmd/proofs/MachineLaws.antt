@@ -6,8 +6,10 @@ use Rattle.tape_script.specs.declared.words.Words.{Words}
 use Rattle.tape_script.specs.Words.{IsCommand, IsNoCommand, OneCommand, EachWords}
 use Rattle.tape_cmd.specs.declared.status.Status.{Status}
 use Rattle.tape_cmd.specs.declared.status.Status.TheVariants as status
-use Rattle.tape_cmd.specs.Plain.{Outcome, Plain, is_built}
-use Rattle.tape_cmd.specs.Machine.{SpellsNone, Step}
+use Rattle.acts.specs.Acts.{steps_of}
+use Rattle.tape_cmd.specs.Outcome.{Outcome, output_of}
+use Rattle.tape_cmd.specs.Traits.{traits_of}
+use Rattle.tape_cmd.specs.Machine.{Plain, SpellsNone, Step}
 use Rattle.tape_cmd.specs.Laws.{IsSameOutcome, MachineIsFunction, MachineAnswers}
 use Rattle.tape_cmd.proofs.PlainLaws.{plain_is_function}
 use Rattle.tape_cmd.proofs.Totals.{plain_answers}
@@ -17,8 +19,8 @@ use Rattle.tape_cmd.proofs.Values.{has_values}
 pub record Does (command : Words) (held : Option Cartridge) (input : List ℕ) (held' : Option Cartridge) (output : List ℕ) (taken : ℕ) (answer : Status) : Type 0 where
   pub outcome : Outcome
   pub plain : Plain command held input outcome
-  pub after : held' ≡ effects outcome.steps held
-  pub printed : output ≡ outcome.output
+  pub after : held' ≡ effects (steps_of outcome.acts) held
+  pub printed : output ≡ output_of outcome
   pub took : taken ≡ outcome.taken
   pub answered : answer ≡ outcome.status
 
@@ -27,8 +29,8 @@ same_outcome : (command : Words) (held : Option Cartridge) (input : List ℕ) (h
 same_outcome command held input held' other output printed taken read one two a b =
     let same = plain_is_function command held input a.outcome b.outcome a.plain b.plain in
     record {
-      same_held = a.after ∙ ap (λ (o : Outcome). effects o.steps held) same ∙ sym b.after;
-      same_output = a.printed ∙ ap (λ (o : Outcome). o.output) same ∙ sym b.printed;
+      same_held = a.after ∙ ap (λ (o : Outcome). effects (steps_of o.acts) held) same ∙ sym b.after;
+      same_output = a.printed ∙ ap (λ (o : Outcome). output_of o) same ∙ sym b.printed;
       same_taken = a.took ∙ ap (λ (o : Outcome). o.taken) same ∙ sym b.took;
       same_status = a.answered ∙ ap (λ (o : Outcome). o.status) same ∙ sym b.answered;
     }
@@ -62,15 +64,15 @@ unfolding AnyStep
 no_step words held input none = (held, ([], (0, (status.Usage, inl (none, refl, refl, refl, refl)))))
 
 command_step : OneCommand → (words : List (List ℕ)) (held : Option Cartridge) (input : List ℕ) (command : Words) → IsCommand words command → IfSome held IsCartridge →
-    (built : Bool) → is_built command ≡ built → AnyStep words held input
+    (built : Bool) → (traits_of command).built ≡ built → AnyStep words held input
 unfolding AnyStep
 command_step unique words held input command spelled whole true is =
     let some = plain_answers command held input (has_values words command spelled) is whole in
-    (effects some.0.steps held, (some.0.output, (some.0.taken, (some.0.status, inr (command, record { spelled = spelled; built = is }, (some.0, some.1, refl, refl, refl, refl))))))
+    (effects (steps_of some.0.acts) held, (output_of some.0, (some.0.taken, (some.0.status, inr (command, record { spelled = spelled; built = is }, (some.0, some.1, refl, refl, refl, refl))))))
 command_step unique words held input command spelled whole false is =
     no_step words held input (λ other spells.
     let same : other ≡ command = unique words other command spells.spelled spelled in
-    let built : is_built command ≡ true = ap is_built (sym same) ∙ spells.built in
+    let built : (traits_of command).built ≡ true = ap (λ (w : Words). (traits_of w).built) (sym same) ∙ spells.built in
     cc)
 
 pub machine_answers_where : OneCommand → EachWords → MachineAnswers
@@ -78,5 +80,5 @@ unfolding AnyStep
 machine_answers_where unique each words held input whole = by_words (each words)
   where
     by_words : ((command : Words) × IsCommand words command) ⊎ IsNoCommand words → AnyStep words held input
-    by_words (inl (command, spelled)) = command_step unique words held input command spelled whole (is_built command) refl
+    by_words (inl (command, spelled)) = command_step unique words held input command spelled whole ((traits_of command).built) refl
     by_words (inr none) = no_step words held input (λ command spells. none command spells.spelled)

@@ -11,8 +11,18 @@ use Rattle.format_plan.specs.Fresh.{IsLabel}
 use Rattle.fresh_header.proofs.Front.{first_defect_or_none}
 use Rattle.fresh_header.proofs.Fresh.{fresh_area_exists}
 use Rattle.tape_pulses.proofs.MachineLaws.{each_outcome}
-use Rattle.tape_cmd.specs.Plain.{Outcome, HasPlace, LoseOutcome, DefectOutcome, ProtectOutcome, Printing, listing, telling, MountOutcome, FormatOutcome, sent, info_of, SentOutcome, HasValues, is_built, reads_input, Plain}
-use Rattle.tape_cmd.specs.Machine.{Rules}
+use Rattle.tape_cmd.specs.Outcome.{Outcome}
+use Rattle.tape_cmd.specs.Place.{HasPlace}
+use Rattle.tape_cmd.specs.Defect.{DefectOutcome}
+use Rattle.tape_cmd.specs.Lose.{LoseOutcome}
+use Rattle.tape_cmd.specs.Protect.{ProtectOutcome}
+use Rattle.tape_cmd.specs.Format.{FormatOutcome}
+use Rattle.tape_cmd.specs.Opening.{Printing, OpenOutcome}
+use Rattle.tape_cmd.specs.Info.{telling}
+use Rattle.tape_cmd.specs.List.{listing}
+use Rattle.tape_cmd.specs.Pulses.{sent, info_of, SentOutcome}
+use Rattle.tape_cmd.specs.Traits.{traits_of}
+use Rattle.tape_cmd.specs.Machine.{HasValues, Plain}
 
 -- a cartridge has a sector, or not
 place_or_not : (c : Cartridge) (segment sector : ℕ) → HasPlace c segment sector ⊎ ¬ (HasPlace c segment sector)
@@ -50,9 +60,9 @@ protect_answers : (on : Bool) (held : Option Cartridge) → (outcome : Outcome) 
 protect_answers on None = (_, refl)
 protect_answers on (Some c) = (_, refl)
 
-mount_answers : (prints : Printing) (held : Option Cartridge) → IfSome held IsCartridge → (outcome : Outcome) × MountOutcome prints held outcome
-mount_answers prints None whole = (_, refl)
-mount_answers prints (Some c) whole = let some = mounts_always c whole in (_, (some.0, some.1, refl))
+open_answers : (prints : Printing) (held : Option Cartridge) → IfSome held IsCartridge → (outcome : Outcome) × OpenOutcome prints held outcome
+open_answers prints None whole = (_, refl)
+open_answers prints (Some c) whole = let some = mounts_always c whole in (_, (some.0, some.1, refl))
 
 format_answers : (label : List ℕ) (date : ℕ) (held : Option Cartridge) → IsLabel label → date < 2 ^ 32 → IfSome held IsCartridge → (outcome : Outcome) × FormatOutcome label date held outcome
 format_answers label date None is few whole = (_, refl)
@@ -68,29 +78,16 @@ format_answers label date (Some c) is few whole = by_mark c.info.protected refl
     by_mark true is = (_, inl (is, refl))
     by_mark false is = by_front is (first_defect_or_none c)
 
--- one that reads no input has one whatever the input is
-pub rules_answer : (command : Words) (held : Option Cartridge) → HasValues command → is_built command ≡ true → reads_input command ≡ false → IfSome held IsCartridge → (outcome : Outcome) × Rules command held outcome
-rules_answer (words.New segments) held values built blind whole = (_, (λ input. refl))
-rules_answer (words.Defect segment sector) held values built blind whole = let some = defect_answers segment sector held in (some.0, (λ input. some.1))
-rules_answer (words.Lose segment sector) held values built blind whole = let some = lose_answers segment sector held in (some.0, (λ input. some.1))
-rules_answer (words.Protect on) held values built blind whole = let some = protect_answers on held in (some.0, (λ input. some.1))
-rules_answer words.List held values built blind whole = let some = mount_answers listing held whole in (some.0, (λ input. some.1))
-rules_answer (words.Format label date) held values built blind whole = let some = format_answers label date held values.0 values.1 whole in (some.0, (λ input. some.1))
-rules_answer words.Info held values built blind whole = let some = mount_answers telling held whole in (some.0, (λ input. some.1))
-rules_answer (words.Append name date) held values built blind whole = cc
-rules_answer (words.Restore number) held values built blind whole = cc
-rules_answer words.Scrub held values built blind whole = cc
-rules_answer words.Pulses held values built blind whole = cc
-rules_answer words.Script held values built blind whole = cc
-rules_answer (words.Make seed count) held values built blind whole = cc
-
 sent_answers : (held : Option Cartridge) (input : List ℕ) → (outcome : Outcome) × SentOutcome held input outcome
 sent_answers held input = let came = each_outcome (info_of held) input in (sent came.0, (came.0, came.1, refl))
 
-pub plain_answers : (command : Words) (held : Option Cartridge) (input : List ℕ) → HasValues command → is_built command ≡ true → IfSome held IsCartridge → (outcome : Outcome) × Plain command held input outcome
+pub plain_answers : (command : Words) (held : Option Cartridge) (input : List ℕ) → HasValues command → (traits_of command).built ≡ true → IfSome held IsCartridge → (outcome : Outcome) × Plain command held input outcome
+plain_answers (words.New segments) held input values built whole = (_, refl)
+plain_answers (words.Defect segment sector) held input values built whole = defect_answers segment sector held
+plain_answers (words.Lose segment sector) held input values built whole = lose_answers segment sector held
+plain_answers (words.Protect on) held input values built whole = protect_answers on held
+plain_answers (words.Format label date) held input values built whole = format_answers label date held values.0 values.1 whole
+plain_answers words.Info held input values built whole = open_answers telling held whole
+plain_answers words.List held input values built whole = open_answers listing held whole
 plain_answers words.Pulses held input values built whole = sent_answers held input
-plain_answers command held input values built whole = by_rules (reads_input command) refl
-  where
-    by_rules : (reads : Bool) → reads_input command ≡ reads → (outcome : Outcome) × Plain command held input outcome
-    by_rules false blind = let some = rules_answer command held values built blind whole in (some.0, some.1 input)
-    by_rules true reads = absurd (cc)
+plain_answers command held input values built whole = absurd (cc)

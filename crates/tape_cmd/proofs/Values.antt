@@ -9,7 +9,7 @@ use Rattle.tape_script.specs.declared.words.Words.{Words}
 use Rattle.tape_script.specs.declared.words.Words.TheVariants as words
 use Rattle.tape_script.specs.Forms.{Word, Name, IsDateWord, SpellsAll, HasForm}
 use Rattle.tape_script.specs.Words.{IsCommand}
-use Rattle.tape_cmd.specs.Plain.{HasValues}
+use Rattle.tape_cmd.specs.Machine.{HasValues}
 
 -- a name is a label
 printable_bytes : (text : List ℕ) → All IsPrintable text → All (λ b. b < 256) text
@@ -62,15 +62,5 @@ has_values (word ∷ []) (words.New segments) (inl spelled) = absurd spelled.1
 has_values (word ∷ []) (words.New segments) (inr spelled) = absurd spelled
 has_values (word ∷ number ∷ rest) (words.New segments) (inl spelled) = record { shortest = spelled.1.0.1; longest = spelled.1.0.2 }
 has_values (word ∷ number ∷ rest) (words.New segments) (inr spelled) = absurd spelled
-has_values ws (words.Defect segment sector) spelled = tt
-has_values ws (words.Lose segment sector) spelled = tt
-has_values ws (words.Protect on) spelled = tt
-has_values ws words.List spelled = tt
 has_values ws (words.Format label date) spelled = format_values ws label date spelled
-has_values ws words.Info spelled = tt
-has_values ws (words.Append name date) spelled = tt
-has_values ws (words.Restore number) spelled = tt
-has_values ws words.Scrub spelled = tt
-has_values ws words.Pulses spelled = tt
-has_values ws words.Script spelled = tt
-has_values ws (words.Make seed count) spelled = tt
+has_values ws command spelled = tt

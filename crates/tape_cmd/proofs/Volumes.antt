@@ -1,5 +1,5 @@
 -- What a run leaves of what a cartridge stands for, by what a stop in its command leaves.
-use Rattle.std.proofs.Common.{◌≡◌, ◌⊎◌, ℕ, Bool, true, List, [], ◌∷◌, Option, Some, IfSome, IsSomeAnd, sym, ap, ◌∙◌, subst, inl, inr, None, false, refl, arith}
+use Rattle.std.proofs.Common.{◌≡◌, ◌⊎◌, ℕ, Bool, true, List, [], ◌∷◌, ◌++◌, Option, Some, IfSome, IsSomeAnd, sym, ap, ◌∙◌, subst, inl, inr, None, false, refl, arith, append-nil}
 use Rattle.qic_base.specs.Cartridge.{Cartridge, IsCartridge, new_cartridge}
 use Rattle.qic_base.specs.Step.{Step as TapeStep, Renew, SetReferenced, SetProtected, Wear, Spoil, changed, effects}
 use Rattle.qic_base.specs.Stop.{Torn}
@@ -26,15 +26,28 @@ use Rattle.change_laws.proofs.Mounted.{worn_mounts, spoiled_mounts, protected_mo
 use Rattle.change_laws.proofs.Standing.{worn_stands, spoiled_stands, protected_stands, referenced_stands}
 use Rattle.tape_script.specs.declared.words.Words.{Words}
 use Rattle.tape_script.specs.declared.words.Words.TheVariants as commands
-use Rattle.tape_script.specs.Words.{IsCommand}
 use Rattle.tape_script.proofs.Commands.{one_command}
+use Rattle.acts.specs.Acts.{Act, steps_of, Outside, Failing, TapeFails, SourceFails, SinkFails, SinkCut}
 use Rattle.tape_cmd.specs.declared.status.Status.{Status}
 use Rattle.tape_cmd.specs.declared.status.Status.TheVariants as status
-use Rattle.tape_cmd.specs.Plain.{Outcome, HasPlace, SectorLeaves, NewOutcome, FormatOutcome, FormatLeaves, MountLeaves, CommandLeaves, reads_input}
-use Rattle.tape_cmd.specs.Machine.{Spells, SpellsNone, Rules, is_finding, Runs, RunsOver, EachLeft, EachNow, Leaves, WordsLeave}
+use Rattle.tape_cmd.specs.Outcome.{Outcome}
+use Rattle.tape_cmd.specs.Place.{HasPlace}
+use Rattle.tape_cmd.specs.New.{NewOutcome}
+use Rattle.tape_cmd.specs.Format.{FormatOutcome}
+use Rattle.tape_cmd.specs.Traits.{traits_of}
+use Rattle.tape_cmd.specs.Machine.{HasValues, Plain as Outcomes, Spells}
+use Rattle.tape_cmd.specs.Runs.{is_fault, fault_of, may_come_from, IsCutOff, Finished, Ends}
+use Rattle.tape_cmd.specs.Headline.{EachLeft, EachNow, StopLeaves, WordsLeave}
 use Rattle.tape_cmd.specs.Volumes.{KeepsVolumes, StillStands, VolumesStay, KeepsList, StillMounts, ListStays, StandsEmpty, FormatsOrNot, StopsFormat, StandsFresh, IsCarriedOut, IsChanged, IsBare}
-use Rattle.tape_cmd.proofs.Ends.{around, told_at, told_weaker, after_steps}
-use Rattle.tape_cmd.proofs.Runs.{told_whole}
+use Rattle.tape_cmd.proofs.Ends.{Laws, over_at, told_weaker, told_whole, after_steps, ends_finished}
+use Rattle.tape_cmd.proofs.PlainLaws.{SectorLeaves, OpeningLeaves, FormatLeaves, CommandLeaves, plain_leaves}
+use Rattle.tape_cmd.proofs.Totals.{plain_answers}
+
+-- an answer that tells of a change
+abbrev pub may_change : Status → Bool
+may_change status.Done = true
+may_change (status.DefectInFront segment) = true
+may_change answer = false
 
 -- ---- each that is left
 
@@ -57,9 +70,9 @@ sector_left : (P : Cartridge → Type 0) (step : TapeStep) (segment sector : ℕ
 sector_left P step segment sector c left before behind (inl same) = some_and P c left before same
 sector_left P step segment sector c left before behind (inr is) = some_and P (changed step c) left (behind is.0) is.1
 
-mount_stands : (c : Cartridge) (plain : Plain) (left : Option Cartridge) → Stands c plain → MountLeaves (Some c) left → IsSomeAnd left (λ d. Stands d plain)
-mount_stands c plain left stood (inl before) = same_stands c plain left stood before
-mount_stands c plain left stood (inr (header, (words, (table, (entries, mounts, torn))))) = stopped_stands c plain table left stood mounts.reads torn
+open_stands : (c : Cartridge) (plain : Plain) (left : Option Cartridge) → Stands c plain → OpeningLeaves (Some c) left → IsSomeAnd left (λ d. Stands d plain)
+open_stands c plain left stood (inl before) = same_stands c plain left stood before
+open_stands c plain left stood (inr (header, (words, (table, (entries, mounts, torn))))) = stopped_stands c plain table left stood mounts.reads torn
 
 format_stands : (label : List ℕ) (date : ℕ) (c : Cartridge) (plain : Plain) (left : Option Cartridge) → Stands c plain → c.info.protected ≡ true →
     FormatLeaves label date (Some c) left → IsSomeAnd left (λ d. Stands d plain)
@@ -86,30 +99,30 @@ command_stands (commands.Lose segment sector) c plain left stood keeps leaves =
     sector_left (λ d. Stands d plain) (Wear segment sector) segment sector c left stood
     (λ place. worn_stands c plain segment sector place.in_segment stood (keeps place)) leaves
 command_stands (commands.Protect on) c plain left stood keeps leaves = protect_stands on c plain left stood leaves
-command_stands commands.List c plain left stood keeps leaves = mount_stands c plain left stood leaves
+command_stands commands.List c plain left stood keeps leaves = open_stands c plain left stood leaves
 command_stands (commands.Format label date) c plain left stood keeps leaves = format_stands label date c plain left stood keeps leaves
-command_stands commands.Info c plain left stood keeps leaves = mount_stands c plain left stood leaves
-command_stands (commands.Append name date) c plain left stood keeps leaves = same_stands c plain left stood leaves
-command_stands (commands.Restore number) c plain left stood keeps leaves = same_stands c plain left stood leaves
-command_stands commands.Scrub c plain left stood keeps leaves = same_stands c plain left stood leaves
+command_stands commands.Info c plain left stood keeps leaves = open_stands c plain left stood leaves
 command_stands commands.Pulses c plain left stood keeps leaves = pulses_stand c plain left stood leaves
-command_stands commands.Script c plain left stood keeps leaves = same_stands c plain left stood leaves
-command_stands (commands.Make seed count) c plain left stood keeps leaves = same_stands c plain left stood leaves
+command_stands command c plain left stood keeps leaves = absurd leaves
 
-still_stands : (words : List (List ℕ)) (held left : Option Cartridge) → WordsLeave words held left → StillStands words held left
-still_stands words held left (inl same) c plain is stood keep = same_stands c plain left stood (same ∙ is)
-still_stands words held left (inr (command, spells, leaves)) c plain is stood keep =
+-- what a command leaves, by the command
+by_command_left : (told : Option (List ℕ)) (command : Words) (held left : Option Cartridge) → StopLeaves told command held left → CommandLeaves command held left
+by_command_left told command held left leaves = plain_leaves command held left leaves.input leaves.outcome leaves.plain leaves.torn
+
+still_stands : (told : Option (List ℕ)) (words : List (List ℕ)) (held left : Option Cartridge) → WordsLeave told words held left → StillStands words held left
+still_stands told words held left (inl same) c plain is stood keep = same_stands c plain left stood (same ∙ is)
+still_stands told words held left (inr (command, spells, leaves)) c plain is stood keep =
     command_stands command c plain left stood (keep command spells)
-    (subst (λ (h : Option Cartridge). CommandLeaves command h left) is leaves)
+    (subst (λ (h : Option Cartridge). CommandLeaves command h left) is (by_command_left told command held left leaves))
 
-pub volumes_stay : {T : Type 0} (t : tapes.Meaning T) (words : List (List ℕ)) (a b : T) → tapes.IsToldRight (t.told a) (t.size a) → Leaves t words a b → VolumesStay t words a b
-volumes_stay t words a b right leaves = each_weaker t a b right (λ held left whole is. still_stands words held left is) leaves
+pub volumes_stay : {T : Type 0} (t : tapes.Meaning T) (told : Option (List ℕ)) (words : List (List ℕ)) (a b : T) → tapes.IsToldRight (t.told a) (t.size a) → EachLeft t a b (WordsLeave told words) → VolumesStay t words a b
+volumes_stay t told words a b right leaves = each_weaker t a b right (λ held left whole is. still_stands told words held left is) leaves
 
 -- ---- commands that keep the list
 
-mount_mounts : (c : Cartridge) (m : Mounting) (left : Option Cartridge) → Mounts c m → MountLeaves (Some c) left → IsSomeAnd left (λ d. Mounts d m)
-mount_mounts c m left mounts (inl before) = some_and (λ d. Mounts d m) c left mounts before
-mount_mounts c m left mounts (inr (header, (words, (table, (entries, again, torn))))) =
+open_mounts : (c : Cartridge) (m : Mounting) (left : Option Cartridge) → Mounts c m → OpeningLeaves (Some c) left → IsSomeAnd left (λ d. Mounts d m)
+open_mounts c m left mounts (inl before) = some_and (λ d. Mounts d m) c left mounts before
+open_mounts c m left mounts (inr (header, (words, (table, (entries, again, torn))))) =
     let same : Mounted header words table entries ≡ m = mounts_is_function c (Mounted header words table entries) m again mounts in
     subst (λ (n : Mounting). IsSomeAnd left (λ d. Mounts d n)) same (stopped_mounts c header words table entries left again torn)
 
@@ -142,25 +155,21 @@ command_mounts command c header words table entries left mounts keeps leaves = b
         sector_left P (Wear segment sector) segment sector c left mounts
         (λ place. worn_mounts c segment sector header words table entries place.in_segment (behind place) mounts) is
     by_command (commands.Protect on) none is = protect on is
-    by_command commands.List none is = mount_mounts c (Mounted header words table entries) left mounts is
+    by_command commands.List none is = open_mounts c (Mounted header words table entries) left mounts is
     by_command (commands.Format label date) locked is = format label date locked is
-    by_command commands.Info none is = mount_mounts c (Mounted header words table entries) left mounts is
-    by_command (commands.Append name date) none is = some_and P c left mounts is
-    by_command (commands.Restore number) none is = some_and P c left mounts is
-    by_command commands.Scrub none is = some_and P c left mounts is
+    by_command commands.Info none is = open_mounts c (Mounted header words table entries) left mounts is
     by_command commands.Pulses none is = pulses is
-    by_command commands.Script none is = some_and P c left mounts is
-    by_command (commands.Make seed count) none is = some_and P c left mounts is
+    by_command w none is = absurd is
 
-still_mounts : (words : List (List ℕ)) (held left : Option Cartridge) → WordsLeave words held left → StillMounts words held left
-still_mounts words held left (inl same) c header map_words table entries is mounts keep =
+still_mounts : (told : Option (List ℕ)) (words : List (List ℕ)) (held left : Option Cartridge) → WordsLeave told words held left → StillMounts words held left
+still_mounts told words held left (inl same) c header map_words table entries is mounts keep =
     some_and (λ d. Mounts d (Mounted header map_words table entries)) c left mounts (same ∙ is)
-still_mounts words held left (inr (command, spells, leaves)) c header map_words table entries is mounts keep =
+still_mounts told words held left (inr (command, spells, leaves)) c header map_words table entries is mounts keep =
     command_mounts command c header map_words table entries left mounts (keep command spells)
-    (subst (λ (h : Option Cartridge). CommandLeaves command h left) is leaves)
+    (subst (λ (h : Option Cartridge). CommandLeaves command h left) is (by_command_left told command held left leaves))
 
-pub list_stays : {T : Type 0} (t : tapes.Meaning T) (words : List (List ℕ)) (a b : T) → tapes.IsToldRight (t.told a) (t.size a) → Leaves t words a b → ListStays t words a b
-list_stays t words a b right leaves = each_weaker t a b right (λ held left whole is. still_mounts words held left is) leaves
+pub list_stays : {T : Type 0} (t : tapes.Meaning T) (told : Option (List ℕ)) (words : List (List ℕ)) (a b : T) → tapes.IsToldRight (t.told a) (t.size a) → EachLeft t a b (WordsLeave told words) → ListStays t words a b
+list_stays t told words a b right leaves = each_weaker t a b right (λ held left whole is. still_mounts told words held left is) leaves
 
 -- ---- formatting
 
@@ -201,32 +210,32 @@ format_bare label date c left whole bare unformatted (inr (inr (free, none, (wor
     (stopped_format_new c label date words area left whole bare is_fresh torn)
 
 -- what words of formatting leave: what the drive held, or what a stop in the formatting leaves
-left_by_format : (words : List (List ℕ)) (held left : Option Cartridge) (label : List ℕ) (date : ℕ) (c : Cartridge) → Spells words (commands.Format label date) → held ≡ Some c →
-    WordsLeave words held left → (left ≡ Some c) ⊎ FormatLeaves label date (Some c) left
-left_by_format words held left label date c spells is (inl same) = inl (same ∙ is)
-left_by_format words held left label date c spells is (inr (command, spelled, leaves)) =
+left_by_format : (told : Option (List ℕ)) (words : List (List ℕ)) (held left : Option Cartridge) (label : List ℕ) (date : ℕ) (c : Cartridge) → Spells words (commands.Format label date) → held ≡ Some c →
+    WordsLeave told words held left → (left ≡ Some c) ⊎ FormatLeaves label date (Some c) left
+left_by_format told words held left label date c spells is (inl same) = inl (same ∙ is)
+left_by_format told words held left label date c spells is (inr (command, spelled, leaves)) =
     let same : command ≡ commands.Format label date = one_command words command (commands.Format label date) spelled.spelled spells.spelled in
-    inr (subst (λ (w : Words). CommandLeaves w (Some c) left) same (subst (λ (h : Option Cartridge). CommandLeaves command h left) is leaves))
+    inr (subst (λ (w : Words). CommandLeaves w (Some c) left) same (subst (λ (h : Option Cartridge). CommandLeaves command h left) is (by_command_left told command held left leaves)))
 
 whole_of : (held : Option Cartridge) (c : Cartridge) → IfSome held IsCartridge → held ≡ Some c → IsCartridge c
 whole_of held c whole is = subst (λ (h : Option Cartridge). IfSome h IsCartridge) is whole
 
-formats_or_not : (words : List (List ℕ)) (held left : Option Cartridge) → IfSome held IsCartridge → WordsLeave words held left → FormatsOrNot words held left
-formats_or_not words held left whole leaves = record {
+formats_or_not : (told : Option (List ℕ)) (words : List (List ℕ)) (held left : Option Cartridge) → IfSome held IsCartridge → WordsLeave told words held left → FormatsOrNot words held left
+formats_or_not told words held left whole leaves = record {
   standing = λ label date c plain spells is stood.
-      elim (left_by_format words held left label date c spells is leaves) [
+      elim (left_by_format told words held left label date c spells is leaves) [
         | inl same ↦ some_and (λ d. Stands d plain ⊎ IsUnformatted d ⊎ StandsEmpty c label date d) c left (inl stood.stands) same
         | inr formatting ↦ format_standing label date c plain left (whole_of held c whole is) stood formatting
       ];
   bare = λ label date c spells is none.
-      elim (left_by_format words held left label date c spells is leaves) [
+      elim (left_by_format told words held left label date c spells is leaves) [
         | inl same ↦ some_and (λ d. IsUnformatted d ⊎ StandsEmpty c label date d) c left (inl (unformatted_from_bare c none)) same
         | inr formatting ↦ format_bare label date c left (whole_of held c whole is) none (unformatted_from_bare c none) formatting
       ];
 }
 
-pub stops_format : {T : Type 0} (t : tapes.Meaning T) (words : List (List ℕ)) (a b : T) → tapes.IsToldRight (t.told a) (t.size a) → Leaves t words a b → StopsFormat t words a b
-stops_format t words a b right leaves = each_weaker t a b right (λ held left whole is. formats_or_not words held left whole is) leaves
+pub stops_format : {T : Type 0} (t : tapes.Meaning T) (told : Option (List ℕ)) (words : List (List ℕ)) (a b : T) → tapes.IsToldRight (t.told a) (t.size a) → EachLeft t a b (WordsLeave told words) → StopsFormat t words a b
+stops_format t told words a b right leaves = each_weaker t a b right (λ held left whole is. formats_or_not told words held left whole is) leaves
 
 -- ---- when a run is over
 
@@ -249,57 +258,100 @@ now_weaker t a b follows each = record {
   now = λ left telling stops. follows left (each.now left telling stops);
 }
 
--- a command's outcome with such a status was done
-record Did {T : Type 0} (t : tapes.Meaning T) (command : Words) (a b : T) (is : Status) : Type 0 where
+-- over what was told, an outcome with this status was done
+record Did {T : Type 0} (t : tapes.Meaning T) (command : Words) (a b : T) (held : Option Cartridge) (is : Status) : Type 0 where
+  input : List ℕ
   outcome : Outcome
   sound : outcome.status ≡ is
-  told : IfSome (t.told a) (λ held. Rules command held outcome)
-  did : tapes.Done t a b outcome.steps
+  plain : Outcomes command held input outcome
+  did : tapes.Done t a b (steps_of outcome.acts)
 
-module _ {T K : Type 0} (t : tapes.Meaning T) (k : sinks.Meaning K) (command : Words) (a b : T) (x y : K) (answer : Status) where
-  carried_out_did : IsCarriedOut answer → Runs t k command a b x y answer → Did t command a b status.Done
-  carried_out_did (inl done) (inl (unbuilt, is, tape, sink)) = absurd (cc)
-  carried_out_did (inr fault) (inl (unbuilt, is, tape, sink)) = absurd (cc)
-  carried_out_did (inl done) (inr (inl (built, takes, is, tape, sink))) = absurd (cc)
-  carried_out_did (inr fault) (inr (inl (built, takes, is, tape, sink))) = absurd (cc)
-  carried_out_did (inl done) (inr (inr (built, (inl ended)))) = record { outcome = ended.outcome; sound = sym ended.answered ∙ done; told = ended.told; did = ended.did }
-  carried_out_did (inr fault) (inr (inr (built, (inl ended)))) = let no = ap (is_finding command) fault in let sound = ended.sound in absurd (cc)
-  carried_out_did which (inr (inr (built, (inr (inl broke))))) = record { outcome = broke.outcome; sound = broke.carried_out; told = broke.told; did = broke.did }
-  carried_out_did (inl done) (inr (inr (built, (inr (inr broke))))) = let is = broke.answered in absurd (cc)
-  carried_out_did (inr fault) (inr (inr (built, (inr (inr broke))))) = let is = broke.answered in absurd (cc)
+-- a fault of the sink in the only act comes when all steps are done
+only_act : (front rest : List Act) (act only : Act) → front ++ act ∷ rest ≡ only ∷ [] → steps_of front ++ act.steps ≡ steps_of (only ∷ [])
+only_act [] rest act only parts =
+    let same : act ≡ only = cc in ap (λ (a : Act). a.steps) same ∙ sym (append-nil only.steps)
+only_act (first ∷ []) rest act only parts = cc
+only_act (first ∷ second ∷ front) rest act only parts = cc
 
-  cleared_did : (segment : ℕ) → answer ≡ status.DefectInFront segment → Runs t k command a b x y answer → Did t command a b (status.DefectInFront segment)
-  cleared_did segment front (inl (unbuilt, is, tape, sink)) = absurd (cc)
-  cleared_did segment front (inr (inl (built, takes, is, tape, sink))) = absurd (cc)
-  cleared_did segment front (inr (inr (built, (inl ended)))) = record { outcome = ended.outcome; sound = sym ended.answered ∙ front; told = ended.told; did = ended.did }
-  cleared_did segment front (inr (inr (built, (inr (inl broke))))) = let is = broke.answered in absurd (cc)
-  cleared_did segment front (inr (inr (built, (inr (inr broke))))) = let is = broke.answered in absurd (cc)
+no_act : (front rest : List Act) (act : Act) → front ++ act ∷ rest ≡ [] → ⊥
+no_act [] rest act parts = cc
+no_act (first ∷ front) rest act parts = cc
 
--- what a command's rule gives, over what was told
-did_rule : {T : Type 0} (t : tapes.Meaning T) (command other : Words) (a b : T) (is : Status) (held : Option Cartridge) → command ≡ other → t.told a ≡ Some held → (d : Did t command a b is) →
-    Rules other held d.outcome
-did_rule t command other a b is held same told d =
-    subst (λ (w : Words). Rules w held d.outcome) same (told_at (t.told a) (λ h. Rules command h d.outcome) held d.told told)
+abbrev IsOne : List Act → Type 0
+IsOne acts = (acts ≡ []) ⊎ ((only : Act) × (acts ≡ only ∷ []))
+
+sink_did : {T S K : Type 0} (t : tapes.Meaning T) (s : sources.Meaning S) (k : sinks.Meaning K) (old new : Outside T S K) (acts : List Act) → IsOne acts →
+    SinkCut t s k old new acts → tapes.Done t old.tape new.tape (steps_of acts)
+sink_did t s k old new acts (inl none) cut = absurd (no_act cut.at.front cut.at.rest cut.at.act (cut.at.parts ∙ none))
+sink_did t s k old new acts (inr (only, is)) cut =
+    subst (tapes.Done t old.tape new.tape)
+    (only_act cut.at.front cut.at.rest cut.at.act only (cut.at.parts ∙ is) ∙ ap (λ (xs : List Act). steps_of xs) (sym is)) cut.did
+
+one_of_format : (label : List ℕ) (date : ℕ) (c : Cartridge) (outcome : Outcome) → FormatOutcome label date (Some c) outcome → IsOne outcome.acts
+one_of_format label date c outcome (inl (locked, is)) = inl (ap (λ (o : Outcome). o.acts) is)
+one_of_format label date c outcome (inr (inl (free, (segment, first, is)))) = inr (_, ap (λ (o : Outcome). o.acts) is)
+one_of_format label date c outcome (inr (inr (free, none, (words, (area, fresh, is))))) = inr (_, ap (λ (o : Outcome). o.acts) is)
+
+one_of_new : (segments : ℕ) (outcome : Outcome) → NewOutcome segments outcome → IsOne outcome.acts
+one_of_new segments outcome plain = inr (_, ap (λ (o : Outcome). o.acts) plain)
+
+module _ {T S K : Type 0} (t : tapes.Meaning T) (s : sources.Meaning S) (k : sinks.Meaning K) (command : Words) (old new : Outside T S K) (answer : Status) where
+  finished_did : (held : Option Cartridge) (is : Status) → t.told old.tape ≡ Some held → Finished t s k command old new answer → answer ≡ is →
+      Did t command old.tape new.tape held is
+  finished_did held is told finished same =
+      let over = over_at (t.told old.tape) _ held finished.told told in record {
+        input = over.0;
+        outcome = finished.outcome;
+        sound = sym finished.answered ∙ same;
+        plain = over.2;
+        did = finished.went.did;
+      }
+
+  not_otherwise : (failing : Failing) → IsCarriedOut answer → answer ≡ fault_of failing → failing ≡ SinkFails
+  not_otherwise TapeFails (inl done) is = absurd (cc)
+  not_otherwise TapeFails (inr fault) is = absurd (cc)
+  not_otherwise SourceFails (inl done) is = absurd (cc)
+  not_otherwise SourceFails (inr fault) is = absurd (cc)
+  not_otherwise SinkFails which is = refl
+
+  -- it was carried out, though its output may be cut off
+  carried_out_did : (held : Option Cartridge) → IfSome held IsCartridge → (traits_of command).built ≡ true → HasValues command → (traits_of command).goes ≡ false →
+      ((input : List ℕ) (outcome : Outcome) → Outcomes command held input outcome → IsOne outcome.acts) → t.told old.tape ≡ Some held →
+      IsCarriedOut answer → Ends t s k command old new answer → Did t command old.tape new.tape held status.Done
+  carried_out_did held whole built values still one told (inl done) (inl finished) = finished_did held status.Done told finished done
+  carried_out_did held whole built values still one told (inr fault) (inl finished) =
+      let no = ap (λ (a : Status). may_come_from a command) fault in let sound = finished.sound in absurd (cc)
+  carried_out_did held whole built values still one told which (inr (failing, is, stopped)) =
+      let sink : failing ≡ SinkFails = not_otherwise failing which is in
+      let over = over_at (t.told old.tape) _ held stopped.told told in
+      let some = plain_answers command held over.0 values built whole in
+      let off : IsCutOff t s k command old new SinkFails some.0 = subst (λ (f : Failing). IsCutOff t s k command old new f some.0) sink (over.2 some.0 some.1) in record {
+        input = over.0;
+        outcome = some.0;
+        sound = off.done refl still;
+        plain = some.1;
+        did = sink_did t s k old new some.0.acts (one over.0 some.0 some.1) off.cut;
+      }
 
 renewed_effect : (segments : ℕ) (held : Option Cartridge) → effects (Renew segments ∷ []) held ≡ Some (new_cartridge segments)
 renewed_effect segments None = refl
 renewed_effect segments (Some c) = refl
 
 formatted_fresh : (label : List ℕ) (date : ℕ) (c : Cartridge) (outcome : Outcome) → IsCartridge c → FormatOutcome label date (Some c) outcome → outcome.status ≡ status.Done →
-    IsSomeAnd (effects outcome.steps (Some c)) (StandsFresh c label date)
+    IsSomeAnd (effects (steps_of outcome.acts) (Some c)) (StandsFresh c label date)
 formatted_fresh label date c outcome whole (inl (locked, is)) done = let other = ap (λ (o : Outcome). o.status) is in absurd (cc)
 formatted_fresh label date c outcome whole (inr (inl (free, (segment, first, is)))) done = let other = ap (λ (o : Outcome). o.status) is in absurd (cc)
 formatted_fresh label date c outcome whole (inr (inr (free, none, (words, (area, fresh, is))))) done =
     let n : ℕ = c.info.segments_per_track in
     let is_fresh : IsFreshFor c label date words area = fresh_for c label date words area none fresh in
-    some_and (StandsFresh c label date) (changed_by (format_steps n area) c) (effects outcome.steps (Some c))
+    some_and (StandsFresh c label date) (changed_by (format_steps n area) c) (effects (steps_of outcome.acts) (Some c))
     (record {
       words = words;
       area = area;
       fresh = is_fresh;
       stands = formatted_stands c (changed_by (format_steps n area) c) label date words area whole is_fresh (formatting_formats c area whole fresh.fresh.size none);
     })
-    (ap (λ (o : Outcome). effects o.steps (Some c)) is ∙ effects-some (format_steps n area) c)
+    (ap (λ (o : Outcome). effects (steps_of o.acts) (Some c)) is ∙ ap (λ (steps : List TapeStep). effects steps (Some c)) (append-nil (format_steps n area)) ∙ effects-some (format_steps n area) c)
 
 cleared_bare : (c : Cartridge) → IsCartridge c → IsBare (changed_by (clearing_steps c.info.segments_per_track) c)
 cleared_bare c whole =
@@ -311,56 +363,59 @@ cleared_bare c whole =
     (bare, unformatted_from_bare d bare)
 
 cleared_is_bare : (label : List ℕ) (date front : ℕ) (c : Cartridge) (outcome : Outcome) → IsCartridge c → FormatOutcome label date (Some c) outcome → outcome.status ≡ status.DefectInFront front →
-    IsSomeAnd (effects outcome.steps (Some c)) IsBare
+    IsSomeAnd (effects (steps_of outcome.acts) (Some c)) IsBare
 cleared_is_bare label date front c outcome whole (inl (locked, is)) done = let other = ap (λ (o : Outcome). o.status) is in absurd (cc)
 cleared_is_bare label date front c outcome whole (inr (inl (free, (segment, first, is)))) done =
     let n : ℕ = c.info.segments_per_track in
-    some_and IsBare (changed_by (clearing_steps n) c) (effects outcome.steps (Some c)) (cleared_bare c whole)
-    (ap (λ (o : Outcome). effects o.steps (Some c)) is ∙ effects-some (clearing_steps n) c)
+    some_and IsBare (changed_by (clearing_steps n) c) (effects (steps_of outcome.acts) (Some c)) (cleared_bare c whole)
+    (ap (λ (o : Outcome). effects (steps_of o.acts) (Some c)) is ∙ ap (λ (steps : List TapeStep). effects steps (Some c)) (append-nil (clearing_steps n)) ∙ effects-some (clearing_steps n) c)
 cleared_is_bare label date front c outcome whole (inr (inr (free, none, (words, (area, fresh, is))))) done = let other = ap (λ (o : Outcome). o.status) is in absurd (cc)
 
--- a command that reads no input ran as such
-blind_runs : {T S K : Type 0} (t : tapes.Meaning T) (s : sources.Meaning S) (k : sinks.Meaning K) (command other : Words) (a b : T) (i j : S) (x y : K) (answer : Status) →
-    command ≡ other → reads_input other ≡ false → RunsOver t s k command (around a i x) (around b j y) answer → Runs t k command a b x y answer
-blind_runs t s k command other a b i j x y answer same blind (inl runs) = runs.runs
-blind_runs t s k command other a b i j x y answer same blind (inr reading) = let reads = reading.reads in let none = ap reads_input same in absurd (cc)
-
-pub is_changed : {T S K : Type 0} (t : tapes.Meaning T) (s : sources.Meaning S) (k : sinks.Meaning K) (words : List (List ℕ)) (command : Words) (a b : T) (i j : S) (x y : K) (answer : Status) →
-    IsCommand words command → tapes.IsToldRight (t.told a) (t.size a) → tapes.IsLeftNow t b → RunsOver t s k command (around a i x) (around b j y) answer → IsChanged t words a b answer
-is_changed t s k words command a b i j x y answer spelled right after runs = record {
+pub is_changed : {T S K : Type 0} (t : tapes.Meaning T) (s : sources.Meaning S) (k : sinks.Meaning K) (words : List (List ℕ)) (command : Words) (old new : Outside T S K) (answer : Status) →
+    Laws t s k old new → Spells words command → HasValues command → Ends t s k command old new answer → IsChanged t words old.tape new.tape answer
+is_changed t s k words command old new answer laws spelled values ends = record {
   renewed = λ segments held which spells told.
-      let same : command ≡ commands.New segments = one_command words command (commands.New segments) spelled spells.spelled in
-      let d : Did t command a b status.Done = carried_out_did t k command a b x y answer which (blind_runs t s k command (commands.New segments) a b i j x y answer same refl runs) in
-      let rule : NewOutcome segments d.outcome = did_rule t command (commands.New segments) a b status.Done held same told d [] in
-      now_weaker t a b
-      (λ left is. is ∙ ap (λ (o : Outcome). effects o.steps held) rule ∙ renewed_effect segments held)
-      (done_now t a b d.outcome.steps held after d.did told);
+      let other : Words = commands.New segments in
+      let same : command ≡ other = one_command words command other spelled.spelled spells.spelled in
+      let d : Did t other old.tape new.tape held status.Done =
+      carried_out_did t s k other old new answer held (told_whole held (t.told old.tape) (t.size old.tape) laws.right told) refl
+      (subst HasValues same values) refl (λ input outcome plain. one_of_new segments outcome plain) told which (subst (λ (w : Words). Ends t s k w old new answer) same ends) in
+      now_weaker t old.tape new.tape
+      (λ left is. is ∙ ap (λ (o : Outcome). effects (steps_of o.acts) held) d.plain ∙ renewed_effect segments held)
+      (done_now t old.tape new.tape (steps_of d.outcome.acts) held laws.after d.did told);
   formatted = λ label date c which spells told.
       let other : Words = commands.Format label date in
-      let same : command ≡ other = one_command words command other spelled spells.spelled in
-      let d : Did t command a b status.Done = carried_out_did t k command a b x y answer which (blind_runs t s k command other a b i j x y answer same refl runs) in
-      let rule : FormatOutcome label date (Some c) d.outcome = did_rule t command other a b status.Done (Some c) same told d [] in
-      let fresh : IsSomeAnd (effects d.outcome.steps (Some c)) (StandsFresh c label date) =
-      formatted_fresh label date c d.outcome (told_whole (Some c) (t.told a) (t.size a) right told) rule d.sound in
-      now_weaker t a b
+      let same : command ≡ other = one_command words command other spelled.spelled spells.spelled in
+      let whole : IsCartridge c = told_whole (Some c) (t.told old.tape) (t.size old.tape) laws.right told in
+      let d : Did t other old.tape new.tape (Some c) status.Done =
+      carried_out_did t s k other old new answer (Some c) whole refl
+      (subst HasValues same values) refl (λ input outcome plain. one_of_format label date c outcome plain) told which (subst (λ (w : Words). Ends t s k w old new answer) same ends) in
+      let fresh : IsSomeAnd (effects (steps_of d.outcome.acts) (Some c)) (StandsFresh c label date) =
+      formatted_fresh label date c d.outcome whole d.plain d.sound in
+      now_weaker t old.tape new.tape
       (λ left is. subst (λ (o : Option Cartridge). IsSomeAnd o (StandsFresh c label date)) (sym is) fresh)
-      (done_now t a b d.outcome.steps (Some c) after d.did told);
+      (done_now t old.tape new.tape (steps_of d.outcome.acts) (Some c) laws.after d.did told);
   cleared = λ label date segment c front spells told.
       let other : Words = commands.Format label date in
-      let same : command ≡ other = one_command words command other spelled spells.spelled in
-      let d : Did t command a b (status.DefectInFront segment) = cleared_did t k command a b x y answer segment front (blind_runs t s k command other a b i j x y answer same refl runs) in
-      let rule : FormatOutcome label date (Some c) d.outcome = did_rule t command other a b (status.DefectInFront segment) (Some c) same told d [] in
-      let none : IsSomeAnd (effects d.outcome.steps (Some c)) IsBare =
-      cleared_is_bare label date segment c d.outcome (told_whole (Some c) (t.told a) (t.size a) right told) rule d.sound in
-      now_weaker t a b
+      let same : command ≡ other = one_command words command other spelled.spelled spells.spelled in
+      let whole : IsCartridge c = told_whole (Some c) (t.told old.tape) (t.size old.tape) laws.right told in
+      let finished : Finished t s k other old new answer =
+      ends_finished t s k words other old new answer (subst (λ (w : Words). Ends t s k w old new answer) same ends) (ap is_fault front) in
+      let d : Did t other old.tape new.tape (Some c) (status.DefectInFront segment) = finished_did t s k other old new answer (Some c) (status.DefectInFront segment) told finished front in
+      let none : IsSomeAnd (effects (steps_of d.outcome.acts) (Some c)) IsBare =
+      cleared_is_bare label date segment c d.outcome whole d.plain d.sound in
+      now_weaker t old.tape new.tape
       (λ left is. subst (λ (o : Option Cartridge). IsSomeAnd o IsBare) (sym is) none)
-      (done_now t a b d.outcome.steps (Some c) after d.did told);
+      (done_now t old.tape new.tape (steps_of d.outcome.acts) (Some c) laws.after d.did told);
 }
 
--- words of no command change nothing
-pub none_changed : {T : Type 0} (t : tapes.Meaning T) (words : List (List ℕ)) (a b : T) (answer : Status) → SpellsNone words → IsChanged t words a b answer
-none_changed t words a b answer none = record {
-  renewed = λ segments held which spells told. absurd (none (commands.New segments) spells);
-  formatted = λ label date c which spells told. absurd (none (commands.Format label date) spells);
-  cleared = λ label date segment c front spells told. absurd (none (commands.Format label date) spells);
-}
+-- words of no command change nothing, and want of memory
+pub none_changed : {T : Type 0} (t : tapes.Meaning T) (words : List (List ℕ)) (a b : T) (answer : Status) → is_fault answer ≡ false → may_change answer ≡ false → IsChanged t words a b answer
+none_changed t words a b answer no_fault none = record {
+  renewed = λ segments held which spells told. absurd (never which);
+  formatted = λ label date c which spells told. absurd (never which);
+  cleared = λ label date segment c front spells told. let no = ap may_change front in absurd (cc);
+} where
+  never : IsCarriedOut answer → ⊥
+  never (inl done) = let no = ap may_change done in cc
+  never (inr fault) = let no = ap is_fault fault in cc

@@ -15,8 +15,9 @@ use Rattle.tape_script.specs.declared.words.Words.{Words}
 use Rattle.tape_script.specs.declared.words.Words.TheVariants as commands
 use Rattle.tape_cmd.specs.declared.status.Status.{Status}
 use Rattle.tape_cmd.specs.declared.status.Status.TheVariants as status
-use Rattle.tape_cmd.specs.Plain.{HasPlace}
-use Rattle.tape_cmd.specs.Machine.{Spells, EachLeft, EachNow}
+use Rattle.tape_cmd.specs.Place.{HasPlace}
+use Rattle.tape_cmd.specs.Machine.{Spells}
+use Rattle.tape_cmd.specs.Headline.{EachLeft, EachNow}
 
 -- ---- commands that keep the volumes
 

@@ -1,32 +1,80 @@
-ghost use Rattle.std.specs.Prelude.{◌≡◌, ◌≢◌, ◌↔◌, ◌⊎◌, map, string_bytes, IfSome, false};
-ghost use Rattle.qic_base.specs.Cause.{Rose};
-ghost use Rattle.tape_cmd.specs.Plain.{HasValues, reads_input, prints_as_it_goes};
-ghost use Rattle.tape_cmd.specs.Volumes.{VolumesStay, ListStays, StopsFormat, IsChanged};
-ghost use Rattle.tape_cmd.specs.Machine.{RunsOver, SpellsNone, Answers, CarriesOut, PrintsFront, StaysDone, FaultLeaves, Leaves, IsRuled, IsNamed, TakesMemory, FaultsOfInput, Prints, PrintsAsItGoes, IsNone};
+ghost use Rattle.std.specs.Prelude.{◌≡◌, ◌≢◌, ◌⊎◌, ℕ, List, true, false, map, string_bytes};
+ghost use Rattle.tape_cmd.specs.Machine.{HasValues, Spells, ReadsCommand};
+ghost use Rattle.tape_cmd.specs.Promises.{Promises};
+ghost use Rattle.tape_cmd.specs.Runs.{Ends, EndsBlind};
+ghost use Rattle.tape_cmd.specs.Traits.{traits_of};
 
 use crate::Status;
-use crate::format::format_with;
-use crate::hand::{lose, protect, put_in_new, spoil};
+use crate::defect::spoil;
+use crate::format::format_cartridge;
+use crate::info::info;
+use crate::list::list;
+use crate::lose::lose;
+use crate::new::put_in_new;
+use crate::protect::protect;
 use crate::pulses::pulses;
-use crate::shown::{info_with, list_with};
+use crate::room::Room;
+use bad_sector_map::BadMap;
 use drive_states::Unit;
-use qic_base::{Sink, Source, Tape};
+use qic_base::{NoMemory, Sink, Source, Tape};
+use segment_io::Workspace;
 use std::alloc::Global;
 use tape_script::{BadWords, Words};
+use volume_table::Table;
 
-/// Carries out a command with its values, where it is built.
+fn is_built(command: &Words) -> bool
+    ensures { result ≡ (traits_of command.now).built }
+{
+    !matches!(
+        command,
+        Words::Append { .. }
+            | Words::Restore { .. }
+            | Words::Scrub
+            | Words::Script
+            | Words::Make { .. }
+    )
+}
+
+fn takes_memory(command: &Words) -> bool
+    ensures { result ≡ (traits_of command.now).memory }
+{
+    matches!(command, Words::Format { .. } | Words::Info | Words::List)
+}
+
+/// Carries out a command that takes memory, in what it has taken.
+fn carry_out_in<T: Tape, K: Sink>(
+    mut room: Room,
+    command: &Words,
+    unit: &mut Unit<T>,
+    sink: &mut K,
+) -> Status
+    requires built { (traits_of command.now).built ≡ true }
+    requires memory { (traits_of command.now).memory ≡ true }
+    ensures { EndsBlind T.means K.means command.now
+        unit.old.tape unit.new.tape sink.old sink.new result }
+{
+    match *command {
+        Words::Format { ref label, date } => format_cartridge(unit, &mut room, label, date, sink),
+        Words::Info => info(unit, room, sink),
+        Words::List => list(unit, room, sink),
+        _ => unreachable!("no other command takes memory"),
+    }
+}
+
+/// Carries out a command that takes no memory.
 fn carry_out<T: Tape, S: Source, K: Sink>(
-    alloc: Global,
     command: &Words,
     unit: &mut Unit<T>,
     source: &mut S,
     sink: &mut K,
 ) -> Status
-    requires { HasValues command.now }
-    ensures runs { RunsOver T.means S.means K.means command.now
+    requires values { HasValues command.now }
+    requires built { (traits_of command.now).built ≡ true }
+    requires memory { (traits_of command.now).memory ≡ false }
+    ensures ends { Ends T.means S.means K.means command.now
         record { tape = unit.old.tape; source = source.old; sink = sink.old }
         record { tape = unit.new.tape; source = source.new; sink = sink.new } result }
-    ensures untouched { (result ≡ Status.Usage) ⊎ (result ≡ Status.NoMemory) → unit.new ≡ unit.old }
+    ensures source { (traits_of command.now).reads ≡ false → source.new ≡ source.old }
     ensures kept { S.means.keeps source.old source.new }
 {
     match *command {
@@ -34,11 +82,51 @@ fn carry_out<T: Tape, S: Source, K: Sink>(
         Words::Defect { segment, sector } => spoil(unit, segment, sector, sink),
         Words::Lose { segment, sector } => lose(unit, segment, sector, sink),
         Words::Protect { on } => protect(unit, on, sink),
-        Words::Format { ref label, date } => format_with(alloc, unit, label, date, sink),
-        Words::Info => info_with(alloc, unit, sink),
-        Words::List => list_with(alloc, unit, sink),
         Words::Pulses => pulses(unit, source, sink),
-        _ => Status::Usage,
+        _ => unreachable!("the other commands take memory"),
+    }
+}
+
+/// The command of the words, where it is built.
+fn read_command(words: &Vec<String>) -> Option<Words>
+    ensures { ReadsCommand (map string_bytes words.now.items) result }
+{
+    match Words::read(words) {
+        Ok(command) => {
+            if is_built(&command) {
+                Some(command)
+            } else {
+                None
+            }
+        }
+        Err(BadWords) => None,
+    }
+}
+
+/// Carries out a command in the working objects that are handed to it: `run`, once its memory is there. No call takes
+/// memory.
+pub fn run_ready<T: Tape, S: Source, K: Sink>(
+    words: &Words,
+    work: Workspace,
+    map: BadMap,
+    table: Table,
+    unit: &mut Unit<T>,
+    source: &mut S,
+    sink: &mut K,
+) -> Status
+    requires values { HasValues words.now }
+    requires built { (traits_of words.now).built ≡ true }
+    ensures promises { (spelled : List (List ℕ)) → Spells spelled words.now →
+        Promises T.means S.means K.means spelled
+        record { tape = unit.old.tape; source = source.old; sink = sink.old }
+        record { tape = unit.new.tape; source = source.new; sink = sink.new } result }
+    ensures usage { result ≢ Status.Usage }
+    ensures memory { result ≢ Status.NoMemory }
+{
+    if takes_memory(words) {
+        carry_out_in(Room { work, map, table }, words, unit, sink)
+    } else {
+        carry_out(words, unit, source, sink)
     }
 }
 
@@ -51,73 +139,23 @@ pub fn run<T: Tape, S: Source, K: Sink>(
     source: &mut S,
     sink: &mut K,
 ) -> Status
-    // The headline: over a tape and a source that tell, with no fault, the plain machine's step or want of memory.
-    ensures answer { Answers T.means S.means K.means (map string_bytes words.now.items)
+    ensures promises { Promises T.means S.means K.means (map string_bytes words.now.items)
         record { tape = unit.old.tape; source = source.old; sink = sink.old }
         record { tape = unit.new.tape; source = source.new; sink = sink.new } result }
-
-    // Where no fault of the outside ended it, the same, whatever the counts say.
-    ensures carried { CarriesOut T.means S.means K.means (map string_bytes words.now.items)
-        record { tape = unit.old.tape; source = source.old; sink = sink.old }
-        record { tape = unit.new.tape; source = source.new; sink = sink.new } result }
-
-    // After a fault what was written is a front of what the plain machine prints. After one of the sink the command was
-    // carried out; one that prints as it goes did a front of its steps.
-    ensures front { PrintsFront T.means S.means K.means (map string_bytes words.now.items)
-        record { tape = unit.old.tape; source = source.old; sink = sink.old }
-        record { tape = unit.new.tape; source = source.new; sink = sink.new } result }
-    ensures done { StaysDone T.means S.means (map string_bytes words.now.items)
-        record { tape = unit.old.tape; source = source.old; sink = sink.old }
-        record { tape = unit.new.tape; source = source.new; sink = sink.new } result }
-
-    // After a fault the tape tells what a stop in the command's steps leaves.
-    ensures torn { FaultLeaves T.means S.means (map string_bytes words.now.items)
-        record { tape = unit.old.tape; source = source.old; sink = sink.old }
-        record { tape = unit.new.tape; source = source.new; sink = sink.new } result }
-
-    // The run, and a stop at any moment since it began, and one now, leaves what the command may leave.
-    ensures stops { Leaves T.means (map string_bytes words.now.items) unit.old.tape unit.new.tape }
-
-    // The volumes: each cartridge so left stands for what the old one stood for, but for `new`, `format` of a cartridge that
-    // is not protected, and a `lose` that doesn't spare header and table; and likewise it has the old one's list. Formatting
-    // a cartridge with clean header copies leaves that, or an unformatted one, or the empty one.
-    ensures volumes { VolumesStay T.means (map string_bytes words.now.items) unit.old.tape unit.new.tape }
-    ensures lists { ListStays T.means (map string_bytes words.now.items) unit.old.tape unit.new.tape }
-    ensures formats { StopsFormat T.means (map string_bytes words.now.items) unit.old.tape unit.new.tape }
-
-    // After Done or a fault of the sink the cartridge of `new`, or the empty one of `format`, stands.
-    ensures changed { IsChanged T.means (map string_bytes words.now.items) unit.old.tape unit.new.tape result }
-
-    // Each answer has its cause. An answer yields to the ones above it.
-    ensures usage { (result ≡ Status.Usage) ↔ SpellsNone (map string_bytes words.now.items) }
     ensures untouched { (result ≡ Status.Usage) ⊎ (result ≡ Status.NoMemory) →
         (unit.new ≡ unit.old) × (source.new ≡ source.old) × (sink.new ≡ sink.old) }
-    ensures ruled { IsRuled T.means S.means (map string_bytes words.now.items)
-        record { tape = unit.old.tape; source = source.old; sink = sink.old } result }
-    ensures named { IsNamed (map string_bytes words.now.items) result }
-    ensures memory { TakesMemory (map string_bytes words.now.items) result }
-    ensures input_fault { FaultsOfInput S.means (map string_bytes words.now.items) source.old result }
-    ensures tape_fault { result ≡ Status.TapeFault →
-        Rose (T.means.faults unit.old.tape) (T.means.faults unit.new.tape) }
-    ensures source_fault { result ≡ Status.SourceFault →
-        Rose (S.means.faults source.old) (S.means.faults source.new) }
-    ensures sink_fault { result ≡ Status.SinkFault →
-        Rose (K.means.faults sink.old) (K.means.faults sink.new) }
-
-    // What is printed at Done is the command's text, also where the tape doesn't tell its cartridge; what a command that
-    // prints as it goes has printed is a front of one; and with any other command no answer but that of a sink that failed
-    // prints anything, over any tape.
-    ensures printed { Prints K.means (map string_bytes words.now.items) sink.old sink.new result }
-    ensures begun { PrintsAsItGoes K.means (map string_bytes words.now.items) sink.old sink.new }
-    ensures silent { IsNone (map string_bytes words.now.items) prints_as_it_goes →
-        result ≢ Status.Done → result ≢ Status.SinkFault → sink.new ≡ sink.old }
-
-    // A command that doesn't read the input leaves the source as it was; the others keep what each call of it keeps.
-    ensures source { IsNone (map string_bytes words.now.items) reads_input → source.new ≡ source.old }
-    ensures kept { S.means.keeps source.old source.new }
 {
-    match Words::read(words) {
-        Ok(command) => carry_out(alloc, &command, unit, source, sink),
-        Err(BadWords) => Status::Usage,
+    let Some(command) = read_command(words) else {
+        return Status::Usage;
+    };
+    if !takes_memory(&command) {
+        return carry_out(&command, unit, source, sink);
+    }
+    match Room::new(alloc) {
+        Ok(room) => {
+            let Room { work, map, table } = room;
+            run_ready(&command, work, map, table, unit, source, sink)
+        }
+        Err(NoMemory) => Status::NoMemory,
     }
 }

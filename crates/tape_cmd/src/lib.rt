@@ -3,16 +3,19 @@
 #![tactic(auto)]
 
 mod command;
+mod defect;
 mod format;
-mod hand;
+mod info;
 pub mod laws;
 mod lines;
-mod listing;
-mod mounting;
+mod list;
+mod lose;
+mod new;
+mod opening;
+mod protect;
 mod pulses;
-mod shown;
+mod room;
 mod status;
-mod telling;
 
-pub use command::run;
+pub use command::{run, run_ready};
 pub use status::Status;

@@ -1,8 +1,11 @@
-//! The lines of single commands.
+//! The lines of single commands, and how a command ends that has written its text.
 
 ghost use Rattle.std.specs.Prelude.{◌≡◌, ◌≤◌, length};
 ghost use Rattle.tape_cmd.specs.Lines.{number_line, place_line, protected_line};
+ghost use Rattle.tape_cmd.specs.Printing.{printed_status};
 
+use crate::Status;
+use qic_base::SinkFailed;
 use tape_script::TextLine;
 
 /// A word of at most 100 bytes, and a number.
@@ -43,5 +46,15 @@ pub fn protected_text(on: bool) -> &'static [u8]
         b"protected on\n"
     } else {
         b"protected off\n"
+    }
+}
+
+/// How a command ends that has written its text, or hasn't.
+pub fn printed(written: Result<(), SinkFailed>) -> Status
+    ensures { result ≡ printed_status written }
+{
+    match written {
+        Ok(()) => Status::Done,
+        Err(SinkFailed) => Status::SinkFault,
     }
 }

@@ -1,0 +1,284 @@
+-- What a run promises, by how its command ended.
+use Rattle.std.proofs.Common.{◌≡◌, ◌↔◌, ℕ, Bool, true, false, List, [], Option, Some, None, IfSome, IsSomeAnd, refl, sym, ap, ◌∙◌, subst, inl, inr, arith}
+use Rattle.qic_base.specs.Cartridge.{Cartridge}
+use Rattle.qic_base.specs.Cause.{Rose}
+use Rattle.qic_base.specs.Sink as sinks
+use Rattle.qic_base.specs.Source as sources
+use Rattle.qic_base.specs.Tape as tapes
+use Rattle.qic_base.proofs.Steps.{Stops-nothing}
+use Rattle.acts.specs.Acts.{Act, Outside, Failing, TapeFails, SourceFails, SinkFails, Went, Cut}
+use Rattle.tape_script.specs.declared.words.Words.{Words}
+use Rattle.tape_script.specs.declared.words.Words.TheVariants as words
+use Rattle.tape_script.specs.Words.{IsCommand}
+use Rattle.tape_script.proofs.Commands.{one_command}
+use Rattle.tape_script.proofs.Deciding.{each_words}
+use Rattle.tape_cmd.specs.declared.status.Status.{Status}
+use Rattle.tape_cmd.specs.declared.status.Status.TheVariants as status
+use Rattle.tape_cmd.specs.Outcome.{Outcome, output_of}
+use Rattle.tape_cmd.specs.Traits.{traits_of}
+use Rattle.tape_cmd.specs.Laws.{MachineIsFunction, MachineAnswers}
+use Rattle.tape_cmd.specs.Machine.{HasValues, HasInputFault, Spells, SpellsNone}
+use Rattle.tape_cmd.specs.Runs.{InputLeft, is_fault, is_outcome, may_come_from, NamesFault, Finished, IsCutOff, Ends, no_source, around, EndsBlind}
+use Rattle.tape_cmd.specs.Headline.{Stepped, Answers, WordsLeave, EachLeft, SpellsOne, PrintsFront}
+use Rattle.tape_cmd.specs.Promises.{Promises}
+use Rattle.tape_cmd.proofs.Endings.{any_input, some_text}
+use Rattle.tape_cmd.proofs.Ends.{Laws, is_a_fault, each_left, stops_go_on, ends_cause, ends_answers, ends_carried, ends_cut, ends_stops, ends_joins, ends_otherwise, ends_named, ends_finished, ends_begun, ends_silent}
+use Rattle.tape_cmd.proofs.MachineLaws.{machine_is_function_where, machine_answers_where}
+use Rattle.tape_cmd.proofs.Volumes.{volumes_stay, list_stays, stops_format, is_changed, may_change, none_changed}
+
+pub machine_is_function : MachineIsFunction
+machine_is_function = machine_is_function_where one_command
+
+pub machine_answers : MachineAnswers
+machine_answers = machine_answers_where one_command each_words
+
+-- ---- a command that reads no input, over any source
+
+-- the input that is told, or else none
+abbrev input_of : Option (List ℕ) → List ℕ
+input_of None = []
+input_of (Some bytes) = bytes
+
+input_told : (left : Option (List ℕ)) → IfSome left (λ bytes. input_of left ≡ bytes)
+input_told None = tt
+input_told (Some bytes) = refl
+
+over_left : {A : Type 0} (held : Option A) (left : Option (List ℕ)) (P R : A → List ℕ → Type 0) → IfSome held (λ a. (input : List ℕ) × Unit {0} × P a input) →
+    ((a : A) (input other : List ℕ) → P a input → R a other) → IfSome held (λ a. (input : List ℕ) × IfSome left (λ bytes. input ≡ bytes) × R a input)
+over_left None left P R known follows = tt
+over_left (Some a) left P R known follows = (input_of left, input_told left, follows a known.0 (input_of left) known.2)
+
+none_has : (command : Words) (input : List ℕ) (line place : ℕ) → (traits_of command).reads ≡ false → HasInputFault command input line place → ⊥
+none_has words.Pulses input line place blind fault = cc
+none_has command input line place blind fault = fault
+
+no_fault_named : (command : Words) (answer : Status) (left : Option (List ℕ)) → (traits_of command).reads ≡ false → may_come_from answer command ≡ true →
+    IfSome left (λ input. NamesFault command input answer)
+no_fault_named command answer None blind sound = tt
+no_fault_named command answer (Some input) blind sound = record {
+  named = λ line place is. let no = ap (λ (a : Status). may_come_from a command) is in absurd (cc);
+  none = λ done line place fault. none_has command input line place blind fault;
+}
+
+all_left : (left : Option (List ℕ)) → InputLeft status.Usage 0 left left
+all_left None = refl
+all_left (Some bytes) = refl
+
+nothing_taken : (command : Words) (answer : Status) (taken : ℕ) (left : Option (List ℕ)) → (traits_of command).reads ≡ false → may_come_from answer command ≡ true → taken ≡ 0 →
+    InputLeft answer taken left left
+nothing_taken command (status.ScriptFault line place) taken left blind sound none = absurd (cc)
+nothing_taken command answer taken left blind sound none = rw none (all_left left)
+
+never_rose : Rose 0 0 → ⊥
+never_rose rose = omega arith
+
+module _ {T S K : Type 0} (t : tapes.Meaning T) (s : sources.Meaning S) (k : sinks.Meaning K) (command : Words) (a b : T) (i : S) (x y : K) where
+  abbrev before : Outside T S K
+  before = record { tape = a; source = i; sink = x }
+
+  abbrev behind : Outside T S K
+  behind = record { tape = b; source = i; sink = y }
+
+  went_over : (acts : List Act) → Went t no_source k (around a x) (around b y) acts → Went t s k before behind acts
+  went_over acts went = record { did = went.did; wrote = went.wrote; source_later = omega arith }
+
+  cut_over : (acts : List Act) (failing : Failing) → Cut t no_source k (around a x) (around b y) acts failing → Cut t s k before behind acts failing
+  cut_over acts TapeFails cut = record {
+    front = cut.front;
+    rest = cut.rest;
+    parts = cut.parts;
+    broke = cut.broke;
+    here = cut.here;
+    wrote = cut.wrote;
+    source_later = omega arith;
+  }
+  cut_over acts SourceFails cut = absurd (never_rose cut.cause)
+  cut_over acts SinkFails cut = record { at = cut.at; did = cut.did; broke = cut.broke; source_later = omega arith }
+
+  off_over : (failing : Failing) (outcome : Outcome) → IsCutOff t no_source k command (around a x) (around b y) failing outcome →
+      IsCutOff t s k command before behind failing outcome
+  off_over failing outcome off = record { cut = cut_over outcome.acts failing off.cut; done = off.done }
+
+  pub ends_over : (answer : Status) → (traits_of command).reads ≡ false → EndsBlind t k command a b x y answer → Ends t s k command before behind answer
+  ends_over answer blind (inl finished) = inl (record {
+    outcome = finished.outcome;
+    answered = finished.answered;
+    told = over_left (t.told a) (s.left i) _ _ finished.told (λ held input other plain. any_input command held input finished.outcome blind plain other);
+    went = went_over finished.outcome.acts finished.went;
+    left = nothing_taken command answer finished.outcome.taken (s.left i) blind finished.sound (finished.none_taken blind);
+    sound = finished.sound;
+    none_taken = finished.none_taken;
+    prints = finished.prints;
+    silent = finished.silent;
+    fault = no_fault_named command answer (s.left i) blind finished.sound;
+  })
+  ends_over answer blind (inr (failing, is, stopped)) = inr (
+    failing,
+    is,
+    record {
+      told = over_left (t.told a) (s.left i) _ _ stopped.told (λ held input other off outcome plain.
+          off_over failing outcome (off outcome (any_input command held other outcome blind plain input)));
+      acts = stopped.acts;
+      cut = cut_over stopped.acts failing stopped.cut;
+      front = stopped.front;
+      silent = stopped.silent;
+      source_tells = refl;
+    },
+  )
+
+-- ---- words
+
+-- those of a command that isn't built are those of none that is
+pub unbuilt_none : (words : List (List ℕ)) (command : Words) → IsCommand words command → (traits_of command).built ≡ false → SpellsNone words
+unbuilt_none words command spelled unbuilt other spells =
+    let same : other ≡ command = one_command words other command spells.spelled spelled in
+    let built : (traits_of command).built ≡ true = ap (λ (w : Words). (traits_of w).built) (sym same) ∙ spells.built in
+    cc
+
+-- a command that takes memory reads no input
+pub memory_reads_none : (command : Words) → (traits_of command).memory ≡ true → (traits_of command).reads ≡ false
+memory_reads_none words.Pulses takes = absurd (cc)
+memory_reads_none command takes = refl
+
+-- ---- a run whose words are those of a command that is built
+
+named_at : (command : Words) (answer : Status) (left : Option (List ℕ)) (line place : ℕ) → answer ≡ status.ScriptFault line place →
+    IfSome left (λ input. NamesFault command input answer) → IfSome left (λ input. HasInputFault command input line place)
+named_at command answer None line place is fault = tt
+named_at command answer (Some input) line place is fault = fault.named line place is
+
+none_at : (command : Words) (answer : Status) (left : Option (List ℕ)) → answer ≡ status.Done → IfSome left (λ input. NamesFault command input answer) →
+    IfSome left (λ input. (line place : ℕ) → ¬ (HasInputFault command input line place))
+none_at command answer None is fault = tt
+none_at command answer (Some input) is fault = fault.none is
+
+module _ {T S K : Type 0} (t : tapes.Meaning T) (s : sources.Meaning S) (k : sinks.Meaning K) (words : List (List ℕ)) (command : Words) (old new : Outside T S K) (answer : Status) where
+  -- the words are those of no other command
+  same_command : Spells words command → (other : Words) → Spells words other → command ≡ other
+  same_command spelled other spells = one_command words command other spelled.spelled spells.spelled
+
+  pub promises : Laws t s k old new → Spells words command → HasValues command → ((traits_of command).reads ≡ false → new.source ≡ old.source) → s.keeps old.source new.source →
+      Ends t s k command old new answer → Promises t s k words old new answer
+  promises laws spelled values source kept ends =
+      let stops : EachLeft t old.tape new.tape (WordsLeave (s.left old.source) words) = ends_stops t s k words command old new answer laws spelled values ends in
+      let finished : is_fault answer ≡ false → Finished t s k command old new answer = ends_finished t s k words command old new answer ends in
+      record {
+        answers = ends_answers t s k words command old new answer laws spelled ends;
+        carried = ends_carried t s k words command old new answer laws spelled ends;
+        cut = ends_cut t s k words command old new answer laws spelled values ends;
+        cause = ends_cause t s k words command old new answer ends;
+        stops = stops;
+        volumes = volumes_stay t (s.left old.source) words old.tape new.tape laws.right stops;
+        lists = list_stays t (s.left old.source) words old.tape new.tape laws.right stops;
+        formats = stops_format t (s.left old.source) words old.tape new.tape laws.right stops;
+        changed = is_changed t s k words command old new answer laws spelled values ends;
+        joins = ends_joins t s k words command old new answer laws ends;
+        usage = ((λ is. absurd (ends_otherwise t s k words command old new answer ends (inl is))), (λ none. absurd (none command spelled)));
+        memory = λ is. absurd (ends_otherwise t s k words command old new answer ends (inr is));
+        named = λ outcome. (command, spelled, ends_named t s k words command old new answer ends outcome);
+        fault = λ line place is.
+            let f : Finished t s k command old new answer = finished (ap is_fault is) in
+            (command, spelled, sym (ap (λ (a : Status). may_come_from a command) is) ∙ f.sound, named_at command answer (s.left old.source) line place is f.fault);
+        no_fault = λ done other spells.
+            subst (λ (w : Words). IfSome (s.left old.source) (λ input. (line place : ℕ) → ¬ (HasInputFault w input line place))) (same_command spelled other spells)
+            (none_at command answer (s.left old.source) done (finished (ap is_fault done)).fault);
+        printed = λ done.
+            let f : Finished t s k command old new answer = finished (ap is_fault done) in
+            record { command = command; spelled = spelled; text = output_of f.outcome; is_text = f.prints.0 (inl done); took = f.went.wrote.took };
+        begun = λ other spells.
+            subst (λ (w : Words). PrintsFront k w old.sink new.sink) (same_command spelled other spells)
+            (ends_begun t s k words command old new answer laws spelled ends);
+        silent = λ none done fault. ends_silent t s k words command old new answer ends (none command spelled) done fault;
+        source = λ none. source (none command spelled);
+        kept = kept;
+      }
+
+-- ---- a run that touched nothing
+
+-- the answer tells of nothing that was done
+abbrev is_idle : Status → Bool
+is_idle status.Usage = true
+is_idle status.NoMemory = true
+is_idle answer = false
+
+idle_changes_nothing : (answer : Status) → is_idle answer ≡ true → (is_fault answer ≡ false) × (may_change answer ≡ false) × (is_outcome answer ≡ false)
+idle_changes_nothing status.Usage is = (refl, refl, refl)
+idle_changes_nothing status.NoMemory is = (refl, refl, refl)
+idle_changes_nothing answer is = absurd (cc)
+
+over_any : (o : Option (Option Cartridge)) (left : Option (List ℕ)) (R : Option Cartridge → List ℕ → Type 0) → ((held : Option Cartridge) (input : List ℕ) → o ≡ Some held → R held input) →
+    IfSome o (λ held. (input : List ℕ) × IfSome left (λ bytes. input ≡ bytes) × R held input)
+over_any None left R follows = tt
+over_any (Some held) left R follows = (input_of left, input_told left, follows held (input_of left) refl)
+
+module _ {T S K : Type 0} (t : tapes.Meaning T) (s : sources.Meaning S) (k : sinks.Meaning K) (words : List (List ℕ)) (old : Outside T S K) where
+  untouched_stops : Laws t s k old old → EachLeft t old.tape old.tape (WordsLeave (s.left old.source) words)
+  untouched_stops laws =
+      each_left t old.tape old.tape (WordsLeave (s.left old.source) words) laws.before laws.before (λ held told. record {
+        steps = [];
+        stops = Stops-nothing t old.tape;
+        torn = subst (λ (o : Option (Option Cartridge)). IsSomeAnd o (λ left. left ≡ held)) (sym told) refl;
+        leaves = λ left same. inl same;
+      })
+
+  idle : (answer : Status) → Laws t s k old old → is_idle answer ≡ true → s.keeps old.source old.source → Answers t s k words old old answer →
+      (answer ≡ status.Usage) ↔ SpellsNone words → (answer ≡ status.NoMemory → SpellsOne words (λ traits. traits.memory)) →
+      ((command : Words) → Spells words command → PrintsFront k command old.sink old.sink) → Promises t s k words old old answer
+  idle answer laws is kept answers usage memory begun =
+      let stops : EachLeft t old.tape old.tape (WordsLeave (s.left old.source) words) = untouched_stops laws in
+      let nothing = idle_changes_nothing answer is in record {
+        answers = λ none. answers;
+        carried = λ sound. answers;
+        cut = λ failing same. let fault = ap is_fault same ∙ is_a_fault failing in let no = nothing.0 in absurd (cc);
+        cause = λ failing same. let fault = ap is_fault same ∙ is_a_fault failing in let no = nothing.0 in absurd (cc);
+        stops = stops;
+        volumes = volumes_stay t (s.left old.source) words old.tape old.tape laws.right stops;
+        lists = list_stays t (s.left old.source) words old.tape old.tape laws.right stops;
+        formats = stops_format t (s.left old.source) words old.tape old.tape laws.right stops;
+        changed = none_changed t words old.tape old.tape answer nothing.0 nothing.1;
+        joins = record {
+          counts = record { tape = omega arith; source = omega arith; sink = omega arith };
+          tape = refl;
+          source = refl;
+          sink = refl;
+          stops = stops_go_on t old.tape old.tape [] (Stops-nothing t old.tape);
+        };
+        usage = usage;
+        memory = memory;
+        named = λ outcome. let no = nothing.2 in absurd (cc);
+        fault = λ line place same. let no = ap is_idle same in absurd (cc);
+        no_fault = λ done. let no = ap is_idle done in absurd (cc);
+        printed = λ done. let no = ap is_idle done in absurd (cc);
+        begun = begun;
+        silent = λ none done fault. refl;
+        source = λ none. refl;
+        kept = kept;
+      }
+
+  usage_step : Laws t s k old old → SpellsNone words → (held : Option Cartridge) (input : List ℕ) → t.told old.tape ≡ Some held → Stepped t s k words held input old old status.Usage
+  usage_step laws none held input told = record {
+    held' = held;
+    output = [];
+    taken = 0;
+    step = inl (none, refl, refl, refl, refl);
+    tape = told;
+    source = all_left (s.left old.source);
+    took = laws.nothing old.sink;
+    written = laws.told old.sink old.sink [] (laws.nothing old.sink);
+  }
+
+  -- words of no command
+  pub usage_promises : Laws t s k old old → s.keeps old.source old.source → SpellsNone words → Promises t s k words old old status.Usage
+  usage_promises laws kept none =
+      idle status.Usage laws refl kept
+      (over_any (t.told old.tape) (s.left old.source) _ (λ held input told. inr (usage_step laws none held input told)))
+      ((λ is. none), (λ again. refl)) (λ is. absurd (cc)) (λ command spells. absurd (none command spells))
+
+  -- want of memory
+  pub memory_promises : (command : Words) → Laws t s k old old → s.keeps old.source old.source → Spells words command → (traits_of command).memory ≡ true →
+      Promises t s k words old old status.NoMemory
+  memory_promises command laws kept spelled takes =
+      idle status.NoMemory laws refl kept
+      (over_any (t.told old.tape) (s.left old.source) _ (λ held input told. inl refl))
+      ((λ is. absurd (cc)), (λ none. absurd (none command spelled))) (λ is. (command, spelled, takes))
+      (λ other spells. let some = some_text other spells.built in record { text = []; rest = some.0; is_front = some.1; took = laws.nothing old.sink })

@@ -1,0 +1,19 @@
+-- The plain machine of `defect` (this project's own).
+use Rattle.std.specs.Prelude.{◌≡◌, ◌⊎◌, ℕ, true, false, [], ◌∷◌, Option, Some, None}
+use Rattle.qic_base.specs.Cartridge.{Cartridge, view_at}
+use Rattle.qic_base.specs.Step.{Spoil}
+use Rattle.qic_base.specs.Tape.{spoil_answer}
+use Rattle.tape_cmd.specs.declared.status.Status.TheVariants as status
+use Rattle.tape_cmd.specs.Lines.{defect_line}
+use Rattle.tape_cmd.specs.Outcome.{Outcome, refused, refused_behind, carried_out}
+use Rattle.tape_cmd.specs.Place.{HasPlace}
+
+-- a formatted sector stays as it is
+abbrev pub DefectOutcome : (segment sector : ℕ) → Option Cartridge → Outcome → Type 0
+DefectOutcome segment sector None outcome = outcome ≡ refused status.NoCartridge
+DefectOutcome segment sector (Some c) outcome =
+    (¬ (HasPlace c segment sector) × (outcome ≡ refused status.BadPlace))
+    ⊎ (HasPlace c segment sector × (spoil_answer (view_at c segment sector) ≡ false)
+    × (outcome ≡ refused_behind (Spoil segment sector ∷ []) status.NotBlank))
+    ⊎ (HasPlace c segment sector × (spoil_answer (view_at c segment sector) ≡ true)
+    × (outcome ≡ carried_out (Spoil segment sector) (defect_line segment sector)))

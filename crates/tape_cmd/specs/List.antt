@@ -1,0 +1,12 @@
+-- The plain machine of `list` (this project's own).
+use Rattle.std.specs.Prelude.{Option}
+use Rattle.qic_base.specs.Cartridge.{Cartridge}
+use Rattle.tape_cmd.specs.Lines.{list_text}
+use Rattle.tape_cmd.specs.Opening.{Printing, OpenOutcome}
+use Rattle.tape_cmd.specs.Outcome.{Outcome}
+
+abbrev pub listing : Printing
+listing header words entries = list_text words entries
+
+abbrev pub ListOutcome : Option Cartridge → Outcome → Type 0
+ListOutcome held outcome = OpenOutcome listing held outcome

@@ -1,0 +1,14 @@
+-- The plain machine of `lose` (this project's own).
+use Rattle.std.specs.Prelude.{◌≡◌, ◌⊎◌, ℕ, Option, Some, None}
+use Rattle.qic_base.specs.Cartridge.{Cartridge}
+use Rattle.qic_base.specs.Step.{Wear}
+use Rattle.tape_cmd.specs.declared.status.Status.TheVariants as status
+use Rattle.tape_cmd.specs.Lines.{lost_line}
+use Rattle.tape_cmd.specs.Outcome.{Outcome, refused, carried_out}
+use Rattle.tape_cmd.specs.Place.{HasPlace}
+
+abbrev pub LoseOutcome : (segment sector : ℕ) → Option Cartridge → Outcome → Type 0
+LoseOutcome segment sector None outcome = outcome ≡ refused status.NoCartridge
+LoseOutcome segment sector (Some c) outcome =
+    (¬ (HasPlace c segment sector) × (outcome ≡ refused status.BadPlace))
+    ⊎ (HasPlace c segment sector × (outcome ≡ carried_out (Wear segment sector) (lost_line segment sector)))

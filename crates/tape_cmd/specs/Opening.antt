@@ -1,0 +1,112 @@
+-- How the opening of a cartridge ends: refused, or with its table settled and what was found (this project's own).
+use Rattle.std.specs.Prelude.{◌≡◌, ◌⊎◌, ℕ, Bool, true, false, List, [], ◌++◌, Option, Some, None, IfSome, Result, Ok, Err}
+use Rattle.qic_base.specs.Cartridge.{Cartridge}
+use Rattle.qic_base.specs.Step.{Step}
+use Rattle.qic_base.specs.Tape.{Meaning, Done, Broke}
+use Rattle.cartridge_spec.specs.Header.{Header, HeaderFault}
+use Rattle.cartridge_spec.specs.Table.{Entry}
+use Rattle.cartridge_spec.specs.Mounting.{Mounting, Mounts}
+use Rattle.cartridge_spec.specs.Mounting as mounting
+use Rattle.mount_laws.specs.Settling.{settling_steps}
+use Rattle.drive_states.specs.Unit.{UnitView}
+use Rattle.host_driver.specs.declared.host.Host.{Host}
+use Rattle.host_driver.specs.Calls.{IsReady}
+use Rattle.host_driver.specs.Fits.{AgreesWithTape}
+use Rattle.host_driver.specs.Starts.{KnowsTold}
+use Rattle.volume_store.specs.declared.fault.StoreFault.{StoreFault}
+use Rattle.volume_store.specs.declared.fault.StoreFault.TheVariants as fault
+use Rattle.volume_store.specs.Mounting.{StoreView}
+use Rattle.tape_cmd.specs.declared.status.Status.{Status}
+use Rattle.tape_cmd.specs.declared.status.Status.TheVariants as status
+use Rattle.tape_cmd.specs.Outcome.{Outcome, refused, acted, first_steps}
+
+-- ---- the plain machine
+
+-- a fault of the header or of the table's slots, as an answer
+abbrev pub foreign : HeaderFault → Status
+foreign fault = status.Foreign fault.field fault.value
+
+-- what is printed of a header, the words of its map and the volumes
+abbrev pub Printing : Type 0
+Printing = Header → (words : List ℕ) → List Entry → List ℕ
+
+-- what a command does that prints this of a cartridge once it is open, by what the mounting gives
+abbrev pub opened : Printing → Cartridge → Mounting → Outcome
+opened prints c mounting.NotFormatted = refused status.NotFormatted
+opened prints c (mounting.Foreign fault) = refused (foreign fault)
+opened prints c (mounting.TableLost lost) = refused (status.Lost 2 lost)
+opened prints c mounting.TableMismatch = refused status.TableMismatch
+opened prints c (mounting.Mounted header words table entries) = acted (settling_steps table c) (prints header words entries)
+
+abbrev pub OpenOutcome : Printing → Option Cartridge → Outcome → Type 0
+OpenOutcome prints None outcome = outcome ≡ refused status.NoCartridge
+OpenOutcome prints (Some c) outcome = (m : Mounting) × Mounts c m × (outcome ≡ opened prints c m)
+
+-- ---- how the call ended
+
+-- the answer that a refusal of a store makes, or its fault; a source that ends early is a fault of a script's line
+abbrev pub store_status : StoreFault → Status
+store_status fault.NotFormatted = status.NotFormatted
+store_status (fault.Foreign field value) = status.Foreign field value
+store_status fault.TableMismatch = status.TableMismatch
+store_status (fault.Full need have) = status.Full need have
+store_status (fault.NoVolume number count) = status.NoVolume number count
+store_status (fault.Lost segment lost) = status.Lost segment lost
+store_status (fault.Mismatch segment) = status.Mismatch segment
+store_status fault.Protected = status.Protected
+store_status fault.Source = status.SourceFault
+store_status fault.Sink = status.SinkFault
+store_status other = status.TapeFault
+
+-- an answer to what an opening finds
+abbrev pub is_opening : Status → Bool
+is_opening status.NoCartridge = true
+is_opening status.NotFormatted = true
+is_opening (status.Foreign field value) = true
+is_opening (status.Lost segment lost) = true
+is_opening status.TableMismatch = true
+is_opening answer = false
+
+-- a host was started on the cartridge, which the drive knows
+pub record HasStarted {T : Type 0} (m : Meaning T) (old new : UnitView T) (host : Host) : Type 0 where
+  pub did : Done m old.tape new.tape []
+  pub ready : IsReady m host new
+  pub known : KnowsTold m new
+  pub agrees : AgreesWithTape m new
+
+-- there is no cartridge, or a fault of the tape broke the insertion off
+abbrev pub StartFails : {T : Type 0} (m : Meaning T) (old new : T) → Status → Type 0
+StartFails m old new why =
+    ((why ≡ status.NoCartridge) × Done m old new [] × IfSome (m.told old) (λ held. held ≡ None))
+    ⊎ ((why ≡ status.TapeFault) × Broke m old new [])
+
+-- how the start of a host on what a drive holds ended
+abbrev pub StartEnds : {T : Type 0} (m : Meaning T) (old new : UnitView T) → Result Host Status → Type 0
+StartEnds m old new (Ok host) = HasStarted m old new host
+StartEnds m old new (Err why) = StartFails m old.tape new.tape why
+
+-- The cartridge was opened, by these steps.
+pub record HasOpened {T : Type 0} (m : Meaning T) (old new : T) (store : StoreView) : Type 0 where
+  pub steps : List Step
+  pub did : Done m old new steps
+  pub told : IfSome (m.told old) (λ held. (prints : Printing) →
+      OpenOutcome prints held (acted steps (prints store.header store.words store.entries)))
+
+-- It was refused, before anything was written.
+pub record OpeningRefused {T : Type 0} (m : Meaning T) (old new : T) (why : Status) : Type 0 where
+  pub did : Done m old new []
+  pub sound : is_opening why ≡ true
+  pub told : IfSome (m.told old) (λ held. (prints : Printing) → OpenOutcome prints held (refused why))
+
+-- A fault of the tape broke a front of its steps off.
+pub record OpeningCut {T : Type 0} (m : Meaning T) (old new : T) (why : Status) : Type 0 where
+  pub answered : why ≡ status.TapeFault
+  pub steps : List Step
+  pub broke : Broke m old new steps
+  pub front : IfSome (m.told old) (λ held. (prints : Printing) (outcome : Outcome) → OpenOutcome prints held outcome →
+      (rest : List Step) × (steps ++ rest ≡ first_steps outcome))
+
+-- how the opening of what a drive holds ended
+abbrev pub OpeningEnds : {T : Type 0} (m : Meaning T) (old new : T) → Result StoreView Status → Type 0
+OpeningEnds m old new (Ok store) = HasOpened m old new store
+OpeningEnds m old new (Err why) = OpeningRefused m old new why ⊎ OpeningCut m old new why

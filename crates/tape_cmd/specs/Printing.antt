@@ -1,0 +1,9 @@
+-- How a command ends that has written its text (this project's own).
+use Rattle.std.specs.Prelude.{Result, Ok, Err}
+use Rattle.tape_cmd.specs.declared.status.Status.{Status}
+use Rattle.tape_cmd.specs.declared.status.Status.TheVariants as status
+
+-- .. or hasn't
+abbrev pub printed_status : {A E : Type 0} → Result A E → Status
+printed_status (Ok done) = status.Done
+printed_status (Err fault) = status.SinkFault

@@ -1,0 +1,130 @@
+-- How a command ended: all acts of its outcome went, or a fault of the outside cut them off (this project's own).
+use Rattle.std.specs.Prelude.{◌≡◌, ◌≢◌, ◌⊎◌, ℕ, ◌+◌, Bool, true, false, List, [], ◌++◌, drop, Option, None, IfSome, is_some}
+use Rattle.std.specs.Option.{option_map}
+use Rattle.qic_base.specs.Cartridge.{Cartridge}
+use Rattle.qic_base.specs.Sink as sinks
+use Rattle.qic_base.specs.Source as sources
+use Rattle.qic_base.specs.Tape as tapes
+use Rattle.acts.specs.Acts.{Act, text_of, Outside, Failing, TapeFails, SourceFails, SinkFails, Went, Cut}
+use Rattle.tape_script.specs.declared.words.Words.{Words}
+use Rattle.tape_cmd.specs.declared.status.Status.{Status}
+use Rattle.tape_cmd.specs.declared.status.Status.TheVariants as status
+use Rattle.tape_cmd.specs.Outcome.{Outcome, output_of}
+use Rattle.tape_cmd.specs.Traits.{traits_of}
+use Rattle.tape_cmd.specs.Machine.{Plain, CommandPrints, HasInputFault}
+
+-- where the tape tells, a fact of what it told and of the input: that which the source told, or some input where it
+-- tells none
+abbrev pub Over : {T S K : Type 0} (t : tapes.Meaning T) (s : sources.Meaning S) (old : Outside T S K) (P : Option Cartridge → List ℕ → Type 0) → Type 0
+Over t s old P =
+    IfSome (t.told old.tape) (λ held. (input : List ℕ) × IfSome (s.left old.source) (λ bytes. input ≡ bytes) × P held input)
+
+-- What is left of the input: what stands behind the bytes taken; or, where a line is at fault, an end of the bytes from
+-- its place on.
+abbrev pub InputLeft : Status → (taken : ℕ) → (before after : Option (List ℕ)) → Type 0
+InputLeft (status.ScriptFault line place) taken before after = (more : ℕ) × (after ≡ option_map (drop (place + more)) before)
+InputLeft answer taken before after = after ≡ option_map (drop taken) before
+
+-- ---- answers
+
+-- a fault of the outside ended the run
+abbrev pub is_fault : Status → Bool
+is_fault status.SourceFault = true
+is_fault status.SinkFault = true
+is_fault status.TapeFault = true
+is_fault answer = false
+
+-- the answer to the fault of an object
+abbrev pub fault_of : Failing → Status
+fault_of TapeFails = status.TapeFault
+fault_of SourceFails = status.SourceFault
+fault_of SinkFails = status.SinkFault
+
+-- an answer of a command to what it finds: each but the faults, words of no command and want of memory
+abbrev pub is_outcome : Status → Bool
+is_outcome status.Usage = false
+is_outcome status.SourceFault = false
+is_outcome status.SinkFault = false
+is_outcome status.TapeFault = false
+is_outcome status.NoMemory = false
+is_outcome answer = true
+
+-- the commands that such an answer may come from, whatever the tape and the source tell
+abbrev pub may_come_from : Status → Words → Bool
+may_come_from status.Done command = true
+may_come_from (status.ScriptFault line place) command = (traits_of command).reads
+may_come_from status.NoCartridge command = (traits_of command).cartridge
+may_come_from status.NotFormatted command = (traits_of command).mounts
+may_come_from status.Protected command = (traits_of command).writable
+may_come_from status.BadPlace command = (traits_of command).sector
+may_come_from status.NotBlank command = (traits_of command).blank
+may_come_from (status.Foreign field value) command = (traits_of command).mounts
+may_come_from (status.Lost segment lost) command = (traits_of command).mounts
+may_come_from (status.DefectInFront segment) command = (traits_of command).formats
+may_come_from status.TableMismatch command = (traits_of command).mounts
+may_come_from answer command = false
+
+-- ---- how a command ended
+
+-- the texts behind an answer: those of a command that was carried out; or none, but that a command may print as it goes
+abbrev pub Prints : Words → Status → List ℕ → Type 0
+Prints command answer text =
+    ((answer ≡ status.Done) ⊎ ((traits_of command).goes ≡ true) → CommandPrints command text)
+    × ((traits_of command).goes ≡ false → answer ≢ status.Done → text ≡ [])
+
+-- the input's fault is named, where one is answered, and Done comes only over an input without one
+pub record NamesFault (command : Words) (input : List ℕ) (answer : Status) : Type 0 where
+  pub named : (line place : ℕ) → answer ≡ status.ScriptFault line place → HasInputFault command input line place
+  pub none : answer ≡ status.Done → (line place : ℕ) → ¬ (HasInputFault command input line place)
+
+-- It was carried out or refused: all acts of its outcome went.
+pub record Finished {T S K : Type 0} (t : tapes.Meaning T) (s : sources.Meaning S) (k : sinks.Meaning K) (command : Words) (old new : Outside T S K) (answer : Status) : Type 0 where
+  pub outcome : Outcome
+  pub answered : answer ≡ outcome.status
+  -- over what is told the plain machine's
+  pub told : Over t s old (λ held input. Plain command held input outcome)
+  pub went : Went t s k old new outcome.acts
+  pub left : InputLeft answer outcome.taken (s.left old.source) (s.left new.source)
+  -- and over any tape and source one that the command may have
+  pub sound : may_come_from answer command ≡ true
+  pub none_taken : (traits_of command).reads ≡ false → outcome.taken ≡ 0
+  pub prints : Prints command answer (output_of outcome)
+  pub silent : (traits_of command).goes ≡ false → answer ≢ status.Done → new.sink ≡ old.sink
+  -- where the source tells its bytes their fault is named, if one is
+  pub fault : IfSome (s.left old.source) (λ input. NamesFault command input answer)
+
+-- A fault of an object cut the acts of an outcome off. Where it is the sink's, a command that prints once all is done was
+-- carried out.
+pub record IsCutOff {T S K : Type 0} (t : tapes.Meaning T) (s : sources.Meaning S) (k : sinks.Meaning K) (command : Words) (old new : Outside T S K) (failing : Failing) (outcome : Outcome) : Type 0 where
+  pub cut : Cut t s k old new outcome.acts failing
+  pub done : failing ≡ SinkFails → (traits_of command).goes ≡ false → outcome.status ≡ status.Done
+
+-- A fault of an object of the outside cut it off.
+pub record Stopped {T S K : Type 0} (t : tapes.Meaning T) (s : sources.Meaning S) (k : sinks.Meaning K) (command : Words) (old new : Outside T S K) (failing : Failing) : Type 0 where
+  -- over what is told in the acts of the plain machine's outcome
+  pub told : Over t s old (λ held input. (outcome : Outcome) → Plain command held input outcome → IsCutOff t s k command old new failing outcome)
+  -- and over any tape and source in some that print a front of the command's text
+  pub acts : List Act
+  pub cut : Cut t s k old new acts failing
+  pub front : (rest : List ℕ) × CommandPrints command (text_of acts ++ rest)
+  pub silent : (traits_of command).goes ≡ false → failing ≢ SinkFails → new.sink ≡ old.sink
+  pub source_tells : is_some (s.left new.source) ≡ is_some (s.left old.source)
+
+-- how a command ended
+abbrev pub Ends : {T S K : Type 0} (t : tapes.Meaning T) (s : sources.Meaning S) (k : sinks.Meaning K) (command : Words) (old new : Outside T S K) → Status → Type 0
+Ends t s k command old new answer =
+    Finished t s k command old new answer
+    ⊎ ((failing : Failing) × (answer ≡ fault_of failing) × Stopped t s k command old new failing)
+
+-- ---- a command that reads no input
+
+-- a source that is never asked
+abbrev pub no_source : sources.Meaning (Unit {0})
+no_source = record { left = λ asked. None; keeps = λ old new. Unit {0}; faults = λ asked. 0 }
+
+abbrev pub around : {T K : Type 0} → T → K → Outside T (Unit {0}) K
+around tape sink = record { tape = tape; source = tt; sink = sink }
+
+-- how it ended, whatever the source is
+abbrev pub EndsBlind : {T K : Type 0} (t : tapes.Meaning T) (k : sinks.Meaning K) (command : Words) (old new : T) (sink printed : K) → Status → Type 0
+EndsBlind t k command old new sink printed answer = Ends t no_source k command (around old sink) (around new printed) answer

@@ -1,0 +1,56 @@
+-- What kind of a command each is (this project's own).
+use Rattle.std.specs.Prelude.{Bool, true, false}
+use Rattle.tape_script.specs.declared.words.Words.{Words}
+use Rattle.tape_script.specs.declared.words.Words.TheVariants as words
+
+pub record Traits : Type 0 where
+  -- It is built. The others are answered as words of no command are, until they are.
+  pub built : Bool
+  -- it reads the input
+  pub reads : Bool
+  -- it prints as it goes; the others print once all else is done
+  pub goes : Bool
+  -- it takes memory
+  pub memory : Bool
+  -- a missing cartridge stops it
+  pub cartridge : Bool
+  -- a protected cartridge stops it
+  pub writable : Bool
+  -- it names a sector
+  pub sector : Bool
+  -- it takes only a sector that was never formatted
+  pub blank : Bool
+  -- it formats
+  pub formats : Bool
+  -- it mounts the cartridge
+  pub mounts : Bool
+
+abbrev pub unbuilt : Traits
+unbuilt = record {
+  built = false;
+  reads = false;
+  goes = false;
+  memory = false;
+  cartridge = false;
+  writable = false;
+  sector = false;
+  blank = false;
+  formats = false;
+  mounts = false;
+}
+
+-- A new cartridge needs none before it, and the drive shows its levels without one.
+abbrev pub traits_of : Words → Traits
+traits_of (words.New segments) = record unbuilt { built = true }
+traits_of (words.Defect segment sector) = record unbuilt { built = true; cartridge = true; sector = true; blank = true }
+traits_of (words.Lose segment sector) = record unbuilt { built = true; cartridge = true; sector = true }
+traits_of (words.Protect on) = record unbuilt { built = true; cartridge = true }
+traits_of (words.Format label date) = record unbuilt { built = true; memory = true; cartridge = true; writable = true; formats = true }
+traits_of words.Info = record unbuilt { built = true; memory = true; cartridge = true; mounts = true }
+traits_of (words.Append name date) = unbuilt
+traits_of words.List = record unbuilt { built = true; memory = true; cartridge = true; mounts = true }
+traits_of (words.Restore number) = unbuilt
+traits_of words.Scrub = unbuilt
+traits_of words.Pulses = record unbuilt { built = true; reads = true; goes = true }
+traits_of words.Script = unbuilt
+traits_of (words.Make seed count) = unbuilt

@@ -1,0 +1,59 @@
+//! The cartridge that the drive holds, opened: put in and mounted.
+
+ghost use Rattle.std.specs.Prelude.{◌≡◌, ◌≢◌, ℕ};
+ghost use Rattle.tape_cmd.specs.Opening.{OpeningEnds, StartEnds, store_status as status_of};
+ghost use Rattle.volume_store.specs.declared.fault.StoreFault.TheVariants.{Short};
+
+use crate::Status;
+use crate::room::Room;
+use drive_states::Unit;
+use host_driver::{Host, HostFault};
+use qic_base::Tape;
+use volume_store::{Store, StoreFault};
+
+/// Puts the cartridge in and starts a host on it.
+pub fn start<T: Tape>(unit: &mut Unit<T>) -> Result<Host, Status>
+    ensures { StartEnds T.means unit.old unit.new result }
+{
+    match Host::start(unit) {
+        Ok(host) => Ok(host),
+        Err(HostFault::NoCartridge) => Err(Status::NoCartridge),
+        Err(HostFault::Tape) => Err(Status::TapeFault),
+        Err(HostFault::Protected) => unreachable!("a start asks for no mode"),
+    }
+}
+
+/// Puts the cartridge in and mounts it.
+pub fn open<T: Tape>(unit: &mut Unit<T>, room: Room) -> Result<Store, Status>
+    ensures { OpeningEnds T.means unit.old.tape unit.new.tape result }
+{
+    let host = match start(unit) {
+        Ok(host) => host,
+        Err(status) => return Err(status),
+    };
+    match Store::mount(unit, host, room.work, room.map, room.table) {
+        Ok(store) => Ok(store),
+        Err(fault) => Err(store_status(fault)),
+    }
+}
+
+/// The answer that a refusal of a store makes, or its fault.
+fn store_status(fault: StoreFault) -> Status
+    requires { (promised read : ℕ) → fault ≢ Short promised read }
+    ensures { result ≡ status_of fault }
+{
+    match fault {
+        StoreFault::NotFormatted => Status::NotFormatted,
+        StoreFault::Foreign { field, value } => Status::Foreign { field, value },
+        StoreFault::TableMismatch => Status::TableMismatch,
+        StoreFault::Full { need, have } => Status::Full { need, have },
+        StoreFault::NoVolume { number, count } => Status::NoVolume { number, count },
+        StoreFault::Lost { segment, lost } => Status::Lost { segment, lost },
+        StoreFault::Mismatch { segment } => Status::Mismatch { segment },
+        StoreFault::Protected => Status::Protected,
+        StoreFault::Source => Status::SourceFault,
+        StoreFault::Sink => Status::SinkFault,
+        StoreFault::Tape => Status::TapeFault,
+        StoreFault::Short { .. } => unreachable!("only a script promises bytes"),
+    }
+}
