@@ -15,6 +15,7 @@ pub struct Room {
 }
 
 impl Room {
+    /// Takes the memory: a workspace for a segment, a map and a list.
     pub fn new(alloc: Global) -> Result<Room, NoMemory> {
         Ok(Room {
             work: Workspace::new(alloc)?,
