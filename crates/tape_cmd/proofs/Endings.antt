@@ -20,8 +20,8 @@ use Rattle.tape_cmd.specs.Traits.{traits_of}
 use Rattle.tape_cmd.specs.Defect.{DefectOutcome}
 use Rattle.tape_cmd.specs.Lose.{LoseOutcome}
 use Rattle.tape_cmd.specs.Protect.{ProtectOutcome}
-use Rattle.tape_cmd.specs.Machine.{Plain, CommandPrints}
-use Rattle.tape_cmd.specs.Printing.{printed_status}
+use Rattle.tape_cmd.specs.Machine.{Yields, CommandPrints}
+use Rattle.tape_cmd.specs.Writing.{printed_status}
 use Rattle.tape_cmd.specs.Runs.{InputLeft, may_come_from, no_source, around, IsCutOff, EndsBlind}
 use Rattle.tape_cmd.proofs.PlainLaws.{plain_is_function}
 
@@ -34,11 +34,11 @@ pub record IsBlind (command : Words) : Type 0 where
 
 -- what such a command does over what the drive holds, whatever the input
 abbrev pub Rules : Words → Option Cartridge → Outcome → Type 0
-Rules command held outcome = (input : List ℕ) → Plain command held input outcome
+Rules command held outcome = (input : List ℕ) → Yields command held input outcome
 
 -- it does over one input what it does over any
 pub any_input : (command : Words) (held : Option Cartridge) (input : List ℕ) (outcome : Outcome) → (traits_of command).reads ≡ false →
-    Plain command held input outcome → Rules command held outcome
+    Yields command held input outcome → Rules command held outcome
 any_input words.Pulses held input outcome blind plain other = absurd (cc)
 any_input (words.New segments) held input outcome blind plain other = plain
 any_input (words.Defect segment sector) held input outcome blind plain other = plain
@@ -100,7 +100,7 @@ module _ {T K : Type 0} (t : tapes.Meaning T) (k : sinks.Meaning K) where
       inl (record {
         outcome = acted act.steps act.text;
         answered = refl;
-        told = over_any (t.told a) (λ held input. Plain command held input (acted act.steps act.text))
+        told = over_any (t.told a) (λ held input. Yields command held input (acted act.steps act.text))
             (subst (λ (o : Outcome). IfSome (t.told a) (λ held. Rules command held o)) one told);
         went = went_one a b x y act.steps act.text did wrote;
         left = refl;
@@ -118,7 +118,7 @@ module _ {T K : Type 0} (t : tapes.Meaning T) (k : sinks.Meaning K) where
   turned_down command blind a b x why nothing sound other told did = inl (record {
     outcome = refused why;
     answered = refl;
-    told = over_any (t.told a) (λ held input. Plain command held input (refused why)) told;
+    told = over_any (t.told a) (λ held input. Yields command held input (refused why)) told;
     went = record { did = did; wrote = record { took = nothing x; later = omega arith }; source_later = omega arith };
     left = none_taken why 0;
     sound = sound;
@@ -135,7 +135,7 @@ module _ {T K : Type 0} (t : tapes.Meaning T) (k : sinks.Meaning K) where
   turned_behind command blind a b x why steps nothing sound other told did = inl (record {
     outcome = refused_behind steps why;
     answered = refl;
-    told = over_any (t.told a) (λ held input. Plain command held input (refused_behind steps why)) told;
+    told = over_any (t.told a) (λ held input. Yields command held input (refused_behind steps why)) told;
     went = went_one a b x x steps [] did (record { took = nothing x; later = omega arith });
     left = none_taken why 0;
     sound = sound;
@@ -175,13 +175,14 @@ module _ {T K : Type 0} (t : tapes.Meaning T) (k : sinks.Meaning K) where
           cut = cut;
           front = ([], subst (CommandPrints command) (sym (append-nil (act.text ++ []) ∙ append-nil act.text)) prints);
           silent = λ still other. absurd (other refl);
+          reads = λ same. absurd (cc);
           source_tells = refl;
         },
       )
     where
       by_told : (o : Option (Option Cartridge)) → IfSome o (λ held. Rules command held outcome) →
           IsCutOff t no_source k command (around a x) (around b y) SinkFails outcome →
-          IfSome o (λ held. (input : List ℕ) × Unit {0} × ((other : Outcome) → Plain command held input other →
+          IfSome o (λ held. (input : List ℕ) × Unit {0} × ((other : Outcome) → Yields command held input other →
           IsCutOff t no_source k command (around a x) (around b y) SinkFails other))
       by_told None told off = tt
       by_told (Some held) told off = (
@@ -226,13 +227,14 @@ module _ {T K : Type 0} (t : tapes.Meaning T) (k : sinks.Meaning K) where
           cut = tape_cut_first a b x (record { steps = steps; text = [] } ∷ []) nothing broke;
           front = some_text command blind.built;
           silent = λ still other. refl;
+          reads = λ same. absurd (cc);
           source_tells = refl;
         },
       )
     where
       by_told : (o : Option (Option Cartridge)) →
           IfSome o (λ held. (outcome : Outcome) → Rules command held outcome → (rest : List TapeStep) × (steps ++ rest ≡ first_steps outcome)) →
-          IfSome o (λ held. (input : List ℕ) × Unit {0} × ((outcome : Outcome) → Plain command held input outcome →
+          IfSome o (λ held. (input : List ℕ) × Unit {0} × ((outcome : Outcome) → Yields command held input outcome →
           IsCutOff t no_source k command (around a x) (around b x) TapeFails outcome))
       by_told None front = tt
       by_told (Some held) front = (

@@ -16,7 +16,7 @@ use Rattle.tape_cmd.specs.declared.status.Status.{Status}
 use Rattle.tape_cmd.specs.declared.status.Status.TheVariants as status
 use Rattle.tape_cmd.specs.Outcome.{Outcome, output_of}
 use Rattle.tape_cmd.specs.Traits.{traits_of}
-use Rattle.tape_cmd.specs.Machine.{HasValues, Plain, CommandPrints, Spells}
+use Rattle.tape_cmd.specs.Machine.{HasValues, Yields, CommandPrints, Spells}
 use Rattle.tape_cmd.specs.Runs.{InputLeft, is_fault, fault_of, is_outcome, may_come_from, Finished, Ends}
 use Rattle.tape_cmd.specs.Headline.{Stepped, Answers, NoneRose, WasCut, IsCut, EachLeft, WordsLeave, StopsGoOn, Joins, PrintsFront}
 use Rattle.tape_cmd.proofs.Endings.{some_text}
@@ -143,7 +143,7 @@ stops_go_on t a b steps stops = record { telling = stops.telling; clock = stops.
 
 module _ {T S K : Type 0} (t : tapes.Meaning T) (s : sources.Meaning S) (k : sinks.Meaning K) (words : List (List ℕ)) (command : Words) (old new : Outside T S K) (answer : Status) where
   stepped : Laws t s k old new → Spells words command → (finished : Finished t s k command old new answer) → (held : Option Cartridge) (input : List ℕ) →
-      t.told old.tape ≡ Some held → Plain command held input finished.outcome → Stepped t s k words held input old new answer
+      t.told old.tape ≡ Some held → Yields command held input finished.outcome → Stepped t s k words held input old new answer
   stepped laws spelled finished held input told plain = record {
     held' = effects (steps_of finished.outcome.acts) held;
     output = output_of finished.outcome;
@@ -166,6 +166,10 @@ module _ {T S K : Type 0} (t : tapes.Meaning T) (s : sources.Meaning S) (k : sin
   ends_cause (inr (other, was, stopped)) failing is =
       subst (FailingRose t s k old new) (same_failing other failing (sym was ∙ is)) (cut_rose t s k old new stopped.acts other stopped.cut)
 
+  pub ends_asked : Ends t s k command old new answer → answer ≡ status.SourceFault → (traits_of command).reads ≡ true
+  ends_asked (inl finished) is = let no = ap (λ (a : Status). may_come_from a command) is in let sound = finished.sound in absurd (cc)
+  ends_asked (inr (failing, was, stopped)) is = stopped.reads (same_failing failing SourceFails (sym was ∙ is))
+
   none_rose : (failing : Failing) → NoneRose t s k old new → FailingRose t s k old new failing → ⊥
   none_rose TapeFails none rose = none.tape rose
   none_rose SourceFails none rose = none.source rose
@@ -183,7 +187,7 @@ module _ {T S K : Type 0} (t : tapes.Meaning T) (s : sources.Meaning S) (k : sin
 
   -- over what is told there is an outcome
   has_outcome : Laws t s k old new → Spells words command → HasValues command → (held : Option Cartridge) (input : List ℕ) → t.told old.tape ≡ Some held →
-      (outcome : Outcome) × Plain command held input outcome
+      (outcome : Outcome) × Yields command held input outcome
   has_outcome laws spelled values held input told =
       plain_answers command held input values spelled.built (told_whole held (t.told old.tape) (t.size old.tape) laws.right told)
 

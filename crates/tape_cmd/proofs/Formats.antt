@@ -28,7 +28,7 @@ use Rattle.tape_cmd.specs.Lines.{formatted_line}
 use Rattle.tape_cmd.specs.Outcome.{Outcome, refused, first_steps}
 use Rattle.tape_cmd.specs.Format.{cleared, formatted, FormatOutcome, format_status}
 use Rattle.tape_cmd.specs.Opening.{HasStarted, StartFails}
-use Rattle.tape_cmd.specs.Printing.{printed_status}
+use Rattle.tape_cmd.specs.Writing.{printed_status}
 use Rattle.tape_cmd.specs.Runs.{EndsBlind}
 use Rattle.tape_cmd.proofs.Endings.{IsBlind, Rules, printed, turned_down, turned_behind, cut_off, cut_off_first}
 use Rattle.tape_cmd.proofs.Hands.{Knows, known_before, told_known, told_known_beside, told_at_start}

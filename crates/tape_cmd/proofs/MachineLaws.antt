@@ -9,7 +9,7 @@ use Rattle.tape_cmd.specs.declared.status.Status.TheVariants as status
 use Rattle.acts.specs.Acts.{steps_of}
 use Rattle.tape_cmd.specs.Outcome.{Outcome, output_of}
 use Rattle.tape_cmd.specs.Traits.{traits_of}
-use Rattle.tape_cmd.specs.Machine.{Plain, SpellsNone, Step}
+use Rattle.tape_cmd.specs.Machine.{Yields, SpellsNone, Step}
 use Rattle.tape_cmd.specs.Laws.{IsSameOutcome, MachineIsFunction, MachineAnswers}
 use Rattle.tape_cmd.proofs.PlainLaws.{plain_is_function}
 use Rattle.tape_cmd.proofs.Totals.{plain_answers}
@@ -18,7 +18,7 @@ use Rattle.tape_cmd.proofs.Values.{has_values}
 -- what a command does, as a step does it
 pub record Does (command : Words) (held : Option Cartridge) (input : List ℕ) (held' : Option Cartridge) (output : List ℕ) (taken : ℕ) (answer : Status) : Type 0 where
   pub outcome : Outcome
-  pub plain : Plain command held input outcome
+  pub plain : Yields command held input outcome
   pub after : held' ≡ effects (steps_of outcome.acts) held
   pub printed : output ≡ output_of outcome
   pub took : taken ≡ outcome.taken
@@ -50,7 +50,7 @@ machine_is_function_where unique words held input held' other output printed tak
     let same = unique words again command spells.spelled spelled.spelled in
     same_outcome command held input held' other output printed taken read one two
     (record { outcome = outcome; plain = plain; after = after; printed = shown; took = took; answered = answered })
-    (record { outcome = result; plain = subst (λ (w : Words). Plain w held input result) same rule; after = then; printed = text; took = bytes; answered = ended })
+    (record { outcome = result; plain = subst (λ (w : Words). Yields w held input result) same rule; after = then; printed = text; took = bytes; answered = ended })
 
 -- ---- it answers
 

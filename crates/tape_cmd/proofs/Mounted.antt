@@ -26,7 +26,7 @@ use Rattle.tape_cmd.specs.Opening.{Printing, opened, OpenOutcome, store_status, 
 use Rattle.tape_cmd.specs.Info.{telling}
 use Rattle.tape_cmd.specs.List.{listing}
 use Rattle.tape_cmd.specs.Machine.{CommandPrints}
-use Rattle.tape_cmd.specs.Printing.{printed_status}
+use Rattle.tape_cmd.specs.Writing.{printed_status}
 use Rattle.tape_cmd.specs.Runs.{EndsBlind, may_come_from}
 use Rattle.tape_cmd.proofs.Endings.{IsBlind, Rules, printed, turned_down, cut_off, told_map}
 use Rattle.tape_cmd.proofs.Formats.{Present}

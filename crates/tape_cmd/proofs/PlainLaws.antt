@@ -31,7 +31,7 @@ use Rattle.tape_cmd.specs.Opening.{Printing, opened, OpenOutcome}
 use Rattle.tape_cmd.specs.Info.{telling}
 use Rattle.tape_cmd.specs.List.{listing}
 use Rattle.tape_cmd.specs.Pulses.{sent, info_of, SentOutcome}
-use Rattle.tape_cmd.specs.Machine.{Plain}
+use Rattle.tape_cmd.specs.Machine.{Yields}
 
 -- ---- what a stop leaves
 
@@ -148,7 +148,7 @@ sector_leaves step segment sector c left a b place whole same one torn =
     ]
 
 -- what a stop in a command's steps leaves
-pub plain_leaves : (command : Words) (held left : Option Cartridge) (input : List ℕ) (outcome : Outcome) → Plain command held input outcome → Torn (steps_of outcome.acts) held left → CommandLeaves command held left
+pub plain_leaves : (command : Words) (held left : Option Cartridge) (input : List ℕ) (outcome : Outcome) → Yields command held input outcome → Torn (steps_of outcome.acts) held left → CommandLeaves command held left
 plain_leaves (words.New segments) held left input outcome plain torn = only_step (Renew segments) held left outcome _ plain refl torn
 plain_leaves (words.Defect segment sector) None left input outcome plain torn = stays None left outcome _ plain refl torn
 plain_leaves (words.Defect segment sector) (Some c) left input outcome (inl plain) torn = inl (stays (Some c) left outcome _ plain.1 refl torn)
@@ -199,7 +199,7 @@ sent_is_function held input a b (came, plain, is) (other, rule, was) =
 
 -- ---- every command is one
 
-pub plain_is_function : (command : Words) (held : Option Cartridge) (input : List ℕ) (a b : Outcome) → Plain command held input a → Plain command held input b → a ≡ b
+pub plain_is_function : (command : Words) (held : Option Cartridge) (input : List ℕ) (a b : Outcome) → Yields command held input a → Yields command held input b → a ≡ b
 plain_is_function (words.New segments) held input a b one other = one ∙ sym other
 plain_is_function (words.Defect segment sector) held input a b one other = defect_is_function segment sector held a b one other
 plain_is_function (words.Lose segment sector) held input a b one other = lose_is_function segment sector held a b one other

@@ -22,7 +22,7 @@ use Rattle.tape_cmd.specs.Runs.{InputLeft, is_fault, is_outcome, may_come_from, 
 use Rattle.tape_cmd.specs.Headline.{Stepped, Answers, WordsLeave, EachLeft, SpellsOne, PrintsFront}
 use Rattle.tape_cmd.specs.Promises.{Promises}
 use Rattle.tape_cmd.proofs.Endings.{any_input, some_text}
-use Rattle.tape_cmd.proofs.Ends.{Laws, is_a_fault, each_left, stops_go_on, ends_cause, ends_answers, ends_carried, ends_cut, ends_stops, ends_joins, ends_otherwise, ends_named, ends_finished, ends_begun, ends_silent}
+use Rattle.tape_cmd.proofs.Ends.{Laws, is_a_fault, each_left, stops_go_on, ends_asked, ends_cause, ends_answers, ends_carried, ends_cut, ends_stops, ends_joins, ends_otherwise, ends_named, ends_finished, ends_begun, ends_silent}
 use Rattle.tape_cmd.proofs.MachineLaws.{machine_is_function_where, machine_answers_where}
 use Rattle.tape_cmd.proofs.Volumes.{volumes_stay, list_stays, stops_format, is_changed, may_change, none_changed}
 
@@ -122,6 +122,7 @@ module _ {T S K : Type 0} (t : tapes.Meaning T) (s : sources.Meaning S) (k : sin
       cut = cut_over stopped.acts failing stopped.cut;
       front = stopped.front;
       silent = stopped.silent;
+      reads = stopped.reads;
       source_tells = refl;
     },
   )
@@ -167,6 +168,7 @@ module _ {T S K : Type 0} (t : tapes.Meaning T) (s : sources.Meaning S) (k : sin
         carried = ends_carried t s k words command old new answer laws spelled ends;
         cut = ends_cut t s k words command old new answer laws spelled values ends;
         cause = ends_cause t s k words command old new answer ends;
+        asked = λ is. (command, spelled, ends_asked t s k words command old new answer ends is);
         stops = stops;
         volumes = volumes_stay t (s.left old.source) words old.tape new.tape laws.right stops;
         lists = list_stays t (s.left old.source) words old.tape new.tape laws.right stops;
@@ -231,6 +233,7 @@ module _ {T S K : Type 0} (t : tapes.Meaning T) (s : sources.Meaning S) (k : sin
         carried = λ sound. answers;
         cut = λ failing same. let fault = ap is_fault same ∙ is_a_fault failing in let no = nothing.0 in absurd (cc);
         cause = λ failing same. let fault = ap is_fault same ∙ is_a_fault failing in let no = nothing.0 in absurd (cc);
+        asked = λ same. let fault = ap is_fault same in let no = nothing.0 in absurd (cc);
         stops = stops;
         volumes = volumes_stay t (s.left old.source) words old.tape old.tape laws.right stops;
         lists = list_stays t (s.left old.source) words old.tape old.tape laws.right stops;

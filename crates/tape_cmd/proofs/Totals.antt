@@ -22,7 +22,7 @@ use Rattle.tape_cmd.specs.Info.{telling}
 use Rattle.tape_cmd.specs.List.{listing}
 use Rattle.tape_cmd.specs.Pulses.{sent, info_of, SentOutcome}
 use Rattle.tape_cmd.specs.Traits.{traits_of}
-use Rattle.tape_cmd.specs.Machine.{HasValues, Plain}
+use Rattle.tape_cmd.specs.Machine.{HasValues, Yields}
 
 -- a cartridge has a sector, or not
 place_or_not : (c : Cartridge) (segment sector : ℕ) → HasPlace c segment sector ⊎ ¬ (HasPlace c segment sector)
@@ -81,7 +81,7 @@ format_answers label date (Some c) is few whole = by_mark c.info.protected refl
 sent_answers : (held : Option Cartridge) (input : List ℕ) → (outcome : Outcome) × SentOutcome held input outcome
 sent_answers held input = let came = each_outcome (info_of held) input in (sent came.0, (came.0, came.1, refl))
 
-pub plain_answers : (command : Words) (held : Option Cartridge) (input : List ℕ) → HasValues command → (traits_of command).built ≡ true → IfSome held IsCartridge → (outcome : Outcome) × Plain command held input outcome
+pub plain_answers : (command : Words) (held : Option Cartridge) (input : List ℕ) → HasValues command → (traits_of command).built ≡ true → IfSome held IsCartridge → (outcome : Outcome) × Yields command held input outcome
 plain_answers (words.New segments) held input values built whole = (_, refl)
 plain_answers (words.Defect segment sector) held input values built whole = defect_answers segment sector held
 plain_answers (words.Lose segment sector) held input values built whole = lose_answers segment sector held

@@ -133,6 +133,7 @@ module _ {T S K : Type 0} (t : tapes.Meaning T) (s : sources.Meaning S) (k : sin
             (run.known, (run.plain.trains, ap (λ (o : pulses.Outcome). text_of o.acts) run.plain.comes)),
       );
       silent = λ still other. absurd (cc);
+      reads = λ same. refl;
       source_tells = tells;
     },
   )

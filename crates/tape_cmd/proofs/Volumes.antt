@@ -35,7 +35,7 @@ use Rattle.tape_cmd.specs.Place.{HasPlace}
 use Rattle.tape_cmd.specs.New.{NewOutcome}
 use Rattle.tape_cmd.specs.Format.{FormatOutcome}
 use Rattle.tape_cmd.specs.Traits.{traits_of}
-use Rattle.tape_cmd.specs.Machine.{HasValues, Plain as Outcomes, Spells}
+use Rattle.tape_cmd.specs.Machine.{HasValues, Yields, Spells}
 use Rattle.tape_cmd.specs.Runs.{is_fault, fault_of, may_come_from, IsCutOff, Finished, Ends}
 use Rattle.tape_cmd.specs.Headline.{EachLeft, EachNow, StopLeaves, WordsLeave}
 use Rattle.tape_cmd.specs.Volumes.{KeepsVolumes, StillStands, VolumesStay, KeepsList, StillMounts, ListStays, StandsEmpty, FormatsOrNot, StopsFormat, StandsFresh, IsCarriedOut, IsChanged, IsBare}
@@ -263,7 +263,7 @@ record Did {T : Type 0} (t : tapes.Meaning T) (command : Words) (a b : T) (held 
   input : List ℕ
   outcome : Outcome
   sound : outcome.status ≡ is
-  plain : Outcomes command held input outcome
+  plain : Yields command held input outcome
   did : tapes.Done t a b (steps_of outcome.acts)
 
 -- a fault of the sink in the only act comes when all steps are done
@@ -316,7 +316,7 @@ module _ {T S K : Type 0} (t : tapes.Meaning T) (s : sources.Meaning S) (k : sin
 
   -- it was carried out, though its output may be cut off
   carried_out_did : (held : Option Cartridge) → IfSome held IsCartridge → (traits_of command).built ≡ true → HasValues command → (traits_of command).goes ≡ false →
-      ((input : List ℕ) (outcome : Outcome) → Outcomes command held input outcome → IsOne outcome.acts) → t.told old.tape ≡ Some held →
+      ((input : List ℕ) (outcome : Outcome) → Yields command held input outcome → IsOne outcome.acts) → t.told old.tape ≡ Some held →
       IsCarriedOut answer → Ends t s k command old new answer → Did t command old.tape new.tape held status.Done
   carried_out_did held whole built values still one told (inl done) (inl finished) = finished_did held status.Done told finished done
   carried_out_did held whole built values still one told (inr fault) (inl finished) =

@@ -13,8 +13,8 @@ use Rattle.tape_cmd.specs.declared.status.Status.{Status}
 use Rattle.tape_cmd.specs.declared.status.Status.TheVariants as status
 use Rattle.tape_cmd.specs.Outcome.{Outcome}
 use Rattle.tape_cmd.specs.Traits.{Traits, traits_of}
-use Rattle.tape_cmd.specs.Machine.{Plain, CommandPrints, HasInputFault, Spells, Step}
-use Rattle.tape_cmd.specs.Runs.{Over, InputLeft, IsCutOff}
+use Rattle.tape_cmd.specs.Machine.{Yields, CommandPrints, HasInputFault, Spells, Step}
+use Rattle.tape_cmd.specs.Runs.{OverTold, InputLeft, IsCutOff}
 
 -- ---- a step of the plain machine
 
@@ -32,7 +32,7 @@ pub record Stepped {T S K : Type 0} (t : tapes.Meaning T) (s : sources.Meaning S
 -- the answer is want of memory, or the step was made
 abbrev pub Answers : {T S K : Type 0} (t : tapes.Meaning T) (s : sources.Meaning S) (k : sinks.Meaning K) (words : List (List ℕ)) (old new : Outside T S K) → Status → Type 0
 Answers t s k words old new answer =
-    Over t s old (λ held input. (answer ≡ status.NoMemory) ⊎ Stepped t s k words held input old new answer)
+    OverTold t s old (λ held input. (answer ≡ status.NoMemory) ⊎ Stepped t s k words held input old new answer)
 
 -- no count of faults rose
 pub record NoneRose {T S K : Type 0} (t : tapes.Meaning T) (s : sources.Meaning S) (k : sinks.Meaning K) (old new : Outside T S K) : Type 0 where
@@ -45,12 +45,13 @@ pub record NoneRose {T S K : Type 0} (t : tapes.Meaning T) (s : sources.Meaning 
 -- it cut off the acts of the plain machine's outcome
 pub record WasCut {T S K : Type 0} (t : tapes.Meaning T) (s : sources.Meaning S) (k : sinks.Meaning K) (command : Words) (held : Option Cartridge) (input : List ℕ) (old new : Outside T S K) (failing : Failing) : Type 0 where
   pub outcome : Outcome
-  pub plain : Plain command held input outcome
+  pub plain : Yields command held input outcome
   pub off : IsCutOff t s k command old new failing outcome
 
+-- of a command that the words spell, over what is told
 abbrev pub IsCut : {T S K : Type 0} (t : tapes.Meaning T) (s : sources.Meaning S) (k : sinks.Meaning K) (words : List (List ℕ)) (old new : Outside T S K) → Failing → Type 0
 IsCut t s k words old new failing =
-    (command : Words) × Spells words command × Over t s old (λ held input. WasCut t s k command held input old new failing)
+    (command : Words) × Spells words command × OverTold t s old (λ held input. WasCut t s k command held input old new failing)
 
 -- ---- a stop
 
@@ -73,7 +74,7 @@ pub record StopLeaves (told : Option (List ℕ)) (command : Words) (held left : 
   pub input : List ℕ
   pub is_told : IfSome told (λ bytes. input ≡ bytes)
   pub outcome : Outcome
-  pub plain : Plain command held input outcome
+  pub plain : Yields command held input outcome
   pub torn : Torn (steps_of outcome.acts) held left
 
 -- what a run leaves: what stood, or what a stop in its command leaves

@@ -2,7 +2,9 @@
 use Rattle.std.specs.Prelude.{◌≡◌, ℕ, List, Option, IfSome}
 use Rattle.qic_base.specs.Cartridge.{Cartridge, IsCartridge}
 use Rattle.tape_cmd.specs.declared.status.Status.{Status}
-use Rattle.tape_cmd.specs.Machine.{Step}
+use Rattle.tape_script.specs.declared.words.Words.{Words}
+use Rattle.tape_cmd.specs.Outcome.{Outcome}
+use Rattle.tape_cmd.specs.Machine.{Yields, Step}
 
 -- two outcomes of a step are one: what is held then, the output, how many bytes were taken, and the status
 pub record IsSameOutcome (held other : Option Cartridge) (output printed : List ℕ) (taken read : ℕ) (status answer : Status) : Type 0 where
@@ -25,3 +27,9 @@ abbrev pub MachineAnswers : Type 0
 MachineAnswers =
     (words : List (List ℕ)) (held : Option Cartridge) (input : List ℕ) → IfSome held IsCartridge →
     (held' : Option Cartridge) × ((output : List ℕ) × ((taken : ℕ) × ((status : Status) × Step words held input held' output taken status)))
+
+-- a command has one outcome over what the drive holds and an input
+abbrev pub OneOutcome : Type 0
+OneOutcome =
+    (command : Words) (held : Option Cartridge) (input : List ℕ) (one other : Outcome) →
+    Yields command held input one → Yields command held input other → one ≡ other

@@ -11,10 +11,10 @@ pub mod New
 pub mod Opening
 pub mod Outcome
 pub mod Place
-pub mod Printing
 pub mod Promises
 pub mod Protect
 pub mod Pulses
 pub mod Runs
 pub mod Traits
 pub mod Volumes
+pub mod Writing

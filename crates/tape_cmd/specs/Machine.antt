@@ -26,23 +26,23 @@ use Rattle.tape_cmd.specs.Pulses.{SentOutcome, AreLevels}
 
 -- ---- commands
 
--- the values that words can give a command: a cartridge's length; a label of 44 bytes, and a date word
+-- the bounds of a command's values: a cartridge's length; a label of 44 bytes, and a date word
 abbrev pub HasValues : Words → Type 0
 HasValues (words.New segments) = IsLength segments
 HasValues (words.Format label date) = IsLabel label × (date < 2 ^ 32)
 HasValues command = Unit {0}
 
 -- a command over what the drive holds and an input
-abbrev pub Plain : Words → (held : Option Cartridge) (input : List ℕ) → Outcome → Type 0
-Plain (words.New segments) held input outcome = NewOutcome segments outcome
-Plain (words.Defect segment sector) held input outcome = DefectOutcome segment sector held outcome
-Plain (words.Lose segment sector) held input outcome = LoseOutcome segment sector held outcome
-Plain (words.Protect on) held input outcome = ProtectOutcome on held outcome
-Plain (words.Format label date) held input outcome = FormatOutcome label date held outcome
-Plain words.Info held input outcome = InfoOutcome held outcome
-Plain words.List held input outcome = ListOutcome held outcome
-Plain words.Pulses held input outcome = SentOutcome held input outcome
-Plain command held input outcome = ⊥
+abbrev pub Yields : Words → (held : Option Cartridge) (input : List ℕ) → Outcome → Type 0
+Yields (words.New segments) held input outcome = NewOutcome segments outcome
+Yields (words.Defect segment sector) held input outcome = DefectOutcome segment sector held outcome
+Yields (words.Lose segment sector) held input outcome = LoseOutcome segment sector held outcome
+Yields (words.Protect on) held input outcome = ProtectOutcome on held outcome
+Yields (words.Format label date) held input outcome = FormatOutcome label date held outcome
+Yields words.Info held input outcome = InfoOutcome held outcome
+Yields words.List held input outcome = ListOutcome held outcome
+Yields words.Pulses held input outcome = SentOutcome held input outcome
+Yields command held input outcome = ⊥
 
 -- what a command that was carried out prints, whatever it is that the drive holds
 abbrev pub CommandPrints : Words → List ℕ → Type 0
@@ -82,5 +82,5 @@ ReadsCommand words (Some command) = Spells words command × HasValues command
 abbrev pub Step : (words : List (List ℕ)) (held : Option Cartridge) (input : List ℕ) (held' : Option Cartridge) (output : List ℕ) (taken : ℕ) → Status → Type 0
 Step words held input held' output taken answer =
     (SpellsNone words × (held' ≡ held) × (output ≡ []) × (taken ≡ 0) × (answer ≡ status.Usage))
-    ⊎ ((command : Words) × Spells words command × ((outcome : Outcome) × Plain command held input outcome
+    ⊎ ((command : Words) × Spells words command × ((outcome : Outcome) × Yields command held input outcome
     × (held' ≡ effects (steps_of outcome.acts) held) × (output ≡ output_of outcome) × (taken ≡ outcome.taken) × (answer ≡ outcome.status)))

@@ -44,7 +44,8 @@ OpenOutcome prints (Some c) outcome = (m : Mounting) × Mounts c m × (outcome �
 
 -- ---- how the call ended
 
--- the answer that a refusal of a store makes, or its fault; a source that ends early is a fault of a script's line
+-- the answer that a refusal of a store makes, or its fault; a source that ends early has none yet, since no command
+-- promises bytes
 abbrev pub store_status : StoreFault → Status
 store_status fault.NotFormatted = status.NotFormatted
 store_status (fault.Foreign field value) = status.Foreign field value
@@ -56,7 +57,8 @@ store_status (fault.Mismatch segment) = status.Mismatch segment
 store_status fault.Protected = status.Protected
 store_status fault.Source = status.SourceFault
 store_status fault.Sink = status.SinkFault
-store_status other = status.TapeFault
+store_status (fault.Short promised read) = status.TapeFault
+store_status fault.Tape = status.TapeFault
 
 -- an answer to what an opening finds
 abbrev pub is_opening : Status → Bool

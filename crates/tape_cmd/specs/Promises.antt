@@ -14,15 +14,16 @@ use Rattle.tape_cmd.specs.Volumes.{VolumesStay, ListStays, StopsFormat, IsChange
 
 -- What a run of words promises, by the objects of the outside before it and after it, and by its answer.
 pub record Promises {T S K : Type 0} (t : tapes.Meaning T) (s : sources.Meaning S) (k : sinks.Meaning K) (words : List (List ℕ)) (old new : Outside T S K) (answer : Status) : Type 0 where
-  -- Where no count of faults rose, the plain machine's step was made, or there was no memory.
+  -- Where no count of faults rose, over what is told the plain machine's step was made, or there was no memory.
   pub answers : NoneRose t s k old new → Answers t s k words old new answer
   -- Where no fault of the outside ended it, the same, whatever the counts say.
   pub carried : is_fault answer ≡ false → Answers t s k words old new answer
-  -- A fault of the outside cut off the acts of the plain machine's outcome, ..
+  -- A fault of the outside cut off the acts of the plain machine's outcome over what is told, ..
   pub cut : (failing : Failing) → answer ≡ fault_of failing → IsCut t s k words old new failing
-  -- .. and comes only where the count of its object rose.
+  -- .. and comes only where the count of its object rose, one of the source only to a command that reads it.
   pub cause : (failing : Failing) → answer ≡ fault_of failing → FailingRose t s k old new failing
-  -- The run, a stop at any moment since it began, and one now leave what the command may leave.
+  pub asked : answer ≡ status.SourceFault → SpellsOne words (λ traits. traits.reads)
+  -- Where the tape tells, the run, a stop at any moment since it began, and one now leave what the command may leave.
   pub stops : EachLeft t old.tape new.tape (WordsLeave (s.left old.source) words)
   -- The volumes: each cartridge so left stands for what the old one stood for, but for `new`, `format` of a cartridge that
   -- is not protected, and a `lose` that doesn't spare header and table; and likewise it has the old one's list. Formatting
@@ -30,11 +31,12 @@ pub record Promises {T S K : Type 0} (t : tapes.Meaning T) (s : sources.Meaning 
   pub volumes : VolumesStay t words old.tape new.tape
   pub lists : ListStays t words old.tape new.tape
   pub formats : StopsFormat t words old.tape new.tape
-  -- After Done or a fault of the sink the cartridge of `new`, or the empty one of `format`, stands.
+  -- After Done or a fault of the sink the cartridge of `new`, or the empty one of `format`, stands; after a defect in front
+  -- a bare one.
   pub changed : IsChanged t words old.tape new.tape answer
   -- Two runs can be joined.
   pub joins : Joins t s k old new
-  -- The other answers have their causes, over any tape and source.
+  -- The other answers come only from a command that may give them, over any tape and source.
   pub usage : (answer ≡ status.Usage) ↔ SpellsNone words
   pub memory : answer ≡ status.NoMemory → SpellsOne words (λ traits. traits.memory)
   pub named : is_outcome answer ≡ true → (command : Words) × Spells words command × (may_come_from answer command ≡ true)
@@ -43,7 +45,7 @@ pub record Promises {T S K : Type 0} (t : tapes.Meaning T) (s : sources.Meaning 
   -- What is printed at Done is the command's text, and a front of it whatever is answered, ..
   pub printed : answer ≡ status.Done → PrintsText k words old.sink new.sink
   pub begun : (command : Words) → Spells words command → PrintsFront k command old.sink new.sink
-  -- .. and but for commands that print as they go, no other answer than that of a sink that failed touches the sink.
+  -- .. and but for commands that print as they go, an answer other than Done and a fault of the sink leaves the sink alone.
   pub silent : SpellsNoneThat words (λ traits. traits.goes) → answer ≢ status.Done → answer ≢ status.SinkFault → new.sink ≡ old.sink
   -- A command that doesn't read the input leaves the source as it was; the others keep what each call of it keeps.
   pub source : SpellsNoneThat words (λ traits. traits.reads) → new.source ≡ old.source

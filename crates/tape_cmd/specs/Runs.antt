@@ -11,12 +11,12 @@ use Rattle.tape_cmd.specs.declared.status.Status.{Status}
 use Rattle.tape_cmd.specs.declared.status.Status.TheVariants as status
 use Rattle.tape_cmd.specs.Outcome.{Outcome, output_of}
 use Rattle.tape_cmd.specs.Traits.{traits_of}
-use Rattle.tape_cmd.specs.Machine.{Plain, CommandPrints, HasInputFault}
+use Rattle.tape_cmd.specs.Machine.{Yields, CommandPrints, HasInputFault}
 
 -- where the tape tells, a fact of what it told and of the input: that which the source told, or some input where it
 -- tells none
-abbrev pub Over : {T S K : Type 0} (t : tapes.Meaning T) (s : sources.Meaning S) (old : Outside T S K) (P : Option Cartridge → List ℕ → Type 0) → Type 0
-Over t s old P =
+abbrev pub OverTold : {T S K : Type 0} (t : tapes.Meaning T) (s : sources.Meaning S) (old : Outside T S K) (P : Option Cartridge → List ℕ → Type 0) → Type 0
+OverTold t s old P =
     IfSome (t.told old.tape) (λ held. (input : List ℕ) × IfSome (s.left old.source) (λ bytes. input ≡ bytes) × P held input)
 
 -- What is left of the input: what stands behind the bytes taken; or, where a line is at fault, an end of the bytes from
@@ -82,7 +82,7 @@ pub record Finished {T S K : Type 0} (t : tapes.Meaning T) (s : sources.Meaning 
   pub outcome : Outcome
   pub answered : answer ≡ outcome.status
   -- over what is told the plain machine's
-  pub told : Over t s old (λ held input. Plain command held input outcome)
+  pub told : OverTold t s old (λ held input. Yields command held input outcome)
   pub went : Went t s k old new outcome.acts
   pub left : InputLeft answer outcome.taken (s.left old.source) (s.left new.source)
   -- and over any tape and source one that the command may have
@@ -99,15 +99,17 @@ pub record IsCutOff {T S K : Type 0} (t : tapes.Meaning T) (s : sources.Meaning 
   pub cut : Cut t s k old new outcome.acts failing
   pub done : failing ≡ SinkFails → (traits_of command).goes ≡ false → outcome.status ≡ status.Done
 
--- A fault of an object of the outside cut it off.
+-- A fault of an object of the outside cut it off, or came behind its last act.
 pub record Stopped {T S K : Type 0} (t : tapes.Meaning T) (s : sources.Meaning S) (k : sinks.Meaning K) (command : Words) (old new : Outside T S K) (failing : Failing) : Type 0 where
   -- over what is told in the acts of the plain machine's outcome
-  pub told : Over t s old (λ held input. (outcome : Outcome) → Plain command held input outcome → IsCutOff t s k command old new failing outcome)
+  pub told : OverTold t s old (λ held input. (outcome : Outcome) → Yields command held input outcome → IsCutOff t s k command old new failing outcome)
   -- and over any tape and source in some that print a front of the command's text
   pub acts : List Act
   pub cut : Cut t s k old new acts failing
   pub front : (rest : List ℕ) × CommandPrints command (text_of acts ++ rest)
   pub silent : (traits_of command).goes ≡ false → failing ≢ SinkFails → new.sink ≡ old.sink
+  -- a fault of the source comes to a command that reads it
+  pub reads : failing ≡ SourceFails → (traits_of command).reads ≡ true
   pub source_tells : is_some (s.left new.source) ≡ is_some (s.left old.source)
 
 -- how a command ended

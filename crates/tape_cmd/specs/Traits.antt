@@ -25,6 +25,7 @@ pub record Traits : Type 0 where
   -- it mounts the cartridge
   pub mounts : Bool
 
+-- one that is not built
 abbrev pub unbuilt : Traits
 unbuilt = record {
   built = false;

@@ -116,6 +116,9 @@ pub fn run_ready<T: Tape, S: Source, K: Sink>(
 ) -> Status
     requires values { HasValues words.now }
     requires built { (traits_of words.now).built ≡ true }
+    ensures ends { Ends T.means S.means K.means words.now
+        record { tape = unit.old.tape; source = source.old; sink = sink.old }
+        record { tape = unit.new.tape; source = source.new; sink = sink.new } result }
     ensures promises { (spelled : List (List ℕ)) → Spells spelled words.now →
         Promises T.means S.means K.means spelled
         record { tape = unit.old.tape; source = source.old; sink = sink.old }

@@ -1,6 +1,6 @@
 //! Laws of the plain machine. Each is the contract of a function that does nothing.
 
-ghost use Rattle.tape_cmd.specs.Laws.{MachineIsFunction, MachineAnswers};
+ghost use Rattle.tape_cmd.specs.Laws.{MachineIsFunction, MachineAnswers, OneOutcome};
 
 /// Words, what the drive holds and the input determine what is held then, the output, the bytes taken and the status.
 pub fn machine_is_function()
@@ -10,4 +10,9 @@ pub fn machine_is_function()
 /// Over any words, a whole cartridge or none, and any input the machine makes a step.
 pub fn machine_answers()
     ensures { MachineAnswers }
+{}
+
+/// A command has one outcome: its acts, the bytes taken and the answer.
+pub fn a_command_has_one_outcome()
+    ensures { OneOutcome }
 {}

@@ -2,7 +2,7 @@
 
 ghost use Rattle.std.specs.Prelude.{◌≡◌, ◌≤◌, length};
 ghost use Rattle.tape_cmd.specs.Lines.{number_line, place_line, protected_line};
-ghost use Rattle.tape_cmd.specs.Printing.{printed_status};
+ghost use Rattle.tape_cmd.specs.Writing.{printed_status};
 
 use crate::Status;
 use qic_base::SinkFailed;

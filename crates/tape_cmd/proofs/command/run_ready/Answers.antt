@@ -32,3 +32,9 @@ returns-else-takes_memory-clause-promises g c spelled spells =
       after = g.met.T.Tape.left_now c.carry_out.new.unit.tape;
     }
     spells c.requires.values c.carry_out.ensures.source c.carry_out.ensures.kept c.carry_out.ensures.ends
+
+pub returns-then-takes_memory-clause-ends : goal.returns-then-takes_memory-clause-ends
+returns-then-takes_memory-clause-ends g c =
+    ends_over g.T.Tape.means g.S.Source.means g.K.Sink.means c.args.words.now
+    c.args.unit.now.tape c.carry_out_in.new.unit.tape c.args.source.now c.args.sink.now c.carry_out_in.new.sink c.carry_out_in.result
+    (memory_reads_none c.args.words.now (sym c.takes_memory.ensures ∙ c.if-takes_memory.true)) c.carry_out_in.ensures

@@ -1,9 +1,9 @@
--- How a command ends that has written its text (this project's own).
+-- How a command ends that was to write its text (this project's own).
 use Rattle.std.specs.Prelude.{Result, Ok, Err}
 use Rattle.tape_cmd.specs.declared.status.Status.{Status}
 use Rattle.tape_cmd.specs.declared.status.Status.TheVariants as status
 
--- .. or hasn't
+-- it was written, or a fault of the sink broke it off
 abbrev pub printed_status : {A E : Type 0} → Result A E → Status
 printed_status (Ok done) = status.Done
 printed_status (Err fault) = status.SinkFault
