@@ -2,11 +2,20 @@
 //! can rest on it; their proofs import the lemmas of this crate's `proofs`.
 
 ghost use Rattle.append_plan.specs.Laws.{SettledIsReady, BeforeReadsOld, TurnedReadsNew, AppendedTableShows, AppendedBytes, VolumeStepsByBytes, WritesBySegment, SectorsTakeTheirs, AppendedStands, AppendedMounts, AppendedIsClean, AppendedIsWhole, AppendedIsCartridge, AppendedIsReady, FreeWritesStand, FreeWritesLeaveReady, FreeWritesAreClean, SectorWritesAreCartridge, StoppedVolume, StoppedList, StoppedAppend, StoppedFromTheStart, AppendTouchesOnly, StoppedAppendMounts, StoppedAppendIsClean, StoppedAppendIsCartridge};
+ghost use Rattle.append_plan.specs.Settled.{SettledIsSettledFor, SettledMayAppendTo, ReadyIsSettledFor, DoneTableShows, DoneBytes, DoneStands, DoneMounts, DoneIsSettledFor, DoneIsClean, DoneIsCartridge, DoneTouchesOnly, DoneMayAppendTo};
 
 /// A cartridge that was settled is ready for an append that has room, where each sector of its table's segment takes what is
 /// written to it.
 pub fn settled_is_ready()
     ensures { SettledIsReady }
+{}
+
+/// A cartridge that was settled and is not protected holds the table in each sector of its segment that takes what is written
+/// to it, so an append to it may be done whichever others there are.
+pub fn settled_over_dead_sectors()
+    ensures settled { SettledIsSettledFor }
+    ensures may { SettledMayAppendTo }
+    ensures ready { ReadyIsSettledFor }
 {}
 
 /// A table's segment between two data is read as the old ones until the changed sector of data is new, and as the new ones
@@ -38,6 +47,20 @@ pub fn done_append()
     ensures table { AppendedIsWhole }
     ensures whole { AppendedIsCartridge }
     ensures ready { AppendedIsReady }
+{}
+
+/// After all steps of an append the same is so where sectors of the table's segment are defects or were never formatted: the
+/// table is read as the new one, and the next append may follow.
+pub fn done_append_over_dead_sectors()
+    ensures shows { DoneTableShows }
+    ensures bytes { DoneBytes }
+    ensures stands { DoneStands }
+    ensures mounts { DoneMounts }
+    ensures settled { DoneIsSettledFor }
+    ensures clean { DoneIsClean }
+    ensures whole { DoneIsCartridge }
+    ensures others { DoneTouchesOnly }
+    ensures again { DoneMayAppendTo }
 {}
 
 /// Whatever is written behind the last volume, stopped or not, leaves what stood; and whatever sectors are written, a
