@@ -1,10 +1,11 @@
 -- What an append leaves, done or stopped, is mounted as what it stands for, and its header copies are as they were.
-use Rattle.std.proofs.Common.{◌≡◌, ◌⊎◌, ℕ, ◌-◌, ◌*◌, ◌<◌, ◌≤◌, inl, inr, List, Contains, length, refl, sym, ap, ◌∙◌, subst, arith}
+use Rattle.std.proofs.Common.{◌≡◌, ◌⊎◌, ℕ, ◌-◌, ◌*◌, ◌<◌, ◌≤◌, inl, inr, List, Contains, length, Option, Some, IsSomeAnd, refl, sym, ap, ◌∙◌, subst, arith}
 use Rattle.std.proofs.lemmas.List.Elements.{All-weaker, All-contains_itself, Contains-get_or}
 use Rattle.qic_base.specs.declared.tape.SectorView.{SectorView}
 use Rattle.qic_base.specs.declared.tape.TapeInfo.{TapeInfo}
 use Rattle.qic_base.specs.Cartridge.{Cartridge, IsCartridge}
 use Rattle.qic_base.specs.Step.{Step}
+use Rattle.qic_base.specs.Stop.{Torn}
 use Rattle.cartridge_spec.specs.HeaderAndTable.{IsArea, copy_cells, last_segment}
 use Rattle.cartridge_spec.specs.Mounting.{Mounts}
 use Rattle.cartridge_spec.specs.Says.{whole_mask, Written, Zero}
@@ -18,15 +19,15 @@ use Rattle.mount_laws.specs.Laws.{mounted_as}
 use Rattle.append_plan.specs.Appending.{new_segments, appended_volume, appended_table, with_volume, volume_writes, list_writes, append_steps, IsNamed}
 use Rattle.append_plan.specs.Between.{table_places}
 use Rattle.append_plan.specs.Laws.{steps_of, IsReady, AppendTouchesOnly, AppendedMounts, AppendedIsClean, StoppedAppendMounts, StoppedAppendIsClean, FreeWritesLeaveReady, FreeWritesAreClean}
-use Rattle.append_plan.specs.Settled.{MayAppendTo, DoneMounts, DoneIsClean, DoneTouchesOnly}
+use Rattle.append_plan.specs.Settled.{MayAppendTo, FreeWritesLeaveSettled, DoneMounts, DoneIsClean, DoneTouchesOnly}
 use Rattle.append_plan.specs.Room.{has_room, last_end}
 use Rattle.cartridge_spec.specs.Slots.{slot_sector}
-use Rattle.append_plan.specs.Writes.{KeepsTo}
+use Rattle.append_plan.specs.Writes.{AreWrites, IsFree, IsOfSector, KeepsTo}
 use Rattle.append_plan.proofs.Appended.{IsReadAs, some_both, either_of, stopped_reads, stopped_append, done_stands, done_is_settled_for}
-use Rattle.append_plan.proofs.Dead.{ready_settled}
+use Rattle.append_plan.proofs.Dead.{ready_settled, settled_kept}
 use Rattle.append_plan.proofs.Keeping.{AreIn, AllowsUsable, IsKeptBut, in_append, parts_in, parts_of_segments, steps_kept, steps_stopped}
 use Rattle.append_plan.proofs.Table.{ready_count}
-use Rattle.append_plan.proofs.Volume.{may_append, free_writes_stand, last_end_least, ready_taken, taken_behind}
+use Rattle.append_plan.proofs.Volume.{may_append, is_ready, free_writes_stand, last_end_least, ready_taken, taken_behind}
 use Rattle.append_plan.proofs.Whole.{sector_writes_are_cartridge}
 
 -- ---- mounting
@@ -159,21 +160,37 @@ pub free_writes_are_clean : FreeWritesAreClean
 free_writes_are_clean c plain steps left clean free torn =
     some_weaker left (λ d known. free_clean c d plain clean known.0 known.1) (free_writes_stand c plain steps left clean.stands free torn)
 
-free_ready : (c d : Cartridge) (plain : Plain) (name : List ℕ) (date : ℕ) (bytes : List ℕ) → IsReady c plain name date bytes → IsCartridge d →
-    Stands d plain → KeepsTo (last_end (entries_of plain)) c d → IsReady d plain name date bytes
-free_ready c d plain name date bytes ready cartridge stands kept = record {
-  cartridge = cartridge;
-  stands = stands;
-  whole = λ i h. kept.sectors 2 i (last_end_least c plain ready.stands) h ∙ ready.whole i h;
-  room = ap (λ (i : TapeInfo). has_room plain.words (entries_of plain) (28 * i.segments_per_track - 1) (length bytes)) kept.info ∙ ready.room;
-  label = ready.label;
-  word = ready.word;
-  content = ready.content;
+free_left : (c : Cartridge) (plain : Plain) (steps : List Step) (left : Option Cartridge) → IsCartridge c → Stands c plain →
+    AreWrites (IsFree (last_end (entries_of plain))) steps → AreWrites IsOfSector steps → Torn steps (Some c) left →
+    IsSomeAnd left (λ d. IsCartridge d × (Stands d plain × KeepsTo (last_end (entries_of plain)) c d))
+free_left c plain steps left whole stood free sectors torn =
+    some_both IsCartridge (λ d. Stands d plain × KeepsTo (last_end (entries_of plain)) c d) left
+    (sector_writes_are_cartridge c steps left whole sectors torn)
+    (free_writes_stand c plain steps left stood free torn)
+
+free_may : (c d : Cartridge) (plain : Plain) (name : List ℕ) (date : ℕ) (bytes : List ℕ) → MayAppendTo c plain name date bytes →
+    IsCartridge d × (Stands d plain × KeepsTo (last_end (entries_of plain)) c d) → MayAppendTo d plain name date bytes
+free_may c d plain name date bytes may left = record {
+  cartridge = left.0;
+  stands = left.1.0;
+  room = ap (λ (i : TapeInfo). has_room plain.words (entries_of plain) (28 * i.segments_per_track - 1) (length bytes)) left.1.1.info ∙ may.room;
+  label = may.label;
+  word = may.word;
+  content = may.content;
 }
+
+pub free_writes_leave_settled : FreeWritesLeaveSettled
+free_writes_leave_settled c plain name date bytes steps left may known free sectors torn =
+    let least : 2 ≤ last_end (entries_of plain) = last_end_least c plain may.stands in
+    some_weaker left (λ d now. (
+      free_may c d plain name date bytes may now,
+      settled_kept c d plain.table_area (λ s i within h. now.1.1.sectors s i (omega arith) h) known,
+    ))
+    (free_left c plain steps left may.cartridge may.stands free sectors torn)
 
 pub free_writes_leave_ready : FreeWritesLeaveReady
 free_writes_leave_ready c plain name date bytes steps left ready free sectors torn =
-    some_weaker left (λ d known. free_ready c d plain name date bytes ready known.0 known.1.0 known.1.1)
-    (some_both IsCartridge (λ d. Stands d plain × KeepsTo (last_end (entries_of plain)) c d) left
-    (sector_writes_are_cartridge c steps left ready.cartridge sectors torn)
-    (free_writes_stand c plain steps left ready.stands free torn))
+    some_weaker left (λ d now.
+    is_ready (free_may c d plain name date bytes (may_append ready) now)
+    (λ i h. now.1.1.sectors 2 i (last_end_least c plain ready.stands) h ∙ ready.whole i h))
+    (free_left c plain steps left ready.cartridge ready.stands free sectors torn)

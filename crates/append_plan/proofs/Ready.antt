@@ -13,14 +13,13 @@ use Rattle.mount_laws.proofs.Settled.{settled_keeps_table, settled_stands, settl
 use Rattle.mount_laws.proofs.Whole.{settled_is_cartridge, settling_effects}
 use Rattle.mount_laws.proofs.Keeping.{stopped_stands}
 use Rattle.mount_laws.specs.Settling.{settling_steps}
-use Rattle.append_plan.specs.Between.{IsWhole}
-use Rattle.append_plan.specs.Laws.{new_plain, steps_of, IsReady, SettledIsReady, StoppedFromTheStart, AppendedIsReady}
+use Rattle.append_plan.specs.Laws.{new_plain, steps_of, SettledIsReady, StoppedFromTheStart, AppendedIsReady}
 use Rattle.append_plan.specs.Settled.{MayAppendTo, SettledMayAppendTo, ReadyIsSettledFor, DoneMayAppendTo}
 use Rattle.append_plan.specs.Room.{has_room}
 use Rattle.append_plan.proofs.Appended.{done_stands, appended_is_whole, stopped_append}
 use Rattle.append_plan.proofs.Dead.{ready_settled}
 use Rattle.append_plan.proofs.Mounted.{done_touches_only}
-use Rattle.append_plan.proofs.Volume.{may_append}
+use Rattle.append_plan.proofs.Volume.{may_append, is_ready}
 use Rattle.append_plan.proofs.Whole.{done_is_cartridge}
 
 pub settled_may_append_to : SettledMayAppendTo
@@ -37,18 +36,6 @@ settled_may_append_to c plain name date bytes may table = record {
 
 pub ready_is_settled_for : ReadyIsSettledFor
 ready_is_settled_for c plain name date bytes ready = (may_append ready, ready_settled ready)
-
-is_ready : {c : Cartridge} {plain : Plain} {name : List ℕ} {date : ℕ} {bytes : List ℕ} → MayAppendTo c plain name date bytes →
-    IsWhole c plain.table_area → IsReady c plain name date bytes
-is_ready may whole = record {
-  cartridge = may.cartridge;
-  stands = may.stands;
-  whole = whole;
-  room = may.room;
-  label = may.label;
-  word = may.word;
-  content = may.content;
-}
 
 pub settled_is_ready : SettledIsReady
 settled_is_ready c plain name date bytes may =

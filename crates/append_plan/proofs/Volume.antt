@@ -33,6 +33,18 @@ may_append ready = record {
   content = ready.content;
 }
 
+pub is_ready : {c : Cartridge} {plain : Plain} {name : List ℕ} {date : ℕ} {bytes : List ℕ} → MayAppendTo c plain name date bytes →
+    IsWhole c plain.table_area → IsReady c plain name date bytes
+is_ready may whole = record {
+  cartridge = may.cartridge;
+  stands = may.stands;
+  whole = whole;
+  room = may.room;
+  label = may.label;
+  word = may.word;
+  content = may.content;
+}
+
 pub old_order : (c : Cartridge) (plain : Plain) → Stands c plain → LieBehind 2 (last_segment c) (entries_of plain)
 old_order c plain stood = faultless_is_sound plain.table_area (last_segment c) (entries_of plain) stood.sound_table stood.shown
 

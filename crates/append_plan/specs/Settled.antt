@@ -1,6 +1,8 @@
 -- What a done append leaves where sectors of the table's segment take no write, as facts.
-use Rattle.std.specs.Prelude.{◌≡◌, ℕ, ◌^◌, ◌<◌, true, false, List, length, All}
+use Rattle.std.specs.Prelude.{◌≡◌, ℕ, ◌^◌, ◌<◌, true, false, List, length, All, Option, Some, IsSomeAnd}
 use Rattle.qic_base.specs.Cartridge.{Cartridge, IsCartridge, view_at}
+use Rattle.qic_base.specs.Step.{Step}
+use Rattle.qic_base.specs.Stop.{Torn}
 use Rattle.cartridge_spec.specs.HeaderAndTable.{IsArea, TableIs, last_segment}
 use Rattle.cartridge_spec.specs.Table.{Shows, IsSoundList}
 use Rattle.cartridge_spec.specs.Segment.{IsLive}
@@ -14,7 +16,8 @@ use Rattle.append_plan.specs.Appending.{IsNamed}
 use Rattle.append_plan.specs.Between.{HoldsPart}
 use Rattle.append_plan.specs.Laws.{volume_of, new_plain, new_table, steps_of, IsReady}
 use Rattle.append_plan.specs.NewVolume.{volume_bytes}
-use Rattle.append_plan.specs.Room.{has_room}
+use Rattle.append_plan.specs.Room.{has_room, last_end}
+use Rattle.append_plan.specs.Writes.{AreWrites, IsFree, IsOfSector}
 
 -- ---- before an append
 
@@ -49,6 +52,14 @@ abbrev pub ReadyIsSettledFor : Type 0
 ReadyIsSettledFor =
     (c : Cartridge) (plain : Plain) (name : List ℕ) (date : ℕ) (bytes : List ℕ) → IsReady c plain name date bytes →
     MayAppendTo c plain name date bytes × IsSettledFor c plain.table_area
+
+-- whatever is written behind the last volume, stopped or not, leaves both
+abbrev pub FreeWritesLeaveSettled : Type 0
+FreeWritesLeaveSettled =
+    (c : Cartridge) (plain : Plain) (name : List ℕ) (date : ℕ) (bytes : List ℕ) (steps : List Step) (left : Option Cartridge) →
+    MayAppendTo c plain name date bytes → IsSettledFor c plain.table_area →
+    AreWrites (IsFree (last_end (entries_of plain))) steps → AreWrites IsOfSector steps → Torn steps (Some c) left →
+    IsSomeAnd left (λ d. MayAppendTo d plain name date bytes × IsSettledFor d plain.table_area)
 
 -- ---- the new table, and the new volume
 

@@ -2,7 +2,7 @@
 //! can rest on it; their proofs import the lemmas of this crate's `proofs`.
 
 ghost use Rattle.append_plan.specs.Laws.{SettledIsReady, BeforeReadsOld, TurnedReadsNew, AppendedTableShows, AppendedBytes, VolumeStepsByBytes, WritesBySegment, SectorsTakeTheirs, AppendedStands, AppendedMounts, AppendedIsClean, AppendedIsWhole, AppendedIsCartridge, AppendedIsReady, FreeWritesStand, FreeWritesLeaveReady, FreeWritesAreClean, SectorWritesAreCartridge, StoppedVolume, StoppedList, StoppedAppend, StoppedFromTheStart, AppendTouchesOnly, StoppedAppendMounts, StoppedAppendIsClean, StoppedAppendIsCartridge};
-ghost use Rattle.append_plan.specs.Settled.{SettledIsSettledFor, SettledMayAppendTo, ReadyIsSettledFor, DoneTableShows, DoneBytes, DoneStands, DoneMounts, DoneIsSettledFor, DoneIsClean, DoneIsCartridge, DoneTouchesOnly, DoneMayAppendTo};
+ghost use Rattle.append_plan.specs.Settled.{SettledIsSettledFor, SettledMayAppendTo, ReadyIsSettledFor, FreeWritesLeaveSettled, DoneTableShows, DoneBytes, DoneStands, DoneMounts, DoneIsSettledFor, DoneIsClean, DoneIsCartridge, DoneTouchesOnly, DoneMayAppendTo};
 
 /// A cartridge that was settled is ready for an append that has room, where each sector of its table's segment takes what is
 /// written to it.
@@ -68,6 +68,7 @@ pub fn done_append_over_dead_sectors()
 pub fn free_writes()
     ensures stands { FreeWritesStand }
     ensures ready { FreeWritesLeaveReady }
+    ensures settled { FreeWritesLeaveSettled }
     ensures clean { FreeWritesAreClean }
     ensures whole { SectorWritesAreCartridge }
 {}
