@@ -15,7 +15,7 @@ use Rattle.format_plan.proofs.Standing.{AreKept, BeginsBehind, volumes_kept}
 use Rattle.format_plan.proofs.Writing.{changed_by-append, effects-some, some_weaker}
 use Rattle.volume_table.proofs.Orders.{sound_is_faultless}
 use Rattle.append_plan.specs.Appending.{new_segments, appended_volume, appended_table, with_volume, volume_writes, list_writes, append_steps}
-use Rattle.append_plan.specs.Between.{HoldsPart, IsWhole, IsBegun, Between}
+use Rattle.append_plan.specs.Between.{IsWhole, IsBegun, Between}
 use Rattle.append_plan.specs.Laws.{IsReady, AppendedStands, AppendedIsWhole, StoppedList, StoppedAppend}
 use Rattle.append_plan.specs.Settled.{MayAppendTo, IsSettledFor, DoneStands, DoneIsSettledFor}
 use Rattle.append_plan.specs.Room.{last_end}

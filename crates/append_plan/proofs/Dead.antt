@@ -4,7 +4,7 @@ use Rattle.qic_base.specs.declared.tape.SectorView.{SectorView}
 use Rattle.qic_base.specs.declared.tape.SectorView.TheVariants.{Blank, Defect, Lost, Holds}
 use Rattle.qic_base.specs.Cartridge.{Cartridge, view_at}
 use Rattle.qic_base.specs.Step.{written_view}
-use Rattle.cartridge_spec.specs.HeaderAndTable.{IsArea, TableIs, table_cells}
+use Rattle.cartridge_spec.specs.HeaderAndTable.{IsArea, table_cells}
 use Rattle.cartridge_spec.specs.Segment.{sector_at, is_unreadable, IsLive}
 use Rattle.cartridge_spec.specs.Shape.{usable_places}
 use Rattle.cartridge_spec.specs.Says.{whole_mask, unreadable_count, Written, Data, AsRead, ByCode, TableSays, with_parity}
@@ -20,7 +20,7 @@ use Rattle.mount_laws.proofs.Settled.{settled_keeps_table}
 use Rattle.mount_laws.proofs.Standing.{can_be_read, written_table}
 use Rattle.mount_laws.proofs.Stops.{block_written}
 use Rattle.mount_laws.proofs.Writing.{IsAllWritten, all_written, length-table_block}
-use Rattle.append_plan.specs.Between.{HoldsPart, IsWhole, table_writes}
+use Rattle.append_plan.specs.Between.{IsWhole, table_writes}
 use Rattle.append_plan.specs.Laws.{IsReady}
 use Rattle.append_plan.specs.Settled.{IsSettledFor, SettledIsSettledFor}
 use Rattle.append_plan.proofs.Between.{length-block, data_read, one_if_any, none_if_readable, readable_front}
@@ -67,7 +67,11 @@ settled_is_settled_for c area table is =
 
 -- ---- what it says
 
-pub live_written : (c : Cartridge) (area : List (List ℕ)) → IsArea area → HoldParts (λ i. IsLive (view_at c 2 i)) c area → Written (table_cells c) area
+-- sector i of the table's segment takes what is written to it
+abbrev IsLiveIn : Cartridge → (i : ℕ) → Type 0
+IsLiveIn c i = IsLive (view_at c 2 i)
+
+pub live_written : (c : Cartridge) (area : List (List ℕ)) → IsArea area → HoldParts (IsLiveIn c) c area → Written (table_cells c) area
 live_written c area is holds =
     block_written c area (length-block area is) (λ i held h view.
     let there : Holds held ≡ Holds (sector_at (with_parity area) i) = sym view ∙ holds i h (subst IsLive (sym view) tt) in
@@ -107,8 +111,8 @@ pub table_settled : (c : Cartridge) (old new : List (List ℕ)) (k : ℕ) → k 
     IsSettledFor (changed_by (table_writes k new) c) new
 table_settled c old new k small differ is known =
     let d : Cartridge = changed_by (table_writes k new) c in
-    let parts : HoldParts (λ i. IsLive (view_at c 2 i)) d new = table_written (λ i. IsLive (view_at c 2 i)) c old new k small differ known.live in
-    let live : HoldParts (λ i. IsLive (view_at d 2 i)) d new = λ i h is_live. parts i h (table_lived c new k i small h is_live) in
+    let parts : HoldParts (IsLiveIn c) d new = table_written (IsLiveIn c) c old new k small differ known.live in
+    let live : HoldParts (IsLiveIn d) d new = λ i h is_live. parts i h (table_lived c new k i small h is_live) in
     record {
       table = written_table d new is (live_written d new is live) (still_read c d
           (λ i h read. (

@@ -6,7 +6,7 @@ use Rattle.qic_base.specs.declared.tape.TapeInfo.{TapeInfo}
 use Rattle.qic_base.specs.Cartridge.{Cartridge, IsCartridge}
 use Rattle.qic_base.specs.Step.{Step}
 use Rattle.qic_base.specs.Stop.{Torn}
-use Rattle.cartridge_spec.specs.HeaderAndTable.{IsArea, copy_cells, last_segment}
+use Rattle.cartridge_spec.specs.HeaderAndTable.{copy_cells, last_segment}
 use Rattle.cartridge_spec.specs.Mounting.{Mounts}
 use Rattle.cartridge_spec.specs.Says.{whole_mask, Written, Zero}
 use Rattle.cartridge_spec.specs.Volumes.{Plain, Volume, Stands, entries_of}
@@ -16,9 +16,9 @@ use Rattle.format_plan.proofs.Writing.{some_weaker}
 use Rattle.format_plan.specs.Clean.{IsCleanCopy, StandsCleanly}
 use Rattle.mount_laws.proofs.Standing.{can_be_read, standing_mounts}
 use Rattle.mount_laws.specs.Laws.{mounted_as}
-use Rattle.append_plan.specs.Appending.{new_segments, appended_volume, appended_table, with_volume, volume_writes, list_writes, append_steps, IsNamed}
+use Rattle.append_plan.specs.Appending.{new_segments, appended_volume, with_volume, volume_writes, list_writes, append_steps, IsNamed}
 use Rattle.append_plan.specs.Between.{table_places}
-use Rattle.append_plan.specs.Laws.{steps_of, IsReady, AppendTouchesOnly, AppendedMounts, AppendedIsClean, StoppedAppendMounts, StoppedAppendIsClean, FreeWritesLeaveReady, FreeWritesAreClean}
+use Rattle.append_plan.specs.Laws.{steps_of, AppendTouchesOnly, AppendedMounts, AppendedIsClean, StoppedAppendMounts, StoppedAppendIsClean, FreeWritesLeaveReady, FreeWritesAreClean}
 use Rattle.append_plan.specs.Settled.{MayAppendTo, FreeWritesLeaveSettled, DoneMounts, DoneIsClean, DoneTouchesOnly}
 use Rattle.append_plan.specs.Room.{has_room, last_end}
 use Rattle.cartridge_spec.specs.Slots.{slot_sector}

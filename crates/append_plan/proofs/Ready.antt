@@ -1,13 +1,12 @@
 -- A settled cartridge is ready for an append, and so is one that was appended to; a stop from the settling on.
-use Rattle.std.proofs.Common.{◌≡◌, ℕ, ◌-◌, ◌*◌, inl, inr, List, length, Option, Some, IsSomeAnd, ap, ◌∙◌, subst}
+use Rattle.std.proofs.Common.{◌-◌, ◌*◌, inl, inr, List, length, Option, Some, ap, ◌∙◌, subst}
 use Rattle.qic_base.specs.declared.tape.TapeInfo.{TapeInfo}
 use Rattle.qic_base.specs.Cartridge.{Cartridge}
 use Rattle.qic_base.specs.Step.{Step}
 use Rattle.qic_base.proofs.Steps.{Torn-append}
 use Rattle.qic_base.specs.Stop.{Torn}
 use Rattle.cartridge_spec.specs.Mounting.{settled}
-use Rattle.cartridge_spec.specs.Volumes.{Plain, entries_of}
-use Rattle.cartridge_spec.specs.Writes.{changed_by}
+use Rattle.cartridge_spec.specs.Volumes.{entries_of}
 use Rattle.format_plan.proofs.Writing.{some_weaker}
 use Rattle.mount_laws.proofs.Settled.{settled_keeps_table, settled_stands, settled_is_whole}
 use Rattle.mount_laws.proofs.Whole.{settled_is_cartridge, settling_effects}

@@ -45,7 +45,8 @@ slot_differs area n bytes is i h apart =
 
 -- ---- the new entry
 
-pub ready_count : (c : Cartridge) (plain : Plain) (name : List ℕ) (date : ℕ) (bytes : List ℕ) → MayAppendTo c plain name date bytes → length plain.volumes < 232
+pub ready_count : (c : Cartridge) (plain : Plain) (name : List ℕ) (date : ℕ) (bytes : List ℕ) → MayAppendTo c plain name date bytes →
+    length plain.volumes < 232
 ready_count c plain name date bytes ready =
     let free : length (entries_of plain) < 232 = (room_is plain.words (entries_of plain) (last_segment c) (length bytes) ready.room).free_slot in
     omega (arith, count_of_entries plain)

@@ -87,7 +87,8 @@ is_turned c old new turn from within at = record {
   behind = λ i past h. at.behind i (omega arith) h tt;
 }
 
-worn_turned : (c : Cartridge) (old new : List (List ℕ)) (turn : ℕ) → 29 ≤ turn → turn < 32 → IsAt Each c old new turn → IsTurned (changed (Wear 2 turn) c) old new
+worn_turned : (c : Cartridge) (old new : List (List ℕ)) (turn : ℕ) → 29 ≤ turn → turn < 32 → IsAt Each c old new turn →
+    IsTurned (changed (Wear 2 turn) c) old new
 worn_turned c old new turn from within at = record {
   turn = turn;
   within = omega arith;
@@ -170,7 +171,8 @@ live_before bytes Defect live = live
 live_before bytes Lost live = tt
 live_before bytes (Holds old) live = tt
 
-lived : (c : Cartridge) (k i : ℕ) (bytes : List ℕ) → k < 32 → i < 32 → IsLive (view_at (changed (WriteSector 2 k bytes) c) 2 i) → IsLive (view_at c 2 i)
+lived : (c : Cartridge) (k i : ℕ) (bytes : List ℕ) → k < 32 → i < 32 →
+    IsLive (view_at (changed (WriteSector 2 k bytes) c) 2 i) → IsLive (view_at c 2 i)
 lived c k i bytes small h live =
     elim (cases_eq i k) [
       | inl same ↦

@@ -10,8 +10,8 @@ pub fn settled_is_ready()
     ensures { SettledIsReady }
 {}
 
-/// A cartridge that was settled and is not protected holds the table in each sector of its segment that takes what is written
-/// to it, so an append to it may be done whichever others there are.
+/// On a cartridge that was settled and is not protected each sector of the table's segment that takes what is written to it
+/// holds its part, and a volume that had room has it still; so it is on one that is ready for an append.
 pub fn settled_over_dead_sectors()
     ensures settled { SettledIsSettledFor }
     ensures may { SettledMayAppendTo }
@@ -49,8 +49,8 @@ pub fn done_append()
     ensures ready { AppendedIsReady }
 {}
 
-/// After all steps of an append the same is so where sectors of the table's segment are defects or were never formatted: the
-/// table is read as the new one, and the next append may follow.
+/// The same is so where sectors of the table's segment are defects or were never formatted, but the table can be read: it is
+/// then read as the new one, and the next append may follow.
 pub fn done_append_over_dead_sectors()
     ensures shows { DoneTableShows }
     ensures bytes { DoneBytes }
