@@ -15,19 +15,21 @@ use Rattle.format_plan.proofs.Standing.{AreKept, BeginsBehind, volumes_kept}
 use Rattle.format_plan.proofs.Writing.{changed_by-append, effects-some, some_weaker}
 use Rattle.volume_table.proofs.Orders.{sound_is_faultless}
 use Rattle.append_plan.specs.Appending.{new_segments, appended_volume, appended_table, with_volume, volume_writes, list_writes, append_steps}
-use Rattle.append_plan.specs.Between.{HoldsPart, IsWhole, IsBegun, Between}
+use Rattle.append_plan.specs.Between.{IsWhole, IsBegun, Between}
 use Rattle.append_plan.specs.Laws.{IsReady, AppendedStands, AppendedIsWhole, StoppedList, StoppedAppend}
+use Rattle.append_plan.specs.Settled.{MayAppendTo, IsSettledFor, DoneStands, DoneIsSettledFor}
 use Rattle.append_plan.specs.Room.{last_end}
 use Rattle.cartridge_spec.specs.Slots.{slot_bytes, slot_sector}
 use Rattle.append_plan.proofs.Between.{data_read, begun_written, before_reads_old, turned_reads_new}
+use Rattle.append_plan.proofs.Dead.{ready_settled, settled_kept, live_written, table_settled}
 use Rattle.append_plan.proofs.Keeping.{AreIn, IsKeptBut, steps_kept, steps_stopped}
 use Rattle.append_plan.proofs.Orders.{LiesWithin}
 use Rattle.append_plan.proofs.Parts.{parts_written, length-in_sectors, are_sectors}
 use Rattle.append_plan.proofs.Segments.{AreTaken, IsRising, carrying_carry, carrying_rise}
 use Rattle.append_plan.proofs.Standing.{AreKeptTo, stands_with}
-use Rattle.append_plan.proofs.Table.{appended_table_shows, slot_differs, ready_count}
-use Rattle.append_plan.proofs.TableWrites.{DifferIn, table_stopped, table_written}
-use Rattle.append_plan.proofs.Volume.{Behind, old_volumes, last_end_least, ready_taken, volume_writes_behind, kept_to, whole_kept, old_stand, stopped_volume}
+use Rattle.append_plan.proofs.Table.{done_table_shows, slot_differs, ready_count}
+use Rattle.append_plan.proofs.TableWrites.{DifferIn, Each, table_stopped, table_written}
+use Rattle.append_plan.proofs.Volume.{may_append, Behind, old_volumes, last_end_least, ready_taken, volume_writes_behind, kept_to, whole_kept, old_stand, stopped_volume}
 
 -- ---- the new volume
 
@@ -38,7 +40,7 @@ segments_are words from last segments taken =
     ∙ ap (λ (end : ℕ). carrying words taken.start end) taken.ends
     ∙ sym taken.are
 
-new_stands : (c : Cartridge) (plain : Plain) (name : List ℕ) (date : ℕ) (bytes : List ℕ) → IsReady c plain name date bytes →
+new_stands : (c : Cartridge) (plain : Plain) (name : List ℕ) (date : ℕ) (bytes : List ℕ) → MayAppendTo c plain name date bytes →
     VolumeStands (changed_by (volume_writes plain (last_segment c) bytes (appended_volume plain (last_segment c) name date bytes)) c)
     plain.words (appended_volume plain (last_segment c) name date bytes)
 new_stands c plain name date bytes ready =
@@ -96,11 +98,12 @@ stands_old c d e plain stood first next reads =
     })
 
 -- and one whose table is read as the new one stands for the plain one with the volume
-stands_new : (c e : Cartridge) (plain : Plain) (name : List ℕ) (date : ℕ) (bytes : List ℕ) → IsReady c plain name date bytes →
+stands_new : (c e : Cartridge) (plain : Plain) (name : List ℕ) (date : ℕ) (bytes : List ℕ) → MayAppendTo c plain name date bytes →
     IsKeptBut OfTable (changed_by (volume_writes plain (last_segment c) bytes (appended_volume plain (last_segment c) name date bytes)) c) e →
-    ((i : ℕ) → i < 29 → HoldsPart e (appended_table plain (appended_volume plain (last_segment c) name date bytes).entry) i) →
+    Written (table_cells e) (appended_table plain (appended_volume plain (last_segment c) name date bytes).entry)
+    ⊎ ReadsAll (table_cells e) (appended_table plain (appended_volume plain (last_segment c) name date bytes).entry) →
     Stands e (with_volume plain (appended_volume plain (last_segment c) name date bytes))
-stands_new c e plain name date bytes ready next holds =
+stands_new c e plain name date bytes ready next reads =
     let words : List ℕ = plain.words in
     let last : ℕ = last_segment c in
     let volume : Volume = appended_volume plain last name date bytes in
@@ -110,7 +113,7 @@ stands_new c e plain name date bytes ready next holds =
     let stood : Stands c plain = ready.stands in
     let first : IsKeptBut (Behind plain) c d =
     steps_kept (Behind plain) (volume_writes plain last bytes volume) c (volume_writes_behind c plain name date bytes volume ready) in
-    let shows = appended_table_shows c plain name date bytes ready in
+    let shows = done_table_shows c plain name date bytes ready in
     let taken = ready_taken c plain name date bytes ready in
     let least : 2 ≤ last_end (entries_of plain) = last_end_least c plain stood in
     let behind : last_end (entries_of plain) < taken.start = taken.behind in
@@ -128,7 +131,7 @@ stands_new c e plain name date bytes ready next holds =
           (All-append (VolumeStands d words) plain.volumes (volume ∷ [])
           (old_stand c d plain stood (kept_to c d plain (last_end (entries_of plain)) (omega arith) first))
           (All-cons (VolumeStands d words) volume [] (new_stands c plain name date bytes ready) (All-nil (VolumeStands d words))));
-      reads = inr (data_read e table shows.0 holds);
+      reads = reads;
     })
 
 -- ---- the four writes
@@ -136,21 +139,27 @@ stands_new c e plain name date bytes ready next holds =
 list_in : (plain : Plain) (volume : Volume) → length plain.volumes < 232 → AreIn OfTable (list_writes plain volume)
 list_in plain volume few = ((refl, omega arith), ((refl, omega arith), ((refl, omega arith), ((refl, omega arith), tt))))
 
+table_kept : (c : Cartridge) (plain : Plain) (name : List ℕ) (date : ℕ) (bytes : List ℕ) → MayAppendTo c plain name date bytes →
+    AreKeptTo 2 c (changed_by (volume_writes plain (last_segment c) bytes (appended_volume plain (last_segment c) name date bytes)) c)
+table_kept c plain name date bytes may =
+    let volume : Volume = appended_volume plain (last_segment c) name date bytes in
+    let writes : List Step = volume_writes plain (last_segment c) bytes volume in
+    kept_to c (changed_by writes c) plain 2 (last_end_least c plain may.stands)
+    (steps_kept (Behind plain) writes c (volume_writes_behind c plain name date bytes volume may))
+
 whole_then : (c : Cartridge) (plain : Plain) (name : List ℕ) (date : ℕ) (bytes : List ℕ) → IsReady c plain name date bytes →
     IsWhole (changed_by (volume_writes plain (last_segment c) bytes (appended_volume plain (last_segment c) name date bytes)) c) plain.table_area
 whole_then c plain name date bytes ready =
     let volume : Volume = appended_volume plain (last_segment c) name date bytes in
-    let writes : List Step = volume_writes plain (last_segment c) bytes volume in
-    let kept : IsKeptBut (Behind plain) c (changed_by writes c) =
-    steps_kept (Behind plain) writes c (volume_writes_behind c plain name date bytes volume ready) in
-    whole_kept c (changed_by writes c) plain.table_area (kept_to c (changed_by writes c) plain 2 (last_end_least c plain ready.stands) kept) ready.whole
+    whole_kept c (changed_by (volume_writes plain (last_segment c) bytes volume) c) plain.table_area
+    (table_kept c plain name date bytes (may_append ready)) ready.whole
 
-new_differs : (c : Cartridge) (plain : Plain) (name : List ℕ) (date : ℕ) (bytes : List ℕ) → IsReady c plain name date bytes →
+new_differs : (c : Cartridge) (plain : Plain) (name : List ℕ) (date : ℕ) (bytes : List ℕ) → MayAppendTo c plain name date bytes →
     DifferIn plain.table_area (appended_table plain (appended_volume plain (last_segment c) name date bytes).entry) (slot_sector (length plain.volumes))
 new_differs c plain name date bytes ready =
     slot_differs plain.table_area (length plain.volumes) (slot_bytes (appended_volume plain (last_segment c) name date bytes).entry) ready.stands.whole.table_area
 
-changed_small : (c : Cartridge) (plain : Plain) (name : List ℕ) (date : ℕ) (bytes : List ℕ) → IsReady c plain name date bytes →
+changed_small : (c : Cartridge) (plain : Plain) (name : List ℕ) (date : ℕ) (bytes : List ℕ) → MayAppendTo c plain name date bytes →
     slot_sector (length plain.volumes) < 29
 changed_small c plain name date bytes ready = let few = ready_count c plain name date bytes ready in omega arith
 
@@ -158,7 +167,8 @@ pub stopped_list : StoppedList
 stopped_list c d plain name date bytes left ready is torn =
     let whole : IsWhole d plain.table_area = subst (λ (e : Cartridge). IsWhole e plain.table_area) (sym is) (whole_then c plain name date bytes ready) in
     table_stopped d plain.table_area (appended_table plain (appended_volume plain (last_segment c) name date bytes).entry)
-    (slot_sector (length plain.volumes)) left (changed_small c plain name date bytes ready) (new_differs c plain name date bytes ready) whole torn
+    (slot_sector (length plain.volumes)) left (changed_small c plain name date bytes (may_append ready))
+    (new_differs c plain name date bytes (may_append ready)) whole torn
 
 -- ---- all steps
 
@@ -168,22 +178,36 @@ appended_is_whole c plain name date bytes ready =
     let first : List Step = volume_writes plain (last_segment c) bytes volume in
     let next : List Step = list_writes plain volume in
     subst (λ (e : Cartridge). IsWhole e (appended_table plain volume.entry)) (sym (changed_by-append first next c))
-    (table_written (changed_by first c) plain.table_area (appended_table plain volume.entry) (slot_sector (length plain.volumes))
-    (changed_small c plain name date bytes ready) (new_differs c plain name date bytes ready) (whole_then c plain name date bytes ready))
+    (λ i h. table_written Each (changed_by first c) plain.table_area (appended_table plain volume.entry) (slot_sector (length plain.volumes))
+    (changed_small c plain name date bytes (may_append ready)) (new_differs c plain name date bytes (may_append ready))
+    (λ j within is. whole_then c plain name date bytes ready j within) i h tt)
 
-pub appended_stands : AppendedStands
-appended_stands c plain name date bytes ready =
+pub done_is_settled_for : DoneIsSettledFor
+done_is_settled_for c plain name date bytes may known =
+    let volume : Volume = appended_volume plain (last_segment c) name date bytes in
+    let first : List Step = volume_writes plain (last_segment c) bytes volume in
+    let next : List Step = list_writes plain volume in
+    subst (λ (e : Cartridge). IsSettledFor e (appended_table plain volume.entry)) (sym (changed_by-append first next c))
+    (table_settled (changed_by first c) plain.table_area (appended_table plain volume.entry) (slot_sector (length plain.volumes))
+    (changed_small c plain name date bytes may) (new_differs c plain name date bytes may) (done_table_shows c plain name date bytes may).0
+    (settled_kept c (changed_by first c) plain.table_area (table_kept c plain name date bytes may) known))
+
+pub done_stands : DoneStands
+done_stands c plain name date bytes may known =
     let volume : Volume = appended_volume plain (last_segment c) name date bytes in
     let first : List Step = volume_writes plain (last_segment c) bytes volume in
     let next : List Step = list_writes plain volume in
     let d : Cartridge = changed_by first c in
     let all : changed_by (append_steps plain (last_segment c) bytes volume) c ≡ changed_by next d = changed_by-append first next c in
-    let whole : IsWhole (changed_by next d) (appended_table plain volume.entry) =
-    subst (λ (e : Cartridge). IsWhole e (appended_table plain volume.entry)) all (appended_is_whole c plain name date bytes ready) in
+    let then : IsSettledFor (changed_by next d) (appended_table plain volume.entry) =
+    subst (λ (e : Cartridge). IsSettledFor e (appended_table plain volume.entry)) all (done_is_settled_for c plain name date bytes may known) in
     subst (λ (e : Cartridge). Stands e (with_volume plain volume)) (sym all)
-    (stands_new c (changed_by next d) plain name date bytes ready
-    (steps_kept OfTable next d (list_in plain volume (ready_count c plain name date bytes ready)))
-    (λ i h. whole i (omega arith)))
+    (stands_new c (changed_by next d) plain name date bytes may
+    (steps_kept OfTable next d (list_in plain volume (ready_count c plain name date bytes may)))
+    (inl (live_written (changed_by next d) (appended_table plain volume.entry) (done_table_shows c plain name date bytes may).0 then.live)))
+
+pub appended_stands : AppendedStands
+appended_stands c plain name date bytes ready = done_stands c plain name date bytes (may_append ready) (ready_settled ready)
 
 pub some_both : (P Q : Cartridge → Type 0) (left : Option Cartridge) → IsSomeAnd left P → IsSomeAnd left Q → IsSomeAnd left (λ d. P d × Q d)
 some_both P Q None p q = absurd p
@@ -209,10 +233,10 @@ by_between c e plain name date bytes ready next between = by_state between
     first : IsKeptBut (Behind plain) c (changed_by (volume_writes plain (last_segment c) bytes volume) c)
     first =
         steps_kept (Behind plain) (volume_writes plain (last_segment c) bytes volume) c
-        (volume_writes_behind c plain name date bytes volume ready)
+        (volume_writes_behind c plain name date bytes volume (may_append ready))
 
     small : slot_sector (length plain.volumes) < 29
-    small = changed_small c plain name date bytes ready
+    small = changed_small c plain name date bytes (may_append ready)
 
     area : IsArea plain.table_area
     area = ready.stands.whole.table_area
@@ -231,10 +255,12 @@ by_between c e plain name date bytes ready next between = by_state between
         inl (old (inl (begun_written e plain.table_area (slot_sector (length plain.volumes)) area begun)) (inr begun))
     by_state (inr (inr turned)) =
         let from : 29 ≤ turned.turn = turned.from in
+        let table : List (List ℕ) = appended_table plain volume.entry in
+        let new_area : IsArea table = (done_table_shows c plain name date bytes (may_append ready)).0 in
         inr (record {
-          stands = stands_new c e plain name date bytes ready next (λ i h. turned.before i (omega arith));
-          table = turned_reads_new e plain.table_area (appended_table plain volume.entry)
-              (appended_table_shows c plain name date bytes ready).0 turned;
+          stands = stands_new c e plain name date bytes (may_append ready) next
+              (inr (data_read e table new_area (λ i h. turned.before i (omega arith))));
+          table = turned_reads_new e plain.table_area table new_area turned;
         })
 
 pub stopped_reads : (c : Cartridge) (plain : Plain) (name : List ℕ) (date : ℕ) (bytes : List ℕ) (left : Option Cartridge) →
@@ -251,7 +277,7 @@ stopped_reads c plain name date bytes left ready torn =
           some_weaker left (λ e stood. inl (record {
             stands = stood.0;
             table = before_reads_old e plain.table_area (slot_sector (length plain.volumes)) ready.stands.whole.table_area
-                (changed_small c plain name date bytes ready) (inl stood.1);
+                (changed_small c plain name date bytes (may_append ready)) (inl stood.1);
           }))
           (stopped_volume c plain name date bytes left ready front)
       | inr behind ↦
@@ -259,7 +285,7 @@ stopped_reads c plain name date bytes left ready torn =
           some_weaker left (λ e known. by_between c e plain name date bytes ready known.0 known.1)
           (some_both (IsKeptBut OfTable d)
           (λ e. Between e plain.table_area (appended_table plain volume.entry) (slot_sector (length plain.volumes))) left
-          (steps_stopped OfTable next d left (list_in plain volume (ready_count c plain name date bytes ready)) rear)
+          (steps_stopped OfTable next d left (list_in plain volume (ready_count c plain name date bytes (may_append ready))) rear)
           (stopped_list c d plain name date bytes left ready refl rear))
     ]
 

@@ -46,11 +46,11 @@ data_read c area is holds =
 
 -- ---- one sector lost
 
-one_if_any : (b : Bool) → cond b 1 0 ≤ 1
+pub one_if_any : (b : Bool) → cond b 1 0 ≤ 1
 one_if_any true = omega arith
 one_if_any false = omega arith
 
-none_if_readable : (b : Bool) → b ≡ false → cond b 1 0 ≤ 0
+pub none_if_readable : (b : Bool) → b ≡ false → cond b 1 0 ≤ 0
 none_if_readable true is = absurd (cc)
 none_if_readable false is = omega arith
 
@@ -58,7 +58,7 @@ none_of_readable : (cells : List SectorView) → ((i : ℕ) → i < length cells
 none_of_readable cells each =
     ap unreadable_count (sym (take_all (length cells) cells (omega arith))) ∙ count_of_readable (length cells) cells each
 
-readable_front : (cell : SectorView) (cells : List SectorView) → IsReadable (cell ∷ cells) 0 → is_unreadable cell ≡ false
+pub readable_front : (cell : SectorView) (cells : List SectorView) → IsReadable (cell ∷ cells) 0 → is_unreadable cell ≡ false
 readable_front Blank cells held = let first = held.1 in absurd (cc)
 readable_front Defect cells held = let first = held.1 in absurd (cc)
 readable_front Lost cells held = let first = held.1 in absurd (cc)

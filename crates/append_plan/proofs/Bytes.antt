@@ -13,11 +13,12 @@ use Rattle.cartridge_spec.specs.Volumes.{Volume, carrying, capacity_between, ent
 use Rattle.mount_laws.proofs.Writing.{places_that, places_none, places_passes, places_fails}
 use Rattle.append_plan.specs.Appending.{new_segments, appended_volume}
 use Rattle.append_plan.specs.Laws.{AppendedBytes}
+use Rattle.append_plan.specs.Settled.{DoneBytes}
 use Rattle.append_plan.specs.NewVolume.{filled_up, in_sectors, bytes_in}
 use Rattle.append_plan.specs.Room.{last_end, free_segments, taken_by}
 use Rattle.append_plan.proofs.Appended.{segments_are}
 use Rattle.append_plan.proofs.Segments.{AreTaken, HasRoom, carries, carried, carrying_are, carrying_carry, room_is}
-use Rattle.append_plan.proofs.Volume.{ready_taken}
+use Rattle.append_plan.proofs.Volume.{may_append, ready_taken}
 
 -- ---- what segments carry
 
@@ -123,8 +124,8 @@ by_fit : (b : Bool) (size all : ℕ) → b ≡ true → cond b size all ≡ size
 by_fit true size all is = refl
 by_fit false size all is = absurd (cc)
 
-pub appended_bytes : AppendedBytes
-appended_bytes c plain name date bytes ready =
+pub done_bytes : DoneBytes
+done_bytes c plain name date bytes ready =
     let words : List ℕ = plain.words in
     let last : ℕ = last_segment c in
     let from : ℕ = last_end (entries_of plain) in
@@ -149,3 +150,6 @@ appended_bytes c plain name date bytes ready =
       long,
       ap (λ (n : ℕ). take n (bytes_in volume.area)) long ∙ bytes_of_sectors (sectors_in words segments) bytes (omega arith),
     )
+
+pub appended_bytes : AppendedBytes
+appended_bytes c plain name date bytes ready = done_bytes c plain name date bytes (may_append ready)

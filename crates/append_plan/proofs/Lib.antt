@@ -2,6 +2,7 @@ pub mod Appended
 pub mod Between
 pub mod BySegments
 pub mod Bytes
+pub mod Dead
 pub mod Keeping
 pub mod Mounted
 pub mod Orders

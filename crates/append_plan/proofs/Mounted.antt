@@ -1,11 +1,12 @@
 -- What an append leaves, done or stopped, is mounted as what it stands for, and its header copies are as they were.
-use Rattle.std.proofs.Common.{◌≡◌, ◌⊎◌, ℕ, ◌-◌, ◌*◌, ◌<◌, ◌≤◌, inl, inr, List, Contains, length, refl, sym, ap, ◌∙◌, subst, arith}
+use Rattle.std.proofs.Common.{◌≡◌, ◌⊎◌, ℕ, ◌-◌, ◌*◌, ◌<◌, ◌≤◌, inl, inr, List, Contains, length, Option, Some, IsSomeAnd, refl, sym, ap, ◌∙◌, subst, arith}
 use Rattle.std.proofs.lemmas.List.Elements.{All-weaker, All-contains_itself, Contains-get_or}
 use Rattle.qic_base.specs.declared.tape.SectorView.{SectorView}
 use Rattle.qic_base.specs.declared.tape.TapeInfo.{TapeInfo}
 use Rattle.qic_base.specs.Cartridge.{Cartridge, IsCartridge}
 use Rattle.qic_base.specs.Step.{Step}
-use Rattle.cartridge_spec.specs.HeaderAndTable.{IsArea, copy_cells, last_segment}
+use Rattle.qic_base.specs.Stop.{Torn}
+use Rattle.cartridge_spec.specs.HeaderAndTable.{copy_cells, last_segment}
 use Rattle.cartridge_spec.specs.Mounting.{Mounts}
 use Rattle.cartridge_spec.specs.Says.{whole_mask, Written, Zero}
 use Rattle.cartridge_spec.specs.Volumes.{Plain, Volume, Stands, entries_of}
@@ -15,17 +16,18 @@ use Rattle.format_plan.proofs.Writing.{some_weaker}
 use Rattle.format_plan.specs.Clean.{IsCleanCopy, StandsCleanly}
 use Rattle.mount_laws.proofs.Standing.{can_be_read, standing_mounts}
 use Rattle.mount_laws.specs.Laws.{mounted_as}
-use Rattle.append_plan.specs.Appending.{new_segments, appended_volume, appended_table, with_volume, volume_writes, list_writes, append_steps, IsNamed}
+use Rattle.append_plan.specs.Appending.{new_segments, appended_volume, with_volume, volume_writes, list_writes, append_steps, IsNamed}
 use Rattle.append_plan.specs.Between.{table_places}
-use Rattle.append_plan.specs.Laws.{steps_of, IsReady, AppendTouchesOnly, AppendedMounts, AppendedIsClean, StoppedAppendMounts, StoppedAppendIsClean, FreeWritesLeaveReady, FreeWritesAreClean}
+use Rattle.append_plan.specs.Laws.{steps_of, AppendTouchesOnly, AppendedMounts, AppendedIsClean, StoppedAppendMounts, StoppedAppendIsClean, FreeWritesLeaveReady, FreeWritesAreClean}
+use Rattle.append_plan.specs.Settled.{MayAppendTo, FreeWritesLeaveSettled, DoneMounts, DoneIsClean, DoneTouchesOnly}
 use Rattle.append_plan.specs.Room.{has_room, last_end}
 use Rattle.cartridge_spec.specs.Slots.{slot_sector}
-use Rattle.append_plan.specs.Writes.{KeepsTo}
-use Rattle.append_plan.proofs.Appended.{IsReadAs, some_both, either_of, stopped_reads, stopped_append, appended_stands, appended_is_whole}
-use Rattle.append_plan.proofs.Between.{data_read}
+use Rattle.append_plan.specs.Writes.{AreWrites, IsFree, IsOfSector, KeepsTo}
+use Rattle.append_plan.proofs.Appended.{IsReadAs, some_both, either_of, stopped_reads, stopped_append, done_stands, done_is_settled_for}
+use Rattle.append_plan.proofs.Dead.{ready_settled, settled_kept}
 use Rattle.append_plan.proofs.Keeping.{AreIn, AllowsUsable, IsKeptBut, in_append, parts_in, parts_of_segments, steps_kept, steps_stopped}
-use Rattle.append_plan.proofs.Table.{appended_table_shows, ready_count}
-use Rattle.append_plan.proofs.Volume.{free_writes_stand, last_end_least, ready_taken, taken_behind}
+use Rattle.append_plan.proofs.Table.{ready_count}
+use Rattle.append_plan.proofs.Volume.{may_append, is_ready, free_writes_stand, last_end_least, ready_taken, taken_behind}
 use Rattle.append_plan.proofs.Whole.{sector_writes_are_cartridge}
 
 -- ---- mounting
@@ -33,16 +35,16 @@ use Rattle.append_plan.proofs.Whole.{sector_writes_are_cartridge}
 read_mounts : (d : Cartridge) (plain : Plain) → IsReadAs d plain → Mounts d (mounted_as plain)
 read_mounts d plain reads = standing_mounts d plain reads.stands (can_be_read d plain.table_area reads.table)
 
-pub appended_mounts : AppendedMounts
-appended_mounts c plain name date bytes ready =
+pub done_mounts : DoneMounts
+done_mounts c plain name date bytes may known =
     let volume : Volume = appended_volume plain (last_segment c) name date bytes in
-    let d : Cartridge = changed_by (append_steps plain (last_segment c) bytes volume) c in
-    let whole = appended_is_whole c plain name date bytes ready in
-    let area : IsArea (appended_table plain volume.entry) = (appended_table_shows c plain name date bytes ready).0 in
-    read_mounts d (with_volume plain volume) (record {
-      stands = appended_stands c plain name date bytes ready;
-      table = inl (data_read d (appended_table plain volume.entry) area (λ i h. whole i (omega arith)));
+    read_mounts (changed_by (append_steps plain (last_segment c) bytes volume) c) (with_volume plain volume) (record {
+      stands = done_stands c plain name date bytes may known;
+      table = (done_is_settled_for c plain name date bytes may known).table;
     })
+
+pub appended_mounts : AppendedMounts
+appended_mounts c plain name date bytes ready = done_mounts c plain name date bytes (may_append ready) (ready_settled ready)
 
 pub stopped_append_mounts : StoppedAppendMounts
 stopped_append_mounts c plain name date bytes left ready torn =
@@ -56,7 +58,7 @@ stopped_append_mounts c plain name date bytes left ready torn =
 abbrev BehindCopies : (segment sector : ℕ) → Type 0
 BehindCopies segment sector = 2 ≤ segment
 
-append_in : (c : Cartridge) (plain : Plain) (name : List ℕ) (date : ℕ) (bytes : List ℕ) → IsReady c plain name date bytes →
+append_in : (c : Cartridge) (plain : Plain) (name : List ℕ) (date : ℕ) (bytes : List ℕ) → MayAppendTo c plain name date bytes →
     AreIn BehindCopies (append_steps plain (last_segment c) bytes (appended_volume plain (last_segment c) name date bytes))
 append_in c plain name date bytes ready =
     let last : ℕ = last_segment c in
@@ -85,12 +87,15 @@ clean_kept c d plain new same clean kept stands = record {
   second = subst (IsCleanCopy d 1) (sym same) (clean_copy c d 1 plain.header_area (omega arith) kept clean.second);
 }
 
-pub appended_is_clean : AppendedIsClean
-appended_is_clean c plain name date bytes ready clean =
+pub done_is_clean : DoneIsClean
+done_is_clean c plain name date bytes may known clean =
     let volume : Volume = appended_volume plain (last_segment c) name date bytes in
     let steps : List Step = append_steps plain (last_segment c) bytes volume in
     clean_kept c (changed_by steps c) plain (with_volume plain volume) refl clean
-    (steps_kept BehindCopies steps c (append_in c plain name date bytes ready)) (appended_stands c plain name date bytes ready)
+    (steps_kept BehindCopies steps c (append_in c plain name date bytes may)) (done_stands c plain name date bytes may known)
+
+pub appended_is_clean : AppendedIsClean
+appended_is_clean c plain name date bytes ready clean = done_is_clean c plain name date bytes (may_append ready) (ready_settled ready) clean
 
 pub stopped_append_is_clean : StoppedAppendIsClean
 stopped_append_is_clean c plain name date bytes left ready clean torn =
@@ -99,12 +104,12 @@ stopped_append_is_clean c plain name date bytes left ready clean torn =
     some_weaker left (λ d known.
     either_of (clean_kept c d plain plain refl clean known.0) (clean_kept c d plain (with_volume plain volume) refl clean known.0) known.1)
     (some_both (IsKeptBut BehindCopies c) (λ d. Stands d plain ⊎ Stands d (with_volume plain volume)) left
-    (steps_stopped BehindCopies steps c left (append_in c plain name date bytes ready) torn)
+    (steps_stopped BehindCopies steps c left (append_in c plain name date bytes (may_append ready)) torn)
     (stopped_append c plain name date bytes left ready torn))
 
 -- ---- which sectors are written
 
-named_in : (c : Cartridge) (plain : Plain) (name : List ℕ) (date : ℕ) (bytes : List ℕ) → IsReady c plain name date bytes →
+named_in : (c : Cartridge) (plain : Plain) (name : List ℕ) (date : ℕ) (bytes : List ℕ) → MayAppendTo c plain name date bytes →
     AreIn (IsNamed plain (last_segment c) bytes) (steps_of c plain name date bytes)
 named_in c plain name date bytes ready =
     let last : ℕ = last_segment c in
@@ -126,11 +131,17 @@ named_in c plain name date bytes ready =
       ),
     )
 
+pub done_touches_only : DoneTouchesOnly
+done_touches_only c plain name date bytes may =
+    let steps : List Step = steps_of c plain name date bytes in
+    let kept = steps_kept (IsNamed plain (last_segment c) bytes) steps c (named_in c plain name date bytes may) in
+    (kept.info, kept.others)
+
 pub append_touches_only : AppendTouchesOnly
 append_touches_only c plain name date bytes left ready torn =
     some_weaker left (λ d kept. (kept.info, kept.others))
     (steps_stopped (IsNamed plain (last_segment c) bytes) (steps_of c plain name date bytes) c left
-    (named_in c plain name date bytes ready) torn)
+    (named_in c plain name date bytes (may_append ready)) torn)
 
 -- ---- whatever is written behind the last volume
 
@@ -149,21 +160,37 @@ pub free_writes_are_clean : FreeWritesAreClean
 free_writes_are_clean c plain steps left clean free torn =
     some_weaker left (λ d known. free_clean c d plain clean known.0 known.1) (free_writes_stand c plain steps left clean.stands free torn)
 
-free_ready : (c d : Cartridge) (plain : Plain) (name : List ℕ) (date : ℕ) (bytes : List ℕ) → IsReady c plain name date bytes → IsCartridge d →
-    Stands d plain → KeepsTo (last_end (entries_of plain)) c d → IsReady d plain name date bytes
-free_ready c d plain name date bytes ready cartridge stands kept = record {
-  cartridge = cartridge;
-  stands = stands;
-  whole = λ i h. kept.sectors 2 i (last_end_least c plain ready.stands) h ∙ ready.whole i h;
-  room = ap (λ (i : TapeInfo). has_room plain.words (entries_of plain) (28 * i.segments_per_track - 1) (length bytes)) kept.info ∙ ready.room;
-  label = ready.label;
-  word = ready.word;
-  content = ready.content;
+free_left : (c : Cartridge) (plain : Plain) (steps : List Step) (left : Option Cartridge) → IsCartridge c → Stands c plain →
+    AreWrites (IsFree (last_end (entries_of plain))) steps → AreWrites IsOfSector steps → Torn steps (Some c) left →
+    IsSomeAnd left (λ d. IsCartridge d × (Stands d plain × KeepsTo (last_end (entries_of plain)) c d))
+free_left c plain steps left whole stood free sectors torn =
+    some_both IsCartridge (λ d. Stands d plain × KeepsTo (last_end (entries_of plain)) c d) left
+    (sector_writes_are_cartridge c steps left whole sectors torn)
+    (free_writes_stand c plain steps left stood free torn)
+
+free_may : (c d : Cartridge) (plain : Plain) (name : List ℕ) (date : ℕ) (bytes : List ℕ) → MayAppendTo c plain name date bytes →
+    IsCartridge d × (Stands d plain × KeepsTo (last_end (entries_of plain)) c d) → MayAppendTo d plain name date bytes
+free_may c d plain name date bytes may left = record {
+  cartridge = left.0;
+  stands = left.1.0;
+  room = ap (λ (i : TapeInfo). has_room plain.words (entries_of plain) (28 * i.segments_per_track - 1) (length bytes)) left.1.1.info ∙ may.room;
+  label = may.label;
+  word = may.word;
+  content = may.content;
 }
+
+pub free_writes_leave_settled : FreeWritesLeaveSettled
+free_writes_leave_settled c plain name date bytes steps left may known free sectors torn =
+    let least : 2 ≤ last_end (entries_of plain) = last_end_least c plain may.stands in
+    some_weaker left (λ d now. (
+      free_may c d plain name date bytes may now,
+      settled_kept c d plain.table_area (λ s i within h. now.1.1.sectors s i (omega arith) h) known,
+    ))
+    (free_left c plain steps left may.cartridge may.stands free sectors torn)
 
 pub free_writes_leave_ready : FreeWritesLeaveReady
 free_writes_leave_ready c plain name date bytes steps left ready free sectors torn =
-    some_weaker left (λ d known. free_ready c d plain name date bytes ready known.0 known.1.0 known.1.1)
-    (some_both IsCartridge (λ d. Stands d plain × KeepsTo (last_end (entries_of plain)) c d) left
-    (sector_writes_are_cartridge c steps left ready.cartridge sectors torn)
-    (free_writes_stand c plain steps left ready.stands free torn))
+    some_weaker left (λ d now.
+    is_ready (free_may c d plain name date bytes (may_append ready) now)
+    (λ i h. now.1.1.sectors 2 i (last_end_least c plain ready.stands) h ∙ ready.whole i h))
+    (free_left c plain steps left ready.cartridge ready.stands free sectors torn)

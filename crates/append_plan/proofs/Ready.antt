@@ -1,36 +1,47 @@
 -- A settled cartridge is ready for an append, and so is one that was appended to; a stop from the settling on.
-use Rattle.std.proofs.Common.{◌≡◌, ℕ, ◌-◌, ◌*◌, inl, inr, List, length, Option, Some, IsSomeAnd, ap, ◌∙◌, subst}
+use Rattle.std.proofs.Common.{◌-◌, ◌*◌, inl, inr, List, length, Option, Some, ap, ◌∙◌, subst}
 use Rattle.qic_base.specs.declared.tape.TapeInfo.{TapeInfo}
 use Rattle.qic_base.specs.Cartridge.{Cartridge}
-use Rattle.qic_base.specs.Step.{Step, effects}
-use Rattle.qic_base.proofs.Steps.{Torn-all, Torn-append}
+use Rattle.qic_base.specs.Step.{Step}
+use Rattle.qic_base.proofs.Steps.{Torn-append}
 use Rattle.qic_base.specs.Stop.{Torn}
 use Rattle.cartridge_spec.specs.Mounting.{settled}
-use Rattle.cartridge_spec.specs.Volumes.{Plain, entries_of}
-use Rattle.cartridge_spec.specs.Writes.{changed_by}
-use Rattle.format_plan.proofs.Writing.{effects-some, some_weaker}
+use Rattle.cartridge_spec.specs.Volumes.{entries_of}
+use Rattle.format_plan.proofs.Writing.{some_weaker}
 use Rattle.mount_laws.proofs.Settled.{settled_keeps_table, settled_stands, settled_is_whole}
 use Rattle.mount_laws.proofs.Whole.{settled_is_cartridge, settling_effects}
 use Rattle.mount_laws.proofs.Keeping.{stopped_stands}
 use Rattle.mount_laws.specs.Settling.{settling_steps}
-use Rattle.append_plan.specs.Laws.{new_plain, steps_of, IsReady, SettledIsReady, StoppedFromTheStart, AppendedIsReady}
+use Rattle.append_plan.specs.Laws.{new_plain, steps_of, SettledIsReady, StoppedFromTheStart, AppendedIsReady}
+use Rattle.append_plan.specs.Settled.{MayAppendTo, SettledMayAppendTo, ReadyIsSettledFor, DoneMayAppendTo}
 use Rattle.append_plan.specs.Room.{has_room}
-use Rattle.append_plan.proofs.Appended.{appended_stands, appended_is_whole, stopped_append}
-use Rattle.append_plan.proofs.Mounted.{append_touches_only}
-use Rattle.append_plan.proofs.Whole.{appended_is_cartridge}
+use Rattle.append_plan.proofs.Appended.{done_stands, appended_is_whole, stopped_append}
+use Rattle.append_plan.proofs.Dead.{ready_settled}
+use Rattle.append_plan.proofs.Mounted.{done_touches_only}
+use Rattle.append_plan.proofs.Volume.{may_append, is_ready}
+use Rattle.append_plan.proofs.Whole.{done_is_cartridge}
 
-pub settled_is_ready : SettledIsReady
-settled_is_ready c plain name date bytes may = record {
-  cartridge = settled_is_cartridge c plain.table_area may.cartridge may.table;
-  stands = settled_stands c plain plain.table_area may.stands may.table;
-  whole = λ i h. settled_is_whole c plain.table_area i may.table may.unprotected may.live h;
+pub settled_may_append_to : SettledMayAppendTo
+settled_may_append_to c plain name date bytes may table = record {
+  cartridge = settled_is_cartridge c plain.table_area may.cartridge table;
+  stands = settled_stands c plain plain.table_area may.stands table;
   room = ap (λ (i : TapeInfo). has_room plain.words (entries_of plain) (28 * i.segments_per_track - 1) (length bytes))
-      (settled_keeps_table c plain.table_area may.table).info
+      (settled_keeps_table c plain.table_area table).info
       ∙ may.room;
   label = may.label;
   word = may.word;
   content = may.content;
 }
+
+pub ready_is_settled_for : ReadyIsSettledFor
+ready_is_settled_for c plain name date bytes ready = (may_append ready, ready_settled ready)
+
+pub settled_is_ready : SettledIsReady
+settled_is_ready c plain name date bytes may =
+    let before : MayAppendTo c plain name date bytes =
+    record { cartridge = may.cartridge; stands = may.stands; room = may.room; label = may.label; word = may.word; content = may.content } in
+    is_ready (settled_may_append_to c plain name date bytes before may.table)
+    (λ i h. settled_is_whole c plain.table_area i may.table may.unprotected may.live h)
 
 -- a stop among the steps that settle it and those that append behind them
 pub stopped_from_the_start : StoppedFromTheStart
@@ -47,23 +58,20 @@ stopped_from_the_start c plain name date bytes left may torn =
 
 -- ---- after an append
 
-info_after : (c : Cartridge) (plain : Plain) (name : List ℕ) (date : ℕ) (bytes : List ℕ) → IsReady c plain name date bytes →
-    (changed_by (steps_of c plain name date bytes) c).info ≡ c.info
-info_after c plain name date bytes ready =
-    let steps : List Step = steps_of c plain name date bytes in
-    let touched = append_touches_only c plain name date bytes (effects steps (Some c)) ready (Torn-all steps (Some c)) in
-    let known : IsSomeAnd (effects steps (Some c)) (λ d. d.info ≡ c.info) = some_weaker (effects steps (Some c)) (λ d all. all.0) touched in
-    subst (λ (o : Option Cartridge). IsSomeAnd o (λ d. d.info ≡ c.info)) (effects-some steps c) known
-
-pub appended_is_ready : AppendedIsReady
-appended_is_ready c plain name date bytes other day more ready room label word content = record {
-  cartridge = appended_is_cartridge c plain name date bytes ready;
-  stands = appended_stands c plain name date bytes ready;
-  whole = appended_is_whole c plain name date bytes ready;
+pub done_may_append_to : DoneMayAppendTo
+done_may_append_to c plain name date bytes other day more may known room label word content = record {
+  cartridge = done_is_cartridge c plain name date bytes may;
+  stands = done_stands c plain name date bytes may known;
   room = ap (λ (i : TapeInfo). has_room plain.words (entries_of (new_plain c plain name date bytes)) (28 * i.segments_per_track - 1) (length more))
-      (info_after c plain name date bytes ready)
+      (done_touches_only c plain name date bytes may).0
       ∙ room;
   label = label;
   word = word;
   content = content;
 }
+
+pub appended_is_ready : AppendedIsReady
+appended_is_ready c plain name date bytes other day more ready room label word content =
+    is_ready
+    (done_may_append_to c plain name date bytes other day more (may_append ready) (ready_settled ready) room label word content)
+    (appended_is_whole c plain name date bytes ready)

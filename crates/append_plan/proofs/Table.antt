@@ -9,7 +9,8 @@ use Rattle.cartridge_spec.specs.Segment.{sector_at}
 use Rattle.cartridge_spec.specs.Table.{Entry, Shows, IsSoundList}
 use Rattle.cartridge_spec.specs.Volumes.{Plain, Volume, entries_of, capacity_between}
 use Rattle.append_plan.specs.Appending.{new_segments, appended_volume, appended_table}
-use Rattle.append_plan.specs.Laws.{IsReady, AppendedTableShows}
+use Rattle.append_plan.specs.Laws.{AppendedTableShows}
+use Rattle.append_plan.specs.Settled.{MayAppendTo, DoneTableShows}
 use Rattle.append_plan.specs.Room.{last_end}
 use Rattle.cartridge_spec.specs.Slots.{slot_bytes, FitsSlot, slot_sector, with_slot}
 use Rattle.append_plan.proofs.Between.{data_sector}
@@ -18,7 +19,7 @@ use Rattle.append_plan.proofs.Segments.{AreTaken, HasRoom, room_is, room_most}
 use Rattle.cartridge_spec.proofs.SlotBytes.{length-slot_bytes, slot_is_used, slot_shows, slot_are_bytes}
 use Rattle.cartridge_spec.proofs.Slots.{slot_area, area_is_long, shows_more}
 use Rattle.append_plan.proofs.TableWrites.{DifferIn}
-use Rattle.append_plan.proofs.Volume.{old_order, ready_taken}
+use Rattle.append_plan.proofs.Volume.{may_append, old_order, ready_taken}
 
 -- ---- lists
 
@@ -44,12 +45,13 @@ slot_differs area n bytes is i h apart =
 
 -- ---- the new entry
 
-pub ready_count : (c : Cartridge) (plain : Plain) (name : List ℕ) (date : ℕ) (bytes : List ℕ) → IsReady c plain name date bytes → length plain.volumes < 232
+pub ready_count : (c : Cartridge) (plain : Plain) (name : List ℕ) (date : ℕ) (bytes : List ℕ) → MayAppendTo c plain name date bytes →
+    length plain.volumes < 232
 ready_count c plain name date bytes ready =
     let free : length (entries_of plain) < 232 = (room_is plain.words (entries_of plain) (last_segment c) (length bytes) ready.room).free_slot in
     omega (arith, count_of_entries plain)
 
-ready_fits : (c : Cartridge) (plain : Plain) (name : List ℕ) (date : ℕ) (bytes : List ℕ) → IsReady c plain name date bytes →
+ready_fits : (c : Cartridge) (plain : Plain) (name : List ℕ) (date : ℕ) (bytes : List ℕ) → MayAppendTo c plain name date bytes →
     FitsSlot (appended_volume plain (last_segment c) name date bytes).entry
 ready_fits c plain name date bytes ready =
     let last : ℕ = last_segment c in
@@ -72,8 +74,8 @@ ready_fits c plain name date bytes ready =
       size = omega (arith, room_most plain.words (entries_of plain) last);
     }
 
-pub appended_table_shows : AppendedTableShows
-appended_table_shows c plain name date bytes ready =
+pub done_table_shows : DoneTableShows
+done_table_shows c plain name date bytes ready =
     let last : ℕ = last_segment c in
     let segments : List ℕ = new_segments plain last bytes in
     let volume : Volume = appended_volume plain last name date bytes in
@@ -97,3 +99,6 @@ appended_table_shows c plain name date bytes ready =
       subst (λ (es : List Entry). IsSoundList last es) (sym more)
           (order_more 2 last (entries_of plain) entry (old_order c plain ready.stands) (omega arith) (omega arith) (omega arith)),
     )
+
+pub appended_table_shows : AppendedTableShows
+appended_table_shows c plain name date bytes ready = done_table_shows c plain name date bytes (may_append ready)

@@ -1,11 +1,12 @@
 -- The four writes of a table's new data: what a stop among them leaves, and all of them.
 use Rattle.std.proofs.Common.{◌≡◌, ◌≢◌, ℕ, ◌+◌, ◌<◌, ◌≤◌, inl, inr, List, [], ◌∷◌, Option, Some, IsSomeAnd, refl, sym, ap, ◌∙◌, subst, arith}
 use Rattle.std.proofs.lemmas.Bool.{cases_eq}
-use Rattle.qic_base.specs.declared.tape.SectorView.TheVariants.{Lost, Holds}
+use Rattle.qic_base.specs.declared.tape.SectorView.{SectorView}
+use Rattle.qic_base.specs.declared.tape.SectorView.TheVariants.{Blank, Defect, Lost, Holds}
 use Rattle.qic_base.specs.Cartridge.{Cartridge, view_at}
 use Rattle.qic_base.specs.Step.{Step, WriteSector, Wear, changed, written_view, worn_view}
 use Rattle.qic_base.specs.Stop.{Torn}
-use Rattle.cartridge_spec.specs.Segment.{sector_at}
+use Rattle.cartridge_spec.specs.Segment.{sector_at, IsLive}
 use Rattle.cartridge_spec.specs.Says.{with_parity}
 use Rattle.cartridge_spec.specs.Writes.{changed_by}
 use Rattle.format_plan.proofs.Views.{view_of_sector, view_of_other_sector}
@@ -16,10 +17,18 @@ use Rattle.append_plan.specs.Between.{HoldsPart, IsWhole, IsBegun, IsTurned, Bet
 abbrev pub DifferIn : (old new : List (List ℕ)) → (changed : ℕ) → Type 0
 DifferIn old new changed = (i : ℕ) → i < 29 → i ≢ changed → sector_at (with_parity new) i ≡ sector_at (with_parity old) i
 
--- the sectors before one are new, and the others old
-record IsAt (c : Cartridge) (old new : List (List ℕ)) (turn : ℕ) : Type 0 where
-  before : (i : ℕ) → i < turn → HoldsPart c new i
-  behind : (i : ℕ) → turn ≤ i → i < 32 → HoldsPart c old i
+-- each sector of which this is true holds its part of these data
+abbrev pub HoldParts : (of : ℕ → Type 0) → Cartridge → (area : List (List ℕ)) → Type 0
+HoldParts of c area = (i : ℕ) → i < 32 → of i → HoldsPart c area i
+
+-- of the sectors of which this is true those before one are new, and the others old
+record IsAt (of : ℕ → Type 0) (c : Cartridge) (old new : List (List ℕ)) (turn : ℕ) : Type 0 where
+  before : (i : ℕ) → i < turn → of i → HoldsPart c new i
+  behind : (i : ℕ) → turn ≤ i → i < 32 → of i → HoldsPart c old i
+
+-- of all 32
+abbrev pub Each : ℕ → Type 0
+Each i = Unit {0}
 
 abbrev sector_write : (new : List (List ℕ)) → (i : ℕ) → Step
 sector_write new i = WriteSector 2 i (sector_at (with_parity new) i)
@@ -48,59 +57,66 @@ begun c old k small whole = record {
   others = λ i h apart. worn_other c k i (omega arith) h apart ∙ whole i h;
 }
 
-turned : (c : Cartridge) (old new : List (List ℕ)) (k : ℕ) → k < 29 → DifferIn old new k → IsWhole c old → IsAt (changed (sector_write new k) c) old new 29
-turned c old new k small differ whole =
+turned : (of : ℕ → Type 0) (c : Cartridge) (old new : List (List ℕ)) (k : ℕ) → k < 29 → DifferIn old new k → HoldParts of c old →
+    IsAt of (changed (sector_write new k) c) old new 29
+turned of c old new k small differ held =
     let bytes : List ℕ = sector_at (with_parity new) k in
     let d : Cartridge = changed (sector_write new k) c in
     record {
-      before = λ i h.
+      before = λ i h is.
           elim (cases_eq i k) [
-            | inl same ↦ subst (HoldsPart d new) (sym same) (written_here c k (sector_at (with_parity old) k) bytes (whole k (omega arith)))
+            | inl same ↦
+                subst (HoldsPart d new) (sym same)
+                (written_here c k (sector_at (with_parity old) k) bytes (held k (omega arith) (subst of same is)))
             | inr apart ↦
-                written_other c k i bytes (omega arith) (omega arith) apart ∙ whole i (omega arith)
-                ∙ ap (λ (held : List ℕ). Holds held) (sym (differ i h apart))
+                written_other c k i bytes (omega arith) (omega arith) apart ∙ held i (omega arith) is
+                ∙ ap (λ (part : List ℕ). Holds part) (sym (differ i h apart))
           ];
-      behind = λ i from h. written_other c k i bytes (omega arith) h (λ e. omega arith) ∙ whole i h;
+      behind = λ i from h is. written_other c k i bytes (omega arith) h (λ e. omega arith) ∙ held i h is;
     }
 
 -- ---- the sectors of parity
 
-is_turned : (c : Cartridge) (old new : List (List ℕ)) (turn : ℕ) → 29 ≤ turn → turn ≤ 32 → IsAt c old new turn → IsTurned c old new
+is_turned : (c : Cartridge) (old new : List (List ℕ)) (turn : ℕ) → 29 ≤ turn → turn ≤ 32 → IsAt Each c old new turn → IsTurned c old new
 is_turned c old new turn from within at = record {
   turn = turn;
   within = within;
   from = from;
-  before = at.before;
-  here = λ h. inl (at.behind turn (omega arith) h);
-  behind = λ i past h. at.behind i (omega arith) h;
+  before = λ i h. at.before i h tt;
+  here = λ h. inl (at.behind turn (omega arith) h tt);
+  behind = λ i past h. at.behind i (omega arith) h tt;
 }
 
-worn_turned : (c : Cartridge) (old new : List (List ℕ)) (turn : ℕ) → 29 ≤ turn → turn < 32 → IsAt c old new turn → IsTurned (changed (Wear 2 turn) c) old new
+worn_turned : (c : Cartridge) (old new : List (List ℕ)) (turn : ℕ) → 29 ≤ turn → turn < 32 → IsAt Each c old new turn →
+    IsTurned (changed (Wear 2 turn) c) old new
 worn_turned c old new turn from within at = record {
   turn = turn;
   within = omega arith;
   from = from;
-  before = λ i h. worn_other c turn i within (omega arith) (λ e. omega arith) ∙ at.before i h;
-  here = λ h. inr (worn_here c turn (sector_at (with_parity old) turn) (at.behind turn (omega arith) h));
-  behind = λ i past h. worn_other c turn i within h (λ e. omega arith) ∙ at.behind i (omega arith) h;
+  before = λ i h. worn_other c turn i within (omega arith) (λ e. omega arith) ∙ at.before i h tt;
+  here = λ h. inr (worn_here c turn (sector_at (with_parity old) turn) (at.behind turn (omega arith) h tt));
+  behind = λ i past h. worn_other c turn i within h (λ e. omega arith) ∙ at.behind i (omega arith) h tt;
 }
 
-next : (c : Cartridge) (old new : List (List ℕ)) (turn : ℕ) → turn < 32 → IsAt c old new turn → IsAt (changed (sector_write new turn) c) old new (turn + 1)
-next c old new turn small at =
+next : (of : ℕ → Type 0) (c : Cartridge) (old new : List (List ℕ)) (turn : ℕ) → turn < 32 → IsAt of c old new turn →
+    IsAt of (changed (sector_write new turn) c) old new (turn + 1)
+next of c old new turn small at =
     let bytes : List ℕ = sector_at (with_parity new) turn in
     let d : Cartridge = changed (sector_write new turn) c in
     record {
-      before = λ i h.
+      before = λ i h is.
           elim (cases_eq i turn) [
-            | inl same ↦ subst (HoldsPart d new) (sym same) (written_here c turn (sector_at (with_parity old) turn) bytes (at.behind turn (omega arith) small))
-            | inr apart ↦ written_other c turn i bytes small (omega arith) apart ∙ at.before i (omega arith)
+            | inl same ↦
+                subst (HoldsPart d new) (sym same)
+                (written_here c turn (sector_at (with_parity old) turn) bytes (at.behind turn (omega arith) small (subst of same is)))
+            | inr apart ↦ written_other c turn i bytes small (omega arith) apart ∙ at.before i (omega arith) is
           ];
-      behind = λ i from h. written_other c turn i bytes small h (λ e. omega arith) ∙ at.behind i (omega arith) h;
+      behind = λ i from h is. written_other c turn i bytes small h (λ e. omega arith) ∙ at.behind i (omega arith) h is;
     }
 
 -- a stop among the writes from one of them on
 turn_stopped : (c : Cartridge) (old new : List (List ℕ)) (turn : ℕ) (rest : List Step) (left : Option Cartridge) → 29 ≤ turn → turn < 32 →
-    IsAt c old new turn →
+    IsAt Each c old new turn →
     (Torn rest (Some (changed (sector_write new turn) c)) left → IsSomeAnd left (λ d. IsTurned d old new)) →
     Torn (sector_write new turn ∷ rest) (Some c) left → IsSomeAnd left (λ d. IsTurned d old new)
 turn_stopped c old new turn rest left from small at then (inl is) =
@@ -109,15 +125,15 @@ turn_stopped c old new turn rest left from small at then (inr (inl is)) =
     some_and (λ d. IsTurned d old new) (changed (Wear 2 turn) c) left (worn_turned c old new turn from small at) is
 turn_stopped c old new turn rest left from small at then (inr (inr behind)) = then behind
 
-parity_stopped : (c : Cartridge) (old new : List (List ℕ)) (left : Option Cartridge) → IsAt c old new 29 →
+parity_stopped : (c : Cartridge) (old new : List (List ℕ)) (left : Option Cartridge) → IsAt Each c old new 29 →
     Torn (sector_write new 29 ∷ sector_write new 30 ∷ sector_write new 31 ∷ []) (Some c) left → IsSomeAnd left (λ d. IsTurned d old new)
 parity_stopped c old new left at torn =
     let second : Cartridge = changed (sector_write new 29) c in
     let third : Cartridge = changed (sector_write new 30) second in
     let last : Cartridge = changed (sector_write new 31) third in
-    let at_second : IsAt second old new 30 = next c old new 29 (omega arith) at in
-    let at_third : IsAt third old new 31 = next second old new 30 (omega arith) at_second in
-    let at_last : IsAt last old new 32 = next third old new 31 (omega arith) at_third in
+    let at_second : IsAt Each second old new 30 = next Each c old new 29 (omega arith) at in
+    let at_third : IsAt Each third old new 31 = next Each second old new 30 (omega arith) at_second in
+    let at_last : IsAt Each last old new 32 = next Each third old new 31 (omega arith) at_third in
     turn_stopped c old new 29 (sector_write new 30 ∷ sector_write new 31 ∷ []) left (omega arith) (omega arith) at
     (turn_stopped second old new 30 (sector_write new 31 ∷ []) left (omega arith) (omega arith) at_second
     (turn_stopped third old new 31 [] left (omega arith) (omega arith) at_third
@@ -133,14 +149,47 @@ table_stopped c old new k left small differ whole (inr (inl is)) =
     some_and (λ d. Between d old new k) (changed (Wear 2 k) c) left (inr (inl (begun c old k small whole))) is
 table_stopped c old new k left small differ whole (inr (inr torn)) =
     some_weaker left (λ d is. inr (inr is))
-    (parity_stopped (changed (sector_write new k) c) old new left (turned c old new k small differ whole) torn)
+    (parity_stopped (changed (sector_write new k) c) old new left (turned Each c old new k small differ (λ i h is. whole i h)) torn)
 
-pub table_written : (c : Cartridge) (old new : List (List ℕ)) (k : ℕ) → k < 29 → DifferIn old new k → IsWhole c old →
-    IsWhole (changed_by (table_writes k new) c) new
-table_written c old new k small differ whole =
+-- each sector that held its part of the old data holds that of the new ones
+pub table_written : (of : ℕ → Type 0) (c : Cartridge) (old new : List (List ℕ)) (k : ℕ) → k < 29 → DifferIn old new k → HoldParts of c old →
+    HoldParts of (changed_by (table_writes k new) c) new
+table_written of c old new k small differ held =
     let first : Cartridge = changed (sector_write new k) c in
     let second : Cartridge = changed (sector_write new 29) first in
     let third : Cartridge = changed (sector_write new 30) second in
-    let last : IsAt (changed (sector_write new 31) third) old new 32 =
-    next third old new 31 (omega arith) (next second old new 30 (omega arith) (next first old new 29 (omega arith) (turned c old new k small differ whole))) in
+    let last : IsAt of (changed (sector_write new 31) third) old new 32 =
+    next of third old new 31 (omega arith)
+    (next of second old new 30 (omega arith) (next of first old new 29 (omega arith) (turned of c old new k small differ held))) in
     last.before
+
+-- ---- sectors that take no write
+
+live_before : (bytes : List ℕ) (view : SectorView) → IsLive (written_view bytes view) → IsLive view
+live_before bytes Blank live = live
+live_before bytes Defect live = live
+live_before bytes Lost live = tt
+live_before bytes (Holds old) live = tt
+
+lived : (c : Cartridge) (k i : ℕ) (bytes : List ℕ) → k < 32 → i < 32 →
+    IsLive (view_at (changed (WriteSector 2 k bytes) c) 2 i) → IsLive (view_at c 2 i)
+lived c k i bytes small h live =
+    elim (cases_eq i k) [
+      | inl same ↦
+          subst (λ (j : ℕ). IsLive (view_at c 2 j)) (sym same)
+          (live_before bytes (view_at c 2 k) (subst IsLive (view_of_sector c 2 k (written_view bytes) refl)
+          (subst (λ (j : ℕ). IsLive (view_at (changed (WriteSector 2 k bytes) c) 2 j)) same live)))
+      | inr apart ↦ subst IsLive (written_other c k i bytes small h apart) live
+    ]
+
+-- one that takes a write after the four took one before them
+pub table_lived : (c : Cartridge) (new : List (List ℕ)) (k i : ℕ) → k < 29 → i < 32 → IsLive (view_at (changed_by (table_writes k new) c) 2 i) →
+    IsLive (view_at c 2 i)
+table_lived c new k i small h live =
+    let first : Cartridge = changed (sector_write new k) c in
+    let second : Cartridge = changed (sector_write new 29) first in
+    let third : Cartridge = changed (sector_write new 30) second in
+    let part : ℕ → List ℕ = sector_at (with_parity new) in
+    lived c k i (part k) (omega arith) h
+    (lived first 29 i (part 29) (omega arith) h
+    (lived second 30 i (part 30) (omega arith) h (lived third 31 i (part 31) (omega arith) h live)))

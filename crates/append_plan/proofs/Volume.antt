@@ -13,6 +13,7 @@ use Rattle.volume_table.proofs.Orders.{faultless_is_sound}
 use Rattle.append_plan.specs.Appending.{new_segments, appended_volume, volume_writes}
 use Rattle.append_plan.specs.Between.{IsWhole}
 use Rattle.append_plan.specs.Laws.{IsReady, FreeWritesStand, StoppedVolume}
+use Rattle.append_plan.specs.Settled.{MayAppendTo}
 use Rattle.append_plan.specs.Room.{last_end}
 use Rattle.append_plan.proofs.Keeping.{AreIn, IsKeptBut, parts_of_segments, steps_stopped}
 use Rattle.append_plan.proofs.Orders.{LiesWithin, end_least, lie_within}
@@ -20,6 +21,29 @@ use Rattle.append_plan.proofs.Segments.{AreTaken, carrying_from, room_is, segmen
 use Rattle.append_plan.proofs.Standing.{AreKeptTo, volumes_kept_to, stands_with}
 
 -- ---- what is known of a cartridge that is ready
+
+pub may_append : {c : Cartridge} {plain : Plain} {name : List ℕ} {date : ℕ} {bytes : List ℕ} → IsReady c plain name date bytes →
+    MayAppendTo c plain name date bytes
+may_append ready = record {
+  cartridge = ready.cartridge;
+  stands = ready.stands;
+  room = ready.room;
+  label = ready.label;
+  word = ready.word;
+  content = ready.content;
+}
+
+pub is_ready : {c : Cartridge} {plain : Plain} {name : List ℕ} {date : ℕ} {bytes : List ℕ} → MayAppendTo c plain name date bytes →
+    IsWhole c plain.table_area → IsReady c plain name date bytes
+is_ready may whole = record {
+  cartridge = may.cartridge;
+  stands = may.stands;
+  whole = whole;
+  room = may.room;
+  label = may.label;
+  word = may.word;
+  content = may.content;
+}
 
 pub old_order : (c : Cartridge) (plain : Plain) → Stands c plain → LieBehind 2 (last_segment c) (entries_of plain)
 old_order c plain stood = faultless_is_sound plain.table_area (last_segment c) (entries_of plain) stood.sound_table stood.shown
@@ -30,7 +54,7 @@ old_volumes c plain stood = lie_within 2 (last_segment c) plain.volumes (old_ord
 pub last_end_least : (c : Cartridge) (plain : Plain) → Stands c plain → 2 ≤ last_end (entries_of plain)
 last_end_least c plain stood = end_least 2 (last_segment c) (entries_of plain) (old_order c plain stood)
 
-pub ready_taken : (c : Cartridge) (plain : Plain) (name : List ℕ) (date : ℕ) (bytes : List ℕ) → IsReady c plain name date bytes →
+pub ready_taken : (c : Cartridge) (plain : Plain) (name : List ℕ) (date : ℕ) (bytes : List ℕ) → MayAppendTo c plain name date bytes →
     AreTaken plain.words (last_end (entries_of plain)) (last_segment c) (new_segments plain (last_segment c) bytes)
 ready_taken c plain name date bytes ready =
     segments_taken plain.words (entries_of plain) (last_segment c) (length bytes)
@@ -48,7 +72,7 @@ abbrev pub Behind : Plain → (segment sector : ℕ) → Type 0
 Behind plain segment sector = last_end (entries_of plain) < segment
 
 pub volume_writes_behind : (c : Cartridge) (plain : Plain) (name : List ℕ) (date : ℕ) (bytes : List ℕ) (volume : Volume) →
-    IsReady c plain name date bytes → AreIn (Behind plain) (volume_writes plain (last_segment c) bytes volume)
+    MayAppendTo c plain name date bytes → AreIn (Behind plain) (volume_writes plain (last_segment c) bytes volume)
 volume_writes_behind c plain name date bytes volume ready =
     let segments : List ℕ = new_segments plain (last_segment c) bytes in
     parts_of_segments (λ s. last_end (entries_of plain) < s) plain.words segments volume.area
@@ -95,4 +119,4 @@ stopped_volume c plain name date bytes left ready torn =
     let volume : Volume = appended_volume plain (last_segment c) name date bytes in
     some_weaker left (λ d known. (known.0, λ i h. known.1.sectors 2 i (last_end_least c plain ready.stands) h ∙ ready.whole i h))
     (free_writes_stand c plain (volume_writes plain (last_segment c) bytes volume) left ready.stands
-    (volume_writes_behind c plain name date bytes volume ready) torn)
+    (volume_writes_behind c plain name date bytes volume (may_append ready)) torn)

@@ -19,12 +19,14 @@ use Rattle.cartridge_spec.proofs.Segments.{view_of_cartridge}
 use Rattle.cartridge_spec.proofs.Whole.{with_view_whole, written_is_view, worn_is_view}
 use Rattle.format_plan.proofs.Writing.{effects-some, some_and}
 use Rattle.append_plan.specs.Appending.{part_writes, parts_writes, new_segments, appended_volume, appended_table, volume_writes, list_writes, append_steps}
-use Rattle.append_plan.specs.Laws.{IsReady, AppendedIsCartridge, StoppedAppendIsCartridge, SectorWritesAreCartridge}
+use Rattle.append_plan.specs.Laws.{AppendedIsCartridge, StoppedAppendIsCartridge, SectorWritesAreCartridge}
+use Rattle.append_plan.specs.Settled.{MayAppendTo, DoneIsCartridge}
 use Rattle.cartridge_spec.specs.Slots.{slot_sector}
 use Rattle.append_plan.specs.Writes.{IsWrite, AreWrites, IsOfSector}
 use Rattle.append_plan.proofs.Between.{length-block}
 use Rattle.append_plan.proofs.Parts.{are_sectors}
-use Rattle.append_plan.proofs.Table.{appended_table_shows, ready_count}
+use Rattle.append_plan.proofs.Table.{done_table_shows, ready_count}
+use Rattle.append_plan.proofs.Volume.{may_append}
 
 -- ---- writes of whole sectors
 
@@ -94,14 +96,14 @@ block_sector area i is h =
     subst IsSector (sym (unwrap_or-slice_get (with_parity area) i []))
     (All-get_or IsSector (with_parity area) i [] (omega (arith, length-block area is)) (block_sectors area is.sectors))
 
-append_whole : (c : Cartridge) (plain : Plain) (name : List ℕ) (date : ℕ) (bytes : List ℕ) → IsReady c plain name date bytes →
+append_whole : (c : Cartridge) (plain : Plain) (name : List ℕ) (date : ℕ) (bytes : List ℕ) → MayAppendTo c plain name date bytes →
     AreWrites IsOfSector (append_steps plain (last_segment c) bytes (appended_volume plain (last_segment c) name date bytes))
 append_whole c plain name date bytes ready =
     let last : ℕ = last_segment c in
     let volume : Volume = appended_volume plain last name date bytes in
     let segments : List ℕ = new_segments plain last bytes in
     let table : List (List ℕ) = appended_table plain volume.entry in
-    let area : IsArea table = (appended_table_shows c plain name date bytes ready).0 in
+    let area : IsArea table = (done_table_shows c plain name date bytes ready).0 in
     let few = ready_count c plain name date bytes ready in
     writes_more (volume_writes plain last bytes volume) (list_writes plain volume)
     (parts_whole plain.words segments volume.area (are_sectors (sectors_in plain.words segments) bytes ready.content)) (
@@ -115,10 +117,13 @@ append_whole c plain name date bytes ready =
 pub stopped_append_is_cartridge : StoppedAppendIsCartridge
 stopped_append_is_cartridge c plain name date bytes left ready torn =
     steps_stopped (append_steps plain (last_segment c) bytes (appended_volume plain (last_segment c) name date bytes)) c left
-    (append_whole c plain name date bytes ready) ready.cartridge torn
+    (append_whole c plain name date bytes (may_append ready)) ready.cartridge torn
 
-pub appended_is_cartridge : AppendedIsCartridge
-appended_is_cartridge c plain name date bytes ready =
+pub done_is_cartridge : DoneIsCartridge
+done_is_cartridge c plain name date bytes may =
     let steps : List Step = append_steps plain (last_segment c) bytes (appended_volume plain (last_segment c) name date bytes) in
     subst (λ (o : Option Cartridge). IsSomeAnd o IsCartridge) (effects-some steps c)
-    (stopped_append_is_cartridge c plain name date bytes (effects steps (Some c)) ready (Torn-all steps (Some c)))
+    (steps_stopped steps c (effects steps (Some c)) (append_whole c plain name date bytes may) may.cartridge (Torn-all steps (Some c)))
+
+pub appended_is_cartridge : AppendedIsCartridge
+appended_is_cartridge c plain name date bytes ready = done_is_cartridge c plain name date bytes (may_append ready)

@@ -2,11 +2,20 @@
 //! can rest on it; their proofs import the lemmas of this crate's `proofs`.
 
 ghost use Rattle.append_plan.specs.Laws.{SettledIsReady, BeforeReadsOld, TurnedReadsNew, AppendedTableShows, AppendedBytes, VolumeStepsByBytes, WritesBySegment, SectorsTakeTheirs, AppendedStands, AppendedMounts, AppendedIsClean, AppendedIsWhole, AppendedIsCartridge, AppendedIsReady, FreeWritesStand, FreeWritesLeaveReady, FreeWritesAreClean, SectorWritesAreCartridge, StoppedVolume, StoppedList, StoppedAppend, StoppedFromTheStart, AppendTouchesOnly, StoppedAppendMounts, StoppedAppendIsClean, StoppedAppendIsCartridge};
+ghost use Rattle.append_plan.specs.Settled.{SettledIsSettledFor, SettledMayAppendTo, ReadyIsSettledFor, FreeWritesLeaveSettled, DoneTableShows, DoneBytes, DoneStands, DoneMounts, DoneIsSettledFor, DoneIsClean, DoneIsCartridge, DoneTouchesOnly, DoneMayAppendTo};
 
 /// A cartridge that was settled is ready for an append that has room, where each sector of its table's segment takes what is
 /// written to it.
 pub fn settled_is_ready()
     ensures { SettledIsReady }
+{}
+
+/// On a cartridge that was settled and is not protected each sector of the table's segment that takes what is written to it
+/// holds its part, and a volume that had room has it still; so it is on one that is ready for an append.
+pub fn settled_over_dead_sectors()
+    ensures settled { SettledIsSettledFor }
+    ensures may { SettledMayAppendTo }
+    ensures ready { ReadyIsSettledFor }
 {}
 
 /// A table's segment between two data is read as the old ones until the changed sector of data is new, and as the new ones
@@ -40,11 +49,26 @@ pub fn done_append()
     ensures ready { AppendedIsReady }
 {}
 
+/// The same is so where sectors of the table's segment are defects or were never formatted, but the table can be read: it is
+/// then read as the new one, and the next append may follow.
+pub fn done_append_over_dead_sectors()
+    ensures shows { DoneTableShows }
+    ensures bytes { DoneBytes }
+    ensures stands { DoneStands }
+    ensures mounts { DoneMounts }
+    ensures settled { DoneIsSettledFor }
+    ensures clean { DoneIsClean }
+    ensures whole { DoneIsCartridge }
+    ensures others { DoneTouchesOnly }
+    ensures again { DoneMayAppendTo }
+{}
+
 /// Whatever is written behind the last volume, stopped or not, leaves what stood; and whatever sectors are written, a
 /// cartridge is left.
 pub fn free_writes()
     ensures stands { FreeWritesStand }
     ensures ready { FreeWritesLeaveReady }
+    ensures settled { FreeWritesLeaveSettled }
     ensures clean { FreeWritesAreClean }
     ensures whole { SectorWritesAreCartridge }
 {}

@@ -1,4 +1,4 @@
-use Rattle.append_plan.proofs.Mounted.{free_writes_leave_ready, free_writes_are_clean}
+use Rattle.append_plan.proofs.Mounted.{free_writes_leave_ready, free_writes_leave_settled, free_writes_are_clean}
 use Rattle.append_plan.proofs.Volume.{free_writes_stand}
 use Rattle.append_plan.proofs.Whole.{sector_writes_are_cartridge}
 use Rattle.append_plan.proofs.laws.free_writes.Goals as goal
@@ -11,6 +11,9 @@ returns-clause-whole c = sector_writes_are_cartridge
 
 pub returns-clause-ready : goal.returns-clause-ready
 returns-clause-ready c = free_writes_leave_ready
+
+pub returns-clause-settled : goal.returns-clause-settled
+returns-clause-settled c = free_writes_leave_settled
 
 pub returns-clause-clean : goal.returns-clause-clean
 returns-clause-clean c = free_writes_are_clean
