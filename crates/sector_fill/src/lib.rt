@@ -1,0 +1,8 @@
+//! The bytes of a source go straight into the sectors of a segment. No call takes memory.
+#![tactic(auto)]
+
+mod filling;
+#[cfg(test)]
+mod tests;
+
+pub use filling::fill_sectors;
