@@ -1,0 +1,2 @@
+pub mod FurtherSets
+pub mod Laws
