@@ -1,2 +1,4 @@
+pub mod Parity
 pub mod Readings
+pub mod Seen
 pub mod Sets
