@@ -1,3 +1,5 @@
+pub mod Lines
+pub mod OneLoss
 pub mod Parity
 pub mod Readings
 pub mod Seen

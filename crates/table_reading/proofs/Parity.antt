@@ -93,7 +93,7 @@ with_others X parity from below give =
       ]
     ]
 
-same_data : (old new : List (List ℕ)) (changed i : ℕ) → DifferInOne old new changed → i < 29 → i ≢ changed →
+pub same_data : (old new : List (List ℕ)) (changed i : ℕ) → DifferInOne old new changed → i < 29 → i ≢ changed →
     sector_at (with_parity old) i ≡ sector_at (with_parity new) i
 same_data old new changed i differ h apart =
     front_sector old differ.old_area i h ∙ differ.others i h apart ∙ sym (front_sector new differ.new_area i h)

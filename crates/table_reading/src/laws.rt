@@ -1,7 +1,7 @@
 //! What the further reading of the table's segment gives. Each law is the contract of a function that does nothing, so that
 //! other crates can rest on it; their proofs import the lemmas of this crate's `proofs`.
 
-ghost use Rattle.table_reading.specs.Laws.{FurtherSaysIsFunction, FurtherSaysAlways, FurtherSaysTheSame, ParityBytesDiffer, ParityDiffers, NearBlockIsTables};
+ghost use Rattle.table_reading.specs.Laws.{FurtherSaysIsFunction, FurtherSaysAlways, FurtherSaysTheSame, ParityBytesDiffer, ParityDiffers, NearBlockIsTables, BeforeReadsOldStill, LostParityReadsNew, LostDataReadsOld, LostDataReadsNew, OneLossReadsEither};
 
 /// The further reading of the table's segment says at most one thing.
 pub fn further_says_is_function()
@@ -24,4 +24,24 @@ pub fn tables_are_far_apart()
     ensures bytes { ParityBytesDiffer }
     ensures parity { ParityDiffers }
     ensures near { NearBlockIsTables }
+{}
+
+/// A table's segment between two data, of which one sector more is lost, is read as the old ones until the changed sector of data
+/// is new.
+pub fn one_loss_before_the_turn()
+    ensures { BeforeReadsOldStill }
+{}
+
+/// From then on, where a sector of parity is lost, it is read as the new ones. Where a sector of data is, it is read as the old
+/// ones until the first sector of parity is new, and where the changed sector itself is lost, while the second one is old; and
+/// else as the new ones. In the new data the changed sector is the last one with a used slot.
+pub fn one_loss_behind_the_turn()
+    ensures parity { LostParityReadsNew }
+    ensures old { LostDataReadsOld }
+    ensures new { LostDataReadsNew }
+{}
+
+/// In each state between the two data one of them is read.
+pub fn one_loss()
+    ensures { OneLossReadsEither }
 {}
