@@ -1,5 +1,5 @@
 -- The reading of a table's segment whose data are new but for one sector that is lost, by what its sectors of parity hold.
-use Rattle.std.proofs.Common.{◌≡◌, ◌≢◌, ◌⊎◌, ℕ, ◌<◌, ◌≤◌, ◌++◌, inl, inr, refl, sym, ◌∙◌, ap, subst, arith, Bool, true, false, List, [], ◌∷◌, length, slice_get, Option, Some, None, nat_lt}
+use Rattle.std.proofs.Common.{◌≡◌, ◌≢◌, ℕ, ◌<◌, ◌≤◌, inl, inr, refl, sym, ◌∙◌, ap, subst, arith, Bool, List, [], ◌∷◌, length, slice_get, Option, Some}
 use Rattle.std.specs.Prelude.{if◌then◌else◌, unwrap_or}
 use Rattle.std.proofs.lemmas.Bool.{cases_eq, cases_lt, lt-ltb}
 use Rattle.qic_base.specs.declared.tape.SectorView.{SectorView}
@@ -86,7 +86,8 @@ changed_differs d old new k m broken same =
 
 -- ---- the sets that are tried
 
-first_set : (d : Cartridge) (area : List (List ℕ)) → HasBlock (hidden (set_of []) (table_cells d)) area → HasBlock (hidden 0 (table_cells d)) area
+first_set : (d : Cartridge) (area : List (List ℕ)) → HasBlock (hidden (set_of []) (table_cells d)) area →
+    HasBlock (hidden 0 (table_cells d)) area
 unfolding set_of
 first_set d area has = has
 
@@ -123,7 +124,8 @@ used_is_changed d old new k m broken other =
     ])
 
 -- a reading by the sets
-by_sets : (d : Cartridge) (area : List (List ℕ)) (m : ℕ) (sets : List ℕ) → m < 29 → view_at d 2 m ≡ Lost → unreadable_count (table_cells d) ≤ 3 →
+by_sets : (d : Cartridge) (area : List (List ℕ)) (m : ℕ) (sets : List ℕ) → m < 29 → view_at d 2 m ≡ Lost →
+    unreadable_count (table_cells d) ≤ 3 →
     sets_by (last_used (table_cells d)) (unreadable_places (table_cells d)) ≡ sets → HasFirstBlock (0 ∷ sets) (table_cells d) area →
     FurtherIs d area
 by_sets d area m sets small lost few tried first =
@@ -186,15 +188,21 @@ all_old d old new k m broken other p29 p30 p31 =
     λ ps among. old_outside d old new k m ps broken among (λ none. p29) (λ none. p30) (λ none. p31) in
     by_sets d old m (sets_by_one (Some k) m) small broken.here (omega arith)
     (one_lost d old new k m broken reads ∙ ap (λ (used : Option ℕ). sets_by_one used m) (used_is_changed d old new k m broken other))
-    (inr (not_first_set d (no_block_outside d old [] (m ∷ k ∷ []) k new_here is (omega arith) (holds (m ∷ k ∷ []) (λ i none. none))
-    (omega arith) tt seen differs),
-    inr (no_block_outside d old (m ∷ 31 ∷ []) (k ∷ []) k new_here is (omega arith)
-    (holds (m ∷ 31 ∷ k ∷ []) (λ i none. (none.0, (none.1.1.0, tt))))
-    (omega arith) ((λ e. other (sym e)), ((λ e. omega arith), tt)) seen differs,
-    inr (no_block_outside d old (m ∷ 29 ∷ []) (k ∷ []) k new_here is (omega arith)
-    (holds (m ∷ 29 ∷ k ∷ []) (λ i none. (none.0, (none.1.1.0, tt))))
-    (omega arith) ((λ e. other (sym e)), ((λ e. omega arith), tt)) seen differs,
-    inl (block_outside d old (k ∷ m ∷ []) [] is (holds (k ∷ m ∷ []) (λ i none. (none.1.0, (none.0, tt)))) (λ i one. absurd one))))))
+    (inr (
+      not_first_set d (no_block_outside d old [] (m ∷ k ∷ []) k new_here is (omega arith) (holds (m ∷ k ∷ []) (λ i none. none))
+          (omega arith) tt seen differs),
+      inr (
+        no_block_outside d old (m ∷ 31 ∷ []) (k ∷ []) k new_here is (omega arith)
+            (holds (m ∷ 31 ∷ k ∷ []) (λ i none. (none.0, (none.1.1.0, tt))))
+            (omega arith) ((λ e. other (sym e)), ((λ e. omega arith), tt)) seen differs,
+        inr (
+          no_block_outside d old (m ∷ 29 ∷ []) (k ∷ []) k new_here is (omega arith)
+              (holds (m ∷ 29 ∷ k ∷ []) (λ i none. (none.0, (none.1.1.0, tt))))
+              (omega arith) ((λ e. other (sym e)), ((λ e. omega arith), tt)) seen differs,
+          inl (block_outside d old (k ∷ m ∷ []) [] is (holds (k ∷ m ∷ []) (λ i none. (none.1.0, (none.0, tt)))) (λ i one. absurd one)),
+        ),
+      ),
+    ))
 
 -- lost, old, old
 pub first_lost : (d : Cartridge) (old new : List (List ℕ)) (k m : ℕ) → IsBroken d old new k m → m ≢ k →
@@ -212,12 +220,16 @@ first_lost d old new k m broken other gone p30 p31 =
     by_sets d old m (with_used (Some k) (m ∷ 29 ∷ [])) small broken.here (omega arith)
     (two_lost d old new k m 29 broken (omega arith) (omega arith) gone reads
     ∙ ap (λ (used : Option ℕ). sets_by_two used m 29) (used_is_changed d old new k m broken other))
-    (inr (not_first_set d (no_block_outside d old [] (m ∷ k ∷ 29 ∷ []) k new_here is (omega arith)
-    (old_outside d old new k m (m ∷ k ∷ 29 ∷ []) broken (λ i none. (none.0, (none.1.0, tt))) (λ none. absurd (none.1.1.0 refl)) (λ none. p30) (λ none. p31))
-    (omega arith) tt seen (changed_differs d old new k m broken)),
-    inl (block_outside d old (k ∷ m ∷ 29 ∷ []) [] is
-    (old_outside d old new k m (k ∷ m ∷ 29 ∷ []) broken (λ i none. (none.1.0, (none.0, tt))) (λ none. absurd (none.1.1.0 refl)) (λ none. p30) (λ none. p31))
-    (λ i one. absurd one))))
+    (inr (
+      not_first_set d (no_block_outside d old [] (m ∷ k ∷ 29 ∷ []) k new_here is (omega arith)
+          (old_outside d old new k m (m ∷ k ∷ 29 ∷ []) broken (λ i none. (none.0, (none.1.0, tt)))
+          (λ none. absurd (none.1.1.0 refl)) (λ none. p30) (λ none. p31))
+          (omega arith) tt seen (changed_differs d old new k m broken)),
+      inl (block_outside d old (k ∷ m ∷ 29 ∷ []) [] is
+          (old_outside d old new k m (k ∷ m ∷ 29 ∷ []) broken (λ i none. (none.1.0, (none.0, tt)))
+          (λ none. absurd (none.1.1.0 refl)) (λ none. p30) (λ none. p31))
+          (λ i one. absurd one)),
+    ))
 
 -- new, old, old
 pub one_new : (d : Cartridge) (old new : List (List ℕ)) (k m : ℕ) → IsBroken d old new k m → m ≢ k →
@@ -238,26 +250,34 @@ one_new d old new k m broken other p29 p30 p31 =
     λ e. parity_differs old new k 29 broken.differ (omega arith) (omega arith) (sym e) in
     by_sets d new m (sets_by_one (Some k) m) small broken.here (omega arith)
     (one_lost d old new k m broken reads ∙ ap (λ (used : Option ℕ). sets_by_one used m) (used_is_changed d old new k m broken other))
-    (inr (not_first_set d (no_block_outside d new [] (m ∷ 30 ∷ 31 ∷ []) 30 (sector_at (with_parity old) 30) is_new (omega arith)
-    (new_outside d old new k m (m ∷ 30 ∷ 31 ∷ []) broken (λ i none. none.0) (λ none. p29) (λ none. absurd (none.1.0 refl))
-    (λ none. absurd (none.1.1.0 refl)))
-    (omega arith) tt p30 differs_30),
-    inr (no_block_outside d new (m ∷ 31 ∷ []) (30 ∷ []) 30 (sector_at (with_parity old) 30) is_new (omega arith)
-    (new_outside d old new k m (m ∷ 31 ∷ 30 ∷ []) broken (λ i none. none.0) (λ none. p29) (λ none. absurd (none.1.1.0 refl))
-    (λ none. absurd (none.1.0 refl)))
-    (omega arith) ((λ e. omega arith), ((λ e. omega arith), tt)) p30 differs_30,
-    inr (no_block_outside d old (m ∷ 29 ∷ []) (k ∷ []) k (sector_at (with_parity new) k) is_old (omega arith)
-    (old_outside d old new k m (m ∷ 29 ∷ k ∷ []) broken (λ i none. (none.0, (none.1.1.0, tt))) (λ none. absurd (none.1.0 refl))
-    (λ none. p30) (λ none. p31))
-    (omega arith) ((λ e. other (sym e)), ((λ e. omega arith), tt)) seen (changed_differs d old new k m broken),
-    inr (no_block_outside d old (k ∷ m ∷ []) (29 ∷ []) 29 (sector_at (with_parity new) 29) is_old (omega arith)
-    (old_outside d old new k m (k ∷ m ∷ 29 ∷ []) broken (λ i none. (none.1.0, (none.0, tt))) (λ none. absurd (none.1.1.0 refl))
-    (λ none. p30) (λ none. p31))
-    (omega arith) ((λ e. omega arith), ((λ e. omega arith), tt)) p29 differs_29,
-    inl (block_outside d new (m ∷ 30 ∷ 31 ∷ []) [] is_new
-    (new_outside d old new k m (m ∷ 30 ∷ 31 ∷ []) broken (λ i none. none.0) (λ none. p29) (λ none. absurd (none.1.0 refl))
-    (λ none. absurd (none.1.1.0 refl)))
-    (λ i one. absurd one)))))))
+    (inr (
+      not_first_set d (no_block_outside d new [] (m ∷ 30 ∷ 31 ∷ []) 30 (sector_at (with_parity old) 30) is_new (omega arith)
+          (new_outside d old new k m (m ∷ 30 ∷ 31 ∷ []) broken (λ i none. none.0) (λ none. p29) (λ none. absurd (none.1.0 refl))
+          (λ none. absurd (none.1.1.0 refl)))
+          (omega arith) tt p30 differs_30),
+      inr (
+        no_block_outside d new (m ∷ 31 ∷ []) (30 ∷ []) 30 (sector_at (with_parity old) 30) is_new (omega arith)
+            (new_outside d old new k m (m ∷ 31 ∷ 30 ∷ []) broken (λ i none. none.0) (λ none. p29) (λ none. absurd (none.1.1.0 refl))
+            (λ none. absurd (none.1.0 refl)))
+            (omega arith) ((λ e. omega arith), ((λ e. omega arith), tt)) p30 differs_30,
+        inr (
+          no_block_outside d old (m ∷ 29 ∷ []) (k ∷ []) k (sector_at (with_parity new) k) is_old (omega arith)
+              (old_outside d old new k m (m ∷ 29 ∷ k ∷ []) broken (λ i none. (none.0, (none.1.1.0, tt))) (λ none. absurd (none.1.0 refl))
+              (λ none. p30) (λ none. p31))
+              (omega arith) ((λ e. other (sym e)), ((λ e. omega arith), tt)) seen (changed_differs d old new k m broken),
+          inr (
+            no_block_outside d old (k ∷ m ∷ []) (29 ∷ []) 29 (sector_at (with_parity new) 29) is_old (omega arith)
+                (old_outside d old new k m (k ∷ m ∷ 29 ∷ []) broken (λ i none. (none.1.0, (none.0, tt))) (λ none. absurd (none.1.1.0 refl))
+                (λ none. p30) (λ none. p31))
+                (omega arith) ((λ e. omega arith), ((λ e. omega arith), tt)) p29 differs_29,
+            inl (block_outside d new (m ∷ 30 ∷ 31 ∷ []) [] is_new
+                (new_outside d old new k m (m ∷ 30 ∷ 31 ∷ []) broken (λ i none. none.0) (λ none. p29) (λ none. absurd (none.1.0 refl))
+                (λ none. absurd (none.1.1.0 refl)))
+                (λ i one. absurd one)),
+          ),
+        ),
+      ),
+    ))
 
 -- ---- whichever sector of data is lost
 
@@ -276,9 +296,11 @@ second_lost d old new k m broken p29 gone p31 =
     (λ none. absurd (none.1.1.0 refl)) in
     by_sets d new m (set_of (m ∷ 30 ∷ 31 ∷ []) ∷ []) small broken.here (omega arith)
     (two_lost d old new k m 30 broken (omega arith) (omega arith) gone reads)
-    (inr (not_first_set d (no_block_outside d new [] (m ∷ 30 ∷ 31 ∷ []) 31 (sector_at (with_parity old) 31) is (omega arith) holds
-    (omega arith) tt p31 (parity_differs old new k 31 broken.differ (omega arith) (omega arith))),
-    inl (block_outside d new (m ∷ 30 ∷ 31 ∷ []) [] is holds (λ i one. absurd one))))
+    (inr (
+      not_first_set d (no_block_outside d new [] (m ∷ 30 ∷ 31 ∷ []) 31 (sector_at (with_parity old) 31) is (omega arith) holds
+          (omega arith) tt p31 (parity_differs old new k 31 broken.differ (omega arith) (omega arith))),
+      inl (block_outside d new (m ∷ 30 ∷ 31 ∷ []) [] is holds (λ i one. absurd one)),
+    ))
 
 -- new, new, old
 pub two_new : (d : Cartridge) (old new : List (List ℕ)) (k m : ℕ) → IsBroken d old new k m →
@@ -293,9 +315,11 @@ two_new d old new k m broken p29 p30 p31 =
     let holds : HoldsOutside d new (m ∷ 31 ∷ []) =
     new_outside d old new k m (m ∷ 31 ∷ []) broken (λ i none. none.0) (λ none. p29) (λ none. p30) (λ none. absurd (none.1.0 refl)) in
     by_sets d new m (sets_by_one (last_used (table_cells d)) m) small broken.here (omega arith) (one_lost d old new k m broken reads)
-    (inr (not_first_set d (no_block_outside d new [] (m ∷ 31 ∷ []) 31 (sector_at (with_parity old) 31) is (omega arith) holds
-    (omega arith) tt p31 (parity_differs old new k 31 broken.differ (omega arith) (omega arith))),
-    inl (block_outside d new (m ∷ 31 ∷ []) [] is holds (λ i one. absurd one))))
+    (inr (
+      not_first_set d (no_block_outside d new [] (m ∷ 31 ∷ []) 31 (sector_at (with_parity old) 31) is (omega arith) holds
+          (omega arith) tt p31 (parity_differs old new k 31 broken.differ (omega arith) (omega arith))),
+      inl (block_outside d new (m ∷ 31 ∷ []) [] is holds (λ i one. absurd one)),
+    ))
 
 -- new, new, lost
 pub third_lost : (d : Cartridge) (old new : List (List ℕ)) (k m : ℕ) → IsBroken d old new k m →
@@ -351,10 +375,14 @@ one_new_still_old d old new k m broken same p29 p30 p31 =
     let differs : sector_at (with_parity new) 29 ≢ sector_at (with_parity old) 29 =
     λ e. parity_differs old new k 29 broken.differ (omega arith) (omega arith) (sym e) in
     by_sets d old m (sets_by_one (last_used (table_cells d)) m) small broken.here (omega arith) (one_lost d old new k m broken reads)
-    (inr (not_first_set d (no_block_outside d old [] (m ∷ 29 ∷ []) 29 (sector_at (with_parity new) 29) is (omega arith) holds
-    (omega arith) tt p29 differs),
-    inr (no_block_outside d old (m ∷ 31 ∷ []) (29 ∷ []) 29 (sector_at (with_parity new) 29) is (omega arith)
-    (old_outside d old new k m (m ∷ 31 ∷ 29 ∷ []) broken (λ i none. changed_is_lost k m i same none.0) (λ none. absurd (none.1.1.0 refl))
-    (λ none. p30) (λ none. p31))
-    (omega arith) ((λ e. omega arith), ((λ e. omega arith), tt)) p29 differs,
-    inl (block_outside d old (m ∷ 29 ∷ []) [] is holds (λ i one. absurd one)))))
+    (inr (
+      not_first_set d (no_block_outside d old [] (m ∷ 29 ∷ []) 29 (sector_at (with_parity new) 29) is (omega arith) holds
+          (omega arith) tt p29 differs),
+      inr (
+        no_block_outside d old (m ∷ 31 ∷ []) (29 ∷ []) 29 (sector_at (with_parity new) 29) is (omega arith)
+            (old_outside d old new k m (m ∷ 31 ∷ 29 ∷ []) broken (λ i none. changed_is_lost k m i same none.0) (λ none. absurd (none.1.1.0 refl))
+            (λ none. p30) (λ none. p31))
+            (omega arith) ((λ e. omega arith), ((λ e. omega arith), tt)) p29 differs,
+        inl (block_outside d old (m ∷ 29 ∷ []) [] is holds (λ i one. absurd one)),
+      ),
+    ))

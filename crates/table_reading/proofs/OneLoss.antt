@@ -1,15 +1,14 @@
 -- What is read of the table's segment between two tables, where one sector more is lost.
-use Rattle.std.proofs.Common.{◌≡◌, ◌≢◌, ◌⊎◌, ℕ, ◌<◌, ◌≤◌, inl, inr, refl, sym, ◌∙◌, ap, subst, arith, List, [], ◌∷◌, length}
+use Rattle.std.proofs.Common.{◌≡◌, ◌≢◌, ◌⊎◌, ℕ, ◌<◌, ◌≤◌, inl, inr, sym, ◌∙◌, ap, subst, arith, List, [], ◌∷◌}
 use Rattle.std.proofs.lemmas.Bool.{cases_eq, cases_lt}
-use Rattle.qic_base.specs.declared.tape.SectorView.{SectorView}
 use Rattle.qic_base.specs.declared.tape.SectorView.TheVariants.{Lost, Holds}
 use Rattle.qic_base.specs.Cartridge.{Cartridge, view_at}
 use Rattle.cartridge_spec.specs.Segment.{sector_at}
 use Rattle.cartridge_spec.specs.Says.{unreadable_count, with_parity, Data, ByCode}
-use Rattle.cartridge_spec.specs.HeaderAndTable.{IsArea, TableIs, table_cells}
+use Rattle.cartridge_spec.specs.HeaderAndTable.{TableIs, table_cells}
 use Rattle.mount_laws.proofs.Standing.{written_table}
 use Rattle.mount_laws.proofs.Stops.{block_written}
-use Rattle.append_plan.specs.Between.{HoldsPart, IsWhole, IsBegun, IsTurned, Between}
+use Rattle.append_plan.specs.Between.{HoldsPart, IsWhole, IsBegun, IsTurned}
 use Rattle.append_plan.proofs.Between.{length-block, data_read}
 use Rattle.table_reading.specs.FurtherSets.{FurtherIs}
 use Rattle.table_reading.specs.OneLoss.{DifferInOne, IsLastUsed, LosesOne}
@@ -86,7 +85,8 @@ broken_by c d old new k m differ last turned small loses =
     }
 
 -- the sector of the turn, by its number
-turn_at : (c d : Cartridge) (old new : List (List ℕ)) (m p : ℕ) → (turned : IsTurned c old new) → LosesOne c d m → m < 29 → 29 ≤ p → p < 32 →
+turn_at : (c d : Cartridge) (old new : List (List ℕ)) (m p : ℕ) → (turned : IsTurned c old new) → LosesOne c d m → m < 29 →
+    29 ≤ p → p < 32 →
     turned.turn ≡ p → HoldsPart d old p ⊎ (view_at d 2 p ≡ Lost)
 turn_at c d old new m p turned loses small from below same =
     elim (turned.here (omega arith)) [
@@ -153,7 +153,8 @@ lost_data_reads_new c d old new k m differ last turned small loses least apart =
 
 -- ---- either
 
-turned_reads_either : (c d : Cartridge) (old new : List (List ℕ)) (k m : ℕ) → DifferInOne old new k → IsLastUsed new k → IsTurned c old new → m < 29 →
+turned_reads_either : (c d : Cartridge) (old new : List (List ℕ)) (k m : ℕ) → DifferInOne old new k → IsLastUsed new k →
+    IsTurned c old new → m < 29 →
     LosesOne c d m → FurtherIs d old ⊎ FurtherIs d new
 turned_reads_either c d old new k m differ last turned small loses =
     let begins : 29 ≤ turned.turn = turned.from in

@@ -1,9 +1,9 @@
 -- Two tables that differ in one sector of data differ in their parity, and a code block near a table's is that.
-use Rattle.std.proofs.Common.{◌≡◌, ◌≢◌, ◌⊎◌, ℕ, ◌<◌, ◌≤◌, inl, inr, refl, sym, ◌∙◌, ap, subst, arith, List, [], ◌∷◌, length, slice_get, slice_index, get_or, Some}
+use Rattle.std.proofs.Common.{◌≡◌, ◌≢◌, ℕ, ◌<◌, ◌≤◌, inl, inr, sym, ◌∙◌, ap, subst, arith, List, [], ◌∷◌, length, slice_get, slice_index, Some}
 use Rattle.std.specs.Option.{option_map}
 use Rattle.std.proofs.lemmas.Bool.{cases_eq, cases_lt}
 use Rattle.std.proofs.lemmas.Option.{slice_get-get_or, unwrap_or-slice_get}
-use Rattle.gf256_qic.specs.Code.{IsCodeBlock, IsCodeword, AgreesOutside, column, lost_below}
+use Rattle.gf256_qic.specs.Code.{IsCodeBlock, column, lost_below}
 use Rattle.gf256_qic.proofs.Agreement.{one_block, one_codeword, length-column, slice_get-column}
 use Rattle.gf256_qic.proofs.Parities.{parity_block}
 use Rattle.cartridge_spec.specs.Segment.{sector_at}
@@ -40,7 +40,8 @@ few_named ps n few =
     omega arith
 
 -- code blocks with the same sectors outside three places at most are the same
-pub near_blocks : (xs ys : List (List ℕ)) (ps : List ℕ) → IsCodeBlock xs → IsCodeBlock ys → length xs ≡ 32 → length ys ≡ 32 → length ps ≤ 3 →
+pub near_blocks : (xs ys : List (List ℕ)) (ps : List ℕ) → IsCodeBlock xs → IsCodeBlock ys → length xs ≡ 32 → length ys ≡ 32 →
+    length ps ≤ 3 →
     ((i : ℕ) → i < 32 → IsNoneOf ps i → sector_at xs i ≡ sector_at ys i) → xs ≡ ys
 near_blocks xs ys ps hx hy nx ny few same =
     one_block (names (set_of ps)) xs ys hx hy
@@ -57,7 +58,8 @@ byte_there : (xs : List (List ℕ)) (i j : ℕ) → i < length xs → slice_get 
 byte_there xs i j h = slice_get-column j xs i ∙ ap (option_map (λ s. slice_index s j)) (sector_there xs i h)
 
 -- so are columns with the same bytes there
-near_columns : (xs ys : List (List ℕ)) (j : ℕ) (ps : List ℕ) → IsCodeBlock xs → IsCodeBlock ys → length xs ≡ 32 → length ys ≡ 32 → j < 1024 →
+near_columns : (xs ys : List (List ℕ)) (j : ℕ) (ps : List ℕ) → IsCodeBlock xs → IsCodeBlock ys → length xs ≡ 32 →
+    length ys ≡ 32 → j < 1024 →
     length ps ≤ 3 → ((i : ℕ) → i < 32 → IsNoneOf ps i → slice_index (sector_at xs i) j ≡ slice_index (sector_at ys i) j) →
     column j xs ≡ column j ys
 near_columns xs ys j ps hx hy nx ny small few same =

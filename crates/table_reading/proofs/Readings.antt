@@ -1,5 +1,5 @@
 -- The further reading of the table's segment says one thing, and what is said without sets.
-use Rattle.std.proofs.Common.{◌≡◌, ◌≢◌, ◌⊎◌, ℕ, ◌<◌, ◌≤◌, ◌++◌, inl, inr, refl, sym, ◌∙◌, ap, subst, arith, Bool, true, false, List, [], ◌∷◌, length, All, Option, Some, None, nat_lt}
+use Rattle.std.proofs.Common.{◌≡◌, ◌⊎◌, ℕ, ◌<◌, ◌≤◌, ◌++◌, inl, inr, refl, sym, ◌∙◌, ap, subst, arith, Bool, true, false, List, [], ◌∷◌, length, All, Option, Some, None, nat_lt}
 use Rattle.std.specs.Prelude.{◌==◌, if◌then◌else◌}
 use Rattle.std.proofs.lemmas.Bool.{cases_lt, eqb-true}
 use Rattle.qic_base.specs.declared.tape.SectorView.{SectorView}
@@ -28,7 +28,8 @@ AreAmong cells places = (i : ℕ) → unreadable_at cells i ≡ true → IsOneOf
 small_set : (cells : List SectorView) (ps : List ℕ) → length ps ≤ 3 → AreAmong cells ps → unreadable_count (hidden (set_of ps) cells) ≤ 3
 small_set cells ps few among = let all = few_outside cells ps among in omega arith
 
-small_if : (cells : List SectorView) (b : Bool) (xs ys : List ℕ) → AreSmall cells xs → AreSmall cells ys → AreSmall cells (if b then xs else ys)
+small_if : (cells : List SectorView) (b : Bool) (xs ys : List ℕ) → AreSmall cells xs → AreSmall cells ys →
+    AreSmall cells (if b then xs else ys)
 small_if cells true xs ys hx hy = hx
 small_if cells false xs ys hx hy = hy
 
@@ -36,16 +37,20 @@ small_both : (cells : List SectorView) (xs ys : List ℕ) → AreSmall cells xs 
 small_both cells [] ys hx hy = hy
 small_both cells (x ∷ xs) ys hx hy = (hx.0, small_both cells xs ys hx.1 hy)
 
-small_with_used : (cells : List SectorView) (used : Option ℕ) (ps : List ℕ) → length ps ≤ 2 → AreAmong cells ps → AreSmall cells (with_used used ps)
+small_with_used : (cells : List SectorView) (used : Option ℕ) (ps : List ℕ) → length ps ≤ 2 → AreAmong cells ps →
+    AreSmall cells (with_used used ps)
 small_with_used cells None ps few among = tt
 small_with_used cells (Some k) ps few among = (small_set cells (k ∷ ps) (omega arith) (λ i un. inr (among i un)), tt)
 
 small_by_one : (cells : List SectorView) (used : Option ℕ) (m : ℕ) → AreAmong cells (m ∷ []) → AreSmall cells (sets_by_one used m)
-small_by_one cells used m among =
-    (small_set cells (m ∷ 31 ∷ []) (omega arith) (λ i un. front i 31 [] (among i un)),
-    (small_set cells (m ∷ 29 ∷ []) (omega arith) (λ i un. front i 29 [] (among i un)),
+small_by_one cells used m among = (
+  small_set cells (m ∷ 31 ∷ []) (omega arith) (λ i un. front i 31 [] (among i un)),
+  (
+    small_set cells (m ∷ 29 ∷ []) (omega arith) (λ i un. front i 29 [] (among i un)),
     small_both cells (with_used used (m ∷ [])) (set_of (m ∷ 30 ∷ 31 ∷ []) ∷ []) (small_with_used cells used (m ∷ []) (omega arith) among)
-    (small_set cells (m ∷ 30 ∷ 31 ∷ []) (omega arith) (λ i un. front i 30 (31 ∷ []) (among i un)), tt)))
+        (small_set cells (m ∷ 30 ∷ 31 ∷ []) (omega arith) (λ i un. front i 30 (31 ∷ []) (among i un)), tt),
+  ),
+)
   where
     front : (i p : ℕ) (ps : List ℕ) → IsOneOf (m ∷ []) i → IsOneOf (m ∷ p ∷ ps) i
     front i p ps (inl same) = inl same
@@ -54,7 +59,8 @@ small_by_one cells used m among =
 abbrev by_other : (used : Option ℕ) (m : ℕ) (a b : Bool) → List ℕ
 by_other used m a b = if a then with_used used (m ∷ 29 ∷ []) else if b then set_of (m ∷ 30 ∷ 31 ∷ []) ∷ [] else []
 
-small_by_tests : (cells : List SectorView) (used : Option ℕ) (m other : ℕ) (a b : Bool) → (a ≡ true → other ≡ 29) → (b ≡ true → other ≡ 30) →
+small_by_tests : (cells : List SectorView) (used : Option ℕ) (m other : ℕ) (a b : Bool) → (a ≡ true → other ≡ 29) →
+    (b ≡ true → other ≡ 30) →
     AreAmong cells (m ∷ other ∷ []) → AreSmall cells (by_other used m a b)
 small_by_tests cells used m other true b is_29 is_30 among =
     small_with_used cells used (m ∷ 29 ∷ []) (omega arith) (subst (λ (p : ℕ). AreAmong cells (m ∷ p ∷ [])) (is_29 refl) among)
@@ -67,7 +73,8 @@ small_by_tests cells used m other false true is_29 is_30 among =
     front i (inr (inr other)) = absurd other
 small_by_tests cells used m other false false is_29 is_30 among = tt
 
-small_by_two : (cells : List SectorView) (used : Option ℕ) (m other : ℕ) → AreAmong cells (m ∷ other ∷ []) → AreSmall cells (sets_by_two used m other)
+small_by_two : (cells : List SectorView) (used : Option ℕ) (m other : ℕ) → AreAmong cells (m ∷ other ∷ []) →
+    AreSmall cells (sets_by_two used m other)
 small_by_two cells used m other among =
     small_by_tests cells used m other (other == 29) (other == 30) (eqb-true other 29) (eqb-true other 30) among
 
@@ -87,7 +94,8 @@ further_are_small cells few = (
 
 -- ---- at most one thing
 
-one_block_outside : (cells : List SectorView) (xs ys : List (List ℕ)) → unreadable_count cells ≤ 3 → HasBlock cells xs → HasBlock cells ys → xs ≡ ys
+one_block_outside : (cells : List SectorView) (xs ys : List (List ℕ)) → unreadable_count cells ≤ 3 → HasBlock cells xs →
+    HasBlock cells ys → xs ≡ ys
 one_block_outside cells xs ys few hx hy =
     let same : Data xs ≡ Data ys = says_is_function cells (Data xs) (Data ys) (few, hx) (few, hy) in
     cc
@@ -103,7 +111,8 @@ first_is_one (set ∷ sets) cells xs ys small (inl hx) (inr hy) = block_or_none 
 first_is_one (set ∷ sets) cells xs ys small (inr hx) (inl hy) = block_or_none (hidden set cells) ys hy hx.0
 first_is_one (set ∷ sets) cells xs ys small (inr hx) (inr hy) = first_is_one sets cells xs ys small.1 hx.1 hy.1
 
-first_or_none : {P : Type 0} (sets : List ℕ) (cells : List SectorView) (xs : List (List ℕ)) → HasFirstBlock sets cells xs → HasNoBlocks sets cells → P
+first_or_none : {P : Type 0} (sets : List ℕ) (cells : List SectorView) (xs : List (List ℕ)) → HasFirstBlock sets cells xs →
+    HasNoBlocks sets cells → P
 first_or_none [] cells xs has none = absurd has
 first_or_none (set ∷ sets) cells xs (inl has) none = block_or_none (hidden set cells) xs has none.0
 first_or_none (set ∷ sets) cells xs (inr has) none = first_or_none sets cells xs has.1 none.1

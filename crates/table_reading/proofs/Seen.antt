@@ -1,14 +1,13 @@
 -- The unreadable sectors of the table's segment, its last sector with a used slot, and blocks that agree with the cells
 -- outside a set.
-use Rattle.std.proofs.Common.{◌≡◌, ◌≢◌, ◌⊎◌, ℕ, zero, suc, ◌+◌, ◌<◌, ◌≤◌, ◌++◌, inl, inr, refl, sym, ◌∙◌, ap, subst, arith, Bool, true, false, List, [], ◌∷◌, length, slice_get, Option, Some, None}
+use Rattle.std.proofs.Common.{◌≡◌, ◌≢◌, ◌⊎◌, ℕ, zero, suc, ◌+◌, ◌<◌, ◌≤◌, ◌++◌, inl, inr, refl, sym, ◌∙◌, ap, subst, arith, Bool, true, false, List, [], ◌∷◌, length, slice_get, Option, Some}
 use Rattle.std.specs.Prelude.{if◌then◌else◌, unwrap_or}
 use Rattle.std.proofs.lemmas.Bool.{cases_eq, cases_lt}
 use Rattle.qic_base.specs.declared.tape.SectorView.{SectorView}
-use Rattle.qic_base.specs.declared.tape.SectorView.TheVariants.{Blank, Defect, Lost, Holds}
+use Rattle.qic_base.specs.declared.tape.SectorView.TheVariants.{Lost, Holds}
 use Rattle.qic_base.specs.Cartridge.{Cartridge, view_at}
-use Rattle.gf256_qic.specs.Code.{IsCodeBlock, parity_sectors}
 use Rattle.cartridge_spec.specs.Segment.{sector_at, is_unreadable}
-use Rattle.cartridge_spec.specs.Says.{Agrees, HasBlock, HasNoBlock, hidden, unreadable_count, unreadable_data, with_parity}
+use Rattle.cartridge_spec.specs.Says.{HasBlock, HasNoBlock, hidden, unreadable_count, unreadable_data, with_parity}
 use Rattle.cartridge_spec.specs.HeaderAndTable.{IsArea, table_cells}
 use Rattle.cartridge_spec.proofs.Cells.{IsReadable, unreadable_at, readable_from_count}
 use Rattle.cartridge_spec.proofs.Sayings.{data_of-parity}
@@ -17,7 +16,7 @@ use Rattle.format_plan.proofs.Copies.{view_held, held_view}
 use Rattle.append_plan.specs.Between.{HoldsPart}
 use Rattle.append_plan.proofs.Between.{length-block, readable_front}
 use Rattle.table_reading.specs.FurtherSets.{set_of, unreadable_from, unreadable_places, shows_used_slot, last_used_below}
-use Rattle.table_reading.proofs.Sets.{IsOneOf, IsNoneOf, names, none_is_unnamed, unnamed_is_none, held_outside, seen_outside, length-hidden, few_unreadable}
+use Rattle.table_reading.proofs.Sets.{IsOneOf, IsNoneOf, none_is_unnamed, unnamed_is_none, held_outside, seen_outside, length-hidden, few_unreadable}
 use Rattle.table_reading.proofs.Parity.{sector_there, table_block, near_blocks}
 
 -- ---- places
@@ -130,7 +129,8 @@ few_in_table d ps reads =
     let held = reads i (omega arith) none in
     (held.0, view_held d 2 i held.0 (omega arith) held.1))
 
-pub one_in_table : (d : Cartridge) (m : ℕ) → m < 32 → view_at d 2 m ≡ Lost → ReadsOutside d (m ∷ []) → unreadable_places (table_cells d) ≡ m ∷ []
+pub one_in_table : (d : Cartridge) (m : ℕ) → m < 32 → view_at d 2 m ≡ Lost → ReadsOutside d (m ∷ []) →
+    unreadable_places (table_cells d) ≡ m ∷ []
 one_in_table d m within lost reads =
     let long : length (table_cells d) ≡ 32 = length-whole_cells d 2 in
     let same : 0 + m ≡ m = omega arith in
@@ -214,7 +214,8 @@ block_outside d area ps rs is holds lost = record {
 
 -- No block agrees with the sectors outside a set where all but three sectors hold their part of an area, and one outside the
 -- set holds other bytes.
-pub no_block_outside : (d : Cartridge) (area : List (List ℕ)) (ps rs : List ℕ) (p : ℕ) (other : List ℕ) → IsArea area → length (ps ++ rs) ≤ 3 →
+pub no_block_outside : (d : Cartridge) (area : List (List ℕ)) (ps rs : List ℕ) (p : ℕ) (other : List ℕ) → IsArea area →
+    length (ps ++ rs) ≤ 3 →
     HoldsOutside d area (ps ++ rs) → p < 32 → IsNoneOf ps p → view_at d 2 p ≡ Holds other → other ≢ sector_at (with_parity area) p →
     HasNoBlock (hidden (set_of ps) (table_cells d))
 no_block_outside d area ps rs p other is few holds within outside view differs block code agrees =

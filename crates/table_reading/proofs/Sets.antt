@@ -1,12 +1,12 @@
 -- Sets of places, the cells outside them, and how many cells are unreadable then.
-use Rattle.std.proofs.Common.{◌≡◌, ◌≢◌, ◌⊎◌, ℕ, zero, suc, ◌+◌, ◌/◌, ◌%◌, ◌^◌, ◌<◌, ◌≤◌, inl, inr, refl, sym, ◌∙◌, ap, subst, arith, Bool, true, false, not, cond, ◌&&◌, List, [], ◌∷◌, length, slice_get, Some, None, All, max, bit_or}
+use Rattle.std.proofs.Common.{◌≡◌, ◌≢◌, ◌⊎◌, ℕ, zero, suc, ◌+◌, ◌/◌, ◌%◌, ◌^◌, ◌<◌, ◌≤◌, inl, inr, refl, sym, ◌∙◌, ap, subst, arith, Bool, true, false, not, cond, ◌&&◌, List, [], ◌∷◌, length, slice_get, Some, All, max, bit_or}
 use Rattle.std.specs.Prelude.{◌==◌, if◌then◌else◌}
 use Rattle.std.specs.Int.{bit_at}
 use Rattle.std.proofs.lemmas.Bool.{cases_eq, cases_Bool, eq-eqb, ne_eqb, eqb-true}
 use Rattle.std.proofs.lemmas.Nat.Bits.{bit_at-zero, bit_at-lt, bit_at_or, bit_at-pow_same, bit_at-pow_other}
 use Rattle.std.proofs.lemmas.List.Elements.{All-nil, All-cons, All-head, All-tail}
 use Rattle.qic_base.specs.declared.tape.SectorView.{SectorView}
-use Rattle.qic_base.specs.declared.tape.SectorView.TheVariants.{Blank, Defect, Lost, Holds}
+use Rattle.qic_base.specs.declared.tape.SectorView.TheVariants.{Lost, Holds}
 use Rattle.qic_base.specs.Cartridge.{IsView}
 use Rattle.gf256_qic.specs.Code.{lost_below}
 use Rattle.cartridge_spec.specs.Segment.{is_unreadable}
@@ -88,7 +88,8 @@ unfolding hidden_from
 length-hidden set place [] = refl
 length-hidden set place (cell ∷ cells) = ap suc (length-hidden set (suc place) cells)
 
-hidden_or_not : (b : Bool) (cell : SectorView) (bytes : List ℕ) → (if b then Lost else cell) ≡ Holds bytes → (b ≡ false) × (cell ≡ Holds bytes)
+hidden_or_not : (b : Bool) (cell : SectorView) (bytes : List ℕ) → (if b then Lost else cell) ≡ Holds bytes →
+    (b ≡ false) × (cell ≡ Holds bytes)
 hidden_or_not true cell bytes held = absurd (cc)
 hidden_or_not false cell bytes held = (refl, held)
 
@@ -148,7 +149,8 @@ views_hidden set place (cell ∷ cells) views =
 
 -- ---- how many are unreadable
 
-unreadable_or_not : (b : Bool) (cell : SectorView) → is_unreadable (if b then Lost else cell) ≡ true → (b ≡ true) ⊎ (is_unreadable cell ≡ true)
+unreadable_or_not : (b : Bool) (cell : SectorView) → is_unreadable (if b then Lost else cell) ≡ true →
+    (b ≡ true) ⊎ (is_unreadable cell ≡ true)
 unreadable_or_not true cell un = inl refl
 unreadable_or_not false cell un = inr un
 
