@@ -1,0 +1,233 @@
+-- The unreadable sectors of the table's segment, its last sector with a used slot, and blocks that agree with the cells
+-- outside a set.
+use Rattle.std.proofs.Common.{◌≡◌, ◌≢◌, ◌⊎◌, ℕ, zero, suc, ◌+◌, ◌<◌, ◌≤◌, ◌++◌, inl, inr, refl, sym, ◌∙◌, ap, subst, arith, Bool, true, false, List, [], ◌∷◌, length, slice_get, Option, Some}
+use Rattle.std.specs.Prelude.{if◌then◌else◌, unwrap_or}
+use Rattle.std.proofs.lemmas.Bool.{cases_eq, cases_lt}
+use Rattle.qic_base.specs.declared.tape.SectorView.{SectorView}
+use Rattle.qic_base.specs.declared.tape.SectorView.TheVariants.{Lost, Holds}
+use Rattle.qic_base.specs.Cartridge.{Cartridge, view_at}
+use Rattle.cartridge_spec.specs.Segment.{sector_at, is_unreadable}
+use Rattle.cartridge_spec.specs.Says.{HasBlock, HasNoBlock, hidden, unreadable_count, unreadable_data, with_parity}
+use Rattle.cartridge_spec.specs.HeaderAndTable.{IsArea, table_cells}
+use Rattle.cartridge_spec.proofs.Cells.{IsReadable, unreadable_at, readable_from_count}
+use Rattle.cartridge_spec.proofs.Sayings.{data_of-parity}
+use Rattle.cartridge_spec.proofs.Segments.{length-whole_cells, cells_of_whole}
+use Rattle.format_plan.proofs.Copies.{view_held, held_view}
+use Rattle.append_plan.specs.Between.{HoldsPart}
+use Rattle.append_plan.proofs.Between.{length-block, readable_front}
+use Rattle.table_reading.specs.FurtherSets.{set_of, unreadable_from, unreadable_places, shows_used_slot, last_used_below}
+use Rattle.table_reading.proofs.Sets.{IsOneOf, IsNoneOf, none_is_unnamed, unnamed_is_none, held_outside, seen_outside, length-hidden, few_unreadable}
+use Rattle.table_reading.proofs.Parity.{sector_there, table_block, near_blocks}
+
+-- ---- places
+
+pub one_or_none : (ps : List ℕ) (i : ℕ) → IsOneOf ps i ⊎ IsNoneOf ps i
+one_or_none [] i = inr tt
+one_or_none (p ∷ ps) i =
+    elim (cases_eq i p) [
+      | inl same ↦ inl (inl same)
+      | inr apart ↦ elim (one_or_none ps i) [ inl one ↦ inl (inr one) | inr none ↦ inr (apart, none) ]
+    ]
+
+none_of_first : (ps rs : List ℕ) (i : ℕ) → IsNoneOf (ps ++ rs) i → IsNoneOf ps i
+none_of_first [] rs i none = tt
+none_of_first (p ∷ ps) rs i none = (none.0, none_of_first ps rs i none.1)
+
+none_of_both : (ps rs : List ℕ) (i : ℕ) → IsNoneOf ps i → IsNoneOf rs i → IsNoneOf (ps ++ rs) i
+none_of_both [] rs i none others = others
+none_of_both (p ∷ ps) rs i none others = (none.0, none_of_both ps rs i none.1 others)
+
+-- ---- which cells are unreadable
+
+unreadable_within : (cells : List SectorView) (i : ℕ) → unreadable_at cells i ≡ true → i < length cells
+unfolding unreadable_at
+unreadable_within [] i un = absurd (cc)
+unreadable_within (cell ∷ cells) zero un = omega arith
+unreadable_within (cell ∷ cells) (suc i) un = let rest = unreadable_within cells i un in omega arith
+
+not_both : {P : Type 0} (cells : List SectorView) (i : ℕ) → unreadable_at cells i ≡ true → IsReadable cells i → P
+unfolding unreadable_at
+not_both [] i un held = absurd (cc)
+not_both (cell ∷ cells) zero un held = let kept : is_unreadable cell ≡ false = readable_front cell cells held in absurd (cc)
+not_both (cell ∷ cells) (suc i) un held = not_both cells i un held
+
+-- cells of which each but those at some places can be read
+pub few_of_readable : (cells : List SectorView) (ps : List ℕ) → ((i : ℕ) → i < length cells → IsNoneOf ps i → IsReadable cells i) →
+    unreadable_count cells ≤ length ps
+few_of_readable cells ps each =
+    few_unreadable cells ps (λ i un.
+    elim (one_or_none ps i) [
+      | inl one ↦ one
+      | inr none ↦ not_both cells i un (each i (unreadable_within cells i un) none)
+    ])
+
+none_places : (place : ℕ) (cells : List SectorView) → ((i : ℕ) → i < length cells → IsReadable cells i) → unreadable_from place cells ≡ []
+unfolding unreadable_from
+none_places place [] each = refl
+none_places place (cell ∷ cells) each =
+    ap (λ (b : Bool). if b then place ∷ unreadable_from (suc place) cells else unreadable_from (suc place) cells)
+    (readable_front cell cells (each 0 (omega arith)))
+    ∙ none_places (suc place) cells (λ i h. each (suc i) (omega arith))
+
+lost_front : (cell : SectorView) (cells : List SectorView) → slice_get (cell ∷ cells) 0 ≡ Some Lost → is_unreadable cell ≡ true
+lost_front cell cells lost = let here : cell ≡ Lost = cc in ap is_unreadable here
+
+one_from : (place m : ℕ) (cells : List SectorView) → m < length cells → slice_get cells m ≡ Some Lost →
+    ((i : ℕ) → i < length cells → i ≢ m → IsReadable cells i) → unreadable_from place cells ≡ (place + m) ∷ []
+unfolding unreadable_from
+one_from place m [] h lost each = absurd (omega arith)
+one_from place zero (cell ∷ cells) h lost each =
+    let same : place ≡ place + 0 = omega arith in
+    ap (λ (b : Bool). if b then place ∷ unreadable_from (suc place) cells else unreadable_from (suc place) cells) (lost_front cell cells lost)
+    ∙ ap (λ (ps : List ℕ). place ∷ ps) (none_places (suc place) cells (λ i l. each (suc i) (omega arith) (λ e. omega arith)))
+    ∙ ap (λ (p : ℕ). p ∷ []) same
+one_from place (suc m) (cell ∷ cells) h lost each =
+    let same : suc place + m ≡ place + suc m = omega arith in
+    ap (λ (b : Bool). if b then place ∷ unreadable_from (suc place) cells else unreadable_from (suc place) cells)
+    (readable_front cell cells (each 0 (omega arith) (λ e. omega arith)))
+    ∙ one_from (suc place) m cells (omega arith) lost (λ i l apart. each (suc i) (omega arith) (λ e. apart (omega arith)))
+    ∙ ap (λ (p : ℕ). p ∷ []) same
+
+two_from : (place m other : ℕ) (cells : List SectorView) → m < other → other < length cells →
+    slice_get cells m ≡ Some Lost → slice_get cells other ≡ Some Lost →
+    ((i : ℕ) → i < length cells → i ≢ m → i ≢ other → IsReadable cells i) → unreadable_from place cells ≡ (place + m) ∷ (place + other) ∷ []
+unfolding unreadable_from
+two_from place m other [] order h lost gone each = absurd (omega arith)
+two_from place m zero (cell ∷ cells) order h lost gone each = absurd (omega arith)
+two_from place zero (suc other) (cell ∷ cells) order h lost gone each =
+    let same : place ≡ place + 0 = omega arith in
+    let behind : suc place + other ≡ place + suc other = omega arith in
+    ap (λ (b : Bool). if b then place ∷ unreadable_from (suc place) cells else unreadable_from (suc place) cells) (lost_front cell cells lost)
+    ∙ ap (λ (ps : List ℕ). place ∷ ps)
+    (one_from (suc place) other cells (omega arith) gone (λ i l apart. each (suc i) (omega arith) (λ e. omega arith) (λ e. apart (omega arith))))
+    ∙ ap (λ (p : ℕ). p ∷ (suc place + other) ∷ []) same
+    ∙ ap (λ (p : ℕ). (place + 0) ∷ p ∷ []) behind
+two_from place (suc m) (suc other) (cell ∷ cells) order h lost gone each =
+    let same : suc place + m ≡ place + suc m = omega arith in
+    let behind : suc place + other ≡ place + suc other = omega arith in
+    ap (λ (b : Bool). if b then place ∷ unreadable_from (suc place) cells else unreadable_from (suc place) cells)
+    (readable_front cell cells (each 0 (omega arith) (λ e. omega arith) (λ e. omega arith)))
+    ∙ two_from (suc place) m other cells (omega arith) (omega arith) lost gone
+    (λ i l apart away. each (suc i) (omega arith) (λ e. apart (omega arith)) (λ e. away (omega arith)))
+    ∙ ap (λ (p : ℕ). p ∷ (suc place + other) ∷ []) same
+    ∙ ap (λ (p : ℕ). (place + suc m) ∷ p ∷ []) behind
+
+-- ---- the table's segment
+
+-- each sector but those at some places holds its part of an area
+abbrev pub HoldsOutside : Cartridge → (area : List (List ℕ)) → (ps : List ℕ) → Type 0
+HoldsOutside d area ps = (i : ℕ) → i < 32 → IsNoneOf ps i → HoldsPart d area i
+
+-- each sector but those at some places holds bytes
+abbrev pub ReadsOutside : Cartridge → (ps : List ℕ) → Type 0
+ReadsOutside d ps = (i : ℕ) → i < 32 → IsNoneOf ps i → (bytes : List ℕ) × (view_at d 2 i ≡ Holds bytes)
+
+pub few_in_table : (d : Cartridge) (ps : List ℕ) → ReadsOutside d ps → unreadable_count (table_cells d) ≤ length ps
+few_in_table d ps reads =
+    let long : length (table_cells d) ≡ 32 = length-whole_cells d 2 in
+    few_of_readable (table_cells d) ps (λ i h none.
+    let held = reads i (omega arith) none in
+    (held.0, view_held d 2 i held.0 (omega arith) held.1))
+
+pub one_in_table : (d : Cartridge) (m : ℕ) → m < 32 → view_at d 2 m ≡ Lost → ReadsOutside d (m ∷ []) →
+    unreadable_places (table_cells d) ≡ m ∷ []
+one_in_table d m within lost reads =
+    let long : length (table_cells d) ≡ 32 = length-whole_cells d 2 in
+    let same : 0 + m ≡ m = omega arith in
+    one_from 0 m (table_cells d) (omega arith) (cells_of_whole d 2 m within ∙ ap Some lost)
+    (λ i h apart.
+    let held = reads i (omega arith) (apart, tt) in
+    (held.0, view_held d 2 i held.0 (omega arith) held.1))
+    ∙ ap (λ (p : ℕ). p ∷ []) same
+
+pub two_in_table : (d : Cartridge) (m other : ℕ) → m < other → other < 32 → view_at d 2 m ≡ Lost → view_at d 2 other ≡ Lost →
+    ReadsOutside d (m ∷ other ∷ []) → unreadable_places (table_cells d) ≡ m ∷ other ∷ []
+two_in_table d m other order within lost gone reads =
+    let long : length (table_cells d) ≡ 32 = length-whole_cells d 2 in
+    let same : 0 + m ≡ m = omega arith in
+    let behind : 0 + other ≡ other = omega arith in
+    two_from 0 m other (table_cells d) order (omega arith) (cells_of_whole d 2 m (omega arith) ∙ ap Some lost)
+    (cells_of_whole d 2 other within ∙ ap Some gone)
+    (λ i h apart away.
+    let held = reads i (omega arith) (apart, (away, tt)) in
+    (held.0, view_held d 2 i held.0 (omega arith) held.1))
+    ∙ ap (λ (p : ℕ). p ∷ (0 + other) ∷ []) same
+    ∙ ap (λ (p : ℕ). m ∷ p ∷ []) behind
+
+-- a sector of data that is lost is unreadable
+pub some_lost : (d : Cartridge) (m : ℕ) → m < 29 → view_at d 2 m ≡ Lost → 0 < unreadable_data (table_cells d)
+some_lost d m small lost =
+    elim (cases_lt 0 (unreadable_data (table_cells d))) [
+      | inl some ↦ some
+      | inr none ↦
+          let long : length (table_cells d) ≡ 32 = length-whole_cells d 2 in
+          let held = readable_from_count 29 (table_cells d) (omega arith) (omega arith) m small in
+          let gone : slice_get (table_cells d) m ≡ Some Lost = cells_of_whole d 2 m (omega arith) ∙ ap Some lost in
+          let seen : slice_get (table_cells d) m ≡ Some (Holds held.0) = held.1 in
+          absurd (cc)
+    ]
+
+-- ---- the last sector with a used slot
+
+pub last_used_is : (cells : List SectorView) (n k : ℕ) → k < n → shows_used_slot (unwrap_or (slice_get cells k) Lost) ≡ true →
+    ((i : ℕ) → k < i → i < n → shows_used_slot (unwrap_or (slice_get cells i) Lost) ≡ false) → last_used_below cells n ≡ Some k
+unfolding last_used_below
+last_used_is cells zero k h used behind = absurd (omega arith)
+last_used_is cells (suc n) k h used behind =
+    elim (cases_eq n k) [
+      | inl same ↦
+          let here : shows_used_slot (unwrap_or (slice_get cells n) Lost) ≡ true =
+          subst (λ (i : ℕ). shows_used_slot (unwrap_or (slice_get cells i) Lost) ≡ true) (sym same) used in
+          ap (λ (b : Bool). if b then Some n else last_used_below cells n) here ∙ ap Some same
+      | inr apart ↦
+          ap (λ (b : Bool). if b then Some n else last_used_below cells n) (behind n (omega arith) (omega arith))
+          ∙ last_used_is cells n k (omega arith) used (λ i l small. behind i l (omega arith))
+    ]
+
+-- ---- blocks outside a set
+
+-- the sectors outside the set hold their part of an area, but for some that are lost
+pub block_outside : (d : Cartridge) (area : List (List ℕ)) (ps rs : List ℕ) → IsArea area → HoldsOutside d area (ps ++ rs) →
+    ((i : ℕ) → IsOneOf rs i → view_at d 2 i ≡ Lost) → HasBlock (hidden (set_of ps) (table_cells d)) area
+block_outside d area ps rs is holds lost = record {
+  block = with_parity area;
+  code = table_block area is;
+  agrees = record {
+    size = length-block area is ∙ sym (length-whole_cells d 2) ∙ sym (length-hidden (set_of ps) 0 (table_cells d));
+    each = λ i bytes seen.
+        let out = held_outside (set_of ps) (table_cells d) i bytes seen in
+        let view = held_view d 2 i bytes out.1 in
+        let within : i < 32 = view.within in
+        let held : view_at d 2 i ≡ Holds bytes = view.view in
+        let long : length (with_parity area) ≡ 32 = length-block area is in
+        elim (one_or_none rs i) [
+          | inl one ↦ let gone : view_at d 2 i ≡ Lost = lost i one in absurd (cc)
+          | inr none ↦
+              let part : view_at d 2 i ≡ Holds (sector_at (with_parity area) i) =
+              holds i within (none_of_both ps rs i (unnamed_is_none ps i out.0) none) in
+              let same : sector_at (with_parity area) i ≡ bytes = cc in
+              sector_there (with_parity area) i (omega arith) ∙ ap (λ (b : List ℕ). Some b) same
+        ];
+  };
+  shown = sym (data_of-parity area);
+}
+
+-- No block agrees with the sectors outside a set where all but three sectors hold their part of an area, and one outside the
+-- set holds other bytes.
+pub no_block_outside : (d : Cartridge) (area : List (List ℕ)) (ps rs : List ℕ) (p : ℕ) (other : List ℕ) → IsArea area →
+    length (ps ++ rs) ≤ 3 →
+    HoldsOutside d area (ps ++ rs) → p < 32 → IsNoneOf ps p → view_at d 2 p ≡ Holds other → other ≢ sector_at (with_parity area) p →
+    HasNoBlock (hidden (set_of ps) (table_cells d))
+no_block_outside d area ps rs p other is few holds within outside view differs block code agrees =
+    let cells : List SectorView = hidden (set_of ps) (table_cells d) in
+    let long : length block ≡ 32 = agrees.size ∙ length-hidden (set_of ps) 0 (table_cells d) ∙ length-whole_cells d 2 in
+    let seen : (i : ℕ) (bytes : List ℕ) → i < 32 → IsNoneOf ps i → view_at d 2 i ≡ Holds bytes → sector_at block i ≡ bytes =
+    λ i bytes h none held.
+    let there : slice_get block i ≡ Some bytes =
+    agrees.each i bytes
+    (seen_outside (set_of ps) (table_cells d) i bytes (none_is_unnamed ps i none) (view_held d 2 i bytes h held)) in
+    ap (λ (o : Option (List ℕ)). unwrap_or o []) there in
+    let same : block ≡ with_parity area =
+    near_blocks block (with_parity area) (ps ++ rs) code (table_block area is) long (length-block area is) few (λ i h none.
+    seen i (sector_at (with_parity area) i) h (none_of_first ps rs i none) (holds i h none)) in
+    differs (sym (seen p other within outside view) ∙ ap (λ (ss : List (List ℕ)). sector_at ss p) same)

@@ -1,0 +1,87 @@
+-- What the further reading of the table's segment gives, as facts.
+use Rattle.std.specs.Prelude.{◌≡◌, ◌≢◌, ◌⊎◌, ℕ, ◌<◌, ◌≤◌, List, length, slice_index, All}
+use Rattle.qic_base.specs.declared.tape.SectorView.{SectorView}
+use Rattle.qic_base.specs.Cartridge.{Cartridge, IsView}
+use Rattle.gf256_qic.specs.Code.{IsCodeBlock}
+use Rattle.cartridge_spec.specs.Segment.{sector_at}
+use Rattle.cartridge_spec.specs.HeaderAndTable.{IsArea}
+use Rattle.cartridge_spec.specs.Says.{Mismatch, TableSaying, ByCode, TableSays, with_parity}
+use Rattle.append_plan.specs.Between.{HoldsPart, IsWhole, IsBegun, IsTurned, Between}
+use Rattle.table_reading.specs.FurtherSets.{FurtherSays, FurtherIs}
+use Rattle.table_reading.specs.OneLoss.{DifferInOne, IsLastUsed, LosesOne}
+
+-- ---- what it says
+
+-- at most one thing
+abbrev pub FurtherSaysIsFunction : Type 0
+FurtherSaysIsFunction = (cells : List SectorView) (a b : TableSaying) → FurtherSays cells a → FurtherSays cells b → a ≡ b
+
+-- and something
+abbrev pub FurtherSaysAlways : Type 0
+FurtherSaysAlways =
+    (cells : List SectorView) → 29 ≤ length cells → All IsView cells → (saying : TableSaying) × FurtherSays cells saying
+
+-- what the segment says where no sector is left out of account, unless that is a mismatch
+abbrev pub FurtherSaysTheSame : Type 0
+FurtherSaysTheSame =
+    (cells : List SectorView) (saying : TableSaying) → TableSays cells saying → saying ≢ ByCode Mismatch → FurtherSays cells saying
+
+-- ---- two tables that differ in one sector of data
+
+-- in each column in which that sector differs, each sector of parity differs too
+abbrev pub ParityBytesDiffer : Type 0
+ParityBytesDiffer =
+    (old new : List (List ℕ)) (changed parity column : ℕ) → DifferInOne old new changed →
+    29 ≤ parity → parity < 32 → column < 1024 →
+    slice_index (sector_at old changed) column ≢ slice_index (sector_at new changed) column →
+    slice_index (sector_at (with_parity old) parity) column ≢ slice_index (sector_at (with_parity new) parity) column
+
+-- so each sector of parity differs
+abbrev pub ParityDiffers : Type 0
+ParityDiffers =
+    (old new : List (List ℕ)) (changed parity : ℕ) → DifferInOne old new changed → 29 ≤ parity → parity < 32 →
+    sector_at (with_parity old) parity ≢ sector_at (with_parity new) parity
+
+-- a code block that holds the sectors of a table outside three places at most is the table's
+abbrev pub NearBlockIsTables : Type 0
+NearBlockIsTables =
+    (area block : List (List ℕ)) (first second third : ℕ) → IsArea area → IsCodeBlock block → length block ≡ 32 →
+    ((i : ℕ) → i < 32 → i ≢ first → i ≢ second → i ≢ third → sector_at block i ≡ sector_at (with_parity area) i) →
+    block ≡ with_parity area
+
+-- ---- one sector more lost
+
+-- until the changed sector of data is new, the old data are read
+abbrev pub BeforeReadsOldStill : Type 0
+BeforeReadsOldStill =
+    (c d : Cartridge) (old : List (List ℕ)) (changed lost : ℕ) → IsArea old → changed < 29 → IsWhole c old ⊎ IsBegun c old changed →
+    LosesOne c d lost → FurtherIs d old
+
+-- from then on, where a sector of parity is lost, the new ones are
+abbrev pub LostParityReadsNew : Type 0
+LostParityReadsNew =
+    (c d : Cartridge) (old new : List (List ℕ)) (lost : ℕ) → IsArea new → IsTurned c old new → 29 ≤ lost → LosesOne c d lost →
+    FurtherIs d new
+
+-- where a sector of data is lost, the old ones are read until the first sector of parity is new, and where the changed sector
+-- itself is lost, also while the second one is old, ..
+abbrev pub LostDataReadsOld : Type 0
+LostDataReadsOld =
+    (c d : Cartridge) (old new : List (List ℕ)) (changed lost : ℕ) → DifferInOne old new changed → IsLastUsed new changed →
+    (turned : IsTurned c old new) → lost < 29 → LosesOne c d lost →
+    (turned.turn ≡ 29) ⊎ ((turned.turn ≡ 30) × HoldsPart c old 30 × (lost ≡ changed)) →
+    FurtherIs d old
+
+-- .. and else the new ones
+abbrev pub LostDataReadsNew : Type 0
+LostDataReadsNew =
+    (c d : Cartridge) (old new : List (List ℕ)) (changed lost : ℕ) → DifferInOne old new changed → IsLastUsed new changed →
+    (turned : IsTurned c old new) → lost < 29 → LosesOne c d lost →
+    30 ≤ turned.turn → (turned.turn ≡ 30 → HoldsPart c old 30 → lost ≢ changed) →
+    FurtherIs d new
+
+-- in each state between the two tables one of them is read
+abbrev pub OneLossReadsEither : Type 0
+OneLossReadsEither =
+    (c d : Cartridge) (old new : List (List ℕ)) (changed lost : ℕ) → DifferInOne old new changed → IsLastUsed new changed →
+    Between c old new changed → LosesOne c d lost → FurtherIs d old ⊎ FurtherIs d new

@@ -1,0 +1,3 @@
+pub mod FurtherSets
+pub mod Laws
+pub mod OneLoss

@@ -1,0 +1,47 @@
+//! What the further reading of the table's segment gives. Each law is the contract of a function that does nothing, so that
+//! other crates can rest on it; their proofs import the lemmas of this crate's `proofs`.
+
+ghost use Rattle.table_reading.specs.Laws.{FurtherSaysIsFunction, FurtherSaysAlways, FurtherSaysTheSame, ParityBytesDiffer, ParityDiffers, NearBlockIsTables, BeforeReadsOldStill, LostParityReadsNew, LostDataReadsOld, LostDataReadsNew, OneLossReadsEither};
+
+/// The further reading of the table's segment says at most one thing.
+pub fn further_says_is_function()
+    ensures { FurtherSaysIsFunction }
+{}
+
+/// A segment of 29 cells or more, whose readable ones hold sectors, says something by the further reading.
+pub fn further_says_always()
+    ensures { FurtherSaysAlways }
+{}
+
+/// What the table's segment says without sets is what it says with them, but where it says a mismatch.
+pub fn further_says_the_same()
+    ensures { FurtherSaysTheSame }
+{}
+
+/// Two tables that differ in one sector of data differ in each sector of parity, in each column in which that one differs; and a
+/// code block that holds the sectors of a table outside three places at most is the table's: the code's distance of four.
+pub fn tables_are_far_apart()
+    ensures bytes { ParityBytesDiffer }
+    ensures parity { ParityDiffers }
+    ensures near { NearBlockIsTables }
+{}
+
+/// A table's segment between two data, of which one sector more is lost, is read as the old ones until the changed sector of data
+/// is new.
+pub fn one_loss_before_the_turn()
+    ensures { BeforeReadsOldStill }
+{}
+
+/// From then on, where a sector of parity is lost, it is read as the new ones. Where a sector of data is, it is read as the old
+/// ones until the first sector of parity is new, and where the changed sector itself is lost, while the second one is old; and
+/// else as the new ones. In the new data the changed sector is the last one with a used slot.
+pub fn one_loss_behind_the_turn()
+    ensures parity { LostParityReadsNew }
+    ensures old { LostDataReadsOld }
+    ensures new { LostDataReadsNew }
+{}
+
+/// In each state between the two data one of them is read.
+pub fn one_loss()
+    ensures { OneLossReadsEither }
+{}
