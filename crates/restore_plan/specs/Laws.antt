@@ -5,7 +5,11 @@ use Rattle.acts.specs.Acts.{Act, steps_of, text_of}
 use Rattle.cartridge_spec.specs.Says.{unreadable_count}
 use Rattle.cartridge_spec.specs.Table.{Entry}
 use Rattle.cartridge_spec.specs.Volumes.{Plain, Volume, Stands, volume_length}
+use Rattle.cartridge_spec.specs.Writes.{changed_by}
+use Rattle.append_plan.specs.Laws.{volume_of, new_plain}
+use Rattle.append_plan.specs.Laws as appends
 use Rattle.append_plan.specs.NewVolume.{volume_bytes}
+use Rattle.append_plan.specs.Settled.{MayAppendTo, IsSettledFor}
 use Rattle.restore_plan.specs.Restoring.{Piece, Ending, Restored, LostIn, MismatchIn, LosesFew, Restores, pieces, bytes_held, piece_cells, framed}
 
 -- ---- over any cartridge
@@ -117,3 +121,23 @@ abbrev pub StandingRestores : Type 0
 StandingRestores =
     (c : Cartridge) (plain : Plain) (volume : Volume) → HasVolume c plain volume →
     (acts : List Act) × (ending : Ending) × Restores c plain.words (pieces_in plain volume) acts ending
+
+-- ---- over a cartridge to which the volume was appended
+
+-- after an append the new volume is one of what the cartridge stands for
+abbrev pub AppendedIsAmong : Type 0
+AppendedIsAmong =
+    (c : Cartridge) (plain : Plain) (name : List ℕ) (date : ℕ) (bytes : List ℕ) → MayAppendTo c plain name date bytes →
+    IsSettledFor c plain.table_area →
+    HasVolume (changed_by (appends.steps_of c plain name date bytes) c) (new_plain c plain name date bytes) (volume_of c plain name date bytes)
+
+-- as long as it is, on the same map, and each of its segments has at most three unreadable sectors, a restore gives just the
+-- bytes that were appended
+abbrev pub AppendedIsRestored : Type 0
+AppendedIsRestored =
+    (c : Cartridge) (plain : Plain) (name : List ℕ) (date : ℕ) (bytes : List ℕ) → MayAppendTo c plain name date bytes →
+    (later : Cartridge) (stood : Plain) (acts : List Act) (ending : Ending) → stood.words ≡ plain.words →
+    HasVolume later stood (volume_of c plain name date bytes) →
+    All (LosesFew later stood.words) (pieces_in stood (volume_of c plain name date bytes)) →
+    Restores later stood.words (pieces_in stood (volume_of c plain name date bytes)) acts ending →
+    (ending ≡ Restored) × (text_of acts ≡ bytes)

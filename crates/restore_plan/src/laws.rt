@@ -1,7 +1,7 @@
 //! What the restoring of a volume gives. Each law is the contract of a function that does nothing, so that other crates can
 //! rest on it; their proofs import the lemmas of this crate's `proofs`.
 
-ghost use Rattle.restore_plan.specs.Laws.{RestoresIsFunction, RestoresAlways, RestoresInNoStep, FramedInNoStep, PiecesHoldAll, TextHoldsPieces, RestoredIsLong, VolumeIsLong, RestoresByteForByte, FewOrFirstLost, RestoresFront, NeverMismatch, StandingRestores};
+ghost use Rattle.restore_plan.specs.Laws.{RestoresIsFunction, RestoresAlways, RestoresInNoStep, FramedInNoStep, PiecesHoldAll, TextHoldsPieces, RestoredIsLong, VolumeIsLong, RestoresByteForByte, FewOrFirstLost, RestoresFront, NeverMismatch, StandingRestores, AppendedIsAmong, AppendedIsRestored};
 
 /// A restore gives at most one thing.
 pub fn restores_is_function()
@@ -40,4 +40,11 @@ pub fn lost_volume()
     ensures first { FewOrFirstLost }
     ensures front { RestoresFront }
     ensures mismatch { NeverMismatch }
+{}
+
+/// A volume that was appended is one of what the cartridge stands for. As long as it is, and each of its segments that holds
+/// some of it has at most three unreadable sectors, just its bytes are restored.
+pub fn appended_is_restored()
+    ensures among { AppendedIsAmong }
+    ensures bytes { AppendedIsRestored }
 {}
