@@ -1,4 +1,4 @@
-//! What the restoring of a volume gives: definitions, which several crates cite, and their laws.
+//! What the restoring of a volume gives: definitions and their laws, and no code.
 #![tactic(auto)]
 
 pub mod laws;
