@@ -23,10 +23,10 @@ use Rattle.append_plan.proofs.Volume.{may_append, ready_taken}
 -- ---- what segments carry
 
 -- the bytes that these segments carry
-abbrev capacity_of : (words segments : List ℕ) → ℕ
+abbrev pub capacity_of : (words segments : List ℕ) → ℕ
 capacity_of words segments = sum_by (λ s. capacity (mask_at words s)) segments
 
-capacity_cons : (words : List ℕ) (s : ℕ) (ss : List ℕ) → capacity_of words (s ∷ ss) ≡ capacity (mask_at words s) + capacity_of words ss
+pub capacity_cons : (words : List ℕ) (s : ℕ) (ss : List ℕ) → capacity_of words (s ∷ ss) ≡ capacity (mask_at words s) + capacity_of words ss
 capacity_cons words s ss = sum_by-cons (λ t. capacity (mask_at words t)) s ss
 
 -- those that carry no data add nothing
@@ -46,7 +46,7 @@ range_carries words (suc m) from =
           rest ∙ range_carries words m (from + 1) ∙ ap (capacity_of words) (sym (places_fails (carries words) from m fails))
     ]
 
-between_carries : (words : List ℕ) (start end : ℕ) → capacity_between words start end ≡ capacity_of words (carrying words start end)
+pub between_carries : (words : List ℕ) (start end : ℕ) → capacity_between words start end ≡ capacity_of words (carrying words start end)
 between_carries words start end =
     range_carries words (end + 1 - start) start ∙ ap (capacity_of words) (sym (carrying_are words start end))
 
@@ -67,7 +67,7 @@ pub carried_all : (words : List ℕ) (s : ℕ) → Carries (mask_at words s) →
 carried_all words s carry =
     ap (λ (b : Bool). cond b (1024 * data_count (mask_at words s)) 0) (le-leb 4 (usable_count (mask_at words s)) carry)
 
-sectors_carry : (words segments : List ℕ) → All (λ s. Carries (mask_at words s)) segments → capacity_of words segments ≡ 1024 * sectors_in words segments
+pub sectors_carry : (words segments : List ℕ) → All (λ s. Carries (mask_at words s)) segments → capacity_of words segments ≡ 1024 * sectors_in words segments
 sectors_carry words [] carry = refl
 sectors_carry words (s ∷ ss) carry =
     let here = carried_all words s (All-head (λ (t : ℕ). Carries (mask_at words t)) s ss carry) in

@@ -1,0 +1,4 @@
+pub mod Appended
+pub mod Counts
+pub mod Endings
+pub mod Standing
