@@ -1,0 +1,8 @@
+//! The first bytes of sectors go to a sink as they lie. No call takes memory.
+#![tactic(auto)]
+
+mod output;
+#[cfg(test)]
+mod tests;
+
+pub use output::write_bytes;
