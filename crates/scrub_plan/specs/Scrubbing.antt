@@ -138,3 +138,18 @@ pub record Scrubs (c : Cartridge) (words : List ℕ) (entries : List Entry) (act
   pub sayings : List Saying
   pub said : SayInTurn c (looked_at words entries) sayings
   pub are : acts ≡ scrub_acts c (looked_at words entries) sayings
+
+-- ---- by the cartridge as it was before the first write
+
+-- each of these segments says this
+abbrev pub SayAtOnce : Cartridge → List Looked → List Saying → Type 0
+SayAtOnce c [] [] = Unit {0}
+SayAtOnce c [] (s ∷ ss) = ⊥
+SayAtOnce c (l ∷ ls) [] = ⊥
+SayAtOnce c (l ∷ ls) (s ∷ ss) = Says (cells_at c l) s × SayAtOnce c ls ss
+
+-- and the acts that follow from that
+abbrev pub acts_at_once : Cartridge → List Looked → List Saying → List Act
+acts_at_once c [] ss = []
+acts_at_once c (l ∷ ls) [] = []
+acts_at_once c (l ∷ ls) (s ∷ ss) = look_act c l s ∷ acts_at_once c ls ss
