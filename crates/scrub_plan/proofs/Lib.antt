@@ -1,3 +1,5 @@
 pub mod Apart
 pub mod AtOnce
+pub mod Done
+pub mod Mending
 pub mod Turns

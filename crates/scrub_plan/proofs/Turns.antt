@@ -65,7 +65,7 @@ block_sectors c l sectors says =
     All-append IsSector sectors (parity_sectors sectors) (cartridge_sectors sectors are)
     (cartridge_sectors (parity_sectors sectors) (parity_sectors-are_sectors sectors are))
 
-steps_whole : (c : Cartridge) (l : Looked) (s : Saying) → Says (cells_at c l) s → AreWrites IsOfSector (steps_in c l s)
+pub steps_whole : (c : Cartridge) (l : Looked) (s : Saying) → Says (cells_at c l) s → AreWrites IsOfSector (steps_in c l s)
 steps_whole c l (Data sectors) says =
     either_writes IsOfSector (reads l (Data sectors)) (mending_writes c l.segment (usable_places l.mask) (with_parity sectors)) []
     (mending_whole c l.segment (usable_places l.mask) (with_parity sectors) (block_sectors c l sectors says)) tt

@@ -1,11 +1,15 @@
 -- What scrubbing does, and what it leaves, done or stopped, as facts.
-use Rattle.std.specs.Prelude.{◌≡◌, ◌↔◌, ℕ, ◌<◌, true, List}
-use Rattle.qic_base.specs.Cartridge.{Cartridge, IsCartridge}
-use Rattle.acts.specs.Acts.{Act}
+use Rattle.std.specs.Prelude.{◌≡◌, ◌↔◌, ℕ, ◌<◌, true, List, Option, Some, IsSomeAnd}
+use Rattle.qic_base.specs.declared.tape.SectorView.TheVariants.{Holds}
+use Rattle.qic_base.specs.Cartridge.{Cartridge, IsCartridge, view_at}
+use Rattle.qic_base.specs.Stop.{Torn}
+use Rattle.acts.specs.Acts.{Act, steps_of}
 use Rattle.cartridge_spec.specs.HeaderAndTable.{copy_cells, CopyReads}
 use Rattle.cartridge_spec.specs.Says.{Saying, Says}
 use Rattle.cartridge_spec.specs.Table.{Entry, IsSoundList}
-use Rattle.scrub_plan.specs.Scrubbing.{whole_segment, looked_at, reads, looking_acts, Scrubs, SayAtOnce, acts_at_once}
+use Rattle.cartridge_spec.specs.Writes.{changed_by}
+use Rattle.scrub_plan.specs.Mended.{IsBeingMended, IsScrubbed}
+use Rattle.scrub_plan.specs.Scrubbing.{Looked, whole_segment, looked_at, reads, looking_acts, Scrubs, SayAtOnce, acts_at_once}
 
 -- ---- what it does
 
@@ -33,3 +37,40 @@ ScrubsAtOnce =
     (scrubs : Scrubs c words entries acts) →
     SayAtOnce c (looked_at words entries) scrubs.sayings
     × (looking_acts c (looked_at words entries) scrubs.sayings ≡ acts_at_once c (looked_at words entries) scrubs.sayings)
+
+-- ---- all steps done
+
+-- each unreadable usable sector of a segment that is looked at and reads holds its sector of the block, where it takes a
+-- write; nothing else changes
+abbrev pub DoneScrub : Type 0
+DoneScrub =
+    (c : Cartridge) (words : List ℕ) (entries : List Entry) (last : ℕ) (acts : List Act) → IsSoundList last entries →
+    Scrubs c words entries acts → IsScrubbed (looked_at words entries) c (changed_by (steps_of acts) c)
+
+-- what is left is a cartridge
+abbrev pub DoneScrubIsCartridge : Type 0
+DoneScrubIsCartridge =
+    (c : Cartridge) (words : List ℕ) (entries : List Entry) (acts : List Act) → IsCartridge c → Scrubs c words entries acts →
+    IsCartridge (changed_by (steps_of acts) c)
+
+-- ---- a stop
+
+-- a stop among the steps leaves each of those sectors as it was, lost, or with its sector of the block, and nothing else
+-- changed; it may come behind the last of them
+abbrev pub StoppedScrub : Type 0
+StoppedScrub =
+    (c : Cartridge) (words : List ℕ) (entries : List Entry) (last : ℕ) (acts : List Act) (left : Option Cartridge) →
+    IsSoundList last entries → Scrubs c words entries acts → Torn (steps_of acts) (Some c) left →
+    IsSomeAnd left (IsBeingMended (looked_at words entries) c)
+
+-- so each readable sector is as it was
+abbrev pub ReadableStays : Type 0
+ReadableStays =
+    (looked : List Looked) (c d : Cartridge) (segment sector : ℕ) (bytes : List ℕ) → sector < 32 → IsBeingMended looked c d →
+    view_at c segment sector ≡ Holds bytes → view_at d segment sector ≡ Holds bytes
+
+-- what is left is a cartridge
+abbrev pub StoppedScrubIsCartridge : Type 0
+StoppedScrubIsCartridge =
+    (c : Cartridge) (words : List ℕ) (entries : List Entry) (acts : List Act) (left : Option Cartridge) → IsCartridge c →
+    Scrubs c words entries acts → Torn (steps_of acts) (Some c) left → IsSomeAnd left IsCartridge
