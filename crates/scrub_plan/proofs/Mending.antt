@@ -1,7 +1,7 @@
 -- What a stop among the writes of a scrub leaves: each sector to be mended is as it was, lost, or holds its sector of the
 -- block, and no other sector changes.
 use Rattle.std.proofs.Common.{◌≡◌, ◌⊎◌, ℕ, ◌<◌, ◌≤◌, inl, inr, Bool, true, false, List, [], ◌∷◌, ◌++◌, length, get_or, Option, Some, IsSomeAnd, Contains, refl, sym, ap, ◌∙◌, subst, arith}
-use Rattle.std.proofs.lemmas.Bool.{cases_eq, false≢true}
+use Rattle.std.proofs.lemmas.Bool.{cases_eq}
 use Rattle.std.proofs.lemmas.Option.{unwrap_or-slice_get}
 use Rattle.qic_base.specs.declared.tape.SectorView.{SectorView}
 use Rattle.qic_base.specs.declared.tape.SectorView.TheVariants.{Blank, Defect, Lost, Holds}
@@ -20,7 +20,7 @@ use Rattle.format_plan.proofs.Writing.{some_and, some_weaker, effects-some}
 use Rattle.qic_base.proofs.Steps.{Torn-all}
 use Rattle.append_plan.specs.Writes.{IsWrite, AreWrites, IsOfSector}
 use Rattle.append_plan.proofs.Whole.{sector_writes_are_cartridge}
-use Rattle.scrub_plan.specs.Mended.{IsMended, IsBegun, IsBeingMended}
+use Rattle.scrub_plan.specs.Mended.{IsMended, HasBeenMended, IsBeingMended}
 use Rattle.scrub_plan.specs.Scrubbing.{Looked, cells_at, looked_at, reads, mending_writes, steps_in, looking_acts, scrub_acts, SayInTurn, Scrubs, SayAtOnce, acts_at_once}
 use Rattle.scrub_plan.specs.Laws.{StoppedScrub, ReadableStays, StoppedScrubIsCartridge, DoneScrubIsCartridge}
 use Rattle.scrub_plan.proofs.Apart.{contains_first, contains_more}
@@ -29,41 +29,26 @@ use Rattle.scrub_plan.proofs.Turns.{steps_whole}
 
 -- ---- one view
 
-written_begun : (now old : SectorView) (bytes : List ℕ) → (now ≡ old) ⊎ IsLive now → (written_view bytes now ≡ old) ⊎ (written_view bytes now ≡ Holds bytes)
-written_begun Blank old bytes (inl same) = inl same
-written_begun Blank old bytes (inr live) = absurd live
-written_begun Defect old bytes (inl same) = inl same
-written_begun Defect old bytes (inr live) = absurd live
-written_begun Lost old bytes before = inr refl
-written_begun (Holds held) old bytes before = inr refl
+written_once : (old : SectorView) (bytes : List ℕ) → IsUnreadable old → (written_view bytes old ≡ old) ⊎ ((old ≡ Lost) × (written_view bytes old ≡ Holds bytes))
+written_once Blank bytes unread = inl refl
+written_once Defect bytes unread = inl refl
+written_once Lost bytes unread = inr (refl, refl)
+written_once (Holds held) bytes unread = absurd (cc)
 
-worn_begun : (now old : SectorView) → (now ≡ old) ⊎ IsLive now → (worn_view now ≡ old) ⊎ (worn_view now ≡ Lost)
-worn_begun Blank old (inl same) = inl same
-worn_begun Blank old (inr live) = absurd live
-worn_begun Defect old (inl same) = inl same
-worn_begun Defect old (inr live) = absurd live
-worn_begun Lost old before = inr refl
-worn_begun (Holds held) old before = inr refl
-
-lost_or_held : (now : SectorView) (bytes : List ℕ) → (now ≡ Lost) ⊎ (now ≡ Holds bytes) → IsLive now
-lost_or_held now bytes (inl is) = subst IsLive (sym is) tt
-lost_or_held now bytes (inr is) = subst IsLive (sym is) tt
+worn_once : (old : SectorView) → IsUnreadable old → worn_view old ≡ old
+worn_once Blank unread = refl
+worn_once Defect unread = refl
+worn_once Lost unread = refl
+worn_once (Holds held) unread = absurd (cc)
 
 -- ---- on the way
 
-state_of : {looked : List Looked} {c d : Cartridge} (s i : ℕ) → i < 32 → IsBeingMended looked c d → (view_at d s i ≡ view_at c s i) ⊎ IsLive (view_at d s i)
-state_of {d = d} s i h way =
-    elim (way.each s i h) [
-      | inl same ↦ inl same
-      | inr begun ↦ inr (lost_or_held (view_at d s i) begun.0 begun.2)
-    ]
-
 -- one of them with another view
-begun_more : (looked : List Looked) (c d : Cartridge) (s i : ℕ) (bytes : List ℕ) (f : SectorView → SectorView) → i < 32 → f Blank ≡ Blank →
+mended_more : (looked : List Looked) (c d : Cartridge) (s i : ℕ) (bytes : List ℕ) (f : SectorView → SectorView) → i < 32 → f Blank ≡ Blank →
     IsMended c looked s i bytes →
-    (f (view_at d s i) ≡ view_at c s i) ⊎ ((f (view_at d s i) ≡ Lost) ⊎ (f (view_at d s i) ≡ Holds bytes)) →
+    (f (view_at d s i) ≡ view_at c s i) ⊎ ((view_at c s i ≡ Lost) × (f (view_at d s i) ≡ Holds bytes)) →
     IsBeingMended looked c d → IsBeingMended looked c (with_view d s i (f (view_at d s i)))
-begun_more looked c d s i bytes f small blank mended became way =
+mended_more looked c d s i bytes f small blank mended became way =
     let view : SectorView = f (view_at d s i) in
     let e : Cartridge = with_view d s i view in
     let at : view_at e s i ≡ view = view_of_sector d s i f blank in
@@ -72,14 +57,11 @@ begun_more looked c d s i bytes f small blank mended became way =
       each = λ t j h. elim (cases_eq t s) [
         | inl segment ↦ elim (cases_eq j i) [
           | inl sector ↦
-              subst (λ (u : ℕ). (view_at e u j ≡ view_at c u j) ⊎ IsBegun c looked e u j) (sym segment)
-              (subst (λ (k : ℕ). (view_at e s k ≡ view_at c s k) ⊎ IsBegun c looked e s k) (sym sector)
+              subst (λ (u : ℕ). (view_at e u j ≡ view_at c u j) ⊎ HasBeenMended c looked e u j) (sym segment)
+              (subst (λ (k : ℕ). (view_at e s k ≡ view_at c s k) ⊎ HasBeenMended c looked e s k) (sym sector)
               (elim became [
                 | inl same ↦ inl (at ∙ same)
-                | inr either ↦ inr (bytes, mended, elim either [
-                  | inl lost ↦ inl (at ∙ lost)
-                  | inr holds ↦ inr (at ∙ holds)
-                ])
+                | inr both ↦ inr (bytes, mended, both.0, at ∙ both.1)
               ]))
           | inr apart ↦ other t j h (λ same e. apart (sym e))
         ]
@@ -88,15 +70,12 @@ begun_more looked c d s i bytes f small blank mended became way =
     }
   where
     other : (t j : ℕ) → j < 32 → (t ≡ s → i ≡ j → ⊥) →
-        (view_at (with_view d s i (f (view_at d s i))) t j ≡ view_at c t j) ⊎ IsBegun c looked (with_view d s i (f (view_at d s i))) t j
+        (view_at (with_view d s i (f (view_at d s i))) t j ≡ view_at c t j) ⊎ HasBeenMended c looked (with_view d s i (f (view_at d s i))) t j
     other t j h apart =
         let same = view_of_other_sector d s i t j (f (view_at d s i)) small h apart in
         elim (way.each t j h) [
           | inl is ↦ inl (same ∙ is)
-          | inr begun ↦ inr (begun.0, begun.1, elim begun.2 [
-            | inl lost ↦ inl (same ∙ lost)
-            | inr holds ↦ inr (same ∙ holds)
-          ])
+          | inr has ↦ inr (has.0, has.1, has.2, same ∙ has.3)
         ]
 
 -- a write of a sector that is to be mended
@@ -106,17 +85,20 @@ IsNamed c looked segment sector bytes = IsMended c looked segment sector bytes �
 written_more : (looked : List Looked) (c d : Cartridge) (s i : ℕ) (bytes : List ℕ) → IsNamed c looked s i bytes → IsBeingMended looked c d →
     IsBeingMended looked c (changed (WriteSector s i bytes) d)
 written_more looked c d s i bytes named way =
-    begun_more looked c d s i bytes (written_view bytes) named.1 refl named.0 (elim (written_begun (view_at d s i) (view_at c s i) bytes (state_of s i named.1 way)) [
-      | inl same ↦ inl same
-      | inr holds ↦ inr (inr holds)
+    mended_more looked c d s i bytes (written_view bytes) named.1 refl named.0 (elim (way.each s i named.1) [
+      | inl same ↦ elim (written_once (view_at c s i) bytes named.0.unreadable) [
+        | inl is ↦ inl (ap (written_view bytes) same ∙ is)
+        | inr both ↦ inr (both.0, ap (written_view bytes) same ∙ both.1)
+      ]
+      | inr has ↦ inr (has.2, ap (written_view bytes) has.3)
     ]) way
 
 worn_more : (looked : List Looked) (c d : Cartridge) (s i : ℕ) (bytes : List ℕ) → IsNamed c looked s i bytes → IsBeingMended looked c d →
     IsBeingMended looked c (changed (Wear s i) d)
 worn_more looked c d s i bytes named way =
-    begun_more looked c d s i bytes worn_view named.1 refl named.0 (elim (worn_begun (view_at d s i) (view_at c s i) (state_of s i named.1 way)) [
-      | inl same ↦ inl same
-      | inr lost ↦ inr (inl lost)
+    mended_more looked c d s i bytes worn_view named.1 refl named.0 (elim (way.each s i named.1) [
+      | inl same ↦ inl (ap worn_view same ∙ worn_once (view_at c s i) named.0.unreadable)
+      | inr has ↦ inl (ap worn_view has.3 ∙ sym has.2)
     ]) way
 
 -- ---- steps
@@ -231,8 +213,5 @@ pub readable_stays : ReadableStays
 readable_stays looked c d segment sector bytes h way holds =
     elim (way.each segment sector h) [
       | inl same ↦ same ∙ holds
-      | inr begun ↦ absurd (held_unreadable (view_at c segment sector) bytes holds begun.1.unreadable)
+      | inr has ↦ let both : Lost ≡ Holds bytes = sym has.2 ∙ holds in absurd (cc)
     ]
-  where
-    held_unreadable : (view : SectorView) (held : List ℕ) → view ≡ Holds held → IsUnreadable view → ⊥
-    held_unreadable view held is unread = let readable : is_unreadable view ≡ false = ap (λ (v : SectorView). is_unreadable v) is in false≢true (sym readable ∙ unread)

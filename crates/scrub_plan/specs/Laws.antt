@@ -55,8 +55,8 @@ DoneScrubIsCartridge =
 
 -- ---- a stop
 
--- a stop among the steps leaves each of those sectors as it was, lost, or with its sector of the block, and nothing else
--- changed; it may come behind the last of them
+-- a stop among the steps leaves each sector as it was, but for lost ones of those, which may hold their sector of the block;
+-- it may come behind the last of them
 abbrev pub StoppedScrub : Type 0
 StoppedScrub =
     (c : Cartridge) (words : List ℕ) (entries : List Entry) (last : ℕ) (acts : List Act) (left : Option Cartridge) →

@@ -22,17 +22,17 @@ pub record IsMended (c : Cartridge) (looked : List Looked) (segment sector : ℕ
   pub unreadable : IsUnreadable (view_at c segment sector)
   pub block : sector_at (with_parity sectors) place ≡ bytes
 
--- a sector to be mended is lost, or holds its sector of the block
-abbrev pub IsBegun : (c : Cartridge) (looked : List Looked) (d : Cartridge) (segment sector : ℕ) → Type 0
-IsBegun c looked d segment sector =
+-- a lost sector that is to be mended holds its sector of the block
+abbrev pub HasBeenMended : (c : Cartridge) (looked : List Looked) (d : Cartridge) (segment sector : ℕ) → Type 0
+HasBeenMended c looked d segment sector =
     (bytes : List ℕ) × IsMended c looked segment sector bytes
-    × ((view_at d segment sector ≡ Lost) ⊎ (view_at d segment sector ≡ Holds bytes))
+    × (view_at c segment sector ≡ Lost) × (view_at d segment sector ≡ Holds bytes)
 
--- the marks are as they were, and so is each sector, but for those to be mended
+-- the marks are as they were, and so is each sector, but for lost ones that have been mended
 pub record IsBeingMended (looked : List Looked) (c d : Cartridge) : Type 0 where
   pub info : d.info ≡ c.info
   pub each : (segment sector : ℕ) → sector < 32 →
-      (view_at d segment sector ≡ view_at c segment sector) ⊎ IsBegun c looked d segment sector
+      (view_at d segment sector ≡ view_at c segment sector) ⊎ HasBeenMended c looked d segment sector
 
 -- the marks are as they were; each sector to be mended holds its sector of the block where it takes a write, and all others
 -- are as they were

@@ -22,8 +22,8 @@ pub fn done_scrub()
     ensures whole { DoneScrubIsCartridge }
 {}
 
-/// A stop among the steps of a scrub leaves each of those sectors as it was, lost, or with its sector of the block, and each
-/// readable one as it was.
+/// A stop among the steps of a scrub leaves each sector as it was, but for lost ones of those, which may hold their sector of
+/// the block; each readable one is as it was.
 pub fn stopped_scrub()
     ensures mending { StoppedScrub }
     ensures readable { ReadableStays }
