@@ -1,6 +1,6 @@
 -- Writes to a segment that is looked at don't touch those that are looked at later.
-use Rattle.std.proofs.Common.{◌≡◌, ℕ, zero, suc, ◌<◌, Bool, true, false, cond, List, [], ◌∷◌, ◌++◌, length, get_or, All, refl, sym, ap, ◌∙◌, subst, arith}
-use Rattle.std.proofs.lemmas.List.Elements.{All-nil, All-cons, All-head, All-tail, All-weaker}
+use Rattle.std.proofs.Common.{◌≡◌, ℕ, suc, ◌<◌, Bool, true, false, cond, List, [], ◌∷◌, length, get_or, All, refl, ap, ◌∙◌, subst, arith}
+use Rattle.std.proofs.lemmas.List.Elements.{All-nil, All-cons, All-head, All-tail}
 use Rattle.qic_base.specs.declared.tape.SectorView.{SectorView}
 use Rattle.qic_base.specs.Cartridge.{Cartridge, view_at}
 use Rattle.qic_base.specs.Step.{Step, WriteSector}
@@ -15,7 +15,7 @@ use Rattle.std.proofs.lemmas.List.{append-nil}
 use Rattle.format_plan.proofs.Standing.{same_cells}
 use Rattle.append_plan.specs.Writes.{AreWrites}
 use Rattle.append_plan.proofs.Keeping.{AreIn, in_append, steps_kept}
-use Rattle.scrub_plan.specs.Scrubbing.{Looked, cells_at, looked_at, reads, mending_writes, steps_in, line_in, look_act, SayInTurn, looking_acts, last_act, counts_of, scrub_acts, Scrubs, SayAtOnce, acts_at_once}
+use Rattle.scrub_plan.specs.Scrubbing.{Looked, looked_at, reads, mending_writes, steps_in, line_in, look_act, SayInTurn, looking_acts, last_act, counts_of, scrub_acts, SayAtOnce, acts_at_once}
 use Rattle.scrub_plan.specs.Laws.{ScrubsAtOnce}
 use Rattle.scrub_plan.proofs.Apart.{Rise, looked_rise}
 

@@ -1,16 +1,15 @@
 -- What all steps of a scrub leave.
-use Rattle.std.proofs.Common.{◌≡◌, ℕ, zero, suc, ◌+◌, ◌-◌, ◌<◌, ◌≤◌, inl, inr, Bool, true, false, cond, List, [], ◌∷◌, ◌++◌, length, get_or, Option, Some, IsSomeAnd, Contains, refl, sym, ap, ◌∙◌, subst, arith}
+use Rattle.std.proofs.Common.{◌≡◌, ℕ, zero, suc, ◌+◌, ◌<◌, ◌≤◌, inl, inr, Bool, true, false, cond, List, [], ◌∷◌, ◌++◌, length, get_or, Option, Some, IsSomeAnd, Contains, refl, sym, ap, ◌∙◌, subst, arith}
 use Rattle.std.proofs.lemmas.List.{length-append}
 use Rattle.std.proofs.lemmas.List.Elements.{All-contains}
 use Rattle.std.proofs.lemmas.Option.{unwrap_or-slice_get}
-use Rattle.qic_base.specs.declared.tape.SectorView.{SectorView}
 use Rattle.qic_base.specs.Cartridge.{Cartridge, view_at}
 use Rattle.qic_base.specs.Step.{Step, WriteSector, changed, written_view, effects}
 use Rattle.qic_base.proofs.Steps.{Torn-all}
 use Rattle.acts.specs.Acts.{Act, steps_of}
 use Rattle.gf256_qic.specs.Code.{parity_sectors}
 use Rattle.gf256_qic.proofs.Parities.{length-parity_sectors}
-use Rattle.cartridge_spec.specs.Segment.{is_unreadable, sector_at}
+use Rattle.cartridge_spec.specs.Segment.{is_unreadable}
 use Rattle.cartridge_spec.specs.Shape.{usable_places, usable_count}
 use Rattle.cartridge_spec.specs.Says.{Saying, Data, Says, with_parity}
 use Rattle.cartridge_spec.specs.Table.{Entry, IsSoundList}
@@ -20,7 +19,7 @@ use Rattle.cartridge_spec.proofs.Sayings.{says_is_function, said_are_sectors}
 use Rattle.cartridge_spec.proofs.Segments.{count_of_cells}
 use Rattle.format_plan.proofs.Views.{view_of_sector, view_of_other_sector}
 use Rattle.format_plan.proofs.Writing.{changed_by-append, effects-some}
-use Rattle.append_plan.proofs.Keeping.{AreIn, steps_kept}
+use Rattle.append_plan.proofs.Keeping.{steps_kept}
 use Rattle.scrub_plan.specs.Mended.{IsMended, IsBeingMended}
 use Rattle.scrub_plan.specs.Scrubbing.{Looked, cells_at, looked_at, reads, mending_writes, steps_in, Scrubs, SayAtOnce, acts_at_once}
 use Rattle.scrub_plan.specs.Laws.{DoneScrub}

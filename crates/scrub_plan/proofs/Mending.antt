@@ -1,6 +1,6 @@
 -- What a stop among the writes of a scrub leaves: each sector to be mended is as it was, lost, or holds its sector of the
 -- block, and no other sector changes.
-use Rattle.std.proofs.Common.{◌≡◌, ◌⊎◌, ℕ, ◌<◌, ◌≤◌, inl, inr, Bool, true, false, List, [], ◌∷◌, ◌++◌, length, get_or, Option, Some, IsSomeAnd, Contains, refl, sym, ap, ◌∙◌, subst, arith}
+use Rattle.std.proofs.Common.{◌≡◌, ◌⊎◌, ℕ, ◌<◌, inl, inr, List, [], ◌∷◌, ◌++◌, Option, Some, IsSomeAnd, Contains, refl, sym, ap, ◌∙◌, subst}
 use Rattle.std.proofs.lemmas.Bool.{cases_eq}
 use Rattle.std.proofs.lemmas.Option.{unwrap_or-slice_get}
 use Rattle.qic_base.specs.declared.tape.SectorView.{SectorView}
@@ -9,19 +9,19 @@ use Rattle.qic_base.specs.Cartridge.{Cartridge, IsCartridge, view_at, with_view}
 use Rattle.qic_base.specs.Step.{Step, WriteSector, FormatSegment, SetReferenced, SetProtected, Renew, Wear, Spoil, changed, written_view, worn_view, effects}
 use Rattle.qic_base.specs.Stop.{Halfway, Torn}
 use Rattle.acts.specs.Acts.{Act, steps_of}
-use Rattle.cartridge_spec.specs.Segment.{IsLive, IsUnreadable, is_unreadable, sector_at}
-use Rattle.cartridge_spec.specs.Shape.{usable_places, usable_count}
-use Rattle.cartridge_spec.specs.Says.{Saying, Data, Says, with_parity}
+use Rattle.cartridge_spec.specs.Segment.{IsUnreadable}
+use Rattle.cartridge_spec.specs.Shape.{usable_places}
+use Rattle.cartridge_spec.specs.Says.{Saying, Says, with_parity}
 use Rattle.cartridge_spec.specs.Table.{Entry}
 use Rattle.cartridge_spec.specs.Writes.{changed_by}
 use Rattle.cartridge_spec.proofs.Places.{usable_small}
 use Rattle.format_plan.proofs.Views.{view_of_sector, view_of_other_sector}
-use Rattle.format_plan.proofs.Writing.{some_and, some_weaker, effects-some}
+use Rattle.format_plan.proofs.Writing.{some_and, effects-some}
 use Rattle.qic_base.proofs.Steps.{Torn-all}
 use Rattle.append_plan.specs.Writes.{IsWrite, AreWrites, IsOfSector}
 use Rattle.append_plan.proofs.Whole.{sector_writes_are_cartridge}
 use Rattle.scrub_plan.specs.Mended.{IsMended, HasBeenMended, IsBeingMended}
-use Rattle.scrub_plan.specs.Scrubbing.{Looked, cells_at, looked_at, reads, mending_writes, steps_in, looking_acts, scrub_acts, SayInTurn, Scrubs, SayAtOnce, acts_at_once}
+use Rattle.scrub_plan.specs.Scrubbing.{Looked, cells_at, looked_at, steps_in, looking_acts, SayInTurn, Scrubs, SayAtOnce, acts_at_once}
 use Rattle.scrub_plan.specs.Laws.{StoppedScrub, ReadableStays, StoppedScrubIsCartridge, DoneScrubIsCartridge}
 use Rattle.scrub_plan.proofs.Apart.{contains_first, contains_more}
 use Rattle.scrub_plan.proofs.AtOnce.{mending_are, steps_are, scrub_steps, scrubs_at_once}

@@ -1,26 +1,25 @@
 -- A cartridge that is being mended stands for what it stood for, is mounted as it was, and its table reads the same.
-use Rattle.std.proofs.Common.{◌≡◌, ◌⊎◌, ℕ, ◌+◌, ◌-◌, ◌*◌, ◌<◌, ◌≤◌, inl, inr, true, List, [], ◌∷◌, ◌++◌, length, get_or, map, take, drop, slice_get, Option, Some, IsSomeAnd, All, Contains, refl, sym, ap, ◌∙◌, subst, arith}
+use Rattle.std.proofs.Common.{◌≡◌, ◌⊎◌, ℕ, ◌+◌, ◌-◌, ◌*◌, ◌<◌, ◌≤◌, inl, inr, true, List, [], ◌∷◌, length, get_or, map, take, drop, slice_get, Some, All, Contains, sym, ap, ◌∙◌, subst, arith}
 use Rattle.std.specs.Option.{option_map}
 use Rattle.std.proofs.lemmas.Bool.{cases_eq, cases_lt}
 use Rattle.std.proofs.lemmas.List.{length-append}
 use Rattle.std.proofs.lemmas.List.Elements.{All-nil, All-cons, All-head, All-tail, All-take, All-drop, Contains-append_left, Contains-append_right}
 use Rattle.std.proofs.lemmas.Option.{slice_get-map, slice_get-get_or, slice_get_within, unwrap_or-slice_get}
 use Rattle.qic_base.specs.declared.tape.SectorView.{SectorView}
-use Rattle.qic_base.specs.declared.tape.SectorView.TheVariants.{Lost, Holds}
+use Rattle.qic_base.specs.declared.tape.SectorView.TheVariants.{Holds}
 use Rattle.qic_base.specs.declared.tape.TapeInfo.{TapeInfo}
 use Rattle.qic_base.specs.Cartridge.{Cartridge, IsSector, view_at}
 use Rattle.gf256_qic.specs.Code.{parity_sectors}
 use Rattle.gf256_qic.proofs.Parities.{block_count, length-parity_sectors}
-use Rattle.cartridge_spec.specs.Header.{Header, header_fault}
-use Rattle.cartridge_spec.specs.HeaderAndTable.{IsArea, IsInForce, CopyReads, CopyDoesNotRead, TableIs, copy_cells, table_cells, last_segment}
-use Rattle.cartridge_spec.specs.Segment.{sector_at, IsLive}
+use Rattle.cartridge_spec.specs.Header.{header_fault}
+use Rattle.cartridge_spec.specs.HeaderAndTable.{IsArea, IsInForce, CopyReads, CopyDoesNotRead, TableIs, copy_cells, table_cells}
 use Rattle.cartridge_spec.specs.Shape.{mask_at, usable_places, usable_count, data_count}
-use Rattle.cartridge_spec.specs.Says.{whole_mask, cells_of, unreadable_count, Saying, Data, Says, Written, Zero, ReadsAll, with_parity}
+use Rattle.cartridge_spec.specs.Says.{whole_mask, cells_of, unreadable_count, Data, Says, Written, Zero, ReadsAll, with_parity}
 use Rattle.cartridge_spec.specs.Table.{Entry, slot_fault}
 use Rattle.cartridge_spec.specs.Volumes.{Plain, Volume, VolumeStands, Part, PartStands, parts_of, Stands, CopiesAre, carrying_segments, entries_of}
 use Rattle.cartridge_spec.proofs.Places.{count_below, usable_small, usable_apart}
 use Rattle.cartridge_spec.proofs.Sayings.{says_is_function, written_is_said, said_is_written, said_are_sectors, code_sectors, cartridge_sectors}
-use Rattle.cartridge_spec.proofs.Segments.{count_of_cells, length-whole_cells, zero_does_not_read, cells_of_whole}
+use Rattle.cartridge_spec.proofs.Segments.{count_of_cells, length-whole_cells, zero_does_not_read}
 use Rattle.cartridge_spec.proofs.TableSayings.{code_says}
 use Rattle.format_plan.proofs.Copies.{held_view, view_held, no_fewer_unreadable, written_reads}
 use Rattle.format_plan.proofs.Standing.{same_cells}
@@ -33,7 +32,7 @@ use Rattle.scrub_plan.proofs.Turns.{copy_is_looked_at}
 
 -- ---- one segment
 
-cell_at : (c : Cartridge) (segment usable k : ℕ) → k < usable_count usable →
+pub cell_at : (c : Cartridge) (segment usable k : ℕ) → k < usable_count usable →
     slice_get (cells_of c segment usable) k ≡ Some (view_at c segment (get_or (usable_places usable) k 0))
 cell_at c segment usable k h =
     slice_get-map (view_at c segment) (usable_places usable) k
@@ -169,7 +168,7 @@ copy_reads looked c d copy area rise among way copy_is =
     written_reads d copy area (said_area c copy area copy_is.says) copy_is.signature
     (said_kept looked c d (whole_segment copy) area rise among way copy_is.says) (omega arith)
 
-copy_same : (looked : List Looked) (c d : Cartridge) (copy : ℕ) → copy < 2 → Rise looked → Contains looked (whole_segment copy) → IsBeingMended looked c d →
+pub copy_same : (looked : List Looked) (c d : Cartridge) (copy : ℕ) → copy < 2 → Rise looked → Contains looked (whole_segment copy) → IsBeingMended looked c d →
     CopyDoesNotRead c copy → copy_cells d copy ≡ copy_cells c copy
 copy_same looked c d copy small rise among way none =
     same_cells c d copy whole_mask (unread_kept looked c d (whole_segment copy) rise among way
@@ -209,7 +208,7 @@ in_force looked c d area front way (inr second) = inr (
   copy_reads looked c d 1 area front.rise front.second way second.1,
 )
 
-zero_kept : (looked : List Looked) (c d : Cartridge) (copy : ℕ) → copy < 2 → Rise looked → Contains looked (whole_segment copy) → IsBeingMended looked c d →
+pub zero_kept : (looked : List Looked) (c d : Cartridge) (copy : ℕ) → copy < 2 → Rise looked → Contains looked (whole_segment copy) → IsBeingMended looked c d →
     Zero (copy_cells c copy) → Zero (copy_cells d copy)
 zero_kept looked c d copy small rise among way zeros =
     subst (λ (cells : List SectorView). Zero cells) (sym (copy_same looked c d copy small rise among way (zero_does_not_read c copy zeros))) zeros

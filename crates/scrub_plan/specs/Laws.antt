@@ -1,15 +1,20 @@
 -- What scrubbing does, and what it leaves, done or stopped, as facts.
-use Rattle.std.specs.Prelude.{◌≡◌, ◌↔◌, ℕ, ◌<◌, true, List, Option, Some, IsSomeAnd}
+use Rattle.std.specs.Prelude.{◌≡◌, ◌↔◌, ℕ, ◌<◌, true, List, [], All, Option, Some, IsSomeAnd}
 use Rattle.qic_base.specs.declared.tape.SectorView.TheVariants.{Holds}
 use Rattle.qic_base.specs.Cartridge.{Cartridge, IsCartridge, view_at}
 use Rattle.qic_base.specs.Stop.{Torn}
 use Rattle.acts.specs.Acts.{Act, steps_of}
-use Rattle.cartridge_spec.specs.HeaderAndTable.{copy_cells, CopyReads}
+use Rattle.cartridge_spec.specs.Header.{Header}
+use Rattle.cartridge_spec.specs.HeaderAndTable.{copy_cells, CopyReads, TableIs}
+use Rattle.cartridge_spec.specs.Mounting.{Mounted, Mounts}
 use Rattle.cartridge_spec.specs.Says.{Saying, Says}
 use Rattle.cartridge_spec.specs.Table.{Entry, IsSoundList}
+use Rattle.cartridge_spec.specs.Segment.{IsLive}
+use Rattle.cartridge_spec.specs.Volumes.{Plain, Stands, entries_of}
 use Rattle.cartridge_spec.specs.Writes.{changed_by}
+use Rattle.format_plan.specs.Clean.{StandsCleanly}
 use Rattle.scrub_plan.specs.Mended.{IsBeingMended, IsScrubbed}
-use Rattle.scrub_plan.specs.Scrubbing.{Looked, whole_segment, looked_at, reads, looking_acts, Scrubs, SayAtOnce, acts_at_once}
+use Rattle.scrub_plan.specs.Scrubbing.{Looked, whole_segment, looked_at, cells_at, reads, looking_acts, Scrubs, SayAtOnce, acts_at_once}
 
 -- ---- what it does
 
@@ -47,11 +52,48 @@ DoneScrub =
     (c : Cartridge) (words : List ℕ) (entries : List Entry) (last : ℕ) (acts : List Act) → IsSoundList last entries →
     Scrubs c words entries acts → IsScrubbed (looked_at words entries) c (changed_by (steps_of acts) c)
 
+-- what stood stands, with header copies that formatting may begin over where they were so, ..
+abbrev pub DoneScrubStands : Type 0
+DoneScrubStands =
+    (c : Cartridge) (plain : Plain) (acts : List Act) → Stands c plain → Scrubs c plain.words (entries_of plain) acts →
+    Stands (changed_by (steps_of acts) c) plain
+
+abbrev pub DoneScrubIsClean : Type 0
+DoneScrubIsClean =
+    (c : Cartridge) (plain : Plain) (acts : List Act) → StandsCleanly c plain → Scrubs c plain.words (entries_of plain) acts →
+    StandsCleanly (changed_by (steps_of acts) c) plain
+
+-- .. what was mounted is mounted so, ..
+abbrev pub DoneScrubMounts : Type 0
+DoneScrubMounts =
+    (c : Cartridge) (header : Header) (words : List ℕ) (area : List (List ℕ)) (entries : List Entry) (acts : List Act) →
+    Mounts c (Mounted header words area entries) → Scrubs c words entries acts →
+    Mounts (changed_by (steps_of acts) c) (Mounted header words area entries)
+
+-- .. and the table reads the same
+abbrev pub DoneScrubTable : Type 0
+DoneScrubTable =
+    (c : Cartridge) (words : List ℕ) (entries : List Entry) (last : ℕ) (acts : List Act) (area : List (List ℕ)) →
+    IsSoundList last entries → Scrubs c words entries acts → TableIs c area → TableIs (changed_by (steps_of acts) c) area
+
 -- what is left is a cartridge
 abbrev pub DoneScrubIsCartridge : Type 0
 DoneScrubIsCartridge =
     (c : Cartridge) (words : List ℕ) (entries : List Entry) (acts : List Act) → IsCartridge c → Scrubs c words entries acts →
     IsCartridge (changed_by (steps_of acts) c)
+
+-- ---- a second scrub
+
+-- each usable sector of these segments takes what is written to it
+abbrev pub AreAllLive : Cartridge → List Looked → Type 0
+AreAllLive c looked = All (λ l. All IsLive (cells_at c l)) looked
+
+-- where that is so, a second scrub writes nothing; a segment that did not read does not read again
+abbrev pub SecondScrubWritesNothing : Type 0
+SecondScrubWritesNothing =
+    (c : Cartridge) (words : List ℕ) (entries : List Entry) (last : ℕ) (acts again : List Act) → IsSoundList last entries →
+    AreAllLive c (looked_at words entries) → Scrubs c words entries acts →
+    Scrubs (changed_by (steps_of acts) c) words entries again → steps_of again ≡ []
 
 -- ---- a stop
 
@@ -74,3 +116,28 @@ abbrev pub StoppedScrubIsCartridge : Type 0
 StoppedScrubIsCartridge =
     (c : Cartridge) (words : List ℕ) (entries : List Entry) (acts : List Act) (left : Option Cartridge) → IsCartridge c →
     Scrubs c words entries acts → Torn (steps_of acts) (Some c) left → IsSomeAnd left IsCartridge
+
+-- what stood stands, with header copies that formatting may begin over where they were so, ..
+abbrev pub StoppedScrubStands : Type 0
+StoppedScrubStands =
+    (c : Cartridge) (plain : Plain) (acts : List Act) (left : Option Cartridge) → Stands c plain →
+    Scrubs c plain.words (entries_of plain) acts → Torn (steps_of acts) (Some c) left → IsSomeAnd left (λ d. Stands d plain)
+
+abbrev pub StoppedScrubIsClean : Type 0
+StoppedScrubIsClean =
+    (c : Cartridge) (plain : Plain) (acts : List Act) (left : Option Cartridge) → StandsCleanly c plain →
+    Scrubs c plain.words (entries_of plain) acts → Torn (steps_of acts) (Some c) left → IsSomeAnd left (λ d. StandsCleanly d plain)
+
+-- .. what was mounted is mounted so, ..
+abbrev pub StoppedScrubMounts : Type 0
+StoppedScrubMounts =
+    (c : Cartridge) (header : Header) (words : List ℕ) (area : List (List ℕ)) (entries : List Entry) (acts : List Act)
+    (left : Option Cartridge) → Mounts c (Mounted header words area entries) → Scrubs c words entries acts →
+    Torn (steps_of acts) (Some c) left → IsSomeAnd left (λ d. Mounts d (Mounted header words area entries))
+
+-- .. and the table reads the same
+abbrev pub StoppedScrubTable : Type 0
+StoppedScrubTable =
+    (c : Cartridge) (words : List ℕ) (entries : List Entry) (last : ℕ) (acts : List Act) (area : List (List ℕ))
+    (left : Option Cartridge) → IsSoundList last entries → Scrubs c words entries acts → TableIs c area →
+    Torn (steps_of acts) (Some c) left → IsSomeAnd left (λ d. TableIs d area)

@@ -1,4 +1,5 @@
 use Rattle.scrub_plan.proofs.Mending.{stopped_scrub, readable_stays, stopped_scrub_is_cartridge}
+use Rattle.scrub_plan.proofs.Mounted.{stopped_scrub_stands, stopped_scrub_is_clean, stopped_scrub_mounts, stopped_scrub_table}
 use Rattle.scrub_plan.proofs.laws.stopped_scrub.Goals as goal
 
 pub returns-clause-mending : goal.returns-clause-mending
@@ -9,3 +10,15 @@ returns-clause-readable c = readable_stays
 
 pub returns-clause-whole : goal.returns-clause-whole
 returns-clause-whole c = stopped_scrub_is_cartridge
+
+pub returns-clause-stands : goal.returns-clause-stands
+returns-clause-stands c = stopped_scrub_stands
+
+pub returns-clause-clean : goal.returns-clause-clean
+returns-clause-clean c = stopped_scrub_is_clean
+
+pub returns-clause-mounts : goal.returns-clause-mounts
+returns-clause-mounts c = stopped_scrub_mounts
+
+pub returns-clause-table : goal.returns-clause-table
+returns-clause-table c = stopped_scrub_table
