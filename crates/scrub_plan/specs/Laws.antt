@@ -1,20 +1,24 @@
 -- What scrubbing does, and what it leaves, done or stopped, as facts.
-use Rattle.std.specs.Prelude.{◌≡◌, ◌↔◌, ℕ, ◌<◌, true, List, [], All, Option, Some, IsSomeAnd}
+use Rattle.std.specs.Prelude.{◌≡◌, ◌↔◌, ℕ, ◌+◌, ◌<◌, ◌≤◌, true, List, [], ◌∷◌, ◌++◌, length, take, slice_get, if◌then◌else◌, All, Option, Some, IsSomeAnd}
 use Rattle.qic_base.specs.declared.tape.SectorView.TheVariants.{Holds}
 use Rattle.qic_base.specs.Cartridge.{Cartridge, IsCartridge, view_at}
 use Rattle.qic_base.specs.Stop.{Torn}
 use Rattle.acts.specs.Acts.{Act, steps_of}
 use Rattle.cartridge_spec.specs.Header.{Header}
-use Rattle.cartridge_spec.specs.HeaderAndTable.{copy_cells, CopyReads, TableIs}
+use Rattle.cartridge_spec.specs.HeaderAndTable.{IsArea, copy_cells, table_cells, CopyReads, TableIs}
 use Rattle.cartridge_spec.specs.Mounting.{Mounted, Mounts}
-use Rattle.cartridge_spec.specs.Says.{Saying, Says}
+use Rattle.cartridge_spec.specs.Says.{Saying, Data, Says, data_of}
 use Rattle.cartridge_spec.specs.Table.{Entry, IsSoundList}
-use Rattle.cartridge_spec.specs.Segment.{IsLive}
+use Rattle.cartridge_spec.specs.Segment.{IsLive, IsUnreadable}
+use Rattle.cartridge_spec.specs.Shape.{sectors_of, usable_count}
 use Rattle.cartridge_spec.specs.Volumes.{Plain, Stands, entries_of}
-use Rattle.cartridge_spec.specs.Writes.{changed_by}
+use Rattle.cartridge_spec.specs.Writes.{changed_by, named_writes}
+use Rattle.gf256_qic.specs.Code.{IsCodeBlock}
+use Rattle.qic_base.specs.LostSet.{IsLost}
+use Rattle.append_plan.specs.Settled.{IsSettledFor}
 use Rattle.format_plan.specs.Clean.{StandsCleanly}
 use Rattle.scrub_plan.specs.Mended.{IsBeingMended, IsScrubbed}
-use Rattle.scrub_plan.specs.Scrubbing.{Looked, whole_segment, looked_at, cells_at, reads, looking_acts, Scrubs, SayAtOnce, acts_at_once}
+use Rattle.scrub_plan.specs.Scrubbing.{Looked, whole_segment, looked_at, cells_at, reads, steps_in, look_act, SayInTurn, looking_acts, unread_count, Scrubs, SayAtOnce, acts_at_once}
 
 -- ---- what it does
 
@@ -27,6 +31,11 @@ ScrubsIsFunction =
 abbrev pub ScrubsAlways : Type 0
 ScrubsAlways =
     (c : Cartridge) (words : List ℕ) (entries : List Entry) → IsCartridge c → (acts : List Act) × Scrubs c words entries acts
+
+-- the table's segment of a settled cartridge says the table's data, so it reads
+abbrev pub SettledTableReads : Type 0
+SettledTableReads =
+    (c : Cartridge) (area : List (List ℕ)) → IsArea area → IsSettledFor c area → Says (table_cells c) (Data area)
 
 -- a header copy that says something reads just where it can be read as a header copy
 abbrev pub CopyIsLookedAt : Type 0
@@ -42,6 +51,36 @@ ScrubsAtOnce =
     (scrubs : Scrubs c words entries acts) →
     SayAtOnce c (looked_at words entries) scrubs.sayings
     × (looking_acts c (looked_at words entries) scrubs.sayings ≡ acts_at_once c (looked_at words entries) scrubs.sayings)
+
+-- ---- step by step
+
+-- what one segment more adds to those that were looked at
+pub record LooksOnce (c : Cartridge) (looked : List Looked) (sayings : List Saying) (l : Looked) (s : Saying) : Type 0 where
+  pub said : SayInTurn c (looked ++ l ∷ []) (sayings ++ s ∷ [])
+  pub acts : looking_acts c (looked ++ l ∷ []) (sayings ++ s ∷ [])
+      ≡ looking_acts c looked sayings ++ look_act (changed_by (steps_of (looking_acts c looked sayings)) c) l s ∷ []
+  pub unread : unread_count (looked ++ l ∷ []) (sayings ++ s ∷ [])
+      ≡ unread_count looked sayings + (if reads l s then 0 else 1)
+
+abbrev pub OneMoreLook : Type 0
+OneMoreLook =
+    (c : Cartridge) (looked : List Looked) (sayings : List Saying) (l : Looked) (s : Saying) → SayInTurn c looked sayings →
+    Says (cells_at (changed_by (steps_of (looking_acts c looked sayings)) c) l) s → LooksOnce c looked sayings l s
+
+-- The writes in a segment that reads are those to the places of its unreadable sectors, where the sectors at hand begin with
+-- its code block.
+abbrev pub StepsByPlaces : Type 0
+StepsByPlaces =
+    (c : Cartridge) (l : Looked) (lost : ℕ) (sectors : List (List ℕ)) → IsCodeBlock (take (usable_count l.mask) sectors) →
+    usable_count l.mask ≤ length sectors → reads l (Data (data_of (take (usable_count l.mask) sectors))) ≡ true →
+    ((i : ℕ) → IsLost lost i ↔ IsSomeAnd (slice_get (cells_at c l) i) IsUnreadable) →
+    steps_in c l (Data (data_of (take (usable_count l.mask) sectors))) ≡ named_writes l.segment l.mask lost sectors
+
+-- they are as many as these places
+abbrev pub CountOfNamed : Type 0
+CountOfNamed =
+    (segment usable places : ℕ) (sectors : List (List ℕ)) →
+    length (named_writes segment usable places sectors) ≡ length (sectors_of places)
 
 -- ---- all steps done
 
@@ -75,6 +114,12 @@ abbrev pub DoneScrubTable : Type 0
 DoneScrubTable =
     (c : Cartridge) (words : List ℕ) (entries : List Entry) (last : ℕ) (acts : List Act) (area : List (List ℕ)) →
     IsSoundList last entries → Scrubs c words entries acts → TableIs c area → TableIs (changed_by (steps_of acts) c) area
+
+-- a settled table is settled still
+abbrev pub DoneScrubIsSettled : Type 0
+DoneScrubIsSettled =
+    (c : Cartridge) (words : List ℕ) (entries : List Entry) (last : ℕ) (acts : List Act) (area : List (List ℕ)) →
+    IsSoundList last entries → Scrubs c words entries acts → IsSettledFor c area → IsSettledFor (changed_by (steps_of acts) c) area
 
 -- what is left is a cartridge
 abbrev pub DoneScrubIsCartridge : Type 0
@@ -141,3 +186,10 @@ StoppedScrubTable =
     (c : Cartridge) (words : List ℕ) (entries : List Entry) (last : ℕ) (acts : List Act) (area : List (List ℕ))
     (left : Option Cartridge) → IsSoundList last entries → Scrubs c words entries acts → TableIs c area →
     Torn (steps_of acts) (Some c) left → IsSomeAnd left (λ d. TableIs d area)
+
+-- a settled table is settled still
+abbrev pub StoppedScrubIsSettled : Type 0
+StoppedScrubIsSettled =
+    (c : Cartridge) (words : List ℕ) (entries : List Entry) (last : ℕ) (acts : List Act) (area : List (List ℕ))
+    (left : Option Cartridge) → IsSoundList last entries → Scrubs c words entries acts → IsSettledFor c area →
+    Torn (steps_of acts) (Some c) left → IsSomeAnd left (λ d. IsSettledFor d area)

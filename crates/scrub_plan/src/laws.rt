@@ -1,7 +1,7 @@
 //! What scrubbing leaves, done or stopped. Each law is the contract of a function that does nothing, so that other crates
 //! can rest on it; their proofs import the lemmas of this crate's `proofs`.
 
-ghost use Rattle.scrub_plan.specs.Laws.{ScrubsIsFunction, ScrubsAlways, CopyIsLookedAt, ScrubsAtOnce, DoneScrub, DoneScrubStands, DoneScrubIsClean, DoneScrubMounts, DoneScrubTable, DoneScrubIsCartridge, SecondScrubWritesNothing, StoppedScrub, ReadableStays, StoppedScrubStands, StoppedScrubIsClean, StoppedScrubMounts, StoppedScrubTable, StoppedScrubIsCartridge};
+ghost use Rattle.scrub_plan.specs.Laws.{ScrubsIsFunction, ScrubsAlways, CopyIsLookedAt, ScrubsAtOnce, OneMoreLook, StepsByPlaces, CountOfNamed, SettledTableReads, DoneScrub, DoneScrubStands, DoneScrubIsClean, DoneScrubMounts, DoneScrubTable, DoneScrubIsSettled, DoneScrubIsCartridge, SecondScrubWritesNothing, StoppedScrub, ReadableStays, StoppedScrubStands, StoppedScrubIsClean, StoppedScrubMounts, StoppedScrubTable, StoppedScrubIsSettled, StoppedScrubIsCartridge};
 
 /// Scrubbing a cartridge does one thing, and it does something; no write touches a segment that is looked at later.
 pub fn scrubbing_is_one()
@@ -15,6 +15,19 @@ pub fn header_copies_read_alike()
     ensures { CopyIsLookedAt }
 {}
 
+/// One segment more adds its act, as the cartridge then stands; its writes are those to the places that a reading of it found
+/// unreadable.
+pub fn look_by_look()
+    ensures more { OneMoreLook }
+    ensures places { StepsByPlaces }
+    ensures count { CountOfNamed }
+{}
+
+/// The table's segment of a settled cartridge reads.
+pub fn settled_table_reads()
+    ensures { SettledTableReads }
+{}
+
 /// After all steps of a scrub each unreadable usable sector of a segment that was looked at and reads holds its sector of the
 /// segment's block, where it takes a write, and nothing else has changed. So the cartridge stands for what it stood for.
 pub fn done_scrub()
@@ -23,6 +36,7 @@ pub fn done_scrub()
     ensures clean { DoneScrubIsClean }
     ensures mounts { DoneScrubMounts }
     ensures table { DoneScrubTable }
+    ensures settled { DoneScrubIsSettled }
     ensures whole { DoneScrubIsCartridge }
 {}
 
@@ -40,5 +54,6 @@ pub fn stopped_scrub()
     ensures clean { StoppedScrubIsClean }
     ensures mounts { StoppedScrubMounts }
     ensures table { StoppedScrubTable }
+    ensures settled { StoppedScrubIsSettled }
     ensures whole { StoppedScrubIsCartridge }
 {}

@@ -1,6 +1,7 @@
 use Rattle.scrub_plan.proofs.Done.{done_scrub}
 use Rattle.scrub_plan.proofs.Mending.{done_scrub_is_cartridge}
 use Rattle.scrub_plan.proofs.Mounted.{done_scrub_stands, done_scrub_is_clean, done_scrub_mounts, done_scrub_table}
+use Rattle.scrub_plan.proofs.Settled.{done_scrub_is_settled}
 use Rattle.scrub_plan.proofs.laws.done_scrub.Goals as goal
 
 pub returns-clause-scrubbed : goal.returns-clause-scrubbed
@@ -20,3 +21,6 @@ returns-clause-mounts c = done_scrub_mounts
 
 pub returns-clause-table : goal.returns-clause-table
 returns-clause-table c = done_scrub_table
+
+pub returns-clause-settled : goal.returns-clause-settled
+returns-clause-settled c = done_scrub_is_settled

@@ -1,5 +1,6 @@
 use Rattle.scrub_plan.proofs.Mending.{stopped_scrub, readable_stays, stopped_scrub_is_cartridge}
 use Rattle.scrub_plan.proofs.Mounted.{stopped_scrub_stands, stopped_scrub_is_clean, stopped_scrub_mounts, stopped_scrub_table}
+use Rattle.scrub_plan.proofs.Settled.{stopped_scrub_is_settled}
 use Rattle.scrub_plan.proofs.laws.stopped_scrub.Goals as goal
 
 pub returns-clause-mending : goal.returns-clause-mending
@@ -22,3 +23,6 @@ returns-clause-mounts c = stopped_scrub_mounts
 
 pub returns-clause-table : goal.returns-clause-table
 returns-clause-table c = stopped_scrub_table
+
+pub returns-clause-settled : goal.returns-clause-settled
+returns-clause-settled c = stopped_scrub_is_settled
