@@ -1,0 +1,11 @@
+pub mod Again
+pub mod Apart
+pub mod AtOnce
+pub mod Done
+pub mod Looking
+pub mod Mending
+pub mod Mounted
+pub mod Named
+pub mod Settled
+pub mod Standing
+pub mod Turns

@@ -1,0 +1,12 @@
+use Rattle.scrub_plan.proofs.AtOnce.{scrubs_at_once}
+use Rattle.scrub_plan.proofs.Turns.{scrubs_is_function, scrubs_always}
+use Rattle.scrub_plan.proofs.laws.scrubbing_is_one.Goals as goal
+
+pub returns-clause-function : goal.returns-clause-function
+returns-clause-function c = scrubs_is_function
+
+pub returns-clause-always : goal.returns-clause-always
+returns-clause-always c = scrubs_always
+
+pub returns-clause-at_once : goal.returns-clause-at_once
+returns-clause-at_once c = scrubs_at_once
