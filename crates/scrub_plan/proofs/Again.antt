@@ -48,12 +48,14 @@ live_readable Defect bytes live = absurd live
 live_readable Lost bytes live = refl
 live_readable (Holds old) bytes live = refl
 
-no_write : (b : Bool) (segment place : ℕ) (bytes : List ℕ) (rest : List Step) → b ≡ false → rest ≡ [] → cond b (WriteSector segment place bytes ∷ rest) rest ≡ []
+no_write : (b : Bool) (segment place : ℕ) (bytes : List ℕ) (rest : List Step) → b ≡ false → rest ≡ [] →
+    cond b (WriteSector segment place bytes ∷ rest) rest ≡ []
 no_write true segment place bytes rest readable none = absurd (cc)
 no_write false segment place bytes rest readable none = none
 
 mending_none : (d : Cartridge) (segment : ℕ) (places : List ℕ) (sectors : List (List ℕ)) →
-    ((k : ℕ) → k < length places → is_unreadable (view_at d segment (get_or places k 0)) ≡ false) → mending_writes d segment places sectors ≡ []
+    ((k : ℕ) → k < length places → is_unreadable (view_at d segment (get_or places k 0)) ≡ false) →
+    mending_writes d segment places sectors ≡ []
 mending_none d segment [] sectors readable = refl
 mending_none d segment (place ∷ places) [] readable = refl
 mending_none d segment (place ∷ places) (bytes ∷ sectors) readable =
@@ -74,7 +76,8 @@ live_at c looked l k live among h =
     subst IsLive (get_or_from_slice_get cells k (view_at c l.segment (get_or (usable_places l.mask) k 0)) Blank (cell_at c l.segment l.mask k h))
     (All-get_or IsLive cells k Blank (omega (arith, count_of_cells c l.segment l.mask)) lives)
 
-readable_after : (looked : List Looked) (c d : Cartridge) (l : Looked) (ds : List (List ℕ)) (k : ℕ) → AfterFirst looked c d → Contains looked l →
+readable_after : (looked : List Looked) (c d : Cartridge) (l : Looked) (ds : List (List ℕ)) (k : ℕ) → AfterFirst looked c d →
+    Contains looked l →
     Says (cells_at c l) (Data ds) → reads l (Data ds) ≡ true → k < usable_count l.mask →
     is_unreadable (view_at d l.segment (get_or (usable_places l.mask) k 0)) ≡ false
 readable_after looked c d l ds k after among says can h =
@@ -109,7 +112,8 @@ by_reading : (b : Bool) (steps : List Step) → (b ≡ true → steps ≡ []) �
 by_reading true steps none = none refl
 by_reading false steps none = refl
 
-read_before : (looked : List Looked) (c d : Cartridge) (l : Looked) (before : Saying) (now : List (List ℕ)) → AfterFirst looked c d → Contains looked l →
+read_before : (looked : List Looked) (c d : Cartridge) (l : Looked) (before : Saying) (now : List (List ℕ)) → AfterFirst looked c d →
+    Contains looked l →
     Says (cells_at c l) before → Says (cells_at d l) (Data now) → reads l (Data now) ≡ true → reads l before ≡ true
 read_before looked c d l before now after among said says can =
     elim (cases_Bool (reads l before)) [
@@ -128,7 +132,8 @@ readable_now looked c d l (Data ds) k after among says can h = readable_after lo
 readable_now looked c d l (LostSectors n) k after among says can h = absurd (false≢true can)
 readable_now looked c d l Mismatch k after among says can h = absurd (false≢true can)
 
-segment_again : (looked : List Looked) (c d : Cartridge) (l : Looked) (s : Saying) → AfterFirst looked c d → Contains looked l → IsSaid c l → Says (cells_at d l) s →
+segment_again : (looked : List Looked) (c d : Cartridge) (l : Looked) (s : Saying) → AfterFirst looked c d → Contains looked l →
+    IsSaid c l → Says (cells_at d l) s →
     steps_in d l s ≡ []
 segment_again looked c d l (Data now) after among before says =
     by_reading (reads l (Data now)) (mending_writes d l.segment (usable_places l.mask) (with_parity now)) (λ can.
@@ -138,7 +143,8 @@ segment_again looked c d l (Data now) after among before says =
 segment_again looked c d l (LostSectors n) after among before says = refl
 segment_again looked c d l Mismatch after among before says = refl
 
-all_again : (looked : List Looked) (c d : Cartridge) (ls : List Looked) (ss : List Saying) → AfterFirst looked c d → ((l : Looked) → Contains looked l → IsSaid c l) →
+all_again : (looked : List Looked) (c d : Cartridge) (ls : List Looked) (ss : List Saying) → AfterFirst looked c d →
+    ((l : Looked) → Contains looked l → IsSaid c l) →
     ((l : Looked) → Contains ls l → Contains looked l) → SayAtOnce d ls ss → steps_of (acts_at_once d ls ss) ≡ []
 all_again looked c d [] ss after before among say = refl
 all_again looked c d (l ∷ ls) [] after before among say = refl

@@ -26,7 +26,8 @@ abbrev pub Rise : List Looked → Type 0
 Rise [] = Unit {0}
 Rise (l ∷ ls) = All (λ m. l.segment < m.segment) ls × Rise ls
 
-rise_append : (mid : ℕ) (xs ys : List Looked) → Rise xs → Rise ys → All (λ l. l.segment ≤ mid) xs → All (λ m. mid < m.segment) ys → Rise (xs ++ ys)
+rise_append : (mid : ℕ) (xs ys : List Looked) → Rise xs → Rise ys → All (λ l. l.segment ≤ mid) xs → All (λ m. mid < m.segment) ys →
+    Rise (xs ++ ys)
 rise_append mid [] ys front rear below above = rear
 rise_append mid (x ∷ xs) ys front rear below above =
     let first : x.segment ≤ mid = All-head (λ (l : Looked). l.segment ≤ mid) x xs below in (
@@ -60,7 +61,8 @@ record RiseBehind (before : ℕ) (ls : List Looked) : Type 0 where
   rise : Rise ls
   behind : All (λ m. before < m.segment) ls
 
-volumes_rise : (words : List ℕ) (before last : ℕ) (entries : List Entry) → LieBehind before last entries → RiseBehind before (looked_volumes words entries)
+volumes_rise : (words : List ℕ) (before last : ℕ) (entries : List Entry) → LieBehind before last entries →
+    RiseBehind before (looked_volumes words entries)
 volumes_rise words before last [] order = record { rise = tt; behind = All-nil (λ (m : Looked). before < m.segment) }
 volumes_rise words before last (e ∷ es) order =
     let segments : List ℕ = carrying_segments words e in

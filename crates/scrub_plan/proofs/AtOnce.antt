@@ -21,7 +21,8 @@ use Rattle.scrub_plan.proofs.Apart.{Rise, looked_rise}
 
 -- ---- the writes of a segment
 
-first_or : (of : ℕ → ℕ → List ℕ → Type 0) (b : Bool) (segment place : ℕ) (bytes : List ℕ) (rest : List Step) → (b ≡ true → of segment place bytes) →
+first_or : (of : ℕ → ℕ → List ℕ → Type 0) (b : Bool) (segment place : ℕ) (bytes : List ℕ) (rest : List Step) →
+    (b ≡ true → of segment place bytes) →
     AreWrites of rest → AreWrites of (cond b (WriteSector segment place bytes ∷ rest) rest)
 first_or of true segment place bytes rest first are = (first refl, are)
 first_or of false segment place bytes rest first are = are
@@ -61,7 +62,8 @@ abbrev pub AreAlike : (c d : Cartridge) → List Looked → Type 0
 AreAlike c d ls = All (λ l. (i : ℕ) → i < 32 → view_at d l.segment i ≡ view_at c l.segment i) ls
 
 mending_alike : (c d : Cartridge) (segment : ℕ) (places : List ℕ) (sectors : List (List ℕ)) → AreSmall places →
-    ((i : ℕ) → i < 32 → view_at d segment i ≡ view_at c segment i) → mending_writes d segment places sectors ≡ mending_writes c segment places sectors
+    ((i : ℕ) → i < 32 → view_at d segment i ≡ view_at c segment i) →
+    mending_writes d segment places sectors ≡ mending_writes c segment places sectors
 mending_alike c d segment [] sectors small same = refl
 mending_alike c d segment (place ∷ places) [] small same = refl
 mending_alike c d segment (place ∷ places) (bytes ∷ sectors) small same =
@@ -70,7 +72,8 @@ mending_alike c d segment (place ∷ places) (bytes ∷ sectors) small same =
     (same place (small 0 (omega arith)))
     ∙ ap (λ (ss : List Step). cond (is_unreadable (view_at c segment place)) (WriteSector segment place bytes ∷ ss) ss) rest
 
-steps_alike : (c d : Cartridge) (l : Looked) (s : Saying) → ((i : ℕ) → i < 32 → view_at d l.segment i ≡ view_at c l.segment i) → steps_in d l s ≡ steps_in c l s
+steps_alike : (c d : Cartridge) (l : Looked) (s : Saying) → ((i : ℕ) → i < 32 → view_at d l.segment i ≡ view_at c l.segment i) →
+    steps_in d l s ≡ steps_in c l s
 steps_alike c d l (Data sectors) same =
     ap (λ (ss : List Step). cond (reads l (Data sectors)) ss [])
     (mending_alike c d l.segment (usable_places l.mask) (with_parity sectors) (usable_small l.mask) same)
@@ -123,7 +126,8 @@ scrubs_at_once c words entries last acts order scrubs =
     (all.say, all.acts)
 
 -- the steps of a scrub
-pub scrub_steps : (c : Cartridge) (looked : List Looked) (sayings : List Saying) → steps_of (scrub_acts c looked sayings) ≡ steps_of (looking_acts c looked sayings)
+pub scrub_steps : (c : Cartridge) (looked : List Looked) (sayings : List Saying) →
+    steps_of (scrub_acts c looked sayings) ≡ steps_of (looking_acts c looked sayings)
 scrub_steps c looked sayings =
     steps_of-append (looking_acts c looked sayings) (last_act (counts_of c looked sayings) ∷ [])
     ∙ append-nil (steps_of (looking_acts c looked sayings))

@@ -76,7 +76,8 @@ length-said_block c l sectors says =
     let count : length (cells_at c l) ≡ usable_count l.mask = count_of_cells c l.segment l.mask in
     omega (arith, length-append sectors (parity_sectors sectors), length-parity_sectors sectors)
 
-segment_done : (c d : Cartridge) (l : Looked) (sectors : List (List ℕ)) (k : ℕ) → Says (cells_at c l) (Data sectors) → reads l (Data sectors) ≡ true →
+segment_done : (c d : Cartridge) (l : Looked) (sectors : List (List ℕ)) (k : ℕ) → Says (cells_at c l) (Data sectors) →
+    reads l (Data sectors) ≡ true →
     k < usable_count l.mask → is_unreadable (view_at c l.segment (get_or (usable_places l.mask) k 0)) ≡ true →
     view_at (changed_by (steps_in c l (Data sectors)) d) l.segment (get_or (usable_places l.mask) k 0)
     ≡ written_view (get_or (with_parity sectors) k []) (view_at d l.segment (get_or (usable_places l.mask) k 0))
@@ -88,7 +89,8 @@ segment_done c d l sectors k says can h unread =
 
 -- ---- all of them
 
-all_done : (ls : List Looked) (ss : List Saying) (c d : Cartridge) (l : Looked) (sectors : List (List ℕ)) (k : ℕ) → Rise ls → SayAtOnce c ls ss → Contains ls l →
+all_done : (ls : List Looked) (ss : List Saying) (c d : Cartridge) (l : Looked) (sectors : List (List ℕ)) (k : ℕ) → Rise ls →
+    SayAtOnce c ls ss → Contains ls l →
     Says (cells_at c l) (Data sectors) → reads l (Data sectors) ≡ true → k < usable_count l.mask →
     is_unreadable (view_at c l.segment (get_or (usable_places l.mask) k 0)) ≡ true →
     view_at (changed_by (steps_of (acts_at_once c ls ss)) d) l.segment (get_or (usable_places l.mask) k 0)
@@ -120,7 +122,8 @@ all_done (m ∷ ms) (s ∷ ss) c d l sectors k rise say among says can h unread 
           (λ (same : l.segment ≡ m.segment). omega arith))
     ]
 
-mended_written : (c d : Cartridge) (looked : List Looked) (ss : List Saying) (segment sector : ℕ) (bytes : List ℕ) → Rise looked → SayAtOnce c looked ss →
+mended_written : (c d : Cartridge) (looked : List Looked) (ss : List Saying) (segment sector : ℕ) (bytes : List ℕ) → Rise looked →
+    SayAtOnce c looked ss →
     d ≡ changed_by (steps_of (acts_at_once c looked ss)) c → IsMended c looked segment sector bytes →
     view_at d segment sector ≡ written_view bytes (view_at c segment sector)
 mended_written c d looked ss segment sector bytes rise say is mended =
@@ -139,7 +142,8 @@ mended_written c d looked ss segment sector bytes rise say is mended =
     (subst (λ (i : ℕ). view_at (changed_by (steps_of (acts_at_once c looked ss)) c) l.segment i ≡ written_view (get_or (with_parity mended.sectors) k []) (view_at c l.segment i))
     index done))
 
-pub done_being_mended : (c : Cartridge) (words : List ℕ) (entries : List Entry) (last : ℕ) (acts : List Act) → IsSoundList last entries → Scrubs c words entries acts →
+pub done_being_mended : (c : Cartridge) (words : List ℕ) (entries : List Entry) (last : ℕ) (acts : List Act) → IsSoundList last entries →
+    Scrubs c words entries acts →
     IsBeingMended (looked_at words entries) c (changed_by (steps_of acts) c)
 done_being_mended c words entries last acts order scrubs =
     subst (λ (o : Option Cartridge). IsSomeAnd o (IsBeingMended (looked_at words entries) c)) (effects-some (steps_of acts) c)

@@ -29,7 +29,8 @@ use Rattle.scrub_plan.proofs.Turns.{steps_whole}
 
 -- ---- one view
 
-written_once : (old : SectorView) (bytes : List ℕ) → IsUnreadable old → (written_view bytes old ≡ old) ⊎ ((old ≡ Lost) × (written_view bytes old ≡ Holds bytes))
+written_once : (old : SectorView) (bytes : List ℕ) → IsUnreadable old →
+    (written_view bytes old ≡ old) ⊎ ((old ≡ Lost) × (written_view bytes old ≡ Holds bytes))
 written_once Blank bytes unread = inl refl
 written_once Defect bytes unread = inl refl
 written_once Lost bytes unread = inr (refl, refl)
@@ -103,7 +104,8 @@ worn_more looked c d s i bytes named way =
 
 -- ---- steps
 
-step_more : (looked : List Looked) (c d : Cartridge) (s : Step) → IsWrite (IsNamed c looked) s → IsBeingMended looked c d → IsBeingMended looked c (changed s d)
+step_more : (looked : List Looked) (c d : Cartridge) (s : Step) → IsWrite (IsNamed c looked) s → IsBeingMended looked c d →
+    IsBeingMended looked c (changed s d)
 step_more looked c d (WriteSector segment sector bytes) is way = written_more looked c d segment sector bytes is way
 step_more looked c d (FormatSegment segment) is way = absurd is
 step_more looked c d SetReferenced is way = absurd is
@@ -112,7 +114,8 @@ step_more looked c d (Renew n) is way = absurd is
 step_more looked c d (Wear segment sector) is way = absurd is
 step_more looked c d (Spoil segment sector) is way = absurd is
 
-step_stopped : (looked : List Looked) (c d : Cartridge) (s : Step) (left : Option Cartridge) → IsWrite (IsNamed c looked) s → IsBeingMended looked c d →
+step_stopped : (looked : List Looked) (c d : Cartridge) (s : Step) (left : Option Cartridge) → IsWrite (IsNamed c looked) s →
+    IsBeingMended looked c d →
     Halfway s (Some d) left → IsSomeAnd left (IsBeingMended looked c)
 step_stopped looked c d (WriteSector segment sector bytes) left is way half =
     some_and (IsBeingMended looked c) (changed (Wear segment sector) d) left (worn_more looked c d segment sector bytes is way) half
@@ -123,7 +126,8 @@ step_stopped looked c d (Renew n) left is way half = absurd is
 step_stopped looked c d (Wear segment sector) left is way half = absurd is
 step_stopped looked c d (Spoil segment sector) left is way half = absurd is
 
-steps_stopped : (looked : List Looked) (c d : Cartridge) (ss : List Step) (left : Option Cartridge) → AreWrites (IsNamed c looked) ss → IsBeingMended looked c d →
+steps_stopped : (looked : List Looked) (c d : Cartridge) (ss : List Step) (left : Option Cartridge) → AreWrites (IsNamed c looked) ss →
+    IsBeingMended looked c d →
     Torn ss (Some d) left → IsSomeAnd left (IsBeingMended looked c)
 steps_stopped looked c d [] left are way is = some_and (IsBeingMended looked c) d left way is
 steps_stopped looked c d (s ∷ ss) left are way (inl is) = some_and (IsBeingMended looked c) d left way is
@@ -157,7 +161,8 @@ writes_more : (of : ℕ → ℕ → List ℕ → Type 0) (xs ys : List Step) →
 writes_more of [] ys front rear = rear
 writes_more of (x ∷ xs) ys front rear = (front.0, writes_more of xs ys front.1 rear)
 
-all_named : (looked : List Looked) (c : Cartridge) (ls : List Looked) (ss : List Saying) → ((l : Looked) → Contains ls l → Contains looked l) → SayAtOnce c ls ss →
+all_named : (looked : List Looked) (c : Cartridge) (ls : List Looked) (ss : List Saying) →
+    ((l : Looked) → Contains ls l → Contains looked l) → SayAtOnce c ls ss →
     AreWrites (IsNamed c looked) (steps_of (acts_at_once c ls ss))
 all_named looked c [] ss within say = tt
 all_named looked c (l ∷ ls) [] within say = tt
@@ -188,7 +193,8 @@ stopped_scrub c words entries last acts left order scrubs torn =
 
 -- ---- what is left is a cartridge
 
-looking_whole : (ls : List Looked) (ss : List Saying) (c : Cartridge) → SayInTurn c ls ss → AreWrites IsOfSector (steps_of (looking_acts c ls ss))
+looking_whole : (ls : List Looked) (ss : List Saying) (c : Cartridge) → SayInTurn c ls ss →
+    AreWrites IsOfSector (steps_of (looking_acts c ls ss))
 looking_whole [] ss c say = tt
 looking_whole (l ∷ ls) [] c say = tt
 looking_whole (l ∷ ls) (s ∷ ss) c say =

@@ -40,7 +40,8 @@ stopped_scrub_stands c plain acts left stood scrubs torn =
 
 -- ---- header copies
 
-clean_copy : (looked : List Looked) (c d : Cartridge) (copy : ℕ) (area : List (List ℕ)) → copy < 2 → Rise looked → Contains looked (whole_segment copy) →
+clean_copy : (looked : List Looked) (c d : Cartridge) (copy : ℕ) (area : List (List ℕ)) → copy < 2 → Rise looked →
+    Contains looked (whole_segment copy) →
     IsBeingMended looked c d → IsArea area → IsCleanCopy c copy area → IsCleanCopy d copy area
 clean_copy looked c d copy area small rise among way is_area (inl written) =
     inl (written_kept looked c d (whole_segment copy) area rise among is_area.sectors way written)
@@ -72,11 +73,13 @@ stopped_scrub_is_clean c plain acts left clean scrubs torn =
 
 -- ---- mounting
 
-mounted_order : (c : Cartridge) (header : Header) (words : List ℕ) (area : List (List ℕ)) (entries : List Entry) → IsMounted c header words area entries →
+mounted_order : (c : Cartridge) (header : Header) (words : List ℕ) (area : List (List ℕ)) (entries : List Entry) →
+    IsMounted c header words area entries →
     IsSoundList (last_segment c) entries
 mounted_order c header words area entries mounted = faultless_is_sound area (last_segment c) entries mounted.sound mounted.shown
 
-mending_mounts : (c d : Cartridge) (header : Header) (words : List ℕ) (area : List (List ℕ)) (entries : List Entry) → Rise (looked_at words entries) →
+mending_mounts : (c d : Cartridge) (header : Header) (words : List ℕ) (area : List (List ℕ)) (entries : List Entry) →
+    Rise (looked_at words entries) →
     IsMounted c header words area entries → IsBeingMended (looked_at words entries) c d → IsMounted d header words area entries
 mending_mounts c d header words area entries rise mounted way =
     let looked : List Looked = looked_at words entries in

@@ -33,7 +33,8 @@ range_more a (suc n) =
     let next : a + 1 + n ≡ a + suc n = omega arith in
     ap (λ (l : List ℕ). a ∷ l) (range_more (a + 1) n) ∙ ap (λ (k : ℕ). a ∷ (range_with_len (a + 1) n ++ k ∷ [])) next
 
-filter_more : (test : ℕ → Bool) (n : ℕ) → filter test (range_with_len 0 (suc n)) ≡ filter test (range_with_len 0 n) ++ (if test n then n ∷ [] else [])
+filter_more : (test : ℕ → Bool) (n : ℕ) →
+    filter test (range_with_len 0 (suc n)) ≡ filter test (range_with_len 0 n) ++ (if test n then n ∷ [] else [])
 filter_more test n =
     ap (filter test) (range_more 0 n ∙ ap (λ (k : ℕ). range_with_len 0 n ++ k ∷ []) (zero-add n))
     ∙ filter-append test (range_with_len 0 n) (n ∷ [])
@@ -55,7 +56,8 @@ writes_of_map : (segment : ℕ) (f : ℕ → ℕ) (g : ℕ → List ℕ) (places
 writes_of_map segment f g [] = refl
 writes_of_map segment f g (p ∷ places) = ap (λ (steps : List Step). WriteSector segment (f p) (g p) ∷ steps) (writes_of_map segment f g places)
 
-length-writes_of_map : (segment : ℕ) (f : ℕ → ℕ) (g : ℕ → List ℕ) (places : List ℕ) → length (writes_of segment (map f places) (map g places)) ≡ length places
+length-writes_of_map : (segment : ℕ) (f : ℕ → ℕ) (g : ℕ → List ℕ) (places : List ℕ) →
+    length (writes_of segment (map f places) (map g places)) ≡ length places
 length-writes_of_map segment f g [] = refl
 length-writes_of_map segment f g (p ∷ places) = ap suc (length-writes_of_map segment f g places)
 
@@ -63,7 +65,8 @@ pub count_of_named : CountOfNamed
 count_of_named segment usable places sectors =
     length-writes_of_map segment (λ place. slice_index (usable_places usable) place) (λ place. sector_at sectors place) (sectors_of places)
 
-by_test : (b c : Bool) (w : ℕ → Step) (from : ℕ) (rest : List ℕ) (first : Step) (more : List Step) → b ≡ c → w from ≡ first → map w rest ≡ more →
+by_test : (b c : Bool) (w : ℕ → Step) (from : ℕ) (rest : List ℕ) (first : Step) (more : List Step) → b ≡ c → w from ≡ first →
+    map w rest ≡ more →
     map w (cond b (from ∷ rest) rest) ≡ cond c (first ∷ more) more
 by_test true true w from rest first more same here there = ap (λ (s : Step). s ∷ map w rest) here ∙ ap (λ (ss : List Step). first ∷ ss) there
 by_test true false w from rest first more same here there = absurd (cc)
@@ -89,7 +92,8 @@ later {c = c} {segment = segment} {from = from} {all = all} {sectors = sectors} 
       tells = λ k h. ap test (sym (next k)) ∙ follows.tells (suc k) (omega arith);
     }
 
-writes_follow : (c : Cartridge) (segment from : ℕ) (all : List ℕ) (sectors : List (List ℕ)) (test : ℕ → Bool) (us : List ℕ) (block : List (List ℕ)) →
+writes_follow : (c : Cartridge) (segment from : ℕ) (all : List ℕ) (sectors : List (List ℕ)) (test : ℕ → Bool) (us : List ℕ)
+    (block : List (List ℕ)) →
     Follows c segment from all sectors test us block →
     map (write_at segment all sectors) (filter test (range_with_len from (length us))) ≡ mending_writes c segment us block
 writes_follow c segment from all sectors test [] block follows = refl
@@ -143,7 +147,8 @@ places_below c l lost names =
     let whole : 32 ≡ n + (32 - n) = omega arith in
     ap (lost_places lost) whole ∙ lost_places-above lost n (32 - n) (λ place is. named_within c l lost place names is)
 
-mending_named : (c : Cartridge) (l : Looked) (lost : ℕ) (sectors block : List (List ℕ)) → Names (cells_at c l) lost → usable_count l.mask ≤ length sectors →
+mending_named : (c : Cartridge) (l : Looked) (lost : ℕ) (sectors block : List (List ℕ)) → Names (cells_at c l) lost →
+    usable_count l.mask ≤ length sectors →
     take (usable_count l.mask) sectors ≡ block → mending_writes c l.segment (usable_places l.mask) block ≡ named_writes l.segment l.mask lost sectors
 mending_named c l lost sectors block names room are =
     let n : ℕ = usable_count l.mask in

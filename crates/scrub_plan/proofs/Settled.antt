@@ -53,7 +53,8 @@ settled_written c area is_area known = record {
       ∙ ap (λ (b : List ℕ). Some b) (sym (unwrap_or-slice_get (with_parity area) i []) ∙ sym same);
 }
 
-few_unreadable : (c : Cartridge) → (unreadable_data (table_cells c) ≡ 0) ⊎ (unreadable_count (table_cells c) ≤ 3) → unreadable_count (table_cells c) ≤ 3
+few_unreadable : (c : Cartridge) → (unreadable_data (table_cells c) ≡ 0) ⊎ (unreadable_count (table_cells c) ≤ 3) →
+    unreadable_count (table_cells c) ≤ 3
 few_unreadable c (inl none) =
     let cells : List SectorView = table_cells c in
     let parts : unreadable_count cells ≡ unreadable_count (take 29 cells) + unreadable_count (drop 29 cells) =
@@ -70,7 +71,8 @@ settled_table_reads c area is_area known =
 
 -- ---- it stays settled
 
-mending_settled : (c d : Cartridge) (area : List (List ℕ)) (looked : List Looked) → LooksInFront looked → IsBeingMended looked c d → IsSettledFor c area → IsSettledFor d area
+mending_settled : (c d : Cartridge) (area : List (List ℕ)) (looked : List Looked) → LooksInFront looked → IsBeingMended looked c d →
+    IsSettledFor c area → IsSettledFor d area
 mending_settled c d area looked front way known = record {
   table = table_kept looked c d area front way known.table;
   live = λ i h live.

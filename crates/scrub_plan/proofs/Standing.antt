@@ -38,7 +38,8 @@ cell_at c segment usable k h =
     slice_get-map (view_at c segment) (usable_places usable) k
     ∙ ap (option_map (view_at c segment)) (slice_get-get_or (usable_places usable) k 0 h)
 
-same_place : (mask j k : ℕ) → j < usable_count mask → k < usable_count mask → get_or (usable_places mask) j 0 ≡ get_or (usable_places mask) k 0 → j ≡ k
+same_place : (mask j k : ℕ) → j < usable_count mask → k < usable_count mask →
+    get_or (usable_places mask) j 0 ≡ get_or (usable_places mask) k 0 → j ≡ k
 same_place mask j k below within same =
     elim (cases_eq j k) [
       | inl is ↦ is
@@ -49,7 +50,8 @@ same_place mask j k below within same =
     ]
 
 -- the data that cells say are those that were written
-same_data : (cells : List SectorView) (xs ds : List (List ℕ)) → length cells ≤ 32 → All IsSector xs → Written cells xs → Says cells (Data ds) → ds ≡ xs
+same_data : (cells : List SectorView) (xs ds : List (List ℕ)) → length cells ≤ 32 → All IsSector xs → Written cells xs →
+    Says cells (Data ds) → ds ≡ xs
 same_data cells xs ds few are written says =
     let has = says.1 in
     let least : 4 ≤ length has.block = (block_count has.block has.code).0 in
@@ -88,7 +90,8 @@ few_cells : (c : Cartridge) (l : Looked) → length (cells_at c l) ≤ 32
 few_cells c l = omega (arith, count_of_cells c l.segment l.mask, count_below l.mask 32)
 
 -- one that was mended holds its sector of what was written
-mended_right : (c : Cartridge) (l : Looked) (xs : List (List ℕ)) (k : ℕ) (bytes : List ℕ) → All IsSector xs → Written (cells_at c l) xs → k < usable_count l.mask →
+mended_right : (c : Cartridge) (l : Looked) (xs : List (List ℕ)) (k : ℕ) (bytes : List ℕ) → All IsSector xs → Written (cells_at c l) xs →
+    k < usable_count l.mask →
     MendedIn c l (get_or (usable_places l.mask) k 0) bytes → slice_get (with_parity xs) k ≡ Some bytes
 mended_right c l xs k bytes are written h mended =
     let ds : List (List ℕ) = mended.sectors in
@@ -100,7 +103,8 @@ mended_right c l xs k bytes are written h mended =
     ∙ ap (λ (j : ℕ). get_or (with_parity ds) j []) (sym place) ∙ mended.block)
 
 -- a segment that was written is still so
-pub written_kept : (looked : List Looked) (c d : Cartridge) (l : Looked) (xs : List (List ℕ)) → Rise looked → Contains looked l → All IsSector xs →
+pub written_kept : (looked : List Looked) (c d : Cartridge) (l : Looked) (xs : List (List ℕ)) → Rise looked → Contains looked l →
+    All IsSector xs →
     IsBeingMended looked c d → Written (cells_at c l) xs → Written (cells_at d l) xs
 written_kept looked c d l xs rise among are way written = record {
   size = written.size ∙ count_of_cells c l.segment l.mask ∙ sym (count_of_cells d l.segment l.mask);
@@ -145,7 +149,8 @@ fewer_unreadable looked c d l way =
     ∙ ap (λ (v : SectorView). Some v) (readable_stays looked c d l.segment place held (usable_small l.mask k below) way view))
 
 -- what a segment says is said still
-pub said_kept : (looked : List Looked) (c d : Cartridge) (l : Looked) (ds : List (List ℕ)) → Rise looked → Contains looked l → IsBeingMended looked c d →
+pub said_kept : (looked : List Looked) (c d : Cartridge) (l : Looked) (ds : List (List ℕ)) → Rise looked → Contains looked l →
+    IsBeingMended looked c d →
     Says (cells_at c l) (Data ds) → Written (cells_at d l) ds
 said_kept looked c d l ds rise among way says =
     written_kept looked c d l ds rise among (cartridge_sectors ds (said_are_sectors (cells_at c l) ds says).each) way
@@ -168,13 +173,15 @@ copy_reads looked c d copy area rise among way copy_is =
     written_reads d copy area (said_area c copy area copy_is.says) copy_is.signature
     (said_kept looked c d (whole_segment copy) area rise among way copy_is.says) (omega arith)
 
-pub copy_same : (looked : List Looked) (c d : Cartridge) (copy : ℕ) → copy < 2 → Rise looked → Contains looked (whole_segment copy) → IsBeingMended looked c d →
+pub copy_same : (looked : List Looked) (c d : Cartridge) (copy : ℕ) → copy < 2 → Rise looked → Contains looked (whole_segment copy) →
+    IsBeingMended looked c d →
     CopyDoesNotRead c copy → copy_cells d copy ≡ copy_cells c copy
 copy_same looked c d copy small rise among way none =
     same_cells c d copy whole_mask (unread_kept looked c d (whole_segment copy) rise among way
     (λ ds says can. let is = (copy_is_looked_at c copy (Data ds) small says).0 can in none is.0 is.1))
 
-copy_none : (looked : List Looked) (c d : Cartridge) (copy : ℕ) → copy < 2 → Rise looked → Contains looked (whole_segment copy) → IsBeingMended looked c d →
+copy_none : (looked : List Looked) (c d : Cartridge) (copy : ℕ) → copy < 2 → Rise looked → Contains looked (whole_segment copy) →
+    IsBeingMended looked c d →
     CopyDoesNotRead c copy → CopyDoesNotRead d copy
 copy_none looked c d copy small rise among way none area copy_is =
     none area (record {
@@ -201,19 +208,22 @@ looks_in_front words entries rise =
           (contains_more (whole_segment 1) (whole_segment 2) (whole_segment 2 ∷ rest) (contains_first (whole_segment 2) rest));
     }
 
-pub in_force : (looked : List Looked) (c d : Cartridge) (area : List (List ℕ)) → LooksInFront looked → IsBeingMended looked c d → IsInForce c area → IsInForce d area
+pub in_force : (looked : List Looked) (c d : Cartridge) (area : List (List ℕ)) → LooksInFront looked → IsBeingMended looked c d →
+    IsInForce c area → IsInForce d area
 in_force looked c d area front way (inl first) = inl (copy_reads looked c d 0 area front.rise front.first way first)
 in_force looked c d area front way (inr second) = inr (
   copy_none looked c d 0 (omega arith) front.rise front.first way second.0,
   copy_reads looked c d 1 area front.rise front.second way second.1,
 )
 
-pub zero_kept : (looked : List Looked) (c d : Cartridge) (copy : ℕ) → copy < 2 → Rise looked → Contains looked (whole_segment copy) → IsBeingMended looked c d →
+pub zero_kept : (looked : List Looked) (c d : Cartridge) (copy : ℕ) → copy < 2 → Rise looked → Contains looked (whole_segment copy) →
+    IsBeingMended looked c d →
     Zero (copy_cells c copy) → Zero (copy_cells d copy)
 zero_kept looked c d copy small rise among way zeros =
     subst (λ (cells : List SectorView). Zero cells) (sym (copy_same looked c d copy small rise among way (zero_does_not_read c copy zeros))) zeros
 
-copies_are : (looked : List Looked) (c d : Cartridge) (area : List (List ℕ)) → LooksInFront looked → IsBeingMended looked c d → IsArea area → CopiesAre c area → CopiesAre d area
+copies_are : (looked : List Looked) (c d : Cartridge) (area : List (List ℕ)) → LooksInFront looked → IsBeingMended looked c d →
+    IsArea area → CopiesAre c area → CopiesAre d area
 copies_are looked c d area front way is_area (inl written) = inl (written_kept looked c d (whole_segment 0) area front.rise front.first is_area.sectors way written)
 copies_are looked c d area front way is_area (inr other) = inr (
   zero_kept looked c d 0 (omega arith) front.rise front.first way other.0,
@@ -222,7 +232,8 @@ copies_are looked c d area front way is_area (inr other) = inr (
 
 -- ---- the table
 
-reads_kept : (looked : List Looked) (c d : Cartridge) (area : List (List ℕ)) → IsBeingMended looked c d → ReadsAll (table_cells c) area → ReadsAll (table_cells d) area
+reads_kept : (looked : List Looked) (c d : Cartridge) (area : List (List ℕ)) → IsBeingMended looked c d → ReadsAll (table_cells c) area →
+    ReadsAll (table_cells d) area
 reads_kept looked c d area way all = record {
   size = all.size;
   each = λ i h.
@@ -231,7 +242,8 @@ reads_kept looked c d area way all = record {
       (here.0, view_held d 2 i here.0 held.within (readable_stays looked c d 2 i here.0 held.within way held.view), here.2);
 }
 
-pub table_kept : (looked : List Looked) (c d : Cartridge) (area : List (List ℕ)) → LooksInFront looked → IsBeingMended looked c d → TableIs c area → TableIs d area
+pub table_kept : (looked : List Looked) (c d : Cartridge) (area : List (List ℕ)) → LooksInFront looked → IsBeingMended looked c d →
+    TableIs c area → TableIs d area
 table_kept looked c d area front way (inl all) = inl (reads_kept looked c d area way all)
 table_kept looked c d area front way (inr by_code) =
     let says : Says (table_cells c) (Data area) = code_says (table_cells c) (Data area) by_code in
@@ -239,7 +251,8 @@ table_kept looked c d area front way (inr by_code) =
     let fewer = fewer_unreadable looked c d (whole_segment 2) way in
     written_table d area (said_area c 2 area says) (said_kept looked c d (whole_segment 2) area front.rise front.table way says) (inr (omega arith))
 
-table_stands : (looked : List Looked) (c d : Cartridge) (area : List (List ℕ)) → LooksInFront looked → IsBeingMended looked c d → IsArea area →
+table_stands : (looked : List Looked) (c d : Cartridge) (area : List (List ℕ)) → LooksInFront looked → IsBeingMended looked c d →
+    IsArea area →
     Written (table_cells c) area ⊎ ReadsAll (table_cells c) area → Written (table_cells d) area ⊎ ReadsAll (table_cells d) area
 table_stands looked c d area front way is_area (inl written) = inl (written_kept looked c d (whole_segment 2) area front.rise front.table is_area.sectors way written)
 table_stands looked c d area front way is_area (inr all) = inr (reads_kept looked c d area way all)
@@ -249,13 +262,15 @@ table_stands looked c d area front way is_area (inr all) = inr (reads_kept looke
 abbrev by_map : (words : List ℕ) → (segment : ℕ) → Looked
 by_map words segment = record { segment = segment; mask = mask_at words segment }
 
-segments_among : (P : Looked → Type 0) (words ss : List ℕ) → ((l : Looked) → Contains (looked_segments words ss) l → P l) → All (λ s. P (by_map words s)) ss
+segments_among : (P : Looked → Type 0) (words ss : List ℕ) → ((l : Looked) → Contains (looked_segments words ss) l → P l) →
+    All (λ s. P (by_map words s)) ss
 segments_among P words [] within = All-nil (λ (s : ℕ). P (by_map words s))
 segments_among P words (s ∷ ss) within =
     All-cons (λ (t : ℕ). P (by_map words t)) s ss (within (by_map words s) (contains_first (by_map words s) (looked_segments words ss)))
     (segments_among P words ss (λ l among. within l (contains_more (by_map words s) l (looked_segments words ss) among)))
 
-parts_kept : (looked : List Looked) (c d : Cartridge) (words segments : List ℕ) (area : List (List ℕ)) → Rise looked → IsBeingMended looked c d →
+parts_kept : (looked : List Looked) (c d : Cartridge) (words segments : List ℕ) (area : List (List ℕ)) → Rise looked →
+    IsBeingMended looked c d →
     All IsSector area → All (λ s. Contains looked (by_map words s)) segments →
     All (PartStands c words) (parts_of words segments area) → All (PartStands d words) (parts_of words segments area)
 parts_kept looked c d words [] area rise way are among stand = All-nil (PartStands d words)

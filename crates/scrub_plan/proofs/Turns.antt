@@ -46,7 +46,8 @@ scrubs_is_function c words entries a b one other =
 
 -- ---- some list of acts
 
-either_writes : (of : ℕ → ℕ → List ℕ → Type 0) (b : Bool) (xs ys : List Step) → AreWrites of xs → AreWrites of ys → AreWrites of (cond b xs ys)
+either_writes : (of : ℕ → ℕ → List ℕ → Type 0) (b : Bool) (xs ys : List Step) → AreWrites of xs → AreWrites of ys →
+    AreWrites of (cond b xs ys)
 either_writes of true xs ys here there = here
 either_writes of false xs ys here there = there
 
@@ -59,7 +60,8 @@ mending_whole c segment (place ∷ places) (bytes ∷ sectors) are =
     either_writes IsOfSector (is_unreadable (view_at c segment place)) (WriteSector segment place bytes ∷ mending_writes c segment places sectors)
     (mending_writes c segment places sectors) (All-head IsSector bytes sectors are, rest) rest
 
-pub block_sectors : (c : Cartridge) (l : Looked) (sectors : List (List ℕ)) → Says (cells_at c l) (Data sectors) → All IsSector (with_parity sectors)
+pub block_sectors : (c : Cartridge) (l : Looked) (sectors : List (List ℕ)) → Says (cells_at c l) (Data sectors) →
+    All IsSector (with_parity sectors)
 block_sectors c l sectors says =
     let are = (said_are_sectors (cells_at c l) sectors says).each in
     All-append IsSector sectors (parity_sectors sectors) (cartridge_sectors sectors are)
