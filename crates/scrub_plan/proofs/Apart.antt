@@ -2,10 +2,13 @@
 use Rattle.std.proofs.Common.{◌≡◌, ◌⊎◌, ℕ, zero, suc, ◌+◌, ◌-◌, ◌<◌, ◌≤◌, inl, inr, List, [], ◌∷◌, ◌++◌, All, Contains, refl, sym, ap, ◌∙◌, arith, nat_le}
 use Rattle.std.specs.List.{range_with_len}
 use Rattle.std.proofs.lemmas.List.Elements.{All-nil, All-cons, All-head, All-tail, All-append, All-weaker, All-filter, All-contains}
-use Rattle.cartridge_spec.specs.Shape.{mask_at, usable_count}
+use Rattle.cartridge_spec.specs.Shape.{Carries, mask_at, usable_count}
+use Rattle.cartridge_spec.specs.Says.{whole_mask}
+use Rattle.cartridge_spec.proofs.Segments.{count_of_whole}
+use Rattle.scrub_plan.specs.Laws.{LookedCarry}
 use Rattle.cartridge_spec.specs.Table.{Entry, LieBehind, IsSoundList}
 use Rattle.cartridge_spec.specs.Volumes.{carrying, carrying_segments}
-use Rattle.append_plan.proofs.Segments.{IsRising, carrying_from, carrying_rise}
+use Rattle.append_plan.proofs.Segments.{IsRising, carrying_carry, carrying_from, carrying_rise}
 use Rattle.scrub_plan.specs.Scrubbing.{Looked, whole_segment, looked_segments, looked_volumes, looked_at}
 
 -- ---- lists
@@ -114,3 +117,35 @@ one_looked (l ∷ ls) a b rise first other same =
         | inr b_in ↦ one_looked ls a b rise.1 a_in b_in same
       ]
     ]
+
+-- ---- they carry data, and lie on the cartridge
+
+abbrev CarriesTo : (last : ℕ) → Looked → Type 0
+CarriesTo last l = Carries l.mask × (l.segment ≤ last)
+
+segments_carry : (last : ℕ) (words ss : List ℕ) → All (λ s. Carries (mask_at words s)) ss → All (λ s. s ≤ last) ss → All (CarriesTo last) (looked_segments words ss)
+segments_carry last words [] carry within = All-nil (CarriesTo last)
+segments_carry last words (s ∷ ss) carry within =
+    All-cons (CarriesTo last) (record { segment = s; mask = mask_at words s }) (looked_segments words ss)
+    (All-head (λ (t : ℕ). Carries (mask_at words t)) s ss carry, All-head (λ (t : ℕ). t ≤ last) s ss within)
+    (segments_carry last words ss (All-tail (λ (t : ℕ). Carries (mask_at words t)) s ss carry) (All-tail (λ (t : ℕ). t ≤ last) s ss within))
+
+volumes_carry : (words : List ℕ) (before last : ℕ) (entries : List Entry) → LieBehind before last entries → All (CarriesTo last) (looked_volumes words entries)
+volumes_carry words before last [] order = All-nil (CarriesTo last)
+volumes_carry words before last (e ∷ es) order =
+    let segments : List ℕ = carrying_segments words e in
+    let ends : e.end ≤ last = order.2 in
+    All-append (CarriesTo last) (looked_segments words segments) (looked_volumes words es)
+    (segments_carry last words segments (carrying_carry words e.start e.end)
+    (All-weaker (λ (s : ℕ). s ≤ e.end) (λ (s : ℕ). s ≤ last) (λ s (h : s ≤ e.end). omega arith) segments (carrying_to words e.start e.end)))
+    (volumes_carry words e.end last es order.3)
+
+whole_carries : (last segment : ℕ) → segment ≤ last → CarriesTo last (whole_segment segment)
+whole_carries last segment within = let count : usable_count whole_mask ≡ 32 = count_of_whole in (omega arith, within)
+
+pub looked_carry : LookedCarry
+looked_carry words entries last order long =
+    All-cons (CarriesTo last) (whole_segment 0) (whole_segment 1 ∷ whole_segment 2 ∷ looked_volumes words entries) (whole_carries last 0 (omega arith))
+    (All-cons (CarriesTo last) (whole_segment 1) (whole_segment 2 ∷ looked_volumes words entries) (whole_carries last 1 (omega arith))
+    (All-cons (CarriesTo last) (whole_segment 2) (looked_volumes words entries) (whole_carries last 2 (omega arith))
+    (volumes_carry words 2 last entries order)))

@@ -10,7 +10,7 @@ use Rattle.cartridge_spec.specs.Mounting.{Mounted, Mounts}
 use Rattle.cartridge_spec.specs.Says.{Saying, Data, Says, data_of}
 use Rattle.cartridge_spec.specs.Table.{Entry, IsSoundList}
 use Rattle.cartridge_spec.specs.Segment.{IsLive, IsUnreadable}
-use Rattle.cartridge_spec.specs.Shape.{sectors_of, usable_count}
+use Rattle.cartridge_spec.specs.Shape.{Carries, sectors_of, usable_count}
 use Rattle.cartridge_spec.specs.Volumes.{Plain, Stands, entries_of}
 use Rattle.cartridge_spec.specs.Writes.{changed_by, named_writes}
 use Rattle.gf256_qic.specs.Code.{IsCodeBlock}
@@ -31,6 +31,12 @@ ScrubsIsFunction =
 abbrev pub ScrubsAlways : Type 0
 ScrubsAlways =
     (c : Cartridge) (words : List ℕ) (entries : List Entry) → IsCartridge c → (acts : List Act) × Scrubs c words entries acts
+
+-- each segment that is looked at carries data, and lies on the cartridge
+abbrev pub LookedCarry : Type 0
+LookedCarry =
+    (words : List ℕ) (entries : List Entry) (last : ℕ) → IsSoundList last entries → 2 ≤ last →
+    All (λ l. Carries l.mask × (l.segment ≤ last)) (looked_at words entries)
 
 -- the table's segment of a settled cartridge says the table's data, so it reads
 abbrev pub SettledTableReads : Type 0

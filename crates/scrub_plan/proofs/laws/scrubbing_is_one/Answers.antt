@@ -1,3 +1,4 @@
+use Rattle.scrub_plan.proofs.Apart.{looked_carry}
 use Rattle.scrub_plan.proofs.AtOnce.{scrubs_at_once}
 use Rattle.scrub_plan.proofs.Turns.{scrubs_is_function, scrubs_always}
 use Rattle.scrub_plan.proofs.laws.scrubbing_is_one.Goals as goal
@@ -10,3 +11,6 @@ returns-clause-always c = scrubs_always
 
 pub returns-clause-at_once : goal.returns-clause-at_once
 returns-clause-at_once c = scrubs_at_once
+
+pub returns-clause-carry : goal.returns-clause-carry
+returns-clause-carry c = looked_carry
