@@ -1,3 +1,4 @@
+pub mod Append
 pub mod Lines
 pub mod OneLoss
 pub mod Parity

@@ -1,12 +1,18 @@
 -- What the further reading of the table's segment gives, as facts.
-use Rattle.std.specs.Prelude.{◌≡◌, ◌≢◌, ◌⊎◌, ℕ, ◌<◌, ◌≤◌, List, length, slice_index, All}
+use Rattle.std.specs.Prelude.{◌≡◌, ◌≢◌, ◌⊎◌, ℕ, ◌<◌, ◌≤◌, List, length, slice_index, All, Option, Some, IsSomeAnd}
 use Rattle.qic_base.specs.declared.tape.SectorView.{SectorView}
 use Rattle.qic_base.specs.Cartridge.{Cartridge, IsView}
+use Rattle.qic_base.specs.Stop.{Torn}
 use Rattle.gf256_qic.specs.Code.{IsCodeBlock}
 use Rattle.cartridge_spec.specs.Segment.{sector_at}
 use Rattle.cartridge_spec.specs.HeaderAndTable.{IsArea}
 use Rattle.cartridge_spec.specs.Says.{Mismatch, TableSaying, ByCode, TableSays, with_parity}
+use Rattle.cartridge_spec.specs.Slots.{slot_sector}
+use Rattle.cartridge_spec.specs.Volumes.{Plain}
+use Rattle.cartridge_spec.specs.Writes.{changed_by}
 use Rattle.append_plan.specs.Between.{HoldsPart, IsWhole, IsBegun, IsTurned, Between}
+use Rattle.append_plan.specs.Laws.{new_table, volume_steps, list_steps, IsReady}
+use Rattle.append_plan.specs.Settled.{MayAppendTo}
 use Rattle.table_reading.specs.FurtherSets.{FurtherSays, FurtherIs}
 use Rattle.table_reading.specs.OneLoss.{DifferInOne, IsLastUsed, LosesOne}
 
@@ -85,3 +91,21 @@ abbrev pub OneLossReadsEither : Type 0
 OneLossReadsEither =
     (c d : Cartridge) (old new : List (List ℕ)) (changed lost : ℕ) → DifferInOne old new changed → IsLastUsed new changed →
     Between c old new changed → LosesOne c d lost → FurtherIs d old ⊎ FurtherIs d new
+
+-- ---- an append
+
+-- the table before it and the one behind it differ in the sector of the new slot alone, and that is the last one with a used slot
+abbrev pub AppendChangesOneSector : Type 0
+AppendChangesOneSector =
+    (c : Cartridge) (plain : Plain) (name : List ℕ) (date : ℕ) (bytes : List ℕ) → MayAppendTo c plain name date bytes →
+    DifferInOne plain.table_area (new_table c plain name date bytes) (slot_sector (length plain.volumes))
+    × IsLastUsed (new_table c plain name date bytes) (slot_sector (length plain.volumes))
+
+-- where it was stopped among the writes of the table, and one sector more of the table's segment is lost, one of the two is read
+abbrev pub StoppedAppendReadsEither : Type 0
+StoppedAppendReadsEither =
+    (c d : Cartridge) (plain : Plain) (name : List ℕ) (date : ℕ) (bytes : List ℕ) (left : Option Cartridge) →
+    IsReady c plain name date bytes → d ≡ changed_by (volume_steps c plain name date bytes) c →
+    Torn (list_steps c plain name date bytes) (Some d) left →
+    IsSomeAnd left (λ e. (f : Cartridge) (lost : ℕ) → LosesOne e f lost →
+    FurtherIs f plain.table_area ⊎ FurtherIs f (new_table c plain name date bytes))

@@ -1,7 +1,7 @@
 //! What the further reading of the table's segment gives. Each law is the contract of a function that does nothing, so that
 //! other crates can rest on it; their proofs import the lemmas of this crate's `proofs`.
 
-ghost use Rattle.table_reading.specs.Laws.{FurtherSaysIsFunction, FurtherSaysAlways, FurtherSaysTheSame, ParityBytesDiffer, ParityDiffers, NearBlockIsTables, BeforeReadsOldStill, LostParityReadsNew, LostDataReadsOld, LostDataReadsNew, OneLossReadsEither};
+ghost use Rattle.table_reading.specs.Laws.{FurtherSaysIsFunction, FurtherSaysAlways, FurtherSaysTheSame, ParityBytesDiffer, ParityDiffers, NearBlockIsTables, BeforeReadsOldStill, LostParityReadsNew, LostDataReadsOld, LostDataReadsNew, OneLossReadsEither, AppendChangesOneSector, StoppedAppendReadsEither};
 
 /// The further reading of the table's segment says at most one thing.
 pub fn further_says_is_function()
@@ -44,4 +44,15 @@ pub fn one_loss_behind_the_turn()
 /// In each state between the two data one of them is read.
 pub fn one_loss()
     ensures { OneLossReadsEither }
+{}
+
+/// An append changes one sector of the table's data, and in the new ones it is the last one with a used slot.
+pub fn an_append_changes_one_sector()
+    ensures { AppendChangesOneSector }
+{}
+
+/// So an append that was stopped among its writes of the table is read as the table before it or the one behind it, where one
+/// sector more of the table's segment is lost.
+pub fn one_loss_of_an_append()
+    ensures { StoppedAppendReadsEither }
 {}
