@@ -7,7 +7,7 @@ use Rattle.qic_base.specs.declared.tape.SectorView.{SectorView}
 use Rattle.qic_base.specs.declared.tape.SectorView.TheVariants.{Blank, Defect, Lost, Holds}
 use Rattle.qic_base.specs.Cartridge.{Cartridge, view_at}
 use Rattle.cartridge_spec.specs.Segment.{sector_at, is_unreadable, IsUnreadable}
-use Rattle.cartridge_spec.specs.Says.{unreadable_count, whole_mask, with_parity}
+use Rattle.cartridge_spec.specs.Says.{unreadable_count, whole_mask, with_parity, AsRead, ByCode, Data}
 use Rattle.cartridge_spec.specs.HeaderAndTable.{IsArea, table_cells}
 use Rattle.format_plan.proofs.Standing.{same_cells}
 use Rattle.mount_laws.proofs.Standing.{written_table}
@@ -15,7 +15,6 @@ use Rattle.mount_laws.proofs.Stops.{block_written}
 use Rattle.append_plan.specs.Between.{HoldsPart}
 use Rattle.append_plan.proofs.Between.{length-block, data_read}
 use Rattle.table_reading.specs.FurtherSets.{FurtherIs, FurtherSays, set_of, sets_by, sets_by_one, last_used}
-use Rattle.cartridge_spec.specs.Says.{AsRead, ByCode, Data}
 use Rattle.table_reading.proofs.Sets.{IsOneOf, IsNoneOf}
 use Rattle.table_reading.proofs.Seen.{HoldsOutside, ReadsOutside, one_or_none, few_in_table, one_in_table, two_in_table, block_outside, no_block_outside}
 use Rattle.table_reading.proofs.Lines.{by_place, by_gone, not_first_set, sets_of_one, sets_of_two}
