@@ -1,7 +1,10 @@
 pub mod Append
 pub mod Lines
+pub mod Near
 pub mod OneLoss
 pub mod Parity
 pub mod Readings
 pub mod Seen
 pub mod Sets
+pub mod Settling
+pub mod SoFar

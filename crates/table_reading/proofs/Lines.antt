@@ -5,7 +5,7 @@ use Rattle.std.proofs.lemmas.Bool.{cases_eq, cases_lt, lt-ltb}
 use Rattle.qic_base.specs.declared.tape.SectorView.{SectorView}
 use Rattle.qic_base.specs.declared.tape.SectorView.TheVariants.{Lost, Holds}
 use Rattle.qic_base.specs.Cartridge.{Cartridge, view_at}
-use Rattle.cartridge_spec.specs.Segment.{sector_at}
+use Rattle.cartridge_spec.specs.Segment.{sector_at, is_unreadable, IsUnreadable}
 use Rattle.cartridge_spec.specs.Says.{HasBlock, HasNoBlock, HasFirstBlock, hidden, unreadable_count, with_parity}
 use Rattle.cartridge_spec.specs.HeaderAndTable.{IsArea, table_cells}
 use Rattle.cartridge_spec.proofs.Segments.{cells_of_whole}
@@ -86,19 +86,19 @@ changed_differs d old new k m broken same =
 
 -- ---- the sets that are tried
 
-first_set : (d : Cartridge) (area : List (List ℕ)) → HasBlock (hidden (set_of []) (table_cells d)) area →
+pub first_set : (d : Cartridge) (area : List (List ℕ)) → HasBlock (hidden (set_of []) (table_cells d)) area →
     HasBlock (hidden 0 (table_cells d)) area
 unfolding set_of
 first_set d area has = has
 
-not_first_set : (d : Cartridge) → HasNoBlock (hidden (set_of []) (table_cells d)) → HasNoBlock (hidden 0 (table_cells d))
+pub not_first_set : (d : Cartridge) → HasNoBlock (hidden (set_of []) (table_cells d)) → HasNoBlock (hidden 0 (table_cells d))
 unfolding set_of
 not_first_set d none = none
 
-sets_of_one : (used : Option ℕ) (m : ℕ) → m < 29 → sets_by used (m ∷ []) ≡ sets_by_one used m
+pub sets_of_one : (used : Option ℕ) (m : ℕ) → m < 29 → sets_by used (m ∷ []) ≡ sets_by_one used m
 sets_of_one used m small = ap (λ (b : Bool). if b then sets_by_one used m else []) (lt-ltb m 29 small)
 
-sets_of_two : (used : Option ℕ) (m other : ℕ) → m < 29 → sets_by used (m ∷ other ∷ []) ≡ sets_by_two used m other
+pub sets_of_two : (used : Option ℕ) (m other : ℕ) → m < 29 → sets_by used (m ∷ other ∷ []) ≡ sets_by_two used m other
 sets_of_two used m other small = ap (λ (b : Bool). if b then sets_by_two used m other else []) (lt-ltb m 29 small)
 
 shows_used : (d : Cartridge) (area : List (List ℕ)) (i : ℕ) → IsArea area → i < 29 → HoldsPart d area i →
@@ -124,12 +124,18 @@ used_is_changed d old new k m broken other =
     ])
 
 -- a reading by the sets
+pub by_gone : (d : Cartridge) (area : List (List ℕ)) (m : ℕ) (sets : List ℕ) → m < 29 → IsUnreadable (view_at d 2 m) →
+    unreadable_count (table_cells d) ≤ 3 →
+    sets_by (last_used (table_cells d)) (unreadable_places (table_cells d)) ≡ sets → HasFirstBlock (0 ∷ sets) (table_cells d) area →
+    FurtherIs d area
+by_gone d area m sets small gone few tried first =
+    inr (some_lost d m small gone, (few, subst (λ (ss : List ℕ). HasFirstBlock (0 ∷ ss) (table_cells d) area) (sym tried) first))
+
 by_sets : (d : Cartridge) (area : List (List ℕ)) (m : ℕ) (sets : List ℕ) → m < 29 → view_at d 2 m ≡ Lost →
     unreadable_count (table_cells d) ≤ 3 →
     sets_by (last_used (table_cells d)) (unreadable_places (table_cells d)) ≡ sets → HasFirstBlock (0 ∷ sets) (table_cells d) area →
     FurtherIs d area
-by_sets d area m sets small lost few tried first =
-    inr (some_lost d m small lost, (few, subst (λ (ss : List ℕ). HasFirstBlock (0 ∷ ss) (table_cells d) area) (sym tried) first))
+by_sets d area m sets small lost = by_gone d area m sets small (ap is_unreadable lost)
 
 -- the block of an area agrees at once
 pub at_once : (d : Cartridge) (area : List (List ℕ)) (m : ℕ) (rs : List ℕ) → IsArea area → m < 29 → view_at d 2 m ≡ Lost → length rs ≤ 3 →
@@ -138,7 +144,7 @@ at_once d area m rs is small lost few holds gone =
     let count : unreadable_count (table_cells d) ≤ length rs =
     few_in_table d rs (λ i h none. part_read d area i (holds i h none)) in
     by_sets d area m (sets_by (last_used (table_cells d)) (unreadable_places (table_cells d))) small lost (omega arith) refl
-    (inl (first_set d area (block_outside d area [] rs is holds gone)))
+    (inl (first_set d area (block_outside d area [] rs is holds (λ i one. ap is_unreadable (gone i one)))))
 
 -- the two places are lost
 lost_ones : (d : Cartridge) (m other : ℕ) → view_at d 2 m ≡ Lost → view_at d 2 other ≡ Lost →
@@ -156,7 +162,7 @@ one_lost : (d : Cartridge) (old new : List (List ℕ)) (k m : ℕ) → IsBroken 
     sets_by (last_used (table_cells d)) (unreadable_places (table_cells d)) ≡ sets_by_one (last_used (table_cells d)) m
 one_lost d old new k m broken reads =
     let small : m < 29 = broken.small in
-    ap (sets_by (last_used (table_cells d))) (one_in_table d m (omega arith) broken.here reads)
+    ap (sets_by (last_used (table_cells d))) (one_in_table d m (omega arith) (ap is_unreadable broken.here) reads)
     ∙ sets_of_one (last_used (table_cells d)) m small
 
 -- and where another one behind it is
@@ -165,7 +171,7 @@ two_lost : (d : Cartridge) (old new : List (List ℕ)) (k m other : ℕ) → IsB
     sets_by (last_used (table_cells d)) (unreadable_places (table_cells d)) ≡ sets_by_two (last_used (table_cells d)) m other
 two_lost d old new k m other broken from below gone reads =
     let small : m < 29 = broken.small in
-    ap (sets_by (last_used (table_cells d))) (two_in_table d m other (omega arith) below broken.here gone reads)
+    ap (sets_by (last_used (table_cells d))) (two_in_table d m other (omega arith) below (ap is_unreadable broken.here) (ap is_unreadable gone) reads)
     ∙ sets_of_two (last_used (table_cells d)) m other small
 
 -- ---- line by line, where the changed sector is not lost

@@ -20,7 +20,7 @@ use Rattle.table_reading.proofs.Lines.{IsBroken, all_old, first_lost, one_new, s
 -- ---- before the changed sector is new
 
 -- data that are read without sets are read with them
-read_still : (d : Cartridge) (area : List (List ℕ)) → TableIs d area → FurtherIs d area
+pub read_still : (d : Cartridge) (area : List (List ℕ)) → TableIs d area → FurtherIs d area
 read_still d area (inl reads) = inl reads
 read_still d area (inr says) = inr (further_says_the_same (table_cells d) (ByCode (Data area)) says (λ e. cc))
 

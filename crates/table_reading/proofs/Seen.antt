@@ -6,7 +6,7 @@ use Rattle.std.proofs.lemmas.Bool.{cases_eq, cases_lt}
 use Rattle.qic_base.specs.declared.tape.SectorView.{SectorView}
 use Rattle.qic_base.specs.declared.tape.SectorView.TheVariants.{Lost, Holds}
 use Rattle.qic_base.specs.Cartridge.{Cartridge, view_at}
-use Rattle.cartridge_spec.specs.Segment.{sector_at, is_unreadable}
+use Rattle.cartridge_spec.specs.Segment.{sector_at, is_unreadable, IsUnreadable}
 use Rattle.cartridge_spec.specs.Says.{HasBlock, HasNoBlock, hidden, unreadable_count, unreadable_data, with_parity}
 use Rattle.cartridge_spec.specs.HeaderAndTable.{IsArea, table_cells}
 use Rattle.cartridge_spec.proofs.Cells.{IsReadable, unreadable_at, readable_from_count}
@@ -45,7 +45,7 @@ unreadable_within [] i un = absurd (cc)
 unreadable_within (cell ∷ cells) zero un = omega arith
 unreadable_within (cell ∷ cells) (suc i) un = let rest = unreadable_within cells i un in omega arith
 
-not_both : {P : Type 0} (cells : List SectorView) (i : ℕ) → unreadable_at cells i ≡ true → IsReadable cells i → P
+pub not_both : {P : Type 0} (cells : List SectorView) (i : ℕ) → unreadable_at cells i ≡ true → IsReadable cells i → P
 unfolding unreadable_at
 not_both [] i un held = absurd (cc)
 not_both (cell ∷ cells) zero un held = let kept : is_unreadable cell ≡ false = readable_front cell cells held in absurd (cc)
@@ -69,16 +69,20 @@ none_places place (cell ∷ cells) each =
     (readable_front cell cells (each 0 (omega arith)))
     ∙ none_places (suc place) cells (λ i h. each (suc i) (omega arith))
 
-lost_front : (cell : SectorView) (cells : List SectorView) → slice_get (cell ∷ cells) 0 ≡ Some Lost → is_unreadable cell ≡ true
-lost_front cell cells lost = let here : cell ≡ Lost = cc in ap is_unreadable here
+unreadable_there : (cells : List SectorView) (i : ℕ) (view : SectorView) → slice_get cells i ≡ Some view → IsUnreadable view →
+    unreadable_at cells i ≡ true
+unfolding unreadable_at
+unreadable_there [] i view at gone = absurd (cc)
+unreadable_there (cell ∷ cells) zero view at gone = let here : cell ≡ view = cc in ap is_unreadable here ∙ gone
+unreadable_there (cell ∷ cells) (suc i) view at gone = unreadable_there cells i view at gone
 
-one_from : (place m : ℕ) (cells : List SectorView) → m < length cells → slice_get cells m ≡ Some Lost →
+one_from : (place m : ℕ) (cells : List SectorView) → m < length cells → unreadable_at cells m ≡ true →
     ((i : ℕ) → i < length cells → i ≢ m → IsReadable cells i) → unreadable_from place cells ≡ (place + m) ∷ []
-unfolding unreadable_from
+unfolding unreadable_from unreadable_at
 one_from place m [] h lost each = absurd (omega arith)
 one_from place zero (cell ∷ cells) h lost each =
     let same : place ≡ place + 0 = omega arith in
-    ap (λ (b : Bool). if b then place ∷ unreadable_from (suc place) cells else unreadable_from (suc place) cells) (lost_front cell cells lost)
+    ap (λ (b : Bool). if b then place ∷ unreadable_from (suc place) cells else unreadable_from (suc place) cells) lost
     ∙ ap (λ (ps : List ℕ). place ∷ ps) (none_places (suc place) cells (λ i l. each (suc i) (omega arith) (λ e. omega arith)))
     ∙ ap (λ (p : ℕ). p ∷ []) same
 one_from place (suc m) (cell ∷ cells) h lost each =
@@ -89,15 +93,15 @@ one_from place (suc m) (cell ∷ cells) h lost each =
     ∙ ap (λ (p : ℕ). p ∷ []) same
 
 two_from : (place m other : ℕ) (cells : List SectorView) → m < other → other < length cells →
-    slice_get cells m ≡ Some Lost → slice_get cells other ≡ Some Lost →
+    unreadable_at cells m ≡ true → unreadable_at cells other ≡ true →
     ((i : ℕ) → i < length cells → i ≢ m → i ≢ other → IsReadable cells i) → unreadable_from place cells ≡ (place + m) ∷ (place + other) ∷ []
-unfolding unreadable_from
+unfolding unreadable_from unreadable_at
 two_from place m other [] order h lost gone each = absurd (omega arith)
 two_from place m zero (cell ∷ cells) order h lost gone each = absurd (omega arith)
 two_from place zero (suc other) (cell ∷ cells) order h lost gone each =
     let same : place ≡ place + 0 = omega arith in
     let behind : suc place + other ≡ place + suc other = omega arith in
-    ap (λ (b : Bool). if b then place ∷ unreadable_from (suc place) cells else unreadable_from (suc place) cells) (lost_front cell cells lost)
+    ap (λ (b : Bool). if b then place ∷ unreadable_from (suc place) cells else unreadable_from (suc place) cells) lost
     ∙ ap (λ (ps : List ℕ). place ∷ ps)
     (one_from (suc place) other cells (omega arith) gone (λ i l apart. each (suc i) (omega arith) (λ e. omega arith) (λ e. apart (omega arith))))
     ∙ ap (λ (p : ℕ). p ∷ (suc place + other) ∷ []) same
@@ -129,42 +133,43 @@ few_in_table d ps reads =
     let held = reads i (omega arith) none in
     (held.0, view_held d 2 i held.0 (omega arith) held.1))
 
-pub one_in_table : (d : Cartridge) (m : ℕ) → m < 32 → view_at d 2 m ≡ Lost → ReadsOutside d (m ∷ []) →
+pub gone_there : (d : Cartridge) (i : ℕ) → i < 32 → IsUnreadable (view_at d 2 i) → unreadable_at (table_cells d) i ≡ true
+gone_there d i within gone = unreadable_there (table_cells d) i (view_at d 2 i) (cells_of_whole d 2 i within) gone
+
+pub one_in_table : (d : Cartridge) (m : ℕ) → m < 32 → IsUnreadable (view_at d 2 m) → ReadsOutside d (m ∷ []) →
     unreadable_places (table_cells d) ≡ m ∷ []
 one_in_table d m within lost reads =
     let long : length (table_cells d) ≡ 32 = length-whole_cells d 2 in
     let same : 0 + m ≡ m = omega arith in
-    one_from 0 m (table_cells d) (omega arith) (cells_of_whole d 2 m within ∙ ap Some lost)
+    one_from 0 m (table_cells d) (omega arith) (gone_there d m within lost)
     (λ i h apart.
     let held = reads i (omega arith) (apart, tt) in
     (held.0, view_held d 2 i held.0 (omega arith) held.1))
     ∙ ap (λ (p : ℕ). p ∷ []) same
 
-pub two_in_table : (d : Cartridge) (m other : ℕ) → m < other → other < 32 → view_at d 2 m ≡ Lost → view_at d 2 other ≡ Lost →
+pub two_in_table : (d : Cartridge) (m other : ℕ) → m < other → other < 32 → IsUnreadable (view_at d 2 m) → IsUnreadable (view_at d 2 other) →
     ReadsOutside d (m ∷ other ∷ []) → unreadable_places (table_cells d) ≡ m ∷ other ∷ []
 two_in_table d m other order within lost gone reads =
     let long : length (table_cells d) ≡ 32 = length-whole_cells d 2 in
     let same : 0 + m ≡ m = omega arith in
     let behind : 0 + other ≡ other = omega arith in
-    two_from 0 m other (table_cells d) order (omega arith) (cells_of_whole d 2 m (omega arith) ∙ ap Some lost)
-    (cells_of_whole d 2 other within ∙ ap Some gone)
+    two_from 0 m other (table_cells d) order (omega arith) (gone_there d m (omega arith) lost)
+    (gone_there d other within gone)
     (λ i h apart away.
     let held = reads i (omega arith) (apart, (away, tt)) in
     (held.0, view_held d 2 i held.0 (omega arith) held.1))
     ∙ ap (λ (p : ℕ). p ∷ (0 + other) ∷ []) same
     ∙ ap (λ (p : ℕ). m ∷ p ∷ []) behind
 
--- a sector of data that is lost is unreadable
-pub some_lost : (d : Cartridge) (m : ℕ) → m < 29 → view_at d 2 m ≡ Lost → 0 < unreadable_data (table_cells d)
+-- a sector of data is unreadable
+pub some_lost : (d : Cartridge) (m : ℕ) → m < 29 → IsUnreadable (view_at d 2 m) → 0 < unreadable_data (table_cells d)
 some_lost d m small lost =
     elim (cases_lt 0 (unreadable_data (table_cells d))) [
       | inl some ↦ some
       | inr none ↦
           let long : length (table_cells d) ≡ 32 = length-whole_cells d 2 in
           let held = readable_from_count 29 (table_cells d) (omega arith) (omega arith) m small in
-          let gone : slice_get (table_cells d) m ≡ Some Lost = cells_of_whole d 2 m (omega arith) ∙ ap Some lost in
-          let seen : slice_get (table_cells d) m ≡ Some (Holds held.0) = held.1 in
-          absurd (cc)
+          not_both (table_cells d) m (gone_there d m (omega arith) lost) held
     ]
 
 -- ---- the last sector with a used slot
@@ -186,9 +191,9 @@ last_used_is cells (suc n) k h used behind =
 
 -- ---- blocks outside a set
 
--- the sectors outside the set hold their part of an area, but for some that are lost
+-- the sectors outside the set hold their part of an area, but for some that are unreadable
 pub block_outside : (d : Cartridge) (area : List (List ℕ)) (ps rs : List ℕ) → IsArea area → HoldsOutside d area (ps ++ rs) →
-    ((i : ℕ) → IsOneOf rs i → view_at d 2 i ≡ Lost) → HasBlock (hidden (set_of ps) (table_cells d)) area
+    ((i : ℕ) → IsOneOf rs i → IsUnreadable (view_at d 2 i)) → HasBlock (hidden (set_of ps) (table_cells d)) area
 block_outside d area ps rs is holds lost = record {
   block = with_parity area;
   code = table_block area is;
@@ -201,7 +206,7 @@ block_outside d area ps rs is holds lost = record {
         let held : view_at d 2 i ≡ Holds bytes = view.view in
         let long : length (with_parity area) ≡ 32 = length-block area is in
         elim (one_or_none rs i) [
-          | inl one ↦ let gone : view_at d 2 i ≡ Lost = lost i one in absurd (cc)
+          | inl one ↦ let gone : IsUnreadable (view_at d 2 i) = lost i one in let read = ap is_unreadable held in absurd (cc)
           | inr none ↦
               let part : view_at d 2 i ≡ Holds (sector_at (with_parity area) i) =
               holds i within (none_of_both ps rs i (unnamed_is_none ps i out.0) none) in

@@ -15,6 +15,7 @@ use Rattle.append_plan.specs.Laws.{new_table, volume_steps, list_steps, IsReady}
 use Rattle.append_plan.specs.Settled.{MayAppendTo}
 use Rattle.table_reading.specs.FurtherSets.{FurtherSays, FurtherIs}
 use Rattle.table_reading.specs.OneLoss.{DifferInOne, IsLastUsed, LosesOne}
+use Rattle.table_reading.specs.Settling.{further_settling_steps}
 
 -- ---- what it says
 
@@ -109,3 +110,11 @@ StoppedAppendReadsEither =
     Torn (list_steps c plain name date bytes) (Some d) left →
     IsSomeAnd left (λ e. (f : Cartridge) (lost : ℕ) → LosesOne e f lost →
     FurtherIs f plain.table_area ⊎ FurtherIs f (new_table c plain name date bytes))
+
+-- ---- settling
+
+-- a stop among the writes that settle a table by its further reading, or behind them, leaves a cartridge that says the same data
+abbrev pub StoppedFurtherSettling : Type 0
+StoppedFurtherSettling =
+    (c : Cartridge) (area : List (List ℕ)) (left : Option Cartridge) → FurtherIs c area →
+    Torn (further_settling_steps area c) (Some c) left → IsSomeAnd left (λ d. FurtherIs d area)

@@ -1,3 +1,4 @@
 pub mod FurtherSets
 pub mod Laws
 pub mod OneLoss
+pub mod Settling

@@ -1,7 +1,7 @@
 //! What the further reading of the table's segment gives. Each law is the contract of a function that does nothing, so that
 //! other crates can rest on it; their proofs import the lemmas of this crate's `proofs`.
 
-ghost use Rattle.table_reading.specs.Laws.{FurtherSaysIsFunction, FurtherSaysAlways, FurtherSaysTheSame, ParityBytesDiffer, ParityDiffers, NearBlockIsTables, BeforeReadsOldStill, LostParityReadsNew, LostDataReadsOld, LostDataReadsNew, OneLossReadsEither, AppendChangesOneSector, StoppedAppendReadsEither};
+ghost use Rattle.table_reading.specs.Laws.{FurtherSaysIsFunction, FurtherSaysAlways, FurtherSaysTheSame, ParityBytesDiffer, ParityDiffers, NearBlockIsTables, BeforeReadsOldStill, LostParityReadsNew, LostDataReadsOld, LostDataReadsNew, OneLossReadsEither, AppendChangesOneSector, StoppedAppendReadsEither, StoppedFurtherSettling};
 
 /// The further reading of the table's segment says at most one thing.
 pub fn further_says_is_function()
@@ -55,4 +55,10 @@ pub fn an_append_changes_one_sector()
 /// sector more of the table's segment is lost.
 pub fn one_loss_of_an_append()
     ensures { StoppedAppendReadsEither }
+{}
+
+/// Each front of the writes that settle a table by its further reading, with the next one torn, leaves the same data to be read,
+/// on any cartridge.
+pub fn stopped_further_settling()
+    ensures { StoppedFurtherSettling }
 {}
