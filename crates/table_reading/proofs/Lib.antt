@@ -6,5 +6,6 @@ pub mod Parity
 pub mod Readings
 pub mod Seen
 pub mod Sets
+pub mod Settled
 pub mod Settling
 pub mod SoFar

@@ -29,7 +29,7 @@ one_or_none (p ∷ ps) i =
       | inr apart ↦ elim (one_or_none ps i) [ inl one ↦ inl (inr one) | inr none ↦ inr (apart, none) ]
     ]
 
-none_of_first : (ps rs : List ℕ) (i : ℕ) → IsNoneOf (ps ++ rs) i → IsNoneOf ps i
+pub none_of_first : (ps rs : List ℕ) (i : ℕ) → IsNoneOf (ps ++ rs) i → IsNoneOf ps i
 none_of_first [] rs i none = tt
 none_of_first (p ∷ ps) rs i none = (none.0, none_of_first ps rs i none.1)
 

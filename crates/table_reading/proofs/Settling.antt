@@ -26,7 +26,7 @@ use Rattle.append_plan.specs.Between.{HoldsPart}
 use Rattle.append_plan.proofs.Between.{data_sector}
 use Rattle.table_reading.specs.FurtherSets.{set_of, unreadable_from, unreadable_places, shows_used_slot, last_used_below, last_used, with_used, sets_by_one, sets_by_two, sets_by, FurtherIs}
 use Rattle.table_reading.specs.Settling.{holds_other, is_left_out, further_settling_places, further_settling_steps}
-use Rattle.table_reading.specs.Laws.{StoppedFurtherSettling}
+use Rattle.table_reading.specs.Laws.{StoppedFurtherSettling, FurtherSettlingIsSettling}
 use Rattle.table_reading.proofs.Sets.{IsOneOf, none_is_unnamed, one_is_named, length-hidden, seen_outside, few_outside, unreadable_is_named}
 use Rattle.table_reading.proofs.Readings.{AreAmong}
 use Rattle.table_reading.proofs.Seen.{HoldsOutside, not_both, gone_there}
@@ -37,7 +37,7 @@ use Rattle.table_reading.proofs.SoFar.{written_here, written_other, worn_here, w
 
 -- ---- places that pass a test
 
-places_are : (test : ℕ → Bool) → places_where test ≡ places_that test 0 32
+pub places_are : (test : ℕ → Bool) → places_where test ≡ places_that test 0 32
 unfolding places_where places_that
 places_are test = refl
 
@@ -80,7 +80,7 @@ gone_is_no_other Lost bytes gone = refl
 gone_is_no_other (Holds held) bytes gone = absurd (cc)
 
 -- a readable sector that holds no other bytes holds these
-no_other_is_part : (view : SectorView) (bytes : List ℕ) → IsRead view → holds_other view bytes ≡ false → view ≡ Holds bytes
+pub no_other_is_part : (view : SectorView) (bytes : List ℕ) → IsRead view → holds_other view bytes ≡ false → view ≡ Holds bytes
 no_other_is_part view bytes read same =
     let equal : not (bytes_eq read.0 bytes) ≡ false = ap (λ (v : SectorView). holds_other v bytes) (sym read.1) ∙ same in
     read.1 ∙ ap Holds ((bytes_eq-Decides read.0 bytes).0 (not-false (bytes_eq read.0 bytes) equal))
@@ -91,7 +91,7 @@ held_there Defect bytes same = absurd (cc)
 held_there Lost bytes same = absurd (cc)
 held_there (Holds held) bytes same = ap Holds ((bytes_eq-Decides held bytes).0 same)
 
-left_out_data : (c : Cartridge) (block : List (List ℕ)) (i : ℕ) → i < 29 →
+pub left_out_data : (c : Cartridge) (block : List (List ℕ)) (i : ℕ) → i < 29 →
     is_left_out c block i ≡ holds_other (view_at c 2 i) (sector_at block i)
 left_out_data c block i h = ap (λ (b : Bool). if b then holds_other (view_at c 2 i) (sector_at block i) else false) (lt-ltb i 29 h)
 
@@ -125,7 +125,7 @@ unsettled_holds_not c area i passes part =
           ∙ ap (λ (v : SectorView). not (holds v bytes)) part ∙ holds_same bytes)
     ]
 
-settled_parity : (c : Cartridge) (area : List (List ℕ)) (i : ℕ) → 29 ≤ i → is_unsettled c (with_parity area) i ≡ false → HoldsPart c area i
+pub settled_parity : (c : Cartridge) (area : List (List ℕ)) (i : ℕ) → 29 ≤ i → is_unsettled c (with_parity area) i ≡ false → HoldsPart c area i
 settled_parity c area i back fails =
     let bytes : List ℕ = sector_at (with_parity area) i in
     held_there (view_at c 2 i) bytes
@@ -153,12 +153,15 @@ table_part c area i (inr says) h =
       | inr read ↦ inl (read.1 ∙ ap Holds (solved_agree c area i read.0 (code_says (table_cells c) (Data area) says) (omega arith) read.1))
     ]
 
+pub further_settling_is_settling : FurtherSettlingIsSettling
+further_settling_is_settling c area table =
+    ap (λ (ps : List ℕ). if c.info.protected then [] else block_writes (with_parity area) ps)
+    (none_left_out c area (λ i h. table_part c area i table h))
+
 table_stopped : (c : Cartridge) (area : List (List ℕ)) (left : Option Cartridge) → TableIs c area →
     Torn (further_settling_steps area c) (Some c) left → IsSomeAnd left (λ d. FurtherIs d area)
 table_stopped c area left table torn =
-    let places = none_left_out c area (λ i h. table_part c area i table h) in
-    let steps : further_settling_steps area c ≡ settling_steps area c =
-    ap (λ (ps : List ℕ). if c.info.protected then [] else block_writes (with_parity area) ps) places in
+    let steps : further_settling_steps area c ≡ settling_steps area c = further_settling_is_settling c area table in
     some_weaker left (λ d kept. read_still d area kept.table)
     (stopped_settling c area left table (subst (λ (ss : List Step). Torn ss (Some c) left) steps torn))
 
@@ -231,8 +234,8 @@ outside c area ps few among has =
 -- ---- what was left out of account
 
 -- a sector of data that can be read may differ, beside an unreadable one; the first sector of parity may be unreadable
-record IsApart (c : Cartridge) (area : List (List ℕ)) (m k : ℕ) : Type 0 where
-  is_area : IsArea area
+pub record IsApart (c : Cartridge) (area : List (List ℕ)) (m k : ℕ) : Type 0 where
+  pub is_area : IsArea area
   small : m < 29
   place : k < 29
   gone : IsUnreadable (view_at c 2 m)
@@ -240,7 +243,7 @@ record IsApart (c : Cartridge) (area : List (List ℕ)) (m k : ℕ) : Type 0 whe
   holds : HoldsOutside c area (k ∷ m ∷ 29 ∷ [])
   first : PartOrGone c area 29
 
-abbrev IsFar : Cartridge → (area : List (List ℕ)) → Type 0
+abbrev pub IsFar : Cartridge → (area : List (List ℕ)) → Type 0
 IsFar c area = ((m : ℕ) × IsBase c area m) ⊎ ((m : ℕ) × (k : ℕ) × IsApart c area m k)
 
 far_third : (c : Cartridge) (area : List (List ℕ)) (m : ℕ) → FurtherIs c area → IsArea area → m < 29 → IsUnreadable (view_at c 2 m) →
@@ -444,7 +447,7 @@ far_by c area (m ∷ other ∷ []) found reads first =
 far_by c area (m ∷ other ∷ third ∷ more) found reads first = absurd first
 
 -- without sets, or by one of them
-is_far : (c : Cartridge) (area : List (List ℕ)) → FurtherIs c area → TableIs c area ⊎ IsFar c area
+pub is_far : (c : Cartridge) (area : List (List ℕ)) → FurtherIs c area → TableIs c area ⊎ IsFar c area
 is_far c area (inl reads) = inl (inl reads)
 is_far c area (inr (some, (few, inl has))) = inl (inr (some, (few, inl has)))
 is_far c area (inr (some, (few, inr (none, first)))) =
@@ -453,7 +456,7 @@ is_far c area (inr (some, (few, inr (none, first)))) =
 -- ---- a stop
 
 -- the writes of a cartridge that is not protected
-abbrev further_writes : Cartridge → (area : List (List ℕ)) → List Step
+abbrev pub further_writes : Cartridge → (area : List (List ℕ)) → List Step
 further_writes c area = block_writes (with_parity area) (further_settling_places c area)
 
 base_stopped : (c : Cartridge) (area : List (List ℕ)) (m : ℕ) (left : Option Cartridge) → IsBase c area m →

@@ -2,20 +2,23 @@
 use Rattle.std.specs.Prelude.{◌≡◌, ◌≢◌, ◌⊎◌, ℕ, ◌<◌, ◌≤◌, List, length, slice_index, All, Option, Some, IsSomeAnd}
 use Rattle.qic_base.specs.declared.tape.SectorView.{SectorView}
 use Rattle.qic_base.specs.Cartridge.{Cartridge, IsView}
+use Rattle.qic_base.specs.Step.{effects}
 use Rattle.qic_base.specs.Stop.{Torn}
 use Rattle.gf256_qic.specs.Code.{IsCodeBlock}
 use Rattle.cartridge_spec.specs.Segment.{sector_at}
-use Rattle.cartridge_spec.specs.HeaderAndTable.{IsArea}
+use Rattle.cartridge_spec.specs.HeaderAndTable.{IsArea, TableIs}
+use Rattle.cartridge_spec.specs.Mounting.{settled}
 use Rattle.cartridge_spec.specs.Says.{Mismatch, TableSaying, ByCode, TableSays, with_parity}
 use Rattle.cartridge_spec.specs.Slots.{slot_sector}
 use Rattle.cartridge_spec.specs.Volumes.{Plain}
 use Rattle.cartridge_spec.specs.Writes.{changed_by}
+use Rattle.mount_laws.specs.Settling.{settling_steps}
 use Rattle.append_plan.specs.Between.{HoldsPart, IsWhole, IsBegun, IsTurned, Between}
 use Rattle.append_plan.specs.Laws.{new_table, volume_steps, list_steps, IsReady}
 use Rattle.append_plan.specs.Settled.{MayAppendTo}
 use Rattle.table_reading.specs.FurtherSets.{FurtherSays, FurtherIs}
 use Rattle.table_reading.specs.OneLoss.{DifferInOne, IsLastUsed, LosesOne}
-use Rattle.table_reading.specs.Settling.{further_settling_steps}
+use Rattle.table_reading.specs.Settling.{further_settling_steps, KeepsFurther}
 
 -- ---- what it says
 
@@ -118,3 +121,24 @@ abbrev pub StoppedFurtherSettling : Type 0
 StoppedFurtherSettling =
     (c : Cartridge) (area : List (List ℕ)) (left : Option Cartridge) → FurtherIs c area →
     Torn (further_settling_steps area c) (Some c) left → IsSomeAnd left (λ d. FurtherIs d area)
+
+-- where the table is read without leaving a sector out, its settling is the one without that
+abbrev pub FurtherSettlingIsSettling : Type 0
+FurtherSettlingIsSettling =
+    (c : Cartridge) (area : List (List ℕ)) → TableIs c area → further_settling_steps area c ≡ settling_steps area c
+
+-- all writes settle the table whose data are these: nothing else changed than by writing its whole segment
+abbrev pub FurtherSettlingSettles : Type 0
+FurtherSettlingSettles =
+    (c : Cartridge) (area : List (List ℕ)) → FurtherIs c area → changed_by (further_settling_steps area c) c ≡ settled area c
+
+-- and so do they on what a drive holds
+abbrev pub FurtherSettlingEffects : Type 0
+FurtherSettlingEffects =
+    (c : Cartridge) (area : List (List ℕ)) → FurtherIs c area → effects (further_settling_steps area c) (Some c) ≡ Some (settled area c)
+
+-- a stop among the writes, or behind them, changes nothing outside the table's segment
+abbrev pub FurtherSettlingKeeps : Type 0
+FurtherSettlingKeeps =
+    (c : Cartridge) (area : List (List ℕ)) (left : Option Cartridge) → FurtherIs c area →
+    Torn (further_settling_steps area c) (Some c) left → IsSomeAnd left (KeepsFurther area c)

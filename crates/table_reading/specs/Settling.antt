@@ -1,6 +1,6 @@
 -- The settling of the volume table's segment by its further reading: which of its sectors are written, and in which order (this
 -- project's profile).
-use Rattle.std.specs.Prelude.{ℕ, Bool, false, not, List, [], ◌++◌, nat_lt, if◌then◌else◌}
+use Rattle.std.specs.Prelude.{◌≡◌, ◌≢◌, ℕ, ◌<◌, Bool, false, not, List, [], ◌++◌, nat_lt, if◌then◌else◌}
 use Rattle.std.specs.Str.{bytes_eq}
 use Rattle.qic_base.specs.declared.tape.SectorView.{SectorView}
 use Rattle.qic_base.specs.declared.tape.SectorView.TheVariants.{Blank, Defect, Lost, Holds}
@@ -9,6 +9,7 @@ use Rattle.qic_base.specs.Step.{Step}
 use Rattle.cartridge_spec.specs.Segment.{sector_at}
 use Rattle.cartridge_spec.specs.Says.{with_parity}
 use Rattle.mount_laws.specs.Settling.{places_where, is_unsettled, block_writes}
+use Rattle.table_reading.specs.FurtherSets.{FurtherIs}
 
 -- the sector can be read, and holds other bytes
 abbrev pub holds_other : SectorView → List ℕ → Bool
@@ -32,3 +33,9 @@ abbrev pub further_settling_steps : (area : List (List ℕ)) → Cartridge → L
 further_settling_steps area c =
     if c.info.protected then []
     else block_writes (with_parity area) (further_settling_places c area)
+
+-- all but the table's segment is as it was, and that says these data by its further reading
+pub record KeepsFurther (area : List (List ℕ)) (c d : Cartridge) : Type 0 where
+  pub info : d.info ≡ c.info
+  pub others : (segment sector : ℕ) → sector < 32 → segment ≢ 2 → view_at d segment sector ≡ view_at c segment sector
+  pub table : FurtherIs d area
