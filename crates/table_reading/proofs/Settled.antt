@@ -190,7 +190,7 @@ far_length : (c : Cartridge) (area : List (List ℕ)) → IsFar c area → lengt
 far_length c area (inl (m, base)) = length-block area base.is_area
 far_length c area (inr (m, k, apart)) = length-block area apart.is_area
 
-further_length : (c : Cartridge) (area : List (List ℕ)) → FurtherIs c area → length (with_parity area) ≡ 32
+pub further_length : (c : Cartridge) (area : List (List ℕ)) → FurtherIs c area → length (with_parity area) ≡ 32
 further_length c area reads =
     elim (is_far c area reads) [ inl table ↦ length-table_block c area table | inr far ↦ far_length c area far ]
 

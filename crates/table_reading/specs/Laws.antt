@@ -1,14 +1,14 @@
 -- What the further reading of the table's segment gives, as facts.
-use Rattle.std.specs.Prelude.{◌≡◌, ◌≢◌, ◌⊎◌, ℕ, ◌<◌, ◌≤◌, List, length, slice_index, All, Option, Some, IsSomeAnd}
+use Rattle.std.specs.Prelude.{◌≡◌, ◌≢◌, ◌⊎◌, ℕ, ◌<◌, ◌≤◌, false, List, length, slice_index, All, Option, Some, IsSomeAnd}
 use Rattle.qic_base.specs.declared.tape.SectorView.{SectorView}
 use Rattle.qic_base.specs.Cartridge.{Cartridge, IsView}
 use Rattle.qic_base.specs.Step.{effects}
 use Rattle.qic_base.specs.Stop.{Torn}
 use Rattle.gf256_qic.specs.Code.{IsCodeBlock}
 use Rattle.cartridge_spec.specs.Segment.{sector_at}
-use Rattle.cartridge_spec.specs.HeaderAndTable.{IsArea, TableIs}
+use Rattle.cartridge_spec.specs.HeaderAndTable.{IsArea, TableIs, table_cells}
 use Rattle.cartridge_spec.specs.Mounting.{settled}
-use Rattle.cartridge_spec.specs.Says.{Mismatch, TableSaying, ByCode, TableSays, with_parity}
+use Rattle.cartridge_spec.specs.Says.{Mismatch, TableSaying, ByCode, TableSays, Written, unreadable_count, with_parity}
 use Rattle.cartridge_spec.specs.Slots.{slot_sector}
 use Rattle.cartridge_spec.specs.Volumes.{Plain}
 use Rattle.cartridge_spec.specs.Writes.{changed_by}
@@ -142,3 +142,15 @@ abbrev pub FurtherSettlingKeeps : Type 0
 FurtherSettlingKeeps =
     (c : Cartridge) (area : List (List ℕ)) (left : Option Cartridge) → FurtherIs c area →
     Torn (further_settling_steps area c) (Some c) left → IsSomeAnd left (KeepsFurther area c)
+
+-- once it is settled, where it is not protected, each sector of the table's segment that can be read holds its part of the data or
+-- their parity, ..
+abbrev pub FurtherSettledIsWritten : Type 0
+FurtherSettledIsWritten =
+    (c : Cartridge) (area : List (List ℕ)) → FurtherIs c area → c.info.protected ≡ false → Written (table_cells (settled area c)) area
+
+-- .. so the data are read without leaving a readable sector out, where no more than three sectors are unreadable
+abbrev pub FurtherSettledIsTable : Type 0
+FurtherSettledIsTable =
+    (c : Cartridge) (area : List (List ℕ)) → FurtherIs c area → c.info.protected ≡ false →
+    unreadable_count (table_cells (settled area c)) ≤ 3 → TableIs (settled area c) area

@@ -1,7 +1,7 @@
 //! What the further reading of the table's segment gives. Each law is the contract of a function that does nothing, so that
 //! other crates can rest on it; their proofs import the lemmas of this crate's `proofs`.
 
-ghost use Rattle.table_reading.specs.Laws.{FurtherSaysIsFunction, FurtherSaysAlways, FurtherSaysTheSame, ParityBytesDiffer, ParityDiffers, NearBlockIsTables, BeforeReadsOldStill, LostParityReadsNew, LostDataReadsOld, LostDataReadsNew, OneLossReadsEither, AppendChangesOneSector, StoppedAppendReadsEither, StoppedFurtherSettling, FurtherSettlingIsSettling, FurtherSettlingSettles, FurtherSettlingEffects, FurtherSettlingKeeps};
+ghost use Rattle.table_reading.specs.Laws.{FurtherSaysIsFunction, FurtherSaysAlways, FurtherSaysTheSame, ParityBytesDiffer, ParityDiffers, NearBlockIsTables, BeforeReadsOldStill, LostParityReadsNew, LostDataReadsOld, LostDataReadsNew, OneLossReadsEither, AppendChangesOneSector, StoppedAppendReadsEither, StoppedFurtherSettling, FurtherSettlingIsSettling, FurtherSettlingSettles, FurtherSettlingEffects, FurtherSettlingKeeps, FurtherSettledIsWritten, FurtherSettledIsTable};
 
 /// The further reading of the table's segment says at most one thing.
 pub fn further_says_is_function()
@@ -80,4 +80,12 @@ pub fn further_settling_settles()
 /// read.
 pub fn further_settling_keeps()
     ensures { FurtherSettlingKeeps }
+{}
+
+/// Once a table is settled by its further reading, on a cartridge that is not protected, each sector of its segment that can be
+/// read holds its part of the data or their parity. So with no more than three unreadable ones left, the reading that leaves no
+/// readable sector out of account reads these data.
+pub fn further_settled_is_table()
+    ensures written { FurtherSettledIsWritten }
+    ensures table { FurtherSettledIsTable }
 {}
