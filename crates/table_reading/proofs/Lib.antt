@@ -9,3 +9,4 @@ pub mod Sets
 pub mod Settled
 pub mod Settling
 pub mod SoFar
+pub mod Standing

@@ -190,7 +190,7 @@ far_length : (c : Cartridge) (area : List (List ℕ)) → IsFar c area → lengt
 far_length c area (inl (m, base)) = length-block area base.is_area
 far_length c area (inr (m, k, apart)) = length-block area apart.is_area
 
-further_length : (c : Cartridge) (area : List (List ℕ)) → FurtherIs c area → length (with_parity area) ≡ 32
+pub further_length : (c : Cartridge) (area : List (List ℕ)) → FurtherIs c area → length (with_parity area) ≡ 32
 further_length c area reads =
     elim (is_far c area reads) [ inl table ↦ length-table_block c area table | inr far ↦ far_length c area far ]
 
@@ -211,9 +211,9 @@ further_settling_effects c area reads = effects-some (further_settling_steps are
 -- ---- what a stop keeps
 
 -- nothing changed outside the table's segment
-record IsBeside (c d : Cartridge) : Type 0 where
-  info : d.info ≡ c.info
-  others : (s i : ℕ) → i < 32 → s ≢ 2 → view_at d s i ≡ view_at c s i
+pub record IsBeside (c d : Cartridge) : Type 0 where
+  pub info : d.info ≡ c.info
+  pub others : (s i : ℕ) → i < 32 → s ≢ 2 → view_at d s i ≡ view_at c s i
 
 beside_itself : (c : Cartridge) → IsBeside c c
 beside_itself c = record { info = refl; others = λ s i h apart. refl }
@@ -230,7 +230,7 @@ beside_worn c p small = record {
   others = λ s i h apart. view_of_other_sector c 2 p s i (worn_view (view_at c 2 p)) small h (λ same e. absurd (apart same));
 }
 
-beside_then : (c d e : Cartridge) → IsBeside c d → IsBeside d e → IsBeside c e
+pub beside_then : (c d e : Cartridge) → IsBeside c d → IsBeside d e → IsBeside c e
 beside_then c d e first second = record {
   info = second.info ∙ first.info;
   others = λ s i h apart. second.others s i h apart ∙ first.others s i h apart;

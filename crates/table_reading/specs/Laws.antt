@@ -1,23 +1,23 @@
 -- What the further reading of the table's segment gives, as facts.
-use Rattle.std.specs.Prelude.{◌≡◌, ◌≢◌, ◌⊎◌, ℕ, ◌<◌, ◌≤◌, List, length, slice_index, All, Option, Some, IsSomeAnd}
+use Rattle.std.specs.Prelude.{◌≡◌, ◌≢◌, ◌⊎◌, ℕ, ◌<◌, ◌≤◌, false, List, length, slice_index, All, Option, Some, IsSomeAnd}
 use Rattle.qic_base.specs.declared.tape.SectorView.{SectorView}
-use Rattle.qic_base.specs.Cartridge.{Cartridge, IsView}
+use Rattle.qic_base.specs.Cartridge.{Cartridge, IsView, view_at}
 use Rattle.qic_base.specs.Step.{effects}
 use Rattle.qic_base.specs.Stop.{Torn}
 use Rattle.gf256_qic.specs.Code.{IsCodeBlock}
 use Rattle.cartridge_spec.specs.Segment.{sector_at}
-use Rattle.cartridge_spec.specs.HeaderAndTable.{IsArea, TableIs}
+use Rattle.cartridge_spec.specs.HeaderAndTable.{IsArea, TableIs, table_cells}
 use Rattle.cartridge_spec.specs.Mounting.{settled}
-use Rattle.cartridge_spec.specs.Says.{Mismatch, TableSaying, ByCode, TableSays, with_parity}
+use Rattle.cartridge_spec.specs.Says.{Mismatch, TableSaying, ByCode, TableSays, Written, unreadable_count, with_parity}
 use Rattle.cartridge_spec.specs.Slots.{slot_sector}
-use Rattle.cartridge_spec.specs.Volumes.{Plain}
+use Rattle.cartridge_spec.specs.Volumes.{Plain, Stands}
 use Rattle.cartridge_spec.specs.Writes.{changed_by}
 use Rattle.mount_laws.specs.Settling.{settling_steps}
 use Rattle.append_plan.specs.Between.{HoldsPart, IsWhole, IsBegun, IsTurned, Between}
-use Rattle.append_plan.specs.Laws.{new_table, volume_steps, list_steps, IsReady}
+use Rattle.append_plan.specs.Laws.{new_plain, new_table, volume_steps, list_steps, IsReady}
 use Rattle.append_plan.specs.Settled.{MayAppendTo}
 use Rattle.table_reading.specs.FurtherSets.{FurtherSays, FurtherIs}
-use Rattle.table_reading.specs.OneLoss.{DifferInOne, IsLastUsed, LosesOne}
+use Rattle.table_reading.specs.OneLoss.{DifferInOne, IsLastUsed, LosesOne, LosesOneAlone}
 use Rattle.table_reading.specs.Settling.{further_settling_steps, KeepsFurther}
 
 -- ---- what it says
@@ -142,3 +142,35 @@ abbrev pub FurtherSettlingKeeps : Type 0
 FurtherSettlingKeeps =
     (c : Cartridge) (area : List (List ℕ)) (left : Option Cartridge) → FurtherIs c area →
     Torn (further_settling_steps area c) (Some c) left → IsSomeAnd left (KeepsFurther area c)
+
+-- once it is settled, where it is not protected, each sector of the table's segment that can be read holds its part of the data or
+-- their parity, ..
+abbrev pub FurtherSettledIsWritten : Type 0
+FurtherSettledIsWritten =
+    (c : Cartridge) (area : List (List ℕ)) → FurtherIs c area → c.info.protected ≡ false → Written (table_cells (settled area c)) area
+
+-- .. so the data are read without leaving a readable sector out, where no more than three sectors are unreadable
+abbrev pub FurtherSettledIsTable : Type 0
+FurtherSettledIsTable =
+    (c : Cartridge) (area : List (List ℕ)) → FurtherIs c area → c.info.protected ≡ false →
+    unreadable_count (table_cells (settled area c)) ≤ 3 → TableIs (settled area c) area
+
+-- a cartridge that differs from one that stands in the table's segment alone, and says that one's data of the table by the further
+-- reading, stands as that one does once it is settled, where it is not protected
+abbrev pub FurtherSettledStands : Type 0
+FurtherSettledStands =
+    (c d : Cartridge) (plain : Plain) → Stands c plain → d.info ≡ c.info →
+    ((segment sector : ℕ) → sector < 32 → segment ≢ 2 → view_at d segment sector ≡ view_at c segment sector) →
+    FurtherIs d plain.table_area → d.info.protected ≡ false → Stands (settled plain.table_area d) plain
+
+-- so where an append was stopped among the writes of the table, and one sector more of the table's segment is lost and nothing
+-- else, the settled cartridge stands for the plain one without the volume, or for that with it
+abbrev pub StoppedAppendSettles : Type 0
+StoppedAppendSettles =
+    (c d : Cartridge) (plain : Plain) (name : List ℕ) (date : ℕ) (bytes : List ℕ) (left : Option Cartridge) →
+    IsReady c plain name date bytes → d ≡ changed_by (volume_steps c plain name date bytes) c →
+    Torn (list_steps c plain name date bytes) (Some d) left →
+    IsSomeAnd left (λ e. (f : Cartridge) (lost : ℕ) → LosesOneAlone e f lost → f.info.protected ≡ false →
+    (FurtherIs f plain.table_area × Stands (settled plain.table_area f) plain)
+    ⊎ (FurtherIs f (new_table c plain name date bytes)
+    × Stands (settled (new_table c plain name date bytes) f) (new_plain c plain name date bytes)))

@@ -24,3 +24,9 @@ pub record LosesOne (c d : Cartridge) (lost : ℕ) : Type 0 where
   pub within : lost < 32
   pub here : view_at d 2 lost ≡ Lost
   pub others : (i : ℕ) → i < 32 → i ≢ lost → view_at d 2 i ≡ view_at c 2 i
+
+-- and nothing else has changed: neither a mark nor a sector of another segment
+pub record LosesOneAlone (c d : Cartridge) (lost : ℕ) : Type 0 where
+  pub loses : LosesOne c d lost
+  pub info : d.info ≡ c.info
+  pub elsewhere : (segment sector : ℕ) → sector < 32 → segment ≢ 2 → view_at d segment sector ≡ view_at c segment sector

@@ -1,7 +1,7 @@
 //! What the further reading of the table's segment gives. Each law is the contract of a function that does nothing, so that
 //! other crates can rest on it; their proofs import the lemmas of this crate's `proofs`.
 
-ghost use Rattle.table_reading.specs.Laws.{FurtherSaysIsFunction, FurtherSaysAlways, FurtherSaysTheSame, ParityBytesDiffer, ParityDiffers, NearBlockIsTables, BeforeReadsOldStill, LostParityReadsNew, LostDataReadsOld, LostDataReadsNew, OneLossReadsEither, AppendChangesOneSector, StoppedAppendReadsEither, StoppedFurtherSettling, FurtherSettlingIsSettling, FurtherSettlingSettles, FurtherSettlingEffects, FurtherSettlingKeeps};
+ghost use Rattle.table_reading.specs.Laws.{FurtherSaysIsFunction, FurtherSaysAlways, FurtherSaysTheSame, ParityBytesDiffer, ParityDiffers, NearBlockIsTables, BeforeReadsOldStill, LostParityReadsNew, LostDataReadsOld, LostDataReadsNew, OneLossReadsEither, AppendChangesOneSector, StoppedAppendReadsEither, StoppedFurtherSettling, FurtherSettlingIsSettling, FurtherSettlingSettles, FurtherSettlingEffects, FurtherSettlingKeeps, FurtherSettledIsWritten, FurtherSettledIsTable, FurtherSettledStands, StoppedAppendSettles};
 
 /// The further reading of the table's segment says at most one thing.
 pub fn further_says_is_function()
@@ -80,4 +80,21 @@ pub fn further_settling_settles()
 /// read.
 pub fn further_settling_keeps()
     ensures { FurtherSettlingKeeps }
+{}
+
+/// Once a table is settled by its further reading, on a cartridge that is not protected, each sector of its segment that can be
+/// read holds its part of the data or their parity. So with no more than three unreadable ones left, the reading that leaves no
+/// readable sector out of account reads these data.
+pub fn further_settled_is_table()
+    ensures written { FurtherSettledIsWritten }
+    ensures table { FurtherSettledIsTable }
+{}
+
+/// A cartridge that differs from one that stands for a plain cartridge in the table's segment alone, and says that one's data of the
+/// table by the further reading, stands for it too once it is settled, where it is not protected. So an append that was stopped
+/// among its writes of the table, with one sector more of the table's segment lost and nothing else, is read as the table before
+/// it or the one behind it, and once it is settled so it stands for the plain cartridge without the volume or for that with it.
+pub fn one_loss_of_an_append_is_settled()
+    ensures stands { FurtherSettledStands }
+    ensures stopped { StoppedAppendSettles }
 {}
