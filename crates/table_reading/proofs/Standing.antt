@@ -5,6 +5,7 @@ use Rattle.qic_base.specs.Cartridge.{Cartridge, view_at}
 use Rattle.qic_base.specs.Step.{Step, effects}
 use Rattle.qic_base.proofs.Steps.{Torn-all}
 use Rattle.cartridge_spec.specs.Segment.{sector_at}
+use Rattle.cartridge_spec.specs.Slots.{slot_sector}
 use Rattle.cartridge_spec.specs.Shape.{usable_places}
 use Rattle.cartridge_spec.specs.Says.{whole_mask, with_parity, Written}
 use Rattle.cartridge_spec.specs.Header.{header_fault}
@@ -21,15 +22,17 @@ use Rattle.mount_laws.proofs.Standing.{written_table}
 use Rattle.mount_laws.proofs.Stops.{written_right, block_written}
 use Rattle.mount_laws.proofs.Writing.{IsAllWritten, all_written}
 use Rattle.append_plan.specs.Appending.{list_writes}
+use Rattle.append_plan.specs.Between.{IsWhole}
 use Rattle.append_plan.specs.Laws.{volume_of, new_plain, new_table, volume_steps, list_steps, IsReady}
-use Rattle.append_plan.proofs.Appended.{appended_stands, some_both}
+use Rattle.append_plan.proofs.Appended.{appended_stands, appended_is_whole, some_both}
 use Rattle.append_plan.proofs.Keeping.{AreIn, IsKeptBut, steps_kept, steps_stopped}
 use Rattle.append_plan.proofs.Table.{ready_count}
 use Rattle.append_plan.proofs.Volume.{may_append, stopped_volume}
 use Rattle.table_reading.specs.FurtherSets.{FurtherIs}
 use Rattle.table_reading.specs.OneLoss.{LosesOne, LosesOneAlone}
-use Rattle.table_reading.specs.Laws.{FurtherSettledIsWritten, FurtherSettledIsTable, FurtherSettledStands, StoppedAppendSettles}
-use Rattle.table_reading.proofs.Append.{stopped_append_reads_either}
+use Rattle.table_reading.specs.Laws.{FurtherSettledIsWritten, FurtherSettledIsTable, FurtherSettledStands, StoppedAppendSettles, DoneAppendOneLoss}
+use Rattle.table_reading.proofs.Append.{append_changes_one_sector, stopped_append_reads_either}
+use Rattle.table_reading.proofs.OneLoss.{before_reads_old_still}
 use Rattle.table_reading.proofs.Settled.{further_length, IsBeside, beside_then}
 use Rattle.table_reading.proofs.Settling.{IsFar, is_far}
 
@@ -180,3 +183,27 @@ stopped_append_settles c d plain name date bytes left ready is torn =
               (subst (λ (g : Cartridge). Stands (changed_by steps g) (new_plain c plain name date bytes))
               (sym is) (new_stands c plain name date bytes ready)) reads unmarked,
         )
+
+-- ---- a done append
+
+new_whole : (c : Cartridge) (plain : Plain) (name : List ℕ) (date : ℕ) (bytes : List ℕ) → IsReady c plain name date bytes →
+    IsWhole (changed_by (list_steps c plain name date bytes) (changed_by (volume_steps c plain name date bytes) c))
+    (new_table c plain name date bytes)
+new_whole c plain name date bytes ready =
+    subst (λ (e : Cartridge). IsWhole e (new_table c plain name date bytes))
+    (changed_by-append (volume_steps c plain name date bytes) (list_steps c plain name date bytes) c)
+    (appended_is_whole c plain name date bytes ready)
+
+pub done_append_one_loss : DoneAppendOneLoss
+done_append_one_loss c e plain name date bytes ready is f lost alone =
+    let new : List (List ℕ) = new_table c plain name date bytes in
+    let changes = append_changes_one_sector c plain name date bytes (may_append ready) in
+    let whole : IsWhole e new = subst (λ (g : Cartridge). IsWhole g new) (sym is) (new_whole c plain name date bytes ready) in
+    let reads : FurtherIs f new =
+    before_reads_old_still e f new (slot_sector (length plain.volumes)) lost changes.0.new_area changes.0.data_sector (inl whole) alone.loses in (
+      reads,
+      λ unmarked.
+          beside_settled e f (new_plain c plain name date bytes) (record { info = alone.info; others = alone.elsewhere })
+          (subst (λ (g : Cartridge). Stands g (new_plain c plain name date bytes)) (sym is) (new_stands c plain name date bytes ready))
+          reads unmarked,
+    )

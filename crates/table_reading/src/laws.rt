@@ -1,7 +1,7 @@
 //! What the further reading of the table's segment gives. Each law is the contract of a function that does nothing, so that
 //! other crates can rest on it; their proofs import the lemmas of this crate's `proofs`.
 
-ghost use Rattle.table_reading.specs.Laws.{FurtherSaysIsFunction, FurtherSaysAlways, FurtherSaysTheSame, ParityBytesDiffer, ParityDiffers, NearBlockIsTables, BeforeReadsOldStill, LostParityReadsNew, LostDataReadsOld, LostDataReadsNew, OneLossReadsEither, AppendChangesOneSector, StoppedAppendReadsEither, StoppedFurtherSettling, FurtherSettlingIsSettling, FurtherSettlingSettles, FurtherSettlingEffects, FurtherSettlingKeeps, FurtherSettledIsWritten, FurtherSettledIsTable, FurtherSettledStands, StoppedAppendSettles};
+ghost use Rattle.table_reading.specs.Laws.{FurtherSaysIsFunction, FurtherSaysAlways, FurtherSaysTheSame, ParityBytesDiffer, ParityDiffers, NearBlockIsTables, BeforeReadsOldStill, LostParityReadsNew, LostDataReadsOld, LostDataReadsNew, OneLossReadsEither, AppendChangesOneSector, StoppedAppendReadsEither, StoppedFurtherSettling, FurtherSettlingIsSettling, FurtherSettlingSettles, FurtherSettlingEffects, FurtherSettlingKeeps, FurtherSettledIsWritten, FurtherSettledIsTable, FurtherSettledStands, StoppedAppendSettles, DoneAppendOneLoss};
 
 /// The further reading of the table's segment says at most one thing.
 pub fn further_says_is_function()
@@ -97,4 +97,10 @@ pub fn further_settled_is_table()
 pub fn one_loss_of_an_append_is_settled()
     ensures stands { FurtherSettledStands }
     ensures stopped { StoppedAppendSettles }
+{}
+
+/// Once all writes of an append are done, and one sector of the table's segment is lost and nothing else, the table with the volume
+/// is read, and once it is settled so, on a cartridge that is not protected, that stands for the plain cartridge with the volume.
+pub fn one_loss_of_a_done_append()
+    ensures { DoneAppendOneLoss }
 {}
