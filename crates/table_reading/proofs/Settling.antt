@@ -246,38 +246,37 @@ pub record IsApart (c : Cartridge) (area : List (List ℕ)) (m k : ℕ) : Type 0
 abbrev pub IsFar : Cartridge → (area : List (List ℕ)) → Type 0
 IsFar c area = ((m : ℕ) × IsBase c area m) ⊎ ((m : ℕ) × (k : ℕ) × IsApart c area m k)
 
-far_third : (c : Cartridge) (area : List (List ℕ)) (m : ℕ) → FurtherIs c area → IsArea area → m < 29 → IsUnreadable (view_at c 2 m) →
-    HoldsOutside c area (m ∷ 30 ∷ 31 ∷ []) → IsRead (view_at c 2 31) → IsFar c area
-far_third c area m reads is small gone holds read =
+far_base : (c : Cartridge) (area : List (List ℕ)) (m : ℕ) → FurtherIs c area → IsArea area → m < 29 → IsUnreadable (view_at c 2 m) →
+    AllBut c area m → (HoldsPart c area 30 × HoldsPart c area 31) ⊎ (HoldsPart c area 29 × IsRead (view_at c 2 31)) → IsFar c area
+far_base c area m reads is small gone data_sectors parity =
     inl (
       m,
       record {
         is_area = is;
         small = small;
         gone = gone;
-        data_sectors = λ i h apart. holds i (omega arith) (apart, ((λ e. omega arith), ((λ e. omega arith), tt)));
+        data_sectors = data_sectors;
         reads = reads;
-        parity = inr (holds 29 (omega arith) ((λ e. omega arith), ((λ e. omega arith), ((λ e. omega arith), tt))), read);
+        parity = parity;
       },
     )
+
+far_third : (c : Cartridge) (area : List (List ℕ)) (m : ℕ) → FurtherIs c area → IsArea area → m < 29 → IsUnreadable (view_at c 2 m) →
+    HoldsOutside c area (m ∷ 30 ∷ 31 ∷ []) → IsRead (view_at c 2 31) → IsFar c area
+far_third c area m reads is small gone holds read =
+    far_base c area m reads is small gone
+    (λ i h apart. holds i (omega arith) (apart, ((λ e. omega arith), ((λ e. omega arith), tt))))
+    (inr (holds 29 (omega arith) ((λ e. omega arith), ((λ e. omega arith), ((λ e. omega arith), tt))), read))
 
 far_first : (c : Cartridge) (area : List (List ℕ)) (m : ℕ) → FurtherIs c area → IsArea area → m < 29 → IsUnreadable (view_at c 2 m) →
     HoldsOutside c area (m ∷ 29 ∷ []) → IsFar c area
 far_first c area m reads is small gone holds =
-    inl (
-      m,
-      record {
-        is_area = is;
-        small = small;
-        gone = gone;
-        data_sectors = λ i h apart. holds i (omega arith) (apart, ((λ e. omega arith), tt));
-        reads = reads;
-        parity = inl (
-          holds 30 (omega arith) ((λ e. omega arith), ((λ e. omega arith), tt)),
-          holds 31 (omega arith) ((λ e. omega arith), ((λ e. omega arith), tt)),
-        );
-      },
-    )
+    far_base c area m reads is small gone
+    (λ i h apart. holds i (omega arith) (apart, ((λ e. omega arith), tt)))
+    (inl (
+      holds 30 (omega arith) ((λ e. omega arith), ((λ e. omega arith), tt)),
+      holds 31 (omega arith) ((λ e. omega arith), ((λ e. omega arith), tt)),
+    ))
 
 last_below : (cells : List SectorView) (n k : ℕ) → last_used_below cells n ≡ Some k → k < n
 unfolding last_used_below
@@ -293,6 +292,24 @@ last_below cells (suc n) k is =
           let rest : k < n = last_below cells n k (sym (ap (λ (b : Bool). if b then Some n else last_used_below cells n) hides) ∙ is) in
           omega arith
     ]
+
+far_beside : (c : Cartridge) (area : List (List ℕ)) (m k : ℕ) → last_used (table_cells c) ≡ Some k → IsArea area → m < 29 →
+    IsUnreadable (view_at c 2 m) → (k ≢ m → IsRead (view_at c 2 k)) → HoldsOutside c area (k ∷ m ∷ 29 ∷ []) → PartOrGone c area 29 →
+    IsFar c area
+far_beside c area m k used is small gone read holds first =
+    inr (
+      m,
+      k,
+      record {
+        is_area = is;
+        small = small;
+        place = last_below (table_cells c) 29 k used;
+        gone = gone;
+        read = read;
+        holds = holds;
+        first = first;
+      },
+    )
 
 only_this : (m i : ℕ) → i ≢ m → IsOneOf (m ∷ []) i → ⊥
 only_this m i apart (inl same) = apart same
@@ -331,19 +348,10 @@ far_by_one c area m used is_used reads small gone among (inr (_, inr (_, rest)))
     with_k k is has =
         let place : k < 29 = last_below (table_cells c) 29 k is in
         let out = outside c area (k ∷ m ∷ []) (omega arith) (λ i un. inr (among i un)) has in
-        inr (
-          m,
-          k,
-          record {
-            is_area = out.0;
-            small = small;
-            place = place;
-            gone = gone;
-            read = λ apart. read_there c (m ∷ []) k among (omega arith) (only_this m k apart);
-            holds = λ i h none. out.1 i h (none.0, (none.1.0, tt));
-            first = inl (out.1 29 (omega arith) ((λ e. omega arith), ((λ e. omega arith), tt)));
-          },
-        )
+        far_beside c area m k is out.0 small gone
+        (λ apart. read_there c (m ∷ []) k among (omega arith) (only_this m k apart))
+        (λ i h none. out.1 i h (none.0, (none.1.0, tt)))
+        (inl (out.1 29 (omega arith) ((λ e. omega arith), ((λ e. omega arith), tt))))
 
     by_used : (u : Option ℕ) → last_used (table_cells c) ≡ u →
         HasFirstBlock (with_used u (m ∷ []) ++ set_of (m ∷ 30 ∷ 31 ∷ []) ∷ []) (table_cells c) area → IsFar c area
@@ -387,19 +395,10 @@ far_by_two c area m other used is_used reads small places among first =
     with_first (Some k) is those found (inl has) =
         let place : k < 29 = last_below (table_cells c) 29 k is in
         let out = outside c area (k ∷ m ∷ 29 ∷ []) (omega arith) (λ i un. inr (those i un)) has in
-        inr (
-          m,
-          k,
-          record {
-            is_area = out.0;
-            small = small;
-            place = place;
-            gone = gone;
-            read = λ apart. read_there c (m ∷ 29 ∷ []) k those (omega arith) (these_two m 29 k apart (λ e. omega arith));
-            holds = out.1;
-            first = inr (is_gone c 29 (omega arith) (subst (λ (ps : List ℕ). IsOneOf ps 29) (sym found) (inr (inl refl))));
-          },
-        )
+        far_beside c area m k is out.0 small gone
+        (λ apart. read_there c (m ∷ 29 ∷ []) k those (omega arith) (these_two m 29 k apart (λ e. omega arith)))
+        out.1
+        (inr (is_gone c 29 (omega arith) (subst (λ (ps : List ℕ). IsOneOf ps 29) (sym found) (inr (inl refl)))))
     with_first (Some k) is those found (inr none) = absurd none.1
 
     with_second : AreAmong (table_cells c) (m ∷ 30 ∷ []) → HasFirstBlock (set_of (m ∷ 30 ∷ 31 ∷ []) ∷ []) (table_cells c) area → IsFar c area
