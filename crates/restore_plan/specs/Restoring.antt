@@ -75,7 +75,7 @@ Restores c words (piece ∷ needed) (act ∷ acts) ending = IsRead c words piece
 
 -- ---- the framed form
 
--- an act with the line `part K` before its text, where K is the number of its bytes
+-- an act with the line `part K` before its text, where K is the count of its piece
 abbrev pub framed_act : Piece → Act → Act
 framed_act piece act = record {
   steps = act.steps;

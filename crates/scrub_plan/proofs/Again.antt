@@ -17,9 +17,9 @@ use Rattle.cartridge_spec.proofs.Sayings.{says_is_function}
 use Rattle.cartridge_spec.proofs.Segments.{count_of_cells}
 use Rattle.format_plan.proofs.Standing.{same_cells}
 use Rattle.scrub_plan.specs.Mended.{IsBeingMended, IsScrubbed}
-use Rattle.scrub_plan.specs.Scrubbing.{Looked, cells_at, looked_at, reads, mending_writes, steps_in, SayAtOnce, acts_at_once}
+use Rattle.scrub_plan.specs.Scrubbing.{Rise, Looked, cells_at, looked_at, reads, mending_writes, steps_in, SayAtOnce, acts_at_once}
 use Rattle.scrub_plan.specs.Laws.{AreAllLive, SecondScrubWritesNothing}
-use Rattle.scrub_plan.proofs.Apart.{Rise, contains_first, contains_more, contains_cases, looked_rise}
+use Rattle.scrub_plan.proofs.Apart.{contains_first, contains_more, contains_cases, looked_rise}
 use Rattle.scrub_plan.proofs.AtOnce.{scrubs_at_once}
 use Rattle.scrub_plan.proofs.Done.{done_scrub, done_being_mended}
 use Rattle.scrub_plan.proofs.Mending.{scrub_is_at_once}

@@ -9,7 +9,7 @@ use Rattle.scrub_plan.specs.Laws.{LookedCarry}
 use Rattle.cartridge_spec.specs.Table.{Entry, LieBehind, IsSoundList}
 use Rattle.cartridge_spec.specs.Volumes.{carrying, carrying_segments}
 use Rattle.append_plan.proofs.Segments.{IsRising, carrying_carry, carrying_from, carrying_rise}
-use Rattle.scrub_plan.specs.Scrubbing.{Looked, whole_segment, looked_segments, looked_volumes, looked_at}
+use Rattle.scrub_plan.specs.Scrubbing.{Looked, Rise, whole_segment, looked_segments, looked_volumes, looked_at}
 
 -- ---- lists
 
@@ -24,10 +24,6 @@ pub contains_more : {A : Type 0} (y x : A) (ys : List A) → Contains ys x → C
 contains_more y x ys at = let h = at.1 in (suc at.0, omega arith, at.2)
 
 -- ---- segments that rise
-
-abbrev pub Rise : List Looked → Type 0
-Rise [] = Unit {0}
-Rise (l ∷ ls) = All (λ m. l.segment < m.segment) ls × Rise ls
 
 rise_append : (mid : ℕ) (xs ys : List Looked) → Rise xs → Rise ys → All (λ l. l.segment ≤ mid) xs → All (λ m. mid < m.segment) ys →
     Rise (xs ++ ys)

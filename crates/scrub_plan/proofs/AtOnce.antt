@@ -15,9 +15,9 @@ use Rattle.std.proofs.lemmas.List.{append-nil}
 use Rattle.format_plan.proofs.Standing.{same_cells}
 use Rattle.append_plan.specs.Writes.{AreWrites}
 use Rattle.append_plan.proofs.Keeping.{AreIn, in_append, steps_kept}
-use Rattle.scrub_plan.specs.Scrubbing.{Looked, looked_at, reads, mending_writes, steps_in, line_in, look_act, SayInTurn, looking_acts, last_act, counts_of, scrub_acts, SayAtOnce, acts_at_once}
+use Rattle.scrub_plan.specs.Scrubbing.{Rise, Looked, looked_at, reads, mending_writes, steps_in, line_in, look_act, SayInTurn, looking_acts, last_act, counts_of, scrub_acts, SayAtOnce, acts_at_once}
 use Rattle.scrub_plan.specs.Laws.{ScrubsAtOnce}
-use Rattle.scrub_plan.proofs.Apart.{Rise, looked_rise}
+use Rattle.scrub_plan.proofs.Apart.{looked_rise}
 
 -- ---- the writes of a segment
 

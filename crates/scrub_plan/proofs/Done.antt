@@ -21,9 +21,9 @@ use Rattle.format_plan.proofs.Views.{view_of_sector, view_of_other_sector}
 use Rattle.format_plan.proofs.Writing.{changed_by-append, effects-some}
 use Rattle.append_plan.proofs.Keeping.{steps_kept}
 use Rattle.scrub_plan.specs.Mended.{IsMended, IsBeingMended}
-use Rattle.scrub_plan.specs.Scrubbing.{Looked, cells_at, looked_at, reads, mending_writes, steps_in, Scrubs, SayAtOnce, acts_at_once}
+use Rattle.scrub_plan.specs.Scrubbing.{Rise, Looked, cells_at, looked_at, reads, mending_writes, steps_in, Scrubs, SayAtOnce, acts_at_once}
 use Rattle.scrub_plan.specs.Laws.{DoneScrub}
-use Rattle.scrub_plan.proofs.Apart.{Rise, contains_cases, looked_rise}
+use Rattle.scrub_plan.proofs.Apart.{contains_cases, looked_rise}
 use Rattle.scrub_plan.proofs.AtOnce.{mending_are, steps_stay, at_once_stay, scrubs_at_once}
 use Rattle.scrub_plan.proofs.Mending.{scrub_is_at_once, stopped_scrub}
 

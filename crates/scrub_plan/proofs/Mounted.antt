@@ -14,9 +14,9 @@ use Rattle.format_plan.proofs.Writing.{some_weaker}
 use Rattle.volume_table.proofs.Orders.{faultless_is_sound}
 use Rattle.append_plan.proofs.Volume.{old_order}
 use Rattle.scrub_plan.specs.Mended.{IsBeingMended}
-use Rattle.scrub_plan.specs.Scrubbing.{Looked, whole_segment, looked_at}
+use Rattle.scrub_plan.specs.Scrubbing.{Rise, Looked, whole_segment, looked_at}
 use Rattle.scrub_plan.specs.Laws.{DoneScrubStands, DoneScrubIsClean, DoneScrubMounts, DoneScrubTable, StoppedScrubStands, StoppedScrubIsClean, StoppedScrubMounts, StoppedScrubTable}
-use Rattle.scrub_plan.proofs.Apart.{Rise, looked_rise}
+use Rattle.scrub_plan.proofs.Apart.{looked_rise}
 use Rattle.scrub_plan.proofs.Done.{done_being_mended}
 use Rattle.scrub_plan.proofs.Mending.{stopped_scrub}
 use Rattle.scrub_plan.proofs.Standing.{looks_in_front, in_force, table_kept, mending_stands, written_kept, zero_kept}

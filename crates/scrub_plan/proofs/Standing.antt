@@ -25,8 +25,8 @@ use Rattle.format_plan.proofs.Copies.{held_view, view_held, no_fewer_unreadable,
 use Rattle.format_plan.proofs.Standing.{same_cells}
 use Rattle.mount_laws.proofs.Standing.{written_table}
 use Rattle.scrub_plan.specs.Mended.{IsMended, IsBeingMended}
-use Rattle.scrub_plan.specs.Scrubbing.{Looked, whole_segment, looked_segments, looked_volumes, looked_at, cells_at, reads}
-use Rattle.scrub_plan.proofs.Apart.{Rise, contains_first, contains_more, one_looked}
+use Rattle.scrub_plan.specs.Scrubbing.{Rise, Looked, whole_segment, looked_segments, looked_volumes, looked_at, cells_at, reads}
+use Rattle.scrub_plan.proofs.Apart.{contains_first, contains_more, one_looked}
 use Rattle.scrub_plan.proofs.Mending.{readable_stays}
 use Rattle.scrub_plan.proofs.Turns.{copy_is_looked_at}
 

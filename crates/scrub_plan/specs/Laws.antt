@@ -18,7 +18,7 @@ use Rattle.qic_base.specs.LostSet.{IsLost}
 use Rattle.append_plan.specs.Settled.{IsSettledFor}
 use Rattle.format_plan.specs.Clean.{StandsCleanly}
 use Rattle.scrub_plan.specs.Mended.{IsBeingMended, IsScrubbed}
-use Rattle.scrub_plan.specs.Scrubbing.{Looked, whole_segment, looked_at, cells_at, reads, steps_in, look_act, SayInTurn, looking_acts, unread_count, Scrubs, SayAtOnce, acts_at_once}
+use Rattle.scrub_plan.specs.Scrubbing.{Looked, Rise, whole_segment, looked_at, cells_at, reads, steps_in, look_act, SayInTurn, looking_acts, unread_count, Scrubs, SayAtOnce, acts_at_once}
 
 -- ---- what it does
 
@@ -49,8 +49,11 @@ CopyIsLookedAt =
     (c : Cartridge) (copy : ℕ) (saying : Saying) → copy < 2 → Says (copy_cells c copy) saying →
     (reads (whole_segment copy) saying ≡ true) ↔ ((area : List (List ℕ)) × CopyReads c copy area)
 
--- no write touches a segment that is looked at later: what each one says, and what is done in it, follows from the
--- cartridge as it was before the first write
+-- the segments that are looked at ascend, so no write touches one that is looked at later: ..
+abbrev pub LookedRise : Type 0
+LookedRise = (words : List ℕ) (entries : List Entry) (last : ℕ) → IsSoundList last entries → Rise (looked_at words entries)
+
+-- .. what each one says, and what is done in it, follows from the cartridge as it was before the first write
 abbrev pub ScrubsAtOnce : Type 0
 ScrubsAtOnce =
     (c : Cartridge) (words : List ℕ) (entries : List Entry) (last : ℕ) (acts : List Act) → IsSoundList last entries →
@@ -74,7 +77,7 @@ OneMoreLook =
     Says (cells_at (changed_by (steps_of (looking_acts c looked sayings)) c) l) s → LooksOnce c looked sayings l s
 
 -- The writes in a segment that reads are those to the places of its unreadable sectors, where the sectors at hand begin with
--- its code block.
+-- a code block.
 abbrev pub StepsByPlaces : Type 0
 StepsByPlaces =
     (c : Cartridge) (l : Looked) (lost : ℕ) (sectors : List (List ℕ)) → IsCodeBlock (take (usable_count l.mask) sectors) →
@@ -139,7 +142,7 @@ DoneScrubIsCartridge =
 abbrev pub AreAllLive : Cartridge → List Looked → Type 0
 AreAllLive c looked = All (λ l. All IsLive (cells_at c l)) looked
 
--- where that is so, a second scrub writes nothing; a segment that did not read does not read again
+-- where that is so, a second scrub writes nothing
 abbrev pub SecondScrubWritesNothing : Type 0
 SecondScrubWritesNothing =
     (c : Cartridge) (words : List ℕ) (entries : List Entry) (last : ℕ) (acts again : List Act) → IsSoundList last entries →

@@ -1,6 +1,6 @@
 -- Scrubbing: the segments that are looked at, what is written in each that reads, and what is printed (this project's
 -- profile).
-use Rattle.std.specs.Prelude.{◌≡◌, ℕ, ◌+◌, Bool, true, false, List, [], ◌∷◌, ◌++◌, length, codes, decimal, nat_lt, if◌then◌else◌}
+use Rattle.std.specs.Prelude.{◌≡◌, ℕ, ◌+◌, Bool, true, false, List, [], ◌∷◌, ◌++◌, length, codes, decimal, ◌<◌, nat_lt, All, if◌then◌else◌}
 use Rattle.qic_base.specs.declared.tape.SectorView.{SectorView}
 use Rattle.qic_base.specs.Cartridge.{Cartridge, view_at}
 use Rattle.qic_base.specs.Step.{Step, WriteSector}
@@ -37,6 +37,11 @@ looked_volumes words (e ∷ es) = looked_segments words (carrying_segments words
 -- both header copies, the table's segment, and the carrying segments of all volumes, in this order
 abbrev pub looked_at : (words : List ℕ) → List Entry → List Looked
 looked_at words entries = whole_segment 0 ∷ whole_segment 1 ∷ whole_segment 2 ∷ looked_volumes words entries
+
+-- each segment lies behind all that are looked at before it
+abbrev pub Rise : List Looked → Type 0
+Rise [] = Unit {0}
+Rise (l ∷ ls) = All (λ m. l.segment < m.segment) ls × Rise ls
 
 -- the views of its usable sectors
 abbrev pub cells_at : Cartridge → Looked → List SectorView

@@ -1,13 +1,15 @@
 //! What scrubbing leaves, done or stopped. Each law is the contract of a function that does nothing, so that other crates
 //! can rest on it; their proofs import the lemmas of this crate's `proofs`.
 
-ghost use Rattle.scrub_plan.specs.Laws.{ScrubsIsFunction, ScrubsAlways, CopyIsLookedAt, ScrubsAtOnce, LookedCarry, OneMoreLook, StepsByPlaces, CountOfNamed, SettledTableReads, DoneScrub, DoneScrubStands, DoneScrubIsClean, DoneScrubMounts, DoneScrubTable, DoneScrubIsSettled, DoneScrubIsCartridge, SecondScrubWritesNothing, StoppedScrub, ReadableStays, StoppedScrubStands, StoppedScrubIsClean, StoppedScrubMounts, StoppedScrubTable, StoppedScrubIsSettled, StoppedScrubIsCartridge};
+ghost use Rattle.scrub_plan.specs.Laws.{ScrubsIsFunction, ScrubsAlways, CopyIsLookedAt, LookedRise, ScrubsAtOnce, LookedCarry, OneMoreLook, StepsByPlaces, CountOfNamed, SettledTableReads, DoneScrub, DoneScrubStands, DoneScrubIsClean, DoneScrubMounts, DoneScrubTable, DoneScrubIsSettled, DoneScrubIsCartridge, SecondScrubWritesNothing, StoppedScrub, ReadableStays, StoppedScrubStands, StoppedScrubIsClean, StoppedScrubMounts, StoppedScrubTable, StoppedScrubIsSettled, StoppedScrubIsCartridge};
 
-/// Scrubbing a cartridge does one thing, and it does something; no write touches a segment that is looked at later, and each
+/// Scrubbing a cartridge does one thing, and it does something. The segments that are looked at ascend, so no write touches one
+/// that is looked at later: what each says and what is done in it follows from the cartridge before the first write; and each
 /// of them carries data.
 pub fn scrubbing_is_one()
     ensures function { ScrubsIsFunction }
     ensures always { ScrubsAlways }
+    ensures rise { LookedRise }
     ensures at_once { ScrubsAtOnce }
     ensures carry { LookedCarry }
 {}

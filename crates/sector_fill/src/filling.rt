@@ -38,7 +38,8 @@ fn fill_sector<S: Source>(
 }
 
 /// Reads up to `most` bytes into the first `count` sectors, one behind the other, and answers how many were read: fewer
-/// than that and than the sectors hold only where the source has ended. The sectors become zero behind them.
+/// than that and than the sectors hold only where the source has ended. The sectors become zero behind them. A failure
+/// leaves them with anything, and the bytes that were read before it are taken from the source.
 pub fn fill_sectors<S: Source>(
     source: &mut S,
     sectors: &mut [[u8; 1024]],

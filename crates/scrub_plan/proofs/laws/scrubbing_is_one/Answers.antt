@@ -1,4 +1,4 @@
-use Rattle.scrub_plan.proofs.Apart.{looked_carry}
+use Rattle.scrub_plan.proofs.Apart.{looked_carry, looked_rise}
 use Rattle.scrub_plan.proofs.AtOnce.{scrubs_at_once}
 use Rattle.scrub_plan.proofs.Turns.{scrubs_is_function, scrubs_always}
 use Rattle.scrub_plan.proofs.laws.scrubbing_is_one.Goals as goal
@@ -8,6 +8,9 @@ returns-clause-function c = scrubs_is_function
 
 pub returns-clause-always : goal.returns-clause-always
 returns-clause-always c = scrubs_always
+
+pub returns-clause-rise : goal.returns-clause-rise
+returns-clause-rise c words entries last order = looked_rise words last entries order
 
 pub returns-clause-at_once : goal.returns-clause-at_once
 returns-clause-at_once c = scrubs_at_once
