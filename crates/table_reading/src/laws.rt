@@ -1,7 +1,7 @@
 //! What the further reading of the table's segment gives. Each law is the contract of a function that does nothing, so that
 //! other crates can rest on it; their proofs import the lemmas of this crate's `proofs`.
 
-ghost use Rattle.table_reading.specs.Laws.{FurtherSaysIsFunction, FurtherSaysAlways, FurtherSaysTheSame, ParityBytesDiffer, ParityDiffers, NearBlockIsTables, BeforeReadsOldStill, LostParityReadsNew, LostDataReadsOld, LostDataReadsNew, OneLossReadsEither, AppendChangesOneSector, StoppedAppendReadsEither, StoppedFurtherSettling, FurtherSettlingIsSettling, FurtherSettlingSettles, FurtherSettlingEffects, FurtherSettlingKeeps, FurtherSettledIsWritten, FurtherSettledIsTable, FurtherSettledStands, StoppedAppendSettles, DoneAppendOneLoss};
+ghost use Rattle.table_reading.specs.Laws.{FurtherSaysIsFunction, FurtherSaysAlways, FurtherSaysTheSame, ParityBytesDiffer, ParityDiffers, NearBlockIsTables, BeforeReadsOldStill, LostParityReadsNew, LostDataReadsOld, LostDataReadsNew, OneLossReadsEither, AppendChangesOneSector, StoppedAppendReadsEither, FurtherSettlingIsSettling, FurtherSettlingSettles, FurtherSettlingEffects, FurtherSettlingKeeps, FurtherSettledIsWritten, FurtherSettledIsTable, FurtherSettledStands, StoppedAppendSettles, DoneAppendOneLoss};
 
 /// The further reading of the table's segment says at most one thing.
 pub fn further_says_is_function()
@@ -57,12 +57,6 @@ pub fn one_loss_of_an_append()
     ensures { StoppedAppendReadsEither }
 {}
 
-/// Each front of the writes that settle a table by its further reading, with the next one torn, leaves the same data to be read,
-/// on any cartridge.
-pub fn stopped_further_settling()
-    ensures { StoppedFurtherSettling }
-{}
-
 /// Where the table is read without leaving a readable sector out of account, its settling by the further reading writes what the
 /// settling without it does.
 pub fn further_settling_is_settling()
@@ -77,7 +71,7 @@ pub fn further_settling_settles()
 {}
 
 /// Each front of them, with the next one torn, leaves the marks and all other segments as they were, and the same data to be
-/// read.
+/// read, on any cartridge.
 pub fn further_settling_keeps()
     ensures { FurtherSettlingKeeps }
 {}
