@@ -30,7 +30,7 @@ use Rattle.append_plan.proofs.Table.{ready_count}
 use Rattle.append_plan.proofs.Volume.{may_append, stopped_volume}
 use Rattle.table_reading.specs.FurtherSets.{FurtherIs}
 use Rattle.table_reading.specs.OneLoss.{LosesOne, LosesOneAlone}
-use Rattle.table_reading.specs.Laws.{FurtherSettledIsWritten, FurtherSettledIsTable, FurtherSettledStands, StoppedAppendSettles, DoneAppendOneLoss}
+use Rattle.table_reading.specs.Laws.{FurtherSettledIsWritten, FurtherSettledIsTable, FurtherSettledStands, StoppedAppendSettles, DoneAppendReadsNew, DoneAppendSettles}
 use Rattle.table_reading.proofs.Append.{append_changes_one_sector, stopped_append_reads_either}
 use Rattle.table_reading.proofs.OneLoss.{before_reads_old_still}
 use Rattle.table_reading.proofs.Settled.{further_length, IsBeside, beside_then}
@@ -194,16 +194,15 @@ new_whole c plain name date bytes ready =
     (changed_by-append (volume_steps c plain name date bytes) (list_steps c plain name date bytes) c)
     (appended_is_whole c plain name date bytes ready)
 
-pub done_append_one_loss : DoneAppendOneLoss
-done_append_one_loss c e plain name date bytes ready is f lost alone =
+pub done_append_reads_new : DoneAppendReadsNew
+done_append_reads_new c e plain name date bytes ready is f lost loses =
     let new : List (List ℕ) = new_table c plain name date bytes in
     let changes = append_changes_one_sector c plain name date bytes (may_append ready) in
     let whole : IsWhole e new = subst (λ (g : Cartridge). IsWhole g new) (sym is) (new_whole c plain name date bytes ready) in
-    let reads : FurtherIs f new =
-    before_reads_old_still e f new (slot_sector (length plain.volumes)) lost changes.0.new_area changes.0.data_sector (inl whole) alone.loses in (
-      reads,
-      λ unmarked.
-          beside_settled e f (new_plain c plain name date bytes) (record { info = alone.info; others = alone.elsewhere })
-          (subst (λ (g : Cartridge). Stands g (new_plain c plain name date bytes)) (sym is) (new_stands c plain name date bytes ready))
-          reads unmarked,
-    )
+    before_reads_old_still e f new (slot_sector (length plain.volumes)) lost changes.0.new_area changes.0.data_sector (inl whole) loses
+
+pub done_append_settles : DoneAppendSettles
+done_append_settles c e plain name date bytes ready is f lost alone unmarked =
+    beside_settled e f (new_plain c plain name date bytes) (record { info = alone.info; others = alone.elsewhere })
+    (subst (λ (g : Cartridge). Stands g (new_plain c plain name date bytes)) (sym is) (new_stands c plain name date bytes ready))
+    (done_append_reads_new c e plain name date bytes ready is f lost alone.loses) unmarked

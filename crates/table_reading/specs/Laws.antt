@@ -169,12 +169,17 @@ StoppedAppendSettles =
     ⊎ (FurtherIs f (new_table c plain name date bytes)
     × Stands (settled (new_table c plain name date bytes) f) (new_plain c plain name date bytes)))
 
--- and where all its writes were done, and one sector of the table's segment is lost and nothing else, the table with the volume is
--- read, and the settled cartridge stands for the plain one with it
-abbrev pub DoneAppendOneLoss : Type 0
-DoneAppendOneLoss =
+-- and where all its writes were done, and one sector of the table's segment is lost, the table with the volume is read, ..
+abbrev pub DoneAppendReadsNew : Type 0
+DoneAppendReadsNew =
     (c e : Cartridge) (plain : Plain) (name : List ℕ) (date : ℕ) (bytes : List ℕ) → IsReady c plain name date bytes →
     e ≡ changed_by (list_steps c plain name date bytes) (changed_by (volume_steps c plain name date bytes) c) →
-    (f : Cartridge) (lost : ℕ) → LosesOneAlone e f lost →
-    FurtherIs f (new_table c plain name date bytes)
-    × (f.info.protected ≡ false → Stands (settled (new_table c plain name date bytes) f) (new_plain c plain name date bytes))
+    (f : Cartridge) (lost : ℕ) → LosesOne e f lost → FurtherIs f (new_table c plain name date bytes)
+
+-- .. and where nothing else is lost, the settled cartridge stands for the plain one with it
+abbrev pub DoneAppendSettles : Type 0
+DoneAppendSettles =
+    (c e : Cartridge) (plain : Plain) (name : List ℕ) (date : ℕ) (bytes : List ℕ) → IsReady c plain name date bytes →
+    e ≡ changed_by (list_steps c plain name date bytes) (changed_by (volume_steps c plain name date bytes) c) →
+    (f : Cartridge) (lost : ℕ) → LosesOneAlone e f lost → f.info.protected ≡ false →
+    Stands (settled (new_table c plain name date bytes) f) (new_plain c plain name date bytes)

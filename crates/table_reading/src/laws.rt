@@ -1,7 +1,7 @@
 //! What the further reading of the table's segment gives. Each law is the contract of a function that does nothing, so that
 //! other crates can rest on it; their proofs import the lemmas of this crate's `proofs`.
 
-ghost use Rattle.table_reading.specs.Laws.{FurtherSaysIsFunction, FurtherSaysAlways, FurtherSaysTheSame, ParityBytesDiffer, ParityDiffers, NearBlockIsTables, BeforeReadsOldStill, LostParityReadsNew, LostDataReadsOld, LostDataReadsNew, OneLossReadsEither, AppendChangesOneSector, StoppedAppendReadsEither, FurtherSettlingIsSettling, FurtherSettlingSettles, FurtherSettlingEffects, FurtherSettlingKeeps, FurtherSettledIsWritten, FurtherSettledIsTable, FurtherSettledStands, StoppedAppendSettles, DoneAppendOneLoss};
+ghost use Rattle.table_reading.specs.Laws.{FurtherSaysIsFunction, FurtherSaysAlways, FurtherSaysTheSame, ParityBytesDiffer, ParityDiffers, NearBlockIsTables, BeforeReadsOldStill, LostParityReadsNew, LostDataReadsOld, LostDataReadsNew, OneLossReadsEither, AppendChangesOneSector, StoppedAppendReadsEither, FurtherSettlingIsSettling, FurtherSettlingSettles, FurtherSettlingEffects, FurtherSettlingKeeps, FurtherSettledIsWritten, FurtherSettledIsTable, FurtherSettledStands, StoppedAppendSettles, DoneAppendReadsNew, DoneAppendSettles};
 
 /// The further reading of the table's segment says at most one thing.
 pub fn further_says_is_function()
@@ -93,8 +93,10 @@ pub fn one_loss_of_an_append_is_settled()
     ensures stopped { StoppedAppendSettles }
 {}
 
-/// Once all writes of an append are done, and one sector of the table's segment is lost and nothing else, the table with the volume
-/// is read, and once it is settled so, on a cartridge that is not protected, that stands for the plain cartridge with the volume.
+/// Once all writes of an append are done, and one sector of the table's segment is lost, the table with the volume is read; and
+/// where nothing else is lost, and the cartridge is not protected, it stands for the plain one with the volume once it is settled
+/// so.
 pub fn one_loss_of_a_done_append()
-    ensures { DoneAppendOneLoss }
+    ensures read { DoneAppendReadsNew }
+    ensures stands { DoneAppendSettles }
 {}
