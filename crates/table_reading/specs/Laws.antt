@@ -8,7 +8,7 @@ use Rattle.gf256_qic.specs.Code.{IsCodeBlock}
 use Rattle.cartridge_spec.specs.Segment.{sector_at}
 use Rattle.cartridge_spec.specs.HeaderAndTable.{IsArea, TableIs, table_cells}
 use Rattle.cartridge_spec.specs.Mounting.{settled}
-use Rattle.cartridge_spec.specs.Says.{Mismatch, TableSaying, ByCode, TableSays, Written, unreadable_count, with_parity}
+use Rattle.cartridge_spec.specs.Says.{Mismatch, TableSaying, ByCode, TableSays, Written, with_parity}
 use Rattle.cartridge_spec.specs.Slots.{slot_sector}
 use Rattle.cartridge_spec.specs.Volumes.{Plain, Stands}
 use Rattle.cartridge_spec.specs.Writes.{changed_by}
@@ -143,11 +143,10 @@ abbrev pub FurtherSettledIsWritten : Type 0
 FurtherSettledIsWritten =
     (c : Cartridge) (area : List (List ℕ)) → FurtherIs c area → c.info.protected ≡ false → Written (table_cells (settled area c)) area
 
--- .. so the data are read without leaving a readable sector out, where no more than three sectors are unreadable
+-- .. and the data are read without leaving a readable sector out
 abbrev pub FurtherSettledIsTable : Type 0
 FurtherSettledIsTable =
-    (c : Cartridge) (area : List (List ℕ)) → FurtherIs c area → c.info.protected ≡ false →
-    unreadable_count (table_cells (settled area c)) ≤ 3 → TableIs (settled area c) area
+    (c : Cartridge) (area : List (List ℕ)) → FurtherIs c area → c.info.protected ≡ false → TableIs (settled area c) area
 
 -- a cartridge that differs from one that stands in the table's segment alone, and says that one's data of the table by the further
 -- reading, stands as that one does once it is settled, where it is not protected

@@ -77,8 +77,8 @@ pub fn further_settling_keeps()
 {}
 
 /// Once a table is settled by its further reading, on a cartridge that is not protected, each sector of its segment that can be
-/// read holds its part of the data or their parity. So with no more than three unreadable ones left, the reading that leaves no
-/// readable sector out of account reads these data.
+/// read holds its part of the data or their parity, and the reading that leaves no readable sector out of account reads these
+/// data.
 pub fn further_settled_is_table()
     ensures written { FurtherSettledIsWritten }
     ensures table { FurtherSettledIsTable }
