@@ -26,7 +26,7 @@ use Rattle.append_plan.specs.Between.{HoldsPart}
 use Rattle.append_plan.proofs.Between.{data_sector}
 use Rattle.table_reading.specs.FurtherSets.{set_of, unreadable_from, unreadable_places, shows_used_slot, last_used_below, last_used, with_used, sets_by_one, sets_by_two, sets_by, FurtherIs}
 use Rattle.table_reading.specs.Settling.{holds_other, is_left_out, further_settling_places, further_settling_steps}
-use Rattle.table_reading.specs.Laws.{StoppedFurtherSettling, FurtherSettlingIsSettling}
+use Rattle.table_reading.specs.Laws.{FurtherSettlingIsSettling}
 use Rattle.table_reading.proofs.Sets.{IsOneOf, none_is_unnamed, one_is_named, length-hidden, seen_outside, few_outside, unreadable_is_named}
 use Rattle.table_reading.proofs.Readings.{AreAmong}
 use Rattle.table_reading.proofs.Seen.{HoldsOutside, not_both, gone_there}
@@ -613,7 +613,8 @@ by_marks : (c : Cartridge) (area : List (List ℕ)) (left : Option Cartridge) (p
 by_marks c area left true reads far torn = some_and (λ d. FurtherIs d area) c left reads torn
 by_marks c area left false reads far torn = far_stopped c area left reads far torn
 
-pub stopped_further_settling : StoppedFurtherSettling
+pub stopped_further_settling : (c : Cartridge) (area : List (List ℕ)) (left : Option Cartridge) → FurtherIs c area →
+    Torn (further_settling_steps area c) (Some c) left → IsSomeAnd left (λ d. FurtherIs d area)
 stopped_further_settling c area left reads torn =
     elim (is_far c area reads) [
       | inl table ↦ table_stopped c area left table torn

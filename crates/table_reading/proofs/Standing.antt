@@ -9,7 +9,7 @@ use Rattle.cartridge_spec.specs.Slots.{slot_sector}
 use Rattle.cartridge_spec.specs.Shape.{usable_places}
 use Rattle.cartridge_spec.specs.Says.{whole_mask, with_parity, Written}
 use Rattle.cartridge_spec.specs.Header.{header_fault}
-use Rattle.cartridge_spec.specs.HeaderAndTable.{IsArea, table_cells, copy_cells, last_segment}
+use Rattle.cartridge_spec.specs.HeaderAndTable.{IsArea, TableIs, table_cells, copy_cells, last_segment}
 use Rattle.cartridge_spec.specs.Table.{slot_fault}
 use Rattle.cartridge_spec.specs.Volumes.{Plain, Volume, Stands, entries_of}
 use Rattle.cartridge_spec.specs.Mounting.{settled}
@@ -30,10 +30,11 @@ use Rattle.append_plan.proofs.Table.{ready_count}
 use Rattle.append_plan.proofs.Volume.{may_append, stopped_volume}
 use Rattle.table_reading.specs.FurtherSets.{FurtherIs}
 use Rattle.table_reading.specs.OneLoss.{LosesOne, LosesOneAlone}
-use Rattle.table_reading.specs.Laws.{FurtherSettledIsWritten, FurtherSettledIsTable, FurtherSettledStands, StoppedAppendSettles, DoneAppendOneLoss}
+use Rattle.table_reading.specs.Settling.{further_settling_steps, KeepsFurther}
+use Rattle.table_reading.specs.Laws.{FurtherSettledIsWritten, FurtherSettledIsTable, FurtherSettledStands, StoppedAppendSettles, DoneAppendReadsNew, DoneAppendSettles}
 use Rattle.table_reading.proofs.Append.{append_changes_one_sector, stopped_append_reads_either}
 use Rattle.table_reading.proofs.OneLoss.{before_reads_old_still}
-use Rattle.table_reading.proofs.Settled.{further_length, IsBeside, beside_then}
+use Rattle.table_reading.proofs.Settled.{further_length, IsBeside, beside_then, further_settling_effects, further_settling_keeps}
 use Rattle.table_reading.proofs.Settling.{IsFar, is_far}
 
 -- ---- the table's segment
@@ -58,11 +59,26 @@ far_area : (c : Cartridge) (area : List (List ℕ)) → IsFar c area → IsArea 
 far_area c area (inl (m, base)) = base.is_area
 far_area c area (inr (m, k, apart)) = apart.is_area
 
+-- the data are still read further
+settled_keeps_further : (c : Cartridge) (area : List (List ℕ)) → FurtherIs c area → KeepsFurther area c (settled area c)
+settled_keeps_further c area reads =
+    let steps : List Step = further_settling_steps area c in
+    let all : IsSomeAnd (effects steps (Some c)) (KeepsFurther area c) =
+    further_settling_keeps c area (effects steps (Some c)) reads (Torn-all steps (Some c)) in
+    subst (λ (o : Option Cartridge). IsSomeAnd o (KeepsFurther area c)) (further_settling_effects c area reads) all
+
+-- so no more than three sectors are unreadable, where they are found by the code
+few_table : (c : Cartridge) (area : List (List ℕ)) → IsArea area → Written (table_cells c) area → FurtherIs c area → TableIs c area
+few_table c area is_area written (inl reads) = inl reads
+few_table c area is_area written (inr says) = written_table c area is_area written (inr says.1.0)
+
 pub further_settled_is_table : FurtherSettledIsTable
-further_settled_is_table c area reads is few =
+further_settled_is_table c area reads is =
     elim (is_far c area reads) [
       | inl table ↦ (settled_keeps_table c area table).table
-      | inr far ↦ written_table (settled area c) area (far_area c area far) (further_settled_is_written c area reads is) (inr few)
+      | inr far ↦
+          few_table (settled area c) area (far_area c area far) (further_settled_is_written c area reads is)
+          (settled_keeps_further c area reads).table
     ]
 
 -- ---- what stands
@@ -194,16 +210,15 @@ new_whole c plain name date bytes ready =
     (changed_by-append (volume_steps c plain name date bytes) (list_steps c plain name date bytes) c)
     (appended_is_whole c plain name date bytes ready)
 
-pub done_append_one_loss : DoneAppendOneLoss
-done_append_one_loss c e plain name date bytes ready is f lost alone =
+pub done_append_reads_new : DoneAppendReadsNew
+done_append_reads_new c e plain name date bytes ready is f lost loses =
     let new : List (List ℕ) = new_table c plain name date bytes in
     let changes = append_changes_one_sector c plain name date bytes (may_append ready) in
     let whole : IsWhole e new = subst (λ (g : Cartridge). IsWhole g new) (sym is) (new_whole c plain name date bytes ready) in
-    let reads : FurtherIs f new =
-    before_reads_old_still e f new (slot_sector (length plain.volumes)) lost changes.0.new_area changes.0.data_sector (inl whole) alone.loses in (
-      reads,
-      λ unmarked.
-          beside_settled e f (new_plain c plain name date bytes) (record { info = alone.info; others = alone.elsewhere })
-          (subst (λ (g : Cartridge). Stands g (new_plain c plain name date bytes)) (sym is) (new_stands c plain name date bytes ready))
-          reads unmarked,
-    )
+    before_reads_old_still e f new (slot_sector (length plain.volumes)) lost changes.0.new_area changes.0.data_sector (inl whole) loses
+
+pub done_append_settles : DoneAppendSettles
+done_append_settles c e plain name date bytes ready is f lost alone unmarked =
+    beside_settled e f (new_plain c plain name date bytes) (record { info = alone.info; others = alone.elsewhere })
+    (subst (λ (g : Cartridge). Stands g (new_plain c plain name date bytes)) (sym is) (new_stands c plain name date bytes ready))
+    (done_append_reads_new c e plain name date bytes ready is f lost alone.loses) unmarked

@@ -8,7 +8,7 @@ use Rattle.gf256_qic.specs.Code.{IsCodeBlock}
 use Rattle.cartridge_spec.specs.Segment.{sector_at}
 use Rattle.cartridge_spec.specs.HeaderAndTable.{IsArea, TableIs, table_cells}
 use Rattle.cartridge_spec.specs.Mounting.{settled}
-use Rattle.cartridge_spec.specs.Says.{Mismatch, TableSaying, ByCode, TableSays, Written, unreadable_count, with_parity}
+use Rattle.cartridge_spec.specs.Says.{Mismatch, TableSaying, ByCode, TableSays, Written, with_parity}
 use Rattle.cartridge_spec.specs.Slots.{slot_sector}
 use Rattle.cartridge_spec.specs.Volumes.{Plain, Stands}
 use Rattle.cartridge_spec.specs.Writes.{changed_by}
@@ -116,12 +116,6 @@ StoppedAppendReadsEither =
 
 -- ---- settling
 
--- a stop among the writes that settle a table by its further reading, or behind them, leaves a cartridge that says the same data
-abbrev pub StoppedFurtherSettling : Type 0
-StoppedFurtherSettling =
-    (c : Cartridge) (area : List (List ℕ)) (left : Option Cartridge) → FurtherIs c area →
-    Torn (further_settling_steps area c) (Some c) left → IsSomeAnd left (λ d. FurtherIs d area)
-
 -- where the table is read without leaving a sector out, its settling is the one without that
 abbrev pub FurtherSettlingIsSettling : Type 0
 FurtherSettlingIsSettling =
@@ -137,7 +131,7 @@ abbrev pub FurtherSettlingEffects : Type 0
 FurtherSettlingEffects =
     (c : Cartridge) (area : List (List ℕ)) → FurtherIs c area → effects (further_settling_steps area c) (Some c) ≡ Some (settled area c)
 
--- a stop among the writes, or behind them, changes nothing outside the table's segment
+-- a stop among the writes, or behind them, changes nothing outside the table's segment and leaves the same data to be read
 abbrev pub FurtherSettlingKeeps : Type 0
 FurtherSettlingKeeps =
     (c : Cartridge) (area : List (List ℕ)) (left : Option Cartridge) → FurtherIs c area →
@@ -149,11 +143,10 @@ abbrev pub FurtherSettledIsWritten : Type 0
 FurtherSettledIsWritten =
     (c : Cartridge) (area : List (List ℕ)) → FurtherIs c area → c.info.protected ≡ false → Written (table_cells (settled area c)) area
 
--- .. so the data are read without leaving a readable sector out, where no more than three sectors are unreadable
+-- .. and the data are read without leaving a readable sector out
 abbrev pub FurtherSettledIsTable : Type 0
 FurtherSettledIsTable =
-    (c : Cartridge) (area : List (List ℕ)) → FurtherIs c area → c.info.protected ≡ false →
-    unreadable_count (table_cells (settled area c)) ≤ 3 → TableIs (settled area c) area
+    (c : Cartridge) (area : List (List ℕ)) → FurtherIs c area → c.info.protected ≡ false → TableIs (settled area c) area
 
 -- a cartridge that differs from one that stands in the table's segment alone, and says that one's data of the table by the further
 -- reading, stands as that one does once it is settled, where it is not protected
@@ -175,12 +168,17 @@ StoppedAppendSettles =
     ⊎ (FurtherIs f (new_table c plain name date bytes)
     × Stands (settled (new_table c plain name date bytes) f) (new_plain c plain name date bytes)))
 
--- and where all its writes were done, and one sector of the table's segment is lost and nothing else, the table with the volume is
--- read, and the settled cartridge stands for the plain one with it
-abbrev pub DoneAppendOneLoss : Type 0
-DoneAppendOneLoss =
+-- and where all its writes were done, and one sector of the table's segment is lost, the table with the volume is read, ..
+abbrev pub DoneAppendReadsNew : Type 0
+DoneAppendReadsNew =
     (c e : Cartridge) (plain : Plain) (name : List ℕ) (date : ℕ) (bytes : List ℕ) → IsReady c plain name date bytes →
     e ≡ changed_by (list_steps c plain name date bytes) (changed_by (volume_steps c plain name date bytes) c) →
-    (f : Cartridge) (lost : ℕ) → LosesOneAlone e f lost →
-    FurtherIs f (new_table c plain name date bytes)
-    × (f.info.protected ≡ false → Stands (settled (new_table c plain name date bytes) f) (new_plain c plain name date bytes))
+    (f : Cartridge) (lost : ℕ) → LosesOne e f lost → FurtherIs f (new_table c plain name date bytes)
+
+-- .. and where nothing else is lost, the settled cartridge stands for the plain one with it
+abbrev pub DoneAppendSettles : Type 0
+DoneAppendSettles =
+    (c e : Cartridge) (plain : Plain) (name : List ℕ) (date : ℕ) (bytes : List ℕ) → IsReady c plain name date bytes →
+    e ≡ changed_by (list_steps c plain name date bytes) (changed_by (volume_steps c plain name date bytes) c) →
+    (f : Cartridge) (lost : ℕ) → LosesOneAlone e f lost → f.info.protected ≡ false →
+    Stands (settled (new_table c plain name date bytes) f) (new_plain c plain name date bytes)

@@ -1,7 +1,7 @@
 //! What the further reading of the table's segment gives. Each law is the contract of a function that does nothing, so that
 //! other crates can rest on it; their proofs import the lemmas of this crate's `proofs`.
 
-ghost use Rattle.table_reading.specs.Laws.{FurtherSaysIsFunction, FurtherSaysAlways, FurtherSaysTheSame, ParityBytesDiffer, ParityDiffers, NearBlockIsTables, BeforeReadsOldStill, LostParityReadsNew, LostDataReadsOld, LostDataReadsNew, OneLossReadsEither, AppendChangesOneSector, StoppedAppendReadsEither, StoppedFurtherSettling, FurtherSettlingIsSettling, FurtherSettlingSettles, FurtherSettlingEffects, FurtherSettlingKeeps, FurtherSettledIsWritten, FurtherSettledIsTable, FurtherSettledStands, StoppedAppendSettles, DoneAppendOneLoss};
+ghost use Rattle.table_reading.specs.Laws.{FurtherSaysIsFunction, FurtherSaysAlways, FurtherSaysTheSame, ParityBytesDiffer, ParityDiffers, NearBlockIsTables, BeforeReadsOldStill, LostParityReadsNew, LostDataReadsOld, LostDataReadsNew, OneLossReadsEither, AppendChangesOneSector, StoppedAppendReadsEither, FurtherSettlingIsSettling, FurtherSettlingSettles, FurtherSettlingEffects, FurtherSettlingKeeps, FurtherSettledIsWritten, FurtherSettledIsTable, FurtherSettledStands, StoppedAppendSettles, DoneAppendReadsNew, DoneAppendSettles};
 
 /// The further reading of the table's segment says at most one thing.
 pub fn further_says_is_function()
@@ -57,12 +57,6 @@ pub fn one_loss_of_an_append()
     ensures { StoppedAppendReadsEither }
 {}
 
-/// Each front of the writes that settle a table by its further reading, with the next one torn, leaves the same data to be read,
-/// on any cartridge.
-pub fn stopped_further_settling()
-    ensures { StoppedFurtherSettling }
-{}
-
 /// Where the table is read without leaving a readable sector out of account, its settling by the further reading writes what the
 /// settling without it does.
 pub fn further_settling_is_settling()
@@ -77,14 +71,14 @@ pub fn further_settling_settles()
 {}
 
 /// Each front of them, with the next one torn, leaves the marks and all other segments as they were, and the same data to be
-/// read.
+/// read, on any cartridge.
 pub fn further_settling_keeps()
     ensures { FurtherSettlingKeeps }
 {}
 
 /// Once a table is settled by its further reading, on a cartridge that is not protected, each sector of its segment that can be
-/// read holds its part of the data or their parity. So with no more than three unreadable ones left, the reading that leaves no
-/// readable sector out of account reads these data.
+/// read holds its part of the data or their parity, and the reading that leaves no readable sector out of account reads these
+/// data.
 pub fn further_settled_is_table()
     ensures written { FurtherSettledIsWritten }
     ensures table { FurtherSettledIsTable }
@@ -99,8 +93,10 @@ pub fn one_loss_of_an_append_is_settled()
     ensures stopped { StoppedAppendSettles }
 {}
 
-/// Once all writes of an append are done, and one sector of the table's segment is lost and nothing else, the table with the volume
-/// is read, and once it is settled so, on a cartridge that is not protected, that stands for the plain cartridge with the volume.
+/// Once all writes of an append are done, and one sector of the table's segment is lost, the table with the volume is read; and
+/// where nothing else is lost, and the cartridge is not protected, it stands for the plain one with the volume once it is settled
+/// so.
 pub fn one_loss_of_a_done_append()
-    ensures { DoneAppendOneLoss }
+    ensures read { DoneAppendReadsNew }
+    ensures stands { DoneAppendSettles }
 {}
