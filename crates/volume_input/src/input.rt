@@ -1,0 +1,44 @@
+//! A volume written segment by segment.
+
+ghost use Rattle.std.specs.Prelude.{◌≡◌, ◌-◌, ◌*◌, ◌<◌, ◌≤◌, true, length};
+ghost use Rattle.acts.specs.Around.{reading};
+ghost use Rattle.cartridge_spec.specs.Volumes.{capacity_between, carrying};
+ghost use Rattle.drive_states.specs.Deck.{is_referenced};
+ghost use Rattle.host_driver.specs.Calls.{IsReady, MayWrite, Keeps};
+ghost use Rattle.host_driver.specs.Fits.{segments_of};
+ghost use Rattle.volume_input.specs.Input.{InputEnds};
+
+use crate::fault::InputFault;
+use crate::written::Written;
+use bad_sector_map::BadMap;
+use drive_states::Unit;
+use host_driver::Host;
+use qic_base::{Source, Tape};
+use segment_io::Workspace;
+
+/// Writes the bytes of the source, at most `most`, into the carrying segments from `first` on, each segment once its bytes
+/// have come: all its usable sectors, with zero bytes behind the last byte, and their parity. One segment is written for no
+/// byte. With `exact` a source that ends before `most` bytes is a fault, and the segment that it doesn't fill is left.
+pub fn write_volume<T: Tape, S: Source>(
+    host: &mut Host,
+    unit: &mut Unit<T>,
+    map: &BadMap,
+    first: u32,
+    most: u32,
+    exact: bool,
+    work: &mut Workspace,
+    source: &mut S,
+) -> Result<Written, InputFault>
+    requires ready { IsReady T.means host.old unit.old }
+    requires referenced { is_referenced unit.old.drive.deck ≡ true }
+    requires writable { MayWrite unit.old.drive.deck }
+    requires map { length map.now ≡ 28 * segments_of host.old }
+    requires room { 1 ≤ capacity_between map.now first (length map.now - 1) }
+    requires within { most ≤ capacity_between map.now first (length map.now - 1) }
+    ensures ends { InputEnds T.means S.means map.now (carrying map.now first (length map.now - 1))
+        most exact (reading unit.old.tape source.old) (reading unit.new.tape source.new) result }
+    ensures kept { S.means.keeps source.old source.new }
+    ensures keeps { Keeps T.means host.new unit.old unit.new }
+{
+    todo!()
+}

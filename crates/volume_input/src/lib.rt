@@ -1,0 +1,10 @@
+//! The bytes of a source go into the free segments of a cartridge, segment by segment as they come. No call takes memory.
+#![tactic(auto)]
+
+mod fault;
+mod input;
+mod written;
+
+pub use fault::InputFault;
+pub use input::write_volume;
+pub use written::Written;

@@ -1,0 +1,47 @@
+//! A volume read segment by segment.
+
+ghost use Rattle.std.specs.Prelude.{◌≡◌, ◌*◌, ◌<◌, ◌≤◌, true, length};
+ghost use Rattle.acts.specs.Around.{around};
+ghost use Rattle.cartridge_spec.specs.Volumes.{capacity_between, carrying};
+ghost use Rattle.drive_states.specs.Deck.{is_referenced};
+ghost use Rattle.drive_states.specs.Reach.{reads_in};
+ghost use Rattle.host_driver.specs.Calls.{IsReady, Keeps};
+ghost use Rattle.host_driver.specs.Fits.{segments_of};
+ghost use Rattle.restore_plan.specs.Restoring.{pieces_of};
+ghost use Rattle.volume_output.specs.Output.{OutputEnds};
+
+use crate::fault::OutputFault;
+use bad_sector_map::BadMap;
+use drive_states::Unit;
+use host_driver::Host;
+use qic_base::{Sink, Tape};
+use segment_io::Workspace;
+
+/// Reads the first `length` bytes of the volume in the segments `start` to `end`, segment by segment, and hands each
+/// segment's bytes to the sink once the whole segment agrees; with `lined`, behind a line `part K`, where K is their
+/// number. A segment that holds none of these bytes is not read. The first one that doesn't read ends it. The tape is only
+/// read.
+pub fn write_volume<T: Tape, K: Sink>(
+    host: &mut Host,
+    unit: &mut Unit<T>,
+    map: &BadMap,
+    start: u16,
+    end: u16,
+    length: u64,
+    lined: bool,
+    work: &mut Workspace,
+    sink: &mut K,
+) -> Result<(), OutputFault>
+    requires ready { IsReady T.means host.old unit.old }
+    requires mode { reads_in unit.old.drive.deck.mode ≡ true }
+    requires referenced { is_referenced unit.old.drive.deck ≡ true }
+    requires map { length map.now ≡ 28 * segments_of host.old }
+    requires on_tape { end < length map.now }
+    requires within { length ≤ capacity_between map.now start end }
+    ensures ends { OutputEnds T.means K.means map.now
+        (pieces_of map.now (carrying map.now start end) length) lined
+        (around unit.old.tape sink.old) (around unit.new.tape sink.new) result }
+    ensures keeps { Keeps T.means host.new unit.old unit.new }
+{
+    todo!()
+}
