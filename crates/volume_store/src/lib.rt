@@ -8,6 +8,7 @@ mod learning;
 mod settling;
 mod store;
 mod table_reader;
+mod table_writer;
 mod volume_reader;
 
 pub use fault::StoreFault;

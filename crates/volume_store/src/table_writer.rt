@@ -1,0 +1,102 @@
+//! The entry of a new volume written into the volume table.
+
+ghost use Rattle.std.specs.Prelude.{◌≡◌, ◌<◌, ◌^◌, ◌++◌, ◌∷◌, [], true, length, take, IsOkUnless};
+ghost use Rattle.qic_base.specs.Tape.{Does};
+ghost use Rattle.append_plan.specs.Between.{table_writes};
+ghost use Rattle.cartridge_spec.specs.Says.{with_parity};
+ghost use Rattle.cartridge_spec.specs.Shape.{sectors_of};
+ghost use Rattle.cartridge_spec.specs.Slots.{slot_bytes, slot_sector, with_slot};
+ghost use Rattle.cartridge_spec.specs.Table.{Shows};
+ghost use Rattle.drive_states.specs.Deck.{is_referenced};
+ghost use Rattle.host_driver.specs.Calls.{IsReady, MayWrite, Keeps};
+ghost use Rattle.mount_laws.specs.Settling.{block_writes};
+ghost use Rattle.volume_table.specs.Entry.{entry_of};
+
+use crate::fault::StoreFault;
+use crate::table_reader::{DATA_SECTORS, TABLE_SEGMENT, WHOLE, data_sectors};
+use drive_states::Unit;
+use host_driver::Host;
+use qic_base::{LostSet, Tape};
+use segment_io::{Workspace, write_sectors};
+use segment_parity::parity_of;
+use volume_table::{Entry, Table, TableFull};
+
+/// The mask of the places of a whole segment's parity.
+const PARITY: u32 = 0xE000_0000;
+
+// Puts the entry into the next slot of the data in the workspace, and their parity behind them. The answer is the sector
+// that has the slot.
+fn put_entry(entry: &Entry, work: &mut Workspace, table: &mut Table) -> u8
+    requires room { length work.old ≡ 32 }
+    requires listed { Shows (take 29 work.old) table.old }
+    requires free { length table.old < 232 }
+    ensures block { work.new ≡ with_parity
+        (with_slot (take 29 work.old) (length table.old) (slot_bytes (entry_of entry.now))) }
+    ensures sector { result ≡ slot_sector (length table.old) }
+    ensures list { table.new ≡ table.old ++ entry_of entry.now ∷ [] }
+    ensures shown { Shows
+        (with_slot (take 29 work.old) (length table.old) (slot_bytes (entry_of entry.now)))
+        table.new }
+{
+    let sectors = work.sectors_mut();
+    let changed = match table.put(entry, &mut sectors[..DATA_SECTORS]) {
+        Ok(sector) => sector,
+        Err(TableFull) => unreachable!("a slot is free"),
+    };
+    let parity = parity_of(&sectors[..DATA_SECTORS]);
+    sectors[DATA_SECTORS..].copy_from_slice(&parity);
+    changed
+}
+
+// Writes the sectors of the table's segment at these places, ascending.
+fn write_places<T: Tape>(
+    host: &mut Host,
+    unit: &mut Unit<T>,
+    places: LostSet,
+    work: &Workspace,
+) -> Result<(), StoreFault>
+    requires ready { IsReady T.means host.old unit.old }
+    requires referenced { is_referenced unit.old.drive.deck ≡ true }
+    requires writable { MayWrite unit.old.drive.deck }
+    requires within { places < 2 ^ 32 }
+    ensures did { Does T.means unit.old.tape unit.new.tape
+        (block_writes work.now (sectors_of places)) result }
+    ensures fault { IsOkUnless result StoreFault.Tape }
+    ensures keeps { Keeps T.means host.new unit.old unit.new }
+{
+    match write_sectors(host, unit, TABLE_SEGMENT, WHOLE, places, work) {
+        Ok(()) => Ok(()),
+        Err(_) => Err(StoreFault::Tape),
+    }
+}
+
+/// Adds an entry to the list, and writes it into the table's segment, whose data stand in the workspace: first the sector
+/// of data that has its slot, and then the sectors of parity.
+pub(crate) fn write_entry<T: Tape>(
+    host: &mut Host,
+    unit: &mut Unit<T>,
+    entry: &Entry,
+    work: &mut Workspace,
+    table: &mut Table,
+) -> Result<(), StoreFault>
+    requires ready { IsReady T.means host.old unit.old }
+    requires referenced { is_referenced unit.old.drive.deck ≡ true }
+    requires writable { MayWrite unit.old.drive.deck }
+    requires room { length work.old ≡ 32 }
+    requires listed { Shows (take 29 work.old) table.old }
+    requires free { length table.old < 232 }
+    ensures did { Does T.means unit.old.tape unit.new.tape (table_writes
+        (slot_sector (length table.old))
+        (with_slot (take 29 work.old) (length table.old) (slot_bytes (entry_of entry.now))))
+        result }
+    ensures fault { IsOkUnless result StoreFault.Tape }
+    ensures list { table.new ≡ table.old ++ entry_of entry.now ∷ [] }
+    ensures shown { Shows
+        (with_slot (take 29 work.old) (length table.old) (slot_bytes (entry_of entry.now)))
+        table.new }
+    ensures keeps { Keeps T.means host.new unit.old unit.new }
+{
+    let changed = put_entry(entry, work, table);
+    write_places(host, unit, LostSet::from_mask(1 << changed), work)?;
+    write_places(host, unit, LostSet::from_mask(PARITY), work)
+}
