@@ -1,3 +1,4 @@
+pub mod EachSlot
 pub mod Orders
 pub mod Putting
 pub mod SlotLaws

@@ -1,6 +1,7 @@
 -- What the slots before a slot have told, and what one slot tells (this project's profile).
 use Rattle.std.specs.Prelude.{◌≡◌, ℕ, ◌≤◌, zero, suc, List, Option, Some, None, true, false}
 use Rattle.cartridge_spec.specs.Table.{slot, entry_in, is_free, is_used, some_free_below}
+use Rattle.cartridge_spec.specs.Table as table
 use Rattle.volume_table.specs.declared.entry.Entry.{Entry}
 use Rattle.volume_table.specs.Entry.{entry_of}
 
@@ -25,3 +26,8 @@ pub record ShowsVolume (area : List (List ℕ)) (i : ℕ) (entry : Entry) : Type
 abbrev pub ShowsSlot : List (List ℕ) → ℕ → Option Entry → Type 0
 ShowsSlot area i None = is_free (slot area i) ≡ true
 ShowsSlot area i (Some entry) = ShowsVolume area i entry
+
+-- slot i is as it is for a list with this entry there: used with the entry, or free behind the list
+abbrev pub IsSlotOf : List (List ℕ) → ℕ → Option table.Entry → Type 0
+IsSlotOf area i None = is_free (slot area i) ≡ true
+IsSlotOf area i (Some entry) = (is_used (slot area i) ≡ true) × (entry ≡ entry_in (slot area i))

@@ -5,6 +5,7 @@ mod entry;
 mod fault;
 pub mod laws;
 mod reading;
+mod showing;
 mod slots;
 mod table;
 mod writing;

@@ -20,7 +20,8 @@ const TABLE_SEGMENT: u16 = 2;
 /// `VTBL`, the signature of a used slot, as a little-endian number.
 pub const SIGNATURE: u32 = 0x4C42_5456;
 
-fn slot_bytes(area: &[[u8; 1024]], index: u8) -> &[u8]
+/// The 128 bytes of a slot.
+pub fn slot_at(area: &[[u8; 1024]], index: u8) -> &[u8]
     requires sectors { length area.now ≡ 29 }
     requires within { index < 232 }
     ensures bytes { result.now ≡ slot area.now index }
@@ -30,7 +31,8 @@ fn slot_bytes(area: &[[u8; 1024]], index: u8) -> &[u8]
     &area[index as usize / 8][place..place + 128]
 }
 
-fn entry_at(bytes: &[u8]) -> Entry
+/// What a used slot tells.
+pub fn entry_at(bytes: &[u8]) -> Entry
     requires { length bytes.now ≡ 128 }
     ensures { entry_of result ≡ entry_in bytes.now }
 {
@@ -73,7 +75,7 @@ fn read_slot(
         (λ fault. slot_fault area.now last index ≡ Some (fault_of fault)) }
     ensures shown { IfOk result (ShowsSlot area.now index) }
 {
-    let bytes = slot_bytes(area, index);
+    let bytes = slot_at(area, index);
     let signature = read_u32(bytes, 0);
     if signature == 0 {
         return Ok(None);

@@ -6,6 +6,7 @@ ghost use Rattle.cartridge_spec.specs.Table.{Shows, HasNoFault, IsFirstFault};
 
 use crate::entry::Entry;
 use crate::fault::{TableFault, TableFull};
+use crate::showing::are_shown_by;
 use crate::slots::{SLOTS, push_within, read_slots};
 use crate::writing::write_slot;
 use qic_base::NoMemory;
@@ -84,6 +85,14 @@ impl Table {
         write_slot(area, index, entry);
         push_within(&mut self.entries, *entry);
         Ok(index / 8)
+    }
+
+    /// Whether the table's data area, 29 sectors, shows just this list.
+    pub fn is_shown_by(&self, area: &[[u8; 1024]]) -> bool
+        requires sectors { length area.now ≡ 29 }
+        ensures { IsTrue result ↔ Shows area.now self.now }
+    {
+        are_shown_by(&self.entries, area)
     }
 
     /// The number of volumes, 0 to 232.
@@ -220,6 +229,44 @@ mod tests {
         assert_eq!(rt; table.put(&entry, &mut area), Err(TableFull));
         assert_eq!(rt; &area[28][896..], slot.as_slice());
         assert_eq!(rt; table.len(), 232);
+        Ok(())
+    }
+
+    #[test]
+    fn a_list_is_shown_by_its_data(rt: HostRuntime) -> Result<(), Fail> {
+        let mut area = vec![in rt.alloc(); [0u8; 1024]; 29]?;
+        assert_eq!(rt; area.len(), 29);
+        set_volumes(&mut area, 231);
+        let mut table = Table::new(rt.alloc())?;
+        assert_eq!(rt; table.decode(&area, 4199), Ok(()));
+        assert!(rt; table.is_shown_by(&area));
+        assert_eq!(rt; table.put(&first_entry(), &mut area), Ok(28));
+        assert!(rt; table.is_shown_by(&area));
+        Ok(())
+    }
+
+    #[test]
+    fn a_list_is_not_shown_by_the_data_of_another(rt: HostRuntime) -> Result<(), Fail> {
+        let mut area = vec![in rt.alloc(); [0u8; 1024]; 29]?;
+        assert_eq!(rt; area.len(), 29);
+        set_volumes(&mut area, 100);
+        let mut table = Table::new(rt.alloc())?;
+        assert_eq!(rt; table.decode(&area, 4199), Ok(()));
+        for (slot, signature, start, end) in [
+            (99, 0, 102, 102),
+            (100, SIGNATURE, 103, 103),
+            (231, 1, 0, 0),
+            (50, SIGNATURE, 53, 54),
+        ] {
+            let mut other = vec![in rt.alloc(); [0u8; 1024]; 29]?;
+            assert_eq!(rt; other.len(), 29);
+            set_volumes(&mut other, 100);
+            set_slot(&mut other, slot, signature, start, end);
+            assert!(rt;
+                !table.is_shown_by(&other),
+                "slot {slot}: {signature} {start} {end}"
+            );
+        }
         Ok(())
     }
 
