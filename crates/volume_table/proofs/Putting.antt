@@ -5,7 +5,8 @@ use Rattle.cartridge_spec.specs.Slots.{slot_bytes, FitsSlot, with_slot}
 use Rattle.cartridge_spec.specs.Table.{Entry, Shows}
 use Rattle.cartridge_spec.proofs.SlotBytes.{length-slot_bytes, slot_is_used, slot_shows}
 use Rattle.cartridge_spec.proofs.Slots.{IsLong, area_is_long, shows_more}
-use Rattle.volume_table.specs.Laws.{PutEntryIsShown, PutEntryAloneIsShown}
+use Rattle.volume_table.specs.Laws.{PutEntryIsShown, PutEntryAloneIsShown, PutEntryIsFaultless}
+use Rattle.volume_table.proofs.Orders.{sound_is_faultless}
 use Rattle.volume_table.proofs.TableLaws.{volumes_are_determined}
 
 pub arrays_are_long : (area : List (List ℕ)) → length area ≡ 29 → ((i : ℕ) → i < length area → length (get_or area i []) ≡ 1024) → IsLong area
@@ -29,4 +30,9 @@ put_entry_is_shown area entries entry is shows within fits =
 pub put_entry_alone_is_shown : PutEntryAloneIsShown
 put_entry_alone_is_shown area entries entry others is shows within fits other =
     volumes_are_determined (with_slot area (length entries) (slot_bytes entry)) others (entries ++ entry ∷ []) other
+    (put_entry_is_shown area entries entry is shows within fits)
+
+pub put_entry_is_faultless : PutEntryIsFaultless
+put_entry_is_faultless area last entries entry is shows within fits sound =
+    sound_is_faultless (with_slot area (length entries) (slot_bytes entry)) last (entries ++ entry ∷ []) sound
     (put_entry_is_shown area entries entry is shows within fits)

@@ -44,3 +44,10 @@ PutEntryAloneIsShown =
     (area : List (List ℕ)) (entries : List Entry) (entry : Entry) (others : List Entry) →
     IsArea area → Shows area entries → length entries < 232 → FitsSlot entry →
     Shows (with_slot area (length entries) (slot_bytes entry)) others → others ≡ entries ++ entry ∷ []
+
+-- they have no slot at fault, where that list is in order
+abbrev pub PutEntryIsFaultless : Type 0
+PutEntryIsFaultless =
+    (area : List (List ℕ)) (last : ℕ) (entries : List Entry) (entry : Entry) →
+    IsArea area → Shows area entries → length entries < 232 → FitsSlot entry → IsSoundList last (entries ++ entry ∷ []) →
+    HasNoFault (with_slot area (length entries) (slot_bytes entry)) last

@@ -1,6 +1,6 @@
 //! Laws of the volume table that are proved of its definitions; the functions do nothing.
 
-ghost use Rattle.volume_table.specs.Laws.{DataAreSoundOrFaulty, FaultlessIsSound, PutEntryAloneIsShown, PutEntryIsShown, SoundDataShowVolumes, SoundIsFaultless, VolumesAreDetermined};
+ghost use Rattle.volume_table.specs.Laws.{DataAreSoundOrFaulty, FaultlessIsSound, PutEntryAloneIsShown, PutEntryIsFaultless, PutEntryIsShown, SoundDataShowVolumes, SoundIsFaultless, VolumesAreDetermined};
 
 /// The bytes of a table show at most one list of volumes.
 pub fn volumes_are_determined()
@@ -25,8 +25,9 @@ pub fn sound_lists()
 {}
 
 /// An entry that is put is read again: with it in the slot behind those of a list, the bytes of a table show the list
-/// with that entry, and no other one.
+/// with that entry, and no other one. They have no slot at fault where that list is in order.
 pub fn a_put_entry_is_read_again()
     ensures shown { PutEntryIsShown }
     ensures alone { PutEntryAloneIsShown }
+    ensures faultless { PutEntryIsFaultless }
 {}

@@ -65,7 +65,8 @@ impl Table {
     }
 
     /// Writes the entry into the next slot of the table's data area, 29 sectors that show the list,
-    /// and adds it to the list. Answers the index of the sector that has the slot.
+    /// and adds it to the list. Answers the index of the sector that has the slot, 0 to 28, or
+    /// `TableFull` where all 232 slots are used. The segments of the entry are not tested.
     pub fn put(&mut self, entry: &Entry, area: &mut [[u8; 1024]]) -> Result<u8, TableFull>
         requires sectors { length area.old ≡ 29 }
         requires list { Shows area.old self.old }

@@ -1,4 +1,4 @@
-use Rattle.volume_table.proofs.Putting.{put_entry_is_shown, put_entry_alone_is_shown}
+use Rattle.volume_table.proofs.Putting.{put_entry_is_shown, put_entry_alone_is_shown, put_entry_is_faultless}
 use Rattle.volume_table.proofs.laws.a_put_entry_is_read_again.Goals as goal
 
 pub returns-clause-shown : goal.returns-clause-shown
@@ -6,3 +6,6 @@ returns-clause-shown c = put_entry_is_shown
 
 pub returns-clause-alone : goal.returns-clause-alone
 returns-clause-alone c = put_entry_alone_is_shown
+
+pub returns-clause-faultless : goal.returns-clause-faultless
+returns-clause-faultless c = put_entry_is_faultless
