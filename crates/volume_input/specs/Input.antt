@@ -64,7 +64,7 @@ pub record EndedShort {T S : Type 0} (t : tapes.Meaning T) (s : sources.Meaning 
   pub bytes : List ℕ
   pub gave : Gave s old.source new.source bytes
   pub ended : HasEnded s new.source
-  pub exact : exact ≡ true
+  pub is_exact : exact ≡ true
   pub short : length bytes < most
   pub went : Went t s no_sink old new (filled_acts words segments bytes)
   pub count : read ≡ length bytes

@@ -9,6 +9,7 @@ ghost use Rattle.host_driver.specs.Fits.{segments_of};
 ghost use Rattle.volume_input.specs.Input.{InputEnds};
 
 use crate::fault::InputFault;
+use crate::segment::write_next;
 use crate::written::Written;
 use bad_sector_map::BadMap;
 use drive_states::Unit;
@@ -40,5 +41,28 @@ pub fn write_volume<T: Tape, S: Source>(
     ensures kept { S.means.keeps source.old source.new }
     ensures keeps { Keeps T.means host.new unit.old unit.new }
 {
-    todo!()
+    let mut written = Written {
+        bytes: 0,
+        start: 0,
+        end: 0,
+    };
+    for segment in first..host.geometry().segments() {
+        let capacity = map.capacity(segment);
+        if capacity == 0 {
+            continue;
+        }
+        match write_next(
+            host, unit, map, segment, written.bytes, most, exact, work, source,
+        ) {
+            Ok(Some(read)) => {
+                written = written.with(segment, read);
+                if read < capacity || written.bytes == most {
+                    return Ok(written);
+                }
+            }
+            Ok(None) => return Ok(written),
+            Err(fault) => return Err(fault),
+        }
+    }
+    Ok(written)
 }

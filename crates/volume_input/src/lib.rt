@@ -2,7 +2,9 @@
 #![tactic(auto)]
 
 mod fault;
+mod filling;
 mod input;
+mod segment;
 mod written;
 
 pub use fault::InputFault;

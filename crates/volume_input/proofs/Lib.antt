@@ -1,0 +1,8 @@
+pub mod Filled
+pub mod Inputs
+pub mod Lending
+pub mod Next
+pub mod Places
+pub mod Running
+pub mod Told
+pub mod Volume

@@ -1,0 +1,137 @@
+-- One segment: what was read for it, and what became of that.
+use Rattle.std.proofs.Common.{◌≡◌, ◌⊎◌, inl, inr, ℕ, ◌+◌, ◌-◌, ◌*◌, ◌/◌, ◌<◌, ◌≤◌, min, Bool, true, List, [], ◌∷◌, ◌++◌, length, take, refl, sym, ap, ◌∙◌, subst, arith, append-nil}
+use Rattle.qic_base.specs.Cause.{Rose}
+use Rattle.qic_base.specs.Source as sources
+use Rattle.qic_base.specs.Step.{Step}
+use Rattle.qic_base.specs.Tape as tapes
+use Rattle.qic_base.proofs.Steps.{Done-nothing}
+use Rattle.acts.specs.Acts.{Outside, TapeFails, SourceFails, Went, Cut}
+use Rattle.acts.specs.Around.{no_sink, reading}
+use Rattle.cartridge_spec.specs.Says.{with_parity}
+use Rattle.cartridge_spec.specs.Shape.{Carries, mask_at, usable_places, data_count, capacity}
+use Rattle.cartridge_spec.specs.Writes.{writes_of, segment_writes}
+use Rattle.append_plan.specs.NewVolume.{in_sectors}
+use Rattle.append_plan.proofs.Bytes.{carried_all}
+use Rattle.sector_fill.specs.Filling.{GaveUpTo, GaveWithin, AreFilled}
+use Rattle.volume_input.specs.Input.{segment_act}
+use Rattle.volume_input.specs.Next.{Came, NextWritten, NextBroken, NoneCame, CameShort}
+
+-- the sectors of data, by the bytes that they hold
+pub data_sectors : (words : List ℕ) (s n : ℕ) → Carries (mask_at words s) → n ≡ capacity (mask_at words s) → n / 1024 ≡ data_count (mask_at words s)
+data_sectors words s n carry is =
+    let all : n ≡ 1024 * data_count (mask_at words s) = is ∙ carried_all words s carry in
+    omega arith
+
+-- the writes of a segment are those of its act
+same_writes : (words : List ℕ) (s count usable : ℕ) (sectors : List (List ℕ)) (bytes : List ℕ) → count ≡ data_count (mask_at words s) → usable ≡ mask_at words s →
+    take count sectors ≡ in_sectors count bytes → segment_writes s usable sectors ≡ (segment_act words s bytes).steps
+same_writes words s count usable sectors bytes all is filled =
+    ap (λ (mask : ℕ). segment_writes s mask sectors) is
+    ∙ ap (λ (n : ℕ). writes_of s (usable_places (mask_at words s)) (with_parity (take n sectors))) (sym all)
+    ∙ ap (λ (data_part : List (List ℕ)). writes_of s (usable_places (mask_at words s)) (with_parity data_part)) filled
+    ∙ ap (λ (n : ℕ). writes_of s (usable_places (mask_at words s)) (with_parity (in_sectors n bytes))) all
+
+module _ {T S : Type 0} (t : tapes.Meaning T) (s : sources.Meaning S) (x y : T) (a b : S) (later : s.faults a ≤ s.faults b) where
+  -- nothing was written
+  nothing : Went t s no_sink (reading x a) (reading x b) []
+  nothing = record { did = Done-nothing t x; wrote = record { took = refl; later = omega arith }; source_later = later }
+
+  source_cut : Rose (s.faults a) (s.faults b) → Cut t s no_sink (reading x a) (reading x b) [] SourceFails
+  source_cut rose = record {
+    front = [];
+    rest = [];
+    parts = refl;
+    did = Done-nothing t x;
+    wrote = record { took = refl; later = omega arith };
+    cause = rose;
+    source_later = later;
+  }
+
+  module _ (words : List ℕ) (segment before most n : ℕ) (exact : Bool) (here : Carries (mask_at words segment)) (is : n ≡ capacity (mask_at words segment)) where
+    room : 1024 * (n / 1024) ≡ capacity (mask_at words segment)
+    room =
+        let count : n / 1024 ≡ data_count (mask_at words segment) = data_sectors words segment n here is in
+        let all = carried_all words segment here in
+        omega arith
+
+    up_to : (bytes : List ℕ) → GaveUpTo s a b (1024 * (n / 1024)) (most - before) bytes → GaveUpTo s a b (capacity (mask_at words segment)) (most - before) bytes
+    up_to bytes gave = subst (λ (r : ℕ). GaveUpTo s a b r (most - before) bytes) room gave
+
+    pub source_fault : Rose (s.faults a) (s.faults b) → GaveWithin s a b (1024 * (n / 1024)) (most - before) →
+        GaveWithin s a b (capacity (mask_at words segment)) (most - before) × Cut t s no_sink (reading x a) (reading x b) [] SourceFails
+    source_fault rose gave = (
+      subst (λ (r : ℕ). GaveWithin s a b r (most - before)) room gave,
+      source_cut rose,
+    )
+
+    module _ (read : ℕ) (sectors : List (List ℕ)) (filled : AreFilled s a b (n / 1024) (most - before) (take (n / 1024) sectors) read) where
+      pub came_short : exact ≡ true → read < min n (most - before) →
+          CameShort t s words segment before most exact (reading x a) (reading x b) (before + read)
+      came_short asked less = record {
+        bytes = filled.0;
+        took = up_to filled.0 filled.2;
+        is_exact = asked;
+        short = (let long = filled.1 in omega arith);
+        went = nothing;
+        count = ap (λ (k : ℕ). before + k) (sym filled.1);
+      }
+
+      module _ (enough : exact ≡ true → min n (most - before) ≤ read) where
+        whole : exact ≡ true → length filled.0 ≡ min (capacity (mask_at words segment)) (most - before)
+        whole asked =
+            let took = up_to filled.0 filled.2 in
+            let long : length filled.0 ≡ read = filled.1 in
+            let least : min n (most - before) ≤ read = enough asked in
+            let fits : length filled.0 ≤ capacity (mask_at words segment) = took.fits in
+            let within : length filled.0 ≤ most - before = took.within in
+            omega arith
+
+        pub none_came : read ≡ 0 → 0 < before → NoneCame t s words segment before most exact (reading x a) (reading x b)
+        none_came none behind = by_bytes filled.0 (filled.1 ∙ none) (up_to filled.0 filled.2) whole
+          where
+            by_bytes : (bytes : List ℕ) → length bytes ≡ 0 → GaveUpTo s a b (capacity (mask_at words segment)) (most - before) bytes →
+                (exact ≡ true → length bytes ≡ min (capacity (mask_at words segment)) (most - before)) →
+                NoneCame t s words segment before most exact (reading x a) (reading x b)
+            by_bytes [] long took all = record { took = took; whole = all; behind = behind; went = nothing }
+            by_bytes (e ∷ es) long took all = absurd (omega arith)
+
+        came : (before ≡ 0) ⊎ (1 ≤ read) → Came s words segment before most exact a b filled.0
+        came some = record { took = up_to filled.0 filled.2; whole = whole; some = some_of some }
+          where
+            some_of : (before ≡ 0) ⊎ (1 ≤ read) → (before ≡ 0) ⊎ (1 ≤ length filled.0)
+            some_of (inl first) = inl first
+            some_of (inr more) = inr (let long = filled.1 in omega arith)
+
+        steps : (usable : ℕ) → usable ≡ mask_at words segment → segment_writes segment usable sectors ≡ (segment_act words segment filled.0).steps
+        steps usable same = same_writes words segment (n / 1024) usable sectors filled.0 (data_sectors words segment n here is) same filled.3
+
+        pub next_written : (usable : ℕ) → usable ≡ mask_at words segment → (before ≡ 0) ⊎ (1 ≤ read) → tapes.Done t x y (segment_writes segment usable sectors) →
+            NextWritten t s words segment before most exact (reading x a) (reading y b) read
+        next_written usable same some did = record {
+          bytes = filled.0;
+          came = came some;
+          went = record {
+            did = subst (tapes.Done t x y) (steps usable same ∙ sym (append-nil (segment_act words segment filled.0).steps)) did;
+            wrote = record { took = refl; later = omega arith };
+            source_later = later;
+          };
+          count = sym filled.1;
+        }
+
+        pub next_broken : (usable : ℕ) → usable ≡ mask_at words segment → (before ≡ 0) ⊎ (1 ≤ read) → tapes.Broke t x y (segment_writes segment usable sectors) →
+            NextBroken t s words segment before most exact (reading x a) (reading y b)
+        next_broken usable same some broke =
+            let broken : tapes.Broke t x y (segment_act words segment filled.0).steps = subst (tapes.Broke t x y) (steps usable same) broke in
+            record {
+              bytes = filled.0;
+              came = came some;
+              cut = record {
+                front = [];
+                rest = segment_act words segment filled.0 ∷ [];
+                parts = refl;
+                broke = broken;
+                here = broken.torn;
+                wrote = record { took = refl; later = omega arith };
+                source_later = later;
+              };
+            }

@@ -1,0 +1,89 @@
+-- The segments of a volume that are gone through, up to the last one of the cartridge.
+use Rattle.std.proofs.Common.{◌≡◌, ◌⊎◌, inl, inr, ℕ, ◌+◌, ◌-◌, ◌*◌, ◌<◌, ◌≤◌, Bool, true, false, List, [], ◌∷◌, ◌++◌, length, Option, Some, None, IsSomeAnd, sym, ap, ◌∙◌, subst, arith, append-nil}
+use Rattle.std.specs.Option.{option_map_or}
+use Rattle.qic_base.specs.Source as sources
+use Rattle.qic_base.specs.Tape as tapes
+use Rattle.qic_base.specs.declared.tape.TapeInfo.{TapeInfo}
+use Rattle.acts.specs.Acts.{Outside}
+use Rattle.cartridge_spec.specs.Shape.{Carries, mask_at, capacity}
+use Rattle.cartridge_spec.specs.Volumes.{carrying, capacity_between}
+use Rattle.append_plan.proofs.Bytes.{capacity_of, between_carries}
+use Rattle.drive_states.specs.declared.deck.Deck.{Deck}
+use Rattle.drive_states.specs.Deck.{is_referenced, segments_per_track}
+use Rattle.drive_states.specs.Unit.{UnitView}
+use Rattle.host_driver.specs.declared.host.Host.{Host}
+use Rattle.host_driver.specs.Fits.{Fits, segments_of}
+use Rattle.host_driver.specs.Place.{KeepsMode}
+use Rattle.host_driver.proofs.Keeping.{cartridge_kept}
+use Rattle.segment_io.specs.Calls.{HasSegment}
+use Rattle.volume_input.specs.declared.written.Written.{Written}
+use Rattle.volume_input.proofs.Places.{carrying_next, carrying_skips, carrying_none}
+use Rattle.volume_input.proofs.Running.{SoFar}
+
+-- ---- the drive
+
+-- the cartridge's length, as the host knows it
+length_known : {T : Type 0} {m : tapes.Meaning T} {h : Host} {u : UnitView T} → Fits m h u → segments_of h ≡ segments_per_track u.drive.deck
+length_known {h = h} {u = u} f = by_cartridge u.drive.deck.cartridge f.cartridge
+  where
+    by_cartridge : (o : Option TapeInfo) → IsSomeAnd o (λ info. info.segments_per_track ≡ segments_of h) → segments_of h ≡ option_map_or (λ (c : TapeInfo). c.segments_per_track) o 0
+    by_cartridge None there = absurd there
+    by_cartridge (Some info) there = sym there
+
+length_kept : (a b : Deck) → KeepsMode a b → segments_per_track b ≡ segments_per_track a
+length_kept a b same = ap (λ (o : Option TapeInfo). option_map_or (λ (c : TapeInfo). c.segments_per_track) o 0) same.cartridge
+
+-- the drive can go to a carrying segment of the map
+pub has_segment : {T : Type 0} {m : tapes.Meaning T} {h : Host} {u : UnitView T} (d : Deck) (words : List ℕ) (segment : ℕ) → Fits m h u →
+    length words ≡ 28 * segments_of h → is_referenced u.drive.deck ≡ true → KeepsMode u.drive.deck d → segment < length words → Carries (mask_at words segment) →
+    HasSegment d segment (mask_at words segment)
+has_segment {u = u} d words segment fits long referenced same inside carry = record {
+  referenced = cartridge_kept (λ info. info.referenced) true u.drive.deck d same referenced;
+  on_tape = (let known = length_known fits in let kept = length_kept u.drive.deck d same in omega arith);
+  carries = carry;
+}
+
+-- ---- the segments
+
+module _ {T S : Type 0} {t : tapes.Meaning T} {s : sources.Meaning S} (words : List ℕ) (first segment most : ℕ) (start now : Outside T S (Unit {0})) (written : Written) (far : SoFar t s words (carrying words first (length words - 1)) most start now (carrying words segment (length words - 1)) written) where
+  -- one that carries data
+  pub here_next : segment < length words → Carries (mask_at words segment) →
+      SoFar t s words (carrying words first (length words - 1)) most start now (segment ∷ carrying words (segment + 1) (length words - 1)) written
+  here_next inside carry =
+      subst (λ (rest : List ℕ). SoFar t s words (carrying words first (length words - 1)) most start now rest written)
+      (carrying_next words segment (length words - 1) (omega arith) carry) far
+
+  -- one that doesn't
+  pub skipped : segment < length words → capacity (mask_at words segment) ≡ 0 →
+      SoFar t s words (carrying words first (length words - 1)) most start now (carrying words (segment + 1) (length words - 1)) written
+  skipped inside none =
+      subst (λ (rest : List ℕ). SoFar t s words (carrying words first (length words - 1)) most start now rest written)
+      (carrying_skips words segment (length words - 1) (omega arith) none) far
+
+  -- none is left only where nothing is to come
+  pub not_over : length words ≤ segment → 1 ≤ length words → 1 ≤ capacity_between words first (length words - 1) → most ≤ capacity_between words first (length words - 1) → ⊥
+  not_over past some room enough =
+      let none : carrying words segment (length words - 1) ≡ [] = carrying_none words segment (length words - 1) (omega arith) in
+      let all : carrying words first (length words - 1) ≡ far.front =
+      far.parts ∙ ap (λ (rest : List ℕ). far.front ++ rest) none ∙ append-nil far.front in
+      let carry : capacity_between words first (length words - 1) ≡ capacity_of words far.front =
+      between_carries words first (length words - 1) ∙ ap (capacity_of words) all in
+      by_going far.going carry
+    where
+      by_going : (far.front ≡ []) ⊎ (length far.bytes < most) → capacity_between words first (length words - 1) ≡ capacity_of words far.front → ⊥
+      by_going (inl empty) carry =
+          let zero : capacity_of words far.front ≡ 0 = ap (capacity_of words) empty in
+          omega arith
+      by_going (inr less) carry = let full = far.full in omega arith
+
+  -- the bytes so far are no more than are wanted
+  pub written_within : written.bytes ≤ most
+  written_within = by_going far.going
+    where
+      by_going : (far.front ≡ []) ⊎ (length far.bytes < most) → written.bytes ≤ most
+      by_going (inl empty) =
+          let zero : capacity_of words far.front ≡ 0 = ap (capacity_of words) empty in
+          let full = far.full in
+          let count = far.tells.bytes in
+          omega arith
+      by_going (inr less) = let count = far.tells.bytes in omega arith

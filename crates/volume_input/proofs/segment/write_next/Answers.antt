@@ -1,0 +1,29 @@
+use Rattle.std.proofs.Common.{◌≡◌, ◌⊎◌, inl, inr, ℕ, ◌-◌, ◌≤◌, min, true, arith}
+use Rattle.volume_input.proofs.Next.{data_sectors, source_fault, came_short, none_came, next_written, next_broken}
+use Rattle.volume_input.proofs.Places.{data_most}
+use Rattle.volume_input.proofs.segment.write_next.Goals as goal
+use Rattle.volume_input.proofs.segment.write_next.Goals.{else-exact-via-then-exact+else-read-min, else-exact-via-else-exact, else-read-eq0-via-then-read-eq0+else-before-gt0, else-read-eq0-via-else-read-eq0}
+
+pub overflow_cast-capacity : goal.overflow_cast-capacity
+overflow_cast-capacity g c =
+    omega (arith, data_sectors c.args.map.now c.args.segment c.capacity-capacity.result c.requires.segment.carries c.capacity-capacity.ensures, data_most c.args.map.now c.args.segment)
+
+pub fill_work-requires : goal.fill_work-requires
+fill_work-requires g c =
+    omega (arith, data_sectors c.args.map.now c.args.segment c.capacity-capacity.result c.requires.segment.carries c.capacity-capacity.ensures, data_most c.args.map.now c.args.segment)
+
+pub returns-in-Err-clause-ends : goal.returns-in-Err-clause-ends
+returns-in-Err-clause-ends g c =
+    source_fault g.T.Tape.means g.S.Source.means c.args.unit.now.tape c.args.unit.now.tape c.args.source.now c.fill_work.new.source c.in-Err.ensures.cause.later
+    c.args.map.now c.args.segment c.args.before c.args.most c.capacity-capacity.result c.args.exact c.requires.segment.carries c.capacity-capacity.ensures
+    c.in-Err.ensures.cause.failed c.in-Err.ensures.filled
+
+pub returns-in-Err-write_segment-clause-ends : goal.returns-in-Err-write_segment-clause-ends
+returns-in-Err-write_segment-clause-ends g c =
+    let enough : c.args.exact ≡ true → min c.capacity-capacity.result (c.args.most - c.args.before) ≤ c.in-Ok.read =
+    elim c.else-exact.branch [ else-exact-via-then-exact+else-read-min w ↦ λ asked. omega arith | else-exact-via-else-exact w ↦ λ asked. absurd (cc) ] in
+    let some : (c.args.before ≡ 0) ⊎ (1 ≤ c.in-Ok.read) =
+    elim c.else-read-eq0.branch [ else-read-eq0-via-then-read-eq0+else-before-gt0 w ↦ inl (omega arith) | else-read-eq0-via-else-read-eq0 w ↦ inr (omega arith) ] in
+    next_broken g.T.Tape.means g.S.Source.means c.args.unit.now.tape c.write_segment.new.unit.tape c.args.source.now c.fill_work.new.source c.in-Ok.ensures.cause.later
+    c.args.map.now c.args.segment c.args.before c.args.most c.capacity-capacity.result c.args.exact c.requires.segment.carries c.capacity-capacity.ensures
+    c.in-Ok.read c.fill_work.new.work c.in-Ok.ensures.filled enough c.usable.result c.usable.ensures some c.in-Err-write_segment.ensures.did

@@ -1,0 +1,60 @@
+//! One segment of a volume.
+
+ghost use Rattle.std.specs.Prelude.{◌≡◌, ◌<◌, ◌≤◌, length};
+ghost use Rattle.acts.specs.Around.{reading};
+ghost use Rattle.cartridge_spec.specs.Shape.{mask_at};
+ghost use Rattle.host_driver.specs.Calls.{IsReady, MayWrite, Keeps};
+ghost use Rattle.segment_io.specs.Calls.{HasSegment};
+ghost use Rattle.volume_input.specs.Next.{NextEnds};
+
+use crate::fault::InputFault;
+use crate::filling::fill_work;
+use bad_sector_map::BadMap;
+use drive_states::Unit;
+use host_driver::Host;
+use qic_base::{Source, SourceFailed, Tape};
+use segment_io::{Workspace, write_segment};
+
+/// Writes a carrying segment with the next bytes of the source, as many as it carries, and no more than `most` with the
+/// `before` ones that stand in the segments in front of it. The answer is their number; None where none came behind some
+/// others, and the segment is left.
+pub fn write_next<T: Tape, S: Source>(
+    host: &mut Host,
+    unit: &mut Unit<T>,
+    map: &BadMap,
+    segment: u32,
+    before: u32,
+    most: u32,
+    exact: bool,
+    work: &mut Workspace,
+    source: &mut S,
+) -> Result<Option<u32>, InputFault>
+    requires ready { IsReady T.means host.old unit.old }
+    requires writable { MayWrite unit.old.drive.deck }
+    requires segment { HasSegment unit.old.drive.deck segment (mask_at map.now segment) }
+    requires map { segment < length map.now }
+    requires within { before ≤ most }
+    ensures ends { NextEnds T.means S.means map.now segment before most exact
+        (reading unit.old.tape source.old) (reading unit.new.tape source.new) result }
+    ensures kept { S.means.keeps source.old source.new }
+    ensures keeps { Keeps T.means host.new unit.old unit.new }
+{
+    let capacity = map.capacity(segment);
+    let left = most - before;
+    let read = match fill_work(source, work, (capacity / 1024) as u8, left) {
+        Ok(read) => read,
+        Err(SourceFailed) => return Err(InputFault::Source),
+    };
+    if exact && read < capacity.min(left) {
+        return Err(InputFault::Short {
+            read: before + read,
+        });
+    }
+    if read == 0 && before > 0 {
+        return Ok(None);
+    }
+    match write_segment(host, unit, segment, map.usable(segment), work) {
+        Ok(()) => Ok(Some(read)),
+        Err(_) => Err(InputFault::Tape),
+    }
+}
