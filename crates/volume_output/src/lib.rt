@@ -3,6 +3,7 @@
 
 mod fault;
 mod output;
+mod piece;
 
 pub use fault::OutputFault;
 pub use output::write_volume;

@@ -1,0 +1,4 @@
+mod Bytes
+mod Joining
+mod OnePiece
+mod Walking
