@@ -1,12 +1,11 @@
 -- One segment read and given, or not.
-use Rattle.std.proofs.Common.{◌≡◌, ℕ, ◌≤◌, ◌<◌, Bool, true, false, List, [], ◌∷◌, ◌++◌, length, take, refl, sym, ap, ◌∙◌, subst, arith, append-nil, append_assoc, codes, decimal, Result, Ok, Err, IsErr}
+use Rattle.std.proofs.Common.{◌≡◌, ℕ, ◌<◌, Bool, true, false, List, [], ◌∷◌, ◌++◌, length, take, refl, sym, ap, ◌∙◌, subst, arith, append-nil, codes, decimal, Result, Ok, Err, IsErr}
 use Rattle.qic_base.specs.Cartridge.{Cartridge}
-use Rattle.qic_base.specs.Step.{Step}
 use Rattle.qic_base.specs.Sink as sinks
 use Rattle.qic_base.specs.Tape as tapes
 use Rattle.qic_base.proofs.Steps.{Tells-map}
 use Rattle.qic_base.proofs.Writing.{TakesBoth, Wrote-Wrote, Wrote-BrokeOff, BrokeOff-longer}
-use Rattle.acts.specs.Acts.{Act, steps_of, text_of, Outside, TapeFails, SinkFails, Went, Cut}
+use Rattle.acts.specs.Acts.{Act, text_of, TapeFails, SinkFails, Went, Cut}
 use Rattle.acts.specs.Around.{no_source, around}
 use Rattle.acts.proofs.Joins.{cut_is_longer}
 use Rattle.cartridge_spec.specs.Says.{cells_of, Says, Data, LostSectors, data_of}

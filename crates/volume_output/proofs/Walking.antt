@@ -1,26 +1,15 @@
 -- The segments of a volume, one after the other.
-use Rattle.std.proofs.Common.{◌≡◌, ℕ, zero, suc, ◌+◌, ◌-◌, ◌*◌, ◌<◌, ◌≤◌, inl, inr, Bool, true, false, List, [], ◌∷◌, length, Option, Some, None, IsSomeAnd, Result, Ok, Err, refl, sym, ap, ◌∙◌, subst, arith}
+use Rattle.std.proofs.Common.{◌≡◌, ℕ, zero, suc, ◌+◌, ◌-◌, ◌*◌, ◌<◌, ◌≤◌, inl, inr, Bool, true, false, List, [], ◌∷◌, Result, Ok, Err, refl, sym, ap, ◌∙◌, subst, arith}
 use Rattle.std.specs.Prelude.{min}
-use Rattle.std.specs.Option.{option_map_or}
-use Rattle.std.proofs.Common.{nat_le}
 use Rattle.std.proofs.lemmas.Bool.{cases_Bool, leb-true}
-use Rattle.qic_base.specs.declared.tape.TapeInfo.{TapeInfo}
 use Rattle.qic_base.specs.Sink as sinks
 use Rattle.qic_base.specs.Tape as tapes
 use Rattle.qic_base.proofs.Writing.{TakesBoth}
 use Rattle.acts.specs.Acts.{Outside}
-use Rattle.cartridge_spec.specs.Shape.{Carries, mask_at, usable_count, data_count, capacity}
+use Rattle.cartridge_spec.specs.Shape.{mask_at, usable_count, data_count, capacity}
 use Rattle.cartridge_spec.specs.Volumes.{carrying}
 use Rattle.mount_laws.proofs.Writing.{places_that, places_none, places_passes, places_fails}
 use Rattle.append_plan.proofs.Segments.{carries, carried, carrying_are}
-use Rattle.drive_states.specs.declared.deck.Deck.{Deck}
-use Rattle.drive_states.specs.Deck.{is_referenced}
-use Rattle.drive_states.specs.Unit.{UnitView}
-use Rattle.host_driver.specs.declared.host.Host.{Host}
-use Rattle.host_driver.specs.Calls.{Keeps}
-use Rattle.host_driver.specs.Fits.{Fits, segments_of}
-use Rattle.host_driver.proofs.Keeping.{cartridge_kept}
-use Rattle.segment_io.specs.Calls.{HasSegment}
 use Rattle.restore_plan.specs.Restoring.{Piece, Restored, pieces_of}
 use Rattle.volume_output.specs.declared.fault.OutputFault.{OutputFault}
 use Rattle.volume_output.specs.Output.{GaveVolume, OutputEnds}
@@ -99,30 +88,6 @@ module _ (words : List ℕ) where
                 let none = carried (carries words segment) (1024 * data_count (mask_at words segment)) fails in
                 absurd (omega arith)
           ]
-
--- a segment that holds some bytes carries data
-pub some_carry : (left mask count : ℕ) → count ≡ min left (capacity mask) → 0 < count → Carries mask
-some_carry left mask count is some =
-    elim (cases_Bool (nat_le 4 (usable_count mask))) [
-      | inl passes ↦ leb-true 4 (usable_count mask) passes
-      | inr fails ↦ let none = carried (nat_le 4 (usable_count mask)) (1024 * data_count mask) fails in absurd (omega arith)
-    ]
-
--- ---- the drive can go to each of them
-
-pub has_segment : {T : Type 0} {m : tapes.Meaning T} {h now : Host} {a b : UnitView T} (words : List ℕ) (segment mask : ℕ) → Fits m h a →
-    Keeps m now a b → is_referenced a.drive.deck ≡ true → length words ≡ 28 * segments_of h → segment < length words → Carries mask →
-    HasSegment b.drive.deck segment mask
-has_segment {h = h} {a = a} {b = b} words segment mask fits keeps referenced long within carries = record {
-  referenced = cartridge_kept (λ info. info.referenced) true a.drive.deck b.drive.deck keeps.same referenced;
-  on_tape = by_cartridge b.drive.deck.cartridge (subst (λ (o : Option TapeInfo). IsSomeAnd o (λ info. info.segments_per_track ≡ segments_of h)) (sym keeps.same.cartridge) fits.cartridge);
-  carries = carries;
-}
-  where
-    by_cartridge : (o : Option TapeInfo) → IsSomeAnd o (λ info. info.segments_per_track ≡ segments_of h) →
-        segment < 28 * option_map_or (λ (c : TapeInfo). c.segments_per_track) o 0
-    by_cartridge None there = absurd there
-    by_cartridge (Some info) there = omega arith
 
 -- ---- the loop
 

@@ -1,7 +1,6 @@
 -- One segment's part of a volume: what is read of it and written (this project's own).
-use Rattle.std.specs.Prelude.{ℕ, Bool, true, false, List, [], ◌∷◌, take}
+use Rattle.std.specs.Prelude.{ℕ, Bool, true, false, List}
 use Rattle.acts.specs.Acts.{Act}
-use Rattle.append_plan.specs.NewVolume.{bytes_in}
 use Rattle.restore_plan.specs.Restoring.{Piece, act_of, framed_act}
 
 abbrev pub piece_of : (segment count : ℕ) → Piece

@@ -1,7 +1,6 @@
-use Rattle.std.proofs.Common.{◌≡◌, ℕ, ◌+◌, ◌-◌, ◌<◌, ◌≤◌, List, ◌∷◌, length, Err, Result, sym, ap, ◌∙◌, subst, arith}
+use Rattle.std.proofs.Common.{◌≡◌, ℕ, ◌+◌, ◌-◌, ◌<◌, ◌≤◌, List, Err, ap, ◌∙◌, arith}
 use Rattle.std.specs.Prelude.{min}
 use Rattle.std.proofs.lemmas.Result.{err_from_is_err_and}
-use Rattle.acts.specs.Acts.{Outside}
 use Rattle.acts.specs.Around.{around}
 use Rattle.cartridge_spec.specs.Shape.{mask_at, capacity}
 use Rattle.host_driver.proofs.Keeping.{keeps_both}
@@ -9,7 +8,7 @@ use Rattle.restore_plan.specs.Restoring.{Piece}
 use Rattle.volume_output.specs.declared.fault.OutputFault.{OutputFault}
 use Rattle.volume_output.specs.Output.{OutputEnds}
 use Rattle.volume_output.specs.Piece.{piece_of}
-use Rattle.volume_output.proofs.Walking.{left_from, GoesOn, left_behind, left_skipped, left_given, same_left, one_given, one_failed, all_given}
+use Rattle.volume_output.proofs.Walking.{left_from, left_behind, left_skipped, left_given, same_left, one_given, one_failed, all_given}
 use Rattle.volume_output.proofs.output.write_volume.Goals as goal
 use Rattle.volume_output.proofs.output.write_volume.Goals.{then-count-gt0+in_ok-write_piece, else-count-gt0}
 

@@ -1,7 +1,3 @@
-use Rattle.std.proofs.Common.{◌≡◌, ℕ, List, take, sym, subst}
-use Rattle.qic_base.specs.Sink.{Writes}
-use Rattle.append_plan.specs.NewVolume.{bytes_in}
-use Rattle.volume_output.specs.Piece.{piece_of, part_text}
 use Rattle.volume_output.proofs.OnePiece.{broke_by, line_broke, line_then}
 use Rattle.volume_output.proofs.piece.write_part.Goals as goal
 use Rattle.volume_output.proofs.piece.write_part.Goals.{then-lined+in_ok-write_line, else-lined}

@@ -1,4 +1,4 @@
-use Rattle.std.proofs.Common.{ℕ, List, ap, Err, arith, ◌≡◌}
+use Rattle.std.proofs.Common.{ap, Err}
 use Rattle.volume_output.proofs.Bytes.{Holds, count_within}
 use Rattle.volume_output.proofs.OnePiece.{lost, mismatch, unread, gave, ungiven}
 use Rattle.volume_output.proofs.piece.write_piece.Goals as goal
