@@ -32,6 +32,13 @@ pub printed_steps : (lined : Bool) (piece : Piece) (act : Act) → act.steps ≡
 printed_steps true piece act none = ap (λ (steps : List Step). steps ++ []) none
 printed_steps false piece act none = ap (λ (steps : List Step). steps ++ []) none
 
+-- ---- an end
+
+pub EndsAt-more : (piece : Piece) (needed : List Piece) (done : ℕ) (ending : Ending) → EndsAt needed done ending → EndsAt (piece ∷ needed) (suc done) ending
+EndsAt-more piece needed done Restored ends = ap suc ends
+EndsAt-more piece needed done (LostIn segment lost) ends = ends
+EndsAt-more piece needed done (MismatchIn segment) ends = ends
+
 -- ---- what a piece restores
 
 -- a piece that is read has one act, and ends nothing
@@ -89,11 +96,6 @@ module _ {T K : Type 0} (t : tapes.Meaning T) (k : sinks.Meaning K) (words : Lis
     -- ---- it went, and then those behind it ended
 
     module _ (both : TakesBoth k) (new : Outside T (Unit {0}) K) (one : Given) where
-      ends_more : (done : ℕ) (ending : Ending) → EndsAt needed done ending → EndsAt (piece ∷ needed) (suc done) ending
-      ends_more done Restored ends = ap suc ends
-      ends_more done (LostIn segment lost) ends = ends
-      ends_more done (MismatchIn segment) ends = ends
-
       gave_more : (ending : Ending) → GaveVolume t k words needed lined b new ending → GaveVolume t k words (piece ∷ needed) lined a new ending
       gave_more ending gave =
           let P : Cartridge → Type 0 = λ c. Restores c words needed gave.acts ending in
@@ -106,7 +108,7 @@ module _ {T K : Type 0} (t : tapes.Meaning T) (k : sinks.Meaning K) (words : Lis
                 (Tells-map t a.tape (λ c. IsRead c words piece one.act) (λ c. P c → Q c) (λ c read rest. (read, rest)) one.told)
                 (Tells-read P (only_read one) gave.told);
             are = (one.steps, one.size, gave.are);
-            ends = ends_more (length gave.acts) ending gave.ends;
+            ends = EndsAt-more piece needed (length gave.acts) ending gave.ends;
           }
 
       -- acts behind it that were cut off
