@@ -1,1 +1,3 @@
+pub mod Laws
 pub mod Output
+pub mod Piece

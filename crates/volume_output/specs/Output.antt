@@ -1,6 +1,5 @@
 -- How the bytes of a volume went from its segments to a sink (this project's own).
 use Rattle.std.specs.Prelude.{◌≡◌, ℕ, ◌<◌, Bool, true, false, List, [], ◌∷◌, length, slice_get, IsSomeAnd, Result, Ok, Err}
-use Rattle.qic_base.specs.Cartridge.{Cartridge}
 use Rattle.qic_base.specs.Sink as sinks
 use Rattle.qic_base.specs.Tape as tapes
 use Rattle.acts.specs.Acts.{Act, Outside, Failing, TapeFails, SinkFails, Went, Cut}

@@ -2,7 +2,9 @@
 #![tactic(auto)]
 
 mod fault;
+pub mod laws;
 mod output;
+mod piece;
 
 pub use fault::OutputFault;
 pub use output::write_volume;

@@ -11,13 +11,14 @@ ghost use Rattle.restore_plan.specs.Restoring.{pieces_of};
 ghost use Rattle.volume_output.specs.Output.{OutputEnds};
 
 use crate::fault::OutputFault;
+use crate::piece::write_piece;
 use bad_sector_map::BadMap;
 use drive_states::Unit;
 use host_driver::Host;
 use qic_base::{Sink, Tape};
 use segment_io::Workspace;
 
-/// Reads the first `length` bytes of the volume in the segments `start` to `end`, segment by segment, and hands each
+/// Reads the first `bytes` bytes of the volume in the segments `start` to `end`, segment by segment, and hands each
 /// segment's bytes to the sink once the whole segment agrees; with `lined`, behind a line `part K`, where K is their
 /// number. A segment that holds none of these bytes is not read. The first one that doesn't read ends it. The tape is only
 /// read.
@@ -27,7 +28,7 @@ pub fn write_volume<T: Tape, K: Sink>(
     map: &BadMap,
     start: u16,
     end: u16,
-    length: u64,
+    bytes: u64,
     lined: bool,
     work: &mut Workspace,
     sink: &mut K,
@@ -37,11 +38,20 @@ pub fn write_volume<T: Tape, K: Sink>(
     requires referenced { is_referenced unit.old.drive.deck ≡ true }
     requires map { length map.now ≡ 28 * segments_of host.old }
     requires on_tape { end < length map.now }
-    requires within { length ≤ capacity_between map.now start end }
+    requires within { bytes ≤ capacity_between map.now start end }
     ensures ends { OutputEnds T.means K.means map.now
-        (pieces_of map.now (carrying map.now start end) length) lined
+        (pieces_of map.now (carrying map.now start end) bytes) lined
         (around unit.old.tape sink.old) (around unit.new.tape sink.new) result }
     ensures keeps { Keeps T.means host.new unit.old unit.new }
 {
-    todo!()
+    let mut left = bytes;
+    for segment in u32::from(start)..u32::from(end) + 1 {
+        let usable = map.usable(segment);
+        let count = left.min(u64::from(map.capacity(segment))) as u32;
+        if count > 0 {
+            write_piece(host, unit, segment, usable, count, lined, work, sink)?;
+            left -= u64::from(count);
+        }
+    }
+    Ok(())
 }

@@ -1,0 +1,5 @@
+mod Bytes
+mod ActsOfPieces
+mod Joining
+mod OnePiece
+mod Walking

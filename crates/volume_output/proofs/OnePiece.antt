@@ -1,0 +1,185 @@
+-- One segment read and given, or not.
+use Rattle.std.proofs.Common.{◌≡◌, ℕ, ◌<◌, Bool, true, false, List, [], ◌∷◌, ◌++◌, length, take, refl, sym, ap, ◌∙◌, subst, arith, append-nil, codes, decimal, Result, Ok, Err, IsErr}
+use Rattle.qic_base.specs.Cartridge.{Cartridge}
+use Rattle.qic_base.specs.Sink as sinks
+use Rattle.qic_base.specs.Tape as tapes
+use Rattle.qic_base.proofs.Steps.{Tells-map}
+use Rattle.qic_base.proofs.Writing.{TakesBoth, Wrote-Wrote, Wrote-BrokeOff, BrokeOff-longer}
+use Rattle.acts.specs.Acts.{Act, text_of, TapeFails, SinkFails, Went, Cut}
+use Rattle.acts.specs.Around.{no_source, around}
+use Rattle.acts.proofs.Joins.{cut_is_longer}
+use Rattle.cartridge_spec.specs.Says.{cells_of, Says, Data, LostSectors, data_of}
+use Rattle.cartridge_spec.specs.Says as saying
+use Rattle.cartridge_spec.specs.Shape.{mask_at, usable_count}
+use Rattle.cartridge_spec.proofs.Segments.{count_of_cells}
+use Rattle.append_plan.specs.NewVolume.{bytes_in}
+use Rattle.segment_io.specs.Reading.{HasSolved}
+use Rattle.segment_io.proofs.Going.{tells_always}
+use Rattle.restore_plan.specs.Restoring.{Piece, Ending, Restored, LostIn, MismatchIn, IsRead, Ends, Restores, act_of}
+use Rattle.restore_plan.proofs.Endings.{restores_is_function}
+use Rattle.volume_output.specs.Output.{printed, GaveVolume, VolumeCut}
+use Rattle.volume_output.specs.Piece.{piece_of, printed_act, part_text}
+use Rattle.volume_output.proofs.Bytes.{Holds, data_bytes, count_of_bytes}
+use Rattle.volume_output.proofs.Joining.{printed_none, printed_steps, none_given}
+
+-- ---- the act of a piece as it is printed
+
+one_printed : (lined : Bool) (piece : Piece) (act : Act) → printed lined (piece ∷ []) (act ∷ []) ≡ printed_act lined piece act ∷ []
+one_printed true piece act = refl
+one_printed false piece act = refl
+
+no_steps : (lined : Bool) (piece : Piece) (sectors : List (List ℕ)) → (printed_act lined piece (act_of piece sectors)).steps ≡ []
+no_steps true piece sectors = refl
+no_steps false piece sectors = refl
+
+text_printed : (lined : Bool) (piece : Piece) (sectors : List (List ℕ)) →
+    text_of (printed lined (piece ∷ []) (act_of piece sectors ∷ [])) ≡ part_text lined piece sectors
+text_printed lined piece sectors =
+    ap text_of (one_printed lined piece (act_of piece sectors)) ∙ append-nil (part_text lined piece sectors)
+
+-- ---- the text, in two parts
+
+-- a text that broke off, by an answer that is a failure
+pub broke_by : {K E : Type 0} {k : sinks.Meaning K} {a b : K} {text : List ℕ} (result : Result (Unit {0}) E) → IsErr result →
+    sinks.BrokeOff k a b text → sinks.Writes k a b text result
+broke_by (Ok done) failed broke = absurd (cc)
+broke_by (Err e) failed broke = broke
+
+module _ (lined : Bool) (segment count : ℕ) (sectors : List (List ℕ)) (is : lined ≡ true) where
+  abbrev line : List ℕ
+  line = codes "part " ++ decimal count ++ codes "\n"
+
+  -- the line, and the bytes behind it
+  lined_parts : line ++ take count (bytes_in sectors) ≡ part_text lined (piece_of segment count) sectors
+  lined_parts = ap (λ (b : Bool). part_text b (piece_of segment count) sectors) (sym is)
+
+  pub line_broke : {K : Type 0} {k : sinks.Meaning K} {a b : K} → sinks.BrokeOff k a b line →
+      sinks.BrokeOff k a b (part_text lined (piece_of segment count) sectors)
+  line_broke broke = BrokeOff-longer (take count (bytes_in sectors)) (part_text lined (piece_of segment count) sectors) lined_parts broke
+
+  pub line_then : {K E : Type 0} (k : sinks.Meaning K) (a b c : K) (result : Result (Unit {0}) E) → TakesBoth k → sinks.Wrote k a b line →
+      sinks.Writes k b c (take count (bytes_in sectors)) result → sinks.Writes k a c (part_text lined (piece_of segment count) sectors) result
+  line_then k a b c (Ok done) both first next = subst (sinks.Wrote k a c) lined_parts (Wrote-Wrote both first next)
+  line_then k a b c (Err e) both first next = subst (sinks.BrokeOff k a c) lined_parts (Wrote-BrokeOff both first next)
+
+-- ---- the ends
+
+module _ {T K : Type 0} (t : tapes.Meaning T) (k : sinks.Meaning K) (words : List ℕ) (segment count mask : ℕ) (is : mask ≡ mask_at words segment) (lined : Bool) (old new : T) where
+  abbrev piece : Piece
+  piece = piece_of segment count
+
+  -- what the cells by the mask say, the piece's cells say
+  said_lost : (n : ℕ) (c : Cartridge) → Says (cells_of c segment mask) (LostSectors n) → Says (cells_of c segment (mask_at words segment)) (LostSectors n)
+  said_lost n c says = subst (λ (m : ℕ). Says (cells_of c segment m) (LostSectors n)) is says
+
+  nothing_went : (sink : K) → ((x : K) → k.took x [] x) → tapes.Done t old new [] → Went t no_source k (around old sink) (around new sink) (printed lined [] [])
+  nothing_went sink none did =
+      subst (Went t no_source k (around old sink) (around new sink)) (sym (printed_none lined []))
+      (record { did = did; wrote = record { took = none sink; later = omega arith }; source_later = omega arith })
+
+  pub lost : (sink : K) → ((x : K) → k.took x [] x) → tapes.Done t old new [] → (named n : ℕ) → named ≡ segment → 3 < n →
+      tapes.Tells t old (λ c. (named ≡ segment) × Says (cells_of c segment mask) (LostSectors n)) →
+      GaveVolume t k words (piece ∷ []) lined (around old sink) (around new sink) (LostIn named n)
+  lost sink none did named n same many told =
+      none_given t k words lined piece [] (around old sink) (around new sink) (LostIn named n) [] (nothing_went sink none did)
+      (Tells-map t old (λ c. (named ≡ segment) × Says (cells_of c segment mask) (LostSectors n)) (λ c. Ends c words piece (LostIn named n))
+      (λ c said. (said.0, said_lost n c said.1)) told)
+      (many, sym same)
+
+  pub mismatch : (sink : K) → ((x : K) → k.took x [] x) → tapes.Done t old new [] → (named : ℕ) → named ≡ segment →
+      tapes.Tells t old (λ c. (named ≡ segment) × Says (cells_of c segment mask) saying.Mismatch) →
+      GaveVolume t k words (piece ∷ []) lined (around old sink) (around new sink) (MismatchIn named)
+  mismatch sink none did named same told =
+      none_given t k words lined piece [] (around old sink) (around new sink) (MismatchIn named) [] (nothing_went sink none did)
+      (Tells-map t old (λ c. (named ≡ segment) × Says (cells_of c segment mask) saying.Mismatch) (λ c. Ends c words piece (MismatchIn named))
+      (λ c said. (said.0, subst (λ (m : ℕ). Says (cells_of c segment m) saying.Mismatch) is said.1)) told)
+      (sym same)
+
+  -- the tape failed before the first act was done
+  pub unread : (sink : K) → ((x : K) → k.took x [] x) → tapes.Broke t old new [] →
+      VolumeCut t k words (piece ∷ []) lined (around old sink) (around new sink) TapeFails
+  unread sink none broke = record {
+    told = tells_always t old
+        (λ c. (acts : List Act) (ending : Ending) → Restores c words (piece ∷ []) acts ending →
+            Cut t no_source k (around old sink) (around new sink) (printed lined (piece ∷ []) acts) TapeFails)
+        (λ c acts ending restores. before (printed lined (piece ∷ []) acts));
+    acts = [];
+    are = tt;
+    cut = before (printed lined (piece ∷ []) []);
+  }
+    where
+      before : (acts : List Act) → Cut t no_source k (around old sink) (around new sink) acts TapeFails
+      before acts = cut_is_longer t no_source k (around old sink) (around new sink) [] acts TapeFails (record {
+        front = [];
+        rest = [];
+        parts = refl;
+        broke = broke;
+        here = broke.torn;
+        wrote = record { took = none sink; later = omega arith };
+        source_later = omega arith;
+      })
+
+  -- ---- the segment was read
+
+  module _ (sectors : List (List ℕ)) (holds : Holds mask count sectors) (did : tapes.Done t old new []) (a b : K) where
+    abbrev act : Act
+    act = act_of piece sectors
+
+    is_read : (c : Cartridge) → HasSolved (cells_of c segment mask) sectors → IsRead c words piece act
+    is_read c solved =
+        let n : length (cells_of c segment mask) ≡ usable_count mask = count_of_cells c segment mask in
+        let shown : List (List ℕ) = data_of (take (usable_count mask) sectors) in
+        let says : Says (cells_of c segment mask) (Data shown) =
+        subst (λ (m : ℕ). Says (cells_of c segment mask) (Data (data_of (take m sectors)))) n solved.says in
+        record {
+          sectors = shown;
+          says = subst (λ (m : ℕ). Says (cells_of c segment m) (Data shown)) is says;
+          shown = ap (λ (text : List ℕ). record { steps = []; text = text }) (data_bytes mask count sectors holds);
+        }
+
+    pub gave : sinks.Wrote k a b (part_text lined piece sectors) → tapes.Tells t old (λ c. HasSolved (cells_of c segment mask) sectors) →
+        GaveVolume t k words (piece ∷ []) lined (around old a) (around new b) Restored
+    gave wrote solved = record {
+      acts = act ∷ [];
+      went = record {
+        did = subst (tapes.Done t old new) (sym (printed_steps lined piece act refl)) did;
+        wrote = subst (sinks.Wrote k a b) (sym (text_printed lined piece sectors)) wrote;
+        source_later = omega arith;
+      };
+      told = Tells-map t old (λ c. HasSolved (cells_of c segment mask) sectors) (λ c. Restores c words (piece ∷ []) (act ∷ []) Restored)
+          (λ c has. (is_read c has, (refl, refl))) solved;
+      are = (refl, count_of_bytes mask count sectors holds, tt);
+      ends = refl;
+    }
+
+    -- the sink failed in its text
+    pub ungiven : sinks.BrokeOff k a b (part_text lined piece sectors) → tapes.Tells t old (λ c. HasSolved (cells_of c segment mask) sectors) →
+        VolumeCut t k words (piece ∷ []) lined (around old a) (around new b) SinkFails
+    ungiven broke solved = record {
+      told = Tells-map t old (λ c. HasSolved (cells_of c segment mask) sectors)
+          (λ c. (acts : List Act) (ending : Ending) → Restores c words (piece ∷ []) acts ending →
+              Cut t no_source k (around old a) (around new b) (printed lined (piece ∷ []) acts) SinkFails)
+          (λ c has acts ending restores.
+          let same : act ∷ [] ≡ acts =
+          (restores_is_function c words (piece ∷ []) (act ∷ []) acts Restored ending (is_read c has, (refl, refl)) restores).0 in
+          subst (λ (xs : List Act). Cut t no_source k (around old a) (around new b) (printed lined (piece ∷ []) xs) SinkFails) same cut)
+          solved;
+      acts = act ∷ [];
+      are = (refl, count_of_bytes mask count sectors holds, tt);
+      cut = cut;
+    }
+      where
+        cut : Cut t no_source k (around old a) (around new b) (printed lined (piece ∷ []) (act ∷ [])) SinkFails
+        cut = record {
+          at = record { front = []; act = printed_act lined piece act; rest = []; parts = sym (one_printed lined piece act) };
+          did = subst (tapes.Done t old new) (sym (no_steps lined piece sectors)) did;
+          broke = record {
+            part = broke.front;
+            rest = broke.rest;
+            parts = broke.parts;
+            took = broke.took;
+            cause = broke.cause;
+            later = broke.later;
+          };
+          source_later = omega arith;
+        }

@@ -1,0 +1,16 @@
+-- One segment's part of a volume: what is read of it and written (this project's own).
+use Rattle.std.specs.Prelude.{ℕ, Bool, true, false, List}
+use Rattle.acts.specs.Acts.{Act}
+use Rattle.restore_plan.specs.Restoring.{Piece, act_of, framed_act}
+
+abbrev pub piece_of : (segment count : ℕ) → Piece
+piece_of segment count = record { segment = segment; count = count }
+
+-- an act as it is printed: behind a line with the number of its bytes, or alone
+abbrev pub printed_act : (lined : Bool) → Piece → Act → Act
+printed_act true piece act = framed_act piece act
+printed_act false piece act = act
+
+-- the text of the act of a piece
+abbrev pub part_text : (lined : Bool) → Piece → (sectors : List (List ℕ)) → List ℕ
+part_text lined piece sectors = (printed_act lined piece (act_of piece sectors)).text

@@ -1,0 +1,79 @@
+//! One segment's bytes.
+
+ghost use Rattle.std.specs.Prelude.{◌≡◌, ◌*◌, ◌≤◌, ℕ, List, [], ◌∷◌, ◌++◌, true, length, codes, decimal};
+ghost use Rattle.qic_base.specs.Sink.{Writes};
+ghost use Rattle.acts.specs.Around.{around};
+ghost use Rattle.cartridge_spec.specs.Shape.{mask_at, capacity};
+ghost use Rattle.drive_states.specs.Reach.{reads_in};
+ghost use Rattle.host_driver.specs.Calls.{IsReady, Keeps};
+ghost use Rattle.segment_io.specs.Calls.{HasSegment};
+ghost use Rattle.volume_output.specs.Output.{OutputEnds};
+ghost use Rattle.volume_output.specs.Piece.{piece_of, part_text};
+
+use crate::fault::OutputFault;
+use drive_states::Unit;
+use host_driver::Host;
+use qic_base::{Sink, SinkFailed, Tape};
+use sector_output::write_bytes;
+use segment_io::{SegFault, Workspace, read_segment};
+use tape_script::{TextLine, write_text};
+
+/// Reads a segment of these usable sectors, and hands its first `count` bytes to the sink once it agrees.
+pub fn write_piece<T: Tape, K: Sink>(
+    host: &mut Host,
+    unit: &mut Unit<T>,
+    segment: u32,
+    usable: u32,
+    count: u32,
+    lined: bool,
+    work: &mut Workspace,
+    sink: &mut K,
+) -> Result<(), OutputFault>
+    requires ready { IsReady T.means host.old unit.old }
+    requires segment { HasSegment unit.old.drive.deck segment usable }
+    requires mode { reads_in unit.old.drive.deck.mode ≡ true }
+    requires within { count ≤ capacity usable }
+    ensures ends { (words : List ℕ) → usable ≡ mask_at words segment →
+        OutputEnds T.means K.means words (piece_of segment count ∷ []) lined
+        (around unit.old.tape sink.old) (around unit.new.tape sink.new) result }
+    ensures keeps { Keeps T.means host.new unit.old unit.new }
+{
+    match read_segment(host, unit, segment, usable, work) {
+        Ok(_) => {}
+        Err(SegFault::Lost { segment, lost }) => return Err(OutputFault::Lost { segment, lost }),
+        Err(SegFault::Mismatch { segment }) => return Err(OutputFault::Mismatch { segment }),
+        Err(SegFault::Tape) => return Err(OutputFault::Tape),
+    }
+    match write_part(work.sectors(), count, lined, sink) {
+        Ok(()) => Ok(()),
+        Err(SinkFailed) => Err(OutputFault::Sink),
+    }
+}
+
+/// Writes the first `count` bytes of the sectors; with `lined`, behind a line with their number.
+fn write_part<K: Sink>(
+    sectors: &[[u8; 1024]],
+    count: u32,
+    lined: bool,
+    sink: &mut K,
+) -> Result<(), SinkFailed>
+    requires { count ≤ 1024 * length sectors.now }
+    ensures { (segment : ℕ) → Writes K.means sink.old sink.new
+        (part_text lined (piece_of segment count) sectors.now) result }
+{
+    if lined {
+        write_line(count, sink)?;
+    }
+    write_bytes(sectors, count, sink)
+}
+
+fn write_line<K: Sink>(count: u32, sink: &mut K) -> Result<(), SinkFailed>
+    ensures { Writes K.means sink.old sink.new
+        (codes "part " ++ decimal count ++ codes "\n") result }
+{
+    let mut line = TextLine::new();
+    line.push_text(b"part ");
+    line.push_number(u64::from(count));
+    line.push_text(b"\n");
+    write_text(line.bytes(), sink)
+}
