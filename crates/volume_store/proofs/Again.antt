@@ -1,14 +1,12 @@
 -- The volume table read again: what it says of a list, and what a call did that read it.
-use Rattle.std.proofs.Common.{◌≡◌, ◌≢◌, ℕ, ◌-◌, ◌<◌, ◌++◌, refl, sym, ◌∙◌, ap, subst, arith, inl, inr, Bool, List, [], ◌∷◌, length, take, Some, Result, Ok, Err, IsOkUnless, OnErr}
-use Rattle.std.specs.List.{slice_get}
+use Rattle.std.proofs.Common.{◌≡◌, ◌≢◌, ℕ, ◌-◌, ◌<◌, ◌++◌, refl, sym, ◌∙◌, ap, subst, arith, inl, inr, List, [], ◌∷◌, length, take, Result, Ok, Err, IsOkUnless, OnErr}
 use Rattle.std.proofs.lemmas.List.{same_lists, length-take-le, get_or-take, append-nil}
 use Rattle.std.proofs.lemmas.Option.{get_or_from_slice_get}
 use Rattle.qic_base.specs.Cartridge.{Cartridge}
 use Rattle.qic_base.specs.Step.{Step}
 use Rattle.qic_base.specs.Tape.{Meaning, Done, Broke, Does, Tells}
-use Rattle.qic_base.specs.declared.tape.SectorView.{SectorView}
 use Rattle.cartridge_spec.specs.HeaderAndTable.{table_cells, TableIs}
-use Rattle.cartridge_spec.specs.Says.{Saying, TableSaying, Says, Data, Mismatch, AsRead, ByCode, TableSays, ReadsAll, HasBlock, Agrees, data_of}
+use Rattle.cartridge_spec.specs.Says.{Says, Data, Mismatch, AsRead, ByCode, ReadsAll, HasBlock, Agrees, data_of}
 use Rattle.cartridge_spec.specs.Table.{Entry, Shows}
 use Rattle.cartridge_spec.proofs.Sayings.{says_is_function}
 use Rattle.cartridge_spec.proofs.TableSayings.{code_says, table_says_is_function}
@@ -17,7 +15,7 @@ use Rattle.mount_laws.specs.Settling.{settling_steps}
 use Rattle.segment_io.specs.declared.fault.SegFault.{SegFault}
 use Rattle.segment_io.specs.declared.fault.SegFault.TheVariants as seg
 use Rattle.host_driver.specs.declared.host.Host.{Host}
-use Rattle.host_driver.specs.Fits.{Fits, AgreesWithTape, deck_of}
+use Rattle.host_driver.specs.Fits.{Fits, AgreesWithTape}
 use Rattle.drive_states.specs.Deck.{is_protected}
 use Rattle.drive_states.specs.Unit.{UnitView}
 use Rattle.qic_base.proofs.Steps.{Done-after_reads, Broke-after_reads, Tells-map, Tells-read}

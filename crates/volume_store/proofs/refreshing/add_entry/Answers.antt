@@ -1,4 +1,4 @@
-use Rattle.std.proofs.Common.{◌≡◌, ◌++◌, ◌∷◌, [], ℕ, List, length, take, Err, subst, arith}
+use Rattle.std.proofs.Common.{◌≡◌, ◌++◌, ◌∷◌, [], ℕ, List, take, Err, subst, arith}
 use Rattle.std.proofs.lemmas.Grind.{common_steps}
 use Rattle.std.proofs.lemmas.List.{length-take-le}
 use Rattle.qic_base.specs.Tape.{Tells}
@@ -6,10 +6,8 @@ use Rattle.qic_base.specs.declared.lost_set.LostSet.{LostSet}
 use Rattle.qic_base.proofs.Steps.{Tells-map}
 use Rattle.cartridge_spec.specs.HeaderAndTable.{TableIs}
 use Rattle.cartridge_spec.specs.Table.{Entry, Shows}
-use Rattle.drive_states.specs.Reach.{reads_in}
 use Rattle.volume_table.specs.Entry.{entry_of}
 use Rattle.volume_store.specs.declared.fault.StoreFault.{StoreFault}
-use Rattle.volume_store.specs.declared.fault.StoreFault.TheVariants.{Tape}
 use Rattle.segment_io.proofs.Going.{OnOk-always}
 use Rattle.volume_store.specs.Again.{HasTable, data_with}
 use Rattle.volume_store.proofs.Again.{added_by, adds_refused, reads_unless, reads_on, kept_unless}

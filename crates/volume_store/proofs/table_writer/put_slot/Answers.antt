@@ -1,4 +1,4 @@
-use Rattle.std.proofs.Common.{◌≡◌, ℕ, List, length, take, drop, sym, ◌∙◌, arith}
+use Rattle.std.proofs.Common.{◌≡◌, length, drop, sym, ◌∙◌, arith}
 use Rattle.std.proofs.lemmas.List.{length-take-le, take_at}
 use Rattle.volume_store.proofs.table_writer.put_slot.Goals as goal
 

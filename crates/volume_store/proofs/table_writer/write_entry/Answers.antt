@@ -1,4 +1,4 @@
-use Rattle.std.proofs.Common.{◌≡◌, ℕ, ◌*◌, ◌%◌, ◌^◌, ◌<◌, ◌/◌, ◌∷◌, [], List, length, take, Err, ap, ◌∙◌, subst, arith}
+use Rattle.std.proofs.Common.{◌≡◌, ℕ, ◌<◌, ◌∷◌, [], List, length, take, Err, ap, ◌∙◌, subst, arith}
 use Rattle.std.proofs.lemmas.Grind.{common_steps}
 use Rattle.qic_base.specs.Tape.{Done, Broke, Does}
 use Rattle.qic_base.specs.Step.{Step}
@@ -7,7 +7,6 @@ use Rattle.cartridge_spec.specs.Says.{with_parity}
 use Rattle.cartridge_spec.specs.Shape.{sectors_of}
 use Rattle.cartridge_spec.specs.Slots.{slot_bytes, slot_sector, with_slot}
 use Rattle.mount_laws.specs.Settling.{block_writes}
-use Rattle.host_driver.proofs.Keeping.{cartridge_kept, may_write_kept}
 use Rattle.volume_table.specs.Entry.{entry_of}
 use Rattle.volume_store.specs.declared.fault.StoreFault.{StoreFault}
 use Rattle.volume_store.proofs.Adding.{slot_writes, parity_writes, both_writes, does_after, broke_front}
