@@ -1,3 +1,5 @@
+pub mod Adding
+pub mod Again
 pub mod Copies
 pub mod Mending
 pub mod Mounts

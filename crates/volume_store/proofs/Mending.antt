@@ -1,8 +1,9 @@
 -- The writes of a settling, as those of a set of places and as those of a cartridge.
-use Rattle.std.proofs.Common.{◌≡◌, ℕ, zero, suc, ◌+◌, ◌<◌, ◌≤◌, ◌++◌, refl, sym, ◌∙◌, ap, arith, Bool, true, false, cond, List, [], ◌∷◌, map, get_or, filter, add-zero, zero-add}
+use Rattle.std.proofs.Common.{◌≡◌, ℕ, zero, suc, ◌+◌, ◌<◌, ◌≤◌, ◌++◌, refl, sym, ◌∙◌, ap, arith, Bool, true, false, cond, List, [], ◌∷◌, length, take, map, get_or, filter, add-zero, zero-add}
 use Rattle.std.specs.Prelude.{slice_index, if◌then◌else◌}
 use Rattle.std.specs.List.{range_with_len}
-use Rattle.std.proofs.lemmas.List.{map-append}
+use Rattle.std.proofs.lemmas.List.{map-append, length-take-le, take_at}
+use Rattle.gf256_qic.specs.Code.{parity_sectors}
 use Rattle.std.proofs.lemmas.List.Elements.{filter-append}
 use Rattle.std.proofs.lemmas.List.FromFn.{get_or-range_with_len}
 use Rattle.qic_base.specs.LostSet.{lost_places}
@@ -52,7 +53,7 @@ unfolding places_where
 places_same one other same = filter_same 0 32 one other (λ i within. same i (omega arith))
 
 -- the place of a whole segment's sector is its index
-index_of : (mask n : ℕ) → n ≤ 32 → map (λ place. slice_index (usable_places whole_mask) place) (lost_places mask n) ≡ lost_places mask n
+pub index_of : (mask n : ℕ) → n ≤ 32 → map (λ place. slice_index (usable_places whole_mask) place) (lost_places mask n) ≡ lost_places mask n
 unfolding lost_places
 index_of mask zero few = refl
 index_of mask (suc n) few =
@@ -79,6 +80,11 @@ pub mend_writes : (stale lost : ℕ) (old new : List (List ℕ)) → new ≡ col
 mend_writes stale lost old new is same =
     writes_of_set stale new (is_stale lost old new) same
     ∙ ap (λ (block : List (List ℕ)). block_writes block (places_where (is_stale lost old block))) is
+
+-- the block has the data that were collected
+pub data_kept : (old new : List (List ℕ)) → length old ≡ 32 → new ≡ collected_block old → take 29 new ≡ take 29 old
+data_kept old new room is =
+    ap (take 29) is ∙ take_at (take 29 old) (parity_sectors (take 29 old)) 29 (length-take-le 29 old (omega arith))
 
 -- an empty set writes nothing
 pub no_writes : (sectors : List (List ℕ)) → named_writes 2 4294967295 0 sectors ≡ []

@@ -1,5 +1,5 @@
 -- The slot that a fault of the volume table names is one of the table's.
-use Rattle.std.proofs.Common.{◌≡◌, ℕ, ◌<◌, Bool, true, false, cond, not, ◌||◌, List, Option, Some, None, sym, ap, subst}
+use Rattle.std.proofs.Common.{◌≡◌, ℕ, ◌<◌, Bool, true, false, cond, not, ◌||◌, List, Some, None, sym, ap, subst}
 use Rattle.std.proofs.lemmas.Option.{same_Some}
 use Rattle.cartridge_spec.specs.Table.{TableFault, ForeignSlot, BadRange, IsFirstFault, slot_fault, slot, is_free, is_used, some_free_below, has_bad_range}
 

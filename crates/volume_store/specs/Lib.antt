@@ -1,3 +1,4 @@
+pub mod Again
 pub mod Finding
 pub mod Settling
 pub mod Mounting

@@ -5,6 +5,7 @@
 mod fault;
 mod header_reader;
 mod learning;
+mod refreshing;
 mod settling;
 mod store;
 mod table_reader;

@@ -76,6 +76,7 @@ pub(crate) fn settle<T: Tape>(
     requires room { length work.old ≡ 32 }
     ensures did { Does T.means unit.old.tape unit.new.tape
         (mending_steps (is_protected unit.old.drive.deck) lost work.old) result }
+    ensures data { take 29 work.new ≡ take 29 work.old }
     ensures fault { IsOkUnless result StoreFault.Tape }
     ensures keeps { Keeps T.means host.new unit.old unit.new }
 {

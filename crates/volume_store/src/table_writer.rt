@@ -13,7 +13,7 @@ ghost use Rattle.mount_laws.specs.Settling.{block_writes};
 ghost use Rattle.volume_table.specs.Entry.{entry_of};
 
 use crate::fault::StoreFault;
-use crate::table_reader::{DATA_SECTORS, TABLE_SEGMENT, WHOLE, data_sectors};
+use crate::table_reader::{DATA_SECTORS, TABLE_SEGMENT, WHOLE};
 use drive_states::Unit;
 use host_driver::Host;
 use qic_base::{LostSet, Tape};
@@ -23,6 +23,36 @@ use volume_table::{Entry, Table, TableFull};
 
 /// The mask of the places of a whole segment's parity.
 const PARITY: u32 = 0xE000_0000;
+
+// Puts the entry into the next slot of the data, the first 29 of a segment's sectors. The answer is the sector that has
+// the slot.
+fn put_slot(entry: &Entry, sectors: &mut [[u8; 1024]], table: &mut Table) -> u8
+    requires room { length sectors.old ≡ 32 }
+    requires listed { Shows (take 29 sectors.old) table.old }
+    requires free { length table.old < 232 }
+    ensures data { take 29 sectors.new
+        ≡ with_slot (take 29 sectors.old) (length table.old) (slot_bytes (entry_of entry.now)) }
+    ensures room { length sectors.new ≡ 32 }
+    ensures sector { result ≡ slot_sector (length table.old) }
+    ensures list { table.new ≡ table.old ++ entry_of entry.now ∷ [] }
+    ensures shown { Shows
+        (with_slot (take 29 sectors.old) (length table.old) (slot_bytes (entry_of entry.now)))
+        table.new }
+{
+    match table.put(entry, &mut sectors[..DATA_SECTORS]) {
+        Ok(sector) => sector,
+        Err(TableFull) => unreachable!("a slot is free"),
+    }
+}
+
+// Puts their parity behind the data.
+fn put_parity(sectors: &mut [[u8; 1024]])
+    requires { length sectors.old ≡ 32 }
+    ensures { sectors.new ≡ with_parity (take 29 sectors.old) }
+{
+    let parity = parity_of(&sectors[..DATA_SECTORS]);
+    sectors[DATA_SECTORS..].copy_from_slice(&parity);
+}
 
 // Puts the entry into the next slot of the data in the workspace, and their parity behind them. The answer is the sector
 // that has the slot.
@@ -39,12 +69,8 @@ fn put_entry(entry: &Entry, work: &mut Workspace, table: &mut Table) -> u8
         table.new }
 {
     let sectors = work.sectors_mut();
-    let changed = match table.put(entry, &mut sectors[..DATA_SECTORS]) {
-        Ok(sector) => sector,
-        Err(TableFull) => unreachable!("a slot is free"),
-    };
-    let parity = parity_of(&sectors[..DATA_SECTORS]);
-    sectors[DATA_SECTORS..].copy_from_slice(&parity);
+    let changed = put_slot(entry, sectors, table);
+    put_parity(sectors);
     changed
 }
 

@@ -17,7 +17,7 @@ use segment_io::{SegFault, Workspace};
 use volume_table::{Table, TableFault};
 
 // Why the table's segment has no data.
-fn table_fault(fault: SegFault) -> StoreFault
+pub(crate) fn table_fault(fault: SegFault) -> StoreFault
     ensures { result ≡ refusal_of fault }
 {
     match fault {

@@ -6,7 +6,7 @@ use Rattle.drive_states.specs.Deck.{is_protected}
 use Rattle.cartridge_spec.specs.Writes.{named_writes}
 use Rattle.segment_io.proofs.Going.{front_segment}
 use Rattle.volume_store.specs.Settling.{mending_steps}
-use Rattle.volume_store.proofs.Mending.{mend_writes, no_writes}
+use Rattle.volume_store.proofs.Mending.{mend_writes, no_writes, data_kept}
 use Rattle.volume_store.proofs.settling.settle.Goals as goal
 
 pub write_sectors-requires-clause-segment : goal.write_sectors-requires-clause-segment
@@ -39,3 +39,12 @@ returns-then-mask-eq0-clause-did g c =
     ∙ mend_writes c.renew_parity-stale.result c.args.lost c.args.work.now c.renew_parity-stale.new.work c.renew_parity-stale.ensures.block c.renew_parity-stale.ensures.stale
     ∙ ap (λ (b : Bool). mending_steps b c.args.lost c.args.work.now) (c.if-protected.ensures ∙ sym (ap is_protected c.requires.ready.fits.deck)) in
     subst (Done g.T.Tape.means c.args.unit.now.tape c.args.unit.now.tape) steps (Done-nothing g.T.Tape.means c.args.unit.now.tape)
+
+pub returns-in-Ok-clause-data : goal.returns-in-Ok-clause-data
+returns-in-Ok-clause-data g c = data_kept c.args.work.now c.renew_parity-stale.new.work c.requires.room c.renew_parity-stale.ensures.block
+
+pub returns-in-Err-clause-data : goal.returns-in-Err-clause-data
+returns-in-Err-clause-data g c = data_kept c.args.work.now c.renew_parity-stale.new.work c.requires.room c.renew_parity-stale.ensures.block
+
+pub returns-then-mask-eq0-clause-data : goal.returns-then-mask-eq0-clause-data
+returns-then-mask-eq0-clause-data g c = data_kept c.args.work.now c.renew_parity-stale.new.work c.requires.room c.renew_parity-stale.ensures.block

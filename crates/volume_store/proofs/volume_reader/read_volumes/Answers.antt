@@ -1,6 +1,5 @@
-use Rattle.std.proofs.Common.{◌≡◌, Err, Result, subst, sym, arith}
+use Rattle.std.proofs.Common.{◌≡◌, Err, subst, sym, arith}
 use Rattle.std.proofs.lemmas.Grind.{common_steps}
-use Rattle.qic_base.specs.declared.lost_set.LostSet.{LostSet}
 use Rattle.host_driver.specs.Fits.{segments_of}
 use Rattle.volume_store.specs.declared.fault.StoreFault.{StoreFault}
 use Rattle.volume_store.specs.Finding.{NamesCause}

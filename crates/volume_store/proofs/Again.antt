@@ -1,0 +1,209 @@
+-- The volume table read again: what it says of a list, and what a call did that read it.
+use Rattle.std.proofs.Common.{◌≡◌, ◌≢◌, ℕ, ◌-◌, ◌<◌, ◌++◌, refl, sym, ◌∙◌, ap, subst, arith, inl, inr, List, [], ◌∷◌, length, take, Result, Ok, Err, IsOkUnless, OnErr}
+use Rattle.std.proofs.lemmas.List.{same_lists, length-take-le, get_or-take, append-nil}
+use Rattle.std.proofs.lemmas.Option.{get_or_from_slice_get}
+use Rattle.qic_base.specs.Cartridge.{Cartridge}
+use Rattle.qic_base.specs.Step.{Step}
+use Rattle.qic_base.specs.Tape.{Meaning, Done, Broke, Does, Tells}
+use Rattle.cartridge_spec.specs.HeaderAndTable.{table_cells, TableIs}
+use Rattle.cartridge_spec.specs.Says.{Says, Data, Mismatch, AsRead, ByCode, ReadsAll, HasBlock, Agrees, data_of}
+use Rattle.cartridge_spec.specs.Table.{Entry, Shows}
+use Rattle.cartridge_spec.proofs.Sayings.{says_is_function}
+use Rattle.cartridge_spec.proofs.TableSayings.{code_says, table_says_is_function}
+use Rattle.cartridge_spec.proofs.Segments.{length-whole_cells}
+use Rattle.mount_laws.specs.Settling.{settling_steps}
+use Rattle.segment_io.specs.declared.fault.SegFault.{SegFault}
+use Rattle.segment_io.specs.declared.fault.SegFault.TheVariants as seg
+use Rattle.host_driver.specs.declared.host.Host.{Host}
+use Rattle.host_driver.specs.Fits.{Fits, AgreesWithTape}
+use Rattle.drive_states.specs.Deck.{is_protected}
+use Rattle.drive_states.specs.Unit.{UnitView}
+use Rattle.qic_base.proofs.Steps.{Done-after_reads, Broke-after_reads, Tells-map, Tells-read}
+use Rattle.segment_io.proofs.Going.{tells_always}
+use Rattle.volume_store.specs.declared.fault.StoreFault.{StoreFault}
+use Rattle.volume_store.specs.declared.fault.StoreFault.TheVariants as fault
+use Rattle.volume_store.specs.Again.{HasTable, FindsList, IsOfReading, IsSettledAgain, IsBrokenOff, SettlesAgain, AddsEntry, data_with, entry_writes}
+use Rattle.volume_store.specs.Finding.{FindsTable, Leaves, refusal_of}
+use Rattle.volume_store.specs.Mounting.{HasList}
+use Rattle.volume_store.specs.Settling.{mending_steps}
+use Rattle.volume_store.proofs.Copies.{IsLearnt, told_learnt, tells_two}
+use Rattle.volume_store.proofs.Settled.{mending_settles}
+
+-- ---- the table's data are one
+
+pub table_one : (c : Cartridge) (one other : List (List ℕ)) → TableIs c one → TableIs c other → one ≡ other
+table_one c one other (inl reads) (inl again) =
+    let same : AsRead one ≡ AsRead other = table_says_is_function (table_cells c) (AsRead one) (AsRead other) reads again in cc
+table_one c one other (inl reads) (inr solved) =
+    let same : AsRead one ≡ ByCode (Data other) = table_says_is_function (table_cells c) (AsRead one) (ByCode (Data other)) reads solved in cc
+table_one c one other (inr solved) (inl reads) =
+    let same : ByCode (Data one) ≡ AsRead other = table_says_is_function (table_cells c) (ByCode (Data one)) (AsRead other) solved reads in cc
+table_one c one other (inr solved) (inr again) =
+    let same : ByCode (Data one) ≡ ByCode (Data other) = table_says_is_function (table_cells c) (ByCode (Data one)) (ByCode (Data other)) solved again in cc
+
+-- data that are all read are those of a block that agrees
+read_block : (c : Cartridge) (area block : List (List ℕ)) → ReadsAll (table_cells c) area → Agrees (table_cells c) block → area ≡ data_of block
+read_block c area block reads agrees =
+    let size : length area ≡ 29 = reads.size in
+    let long : length block ≡ 32 = agrees.size ∙ length-whole_cells c 2 in
+    let short : length block - 3 ≡ 29 = omega arith in
+    let data_size : length (take 29 block) ≡ 29 = length-take-le 29 block (omega arith) in
+    same_lists area (take 29 block) (size ∙ sym data_size) (λ k d lt.
+    let within : k < 29 = omega arith in
+    let here = reads.each k within in
+    get_or_from_slice_get area k here.0 d here.2
+    ∙ sym (get_or_from_slice_get block k here.0 d (agrees.each k here.0 here.1))
+    ∙ sym (get_or-take 29 block k d within))
+    ∙ ap (λ (n : ℕ). take n block) (sym short)
+
+-- a segment that shows a list has data that show it
+pub list_shown : (c : Cartridge) (area : List (List ℕ)) (entries : List Entry) → HasList c entries → TableIs c area → Shows area entries
+list_shown c area entries has (inl reads) =
+    subst (λ (a : List (List ℕ)). Shows a entries) (sym (read_block c area has.block reads has.agrees)) has.shown
+list_shown c area entries has (inr solved) =
+    let says : Says (table_cells c) (Data area) = code_says (table_cells c) (Data area) solved in
+    let block : HasBlock (table_cells c) (data_of has.block) = record { block = has.block; code = has.code; agrees = has.agrees; shown = refl } in
+    let same : Data area ≡ Data (data_of has.block) = says_is_function (table_cells c) (Data area) (Data (data_of has.block)) says (says.0, block) in
+    let one : area ≡ data_of has.block = cc in
+    subst (λ (a : List (List ℕ)). Shows a entries) (sym one) has.shown
+
+-- .. so data that show another tell that it doesn't
+pub list_missing : (c : Cartridge) (area : List (List ℕ)) (entries : List Entry) → ¬ (Shows area entries) → TableIs c area → ¬ (HasList c entries)
+list_missing c area entries none table = λ has. none (list_shown c area entries has table)
+
+-- .. and so does a segment that no code block agrees with
+pub finds_fault : (c : Cartridge) (sectors : List (List ℕ)) (entries : List Entry) (f : SegFault) → FindsTable {A = ℕ} c sectors (Err f) → FindsList c sectors entries (Err (refusal_of f))
+finds_fault c sectors entries (seg.Lost segment lost) found = found.1
+finds_fault c sectors entries (seg.Mismatch segment) found =
+    let says : Says (table_cells c) Mismatch = code_says (table_cells c) Mismatch found.1 in
+    λ has. says.1 has.block has.code has.agrees
+finds_fault c sectors entries seg.Tape found = found
+
+-- ---- a call that was refused by its reading
+
+-- a fault of the tape before the first step
+pub broken_before : {T : Type 0} (m : Meaning T) (old new : T) (wanted : (area : List (List ℕ)) → Cartridge → List Step) → Broke m old new [] → IsBrokenOff m old new wanted
+broken_before m old new wanted broke = record {
+  steps = [];
+  broke = broke;
+  told = tells_always m old (λ c. (area : List (List ℕ)) → TableIs c area → (rest : List Step) × ([] ++ rest ≡ wanted area c)) (λ c area table. (wanted area c, refl));
+}
+
+pub settles_refused : {T : Type 0} (m : Meaning T) (old new : T) (entries : List Entry) (found sectors : List (List ℕ)) (f : StoreFault) (r : Result (Unit {0}) StoreFault) → r ≡ Err f →
+    Leaves {A = ℕ} m old new [] (Err f) → (f ≢ fault.Tape → Tells m old (λ c. FindsList c found entries (Err f))) → IsOfReading {A = ℕ} (Err f) → SettlesAgain m old new entries sectors r
+settles_refused m old new entries found sectors f r is left told kind = subst (λ (answer : Result (Unit {0}) StoreFault). SettlesAgain m old new entries sectors answer) (sym is) (by_fault f left told kind)
+  where
+    by_fault : (f : StoreFault) → Leaves {A = ℕ} m old new [] (Err f) → (f ≢ fault.Tape → Tells m old (λ c. FindsList c found entries (Err f))) → IsOfReading {A = ℕ} (Err f) →
+        SettlesAgain {A = Unit {0}} m old new entries sectors (Err f)
+    by_fault (fault.Lost segment lost) left told kind = record { done = left; told = told (λ same. cc) }
+    by_fault fault.TableMismatch left told kind = record { done = left; told = told (λ same. cc) }
+    by_fault fault.Tape left told kind = broken_before m old new settling_steps left
+    by_fault fault.NotFormatted left told kind = absurd kind
+    by_fault (fault.Foreign field value) left told kind = kind
+    by_fault (fault.Full need have) left told kind = kind
+    by_fault (fault.NoVolume number count) left told kind = kind
+    by_fault (fault.Mismatch segment) left told kind = kind
+    by_fault fault.Protected left told kind = kind
+    by_fault (fault.Short promised read) left told kind = kind
+    by_fault fault.Source left told kind = kind
+    by_fault fault.Sink left told kind = kind
+
+pub adds_refused : {T : Type 0} (m : Meaning T) (old new : T) (entries : List Entry) (entry : Entry) (found : List (List ℕ)) (f : StoreFault) (r : Result (Unit {0}) StoreFault) → r ≡ Err f →
+    Leaves {A = ℕ} m old new [] (Err f) → (f ≢ fault.Tape → Tells m old (λ c. FindsList c found entries (Err f))) → IsOfReading {A = ℕ} (Err f) → AddsEntry m old new entries entry r
+adds_refused m old new entries entry found f r is left told kind = subst (λ (answer : Result (Unit {0}) StoreFault). AddsEntry m old new entries entry answer) (sym is) (by_fault f left told kind)
+  where
+    by_fault : (f : StoreFault) → Leaves {A = ℕ} m old new [] (Err f) → (f ≢ fault.Tape → Tells m old (λ c. FindsList c found entries (Err f))) → IsOfReading {A = ℕ} (Err f) →
+        AddsEntry {A = Unit {0}} m old new entries entry (Err f)
+    by_fault (fault.Lost segment lost) left told kind = record { done = left; told = told (λ same. cc) }
+    by_fault fault.TableMismatch left told kind = record { done = left; told = told (λ same. cc) }
+    by_fault fault.Tape left told kind = broken_before m old new (λ area c. entry_writes entries entry area) left
+    by_fault fault.NotFormatted left told kind = absurd kind
+    by_fault (fault.Foreign field value) left told kind = kind
+    by_fault (fault.Full need have) left told kind = kind
+    by_fault (fault.NoVolume number count) left told kind = kind
+    by_fault (fault.Mismatch segment) left told kind = kind
+    by_fault fault.Protected left told kind = kind
+    by_fault (fault.Short promised read) left told kind = kind
+    by_fault fault.Source left told kind = kind
+    by_fault fault.Sink left told kind = kind
+
+-- ---- the steps of a told cartridge
+
+-- the writes of the workspace settle it
+pub told_mending : {T : Type 0} (m : Meaning T) (host : Host) (old : T) (u : UnitView T) (sectors : List (List ℕ)) (lost : ℕ) →
+    Fits m host u → AgreesWithTape m u → Done m old u.tape [] → length sectors ≡ 32 → Tells m old (λ c. HasTable c sectors lost) →
+    Tells m old (λ c. TableIs c (take 29 sectors) × (mending_steps (is_protected u.drive.deck) lost sectors ≡ settling_steps (take 29 sectors) c))
+told_mending m host old u sectors lost fits agrees read room has =
+    tells_two m old (IsLearnt host) (λ c. HasTable c sectors lost)
+    (λ c. TableIs c (take 29 sectors) × (mending_steps (is_protected u.drive.deck) lost sectors ≡ settling_steps (take 29 sectors) c))
+    (λ c known table. (table.table, mending_settles c (is_protected u.drive.deck) lost sectors room table.gathered (known.protected ∙ sym (ap is_protected fits.deck))))
+    (Tells-read (IsLearnt host) read (told_learnt m host u fits agrees)) has
+
+-- all steps that data call for are those that other data of the cartridge do
+pub all_wanted : (wanted : (area : List (List ℕ)) → Cartridge → List Step) (c : Cartridge) (area : List (List ℕ)) (steps : List Step) → TableIs c area → steps ≡ wanted area c →
+    (other : List (List ℕ)) → TableIs c other → (rest : List Step) × (steps ++ rest ≡ wanted other c)
+all_wanted wanted c area steps table are other again =
+    ([], append-nil steps ∙ are ∙ ap (λ (a : List (List ℕ)). wanted a c) (table_one c area other table again))
+
+-- ---- a call behind a reading
+
+-- a settling
+pub settled_by : {T : Type 0} (m : Meaning T) (old mid new : T) (entries : List Entry) (area sectors : List (List ℕ)) (steps : List Step) (r : Result (Unit {0}) StoreFault) →
+    Done m old mid [] → Does m mid new steps r → IsOkUnless r fault.Tape → Shows area entries → take 29 sectors ≡ area → Tells m old (λ c. TableIs c area × (steps ≡ settling_steps area c)) →
+    SettlesAgain m old new entries sectors r
+settled_by m old mid new entries area sectors steps (Ok answer) first next unless shown same told =
+    subst (λ (a : List (List ℕ)). IsSettledAgain m old new entries a) (sym same) (record { shown = shown; steps = steps; done = Done-after_reads first next; told = told })
+settled_by m old mid new entries area sectors steps (Err f) first next unless shown same told =
+    let broken : IsBrokenOff m old new settling_steps = record {
+      steps = steps;
+      broke = Broke-after_reads first next;
+      told = Tells-map m old (λ c. TableIs c area × (steps ≡ settling_steps area c))
+          (λ c. (other : List (List ℕ)) → TableIs c other → (rest : List Step) × (steps ++ rest ≡ settling_steps other c))
+          (λ c known other again. all_wanted settling_steps c area steps known.0 known.1 other again) told;
+    } in
+    subst (λ (e : StoreFault). SettlesAgain {A = Unit {0}} m old new entries sectors (Err e)) (sym unless) broken
+
+-- the writing of an entry
+pub added_by : {T : Type 0} (m : Meaning T) (old mid new : T) (entries : List Entry) (entry : Entry) (area : List (List ℕ)) (r : Result (Unit {0}) StoreFault) →
+    Done m old mid [] → Does m mid new (entry_writes entries entry area) r → IsOkUnless r fault.Tape → Shows area entries → length area ≡ 29 →
+    Shows (data_with entries entry area) (entries ++ entry ∷ []) → Tells m old (λ c. TableIs c area) → AddsEntry m old new entries entry r
+added_by m old mid new entries entry area (Ok answer) first next unless shown size more told =
+    record { area = area; shown = shown; done = Done-after_reads first next; told = told; size = size; with_entry = more }
+added_by m old mid new entries entry area (Err f) first next unless shown size more told =
+    let broken : IsBrokenOff m old new (λ a c. entry_writes entries entry a) = record {
+      steps = entry_writes entries entry area;
+      broke = Broke-after_reads first next;
+      told = Tells-map m old (λ c. TableIs c area)
+          (λ c. (other : List (List ℕ)) → TableIs c other → (rest : List Step) × (entry_writes entries entry area ++ rest ≡ entry_writes entries entry other))
+          (λ c known other again. all_wanted (λ a d. entry_writes entries entry a) c area (entry_writes entries entry area) known refl other again) told;
+    } in
+    subst (λ (e : StoreFault). AddsEntry {A = Unit {0}} m old new entries entry (Err e)) (sym unless) broken
+
+-- ---- answers
+
+-- a call that fails by the tape alone
+pub reads_unless : {A : Type 0} (r : Result A StoreFault) → IsOkUnless r fault.Tape → IsOfReading r
+reads_unless (Ok answer) unless = tt
+reads_unless {A} (Err f) unless = subst (λ (e : StoreFault). IsOfReading {A = A} (Err e)) (sym unless) tt
+
+pub kept_unless : {A : Type 0} (P : Type 0) (r : Result A StoreFault) → IsOkUnless r fault.Tape → r ≢ Err fault.Tape → OnErr r P
+kept_unless P (Ok answer) unless sound = tt
+kept_unless P (Err f) unless sound = absurd (sound (ap Err unless))
+
+-- a refusal is handed on
+pub reads_on : {B : Type 0} (A : Type 0) (f : StoreFault) (r : Result B StoreFault) → r ≡ Err f → IsOfReading {A = A} (Err f) → IsOfReading r
+reads_on {B} A f r is kind = subst (λ (answer : Result B StoreFault). IsOfReading answer) (sym is) (by_fault f kind)
+  where
+    by_fault : (f : StoreFault) → IsOfReading {A = A} (Err f) → IsOfReading {A = B} (Err f)
+    by_fault (fault.Lost segment lost) kind = kind
+    by_fault fault.TableMismatch kind = tt
+    by_fault fault.Tape kind = tt
+    by_fault fault.NotFormatted kind = kind
+    by_fault (fault.Foreign field value) kind = kind
+    by_fault (fault.Full need have) kind = kind
+    by_fault (fault.NoVolume number count) kind = kind
+    by_fault (fault.Mismatch segment) kind = kind
+    by_fault fault.Protected kind = kind
+    by_fault (fault.Short promised read) kind = kind
+    by_fault fault.Source kind = kind
+    by_fault fault.Sink kind = kind

@@ -1,0 +1,93 @@
+-- The volume table read again, settled again, and written with one entry more, by the answers of the calls (this project's
+-- own).
+use Rattle.std.specs.Prelude.{◌≡◌, ℕ, ◌<◌, ◌++◌, List, [], ◌∷◌, length, take, Result, Ok, Err}
+use Rattle.qic_base.specs.Cartridge.{Cartridge}
+use Rattle.qic_base.specs.Step.{Step}
+use Rattle.qic_base.specs.Tape.{Meaning, Done, Broke, Tells}
+use Rattle.cartridge_spec.specs.HeaderAndTable.{table_cells, TableIs}
+use Rattle.cartridge_spec.specs.Says.{TableSays, LostSectors, ByCode}
+use Rattle.cartridge_spec.specs.Slots.{slot_bytes, slot_sector, with_slot}
+use Rattle.cartridge_spec.specs.Table.{Entry, Shows}
+use Rattle.append_plan.specs.Between.{table_writes}
+use Rattle.mount_laws.specs.Settling.{settling_steps}
+use Rattle.segment_io.specs.Gathered.{Gathered}
+use Rattle.volume_store.specs.Mounting.{HasList}
+use Rattle.volume_store.specs.declared.fault.StoreFault.{StoreFault}
+use Rattle.volume_store.specs.declared.fault.StoreFault.TheVariants.{Lost, TableMismatch, Tape}
+
+-- ---- read again
+
+-- the first 29 sectors are the table's data; these sectors of its segment can't be read, and the others stand in their places
+pub record HasTable (c : Cartridge) (sectors : List (List ℕ)) (lost : ℕ) : Type 0 where
+  pub table : TableIs c (take 29 sectors)
+  pub gathered : Gathered (table_cells c) lost sectors
+
+-- What the table's segment is, where a list is known: its data; or that more than three sectors are lost; no code block that
+-- agrees, or another list, only where the segment doesn't show the list.
+abbrev pub FindsList : Cartridge → (sectors : List (List ℕ)) → (entries : List Entry) → Result ℕ StoreFault → Type 0
+FindsList c sectors entries (Ok lost) = HasTable c sectors lost
+FindsList c sectors entries (Err (Lost segment lost)) = TableSays (table_cells c) (ByCode (LostSectors lost))
+FindsList c sectors entries (Err TableMismatch) = HasList c entries → ⊥
+FindsList c sectors entries (Err fault) = ⊥
+
+-- the refusals of a reading, and its fault; lost sectors are those of segment 2, and more than three
+abbrev pub IsOfReading : {A : Type 0} → Result A StoreFault → Type 0
+IsOfReading (Ok answer) = Unit {0}
+IsOfReading (Err (Lost segment lost)) = (segment ≡ 2) × (3 < lost)
+IsOfReading (Err TableMismatch) = Unit {0}
+IsOfReading (Err Tape) = Unit {0}
+IsOfReading (Err fault) = ⊥
+
+-- ---- settled again
+
+-- the table's data show the list, and these steps settle them
+pub record IsSettledAgain {T : Type 0} (m : Meaning T) (old new : T) (entries : List Entry) (area : List (List ℕ)) : Type 0 where
+  pub shown : Shows area entries
+  pub steps : List Step
+  pub done : Done m old new steps
+  pub told : Tells m old (λ c. TableIs c area × (steps ≡ settling_steps area c))
+
+-- it was refused before anything was written
+pub record IsRefused {T : Type 0} (m : Meaning T) (old new : T) (Says : Cartridge → Type 0) : Type 0 where
+  pub done : Done m old new []
+  pub told : Tells m old Says
+
+-- a fault of the tape broke a front of the steps off that these data call for
+pub record IsBrokenOff {T : Type 0} (m : Meaning T) (old new : T) (wanted : (area : List (List ℕ)) → Cartridge → List Step) : Type 0 where
+  pub steps : List Step
+  pub broke : Broke m old new steps
+  pub told : Tells m old (λ c. (area : List (List ℕ)) → TableIs c area → (rest : List Step) × (steps ++ rest ≡ wanted area c))
+
+-- what was done, by the answer, where the data are in the first 29 sectors
+abbrev pub SettlesAgain : {T A : Type 0} (m : Meaning T) (old new : T) (entries : List Entry) (sectors : List (List ℕ)) → Result A StoreFault → Type 0
+SettlesAgain m old new entries sectors (Ok answer) = IsSettledAgain m old new entries (take 29 sectors)
+SettlesAgain m old new entries sectors (Err (Lost segment lost)) = IsRefused m old new (λ c. TableSays (table_cells c) (ByCode (LostSectors lost)))
+SettlesAgain m old new entries sectors (Err TableMismatch) = IsRefused m old new (λ c. HasList c entries → ⊥)
+SettlesAgain m old new entries sectors (Err Tape) = IsBrokenOff m old new settling_steps
+SettlesAgain m old new entries sectors (Err fault) = ⊥
+
+-- ---- one entry more
+
+-- the table's data with an entry in the slot behind a list's last one, and the writes that make them so
+abbrev pub data_with : (entries : List Entry) (entry : Entry) → List (List ℕ) → List (List ℕ)
+data_with entries entry area = with_slot area (length entries) (slot_bytes entry)
+
+abbrev pub entry_writes : (entries : List Entry) (entry : Entry) → List (List ℕ) → List Step
+entry_writes entries entry area = table_writes (slot_sector (length entries)) (data_with entries entry area)
+
+-- the table's data showed the list, and were written with the entry
+pub record IsAdded {T : Type 0} (m : Meaning T) (old new : T) (entries : List Entry) (entry : Entry) : Type 0 where
+  pub area : List (List ℕ)
+  pub shown : Shows area entries
+  pub done : Done m old new (entry_writes entries entry area)
+  pub told : Tells m old (λ c. TableIs c area)
+  -- 29 sectors, which show the list with the entry
+  pub size : length area ≡ 29
+  pub with_entry : Shows (data_with entries entry area) (entries ++ entry ∷ [])
+
+abbrev pub AddsEntry : {T A : Type 0} (m : Meaning T) (old new : T) (entries : List Entry) (entry : Entry) → Result A StoreFault → Type 0
+AddsEntry m old new entries entry (Ok answer) = IsAdded m old new entries entry
+AddsEntry m old new entries entry (Err (Lost segment lost)) = IsRefused m old new (λ c. TableSays (table_cells c) (ByCode (LostSectors lost)))
+AddsEntry m old new entries entry (Err TableMismatch) = IsRefused m old new (λ c. HasList c entries → ⊥)
+AddsEntry m old new entries entry (Err Tape) = IsBrokenOff m old new (λ area c. entry_writes entries entry area)
+AddsEntry m old new entries entry (Err fault) = ⊥
