@@ -1,3 +1,4 @@
+pub mod ActLaws
 pub mod Filled
 pub mod Inputs
 pub mod Lending

@@ -4,6 +4,7 @@
 mod fault;
 mod filling;
 mod input;
+pub mod laws;
 mod segment;
 mod written;
 
