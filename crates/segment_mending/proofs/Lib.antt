@@ -1,4 +1,5 @@
 mod Joining
+mod Kept
 mod Looked
 mod Parts
 mod Reading

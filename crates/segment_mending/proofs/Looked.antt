@@ -63,6 +63,19 @@ pub segments_join : (words xs ys : List ℕ) → looked_segments words (xs ++ ys
 segments_join words [] ys = refl
 segments_join words (x ∷ xs) ys = ap (λ (ls : List Looked). record { segment = x; mask = mask_at words x } ∷ ls) (segments_join words xs ys)
 
+pub segments_whole : (words : List ℕ) (start segment last : ℕ) → start ≤ segment → segment ≤ last →
+    looked_segments words (carrying_below words start segment) ++ looked_segments words (carrying_below words segment last)
+    ≡ looked_segments words (carrying_below words start last)
+segments_whole words start segment last low high =
+    sym (segments_join words (carrying_below words start segment) (carrying_below words segment last))
+    ∙ ap (looked_segments words) (sym (segments_part words start segment last low high))
+
+-- one segment more
+pub segments_next : (words : List ℕ) (start segment : ℕ) → start ≤ segment →
+    looked_segments words (carrying_below words start segment) ++ looked_segments words (carrying words segment segment)
+    ≡ looked_segments words (carrying_below words start (segment + 1))
+segments_next words start segment low = segments_whole words start segment (segment + 1) low (omega arith)
+
 length-segments : (words xs : List ℕ) → length (looked_segments words xs) ≡ length xs
 length-segments words [] = refl
 length-segments words (x ∷ xs) = ap suc (length-segments words xs)

@@ -8,6 +8,7 @@ use Rattle.scrub_plan.specs.Scrubbing.{Looked, whole_segment, cells_at, reads}
 use Rattle.host_driver.proofs.Keeping.{cartridge_kept}
 use Rattle.segment_io.specs.Reading.{HasSolved}
 use Rattle.segment_io.proofs.Going.{front_segment}
+use Rattle.segment_mending.specs.Mending.{reported}
 use Rattle.segment_mending.proofs.Reading.{Mends, data_in, says_data, looks_mended, looks_unread, read_cut, copy_signed, copy_line}
 use Rattle.segment_mending.proofs.looking.look_at_copy.Goals as goal
 
@@ -34,8 +35,8 @@ returns-else-not-is_header-clause-looks g c =
       can = copy_signed c.args.copy work true c.requires.copy c.if-not-is_header.ensures;
     } in
     looks_mended g.T.Tape.means g.K.Sink.means g.met.K.Sink.took_nothing c.args.unit.now.tape c.read_segment.new.unit.tape c.mend.new.unit.tape c.args.sink.now l c.in-Ok.lost work
-    (record { segments = c.args.report.now.segments; mended = c.args.report.now.mended; unreadable = c.args.report.now.unreadable })
-    (record { segments = c.mend.new.report.segments; mended = c.mend.new.report.mended; unreadable = c.mend.new.report.unreadable })
+    (reported c.args.report.now)
+    (reported c.mend.new.report)
     c.mend.result mends c.in-Ok.ensures.did c.mend.ensures.did c.mend.ensures.fault c.mend.ensures.counted
 
 -- the data have none
@@ -47,8 +48,8 @@ returns-then-not-is_header-clause-looks g c =
     let unread : reads l s ≡ false = copy_signed c.args.copy work false c.requires.copy c.if-not-is_header.ensures in
     let solved : Tells g.T.Tape.means c.args.unit.now.tape (λ c'. HasSolved (cells_at c' l) work) = c.in-Ok.ensures.solves (λ same. cc) in
     looks_unread g.T.Tape.means g.K.Sink.means c.args.unit.now.tape c.read_segment.new.unit.tape c.args.sink.now c.pass_over.new.sink l s c.header_text.result
-    (record { segments = c.args.report.now.segments; mended = c.args.report.now.mended; unreadable = c.args.report.now.unreadable })
-    (record { segments = c.pass_over.new.report.segments; mended = c.pass_over.new.report.mended; unreadable = c.pass_over.new.report.unreadable })
+    (reported c.args.report.now)
+    (reported c.pass_over.new.report)
     c.pass_over.result
     (Tells-map g.T.Tape.means c.args.unit.now.tape (λ c'. HasSolved (cells_at c' l) work) (λ c'. Says (cells_at c' l) s)
     (λ c' here. says_data c' l work here) solved)
@@ -62,8 +63,8 @@ returns-in-Err-Lost-clause-looks g c =
     let says : Tells g.T.Tape.means c.args.unit.now.tape (λ c'. (named ≡ c.args.copy) × Says (cells_at c' l) s) =
     rw c.in-Err-Lost.field-0-is at (c.in-Err-Lost.ensures.solves (λ same. cc)) in
     looks_unread g.T.Tape.means g.K.Sink.means c.args.unit.now.tape c.read_segment.new.unit.tape c.args.sink.now c.pass_over-in-Err-Lost.new.sink l s c.header_text-in-Err-Lost.result
-    (record { segments = c.args.report.now.segments; mended = c.args.report.now.mended; unreadable = c.args.report.now.unreadable })
-    (record { segments = c.pass_over-in-Err-Lost.new.report.segments; mended = c.pass_over-in-Err-Lost.new.report.mended; unreadable = c.pass_over-in-Err-Lost.new.report.unreadable })
+    (reported c.args.report.now)
+    (reported c.pass_over-in-Err-Lost.new.report)
     c.pass_over-in-Err-Lost.result
     (Tells-map g.T.Tape.means c.args.unit.now.tape (λ c'. (named ≡ c.args.copy) × Says (cells_at c' l) s) (λ c'. Says (cells_at c' l) s) (λ c' here. here.1) says)
     refl (c.header_text-in-Err-Lost.ensures ∙ copy_line l s c.requires.copy refl) (rw c.in-Err-Lost.field-0-is at c.in-Err-Lost.ensures.did)
@@ -78,8 +79,8 @@ returns-in-Err-Mismatch-clause-looks g c =
     rw c.in-Err-Mismatch.field-0-is at (c.in-Err-Mismatch.ensures.solves (λ same. cc)) in
     looks_unread g.T.Tape.means g.K.Sink.means c.args.unit.now.tape c.read_segment.new.unit.tape c.args.sink.now c.pass_over-in-Err-Mismatch.new.sink l s
     c.header_text-in-Err-Mismatch.result
-    (record { segments = c.args.report.now.segments; mended = c.args.report.now.mended; unreadable = c.args.report.now.unreadable })
-    (record { segments = c.pass_over-in-Err-Mismatch.new.report.segments; mended = c.pass_over-in-Err-Mismatch.new.report.mended; unreadable = c.pass_over-in-Err-Mismatch.new.report.unreadable })
+    (reported c.args.report.now)
+    (reported c.pass_over-in-Err-Mismatch.new.report)
     c.pass_over-in-Err-Mismatch.result
     (Tells-map g.T.Tape.means c.args.unit.now.tape (λ c'. (named ≡ c.args.copy) × Says (cells_at c' l) s) (λ c'. Says (cells_at c' l) s) (λ c' here. here.1) says)
     refl (c.header_text-in-Err-Mismatch.ensures ∙ copy_line l s c.requires.copy refl)

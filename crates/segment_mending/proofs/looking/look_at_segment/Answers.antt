@@ -5,6 +5,7 @@ use Rattle.cartridge_spec.specs.Says.{Saying, Says, LostSectors, Mismatch, data_
 use Rattle.cartridge_spec.specs.Shape.{usable_count}
 use Rattle.cartridge_spec.proofs.Places.{count_below}
 use Rattle.scrub_plan.specs.Scrubbing.{Looked, cells_at}
+use Rattle.segment_mending.specs.Mending.{reported}
 use Rattle.segment_mending.proofs.Reading.{Mends, looks_mended, looks_unread, read_cut, data_reads, data_line}
 use Rattle.segment_mending.proofs.looking.look_at_segment.Goals as goal
 
@@ -21,8 +22,8 @@ returns-in-Ok-clause-looks g c =
       can = data_reads l (data_of (take (usable_count c.args.usable) work)) c.requires.behind;
     } in
     looks_mended g.T.Tape.means g.K.Sink.means g.met.K.Sink.took_nothing c.args.unit.now.tape c.read_segment.new.unit.tape c.mend.new.unit.tape c.args.sink.now l c.in-Ok.lost work
-    (record { segments = c.args.report.now.segments; mended = c.args.report.now.mended; unreadable = c.args.report.now.unreadable })
-    (record { segments = c.mend.new.report.segments; mended = c.mend.new.report.mended; unreadable = c.mend.new.report.unreadable })
+    (reported c.args.report.now)
+    (reported c.mend.new.report)
     c.mend.result mends c.in-Ok.ensures.did c.mend.ensures.did c.mend.ensures.fault c.mend.ensures.counted
 
 pub returns-in-Err-Lost-clause-looks : goal.returns-in-Err-Lost-clause-looks
@@ -33,8 +34,8 @@ returns-in-Err-Lost-clause-looks g c =
     let says : Tells g.T.Tape.means c.args.unit.now.tape (λ c'. (named ≡ c.args.segment) × Says (cells_at c' l) s) =
     rw c.in-Err-Lost.field-0-is at (c.in-Err-Lost.ensures.solves (λ same. cc)) in
     looks_unread g.T.Tape.means g.K.Sink.means c.args.unit.now.tape c.read_segment.new.unit.tape c.args.sink.now c.pass_over.new.sink l s c.lost_text.result
-    (record { segments = c.args.report.now.segments; mended = c.args.report.now.mended; unreadable = c.args.report.now.unreadable })
-    (record { segments = c.pass_over.new.report.segments; mended = c.pass_over.new.report.mended; unreadable = c.pass_over.new.report.unreadable })
+    (reported c.args.report.now)
+    (reported c.pass_over.new.report)
     c.pass_over.result
     (Tells-map g.T.Tape.means c.args.unit.now.tape (λ c'. (named ≡ c.args.segment) × Says (cells_at c' l) s) (λ c'. Says (cells_at c' l) s) (λ c' here. here.1) says)
     refl (c.lost_text.ensures ∙ data_line l s c.requires.behind refl) (rw c.in-Err-Lost.field-0-is at c.in-Err-Lost.ensures.did)
@@ -49,8 +50,8 @@ returns-in-Err-Mismatch-clause-looks g c =
     rw c.in-Err-Mismatch.field-0-is at (c.in-Err-Mismatch.ensures.solves (λ same. cc)) in
     looks_unread g.T.Tape.means g.K.Sink.means c.args.unit.now.tape c.read_segment.new.unit.tape c.args.sink.now c.pass_over-in-Err-Mismatch.new.sink l s
     c.mismatch_text.result
-    (record { segments = c.args.report.now.segments; mended = c.args.report.now.mended; unreadable = c.args.report.now.unreadable })
-    (record { segments = c.pass_over-in-Err-Mismatch.new.report.segments; mended = c.pass_over-in-Err-Mismatch.new.report.mended; unreadable = c.pass_over-in-Err-Mismatch.new.report.unreadable })
+    (reported c.args.report.now)
+    (reported c.pass_over-in-Err-Mismatch.new.report)
     c.pass_over-in-Err-Mismatch.result
     (Tells-map g.T.Tape.means c.args.unit.now.tape (λ c'. (named ≡ c.args.segment) × Says (cells_at c' l) s) (λ c'. Says (cells_at c' l) s) (λ c' here. here.1) says)
     refl (c.mismatch_text.ensures ∙ data_line l s c.requires.behind refl)
