@@ -1,5 +1,5 @@
 -- How looking at some segments and then at others joins.
-use Rattle.std.proofs.Common.{◌≡◌, ℕ, ◌+◌, ◌*◌, ◌≤◌, List, [], ◌∷◌, ◌++◌, length, refl, sym, ap, ◌∙◌, subst, arith, Option, Some, None, IfSome, Result, Ok, Err, append-nil}
+use Rattle.std.proofs.Common.{◌≡◌, ℕ, ◌+◌, ◌≤◌, List, [], ◌++◌, length, refl, sym, ap, ◌∙◌, subst, arith, Option, Some, None, IfSome, Result, Ok, Err}
 use Rattle.std.specs.Option.{option_map}
 use Rattle.std.proofs.lemmas.List.{length-append}
 use Rattle.qic_base.specs.Cartridge.{Cartridge}
@@ -8,7 +8,7 @@ use Rattle.qic_base.specs.Sink as sinks
 use Rattle.qic_base.specs.Tape as tapes
 use Rattle.qic_base.proofs.Steps.{Tells-map}
 use Rattle.qic_base.proofs.Writing.{TakesBoth}
-use Rattle.acts.specs.Acts.{Act, steps_of, text_of, Outside, Failing, TapeFails, SinkFails, Went, Cut}
+use Rattle.acts.specs.Acts.{Act, steps_of, text_of, Outside, Failing, TapeFails, SinkFails, Cut}
 use Rattle.acts.specs.Around.{no_source}
 use Rattle.acts.proofs.Joins.{steps_of-append, text_of-append, nothing_went, went_both, went_then_cut, cut_is_longer}
 use Rattle.cartridge_spec.specs.Says.{Saying}
@@ -51,14 +51,13 @@ module _ {T : Type 0} (t : tapes.Meaning T) (a b : T) (xs ys : List Looked) (ss 
       (λ c. SayInTurn (changed_by (steps_of front) c) ys ts × (next ≡ looking_acts (changed_by (steps_of front) c) ys ts))
       (λ c. SayInTurn c (xs ++ ys) (ss ++ ts) × (front ++ next ≡ looking_acts c (xs ++ ys) (ss ++ ts)))
       (λ c here there.
-          let same : changed_by (steps_of front) c ≡ behind c xs ss = ap (λ (acts : List Act). changed_by (steps_of acts) c) here.1 in
-          (
-            turns_join xs ys c ss ts here.0 (subst (λ (d : Cartridge). SayInTurn d ys ts) same there.0),
-            ap (λ (acts : List Act). acts ++ next) here.1
-                ∙ ap (λ (acts : List Act). looking_acts c xs ss ++ acts)
-                    (there.1 ∙ ap (λ (d : Cartridge). looking_acts d ys ts) same)
-                ∙ sym (acts_join xs ys c ss ts here.0),
-          ))
+      let same : changed_by (steps_of front) c ≡ behind c xs ss = ap (λ (acts : List Act). changed_by (steps_of acts) c) here.1 in (
+        turns_join xs ys c ss ts here.0 (subst (λ (d : Cartridge). SayInTurn d ys ts) same there.0),
+        ap (λ (acts : List Act). acts ++ next) here.1
+            ∙ ap (λ (acts : List Act). looking_acts c xs ss ++ acts)
+            (there.1 ∙ ap (λ (d : Cartridge). looking_acts d ys ts) same)
+            ∙ sym (acts_join xs ys c ss ts here.0),
+      ))
       first.told (tells_before t a b (steps_of front) (λ d. SayInTurn d ys ts × (next ≡ looking_acts d ys ts)) did later.told)
 
   pub acts_both : tapes.Done t a b (steps_of front) → AreActs t a xs ss front → AreActs t b ys ts next → AreActs t a (xs ++ ys) (ss ++ ts) (front ++ next)
@@ -136,8 +135,8 @@ module _ {T K : Type 0} {t : tapes.Meaning T} {k : sinks.Meaning K} where
     told = Tells-map t a.tape (λ c. SayInTurn c looked sayings × (acts ≡ looking_acts c looked sayings))
         (λ c. (others : List Saying) → SayInTurn c looked others → Cut t no_source k a b (looking_acts c looked others) failing)
         (λ c here others say.
-            subst (λ (xs : List Act). Cut t no_source k a b xs failing)
-            (here.1 ∙ ap (looking_acts c looked) (one_turn looked c sayings others here.0 say)) cut)
+        subst (λ (xs : List Act). Cut t no_source k a b xs failing)
+        (here.1 ∙ ap (looking_acts c looked) (one_turn looked c sayings others here.0 say)) cut)
         are.told;
     sayings = sayings;
     acts = acts;
@@ -156,12 +155,12 @@ module _ {T K : Type 0} {t : tapes.Meaning T} {k : sinks.Meaning K} where
             (λ c. (sayings : List Saying) → SayInTurn c xs sayings → Cut t no_source k a b (looking_acts c xs sayings) failing)
             (λ c. (sayings : List Saying) → SayInTurn c (xs ++ ys) sayings → Cut t no_source k a b (looking_acts c (xs ++ ys) sayings) failing)
             (λ c here us say.
-                let turns : TurnsOf c xs ys us = turns_part xs ys c us say in
-                let acts : looking_acts c xs turns.front ++ looking_acts (behind c xs turns.front) ys turns.rest ≡ looking_acts c (xs ++ ys) us =
-                sym (ap (looking_acts c (xs ++ ys)) turns.parts ∙ acts_join xs ys c turns.front turns.rest turns.first) in
-                subst (λ (acts : List Act). Cut t no_source k a b acts failing) acts
-                (cut_is_longer t no_source k a b (looking_acts c xs turns.front) (looking_acts (behind c xs turns.front) ys turns.rest) failing
-                (here turns.front turns.first)))
+            let turns : TurnsOf c xs ys us = turns_part xs ys c us say in
+            let acts : looking_acts c xs turns.front ++ looking_acts (behind c xs turns.front) ys turns.rest ≡ looking_acts c (xs ++ ys) us =
+            sym (ap (looking_acts c (xs ++ ys)) turns.parts ∙ acts_join xs ys c turns.front turns.rest turns.first) in
+            subst (λ (acts : List Act). Cut t no_source k a b acts failing) acts
+            (cut_is_longer t no_source k a b (looking_acts c xs turns.front) (looking_acts (behind c xs turns.front) ys turns.rest) failing
+            (here turns.front turns.first)))
             cut.told;
         sayings = cut.sayings ++ more;
         acts = cut.acts ++ line_acts ys more;
@@ -179,21 +178,21 @@ module _ {T K : Type 0} {t : tapes.Meaning T} {k : sinks.Meaning K} where
       record {
         told = tells_both t a.tape (λ d. SayInTurn d xs first.sayings × (first.acts ≡ looking_acts d xs first.sayings))
             (λ d. (sayings : List Saying) → SayInTurn (changed_by steps d) ys sayings →
-                Cut t no_source k b c (looking_acts (changed_by steps d) ys sayings) failing)
+            Cut t no_source k b c (looking_acts (changed_by steps d) ys sayings) failing)
             (λ d. (sayings : List Saying) → SayInTurn d (xs ++ ys) sayings → Cut t no_source k a c (looking_acts d (xs ++ ys) sayings) failing)
             (λ d here there us say.
-                let turns : TurnsOf d xs ys us = turns_part xs ys d us say in
-                let same : first.sayings ≡ turns.front = one_turn xs d first.sayings turns.front here.0 turns.first in
-                let is : first.acts ≡ looking_acts d xs turns.front = here.1 ∙ ap (looking_acts d xs) same in
-                let now : changed_by steps d ≡ behind d xs turns.front = ap (λ (acts : List Act). changed_by (steps_of acts) d) is in
-                let rest : Cut t no_source k b c (looking_acts (behind d xs turns.front) ys turns.rest) failing =
-                subst (λ (e : Cartridge). Cut t no_source k b c (looking_acts e ys turns.rest) failing) now
-                (there turns.rest (subst (λ (e : Cartridge). SayInTurn e ys turns.rest) (sym now) turns.next)) in
-                let acts : first.acts ++ looking_acts (behind d xs turns.front) ys turns.rest ≡ looking_acts d (xs ++ ys) us =
-                ap (λ (acts : List Act). acts ++ looking_acts (behind d xs turns.front) ys turns.rest) is
-                ∙ sym (ap (looking_acts d (xs ++ ys)) turns.parts ∙ acts_join xs ys d turns.front turns.rest turns.first) in
-                subst (λ (acts : List Act). Cut t no_source k a c acts failing) acts
-                (went_then_cut t no_source k both a b c first.acts (looking_acts (behind d xs turns.front) ys turns.rest) failing first.went rest))
+            let turns : TurnsOf d xs ys us = turns_part xs ys d us say in
+            let same : first.sayings ≡ turns.front = one_turn xs d first.sayings turns.front here.0 turns.first in
+            let is : first.acts ≡ looking_acts d xs turns.front = here.1 ∙ ap (looking_acts d xs) same in
+            let now : changed_by steps d ≡ behind d xs turns.front = ap (λ (acts : List Act). changed_by (steps_of acts) d) is in
+            let rest : Cut t no_source k b c (looking_acts (behind d xs turns.front) ys turns.rest) failing =
+            subst (λ (e : Cartridge). Cut t no_source k b c (looking_acts e ys turns.rest) failing) now
+            (there turns.rest (subst (λ (e : Cartridge). SayInTurn e ys turns.rest) (sym now) turns.next)) in
+            let acts : first.acts ++ looking_acts (behind d xs turns.front) ys turns.rest ≡ looking_acts d (xs ++ ys) us =
+            ap (λ (acts : List Act). acts ++ looking_acts (behind d xs turns.front) ys turns.rest) is
+            ∙ sym (ap (looking_acts d (xs ++ ys)) turns.parts ∙ acts_join xs ys d turns.front turns.rest turns.first) in
+            subst (λ (acts : List Act). Cut t no_source k a c acts failing) acts
+            (went_then_cut t no_source k both a b c first.acts (looking_acts (behind d xs turns.front) ys turns.rest) failing first.went rest))
             first.are.told
             (tells_before t a.tape b.tape steps
             (λ e. (sayings : List Saying) → SayInTurn e ys sayings → Cut t no_source k b c (looking_acts e ys sayings) failing) first.went.did cut.told);

@@ -1,5 +1,4 @@
 mod Joining
-mod Kept
 mod Looked
 mod Parts
 mod Reading

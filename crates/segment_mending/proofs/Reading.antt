@@ -1,5 +1,5 @@
 -- One segment looked at: it was read, and then mended, or its line was printed.
-use Rattle.std.proofs.Common.{◌≡◌, ℕ, ◌+◌, ◌*◌, ◌≤◌, ◌<◌, Bool, true, false, cond, List, [], ◌∷◌, ◌++◌, length, take, refl, sym, ap, ◌∙◌, subst, arith, Option, Result, Ok, Err, OnOk, append-nil, nat_lt}
+use Rattle.std.proofs.Common.{◌≡◌, ℕ, ◌+◌, ◌≤◌, ◌<◌, Bool, true, false, cond, List, [], ◌∷◌, ◌++◌, length, take, refl, sym, ap, ◌∙◌, subst, arith, Result, Ok, Err, OnOk, append-nil, nat_lt}
 use Rattle.std.specs.Prelude.{IsOkUnless}
 use Rattle.std.proofs.lemmas.Bool.{lt-ltb, le-ltb}
 use Rattle.qic_base.specs.Cartridge.{Cartridge}
@@ -7,7 +7,7 @@ use Rattle.qic_base.specs.Step.{Step}
 use Rattle.qic_base.specs.Sink as sinks
 use Rattle.qic_base.specs.Tape as tapes
 use Rattle.qic_base.proofs.Steps.{Tells-map, Done-after_reads, Broke-after_reads}
-use Rattle.acts.specs.Acts.{Act, steps_of, TapeFails, SinkFails, Went, Cut}
+use Rattle.acts.specs.Acts.{Act, TapeFails, SinkFails, Went, Cut}
 use Rattle.acts.specs.Around.{no_source, around}
 use Rattle.acts.proofs.Joins.{cut_is_longer}
 use Rattle.gf256_qic.specs.Code.{IsCodeBlock}
@@ -17,7 +17,7 @@ use Rattle.cartridge_spec.specs.Shape.{usable_count, sectors_of}
 use Rattle.cartridge_spec.specs.Writes.{named_writes}
 use Rattle.cartridge_spec.proofs.Places.{count_below}
 use Rattle.cartridge_spec.proofs.Segments.{count_of_cells, count_of_whole}
-use Rattle.scrub_plan.specs.Scrubbing.{Looked, whole_segment, Counts, cells_at, reads, steps_in, fault_line, header_line, line_in, look_act, SayInTurn, looking_acts}
+use Rattle.scrub_plan.specs.Scrubbing.{Looked, whole_segment, Counts, cells_at, reads, steps_in, fault_line, header_line, line_in, SayInTurn, looking_acts}
 use Rattle.scrub_plan.proofs.Named.{steps_by_places, count_of_named}
 use Rattle.segment_io.specs.Gathered.{NamesUnreadable}
 use Rattle.segment_io.specs.Reading.{HasSolved}
@@ -69,13 +69,12 @@ are_mended t a l lost work mends =
       told = tells_both t a (λ c. HasSolved (cells_at c l) work) (λ c. NamesUnreadable (cells_at c l) lost)
           (λ c. SayInTurn c (l ∷ []) (s ∷ []) × (mending l lost work ∷ [] ≡ looking_acts c (l ∷ []) (s ∷ [])))
           (λ c solved named.
-              let steps : named_writes l.segment l.mask lost work ≡ steps_in c l s =
-              sym (steps_by_places c l lost work mends.code mends.room mends.can named) in
-              (
-                (says_data c l work solved, tt),
-                ap (λ (steps : List Step). act_of steps [] ∷ []) steps
-                    ∙ ap (λ (text : List ℕ). act_of (steps_in c l s) text ∷ []) line,
-              ))
+          let steps : named_writes l.segment l.mask lost work ≡ steps_in c l s =
+          sym (steps_by_places c l lost work mends.code mends.room mends.can named) in (
+            (says_data c l work solved, tt),
+            ap (λ (steps : List Step). act_of steps [] ∷ []) steps
+                ∙ ap (λ (text : List ℕ). act_of (steps_in c l s) text ∷ []) line,
+          ))
           mends.solved mends.named;
       each = refl;
       text = ap (λ (text : List ℕ). text ++ []) line;
@@ -138,7 +137,7 @@ module _ {T K : Type 0} {t : tapes.Meaning T} {k : sinks.Meaning K} where
       record {
         told = tells_always t a
             (λ c. (sayings : List Saying) → SayInTurn c looked sayings →
-                Cut t no_source k (around a s) (around b s) (looking_acts c looked sayings) TapeFails)
+            Cut t no_source k (around a s) (around b s) (looking_acts c looked sayings) TapeFails)
             (λ c sayings say. cut_is_longer t no_source k (around a s) (around b s) [] (looking_acts c looked sayings) TapeFails none);
         sayings = some;
         acts = line_acts looked some;

@@ -1,7 +1,6 @@
 -- All segments were looked at, and the line of the counts was written, or a fault cut that off.
-use Rattle.std.proofs.Common.{◌≡◌, ℕ, ◌+◌, List, [], ◌∷◌, ◌++◌, length, refl, sym, ap, ◌∙◌, subst, arith, Err, append-nil}
+use Rattle.std.proofs.Common.{◌≡◌, ℕ, List, [], ◌∷◌, ◌++◌, length, refl, sym, ap, ◌∙◌, subst, arith, Err, append-nil}
 use Rattle.qic_base.specs.Cartridge.{Cartridge}
-use Rattle.qic_base.specs.Step.{Step}
 use Rattle.qic_base.specs.Sink as sinks
 use Rattle.qic_base.specs.Tape as tapes
 use Rattle.qic_base.proofs.Steps.{Tells-map, Done-nothing}
@@ -17,7 +16,7 @@ use Rattle.segment_mending.specs.declared.fault.ScrubFault.{ScrubFault}
 use Rattle.segment_mending.specs.declared.fault.ScrubFault.TheVariants as fault
 use Rattle.segment_mending.specs.declared.report.ScrubReport.{ScrubReport}
 use Rattle.segment_mending.specs.Looking.{Counted, HasLooked, LookingCut, Looks}
-use Rattle.segment_mending.specs.Mending.{reported, lines_of, IsScrubText, HasScrubbed, ScrubCut, ScrubEnds}
+use Rattle.segment_mending.specs.Mending.{reported, IsScrubText, HasScrubbed, ScrubCut, ScrubEnds}
 
 -- nothing is counted yet
 abbrev pub none_counted : Counts
@@ -35,7 +34,7 @@ counted_all : (c : Cartridge) (looked : List Looked) (sayings : List Saying) (ac
 counted_all c looked sayings acts counts are counted =
     counts_equal counts (counts_of c looked sayings) (let e = counted.segments in omega arith)
     (let e = counted.mended in
-        let f : length (steps_of acts) ≡ length (steps_of (looking_acts c looked sayings)) = ap (λ (xs : List Act). length (steps_of xs)) are in omega arith)
+    let f : length (steps_of acts) ≡ length (steps_of (looking_acts c looked sayings)) = ap (λ (xs : List Act). length (steps_of xs)) are in omega arith)
     (let e = counted.unreadable in omega arith)
 
 module _ {T K : Type 0} (t : tapes.Meaning T) (k : sinks.Meaning K) (words : List ℕ) (entries : List Entry) (a : Outside T (Unit {0}) K) (b : Outside T (Unit {0}) K) (report : ScrubReport) (looked : HasLooked t k (looked_at words entries) a b none_counted (reported report)) where
@@ -46,7 +45,7 @@ module _ {T K : Type 0} (t : tapes.Meaning T) (k : sinks.Meaning K) (words : Lis
     said = say;
     are = ap (λ (acts : List Act). acts ++ last_act (reported report) ∷ []) are
         ∙ ap (λ (counts : Counts). looking_acts c (looked_at words entries) looked.sayings ++ last_act counts ∷ [])
-            (counted_all c (looked_at words entries) looked.sayings looked.acts (reported report) are looked.counted);
+        (counted_all c (looked_at words entries) looked.sayings looked.acts (reported report) are looked.counted);
   }
 
   text : IsScrubText (looked_at words entries) (reported report) (text_of (looked.acts ++ last_act (reported report) ∷ []))
@@ -63,6 +62,7 @@ module _ {T K : Type 0} (t : tapes.Meaning T) (k : sinks.Meaning K) (words : Lis
   -- the line was written
   pub line_written : TakesBoth k → (after : K) → sinks.Wrote k b.sink after (counts_line (reported report)) →
       HasScrubbed t k words entries a (around b.tape after) report
+  unfolding scrubs
   line_written both after wrote =
       let last : Act = last_act (reported report) in
       let went : Went t no_source k b (around b.tape after) (last ∷ []) = record {
@@ -102,8 +102,8 @@ module _ {T K : Type 0} (t : tapes.Meaning T) (k : sinks.Meaning K) (words : Lis
             (λ c. SayInTurn c (looked_at words entries) looked.sayings × (looked.acts ≡ looking_acts c (looked_at words entries) looked.sayings))
             (λ c. (acts : List Act) → Scrubs c words entries acts → Cut t no_source k a (around b.tape after) acts SinkFails)
             (λ c here acts others.
-                subst (λ (xs : List Act). Cut t no_source k a (around b.tape after) xs SinkFails)
-                (scrubs_is_function c words entries (looked.acts ++ last ∷ []) acts (scrubs c here.0 here.1) others) whole)
+            subst (λ (xs : List Act). Cut t no_source k a (around b.tape after) xs SinkFails)
+            (scrubs_is_function c words entries (looked.acts ++ last ∷ []) acts (scrubs c here.0 here.1) others) whole)
             looked.are.told;
         acts = looked.acts ++ last ∷ [];
         counts = reported report;
@@ -118,13 +118,13 @@ module _ {T K : Type 0} (t : tapes.Meaning T) (k : sinks.Meaning K) where
   all_cut words entries a b failing cut = record {
     told = Tells-map t a.tape
         (λ c. (sayings : List Saying) → SayInTurn c (looked_at words entries) sayings →
-            Cut t no_source k a b (looking_acts c (looked_at words entries) sayings) failing)
+        Cut t no_source k a b (looking_acts c (looked_at words entries) sayings) failing)
         (λ c. (acts : List Act) → Scrubs c words entries acts → Cut t no_source k a b acts failing)
         (λ c here acts scrubs.
-            let all : List Looked = looked_at words entries in
-            subst (λ (xs : List Act). Cut t no_source k a b xs failing) (sym scrubs.are)
-            (cut_is_longer t no_source k a b (looking_acts c all scrubs.sayings) (last_act (counts_of c all scrubs.sayings) ∷ []) failing
-            (here scrubs.sayings scrubs.said)))
+        let all : List Looked = looked_at words entries in
+        subst (λ (xs : List Act). Cut t no_source k a b xs failing) (sym scrubs.are)
+        (cut_is_longer t no_source k a b (looking_acts c all scrubs.sayings) (last_act (counts_of c all scrubs.sayings) ∷ []) failing
+        (here scrubs.sayings scrubs.said)))
         cut.told;
     acts = cut.acts;
     counts = record { segments = length (looked_at words entries); mended = 0; unreadable = unread_count (looked_at words entries) cut.sayings };

@@ -48,8 +48,7 @@ fn look_at_front<T: Tape, K: Sink>(
 {
     look_at_copy(host, unit, 0, work, sink, report)?;
     look_at_copy(host, unit, 1, work, sink, report)?;
-    look_at_segment(host, unit, TABLE_SEGMENT, WHOLE, work, sink, report)?;
-    Ok(())
+    look_at_segment(host, unit, TABLE_SEGMENT, WHOLE, work, sink, report)
 }
 
 /// Looks at both header copies, the table's segment and the carrying segments of all volumes, ascending. In each that

@@ -1,12 +1,11 @@
-use Rattle.std.proofs.Common.{◌≡◌, ℕ, ◌+◌, ◌-◌, ◌≤◌, ◌++◌, List, [], length, sym, ap, subst, ◌∙◌, arith, Result, Ok, Err}
+use Rattle.std.proofs.Common.{◌≡◌, ℕ, ◌+◌, ◌-◌, ◌≤◌, ◌++◌, List, [], length, sym, ap, subst, ◌∙◌, arith, Err}
 use Rattle.std.proofs.lemmas.Grind.{common_steps}
-use Rattle.acts.specs.Acts.{Outside}
 use Rattle.acts.specs.Around.{around}
 use Rattle.cartridge_spec.specs.Volumes.{carrying}
 use Rattle.scrub_plan.specs.Scrubbing.{Looked, looked_segments}
 use Rattle.host_driver.proofs.Keeping.{keeps_none, keeps_both}
 use Rattle.segment_mending.specs.declared.fault.ScrubFault.{ScrubFault}
-use Rattle.segment_mending.specs.Looking.{HasLooked, Looks, HasFew}
+use Rattle.segment_mending.specs.Looking.{HasLooked, Looks}
 use Rattle.segment_mending.specs.Mending.{reported}
 use Rattle.segment_mending.proofs.Joining.{looked_none, looked_both, looks_then, looks_longer, few_after, few_more}
 use Rattle.segment_mending.proofs.Looked.{carrying_below, below_none, segments_next, segments_whole, length-below}

@@ -1,4 +1,4 @@
-use Rattle.std.proofs.Common.{◌≡◌, ℕ, ◌+◌, ◌-◌, ◌≤◌, ◌++◌, List, take, drop, length, sym, ap, subst, ◌∙◌, arith, Result, Ok, Err}
+use Rattle.std.proofs.Common.{◌≡◌, ℕ, ◌+◌, ◌-◌, ◌++◌, List, take, drop, length, sym, ap, subst, ◌∙◌, arith, Err}
 use Rattle.std.proofs.lemmas.Grind.{common_steps}
 use Rattle.acts.specs.Around.{around}
 use Rattle.cartridge_spec.specs.Table.{Entry}

@@ -1,12 +1,12 @@
-use Rattle.std.proofs.Common.{◌≡◌, ℕ, ◌<◌, ◌≤◌, List, ap, sym, subst, ◌∙◌, arith, [], ◌∷◌, length}
+use Rattle.std.proofs.Common.{◌≡◌, ℕ, List, ap, sym, subst, ◌∙◌, arith, [], length}
 use Rattle.acts.specs.Around.{around}
 use Rattle.cartridge_spec.specs.Shape.{mask_at, sectors_of, usable_count}
 use Rattle.cartridge_spec.specs.Volumes.{carrying}
 use Rattle.scrub_plan.specs.Scrubbing.{Looked, looked_segments}
-use Rattle.segment_mending.specs.Looking.{HasLooked, Looks}
+use Rattle.segment_mending.specs.Looking.{HasLooked}
 use Rattle.segment_mending.specs.Mending.{reported}
 use Rattle.segment_mending.proofs.Joining.{looked_none}
-use Rattle.segment_mending.proofs.Looked.{one_carries, none_carries}
+use Rattle.segment_mending.proofs.Looked.{none_carries}
 use Rattle.segment_mending.proofs.volumes.look_if_carrying.Goals as goal
 
 pub returns-then-count-lt-FEWEST-clause-looks : goal.returns-then-count-lt-FEWEST-clause-looks
