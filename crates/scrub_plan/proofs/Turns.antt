@@ -24,7 +24,7 @@ use Rattle.scrub_plan.specs.Laws.{ScrubsIsFunction, ScrubsAlways, CopyIsLookedAt
 
 -- ---- one list of acts
 
-one_turn : (ls : List Looked) (c : Cartridge) (ss ts : List Saying) → SayInTurn c ls ss → SayInTurn c ls ts → ss ≡ ts
+pub one_turn : (ls : List Looked) (c : Cartridge) (ss ts : List Saying) → SayInTurn c ls ss → SayInTurn c ls ts → ss ≡ ts
 one_turn [] c [] [] a b = refl
 one_turn [] c [] (t ∷ ts) a b = absurd b
 one_turn [] c (s ∷ ss) ts a b = absurd a

@@ -3,9 +3,16 @@
 #![tactic(auto)]
 
 mod fault;
+mod lines;
+mod looking;
+mod mending;
 mod report;
 mod scrubbing;
+mod volumes;
 
 pub use fault::ScrubFault;
 pub use report::ScrubReport;
 pub use scrubbing::scrub_segments;
+
+/// The mask of a segment without a bad sector.
+const WHOLE: u32 = 0xFFFF_FFFF;

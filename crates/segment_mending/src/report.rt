@@ -1,5 +1,9 @@
 //! What a scrubbing counted.
 
+ghost use Rattle.std.specs.Prelude.{◌≡◌, ◌≤◌, ◌^◌};
+ghost use Rattle.segment_mending.specs.Looking.{HasFew, with_mended, with_unread};
+ghost use Rattle.segment_mending.specs.Mending.{reported};
+
 /// What a scrubbing counted.
 #[derive(Clone, Copy, Debug, PartialEq, Eq)]
 pub struct ScrubReport {
@@ -9,4 +13,25 @@ pub struct ScrubReport {
     pub mended: u32,
     /// The segments that do not read.
     pub unreadable: u32,
+}
+
+impl ScrubReport {
+    // Counts a segment that reads, in which so many sectors were written.
+    pub(crate) fn count_mended(&mut self, sectors: u8)
+        requires few { HasFew (2 ^ 26) (reported self.old) }
+        requires sectors { sectors ≤ 32 }
+        ensures { reported self.new ≡ with_mended sectors (reported self.old) }
+    {
+        self.segments += 1;
+        self.mended += u32::from(sectors);
+    }
+
+    // Counts a segment that does not read.
+    pub(crate) fn count_unreadable(&mut self)
+        requires few { HasFew (2 ^ 26) (reported self.old) }
+        ensures { reported self.new ≡ with_unread (reported self.old) }
+    {
+        self.segments += 1;
+        self.unreadable += 1;
+    }
 }

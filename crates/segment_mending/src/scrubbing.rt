@@ -1,21 +1,55 @@
 //! All segments of a cartridge that hold something, one by one.
 
-ghost use Rattle.std.specs.Prelude.{◌≡◌, ◌-◌, ◌*◌, true, length};
+ghost use Rattle.std.specs.Prelude.{◌≡◌, ◌-◌, ◌*◌, ◌≤◌, ◌∷◌, [], true, length, OnOk};
 ghost use Rattle.acts.specs.Around.{around};
 ghost use Rattle.cartridge_spec.specs.Table.{IsSoundList};
 ghost use Rattle.drive_states.specs.Deck.{is_referenced};
 ghost use Rattle.host_driver.specs.Calls.{IsReady, MayWrite, Keeps};
 ghost use Rattle.host_driver.specs.Fits.{segments_of};
-ghost use Rattle.segment_mending.specs.Mending.{ScrubEnds};
+ghost use Rattle.scrub_plan.specs.Scrubbing.{whole_segment};
+ghost use Rattle.segment_mending.specs.Looking.{HasFew, Looks};
+ghost use Rattle.segment_mending.specs.Mending.{ScrubEnds, reported};
 
+use crate::WHOLE;
 use crate::fault::ScrubFault;
+use crate::lines::counts_text;
+use crate::looking::{look_at_copy, look_at_segment};
 use crate::report::ScrubReport;
+use crate::volumes::look_at_volumes;
 use bad_sector_map::BadMap;
 use drive_states::Unit;
 use host_driver::Host;
-use qic_base::{Sink, Tape};
+use qic_base::{Sink, SinkFailed, Tape};
 use segment_io::Workspace;
+use tape_script::write_text;
 use volume_table::Table;
+
+/// The segment of the volume table.
+const TABLE_SEGMENT: u32 = 2;
+
+// Looks at both header copies and the table's segment.
+fn look_at_front<T: Tape, K: Sink>(
+    host: &mut Host,
+    unit: &mut Unit<T>,
+    work: &mut Workspace,
+    sink: &mut K,
+    report: &mut ScrubReport,
+) -> Result<(), ScrubFault>
+    requires ready { IsReady T.means host.old unit.old }
+    requires referenced { is_referenced unit.old.drive.deck ≡ true }
+    requires writable { MayWrite unit.old.drive.deck }
+    requires few { HasFew 0 (reported report.old) }
+    ensures looks { Looks T.means K.means
+        (whole_segment 0 ∷ whole_segment 1 ∷ whole_segment 2 ∷ [])
+        (around unit.old.tape sink.old) (around unit.new.tape sink.new)
+        (reported report.old) (reported report.new) result }
+    ensures few { OnOk result (HasFew 3 (reported report.new)) }
+    ensures keeps { Keeps T.means host.new unit.old unit.new }
+{
+    look_at_copy(host, unit, 0, work, sink, report)?;
+    look_at_copy(host, unit, 1, work, sink, report)?;
+    look_at_segment(host, unit, TABLE_SEGMENT, WHOLE, work, sink, report)
+}
 
 /// Looks at both header copies, the table's segment and the carrying segments of all volumes, ascending. In each that
 /// reads, the usable sectors that can't be read are written again, ascending, and nothing else; a line is printed for each
@@ -37,5 +71,15 @@ pub fn scrub_segments<T: Tape, K: Sink>(
         (around unit.old.tape sink.old) (around unit.new.tape sink.new) result }
     ensures keeps { Keeps T.means host.new unit.old unit.new }
 {
-    todo!()
+    let mut report = ScrubReport {
+        segments: 0,
+        mended: 0,
+        unreadable: 0,
+    };
+    look_at_front(host, unit, work, sink, &mut report)?;
+    look_at_volumes(host, unit, map, table, work, sink, &mut report)?;
+    match write_text(counts_text(report).bytes(), sink) {
+        Ok(()) => Ok(report),
+        Err(SinkFailed) => Err(ScrubFault::Sink),
+    }
 }

@@ -1,0 +1,5 @@
+mod Joining
+mod Looked
+mod Parts
+mod Reading
+mod Scrubbed

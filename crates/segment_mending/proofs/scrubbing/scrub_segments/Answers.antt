@@ -1,0 +1,68 @@
+use Rattle.std.proofs.Common.{◌≡◌, ℕ, List, [], ◌∷◌, subst, arith, Err, ◌∙◌}
+use Rattle.std.proofs.lemmas.Grind.{common_steps}
+use Rattle.qic_base.specs.Sink as sinks
+use Rattle.acts.specs.Around.{around}
+use Rattle.cartridge_spec.specs.Table.{Entry}
+use Rattle.scrub_plan.specs.Scrubbing.{whole_segment, looked_volumes, looked_at}
+use Rattle.segment_mending.specs.declared.fault.ScrubFault.{ScrubFault}
+use Rattle.segment_mending.specs.declared.report.ScrubReport.{ScrubReport}
+use Rattle.segment_mending.specs.Looking.{HasLooked}
+use Rattle.segment_mending.specs.Mending.{reported}
+use Rattle.segment_mending.proofs.Joining.{looked_both, looks_then, looks_longer}
+use Rattle.segment_mending.proofs.Scrubbed.{none_counted, line_written, line_cut, ends_cut}
+use Rattle.segment_mending.proofs.scrubbing.scrub_segments.Goals as goal
+
+pub returns-in_err-look_at_front-clause-ends : goal.returns-in_err-look_at_front-clause-ends
+returns-in_err-look_at_front-clause-ends g c =
+    let words : List ℕ = c.args.map.now in
+    let entries : List Entry = c.args.table.now in
+    let a = around c.args.unit.now.tape c.args.sink.now in
+    let b = around c.look_at_front.new.unit.tape c.look_at_front.new.sink in
+    let after = reported c.look_at_front.new.report in
+    let fault : ScrubFault = c.in_err-look_at_front.field-0.0 in
+    let is : c.from_residual.result ≡ Err fault = grind (arith, common_steps, c.from_residual.ensures) in
+    rw is (ends_cut g.T.Tape.means g.K.Sink.means words entries a b none_counted after fault
+    (looks_longer g.T.Tape.means g.K.Sink.means (whole_segment 0 ∷ whole_segment 1 ∷ whole_segment 2 ∷ []) (looked_volumes words entries) a b none_counted after
+    after fault c.in_err-look_at_front.ensures.looks))
+
+pub returns-in_err-look_at_volumes-clause-ends : goal.returns-in_err-look_at_volumes-clause-ends
+returns-in_err-look_at_volumes-clause-ends g c =
+    let words : List ℕ = c.args.map.now in
+    let entries : List Entry = c.args.table.now in
+    let a = around c.args.unit.now.tape c.args.sink.now in
+    let b = around c.look_at_front.new.unit.tape c.look_at_front.new.sink in
+    let d = around c.look_at_volumes.new.unit.tape c.look_at_volumes.new.sink in
+    let after = reported c.look_at_volumes.new.report in
+    let fault : ScrubFault = c.in_err-look_at_volumes.field-0.0 in
+    let is : c.from_residual-in_err-look_at_volumes.result ≡ Err fault = grind (arith, common_steps, c.from_residual-in_err-look_at_volumes.ensures) in
+    rw is (ends_cut g.T.Tape.means g.K.Sink.means words entries a d none_counted after fault
+    (looks_then g.T.Tape.means g.K.Sink.means g.met.K.Sink.took_both (whole_segment 0 ∷ whole_segment 1 ∷ whole_segment 2 ∷ []) (looked_volumes words entries) a b d
+    none_counted (reported c.look_at_front.new.report) after (Err fault) c.in_ok-look_at_front.ensures.looks c.in_err-look_at_volumes.ensures.looks))
+
+pub returns-in-Ok-clause-ends : goal.returns-in-Ok-clause-ends
+returns-in-Ok-clause-ends g c =
+    let words : List ℕ = c.args.map.now in
+    let entries : List Entry = c.args.table.now in
+    let a = around c.args.unit.now.tape c.args.sink.now in
+    let b = around c.look_at_front.new.unit.tape c.look_at_front.new.sink in
+    let d = around c.look_at_volumes.new.unit.tape c.look_at_volumes.new.sink in
+    let report : ScrubReport = c.look_at_volumes.new.report in
+    let looked : HasLooked g.T.Tape.means g.K.Sink.means (looked_at words entries) a d none_counted (reported report) =
+    looked_both g.met.K.Sink.took_both (whole_segment 0 ∷ whole_segment 1 ∷ whole_segment 2 ∷ []) (looked_volumes words entries) a b d none_counted
+    (reported c.look_at_front.new.report) (reported report) c.in_ok-look_at_front.ensures.looks c.in_ok-look_at_volumes.ensures.looks in
+    line_written g.T.Tape.means g.K.Sink.means words entries a d report looked g.met.K.Sink.took_both c.write_text.new.sink
+    (subst (sinks.Wrote g.K.Sink.means c.look_at_volumes.new.sink c.write_text.new.sink) (c.bytes.ensures ∙ c.counts_text.ensures) c.in-Ok.ensures)
+
+pub returns-in-Err-clause-ends : goal.returns-in-Err-clause-ends
+returns-in-Err-clause-ends g c =
+    let words : List ℕ = c.args.map.now in
+    let entries : List Entry = c.args.table.now in
+    let a = around c.args.unit.now.tape c.args.sink.now in
+    let b = around c.look_at_front.new.unit.tape c.look_at_front.new.sink in
+    let d = around c.look_at_volumes.new.unit.tape c.look_at_volumes.new.sink in
+    let report : ScrubReport = c.look_at_volumes.new.report in
+    let looked : HasLooked g.T.Tape.means g.K.Sink.means (looked_at words entries) a d none_counted (reported report) =
+    looked_both g.met.K.Sink.took_both (whole_segment 0 ∷ whole_segment 1 ∷ whole_segment 2 ∷ []) (looked_volumes words entries) a b d none_counted
+    (reported c.look_at_front.new.report) (reported report) c.in_ok-look_at_front.ensures.looks c.in_ok-look_at_volumes.ensures.looks in
+    line_cut g.T.Tape.means g.K.Sink.means words entries a d report looked g.met.K.Sink.took_both c.write_text.new.sink
+    (subst (sinks.BrokeOff g.K.Sink.means c.look_at_volumes.new.sink c.write_text.new.sink) (c.bytes.ensures ∙ c.counts_text.ensures) c.in-Err.ensures)

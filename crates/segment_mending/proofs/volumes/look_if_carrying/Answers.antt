@@ -1,0 +1,21 @@
+use Rattle.std.proofs.Common.{◌≡◌, ℕ, List, ap, sym, subst, ◌∙◌, arith, [], length}
+use Rattle.acts.specs.Around.{around}
+use Rattle.cartridge_spec.specs.Shape.{mask_at, sectors_of, usable_count}
+use Rattle.cartridge_spec.specs.Volumes.{carrying}
+use Rattle.scrub_plan.specs.Scrubbing.{Looked, looked_segments}
+use Rattle.segment_mending.specs.Looking.{HasLooked}
+use Rattle.segment_mending.specs.Mending.{reported}
+use Rattle.segment_mending.proofs.Joining.{looked_none}
+use Rattle.segment_mending.proofs.Looked.{none_carries}
+use Rattle.segment_mending.proofs.volumes.look_if_carrying.Goals as goal
+
+pub returns-then-count-lt-FEWEST-clause-looks : goal.returns-then-count-lt-FEWEST-clause-looks
+returns-then-count-lt-FEWEST-clause-looks g c =
+    let words : List ℕ = c.args.map.now in
+    let count : c.count.result ≡ usable_count (mask_at words c.args.segment) =
+    c.count.ensures ∙ ap (λ (m : ℕ). length (sectors_of m)) (c.from_mask.ensures ∙ c.usable-usable.ensures) in
+    let none : looked_segments words [] ≡ looked_segments words (carrying words c.args.segment c.args.segment) =
+    sym (ap (looked_segments words) (none_carries words c.args.segment (omega arith))) in
+    subst (λ (ls : List Looked). HasLooked g.T.Tape.means g.K.Sink.means ls (around c.args.unit.now.tape c.args.sink.now)
+    (around c.args.unit.now.tape c.args.sink.now) (reported c.args.report.now) (reported c.args.report.now)) none
+    (looked_none g.met.K.Sink.took_nothing (around c.args.unit.now.tape c.args.sink.now) (reported c.args.report.now))

@@ -1,0 +1,80 @@
+//! One segment looked at.
+
+ghost use Rattle.std.specs.Prelude.{◌≡◌, ◌<◌, ◌≤◌, ◌^◌, [], ◌∷◌, true};
+ghost use Rattle.acts.specs.Around.{around};
+ghost use Rattle.drive_states.specs.Deck.{is_referenced};
+ghost use Rattle.host_driver.specs.Calls.{IsReady, MayWrite, Keeps};
+ghost use Rattle.scrub_plan.specs.Scrubbing.{whole_segment};
+ghost use Rattle.segment_io.specs.Calls.{HasSegment};
+ghost use Rattle.segment_mending.specs.Looking.{HasFew, Looks};
+ghost use Rattle.segment_mending.specs.Mending.{reported};
+
+use crate::WHOLE;
+use crate::fault::ScrubFault;
+use crate::lines::{header_text, lost_text, mismatch_text};
+use crate::mending::{is_header, mend, pass_over};
+use crate::report::ScrubReport;
+use drive_states::Unit;
+use host_driver::Host;
+use qic_base::{Sink, Tape};
+use segment_io::{SegFault, Workspace, read_segment};
+
+/// Looks at a header copy, 0 or 1.
+pub(crate) fn look_at_copy<T: Tape, K: Sink>(
+    host: &mut Host,
+    unit: &mut Unit<T>,
+    copy: u32,
+    work: &mut Workspace,
+    sink: &mut K,
+    report: &mut ScrubReport,
+) -> Result<(), ScrubFault>
+    requires ready { IsReady T.means host.old unit.old }
+    requires referenced { is_referenced unit.old.drive.deck ≡ true }
+    requires writable { MayWrite unit.old.drive.deck }
+    requires copy { copy < 2 }
+    requires few { HasFew (2 ^ 26) (reported report.old) }
+    ensures looks { Looks T.means K.means (whole_segment copy ∷ [])
+        (around unit.old.tape sink.old) (around unit.new.tape sink.new)
+        (reported report.old) (reported report.new) result }
+    ensures keeps { Keeps T.means host.new unit.old unit.new }
+{
+    match read_segment(host, unit, copy, WHOLE, work) {
+        Ok(lost) => {
+            if !is_header(work) {
+                return pass_over(&header_text(copy), sink, report);
+            }
+            mend(host, unit, copy, WHOLE, lost, work, report)
+        }
+        Err(SegFault::Lost { .. }) => pass_over(&header_text(copy), sink, report),
+        Err(SegFault::Mismatch { .. }) => pass_over(&header_text(copy), sink, report),
+        Err(SegFault::Tape) => Err(ScrubFault::Tape),
+    }
+}
+
+/// Looks at a segment that holds no header copy.
+pub(crate) fn look_at_segment<T: Tape, K: Sink>(
+    host: &mut Host,
+    unit: &mut Unit<T>,
+    segment: u32,
+    usable: u32,
+    work: &mut Workspace,
+    sink: &mut K,
+    report: &mut ScrubReport,
+) -> Result<(), ScrubFault>
+    requires ready { IsReady T.means host.old unit.old }
+    requires segment { HasSegment unit.old.drive.deck segment usable }
+    requires writable { MayWrite unit.old.drive.deck }
+    requires behind { 2 ≤ segment }
+    requires few { HasFew (2 ^ 26) (reported report.old) }
+    ensures looks { Looks T.means K.means (record { segment = segment; mask = usable } ∷ [])
+        (around unit.old.tape sink.old) (around unit.new.tape sink.new)
+        (reported report.old) (reported report.new) result }
+    ensures keeps { Keeps T.means host.new unit.old unit.new }
+{
+    match read_segment(host, unit, segment, usable, work) {
+        Ok(lost) => mend(host, unit, segment, usable, lost, work, report),
+        Err(SegFault::Lost { lost, .. }) => pass_over(&lost_text(segment, lost), sink, report),
+        Err(SegFault::Mismatch { .. }) => pass_over(&mismatch_text(segment), sink, report),
+        Err(SegFault::Tape) => Err(ScrubFault::Tape),
+    }
+}

@@ -1,0 +1,107 @@
+//! What is done in one segment that was read.
+
+ghost use Rattle.std.specs.Prelude.{◌≡◌, ◌<◌, ◌≤◌, ◌^◌, length, take, OnOk, IsOkUnless};
+ghost use Rattle.qic_base.specs.Sink.{Writes};
+ghost use Rattle.qic_base.specs.Tape.{Does};
+ghost use Rattle.cartridge_spec.specs.Header.{has_signature};
+ghost use Rattle.cartridge_spec.specs.Says.{data_of};
+ghost use Rattle.cartridge_spec.specs.Shape.{usable_count, sectors_of};
+ghost use Rattle.cartridge_spec.specs.Writes.{named_writes};
+ghost use Rattle.host_driver.specs.Calls.{IsReady, MayWrite, Keeps};
+ghost use Rattle.segment_io.specs.Calls.{HasSegment};
+ghost use Rattle.segment_mending.specs.Looking.{HasFew, with_mended, with_unread};
+ghost use Rattle.segment_mending.specs.Mending.{reported};
+
+use crate::fault::ScrubFault;
+use crate::report::ScrubReport;
+use drive_states::Unit;
+use host_driver::Host;
+use qic_base::{LostSet, Sink, SinkFailed, Tape, read_u32};
+use segment_io::{Workspace, write_sectors};
+use tape_script::{TextLine, write_text};
+
+/// What a header's data begin with (Linux ftape headers).
+const SIGNATURE: u32 = 0xAA55_AA55;
+
+// Whether the data of a header copy, which was read and solved, begin with a header's signature.
+pub(crate) fn is_header(work: &Workspace) -> bool
+    requires { length work.now ≡ 32 }
+    ensures { result ≡ has_signature (data_of (take 32 work.now)) }
+{
+    read_u32(&work.sectors()[0], 0) == SIGNATURE
+}
+
+// Writes the sectors at the lost places again. Where there are none, the tape stays where it is.
+fn write_lost<T: Tape>(
+    host: &mut Host,
+    unit: &mut Unit<T>,
+    segment: u32,
+    usable: u32,
+    lost: LostSet,
+    work: &Workspace,
+) -> Result<(), ScrubFault>
+    requires ready { IsReady T.means host.old unit.old }
+    requires segment { HasSegment unit.old.drive.deck segment usable }
+    requires writable { MayWrite unit.old.drive.deck }
+    requires within { lost < 2 ^ usable_count usable }
+    ensures did { Does T.means unit.old.tape unit.new.tape
+        (named_writes segment usable lost work.now) result }
+    ensures fault { IsOkUnless result ScrubFault.Tape }
+    ensures keeps { Keeps T.means host.new unit.old unit.new }
+{
+    if lost.mask() == 0 {
+        return Ok(());
+    }
+    match write_sectors(host, unit, segment, usable, lost, work) {
+        Ok(()) => Ok(()),
+        Err(_) => Err(ScrubFault::Tape),
+    }
+}
+
+// Mends a segment that reads, and counts it.
+#[tactic(auto, using(cartridge_spec::proofs::Places::count_below))]
+pub(crate) fn mend<T: Tape>(
+    host: &mut Host,
+    unit: &mut Unit<T>,
+    segment: u32,
+    usable: u32,
+    lost: LostSet,
+    work: &Workspace,
+    report: &mut ScrubReport,
+) -> Result<(), ScrubFault>
+    requires ready { IsReady T.means host.old unit.old }
+    requires segment { HasSegment unit.old.drive.deck segment usable }
+    requires writable { MayWrite unit.old.drive.deck }
+    requires within { lost < 2 ^ usable_count usable }
+    requires few { HasFew (2 ^ 26) (reported report.old) }
+    ensures did { Does T.means unit.old.tape unit.new.tape
+        (named_writes segment usable lost work.now) result }
+    ensures fault { IsOkUnless result ScrubFault.Tape }
+    ensures counted { OnOk result (reported report.new
+        ≡ with_mended (length (sectors_of lost)) (reported report.old)) }
+    ensures keeps { Keeps T.means host.new unit.old unit.new }
+{
+    write_lost(host, unit, segment, usable, lost, work)?;
+    report.count_mended(lost.count());
+    Ok(())
+}
+
+// Prints the line of a segment that does not read, and counts it.
+pub(crate) fn pass_over<K: Sink>(
+    line: &TextLine,
+    sink: &mut K,
+    report: &mut ScrubReport,
+) -> Result<(), ScrubFault>
+    requires few { HasFew (2 ^ 26) (reported report.old) }
+    ensures wrote { Writes K.means sink.old sink.new line.now result }
+    ensures fault { IsOkUnless result ScrubFault.Sink }
+    ensures counted { OnOk result (reported report.new ≡ with_unread (reported report.old)) }
+{
+    match write_text(line.bytes(), sink) {
+        Ok(()) => {
+            report.count_unreadable();
+            Ok(())
+        }
+        Err(SinkFailed) => Err(ScrubFault::Sink),
+    }
+}

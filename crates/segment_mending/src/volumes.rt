@@ -1,0 +1,115 @@
+//! The segments of volumes looked at.
+
+ghost use Rattle.std.specs.Prelude.{◌≡◌, ◌+◌, ◌-◌, ◌*◌, ◌<◌, ◌≤◌, ◌^◌, true, length, OnOk};
+ghost use Rattle.acts.specs.Around.{around};
+ghost use Rattle.cartridge_spec.specs.Table.{IsSoundList};
+ghost use Rattle.cartridge_spec.specs.Volumes.{carrying};
+ghost use Rattle.drive_states.specs.Deck.{is_referenced};
+ghost use Rattle.host_driver.specs.Calls.{IsReady, MayWrite, Keeps};
+ghost use Rattle.host_driver.specs.Fits.{segments_of};
+ghost use Rattle.scrub_plan.specs.Scrubbing.{looked_segments, looked_volumes};
+ghost use Rattle.segment_mending.specs.Looking.{HasFew, Looks};
+ghost use Rattle.segment_mending.specs.Mending.{reported};
+
+use crate::fault::ScrubFault;
+use crate::looking::look_at_segment;
+use crate::report::ScrubReport;
+use bad_sector_map::BadMap;
+use drive_states::Unit;
+use host_driver::Host;
+use qic_base::{LostSet, Sink, Tape};
+use segment_io::Workspace;
+use volume_table::Table;
+
+/// The fewest usable sectors with which a segment carries data.
+const FEWEST: u8 = 4;
+
+// Looks at a segment behind the table's if it carries data.
+fn look_if_carrying<T: Tape, K: Sink>(
+    host: &mut Host,
+    unit: &mut Unit<T>,
+    map: &BadMap,
+    segment: u32,
+    work: &mut Workspace,
+    sink: &mut K,
+    report: &mut ScrubReport,
+) -> Result<(), ScrubFault>
+    requires ready { IsReady T.means host.old unit.old }
+    requires referenced { is_referenced unit.old.drive.deck ≡ true }
+    requires writable { MayWrite unit.old.drive.deck }
+    requires map { length map.now ≡ 28 * segments_of host.old }
+    requires behind { 2 < segment }
+    requires on_tape { segment < length map.now }
+    requires few { HasFew (2 ^ 26) (reported report.old) }
+    ensures looks { Looks T.means K.means
+        (looked_segments map.now (carrying map.now segment segment))
+        (around unit.old.tape sink.old) (around unit.new.tape sink.new)
+        (reported report.old) (reported report.new) result }
+    ensures keeps { Keeps T.means host.new unit.old unit.new }
+{
+    let usable = map.usable(segment);
+    if LostSet::from_mask(usable).count() < FEWEST {
+        return Ok(());
+    }
+    look_at_segment(host, unit, segment, usable, work, sink, report)
+}
+
+// Looks at the segments of a volume that carry data, ascending.
+fn look_at_volume<T: Tape, K: Sink>(
+    host: &mut Host,
+    unit: &mut Unit<T>,
+    map: &BadMap,
+    start: u16,
+    end: u16,
+    work: &mut Workspace,
+    sink: &mut K,
+    report: &mut ScrubReport,
+) -> Result<(), ScrubFault>
+    requires ready { IsReady T.means host.old unit.old }
+    requires referenced { is_referenced unit.old.drive.deck ≡ true }
+    requires writable { MayWrite unit.old.drive.deck }
+    requires map { length map.now ≡ 28 * segments_of host.old }
+    requires behind { 2 < start }
+    requires forwards { start ≤ end }
+    requires on_tape { end < length map.now }
+    requires few { HasFew (2 ^ 25) (reported report.old) }
+    ensures looks { Looks T.means K.means
+        (looked_segments map.now (carrying map.now start end))
+        (around unit.old.tape sink.old) (around unit.new.tape sink.new)
+        (reported report.old) (reported report.new) result }
+    ensures few { OnOk result (report.new.segments ≤ report.old.segments + 65536) }
+    ensures keeps { Keeps T.means host.new unit.old unit.new }
+{
+    for segment in u32::from(start)..u32::from(end) + 1 {
+        look_if_carrying(host, unit, map, segment, work, sink, report)?;
+    }
+    Ok(())
+}
+
+/// Looks at the carrying segments of all volumes, ascending.
+pub(crate) fn look_at_volumes<T: Tape, K: Sink>(
+    host: &mut Host,
+    unit: &mut Unit<T>,
+    map: &BadMap,
+    table: &Table,
+    work: &mut Workspace,
+    sink: &mut K,
+    report: &mut ScrubReport,
+) -> Result<(), ScrubFault>
+    requires ready { IsReady T.means host.old unit.old }
+    requires referenced { is_referenced unit.old.drive.deck ≡ true }
+    requires writable { MayWrite unit.old.drive.deck }
+    requires map { length map.now ≡ 28 * segments_of host.old }
+    requires list { IsSoundList (length map.now - 1) table.now }
+    requires few { HasFew 3 (reported report.old) }
+    ensures looks { Looks T.means K.means (looked_volumes map.now table.now)
+        (around unit.old.tape sink.old) (around unit.new.tape sink.new)
+        (reported report.old) (reported report.new) result }
+    ensures keeps { Keeps T.means host.new unit.old unit.new }
+{
+    for index in 0..table.len() {
+        let entry = table.entry(index);
+        look_at_volume(host, unit, map, entry.start, entry.end, work, sink, report)?;
+    }
+    Ok(())
+}
