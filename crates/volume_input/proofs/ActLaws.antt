@@ -1,5 +1,5 @@
 -- The laws of the acts of a volume.
-use Rattle.std.proofs.Common.{◌≡◌, ℕ, ◌<◌, ◌≤◌, ◌&&◌, Bool, true, false, cond, List, [], ◌∷◌, ◌++◌, length, take, drop, All, refl, sym, ap, ◌∙◌, subst, arith, nat_lt, nat_le, append-nil}
+use Rattle.std.proofs.Common.{◌≡◌, ℕ, ◌<◌, ◌&&◌, Bool, true, false, cond, List, [], ◌∷◌, ◌++◌, length, take, drop, All, refl, sym, ap, ◌∙◌, subst, arith, nat_lt, nat_le, append-nil}
 use Rattle.std.proofs.lemmas.List.{take_all}
 use Rattle.std.proofs.lemmas.List.Elements.{All-nil, All-cons, All-head, All-tail, All-take, All-drop, All-append}
 use Rattle.qic_base.specs.Cartridge.{IsSector}
@@ -9,12 +9,11 @@ use Rattle.gf256_qic.proofs.Parities.{parity_sectors-are_sectors}
 use Rattle.acts.specs.Acts.{Act, steps_of, text_of}
 use Rattle.cartridge_spec.specs.Says.{with_parity}
 use Rattle.cartridge_spec.specs.Shape.{Carries, mask_at, usable_places, data_count, capacity}
-use Rattle.cartridge_spec.specs.Volumes.{parts_of}
 use Rattle.cartridge_spec.specs.Writes.{writes_of}
 use Rattle.cartridge_spec.proofs.Sayings.{cartridge_sectors, code_sectors}
-use Rattle.append_plan.specs.Appending.{part_writes, parts_writes, writes_into}
+use Rattle.append_plan.specs.Appending.{part_writes}
 use Rattle.append_plan.specs.NewVolume.{in_sectors}
-use Rattle.append_plan.specs.Writes.{IsWrite, AreWrites, IsFree, IsOfSector}
+use Rattle.append_plan.specs.Writes.{AreWrites, IsFree, IsOfSector}
 use Rattle.append_plan.proofs.BySegments.{writes_by_segment}
 use Rattle.append_plan.proofs.Keeping.{parts_of_segments}
 use Rattle.append_plan.proofs.Parts.{are_sectors, length-in_sectors}
@@ -34,9 +33,9 @@ volume_is_writes words (s ∷ ss) bytes carry =
     let first : List Step = (segment_act words s bytes).steps in
     let ends : Bool = nat_le (length bytes) cap in
     ap (λ (steps : List Step). first ++ steps) (
-      steps_by ends (volume_acts words ss (drop cap bytes))
-      ∙ ap (λ (steps : List Step). cond ends [] steps)
-      (volume_is_writes words ss (drop cap bytes) (All-tail (λ (t : ℕ). Carries (mask_at words t)) s ss carry))
+    steps_by ends (volume_acts words ss (drop cap bytes))
+    ∙ ap (λ (steps : List Step). cond ends [] steps)
+    (volume_is_writes words ss (drop cap bytes) (All-tail (λ (t : ℕ). Carries (mask_at words t)) s ss carry))
     )
     ∙ sym (writes_by_segment words s ss bytes (All-head (λ (t : ℕ). Carries (mask_at words t)) s ss carry))
 

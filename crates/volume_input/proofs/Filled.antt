@@ -1,5 +1,5 @@
 -- Bytes that fill some segments, and what goes behind them.
-use Rattle.std.proofs.Common.{◌≡◌, ◌⊎◌, inl, inr, ℕ, ◌+◌, ◌-◌, ◌*◌, ◌<◌, ◌≤◌, Bool, true, false, cond, List, [], ◌∷◌, ◌++◌, length, take, drop, All, refl, sym, ap, ◌∙◌, subst, arith, nat_le, append_assoc, append-nil}
+use Rattle.std.proofs.Common.{◌≡◌, ◌⊎◌, inl, inr, ℕ, ◌+◌, ◌-◌, ◌*◌, ◌<◌, ◌≤◌, Bool, true, false, cond, List, [], ◌∷◌, ◌++◌, length, drop, All, refl, sym, ap, ◌∙◌, arith, nat_le}
 use Rattle.std.proofs.lemmas.Bool.{le-leb, lt-leb}
 use Rattle.std.proofs.lemmas.List.{length-append, length-drop, take-append-le, drop-append-le}
 use Rattle.std.proofs.lemmas.List.Elements.{All-head, All-tail}
@@ -43,9 +43,9 @@ act_front words s bytes more carry full =
     let n : ℕ = data_count (mask_at words s) in
     let room : 1024 * n ≤ length bytes = omega (arith, carried_all words s carry) in
     ap (sectors_act words s) (
-      sym (sectors_take_theirs n (bytes ++ more))
-      ∙ ap (in_sectors n) (take-append-le (1024 * n) bytes more room)
-      ∙ sectors_take_theirs n bytes
+    sym (sectors_take_theirs n (bytes ++ more))
+    ∙ ap (in_sectors n) (take-append-le (1024 * n) bytes more room)
+    ∙ sectors_take_theirs n bytes
     )
 
 -- ---- what is decided by a test

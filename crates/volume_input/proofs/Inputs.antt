@@ -2,8 +2,8 @@
 use Rattle.std.proofs.Common.{◌≡◌, ◌⊎◌, inl, inr, ℕ, ◌+◌, ◌-◌, ◌<◌, ◌≤◌, ◌&&◌, min, Bool, true, false, cond, List, [], ◌∷◌, ◌++◌, length, take, drop, Option, Some, None, IfSome, refl, sym, ap, ◌∙◌, subst, arith, nat_lt, nat_le, append_assoc, append-nil}
 use Rattle.std.specs.Prelude.{is_some}
 use Rattle.std.specs.Option.{option_map}
-use Rattle.std.proofs.lemmas.Bool.{cases_lt, and_parts, ltb-true, ltb-false, cases_Bool}
-use Rattle.std.proofs.lemmas.List.{length-append, length-take, take_all}
+use Rattle.std.proofs.lemmas.Bool.{cases_lt, and_parts, ltb-true, cases_Bool}
+use Rattle.std.proofs.lemmas.List.{length-append, length-take}
 use Rattle.std.proofs.Math.Seq.{take-append-add, take-nil}
 use Rattle.acts.specs.Acts.{Act}
 use Rattle.cartridge_spec.specs.Shape.{Carries, mask_at, capacity}
@@ -126,8 +126,7 @@ module _ (words front : List ℕ) (s : ℕ) (rest bytes came behind : List ℕ) 
   next_in_volume =
       let left : ℕ = most - length bytes in
       let more : List ℕ = take left (came ++ behind) in
-      let acts : List Act = cond (nat_le (length more) (capacity (mask_at words s))) [] (volume_acts words rest (drop (capacity (mask_at words s)) more)) in
-      (
+      let acts : List Act = cond (nat_le (length more) (capacity (mask_at words s))) [] (volume_acts words rest (drop (capacity (mask_at words s)) more)) in (
         acts,
         append_assoc (filled_acts words front bytes) (segment_act words s came ∷ []) acts
             ∙ ap (λ (act : Act). filled_acts words front bytes ++ act ∷ acts) (sym (next_act words s came behind left here fits few ended))
@@ -144,8 +143,7 @@ module _ (words front : List ℕ) (s : ℕ) (rest bytes came behind : List ℕ) 
       (acts : List Act) × ((filled_acts words front bytes ++ segment_act words s came ∷ []) ++ acts ≡ filled_acts words (front ++ s ∷ rest) (bytes ++ (came ++ behind)))
   next_in_filled all =
       let acts : List Act = filled_acts words rest (drop (capacity (mask_at words s)) (came ++ behind)) in
-      let more : capacity (mask_at words s) ≤ length (came ++ behind) = omega (arith, length-append came behind) in
-      (
+      let more : capacity (mask_at words s) ≤ length (came ++ behind) = omega (arith, length-append came behind) in (
         acts,
         append_assoc (filled_acts words front bytes) (segment_act words s came ∷ []) acts
             ∙ ap (λ (act : Act). filled_acts words front bytes ++ act ∷ acts) (sym (act_front words s came behind here all))
@@ -160,17 +158,22 @@ module _ (words front : List ℕ) (s : ℕ) (rest bytes came behind : List ℕ) 
             let long : length (bytes ++ (came ++ behind)) ≡ length bytes + (length came + length behind) =
             omega (arith, length-append bytes (came ++ behind), length-append came behind) in
             let begins = next_in_filled (exact_fills exact (length came) (length (bytes ++ (came ++ behind))) most (capacity (mask_at words s)) (most - length bytes) short whole few
-            (λ all. omega arith)) in
-            (begins.0, begins.1 ∙ sym (chosen_true (exact && nat_lt (length (bytes ++ (came ++ behind))) most) (filled_acts words (front ++ s ∷ rest) (bytes ++ (came ++ behind)))
-            (volume_acts words (front ++ s ∷ rest) (take most (bytes ++ (came ++ behind)))) short))
-        | inr other ↦
-            (next_in_volume.0, next_in_volume.1 ∙ sym (chosen_false (exact && nat_lt (length (bytes ++ (came ++ behind))) most) (filled_acts words (front ++ s ∷ rest) (bytes ++ (came ++ behind)))
-            (volume_acts words (front ++ s ∷ rest) (take most (bytes ++ (came ++ behind)))) other))
+            (λ all. omega arith)) in (
+              begins.0,
+              begins.1 ∙ sym (chosen_true (exact && nat_lt (length (bytes ++ (came ++ behind))) most) (filled_acts words (front ++ s ∷ rest) (bytes ++ (came ++ behind)))
+                  (volume_acts words (front ++ s ∷ rest) (take most (bytes ++ (came ++ behind)))) short),
+            )
+        | inr other ↦ (
+          next_in_volume.0,
+          next_in_volume.1 ∙ sym (chosen_false (exact && nat_lt (length (bytes ++ (came ++ behind))) most) (filled_acts words (front ++ s ∷ rest) (bytes ++ (came ++ behind)))
+              (volume_acts words (front ++ s ∷ rest) (take most (bytes ++ (came ++ behind)))) other),
+        )
       ]
     where
       chosen_true : (b : Bool) (x y : List Act) → b ≡ true → cond b x y ≡ x
       chosen_true true x y is = refl
       chosen_true false x y is = absurd (cc)
+
       chosen_false : (b : Bool) (x y : List Act) → b ≡ false → cond b x y ≡ y
       chosen_false true x y is = absurd (cc)
       chosen_false false x y is = refl

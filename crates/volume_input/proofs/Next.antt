@@ -1,11 +1,10 @@
 -- One segment: what was read for it, and what became of that.
-use Rattle.std.proofs.Common.{◌≡◌, ◌⊎◌, inl, inr, ℕ, ◌+◌, ◌-◌, ◌*◌, ◌/◌, ◌<◌, ◌≤◌, min, Bool, true, List, [], ◌∷◌, ◌++◌, length, take, refl, sym, ap, ◌∙◌, subst, arith, append-nil}
+use Rattle.std.proofs.Common.{◌≡◌, ◌⊎◌, inl, inr, ℕ, ◌+◌, ◌-◌, ◌*◌, ◌/◌, ◌<◌, ◌≤◌, min, Bool, true, List, [], ◌∷◌, length, take, refl, sym, ap, ◌∙◌, subst, arith, append-nil}
 use Rattle.qic_base.specs.Cause.{Rose}
 use Rattle.qic_base.specs.Source as sources
-use Rattle.qic_base.specs.Step.{Step}
 use Rattle.qic_base.specs.Tape as tapes
 use Rattle.qic_base.proofs.Steps.{Done-nothing}
-use Rattle.acts.specs.Acts.{Outside, TapeFails, SourceFails, Went, Cut}
+use Rattle.acts.specs.Acts.{SourceFails, Went, Cut}
 use Rattle.acts.specs.Around.{no_sink, reading}
 use Rattle.cartridge_spec.specs.Says.{with_parity}
 use Rattle.cartridge_spec.specs.Shape.{Carries, mask_at, usable_places, data_count, capacity}

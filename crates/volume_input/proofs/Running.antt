@@ -1,5 +1,5 @@
 -- A volume that is written, segment after segment: those before are filled, and what comes goes behind them.
-use Rattle.std.proofs.Common.{◌≡◌, ◌⊎◌, inl, inr, ℕ, ◌+◌, ◌-◌, ◌<◌, ◌≤◌, min, Bool, true, List, [], ◌∷◌, ◌++◌, length, Option, IfSome, Result, Ok, Err, refl, sym, ap, ◌∙◌, subst, arith, append_assoc, append-nil}
+use Rattle.std.proofs.Common.{◌≡◌, ◌⊎◌, inl, inr, ℕ, ◌+◌, ◌-◌, ◌<◌, ◌≤◌, min, Bool, List, [], ◌∷◌, ◌++◌, length, Err, refl, sym, ap, ◌∙◌, subst, arith, append_assoc, append-nil}
 use Rattle.std.proofs.lemmas.Bool.{cases_lt}
 use Rattle.std.proofs.lemmas.List.{length-append}
 use Rattle.std.proofs.lemmas.List.Elements.{All-nil, All-cons, All-append}
@@ -7,7 +7,7 @@ use Rattle.std.proofs.lemmas.List.Sums.{sum_by_push}
 use Rattle.qic_base.specs.Source as sources
 use Rattle.qic_base.specs.Tape as tapes
 use Rattle.qic_base.proofs.Writing.{TakesBoth}
-use Rattle.tape_script.specs.Reading.{Gave, HasEnded}
+use Rattle.tape_script.specs.Reading.{Gave}
 use Rattle.tape_script.proofs.Giving.{Gave-nothing, Gave-Gave, Gave-end}
 use Rattle.acts.specs.Acts.{Act, Outside, Failing, TapeFails, SourceFails, Went, Cut}
 use Rattle.acts.specs.Around.{no_sink}
@@ -17,7 +17,7 @@ use Rattle.append_plan.specs.Room.{taken_by}
 use Rattle.append_plan.proofs.Bytes.{capacity_of, capacity_cons}
 use Rattle.volume_input.specs.Input.{segment_act, volume_acts, filled_acts, input_acts, HasWritten, EndedShort, InputCut, InputEnds}
 use Rattle.volume_input.specs.Next.{NextWritten, NextBroken, NoneCame, CameShort, NextEnds, grown}
-use Rattle.sector_fill.specs.Filling.{GaveUpTo, GaveWithin}
+use Rattle.sector_fill.specs.Filling.{GaveWithin}
 use Rattle.volume_input.specs.declared.fault.InputFault.{InputFault}
 use Rattle.volume_input.specs.declared.fault.InputFault.TheVariants as fault
 use Rattle.volume_input.specs.declared.written.Written.{Written}
@@ -170,6 +170,7 @@ module _ {T S : Type 0} {t : tapes.Meaning T} {s : sources.Meaning S} where
             length come.bytes < capacity (mask_at words segment)
         in_segment (inl less) few below = let count : read ≡ length come.bytes = come.count in omega arith
         in_segment (inr same) few below = absurd (omega arith)
+
         all_there : (read < capacity (mask_at words segment)) ⊎ (written.bytes + read ≡ most) → read ≡ length come.bytes → written.bytes ≡ length far.bytes → length far.bytes ≤ most →
             length come.bytes ≡ min (capacity (mask_at words segment)) (most - written.bytes) → length (far.bytes ++ come.bytes) ≡ length far.bytes + length come.bytes →
             length (far.bytes ++ come.bytes) ≡ most

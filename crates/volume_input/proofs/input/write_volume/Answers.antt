@@ -1,14 +1,14 @@
-use Rattle.std.proofs.Common.{◌≡◌, ◌⊎◌, inl, inr, ℕ, ◌+◌, ◌-◌, ◌*◌, ◌<◌, ◌≤◌, length, Some, None, sym, ap, ◌∙◌, subst, arith}
+use Rattle.std.proofs.Common.{◌≡◌, ◌⊎◌, inl, inr, ℕ, ◌+◌, ◌-◌, ◌<◌, ◌≤◌, length, sym, ap, ◌∙◌, subst, arith}
 use Rattle.acts.specs.Around.{reading}
 use Rattle.cartridge_spec.specs.Shape.{Carries, mask_at, capacity}
 use Rattle.cartridge_spec.specs.Volumes.{carrying}
-use Rattle.host_driver.proofs.Keeping.{keeps_none, keeps_both, may_write_kept}
+use Rattle.host_driver.proofs.Keeping.{keeps_none, keeps_both}
 use Rattle.volume_input.specs.declared.written.Written.{Written}
 use Rattle.volume_input.specs.Input.{HasWritten}
-use Rattle.volume_input.specs.Next.{grown, NextWritten}
+use Rattle.volume_input.specs.Next.{NextWritten}
 use Rattle.volume_input.proofs.Places.{capacity_carries}
 use Rattle.volume_input.proofs.Running.{SoFar, begin, next, last, none_came, failed}
-use Rattle.volume_input.proofs.Volume.{has_segment, here_next, skipped, not_over, written_within}
+use Rattle.volume_input.proofs.Volume.{here_next, skipped, not_over, written_within}
 use Rattle.volume_input.proofs.input.write_volume.Goals as goal
 use Rattle.volume_input.proofs.input.write_volume.Goals.{then-read-capacity-via-then-read-capacity, then-read-capacity-via-else-read-capacity+then-written-most}
 
