@@ -1,5 +1,5 @@
 -- Acts of the first of some pieces: how many bytes, and no step.
-use Rattle.std.proofs.Common.{◌≡◌, ℕ, suc, ◌+◌, ◌*◌, ◌≤◌, Bool, true, false, List, [], ◌∷◌, ◌++◌, length, take, All, refl, sym, ap, ◌∙◌, subst, arith, length-append}
+use Rattle.std.proofs.Common.{◌≡◌, ℕ, suc, ◌+◌, ◌*◌, ◌≤◌, true, false, List, [], ◌∷◌, ◌++◌, length, take, All, refl, sym, ap, ◌∙◌, subst, arith, length-append}
 use Rattle.std.proofs.lemmas.List.{length-take-le}
 use Rattle.std.proofs.lemmas.List.Elements.{All-head, All-tail}
 use Rattle.std.proofs.lemmas.List.Sums.{sum_by-cons}
@@ -18,7 +18,7 @@ use Rattle.append_plan.proofs.Segments.{carrying_carry}
 use Rattle.restore_plan.specs.Restoring.{Piece, Ending, Restored, LostIn, MismatchIn, IsRead, Ends, Restores, piece_cells, bytes_held, framed}
 use Rattle.restore_plan.proofs.Counts.{FitsIn, pieces_fit, length-bytes_in}
 use Rattle.volume_output.specs.Laws.{RestoredAreOf, PrintedInNoStep, TextOfFirst}
-use Rattle.volume_output.specs.Output.{printed, AreOf, EndsAt}
+use Rattle.volume_output.specs.Output.{AreOf, EndsAt}
 use Rattle.volume_output.proofs.Joining.{EndsAt-more}
 
 -- a piece that is read gives its bytes

@@ -131,9 +131,9 @@ module _ {T K : Type 0} (t : tapes.Meaning T) (k : sinks.Meaning K) (words : Lis
       cut_more : (failing : Failing) → VolumeCut t k words needed lined b new failing → VolumeCut t k words (piece ∷ needed) lined a new failing
       cut_more failing cut =
           let P : Cartridge → Type 0 = λ c. (acts : List Act) (ending : Ending) → Restores c words needed acts ending →
-              Cut t no_source k b new (printed lined needed acts) failing in
+          Cut t no_source k b new (printed lined needed acts) failing in
           let Q : Cartridge → Type 0 = λ c. (acts : List Act) (ending : Ending) → Restores c words (piece ∷ needed) acts ending →
-              Cut t no_source k a new (printed lined (piece ∷ needed) acts) failing in
+          Cut t no_source k a new (printed lined (piece ∷ needed) acts) failing in
           record {
             told = tells_then t a.tape P Q
                 (Tells-map t a.tape (λ c. IsRead c words piece one.act) (λ c. P c → Q c) (λ c read rest. cut_acts failing c read rest) one.told)
@@ -214,9 +214,9 @@ module _ {T K : Type 0} (t : tapes.Meaning T) (k : sinks.Meaning K) (words : Lis
       cut_first cut = record {
         told = Tells-map t a.tape
             (λ c. (acts : List Act) (ending : Ending) → Restores c words (piece ∷ []) acts ending →
-                Cut t no_source k a b (printed lined (piece ∷ []) acts) failing)
+            Cut t no_source k a b (printed lined (piece ∷ []) acts) failing)
             (λ c. (acts : List Act) (ending : Ending) → Restores c words (piece ∷ needed) acts ending →
-                Cut t no_source k a b (printed lined (piece ∷ needed) acts) failing)
+            Cut t no_source k a b (printed lined (piece ∷ needed) acts) failing)
             first_acts cut.told;
         acts = cut.acts;
         are = are_first cut.acts cut.are;

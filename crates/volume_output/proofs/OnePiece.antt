@@ -101,7 +101,7 @@ module _ {T K : Type 0} (t : tapes.Meaning T) (k : sinks.Meaning K) (words : Lis
   unread sink none broke = record {
     told = tells_always t old
         (λ c. (acts : List Act) (ending : Ending) → Restores c words (piece ∷ []) acts ending →
-            Cut t no_source k (around old sink) (around new sink) (printed lined (piece ∷ []) acts) TapeFails)
+        Cut t no_source k (around old sink) (around new sink) (printed lined (piece ∷ []) acts) TapeFails)
         (λ c acts ending restores. before (printed lined (piece ∷ []) acts));
     acts = [];
     are = tt;
@@ -158,7 +158,7 @@ module _ {T K : Type 0} (t : tapes.Meaning T) (k : sinks.Meaning K) (words : Lis
     ungiven broke solved = record {
       told = Tells-map t old (λ c. HasSolved (cells_of c segment mask) sectors)
           (λ c. (acts : List Act) (ending : Ending) → Restores c words (piece ∷ []) acts ending →
-              Cut t no_source k (around old a) (around new b) (printed lined (piece ∷ []) acts) SinkFails)
+          Cut t no_source k (around old a) (around new b) (printed lined (piece ∷ []) acts) SinkFails)
           (λ c has acts ending restores.
           let same : act ∷ [] ≡ acts =
           (restores_is_function c words (piece ∷ []) (act ∷ []) acts Restored ending (is_read c has, (refl, refl)) restores).0 in

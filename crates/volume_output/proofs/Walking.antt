@@ -16,6 +16,11 @@ use Rattle.volume_output.specs.Output.{GaveVolume, OutputEnds}
 use Rattle.volume_output.specs.Piece.{piece_of}
 use Rattle.volume_output.proofs.Joining.{gave_none, ends_behind, ends_there}
 
+-- ---- how many bytes a segment gives
+
+pub count_is : (left count held : ℕ) (answered cap : ℕ) → count ≡ min left held → held ≡ answered → answered ≡ cap → count ≡ min left cap
+count_is left count held answered cap least same is = least ∙ ap (min left) (same ∙ is)
+
 -- ---- what is left from a segment on
 
 abbrev pub left_from : (words : List ℕ) → (segment end left : ℕ) → List Piece

@@ -3,6 +3,7 @@ use Rattle.std.specs.Prelude.{ℕ, Bool, true, false, List}
 use Rattle.acts.specs.Acts.{Act}
 use Rattle.restore_plan.specs.Restoring.{Piece, act_of, framed_act}
 
+-- a segment, and how many bytes it holds
 abbrev pub piece_of : (segment count : ℕ) → Piece
 piece_of segment count = record { segment = segment; count = count }
 

@@ -1,4 +1,4 @@
-use Rattle.std.proofs.Common.{◌≡◌, ℕ, ◌+◌, ◌-◌, ◌<◌, ◌≤◌, List, Err, ap, ◌∙◌, arith}
+use Rattle.std.proofs.Common.{◌≡◌, ℕ, ◌+◌, ◌-◌, ◌<◌, ◌≤◌, List, Err, arith}
 use Rattle.std.specs.Prelude.{min}
 use Rattle.std.proofs.lemmas.Result.{err_from_is_err_and}
 use Rattle.acts.specs.Around.{around}
@@ -8,7 +8,7 @@ use Rattle.restore_plan.specs.Restoring.{Piece}
 use Rattle.volume_output.specs.declared.fault.OutputFault.{OutputFault}
 use Rattle.volume_output.specs.Output.{OutputEnds}
 use Rattle.volume_output.specs.Piece.{piece_of}
-use Rattle.volume_output.proofs.Walking.{left_from, left_behind, left_skipped, left_given, same_left, one_given, one_failed, all_given}
+use Rattle.volume_output.proofs.Walking.{count_is, left_from, left_behind, left_skipped, left_given, same_left, one_given, one_failed, all_given}
 use Rattle.volume_output.proofs.output.write_volume.Goals as goal
 use Rattle.volume_output.proofs.output.write_volume.Goals.{then-count-gt0+in_ok-write_piece, else-count-gt0}
 
@@ -22,18 +22,18 @@ returns-in_err-write_piece-clause-ends g c =
     let last = c.from-segment-end.ensures in
     let within : segment ≤ c.args.end = omega arith in
     let is : count ≡ min c.loop-segment.left (capacity (mask_at words segment)) =
-    c.min-count.ensures ∙ ap (min c.loop-segment.left) (c.from.ensures ∙ c.capacity.ensures) in
+    count_is c.loop-segment.left count c.from.result c.capacity.result (capacity (mask_at words segment)) c.min-count.ensures c.from.ensures c.capacity.ensures in
     let some : 0 < count = c.if-count-gt0.true in
     let rest : List Piece = left_from words (segment + 1) c.args.end (c.loop-segment.left - count) in
     let failed : (why : OutputFault) → why ≡ c.in_err-write_piece.field-0.0 →
-        OutputEnds g.T.Tape.means g.K.Sink.means words (left_from words c.args.start c.args.end c.args.bytes) c.args.lined
-            (around c.args.unit.now.tape c.args.sink.now) (around c.write_piece.new.unit.tape c.write_piece.new.sink) (Err why) =
+    OutputEnds g.T.Tape.means g.K.Sink.means words (left_from words c.args.start c.args.end c.args.bytes) c.args.lined
+    (around c.args.unit.now.tape c.args.sink.now) (around c.write_piece.new.unit.tape c.write_piece.new.sink) (Err why) =
     λ why same.
-        one_failed g.T.Tape.means g.K.Sink.means words (left_from words c.args.start c.args.end c.args.bytes)
-        (left_from words segment c.args.end c.loop-segment.left) c.args.lined (around c.args.unit.now.tape c.args.sink.now)
-        (around c.loop-segment.unit.tape c.loop-segment.sink) c.loop-segment.invariant.goes (piece_of segment count) rest
-        (around c.write_piece.new.unit.tape c.write_piece.new.sink) why (left_given words segment c.args.end within c.loop-segment.left count is some)
-        (rw same (c.in_err-write_piece.ensures.ends words c.usable-usable.ensures)) in
+    one_failed g.T.Tape.means g.K.Sink.means words (left_from words c.args.start c.args.end c.args.bytes)
+    (left_from words segment c.args.end c.loop-segment.left) c.args.lined (around c.args.unit.now.tape c.args.sink.now)
+    (around c.loop-segment.unit.tape c.loop-segment.sink) c.loop-segment.invariant.goes (piece_of segment count) rest
+    (around c.write_piece.new.unit.tape c.write_piece.new.sink) why (left_given words segment c.args.end within c.loop-segment.left count is some)
+    (rw same (c.in_err-write_piece.ensures.ends words c.usable-usable.ensures)) in
     rw p.1 (failed p.0 p.2)
 
 pub loop-segment-preserved : goal.loop-segment-preserved
@@ -46,7 +46,8 @@ loop-segment-preserved g c =
     let past = c.loop-segment-test.true in
     let last = c.from-segment-end.ensures in
     let within : segment ≤ c.args.end = omega arith in
-    let is : count ≡ min left (capacity (mask_at words segment)) = c.min-count.ensures ∙ ap (min left) (c.from.ensures ∙ c.capacity.ensures) in
+    let is : count ≡ min left (capacity (mask_at words segment)) =
+    count_is left count c.from.result c.capacity.result (capacity (mask_at words segment)) c.min-count.ensures c.from.ensures c.capacity.ensures in
     elim c.if-count-gt0.branch [
       | then-count-gt0+in_ok-write_piece w ↦
           let rest : List Piece = left_from words (segment + 1) c.args.end (left - count) in
