@@ -94,6 +94,81 @@ impl Store {
         })
     }
 
+    /// Gives the bytes of a volume, counted from 1, segment by segment, each once the whole segment agrees; with `lined`
+    /// behind a line `part K`, where K is their number. The answer is the volume's length. `NoVolume` where there is none of
+    /// this number; `Lost` or `Mismatch` at the first segment that holds some of its length and doesn't read, and what was
+    /// given is then the data of the segments before it. The tape is only read.
+    pub fn restore<T: Tape, K: Sink>(
+        &mut self,
+        unit: &mut Unit<T>,
+        number: u32,
+        lined: bool,
+        sink: &mut K,
+    ) -> Result<u64, StoreFault>
+        requires fits { StoreFits T.means self.old unit.old }
+        ensures ends { RestoreEnds T.means K.means self.old number lined
+            (around unit.old.tape sink.old) (around unit.new.tape sink.new) result }
+        ensures store { KeepsStore self.old self.new }
+        ensures fits { result ≢ Err StoreFault.Tape → StoreFits T.means self.new unit.new }
+        ensures size { T.means.size unit.new.tape ≡ T.means.size unit.old.tape }
+    {
+        let count = self.count();
+        if number == 0 || number > count {
+            return Err(StoreFault::NoVolume { number, count });
+        }
+        let length = self.length(number - 1);
+        let entry = self.entry(number - 1);
+        let (start, end) = (entry.start, entry.end);
+        match write_volume(
+            &mut self.host,
+            unit,
+            &self.map,
+            start,
+            end,
+            length,
+            lined,
+            &mut self.work,
+            sink,
+        ) {
+            Ok(()) => Ok(length),
+            Err(fault) => Err(output_fault(fault)),
+        }
+    }
+
+    /// Looks at both header copies, the volume table and the segments of all volumes, and writes the sectors again that can't
+    /// be read, where they can be found; prints a line for each segment that doesn't read, and last the counts. `Protected`
+    /// before anything.
+    pub fn scrub<T: Tape, K: Sink>(
+        &mut self,
+        unit: &mut Unit<T>,
+        sink: &mut K,
+    ) -> Result<ScrubReport, StoreFault>
+        requires fits { StoreFits T.means self.old unit.old }
+        ensures ends { MendEnds T.means K.means self.old
+            (around unit.old.tape sink.old) (around unit.new.tape sink.new) result }
+        ensures protected { (result ≡ Err StoreFault.Protected) ↔
+            (is_protected unit.old.drive.deck ≡ true) }
+        ensures store { KeepsStore self.old self.new }
+        ensures fits { result ≢ Err StoreFault.Tape → StoreFits T.means self.new unit.new }
+        ensures size { T.means.size unit.new.tape ≡ T.means.size unit.old.tape }
+    {
+        if self.host.protected() {
+            return Err(StoreFault::Protected);
+        }
+        match scrub_segments(
+            &mut self.host,
+            unit,
+            &self.map,
+            &self.table,
+            &mut self.work,
+            sink,
+        ) {
+            Ok(report) => Ok(report),
+            Err(ScrubFault::Sink) => Err(StoreFault::Sink),
+            Err(ScrubFault::Tape) => Err(StoreFault::Tape),
+        }
+    }
+
     /// The number of volumes, 0 to 232.
     pub fn count(&self) -> u32
         ensures count { result ≡ length self.now.entries }
