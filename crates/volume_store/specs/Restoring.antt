@@ -7,6 +7,8 @@ use Rattle.cartridge_spec.specs.Table.{Entry}
 use Rattle.cartridge_spec.specs.Volumes.{volume_length}
 use Rattle.restore_plan.specs.Restoring.{Restored, LostIn, MismatchIn, pieces}
 use Rattle.volume_output.specs.Output.{GaveVolume, VolumeCut}
+use Rattle.volume_output.specs.declared.fault.OutputFault.{OutputFault}
+use Rattle.volume_output.specs.declared.fault.OutputFault.TheVariants as output
 use Rattle.volume_store.specs.declared.fault.StoreFault.{StoreFault}
 use Rattle.volume_store.specs.declared.fault.StoreFault.TheVariants as fault
 use Rattle.volume_store.specs.Mounting.{StoreView}
@@ -39,3 +41,10 @@ RestoreEnds t k store number lined old new (Err (fault.Mismatch segment)) =
 RestoreEnds t k store number lined old new (Err fault.Sink) = OfVolume store number (λ e. VolumeCut t k store.words (pieces store.words e) lined old new SinkFails)
 RestoreEnds t k store number lined old new (Err fault.Tape) = OfVolume store number (λ e. VolumeCut t k store.words (pieces store.words e) lined old new TapeFails)
 RestoreEnds t k store number lined old new (Err fault) = ⊥
+
+-- the fault of the call that a fault of the output is
+abbrev pub fault_of_output : OutputFault → StoreFault
+fault_of_output (output.Lost segment lost) = fault.Lost segment lost
+fault_of_output (output.Mismatch segment) = fault.Mismatch segment
+fault_of_output output.Sink = fault.Sink
+fault_of_output output.Tape = fault.Tape

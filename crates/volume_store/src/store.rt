@@ -1,13 +1,17 @@
 //! A mounted cartridge.
 
-ghost use Rattle.std.specs.Prelude.{◌≡◌, ◌+◌, ◌-◌, ◌*◌, ◌<◌, ◌≤◌, IfOk, IfSome, slice_get, length};
+ghost use Rattle.std.specs.Prelude.{◌≡◌, ◌≢◌, ◌↔◌, ◌+◌, ◌-◌, ◌*◌, ◌<◌, ◌≤◌, true, Err, IfOk, IfSome, slice_get, length};
+ghost use Rattle.acts.specs.Around.{around};
+ghost use Rattle.drive_states.specs.Deck.{is_protected};
 ghost use Rattle.host_driver.specs.Calls.{IsReady};
 ghost use Rattle.host_driver.specs.Fits.{AgreesWithTape, segments_of};
 ghost use Rattle.cartridge_spec.specs.Shape.{mask_at, marked_sectors};
 ghost use Rattle.cartridge_spec.specs.Volumes.{capacity_between, volume_length};
 ghost use Rattle.header_segments.specs.Header.{header_of};
 ghost use Rattle.volume_store.specs.Finding.{NamesCause, RefusesMounting};
-ghost use Rattle.volume_store.specs.Mounting.{MountDoes, StoreFits};
+ghost use Rattle.volume_store.specs.Mounting.{MountDoes, StoreFits, KeepsStore};
+ghost use Rattle.volume_store.specs.Restoring.{RestoreEnds, fault_of_output};
+ghost use Rattle.volume_store.specs.Scrubbing.{MendEnds};
 ghost use Rattle.volume_table.specs.Entry.{entry_of};
 
 use crate::fault::StoreFault;
@@ -17,9 +21,11 @@ use bad_sector_map::BadMap;
 use drive_states::Unit;
 use header_segments::Header;
 use host_driver::Host;
-use qic_base::Tape;
+use qic_base::{Sink, Tape};
 use segment_io::Workspace;
+use segment_mending::{ScrubFault, ScrubReport, scrub_segments};
 use std::marker::Model;
+use volume_output::{OutputFault, write_volume};
 use volume_table::{Entry, Table};
 
 /// A mounted cartridge's volumes: its header in force, its map of bad sectors and the list of its volumes. It doesn't
@@ -62,6 +68,17 @@ fn capacity_between(map: &BadMap, start: u16, end: u16) -> u64
         bytes += u64::from(map.capacity(segment));
     }
     bytes
+}
+
+fn output_fault(fault: OutputFault) -> StoreFault
+    ensures { result ≡ fault_of_output fault }
+{
+    match fault {
+        OutputFault::Lost { segment, lost } => StoreFault::Lost { segment, lost },
+        OutputFault::Mismatch { segment } => StoreFault::Mismatch { segment },
+        OutputFault::Sink => StoreFault::Sink,
+        OutputFault::Tape => StoreFault::Tape,
+    }
 }
 
 impl Store {
