@@ -3,6 +3,8 @@ pub mod Again
 pub mod Copies
 pub mod Mending
 pub mod Mounts
+pub mod Restored
+pub mod Scrubs
 pub mod Settled
 pub mod Slots
 pub mod Stale

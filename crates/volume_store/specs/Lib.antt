@@ -1,4 +1,6 @@
 pub mod Again
 pub mod Finding
-pub mod Settling
 pub mod Mounting
+pub mod Restoring
+pub mod Scrubbing
+pub mod Settling

@@ -109,3 +109,9 @@ pub record StoreFits {T : Type 0} (m : Meaning T) (store : StoreView) (u : UnitV
   pub words : length store.words ≡ 28 * segments_of store.host
   pub list : IsSoundList (28 * segments_of store.host - 1) store.entries
   pub volumes : Tells m u.tape (λ c. c.info.protected ≡ false → HasList c store.entries)
+
+-- a call that leaves the store's list, its header and its map as they were
+pub record KeepsStore (store after : StoreView) : Type 0 where
+  pub header : after.header ≡ store.header
+  pub words : after.words ≡ store.words
+  pub entries : after.entries ≡ store.entries

@@ -13,5 +13,6 @@ mod table_writer;
 mod volume_reader;
 
 pub use fault::StoreFault;
+pub use segment_mending::ScrubReport;
 pub use store::Store;
 pub use table_reader::read_table;

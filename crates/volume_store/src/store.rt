@@ -1,13 +1,17 @@
 //! A mounted cartridge.
 
-ghost use Rattle.std.specs.Prelude.{◌≡◌, ◌+◌, ◌-◌, ◌*◌, ◌<◌, ◌≤◌, IfOk, IfSome, slice_get, length};
+ghost use Rattle.std.specs.Prelude.{◌≡◌, ◌≢◌, ◌↔◌, ◌+◌, ◌-◌, ◌*◌, ◌<◌, ◌≤◌, true, Err, IfOk, IfSome, slice_get, length};
+ghost use Rattle.acts.specs.Around.{around};
+ghost use Rattle.drive_states.specs.Deck.{is_protected};
 ghost use Rattle.host_driver.specs.Calls.{IsReady};
 ghost use Rattle.host_driver.specs.Fits.{AgreesWithTape, segments_of};
 ghost use Rattle.cartridge_spec.specs.Shape.{mask_at, marked_sectors};
 ghost use Rattle.cartridge_spec.specs.Volumes.{capacity_between, volume_length};
 ghost use Rattle.header_segments.specs.Header.{header_of};
 ghost use Rattle.volume_store.specs.Finding.{NamesCause, RefusesMounting};
-ghost use Rattle.volume_store.specs.Mounting.{MountDoes, StoreFits};
+ghost use Rattle.volume_store.specs.Mounting.{MountDoes, StoreFits, KeepsStore};
+ghost use Rattle.volume_store.specs.Restoring.{RestoreEnds, fault_of_output};
+ghost use Rattle.volume_store.specs.Scrubbing.{MendEnds};
 ghost use Rattle.volume_table.specs.Entry.{entry_of};
 
 use crate::fault::StoreFault;
@@ -17,9 +21,11 @@ use bad_sector_map::BadMap;
 use drive_states::Unit;
 use header_segments::Header;
 use host_driver::Host;
-use qic_base::Tape;
+use qic_base::{Sink, Tape};
 use segment_io::Workspace;
+use segment_mending::{ScrubFault, ScrubReport, scrub_segments};
 use std::marker::Model;
+use volume_output::{OutputFault, write_volume};
 use volume_table::{Entry, Table};
 
 /// A mounted cartridge's volumes: its header in force, its map of bad sectors and the list of its volumes. It doesn't
@@ -64,6 +70,17 @@ fn capacity_between(map: &BadMap, start: u16, end: u16) -> u64
     bytes
 }
 
+fn output_fault(fault: OutputFault) -> StoreFault
+    ensures { result ≡ fault_of_output fault }
+{
+    match fault {
+        OutputFault::Lost { segment, lost } => StoreFault::Lost { segment, lost },
+        OutputFault::Mismatch { segment } => StoreFault::Mismatch { segment },
+        OutputFault::Sink => StoreFault::Sink,
+        OutputFault::Tape => StoreFault::Tape,
+    }
+}
+
 impl Store {
     /// Mounts the cartridge of a drive: learns its header in force, its map and its volumes, and settles the volume table
     /// where the cartridge isn't protected. The refusals come in this order: not formatted, a foreign value in the header,
@@ -92,6 +109,81 @@ impl Store {
             table,
             header: learnt.header,
         })
+    }
+
+    /// Gives the bytes of a volume, counted from 1, segment by segment, each once the whole segment agrees; with `lined`
+    /// behind a line `part K`, where K is their number. The answer is the volume's length. `NoVolume` where there is none of
+    /// this number; `Lost` or `Mismatch` at the first segment that holds some of its length and doesn't read, and what was
+    /// given is then the data of the segments before it. The tape is only read.
+    pub fn restore<T: Tape, K: Sink>(
+        &mut self,
+        unit: &mut Unit<T>,
+        number: u32,
+        lined: bool,
+        sink: &mut K,
+    ) -> Result<u64, StoreFault>
+        requires fits { StoreFits T.means self.old unit.old }
+        ensures ends { RestoreEnds T.means K.means self.old number lined
+            (around unit.old.tape sink.old) (around unit.new.tape sink.new) result }
+        ensures store { KeepsStore self.old self.new }
+        ensures fits { result ≢ Err StoreFault.Tape → StoreFits T.means self.new unit.new }
+        ensures size { T.means.size unit.new.tape ≡ T.means.size unit.old.tape }
+    {
+        let count = self.count();
+        if number == 0 || number > count {
+            return Err(StoreFault::NoVolume { number, count });
+        }
+        let length = self.length(number - 1);
+        let entry = self.entry(number - 1);
+        let (start, end) = (entry.start, entry.end);
+        match write_volume(
+            &mut self.host,
+            unit,
+            &self.map,
+            start,
+            end,
+            length,
+            lined,
+            &mut self.work,
+            sink,
+        ) {
+            Ok(()) => Ok(length),
+            Err(fault) => Err(output_fault(fault)),
+        }
+    }
+
+    /// Looks at both header copies, the volume table and the segments of all volumes, and writes the sectors again that can't
+    /// be read, where they can be found; prints a line for each segment that doesn't read, and last the counts. `Protected`
+    /// before anything.
+    pub fn scrub<T: Tape, K: Sink>(
+        &mut self,
+        unit: &mut Unit<T>,
+        sink: &mut K,
+    ) -> Result<ScrubReport, StoreFault>
+        requires fits { StoreFits T.means self.old unit.old }
+        ensures ends { MendEnds T.means K.means self.old
+            (around unit.old.tape sink.old) (around unit.new.tape sink.new) result }
+        ensures protected { (result ≡ Err StoreFault.Protected) ↔
+            (is_protected unit.old.drive.deck ≡ true) }
+        ensures store { KeepsStore self.old self.new }
+        ensures fits { result ≢ Err StoreFault.Tape → StoreFits T.means self.new unit.new }
+        ensures size { T.means.size unit.new.tape ≡ T.means.size unit.old.tape }
+    {
+        if self.host.protected() {
+            return Err(StoreFault::Protected);
+        }
+        match scrub_segments(
+            &mut self.host,
+            unit,
+            &self.map,
+            &self.table,
+            &mut self.work,
+            sink,
+        ) {
+            Ok(report) => Ok(report),
+            Err(ScrubFault::Sink) => Err(StoreFault::Sink),
+            Err(ScrubFault::Tape) => Err(StoreFault::Tape),
+        }
     }
 
     /// The number of volumes, 0 to 232.

@@ -1,0 +1,123 @@
+-- What a scrub leaves of the volume table's list, done or cut off by the sink.
+use Rattle.std.proofs.Common.{◌≡◌, ℕ, ◌-◌, ◌++◌, false, List, [], length, Contains, Option, Some, None, IfSome, IsSomeAnd, Result, Ok, Err, refl, sym, ap, ◌∙◌, subst}
+use Rattle.std.specs.Option.{option_map}
+use Rattle.std.proofs.lemmas.List.Elements.{All-take}
+use Rattle.qic_base.specs.Cartridge.{Cartridge, IsCartridge}
+use Rattle.qic_base.specs.Sink as sinks
+use Rattle.qic_base.specs.Step.{effects}
+use Rattle.qic_base.specs.Stop.{Torn}
+use Rattle.qic_base.specs.Tape.{Meaning, Tells, IsToldRight}
+use Rattle.qic_base.specs.declared.tape.TapeInfo.{TapeInfo}
+use Rattle.qic_base.proofs.Steps.{Torn-all}
+use Rattle.acts.specs.Acts.{Act, Outside, SinkFails, Cut, steps_of}
+use Rattle.acts.specs.Around.{no_source}
+use Rattle.acts.proofs.Outcomes.{cut_is_torn}
+use Rattle.gf256_qic.specs.Code.{IsSector}
+use Rattle.cartridge_spec.specs.HeaderAndTable.{table_cells}
+use Rattle.cartridge_spec.specs.Says.{Agrees, data_of}
+use Rattle.cartridge_spec.specs.Table.{Entry, IsSoundList}
+use Rattle.cartridge_spec.proofs.Sayings.{block_from_data, cartridge_sectors}
+use Rattle.drive_states.specs.Unit.{UnitView}
+use Rattle.host_driver.specs.declared.host.Host.{Host}
+use Rattle.host_driver.specs.Fits.{Fits, AgreesWithTape, segments_of}
+use Rattle.scrub_plan.specs.Mended.{IsBeingMended}
+use Rattle.scrub_plan.specs.Scrubbing.{Rise, Looked, whole_segment, looked_at, Scrubs, counts_of}
+use Rattle.scrub_plan.proofs.Apart.{looked_rise}
+use Rattle.scrub_plan.proofs.Mending.{stopped_scrub}
+use Rattle.scrub_plan.proofs.Standing.{written_kept, looks_in_front}
+use Rattle.scrub_plan.proofs.Turns.{scrubs_always}
+use Rattle.segment_mending.specs.declared.fault.ScrubFault.{ScrubFault}
+use Rattle.segment_mending.specs.declared.fault.ScrubFault.TheVariants as fault
+use Rattle.segment_mending.specs.declared.report.ScrubReport.{ScrubReport}
+use Rattle.segment_mending.specs.Mending.{HasScrubbed, ScrubCut, ScrubEnds, reported}
+use Rattle.volume_store.specs.Mounting.{HasList}
+
+-- ---- a cartridge that is being mended
+
+mended_list : (looked : List Looked) (c d : Cartridge) (entries : List Entry) → Rise looked → Contains looked (whole_segment 2) → IsBeingMended looked c d →
+    HasList c entries → HasList d entries
+mended_list looked c d entries rise among way has =
+    let data_sectors : List (List ℕ) = data_of has.block in
+    let whole = block_from_data has.block has.code in
+    record {
+      block = has.block;
+      code = has.code;
+      agrees = subst (Agrees (table_cells d)) whole
+          (written_kept looked c d (whole_segment 2) data_sectors rise among
+          (cartridge_sectors data_sectors (All-take IsSector (length has.block - 3) has.block has.code.sectors)) way
+          (subst (Agrees (table_cells c)) (sym whole) has.agrees));
+      shown = has.shown;
+    }
+
+-- its list stands where it may be written
+abbrev Lists : List Entry → Cartridge → Type 0
+Lists entries c = c.info.protected ≡ false → HasList c entries
+
+mended_lists : (looked : List Looked) (c d : Cartridge) (entries : List Entry) → Rise looked → Contains looked (whole_segment 2) → IsBeingMended looked c d →
+    Lists entries c → Lists entries d
+mended_lists looked c d entries rise among way lists = λ mark.
+    mended_list looked c d entries rise among way (lists (ap (λ (info : TapeInfo). info.protected) (sym way.info) ∙ mark))
+
+-- ---- a stop among the acts
+
+module _ (words : List ℕ) (entries : List Entry) (last : ℕ) (order : IsSoundList last entries) where
+  left_lists : (c : Cartridge) (left : Option Cartridge) → IsSomeAnd left (IsBeingMended (looked_at words entries) c) → Lists entries c → IfSome left (Lists entries)
+  left_lists c None way lists = tt
+  left_lists c (Some d) way lists =
+      let rise = looked_rise words last entries order in
+      mended_lists (looked_at words entries) c d entries rise (looks_in_front words entries rise).table way lists
+
+  torn_lists : (c : Cartridge) (acts : List Act) (left : Option Cartridge) → Scrubs c words entries acts → Torn (steps_of acts) (Some c) left →
+      Lists entries c → IfSome left (Lists entries)
+  torn_lists c acts left scrubs torn lists = left_lists c left (stopped_scrub c words entries last acts left order scrubs torn) lists
+
+-- a host that fits has learnt a cartridge that is there
+pub told_there : {T : Type 0} (m : Meaning T) (host : Host) (u : UnitView T) → Fits m host u → AgreesWithTape m u → m.told u.tape ≡ Some None → ⊥
+told_there m host u fits agrees = by_cases u.drive.deck.cartridge (m.told u.tape) fits.cartridge agrees
+  where
+    by_cases : (cartridge : Option TapeInfo) (held : Option (Option Cartridge)) → IsSomeAnd cartridge (λ info. info.segments_per_track ≡ segments_of host) →
+        IfSome cartridge (λ info. IfSome held (λ there. IsSomeAnd there (λ c. c.info ≡ info))) → held ≡ Some None → ⊥
+    by_cases None held long known is = absurd long
+    by_cases (Some info) None long known is = cc
+    by_cases (Some info) (Some None) long known is = absurd known
+    by_cases (Some info) (Some (Some c)) long known is = cc
+
+module _ {T K : Type 0} (t : Meaning T) (k : sinks.Meaning K) (words : List ℕ) (entries : List Entry) (last : ℕ) (order : IsSoundList last entries) (old new : Outside T (Unit {0}) K) where
+  went_held : (acts : List Act) (report : ScrubReport) (held : Option (Option Cartridge)) → (held ≡ Some None → ⊥) →
+      IfSome held (λ h. IfSome h (λ c. (scrubs : Scrubs c words entries acts) × (reported report ≡ counts_of c (looked_at words entries) scrubs.sayings))) →
+      IfSome held (λ h. IfSome h (Lists entries)) → IfSome (option_map (effects (steps_of acts)) held) (λ h. IfSome h (Lists entries))
+  went_held acts report None there told lists = tt
+  went_held acts report (Some None) there told lists = absurd (there refl)
+  went_held acts report (Some (Some c)) there told lists =
+      torn_lists words entries last order c acts (effects (steps_of acts) (Some c)) told.0 (Torn-all (steps_of acts) (Some c)) lists
+
+  went_lists : (report : ScrubReport) → HasScrubbed t k words entries old new report → (t.told old.tape ≡ Some None → ⊥) →
+      Tells t old.tape (Lists entries) → Tells t new.tape (Lists entries)
+  went_lists report has there lists =
+      subst (λ (held : Option (Option Cartridge)). IfSome held (λ h. IfSome h (Lists entries))) (sym has.went.did.told)
+      (went_held has.acts report (t.told old.tape) there has.told lists)
+
+  torn_held : (c : Cartridge) (acts : List Act) (held : Option (Option Cartridge)) → Scrubs c words entries acts →
+      IsSomeAnd held (λ left. Torn (steps_of acts) (Some c) left) → Lists entries c → IfSome held (λ h. IfSome h (Lists entries))
+  torn_held c acts None scrubs torn lists = absurd torn
+  torn_held c acts (Some left) scrubs torn lists = torn_lists words entries last order c acts left scrubs torn lists
+
+  cut_held : (held : Option (Option Cartridge)) (size : Option ℕ) → t.told old.tape ≡ held → IsToldRight held size → ScrubCut t k words entries old new SinkFails →
+      (held ≡ Some None → ⊥) →
+      IfSome held (λ h. IfSome h (λ c. (acts : List Act) → Scrubs c words entries acts → Cut t no_source k old new acts SinkFails)) →
+      IfSome held (λ h. IfSome h (Lists entries)) → Tells t new.tape (Lists entries)
+  cut_held None size is right cut there told lists =
+      subst (λ (held : Option (Option Cartridge)). IfSome held (λ h. IfSome h (Lists entries)))
+      (sym (cut.cut.did.told ∙ ap (option_map (effects (steps_of cut.cut.at.front ++ cut.cut.at.act.steps))) is)) tt
+  cut_held (Some None) size is right cut there told lists = absurd (there refl)
+  cut_held (Some (Some c)) size is right cut there told lists =
+      let scrub = scrubs_always c words entries right.0 in
+      torn_held c scrub.0 (t.told new.tape) scrub.1 (cut_is_torn t no_source k old new scrub.0 SinkFails (Some c) (told scrub.0 scrub.1) is) lists
+
+  -- the list stands where it stood
+  pub scrub_lists : (answer : Result ScrubReport ScrubFault) → ScrubEnds t k words entries old new answer → (answer ≡ Err fault.Tape → ⊥) →
+      IsToldRight (t.told old.tape) (t.size old.tape) → (t.told old.tape ≡ Some None → ⊥) →
+      Tells t old.tape (Lists entries) → Tells t new.tape (Lists entries)
+  scrub_lists (Ok report) ends other right there lists = went_lists report ends there lists
+  scrub_lists (Err fault.Sink) ends other right there lists = cut_held (t.told old.tape) (t.size old.tape) refl right ends there ends.told lists
+  scrub_lists (Err fault.Tape) ends other right there lists = absurd (other refl)

@@ -1,0 +1,76 @@
+use Rattle.std.proofs.Common.{◌≡◌, ◌-◌, ◌<◌, ℕ, Some, Ok, Err, false, ap, ◌∙◌, arith, slice_get}
+use Rattle.acts.specs.Around.{around}
+use Rattle.cartridge_spec.specs.Table.{Entry}
+use Rattle.cartridge_spec.specs.Volumes.{carrying, volume_length}
+use Rattle.header_segments.specs.Header.{header_of}
+use Rattle.qic_base.specs.Tape.{Tells}
+use Rattle.restore_plan.specs.Restoring.{pieces_of}
+use Rattle.volume_output.specs.declared.fault.OutputFault.TheVariants as output
+use Rattle.volume_store.specs.Mounting.{StoreView, HasList}
+use Rattle.volume_store.specs.Restoring.{fault_of_output}
+use Rattle.volume_table.specs.Entry.{entry_of}
+use Rattle.volume_store.proofs.Restored.{volume_there, length_there, of_volume, restore_failed, output_told, still_fits}
+use Rattle.volume_store.proofs.Storing.{ends_within}
+use Rattle.volume_store.proofs.store.Store.restore.Goals as goal
+use Rattle.volume_store.proofs.store.Store.restore.Goals.{in-Ok, in-Err}
+
+pub write_volume-requires-clause-on_tape : goal.write_volume-requires-clause-on_tape
+write_volume-requires-clause-on_tape g c =
+    let e : Entry = entry_of c.entry-entry.result.now in
+    let at : slice_get c.self.inside.table (c.args.number - 1) ≡ Some e =
+    ap (λ (v : StoreView). slice_get v.entries (c.args.number - 1)) c.self.view_is ∙ c.entry-entry.ensures in
+    let ends = ends_within c.self.inside.table 2 _ (c.args.number - 1) e c.self.invariant.1 at in
+    omega (arith, ends.0, ends.1)
+
+pub returns-clause-ends : goal.returns-clause-ends
+returns-clause-ends g c =
+    let store : StoreView = c.args.self.now in
+    let e : Entry = entry_of c.entry-entry.result.now in
+    let none = c.if-number-eq0.false in
+    let some : 0 < c.args.number = omega arith in
+    let there = volume_there store.entries c.args.number e some c.entry-entry.ensures in
+    let long : c.length-length.result ≡ volume_length store.words e =
+    length_there store (c.args.number - 1) e c.length-length.result c.entry-entry.ensures c.length-length.ensures in
+    let words : c.self.inside.map ≡ store.words = ap (λ (v : StoreView). v.words) c.self.view_is in
+    let a = around c.args.unit.now.tape c.args.sink.now in
+    let b = around c.write_volume.new.unit.tape c.write_volume.new.sink in
+    elim c.match-write_volume.branch [
+      | in-Ok w ↦
+          rw w.result-is (e, there, (long, of_volume g.T.Tape.means g.K.Sink.means store c.args.number c.args.lined a b c.self.inside.map e c.length-length.result
+          (Ok tt) words long w.in-Ok.ensures.ends))
+      | in-Err w ↦
+          rw w.result-is (rw w.output_fault.ensures (restore_failed g.T.Tape.means g.K.Sink.means store c.args.number c.args.lined a b e w.in-Err.fault there
+          (of_volume g.T.Tape.means g.K.Sink.means store c.args.number c.args.lined a b c.self.inside.map e c.length-length.result
+          (Err w.in-Err.fault) words long w.in-Err.ensures.ends)))
+    ]
+
+pub returns-clause-fits : goal.returns-clause-fits
+returns-clause-fits g c = λ other.
+    let store : StoreView = c.args.self.now in
+    let e : Entry = entry_of c.entry-entry.result.now in
+    let map = c.self.inside.map in
+    let needed = pieces_of map (carrying map e.start e.end) c.length-length.result in
+    let a = around c.args.unit.now.tape c.args.sink.now in
+    let b = around c.write_volume.new.unit.tape c.write_volume.new.sink in
+    let told : Tells g.T.Tape.means c.write_volume.new.unit.tape (λ c'. c'.info.protected ≡ false → HasList c' store.entries) =
+    elim c.match-write_volume.branch [
+      | in-Ok w ↦
+          output_told g.T.Tape.means g.K.Sink.means map needed c.args.lined a b (λ c'. c'.info.protected ≡ false → HasList c' store.entries)
+          (Ok tt) w.in-Ok.ensures.ends (λ is. cc) c.requires.fits.volumes
+      | in-Err w ↦
+          output_told g.T.Tape.means g.K.Sink.means map needed c.args.lined a b (λ c'. c'.info.protected ≡ false → HasList c' store.entries)
+          (Err w.in-Err.fault) w.in-Err.ensures.ends
+          (λ is. let tape : w.in-Err.fault ≡ output.Tape = cc in other (w.result-is ∙ ap Err (w.output_fault.ensures ∙ ap fault_of_output tape)))
+          c.requires.fits.volumes
+    ] in
+    let after : StoreView = record {
+      host = c.write_volume.new.host;
+      header = header_of c.self.inside.header;
+      words = map;
+      entries = c.self.inside.table;
+    } in
+    still_fits g.T.Tape.means store after c.args.unit.now c.write_volume.new.unit c.requires.fits (record {
+      header = ap (λ (v : StoreView). v.header) c.self.view_is;
+      words = ap (λ (v : StoreView). v.words) c.self.view_is;
+      entries = ap (λ (v : StoreView). v.entries) c.self.view_is;
+    }) c.write_volume.ensures.keeps told
