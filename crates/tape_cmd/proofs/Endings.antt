@@ -1,4 +1,4 @@
--- The ways in which a command ends that reads no input and prints once all is done.
+-- The ways in which a command ends that reads no input: refused, cut off, or with one text printed once all is done.
 use Rattle.std.proofs.Common.{◌≡◌, ◌≢◌, ℕ, Bool, true, false, List, [], ◌∷◌, ◌++◌, Option, Some, None, IfSome, Result, Ok, Err, refl, sym, ap, ◌∙◌, subst, inl, inr, arith, append-nil}
 use Rattle.std.specs.Option.{option_map}
 use Rattle.qic_base.specs.Cartridge.{Cartridge, IsPlace, view_at}
@@ -9,6 +9,7 @@ use Rattle.qic_base.specs.Step.{Step as TapeStep, SetProtected, Wear, Spoil}
 use Rattle.qic_base.specs.Tape as tapes
 use Rattle.qic_base.specs.Tape.{spoil_answer}
 use Rattle.qic_base.proofs.Steps.{Broke-front}
+use Rattle.cartridge_spec.specs.Says.{Mismatch}
 use Rattle.acts.specs.Acts.{Act, next_steps, TapeFails, SinkFails, Went, TapeCut, SinkCut}
 use Rattle.tape_script.specs.declared.words.Words.{Words}
 use Rattle.tape_script.specs.declared.words.Words.TheVariants as words
@@ -20,9 +21,11 @@ use Rattle.tape_cmd.specs.Traits.{traits_of}
 use Rattle.tape_cmd.specs.Defect.{DefectOutcome}
 use Rattle.tape_cmd.specs.Lose.{LoseOutcome}
 use Rattle.tape_cmd.specs.Protect.{ProtectOutcome}
-use Rattle.tape_cmd.specs.Machine.{Yields, CommandPrints}
+use Rattle.tape_cmd.specs.Machine.{Yields, CommandPrints, RefusedPrints}
+use Rattle.tape_cmd.specs.Pulses.{AreLevels}
 use Rattle.tape_cmd.specs.Writing.{printed_status}
-use Rattle.tape_cmd.specs.Runs.{InputLeft, may_come_from, no_source, around, IsCutOff, EndsBlind}
+use Rattle.acts.specs.Around.{no_source, around}
+use Rattle.tape_cmd.specs.Runs.{InputLeft, may_come_from, IsOfBytes, IsCutOff, EndsBlind}
 use Rattle.tape_cmd.proofs.PlainLaws.{plain_is_function}
 
 -- ---- commands that read no input
@@ -30,7 +33,6 @@ use Rattle.tape_cmd.proofs.PlainLaws.{plain_is_function}
 pub record IsBlind (command : Words) : Type 0 where
   pub built : (traits_of command).built ≡ true
   pub reads : (traits_of command).reads ≡ false
-  pub goes : (traits_of command).goes ≡ false
 
 -- what such a command does over what the drive holds, whatever the input
 abbrev pub Rules : Words → Option Cartridge → Outcome → Type 0
@@ -40,6 +42,7 @@ Rules command held outcome = (input : List ℕ) → Yields command held input ou
 pub any_input : (command : Words) (held : Option Cartridge) (input : List ℕ) (outcome : Outcome) → (traits_of command).reads ≡ false →
     Yields command held input outcome → Rules command held outcome
 any_input words.Pulses held input outcome blind plain other = absurd (cc)
+any_input (words.Append name date) held input outcome blind plain other = absurd (cc)
 any_input (words.New segments) held input outcome blind plain other = plain
 any_input (words.Defect segment sector) held input outcome blind plain other = plain
 any_input (words.Lose segment sector) held input outcome blind plain other = plain
@@ -47,6 +50,8 @@ any_input (words.Protect on) held input outcome blind plain other = plain
 any_input (words.Format label date) held input outcome blind plain other = plain
 any_input words.Info held input outcome blind plain other = plain
 any_input words.List held input outcome blind plain other = plain
+any_input (words.Restore number) held input outcome blind plain other = plain
+any_input words.Scrub held input outcome blind plain other = plain
 any_input command held input outcome blind plain other = absurd plain
 
 -- each command that is built prints something
@@ -58,8 +63,31 @@ some_text (words.Protect on) built = (_, refl)
 some_text (words.Format label date) built = (_, (0, (0, refl)))
 some_text words.Info built = (_, (record { format_date = 0; write_date = 0; segments_per_track = 0; label = []; label_date = 0 }, ([], (0, refl))))
 some_text words.List built = (_, ([], ([], refl)))
+some_text (words.Append name date) built = (_, (0, (0, (0, (0, refl)))))
+some_text (words.Restore number) built = ([], tt)
+some_text words.Scrub built = (_, ([], ([], (record { segments = 3; mended = 0; unreadable = 3 }, record {
+  sayings = Mismatch ∷ Mismatch ∷ Mismatch ∷ [];
+  each = refl;
+  lines = refl;
+  segments = refl;
+  unreadable = refl;
+}))))
 some_text words.Pulses built = (_, (None, ([], refl)))
 some_text command built = absurd (cc)
+
+-- one that was refused may have printed nothing, ..
+pub none_printed : (command : Words) → RefusedPrints command []
+none_printed (words.Restore number) = tt
+none_printed words.Pulses = (None, ([], refl))
+none_printed command = refl
+
+-- .. and what it printed is a front of a text
+pub refused_front : (command : Words) (text : List ℕ) → (traits_of command).built ≡ true → RefusedPrints command text → (rest : List ℕ) × CommandPrints command (text ++ rest)
+refused_front (words.Restore number) text built prints = ([], tt)
+refused_front words.Pulses text built prints = ([], subst AreLevels (sym (append-nil text)) prints)
+refused_front command text built prints =
+    let some = some_text command built in
+    (some.0, subst (λ (front : List ℕ). CommandPrints command (front ++ some.0)) (sym prints) some.1)
 
 -- the first act of an outcome
 abbrev first_of : List Act → Act
@@ -74,11 +102,16 @@ none_taken : (answer : Status) (taken : ℕ) → InputLeft answer taken None Non
 none_taken (status.ScriptFault line place) taken = (0, refl)
 none_taken answer taken = refl
 
--- a fact of what is told, with some input
-over_any : {A : Type 0} (held : Option A) (P : A → List ℕ → Type 0) → IfSome held (λ a. (input : List ℕ) → P a input) →
-    IfSome held (λ a. (input : List ℕ) × Unit {0} × P a input)
-over_any None P known = tt
-over_any (Some a) P known = ([], tt, known [])
+-- a command that reads no input appends none
+pub appends_none : (command : Words) (told : Option (List ℕ)) (input : List ℕ) → (traits_of command).reads ≡ false → IsOfBytes command told input
+appends_none (words.Append name date) told input blind = absurd (cc)
+appends_none command told input blind = λ is. absurd (cc)
+
+-- its rule over what is told, with some input
+over_rules : (held : Option (Option Cartridge)) (command : Words) (outcome : Outcome) → IsBlind command → IfSome held (λ h. Rules command h outcome) →
+    IfSome held (λ h. (input : List ℕ) × Unit {0} × (IsOfBytes command None input × Yields command h input outcome))
+over_rules None command outcome blind known = tt
+over_rules (Some h) command outcome blind known = ([], tt, (appends_none command None [] blind.reads, known []))
 
 module _ {T K : Type 0} (t : tapes.Meaning T) (k : sinks.Meaning K) where
   -- one act went
@@ -100,13 +133,13 @@ module _ {T K : Type 0} (t : tapes.Meaning T) (k : sinks.Meaning K) where
       inl (record {
         outcome = acted act.steps act.text;
         answered = refl;
-        told = over_any (t.told a) (λ held input. Yields command held input (acted act.steps act.text))
+        told = over_rules (t.told a) command (acted act.steps act.text) blind
             (subst (λ (o : Outcome). IfSome (t.told a) (λ held. Rules command held o)) one told);
         went = went_one a b x y act.steps act.text did wrote;
         left = refl;
         sound = refl;
         none_taken = λ blind. refl;
-        prints = ((λ which. subst (CommandPrints command) (sym (append-nil act.text)) prints), (λ still other. absurd (other refl)));
+        prints = ((λ is. subst (CommandPrints command) (sym (append-nil act.text)) prints), (λ other. absurd (other refl)));
         silent = λ still other. absurd (other refl);
         fault = tt;
       })
@@ -118,12 +151,12 @@ module _ {T K : Type 0} (t : tapes.Meaning T) (k : sinks.Meaning K) where
   turned_down command blind a b x why nothing sound other told did = inl (record {
     outcome = refused why;
     answered = refl;
-    told = over_any (t.told a) (λ held input. Yields command held input (refused why)) told;
+    told = over_rules (t.told a) command (refused why) blind told;
     went = record { did = did; wrote = record { took = nothing x; later = omega arith }; source_later = omega arith };
     left = none_taken why 0;
     sound = sound;
     none_taken = λ blind. refl;
-    prints = ((λ which. elim which [ inl is ↦ absurd (other is) | inr goes ↦ (let still = blind.goes in absurd (cc)) ]), (λ still unlike. refl));
+    prints = ((λ is. absurd (other is)), (λ unlike. none_printed command));
     silent = λ still unlike. refl;
     fault = tt;
   })
@@ -135,12 +168,12 @@ module _ {T K : Type 0} (t : tapes.Meaning T) (k : sinks.Meaning K) where
   turned_behind command blind a b x why steps nothing sound other told did = inl (record {
     outcome = refused_behind steps why;
     answered = refl;
-    told = over_any (t.told a) (λ held input. Yields command held input (refused_behind steps why)) told;
+    told = over_rules (t.told a) command (refused_behind steps why) blind told;
     went = went_one a b x x steps [] did (record { took = nothing x; later = omega arith });
     left = none_taken why 0;
     sound = sound;
     none_taken = λ blind. refl;
-    prints = ((λ which. elim which [ inl is ↦ absurd (other is) | inr goes ↦ (let still = blind.goes in absurd (cc)) ]), (λ still unlike. refl));
+    prints = ((λ is. absurd (other is)), (λ unlike. none_printed command));
     silent = λ still unlike. refl;
     fault = tt;
   })
@@ -162,10 +195,12 @@ module _ {T K : Type 0} (t : tapes.Meaning T) (k : sinks.Meaning K) where
   unprinted command blind a b x y outcome ends one prints told did broke =
       let act : Act = first_act outcome in
       let cut : SinkCut t no_source k (around a x) (around b y) (act ∷ []) = sink_cut_one a b x y act.steps act.text did broke in
-      let off : IsCutOff t no_source k command (around a x) (around b y) SinkFails outcome = record {
-        cut = subst (λ (o : Outcome). SinkCut t no_source k (around a x) (around b y) o.acts) (sym one) cut;
-        done = λ same still. ends;
-      } in
+      let off : IsCutOff t no_source k command (around a x) (around b y) SinkFails outcome =
+          subst (IsCutOff t no_source k command (around a x) (around b y) SinkFails) (sym one) (record {
+            cut = cut;
+            done = λ same still. (refl, subst (tapes.Done t a b) (sym (append-nil act.steps)) did);
+            silent = λ still. refl;
+          }) in
       inr (
         SinkFails,
         refl,
@@ -182,15 +217,18 @@ module _ {T K : Type 0} (t : tapes.Meaning T) (k : sinks.Meaning K) where
     where
       by_told : (o : Option (Option Cartridge)) → IfSome o (λ held. Rules command held outcome) →
           IsCutOff t no_source k command (around a x) (around b y) SinkFails outcome →
-          IfSome o (λ held. (input : List ℕ) × Unit {0} × ((other : Outcome) → Yields command held input other →
-          IsCutOff t no_source k command (around a x) (around b y) SinkFails other))
+          IfSome o (λ held. (input : List ℕ) × Unit {0} × (IsOfBytes command None input × ((other : Outcome) → Yields command held input other →
+          IsCutOff t no_source k command (around a x) (around b y) SinkFails other)))
       by_told None told off = tt
       by_told (Some held) told off = (
         [],
         tt,
-        λ other plain.
-            subst (IsCutOff t no_source k command (around a x) (around b y) SinkFails)
-            (plain_is_function command held [] outcome other (told []) plain) off,
+        (
+          appends_none command None [] blind.reads,
+          λ other plain.
+              subst (IsCutOff t no_source k command (around a x) (around b y) SinkFails)
+              (plain_is_function command held [] outcome other (told []) plain) off,
+        ),
       )
 
   -- it was carried out, and its output written or broken off
@@ -234,17 +272,19 @@ module _ {T K : Type 0} (t : tapes.Meaning T) (k : sinks.Meaning K) where
     where
       by_told : (o : Option (Option Cartridge)) →
           IfSome o (λ held. (outcome : Outcome) → Rules command held outcome → (rest : List TapeStep) × (steps ++ rest ≡ first_steps outcome)) →
-          IfSome o (λ held. (input : List ℕ) × Unit {0} × ((outcome : Outcome) → Yields command held input outcome →
-          IsCutOff t no_source k command (around a x) (around b x) TapeFails outcome))
+          IfSome o (λ held. (input : List ℕ) × Unit {0} × (IsOfBytes command None input × ((outcome : Outcome) → Yields command held input outcome →
+          IsCutOff t no_source k command (around a x) (around b x) TapeFails outcome)))
       by_told None front = tt
       by_told (Some held) front = (
         [],
         tt,
+        appends_none command None [] blind.reads,
         λ outcome plain.
             let longer = front outcome (any_input command held [] outcome blind.reads plain) in
             record {
               cut = tape_cut_first a b x outcome.acts nothing (subst (tapes.Broke t a b) longer.1 (Broke-front longer.0 broke));
               done = λ same still. absurd (cc);
+              silent = λ still. refl;
             },
       )
 

@@ -19,7 +19,7 @@ use Rattle.tape_cmd.specs.Traits.{traits_of}
 use Rattle.tape_cmd.specs.Machine.{HasValues, Yields, CommandPrints, Spells}
 use Rattle.tape_cmd.specs.Runs.{InputLeft, is_fault, fault_of, is_outcome, may_come_from, Finished, Ends}
 use Rattle.tape_cmd.specs.Headline.{Stepped, Answers, NoneRose, WasCut, IsCut, EachLeft, WordsLeave, StopsGoOn, Joins, PrintsFront}
-use Rattle.tape_cmd.proofs.Endings.{some_text}
+use Rattle.tape_cmd.proofs.Endings.{refused_front}
 use Rattle.tape_cmd.proofs.Totals.{plain_answers}
 
 -- ---- answers
@@ -113,7 +113,7 @@ done_torn : {T : Type 0} (t : tapes.Meaning T) (a b : T) (steps : List TapeStep)
 done_torn t a b steps held did told =
     subst (λ (o : Option (Option Cartridge)). IsSomeAnd o (λ left. Torn steps held left)) (sym (after_steps t a b steps held did told)) (Torn-all steps held)
 
-is_some-map : {A B : Type 0} (f : A → B) (o : Option A) → is_some (option_map f o) ≡ is_some o
+pub is_some-map : {A B : Type 0} (f : A → B) (o : Option A) → is_some (option_map f o) ≡ is_some o
 is_some-map f None = refl
 is_some-map f (Some a) = refl
 
@@ -158,7 +158,7 @@ module _ {T S K : Type 0} (t : tapes.Meaning T) (s : sources.Meaning S) (k : sin
   finished_answers : Laws t s k old new → Spells words command → Finished t s k command old new answer → Answers t s k words old new answer
   finished_answers laws spelled finished =
       over_map (t.told old.tape) (s.left old.source) _ _ finished.told (λ held input told plain.
-      inr (stepped laws spelled finished held input told plain))
+      inr (stepped laws spelled finished held input told plain.1))
 
   pub ends_cause : Ends t s k command old new answer → (failing : Failing) → answer ≡ fault_of failing → FailingRose t s k old new failing
   ends_cause (inl finished) failing is =
@@ -201,7 +201,7 @@ module _ {T S K : Type 0} (t : tapes.Meaning T) (s : sources.Meaning S) (k : sin
     over_map (t.told old.tape) (s.left old.source) _ _ stopped.told (λ held input told off.
         let some = has_outcome laws spelled values held input told in
         subst (WasCut t s k command held input old new) (same_failing other failing (sym was ∙ is))
-        (record { outcome = some.0; plain = some.1; off = off some.0 some.1 })),
+        (record { outcome = some.0; plain = some.1; off = off.1 some.0 some.1 })),
   )
 
   -- what a run did, over what the tape told
@@ -213,17 +213,17 @@ module _ {T S K : Type 0} (t : tapes.Meaning T) (s : sources.Meaning S) (k : sin
         stops = finished.went.did.stops;
         torn = done_torn t old.tape new.tape (steps_of finished.outcome.acts) held finished.went.did told;
         leaves = λ left torn.
-            inr (command, spelled, record { input = over.0; is_told = over.1; outcome = finished.outcome; plain = over.2; torn = torn });
+            inr (command, spelled, record { input = over.0; is_told = over.1; bytes = over.2; outcome = finished.outcome; plain = over.3; torn = torn });
       }
   left_by laws spelled values (inr (failing, is, stopped)) held told =
       let over = over_at (t.told old.tape) _ held stopped.told told in
       let some = has_outcome laws spelled values held over.0 told in
-      let off = over.2 some.0 some.1 in record {
+      let off = over.3 some.0 some.1 in record {
         steps = steps_of some.0.acts;
         stops = cut_stops t s k old new some.0.acts failing off.cut;
         torn = cut_is_torn t s k old new some.0.acts failing held off.cut told;
         leaves = λ left torn.
-            inr (command, spelled, record { input = over.0; is_told = over.1; outcome = some.0; plain = some.1; torn = torn });
+            inr (command, spelled, record { input = over.0; is_told = over.1; bytes = over.2; outcome = some.0; plain = some.1; torn = torn });
       }
 
   pub ends_stops : Laws t s k old new → Spells words command → HasValues command → Ends t s k command old new answer →
@@ -284,24 +284,20 @@ module _ {T S K : Type 0} (t : tapes.Meaning T) (s : sources.Meaning S) (k : sin
       let fault : is_fault answer ≡ true = ap is_fault is ∙ is_a_fault failing in absurd (cc)
 
   pub ends_begun : Laws t s k old new → Spells words command → Ends t s k command old new answer → PrintsFront k command old.sink new.sink
-  ends_begun laws spelled (inl finished) = by_answer (done_or_not answer) ((traits_of command).goes) refl
+  ends_begun laws spelled (inl finished) = by_answer (done_or_not answer)
     where
-      whole : CommandPrints command (output_of finished.outcome) → PrintsFront k command old.sink new.sink
-      whole prints = record {
+      by_answer : (answer ≡ status.Done) ⊎ (answer ≢ status.Done) → PrintsFront k command old.sink new.sink
+      by_answer (inl is) = record {
         text = output_of finished.outcome;
         rest = [];
-        is_front = subst (CommandPrints command) (sym (append-nil (output_of finished.outcome))) prints;
+        is_front = subst (CommandPrints command) (sym (append-nil (output_of finished.outcome))) (finished.prints.0 is);
         took = finished.went.wrote.took;
       }
-
-      by_answer : (answer ≡ status.Done) ⊎ (answer ≢ status.Done) → (goes : Bool) → (traits_of command).goes ≡ goes → PrintsFront k command old.sink new.sink
-      by_answer (inl is) goes same = whole (finished.prints.0 (inl is))
-      by_answer (inr other) true same = whole (finished.prints.0 (inr same))
-      by_answer (inr other) false same =
-          let some = some_text command spelled.built in record {
+      by_answer (inr other) =
+          let front = refused_front command (output_of finished.outcome) spelled.built (finished.prints.1 other) in record {
             text = output_of finished.outcome;
-            rest = some.0;
-            is_front = subst (λ (text : List ℕ). CommandPrints command (text ++ some.0)) (sym (finished.prints.1 same other)) some.1;
+            rest = front.0;
+            is_front = front.1;
             took = finished.went.wrote.took;
           }
   ends_begun laws spelled (inr (failing, is, stopped)) =

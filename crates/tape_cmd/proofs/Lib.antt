@@ -1,3 +1,5 @@
+pub mod Added
+pub mod Appends
 pub mod Endings
 pub mod Ends
 pub mod Formats
@@ -5,8 +7,11 @@ pub mod Hands
 pub mod Listings
 pub mod MachineLaws
 pub mod Mounted
+pub mod Opened
 pub mod PlainLaws
 pub mod Promises
+pub mod Restored
+pub mod Scrubbed
 pub mod Totals
 pub mod Trains
 pub mod Values

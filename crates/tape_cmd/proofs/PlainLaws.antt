@@ -1,12 +1,20 @@
 -- The plain machine is a function, and what a stop in a command leaves, by the command.
 use Rattle.std.proofs.Common.{◌≡◌, ◌⊎◌, ℕ, Bool, true, false, List, [], ◌∷◌, ◌++◌, Option, Some, None, refl, sym, ap, ◌∙◌, subst, inl, inr, append-nil}
 use Rattle.qic_base.specs.Cartridge.{Cartridge}
-use Rattle.qic_base.specs.Step.{Step as TapeStep, Renew, SetReferenced, SetProtected, Wear, Spoil, changed, effect}
+use Rattle.qic_base.specs.Step.{Step as TapeStep, Renew, SetReferenced, SetProtected, Wear, Spoil, changed, effect, effects}
 use Rattle.qic_base.specs.Stop.{Torn, Halfway}
 use Rattle.tape_script.specs.declared.words.Words.{Words}
 use Rattle.tape_script.specs.declared.words.Words.TheVariants as words
 use Rattle.drive_states.specs.Record.{power_on}
-use Rattle.acts.specs.Acts.{steps_of}
+use Rattle.acts.specs.Acts.{Act, steps_of}
+use Rattle.restore_plan.specs.Restoring.{Ending, Restores, pieces}
+use Rattle.restore_plan.proofs.Counts.{restores_in_no_step}
+use Rattle.restore_plan.proofs.Endings.{restores_is_function}
+use Rattle.scrub_plan.specs.Scrubbing.{Scrubs}
+use Rattle.scrub_plan.proofs.Turns.{scrubs_is_function}
+use Rattle.mount_laws.proofs.Whole.{settling_effects}
+use Rattle.qic_base.proofs.Steps.{Torn-append}
+use Rattle.cartridge_spec.specs.Mounting.{Mounting, settled}
 use Rattle.tape_pulses.specs.Pulses as pulses
 use Rattle.tape_pulses.specs.Pulses.{train_acts}
 use Rattle.tape_pulses.proofs.MachineLaws.{one_outcome}
@@ -15,7 +23,9 @@ use Rattle.cartridge_spec.specs.Mounting as mounting
 use Rattle.mount_laws.proofs.Mounting.{mounts_is_function}
 use Rattle.fresh_header.proofs.Front.{first_defect_is_none, first_defect_is_one}
 use Rattle.fresh_header.proofs.Marks.{fresh_area_is_one}
-use Rattle.mount_laws.specs.Settling.{settling_steps}
+use Rattle.cartridge_spec.specs.Says.{with_parity}
+use Rattle.mount_laws.specs.Settling.{settling_steps, block_writes, places_where, is_unsettled}
+use Rattle.std.specs.Prelude.{if◌then◌else◌}
 use Rattle.format_plan.specs.Formatting.{clearing_steps, format_steps, HasNoDefectInFront}
 use Rattle.format_plan.specs.Fresh.{IsFreshWith}
 use Rattle.cartridge_spec.specs.Header.{Header}
@@ -27,7 +37,12 @@ use Rattle.tape_cmd.specs.Defect.{DefectOutcome}
 use Rattle.tape_cmd.specs.Lose.{LoseOutcome}
 use Rattle.tape_cmd.specs.Protect.{ProtectOutcome}
 use Rattle.tape_cmd.specs.Format.{FormatOutcome, cleared, formatted}
-use Rattle.tape_cmd.specs.Opening.{Printing, opened, OpenOutcome}
+use Rattle.tape_cmd.specs.Opening.{Going, Opened, OpenOutcome, Printing, Shows, settling_act}
+use Rattle.tape_cmd.specs.Append.{Appends, AppendOutcome}
+use Rattle.tape_cmd.specs.Restore.{Gives, RestoreOutcome, ending_status}
+use Rattle.tape_cmd.specs.Scrub.{Mends, ScrubOutcome}
+use Rattle.tape_cmd.specs.declared.status.Status.{Status}
+use Rattle.tape_cmd.specs.declared.status.Status.TheVariants as status
 use Rattle.tape_cmd.specs.Info.{telling}
 use Rattle.tape_cmd.specs.List.{listing}
 use Rattle.tape_cmd.specs.Pulses.{sent, info_of, SentOutcome}
@@ -61,6 +76,21 @@ FormatLeaves label date (Some c) left =
     × ((words : List ℕ) × ((area : List (List ℕ)) × IsFreshWith c label date words area
     × Torn (format_steps c.info.segments_per_track area) (Some c) left)))
 
+-- a protected cartridge is left as it was by an append
+abbrev pub AppendingLeaves : (held left : Option Cartridge) → Type 0
+AppendingLeaves None left = left ≡ None
+AppendingLeaves (Some c) left = c.info.protected ≡ true → left ≡ Some c
+
+-- what a stop in scrubbing leaves: the cartridge as it was; or, where it mounts, one whose settling, or whose scrubbing behind
+-- that, was stopped
+abbrev pub ScrubbingLeaves : (held left : Option Cartridge) → Type 0
+ScrubbingLeaves None left = left ≡ None
+ScrubbingLeaves (Some c) left =
+    (left ≡ Some c)
+    ⊎ ((header : Header) × ((words : List ℕ) × ((table : List (List ℕ)) × ((entries : List Entry) × ((acts : List Act) ×
+    Mounts c (mounting.Mounted header words table entries) × Scrubs (settled table c) words entries acts
+    × (Torn (settling_steps table c) (Some c) left ⊎ Torn (steps_of acts) (Some (settled table c)) left))))))
+
 -- What a stop in a command leaves: of `new` the old cartridge, none or the new one; a change of one sector or mark is done
 -- or not; a settling or a formatting may be stopped inside. Trains of pulses may reference the cartridge.
 abbrev pub CommandLeaves : Words → (held left : Option Cartridge) → Type 0
@@ -72,6 +102,9 @@ CommandLeaves words.List held left = OpeningLeaves held left
 CommandLeaves (words.Format label date) held left = FormatLeaves label date held left
 CommandLeaves words.Info held left = OpeningLeaves held left
 CommandLeaves words.Pulses held left = (left ≡ held) ⊎ (left ≡ effect SetReferenced held)
+CommandLeaves (words.Append name date) held left = AppendingLeaves held left
+CommandLeaves (words.Restore number) held left = OpeningLeaves held left
+CommandLeaves words.Scrub held left = ScrubbingLeaves held left
 CommandLeaves command held left = ⊥
 
 -- ---- the machine is a function
@@ -114,7 +147,7 @@ one_act steps held left a b same one torn =
 stays : (held left : Option Cartridge) (a b : Outcome) → a ≡ b → steps_of b.acts ≡ [] → Torn (steps_of a.acts) held left → left ≡ held
 stays held left a b same none torn = subst (λ (steps : List TapeStep). Torn steps held left) (ap (λ (o : Outcome). steps_of o.acts) same ∙ none) torn
 
-opening_leaves : (prints : Printing) (held left : Option Cartridge) (outcome : Outcome) → OpenOutcome prints held outcome → Torn (steps_of outcome.acts) held left → OpeningLeaves held left
+opening_leaves : (prints : Printing) (held left : Option Cartridge) (outcome : Outcome) → OpenOutcome (Shows prints) held outcome → Torn (steps_of outcome.acts) held left → OpeningLeaves held left
 opening_leaves prints None left outcome plain torn = stays None left outcome _ plain refl torn
 opening_leaves prints (Some c) left outcome (mounting.NotFormatted, mounts, is) torn = inl (stays (Some c) left outcome _ is refl torn)
 opening_leaves prints (Some c) left outcome (mounting.Foreign fault, mounts, is) torn = inl (stays (Some c) left outcome _ is refl torn)
@@ -122,6 +155,57 @@ opening_leaves prints (Some c) left outcome (mounting.TableLost lost, mounts, is
 opening_leaves prints (Some c) left outcome (mounting.TableMismatch, mounts, is) torn = inl (stays (Some c) left outcome _ is refl torn)
 opening_leaves prints (Some c) left outcome (mounting.Mounted header words table entries, mounts, is) torn =
     inr (header, (words, (table, (entries, mounts, one_act (settling_steps table c) (Some c) left outcome _ is refl torn))))
+
+-- the steps of an act, and those of others behind it
+behind_leaves : (steps : List TapeStep) (acts : List Act) (held left : Option Cartridge) (a b : Outcome) → a ≡ b → steps_of b.acts ≡ steps ++ steps_of acts →
+    Torn (steps_of a.acts) held left → Torn steps held left ⊎ Torn (steps_of acts) (effects steps held) left
+behind_leaves steps acts held left a b same one torn =
+    Torn-append steps (steps_of acts) held left
+    (subst (λ (ss : List TapeStep). Torn ss held left) (ap (λ (o : Outcome). steps_of o.acts) same ∙ one) torn)
+
+restoring_leaves : (number : ℕ) (held left : Option Cartridge) (outcome : Outcome) → RestoreOutcome number held outcome → Torn (steps_of outcome.acts) held left → OpeningLeaves held left
+restoring_leaves number None left outcome plain torn = stays None left outcome _ plain refl torn
+restoring_leaves number (Some c) left outcome (mounting.NotFormatted, mounts, is) torn = inl (stays (Some c) left outcome _ is refl torn)
+restoring_leaves number (Some c) left outcome (mounting.Foreign fault, mounts, is) torn = inl (stays (Some c) left outcome _ is refl torn)
+restoring_leaves number (Some c) left outcome (mounting.TableLost lost, mounts, is) torn = inl (stays (Some c) left outcome _ is refl torn)
+restoring_leaves number (Some c) left outcome (mounting.TableMismatch, mounts, is) torn = inl (stays (Some c) left outcome _ is refl torn)
+restoring_leaves number (Some c) left outcome (mounting.Mounted header words table entries, mounts, inl none) torn =
+    inr (header, (words, (table, (entries, mounts, one_act (settling_steps table c) (Some c) left outcome _ none.1 refl torn))))
+restoring_leaves number (Some c) left outcome (mounting.Mounted header words table entries, mounts, inr found) torn =
+    let none : steps_of found.acts ≡ [] = restores_in_no_step (settled table c) words (pieces words found.entry) found.acts found.ending found.restores in
+    inr (header, (words, (table, (entries, mounts, one_act (settling_steps table c) (Some c) left outcome _ found.is
+    (ap (λ (steps : List TapeStep). settling_steps table c ++ steps) none) torn))))
+
+-- nothing settles a protected cartridge
+locked_stays : (table : List (List ℕ)) (c : Cartridge) (left : Option Cartridge) → c.info.protected ≡ true → Torn (settling_steps table c) (Some c) left → left ≡ Some c
+locked_stays table c left is torn =
+    subst (λ (b : Bool). Torn (if b then [] else block_writes (with_parity table) (places_where (is_unsettled c (with_parity table)))) (Some c) left) is torn
+
+scrubbing_leaves : (held left : Option Cartridge) (outcome : Outcome) → ScrubOutcome held outcome → Torn (steps_of outcome.acts) held left → ScrubbingLeaves held left
+scrubbing_leaves None left outcome plain torn = stays None left outcome _ plain refl torn
+scrubbing_leaves (Some c) left outcome (mounting.NotFormatted, mounts, is) torn = inl (stays (Some c) left outcome _ is refl torn)
+scrubbing_leaves (Some c) left outcome (mounting.Foreign fault, mounts, is) torn = inl (stays (Some c) left outcome _ is refl torn)
+scrubbing_leaves (Some c) left outcome (mounting.TableLost lost, mounts, is) torn = inl (stays (Some c) left outcome _ is refl torn)
+scrubbing_leaves (Some c) left outcome (mounting.TableMismatch, mounts, is) torn = inl (stays (Some c) left outcome _ is refl torn)
+scrubbing_leaves (Some c) left outcome (mounting.Mounted header words table entries, mounts, inl locked) torn =
+    inl (locked_stays table c left locked.0 (one_act (settling_steps table c) (Some c) left outcome _ locked.1 refl torn))
+scrubbing_leaves (Some c) left outcome (mounting.Mounted header words table entries, mounts, inr (free, found)) torn =
+    inr (header, (words, (table, (entries, (found.acts, mounts, found.scrubs,
+    elim (behind_leaves (settling_steps table c) found.acts (Some c) left outcome _ found.is refl torn) [
+      | inl first ↦ inl first
+      | inr next ↦ inr (subst (λ (held : Option Cartridge). Torn (steps_of found.acts) held left) (settling_effects c table mounts.reads) next)
+    ])))))
+
+appending_leaves : (name : List ℕ) (date : ℕ) (held left : Option Cartridge) (input : List ℕ) (outcome : Outcome) → AppendOutcome name date held input outcome →
+    Torn (steps_of outcome.acts) held left → AppendingLeaves held left
+appending_leaves name date None left input outcome plain torn = stays None left outcome _ plain refl torn
+appending_leaves name date (Some c) left input outcome (mounting.NotFormatted, mounts, is) torn = λ locked. stays (Some c) left outcome _ is refl torn
+appending_leaves name date (Some c) left input outcome (mounting.Foreign fault, mounts, is) torn = λ locked. stays (Some c) left outcome _ is refl torn
+appending_leaves name date (Some c) left input outcome (mounting.TableLost lost, mounts, is) torn = λ locked. stays (Some c) left outcome _ is refl torn
+appending_leaves name date (Some c) left input outcome (mounting.TableMismatch, mounts, is) torn = λ locked. stays (Some c) left outcome _ is refl torn
+appending_leaves name date (Some c) left input outcome (mounting.Mounted header words table entries, mounts, inl locked) torn = λ mark.
+    locked_stays table c left mark (one_act (settling_steps table c) (Some c) left outcome _ locked.1 refl torn)
+appending_leaves name date (Some c) left input outcome (mounting.Mounted header words table entries, mounts, inr (free, is)) torn = λ mark. absurd (cc)
 
 sent_leaves : (held left : Option Cartridge) (input : List ℕ) (outcome : Outcome) → SentOutcome held input outcome → Torn (steps_of outcome.acts) held left → (left ≡ held) ⊎ (left ≡ effect SetReferenced held)
 sent_leaves held left input outcome (came, plain, is) torn =
@@ -163,14 +247,63 @@ plain_leaves words.List held left input outcome plain torn = opening_leaves list
 plain_leaves (words.Format label date) held left input outcome plain torn = format_leaves label date held left outcome plain torn
 plain_leaves words.Info held left input outcome plain torn = opening_leaves telling held left outcome plain torn
 plain_leaves words.Pulses held left input outcome plain torn = sent_leaves held left input outcome plain torn
+plain_leaves (words.Append name date) held left input outcome plain torn = appending_leaves name date held left input outcome plain torn
+plain_leaves (words.Restore number) held left input outcome plain torn = restoring_leaves number held left outcome plain torn
+plain_leaves words.Scrub held left input outcome plain torn = scrubbing_leaves held left outcome plain torn
 plain_leaves command held left input outcome plain torn = absurd plain
 
 -- ---- mounting is a function
 
-open_is_function : (prints : Printing) (held : Option Cartridge) (a b : Outcome) → OpenOutcome prints held a → OpenOutcome prints held b → a ≡ b
-open_is_function prints None a b one other = one ∙ sym other
-open_is_function prints (Some c) a b (m, mounts, is) (n, gives, was) =
-    is ∙ ap (opened prints c) (mounts_is_function c m n mounts gives) ∙ sym was
+-- what is done on a mounted cartridge is one outcome
+abbrev IsOne : Going → Type 0
+IsOne goes =
+    (c : Cartridge) (header : Header) (ws : List ℕ) (table : List (List ℕ)) (entries : List Entry) (a b : Outcome) →
+    goes c header ws table entries a → goes c header ws table entries b → a ≡ b
+
+opened_is_function : (goes : Going) → IsOne goes → (c : Cartridge) (m : Mounting) (a b : Outcome) → Opened goes c m a → Opened goes c m b → a ≡ b
+opened_is_function goes one c mounting.NotFormatted a b is was = is ∙ sym was
+opened_is_function goes one c (mounting.Foreign fault) a b is was = is ∙ sym was
+opened_is_function goes one c (mounting.TableLost lost) a b is was = is ∙ sym was
+opened_is_function goes one c mounting.TableMismatch a b is was = is ∙ sym was
+opened_is_function goes one c (mounting.Mounted header ws table entries) a b is was = one c header ws table entries a b is was
+
+open_is_function : (goes : Going) → IsOne goes → (held : Option Cartridge) (a b : Outcome) → OpenOutcome goes held a → OpenOutcome goes held b → a ≡ b
+open_is_function goes one None a b is was = is ∙ sym was
+open_is_function goes one (Some c) a b (m, mounts, is) (n, gives, was) =
+    opened_is_function goes one c m a b is
+    (subst (λ (k : Mounting). Opened goes c k b) (sym (mounts_is_function c m n mounts gives)) was)
+
+shows_one : (prints : Printing) → IsOne (Shows prints)
+shows_one prints c header ws table entries a b is was = is ∙ sym was
+
+appends_one : (name : List ℕ) (date : ℕ) (input : List ℕ) → IsOne (Appends name date input)
+appends_one name date input c header ws table entries a b (inl is) (inl was) = is.1 ∙ sym was.1
+appends_one name date input c header ws table entries a b (inl is) (inr was) = let p = is.0 in let q = was.0 in absurd (cc)
+appends_one name date input c header ws table entries a b (inr is) (inl was) = let p = is.0 in let q = was.0 in absurd (cc)
+appends_one name date input c header ws table entries a b (inr is) (inr was) = is.1 ∙ sym was.1
+
+abbrev given : (table : List (List ℕ)) (c : Cartridge) → List Act → Status → Outcome
+given table c acts answer = record { acts = settling_act table c ∷ acts; taken = 0; status = answer }
+
+gives_one : (number : ℕ) → IsOne (Gives number)
+gives_one number c header ws table entries a b (inl is) (inl was) = is.1 ∙ sym was.1
+gives_one number c header ws table entries a b (inl is) (inr was) = let p = is.0 in let q = was.numbered in absurd (cc)
+gives_one number c header ws table entries a b (inr is) (inl was) = let p = is.numbered in let q = was.0 in absurd (cc)
+gives_one number c header ws table entries a b (inr is) (inr was) =
+    let p = is.numbered in let q = was.numbered in
+    let same : is.entry ≡ was.entry = cc in
+    let both = restores_is_function (settled table c) ws (pieces ws was.entry) is.acts was.acts is.ending was.ending
+        (subst (λ (e : Entry). Restores (settled table c) ws (pieces ws e) is.acts is.ending) same is.restores) was.restores in
+    is.is ∙ ap (λ (xs : List Act). given table c xs (ending_status is.ending)) both.0
+    ∙ ap (λ (e : Ending). given table c was.acts (ending_status e)) both.1 ∙ sym was.is
+
+mends_one : IsOne Mends
+mends_one c header ws table entries a b (inl is) (inl was) = is.1 ∙ sym was.1
+mends_one c header ws table entries a b (inl is) (inr was) = let p = is.0 in let q = was.0 in absurd (cc)
+mends_one c header ws table entries a b (inr is) (inl was) = let p = is.0 in let q = was.0 in absurd (cc)
+mends_one c header ws table entries a b (inr (free, is)) (inr (unlocked, was)) =
+    is.is ∙ ap (λ (xs : List Act). given table c xs status.Done)
+        (scrubs_is_function (settled table c) ws entries is.acts was.acts is.scrubs was.scrubs) ∙ sym was.is
 
 -- ---- formatting is a function
 
@@ -204,8 +337,11 @@ plain_is_function (words.New segments) held input a b one other = one ∙ sym ot
 plain_is_function (words.Defect segment sector) held input a b one other = defect_is_function segment sector held a b one other
 plain_is_function (words.Lose segment sector) held input a b one other = lose_is_function segment sector held a b one other
 plain_is_function (words.Protect on) held input a b one other = protect_is_function on held a b one other
-plain_is_function words.List held input a b one other = open_is_function listing held a b one other
+plain_is_function words.List held input a b one other = open_is_function (Shows listing) (shows_one listing) held a b one other
 plain_is_function (words.Format label date) held input a b one other = format_is_function label date held a b one other
-plain_is_function words.Info held input a b one other = open_is_function telling held a b one other
+plain_is_function words.Info held input a b one other = open_is_function (Shows telling) (shows_one telling) held a b one other
+plain_is_function (words.Append name date) held input a b one other = open_is_function (Appends name date input) (appends_one name date input) held a b one other
+plain_is_function (words.Restore number) held input a b one other = open_is_function (Gives number) (gives_one number) held a b one other
+plain_is_function words.Scrub held input a b one other = open_is_function Mends mends_one held a b one other
 plain_is_function words.Pulses held input a b one other = sent_is_function held input a b one other
 plain_is_function command held input a b one other = absurd one

@@ -18,13 +18,15 @@ use Rattle.tape_cmd.specs.Outcome.{Outcome, output_of}
 use Rattle.tape_cmd.specs.Traits.{traits_of}
 use Rattle.tape_cmd.specs.Laws.{MachineIsFunction, MachineAnswers}
 use Rattle.tape_cmd.specs.Machine.{HasValues, HasInputFault, Spells, SpellsNone}
-use Rattle.tape_cmd.specs.Runs.{InputLeft, is_fault, is_outcome, may_come_from, NamesFault, Finished, IsCutOff, Ends, no_source, around, EndsBlind}
+use Rattle.tape_cmd.specs.Runs.{InputLeft, is_fault, is_outcome, may_come_from, NamesFault, Finished, IsCutOff, Ends, EndsBlind}
+use Rattle.acts.specs.Around.{no_source, around}
 use Rattle.tape_cmd.specs.Headline.{Stepped, Answers, WordsLeave, EachLeft, SpellsOne, PrintsFront}
 use Rattle.tape_cmd.specs.Promises.{Promises}
-use Rattle.tape_cmd.proofs.Endings.{any_input, some_text}
+use Rattle.tape_cmd.proofs.Endings.{appends_none, any_input, some_text}
 use Rattle.tape_cmd.proofs.Ends.{Laws, is_a_fault, each_left, stops_go_on, ends_asked, ends_cause, ends_answers, ends_carried, ends_cut, ends_stops, ends_joins, ends_otherwise, ends_named, ends_finished, ends_begun, ends_silent}
 use Rattle.tape_cmd.proofs.MachineLaws.{machine_is_function_where, machine_answers_where}
-use Rattle.tape_cmd.proofs.Volumes.{volumes_stay, list_stays, stops_format, is_changed, may_change, none_changed}
+use Rattle.tape_cmd.proofs.Volumes.{volumes_stay, list_stays, stops_format, stops_append, is_changed, may_change, none_changed}
+use Rattle.tape_cmd.proofs.Values.{has_values}
 
 pub machine_is_function : MachineIsFunction
 machine_is_function = machine_is_function_where one_command
@@ -97,13 +99,16 @@ module _ {T S K : Type 0} (t : tapes.Meaning T) (s : sources.Meaning S) (k : sin
 
   off_over : (failing : Failing) (outcome : Outcome) → IsCutOff t no_source k command (around a x) (around b y) failing outcome →
       IsCutOff t s k command before behind failing outcome
-  off_over failing outcome off = record { cut = cut_over outcome.acts failing off.cut; done = off.done }
+  off_over TapeFails outcome off = record { cut = cut_over outcome.acts TapeFails off.cut; done = off.done; silent = off.silent }
+  off_over SourceFails outcome off = let cut = off.cut in absurd (never_rose cut.cause)
+  off_over SinkFails outcome off = record { cut = cut_over outcome.acts SinkFails off.cut; done = off.done; silent = off.silent }
 
   pub ends_over : (answer : Status) → (traits_of command).reads ≡ false → EndsBlind t k command a b x y answer → Ends t s k command before behind answer
   ends_over answer blind (inl finished) = inl (record {
     outcome = finished.outcome;
     answered = finished.answered;
-    told = over_left (t.told a) (s.left i) _ _ finished.told (λ held input other plain. any_input command held input finished.outcome blind plain other);
+    told = over_left (t.told a) (s.left i) _ _ finished.told
+        (λ held input other plain. (appends_none command (s.left i) other blind, any_input command held input finished.outcome blind plain.1 other));
     went = went_over finished.outcome.acts finished.went;
     left = nothing_taken command answer finished.outcome.taken (s.left i) blind finished.sound (finished.none_taken blind);
     sound = finished.sound;
@@ -116,8 +121,10 @@ module _ {T S K : Type 0} (t : tapes.Meaning T) (s : sources.Meaning S) (k : sin
     failing,
     is,
     record {
-      told = over_left (t.told a) (s.left i) _ _ stopped.told (λ held input other off outcome plain.
-          off_over failing outcome (off outcome (any_input command held other outcome blind plain input)));
+      told = over_left (t.told a) (s.left i) _ _ stopped.told (λ held input other off. (
+        appends_none command (s.left i) other blind,
+        λ outcome plain. off_over failing outcome (off.1 outcome (any_input command held other outcome blind plain input)),
+      ));
       acts = stopped.acts;
       cut = cut_over stopped.acts failing stopped.cut;
       front = stopped.front;
@@ -173,6 +180,7 @@ module _ {T S K : Type 0} (t : tapes.Meaning T) (s : sources.Meaning S) (k : sin
         volumes = volumes_stay t (s.left old.source) words old.tape new.tape laws.right stops;
         lists = list_stays t (s.left old.source) words old.tape new.tape laws.right stops;
         formats = stops_format t (s.left old.source) words old.tape new.tape laws.right stops;
+        appends = stops_append t (s.left old.source) words old.tape new.tape laws.right (λ other spells. has_values words other spells.spelled) stops;
         changed = is_changed t s k words command old new answer laws spelled values ends;
         joins = ends_joins t s k words command old new answer laws ends;
         usage = ((λ is. absurd (ends_otherwise t s k words command old new answer ends (inl is))), (λ none. absurd (none command spelled)));
@@ -186,7 +194,7 @@ module _ {T S K : Type 0} (t : tapes.Meaning T) (s : sources.Meaning S) (k : sin
             (none_at command answer (s.left old.source) done (finished (ap is_fault done)).fault);
         printed = λ done.
             let f : Finished t s k command old new answer = finished (ap is_fault done) in
-            record { command = command; spelled = spelled; text = output_of f.outcome; is_text = f.prints.0 (inl done); took = f.went.wrote.took };
+            record { command = command; spelled = spelled; text = output_of f.outcome; is_text = f.prints.0 done; took = f.went.wrote.took };
         begun = λ other spells.
             subst (λ (w : Words). PrintsFront k w old.sink new.sink) (same_command spelled other spells)
             (ends_begun t s k words command old new answer laws spelled ends);
@@ -238,7 +246,8 @@ module _ {T S K : Type 0} (t : tapes.Meaning T) (s : sources.Meaning S) (k : sin
         volumes = volumes_stay t (s.left old.source) words old.tape old.tape laws.right stops;
         lists = list_stays t (s.left old.source) words old.tape old.tape laws.right stops;
         formats = stops_format t (s.left old.source) words old.tape old.tape laws.right stops;
-        changed = none_changed t words old.tape old.tape answer nothing.0 nothing.1;
+        appends = stops_append t (s.left old.source) words old.tape old.tape laws.right (λ other spells. has_values words other spells.spelled) stops;
+        changed = none_changed t (s.left old.source) words old.tape answer laws.before nothing.0 nothing.1;
         joins = record {
           counts = record { tape = omega arith; source = omega arith; sink = omega arith };
           tape = refl;

@@ -17,7 +17,20 @@ use Rattle.tape_cmd.specs.Defect.{DefectOutcome}
 use Rattle.tape_cmd.specs.Lose.{LoseOutcome}
 use Rattle.tape_cmd.specs.Protect.{ProtectOutcome}
 use Rattle.tape_cmd.specs.Format.{FormatOutcome}
-use Rattle.tape_cmd.specs.Opening.{Printing, OpenOutcome}
+use Rattle.tape_cmd.specs.Opening.{Going, Opened, OpenOutcome, Printing, Shows}
+use Rattle.tape_cmd.specs.Append.{Appends}
+use Rattle.tape_cmd.specs.Restore.{Gives}
+use Rattle.volume_store.specs.Restoring.{volume_at}
+use Rattle.tape_cmd.specs.Scrub.{Mends}
+use Rattle.cartridge_spec.specs.Header.{Header}
+use Rattle.cartridge_spec.specs.HeaderAndTable.{TableIs}
+use Rattle.cartridge_spec.specs.Mounting.{Mounting, Mounts, settled}
+use Rattle.cartridge_spec.specs.Mounting as mounting
+use Rattle.cartridge_spec.specs.Table.{Entry}
+use Rattle.mount_laws.proofs.Whole.{settled_is_cartridge}
+use Rattle.restore_plan.specs.Restoring.{pieces}
+use Rattle.restore_plan.proofs.Endings.{restores_always}
+use Rattle.scrub_plan.proofs.Turns.{scrubs_always}
 use Rattle.tape_cmd.specs.Info.{telling}
 use Rattle.tape_cmd.specs.List.{listing}
 use Rattle.tape_cmd.specs.Pulses.{sent, info_of, SentOutcome}
@@ -60,9 +73,53 @@ protect_answers : (on : Bool) (held : Option Cartridge) → (outcome : Outcome) 
 protect_answers on None = (_, refl)
 protect_answers on (Some c) = (_, refl)
 
-open_answers : (prints : Printing) (held : Option Cartridge) → IfSome held IsCartridge → (outcome : Outcome) × OpenOutcome prints held outcome
-open_answers prints None whole = (_, refl)
-open_answers prints (Some c) whole = let some = mounts_always c whole in (_, (some.0, some.1, refl))
+-- each cartridge that is mounted has one
+abbrev Answers : Going → Type 0
+Answers goes =
+    (c : Cartridge) (header : Header) (ws : List ℕ) (table : List (List ℕ)) (entries : List Entry) → IsCartridge c → TableIs c table →
+    (outcome : Outcome) × goes c header ws table entries outcome
+
+opened_answers : (goes : Going) → Answers goes → (c : Cartridge) (m : Mounting) → IsCartridge c → Mounts c m → (outcome : Outcome) × Opened goes c m outcome
+opened_answers goes each c mounting.NotFormatted whole mounts = (_, refl)
+opened_answers goes each c (mounting.Foreign fault) whole mounts = (_, refl)
+opened_answers goes each c (mounting.TableLost lost) whole mounts = (_, refl)
+opened_answers goes each c mounting.TableMismatch whole mounts = (_, refl)
+opened_answers goes each c (mounting.Mounted header ws table entries) whole mounts = each c header ws table entries whole mounts.reads
+
+open_answers : (goes : Going) → Answers goes → (held : Option Cartridge) → IfSome held IsCartridge → (outcome : Outcome) × OpenOutcome goes held outcome
+open_answers goes each None whole = (_, refl)
+open_answers goes each (Some c) whole =
+    let some = mounts_always c whole in
+    let outcome = opened_answers goes each c some.0 whole some.1 in
+    (outcome.0, (some.0, some.1, outcome.1))
+
+shows_answers : (prints : Printing) → Answers (Shows prints)
+shows_answers prints c header ws table entries whole reads = (_, refl)
+
+appends_answers : (name : List ℕ) (date : ℕ) (input : List ℕ) → Answers (Appends name date input)
+appends_answers name date input c header ws table entries whole reads = by_mark c.info.protected refl
+  where
+    by_mark : (mark : Bool) → c.info.protected ≡ mark → (outcome : Outcome) × Appends name date input c header ws table entries outcome
+    by_mark true is = (_, inl (is, refl))
+    by_mark false is = (_, inr (is, refl))
+
+gives_answers : (number : ℕ) → Answers (Gives number)
+gives_answers number c header ws table entries whole reads = by_volume (volume_at entries number) refl
+  where
+    by_volume : (found : Option Entry) → volume_at entries number ≡ found → (outcome : Outcome) × Gives number c header ws table entries outcome
+    by_volume None is = (_, inl (is, refl))
+    by_volume (Some e) is =
+        let some = restores_always (settled table c) ws (pieces ws e) (settled_is_cartridge c table whole reads) in
+        (_, inr (record { entry = e; numbered = is; acts = some.0; ending = some.1; restores = some.2; is = refl }))
+
+mends_answers : Answers Mends
+mends_answers c header ws table entries whole reads = by_mark c.info.protected refl
+  where
+    by_mark : (mark : Bool) → c.info.protected ≡ mark → (outcome : Outcome) × Mends c header ws table entries outcome
+    by_mark true is = (_, inl (is, refl))
+    by_mark false is =
+        let some = scrubs_always (settled table c) ws entries (settled_is_cartridge c table whole reads) in
+        (_, inr (is, record { acts = some.0; scrubs = some.1; is = refl }))
 
 format_answers : (label : List ℕ) (date : ℕ) (held : Option Cartridge) → IsLabel label → date < 2 ^ 32 → IfSome held IsCartridge → (outcome : Outcome) × FormatOutcome label date held outcome
 format_answers label date None is few whole = (_, refl)
@@ -87,7 +144,10 @@ plain_answers (words.Defect segment sector) held input values built whole = defe
 plain_answers (words.Lose segment sector) held input values built whole = lose_answers segment sector held
 plain_answers (words.Protect on) held input values built whole = protect_answers on held
 plain_answers (words.Format label date) held input values built whole = format_answers label date held values.0 values.1 whole
-plain_answers words.Info held input values built whole = open_answers telling held whole
-plain_answers words.List held input values built whole = open_answers listing held whole
+plain_answers words.Info held input values built whole = open_answers (Shows telling) (shows_answers telling) held whole
+plain_answers words.List held input values built whole = open_answers (Shows listing) (shows_answers listing) held whole
+plain_answers (words.Append name date) held input values built whole = open_answers (Appends name date input) (appends_answers name date input) held whole
+plain_answers (words.Restore number) held input values built whole = open_answers (Gives number) (gives_answers number) held whole
+plain_answers words.Scrub held input values built whole = open_answers Mends mends_answers held whole
 plain_answers words.Pulses held input values built whole = sent_answers held input
 plain_answers command held input values built whole = absurd (cc)

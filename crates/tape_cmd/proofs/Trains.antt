@@ -21,7 +21,7 @@ use Rattle.tape_cmd.specs.declared.status.Status.{Status}
 use Rattle.tape_cmd.specs.declared.status.Status.TheVariants as status
 use Rattle.tape_cmd.specs.Outcome.{Outcome}
 use Rattle.tape_cmd.specs.Pulses.{sent_status, sent, info_of, SentOutcome, AreLevels}
-use Rattle.tape_cmd.specs.Runs.{InputLeft, fault_of, may_come_from, NamesFault, IsCutOff, Ends}
+use Rattle.tape_cmd.specs.Runs.{InputLeft, fault_of, may_come_from, NamesFault, IsOfBytes, IsCutOff, Ends}
 
 -- ---- the fault of an input
 
@@ -99,14 +99,15 @@ module _ {T S K : Type 0} (t : tapes.Meaning T) (s : sources.Meaning S) (k : sin
       inl (record {
         outcome = sent run.outcome;
         answered = sym (ap sent_status run.answered);
-        told = over_known (t.told old.tape) (s.left old.source) run.known run.input (λ held input. SentOutcome held input (sent run.outcome))
+        told = over_known (t.told old.tape) (s.left old.source) run.known run.input
+            (λ held input. IsOfBytes words.Pulses (s.left old.source) input × SentOutcome held input (sent run.outcome))
             run.over.cartridge run.over.bytes
-            (λ held same. (run.outcome, subst (λ (known : Option TapeInfo). PulsesOutcome known run.input run.outcome) same run.plain, refl));
+            (λ held same. (λ is. absurd (cc), (run.outcome, subst (λ (known : Option TapeInfo). PulsesOutcome known run.input run.outcome) same run.plain, refl)));
         went = run.went;
         left = left_behind run.outcome.taken answer run.left;
         sound = sound_answer answer;
         none_taken = λ blind. absurd (cc);
-        prints = ((λ which. levels), (λ still other. absurd (cc)));
+        prints = ((λ is. levels), (λ other. levels));
         silent = λ still other. absurd (cc);
         fault = told_input (s.left old.source) run.input (λ input. NamesFault words.Pulses input (sent_status answer)) run.over.bytes
             (names_fault run.known run.input run.outcome answer run.plain run.answered);
@@ -119,12 +120,14 @@ module _ {T S K : Type 0} (t : tapes.Meaning T) (s : sources.Meaning S) (k : sin
     refl,
     record {
       told = over_known (t.told old.tape) (s.left old.source) run.known run.input
-          (λ held input. (outcome : Outcome) → SentOutcome held input outcome → IsCutOff t s k words.Pulses old new failing outcome)
+          (λ held input. IsOfBytes words.Pulses (s.left old.source) input
+          × ((outcome : Outcome) → SentOutcome held input outcome → IsCutOff t s k words.Pulses old new failing outcome))
           run.over.cartridge run.over.bytes
-          (λ held same outcome plain. record {
+          (λ held same. (λ is. absurd (cc), λ outcome plain. record {
             cut = subst (λ (acts : List Act). Cut t s k old new acts failing) (same_acts run.known held run.input run.outcome outcome same run.plain plain) run.cut;
             done = λ sink still. absurd (cc);
-          });
+            silent = λ still. absurd (cc);
+          }));
       acts = run.outcome.acts;
       cut = run.cut;
       front = (

@@ -7,7 +7,7 @@ use Rattle.qic_base.specs.Name.{IsNameText, IsPrintable, filled}
 use Rattle.format_plan.specs.Fresh.{IsLabel}
 use Rattle.tape_script.specs.declared.words.Words.{Words}
 use Rattle.tape_script.specs.declared.words.Words.TheVariants as words
-use Rattle.tape_script.specs.Forms.{Word, Name, IsDateWord, SpellsAll, HasForm}
+use Rattle.tape_script.specs.Forms.{Word, Name, IsDateWord, SpellsAll, HasForm, dated}
 use Rattle.tape_script.specs.Words.{IsCommand}
 use Rattle.tape_cmd.specs.Machine.{HasValues}
 
@@ -35,21 +35,21 @@ date_is_word word date is =
     let same = is.stamped in
     omega arith
 
--- the label and the date of a command to format
-format_values : (ws : List (List ℕ)) (label : List ℕ) (date : ℕ) → IsCommand ws (words.Format label date) → HasValues (words.Format label date)
-format_values [] label date (inl spelled) = absurd spelled
-format_values (w ∷ []) label date (inl spelled) = absurd spelled.1
-format_values (w ∷ name ∷ []) label date (inl spelled) = absurd spelled.1.1
-format_values (w ∷ name ∷ day ∷ rest) label date (inl spelled) =
+-- a label of 44 bytes, or a name, and a date behind a word
+dated_values : (word : List ℕ) (ws : List (List ℕ)) (label : List ℕ) (date : ℕ) → HasForm ws (dated (Word word ∷ Name label ∷ []) date) → IsLabel label × (date < 2 ^ 32)
+dated_values word [] label date (inl spelled) = absurd spelled
+dated_values word (w ∷ []) label date (inl spelled) = absurd spelled.1
+dated_values word (w ∷ name ∷ []) label date (inl spelled) = absurd spelled.1.1
+dated_values word (w ∷ name ∷ day ∷ rest) label date (inl spelled) =
     (name_is_label name label spelled.1.0.0 spelled.1.0.1, date_is_word day date spelled.1.1.0)
-format_values ws label date (inr spelled) = by_date (date == 0) refl spelled
+dated_values word ws label date (inr spelled) = by_date (date == 0) refl spelled
   where
-    undated : (vs : List (List ℕ)) → SpellsAll vs (Word (codes "format") ∷ Name label ∷ []) → IsLabel label
+    undated : (vs : List (List ℕ)) → SpellsAll vs (Word word ∷ Name label ∷ []) → IsLabel label
     undated [] spelled = absurd spelled
     undated (w ∷ []) spelled = absurd spelled.1
     undated (w ∷ name ∷ rest) spelled = name_is_label name label spelled.1.0.0 spelled.1.0.1
 
-    by_date : (zero : Bool) → date == 0 ≡ zero → HasForm ws (if zero then (Word (codes "format") ∷ Name label ∷ []) ∷ [] else []) → HasValues (words.Format label date)
+    by_date : (zero : Bool) → date == 0 ≡ zero → HasForm ws (if zero then (Word word ∷ Name label ∷ []) ∷ [] else []) → IsLabel label × (date < 2 ^ 32)
     by_date true is (inl form) = (undated ws form, let none : date ≡ 0 = eqb-true date 0 is in omega arith)
     by_date true is (inr none) = absurd none
     by_date false is none = absurd none
@@ -62,5 +62,6 @@ has_values (word ∷ []) (words.New segments) (inl spelled) = absurd spelled.1
 has_values (word ∷ []) (words.New segments) (inr spelled) = absurd spelled
 has_values (word ∷ number ∷ rest) (words.New segments) (inl spelled) = record { shortest = spelled.1.0.1; longest = spelled.1.0.2 }
 has_values (word ∷ number ∷ rest) (words.New segments) (inr spelled) = absurd spelled
-has_values ws (words.Format label date) spelled = format_values ws label date spelled
+has_values ws (words.Format label date) spelled = dated_values (codes "format") ws label date spelled
+has_values ws (words.Append name date) spelled = dated_values (codes "append") ws name date spelled
 has_values ws command spelled = tt

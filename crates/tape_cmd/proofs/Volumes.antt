@@ -1,5 +1,5 @@
 -- What a run leaves of what a cartridge stands for, by what a stop in its command leaves.
-use Rattle.std.proofs.Common.{◌≡◌, ◌⊎◌, ℕ, Bool, true, List, [], ◌∷◌, ◌++◌, Option, Some, IfSome, IsSomeAnd, sym, ap, ◌∙◌, subst, inl, inr, None, false, refl, arith, append-nil}
+use Rattle.std.proofs.Common.{◌≡◌, ◌⊎◌, ℕ, ◌<◌, Bool, true, List, [], ◌∷◌, ◌++◌, All, Option, Some, IfSome, IfNone, IsSomeAnd, sym, ap, ◌∙◌, subst, inl, inr, None, false, refl, arith, append-nil}
 use Rattle.qic_base.specs.Cartridge.{Cartridge, IsCartridge, new_cartridge}
 use Rattle.qic_base.specs.Step.{Step as TapeStep, Renew, SetReferenced, SetProtected, Wear, Spoil, changed, effects}
 use Rattle.qic_base.specs.Stop.{Torn}
@@ -8,8 +8,8 @@ use Rattle.qic_base.specs.Source as sources
 use Rattle.qic_base.specs.Tape as tapes
 use Rattle.cartridge_spec.specs.Header.{Header}
 use Rattle.cartridge_spec.specs.Table.{Entry}
-use Rattle.cartridge_spec.specs.Volumes.{Plain, Stands}
-use Rattle.cartridge_spec.specs.Mounting.{Mounting, Mounted, Mounts}
+use Rattle.cartridge_spec.specs.Volumes.{Plain, Stands, entries_of}
+use Rattle.cartridge_spec.specs.Mounting.{Mounting, Mounted, TableLost, Mounts, settled}
 use Rattle.cartridge_spec.specs.HeaderAndTable.{IsUnformatted}
 use Rattle.cartridge_spec.specs.Writes.{changed_by}
 use Rattle.format_plan.specs.Formatting.{HasNoDefectInFront, clearing_steps, format_steps}
@@ -20,7 +20,14 @@ use Rattle.format_plan.proofs.Copies.{unformatted_from_bare}
 use Rattle.format_plan.proofs.Formatted.{formatting_formats, formatted_stands}
 use Rattle.format_plan.proofs.Stops.{stopped_clearing, stopped_clearing_new, stopped_format, stopped_format_new}
 use Rattle.format_plan.proofs.Writing.{effects-some, some_and, some_weaker}
+use Rattle.mount_laws.specs.Laws.{mounted_as}
 use Rattle.mount_laws.proofs.Keeping.{stopped_mounts, stopped_stands}
+use Rattle.mount_laws.proofs.Settled.{settled_mounts, settled_stands}
+use Rattle.mount_laws.proofs.Standing.{standing_mounts_only_so}
+use Rattle.append_plan.specs.Laws.{new_plain}
+use Rattle.scrub_plan.specs.Scrubbing.{Scrubs}
+use Rattle.scrub_plan.proofs.Mounted.{stopped_scrub_mounts, stopped_scrub_stands}
+use Rattle.qic_base.proofs.Steps.{Done-nothing}
 use Rattle.mount_laws.proofs.Mounting.{mounts_is_function}
 use Rattle.change_laws.proofs.Mounted.{worn_mounts, spoiled_mounts, protected_mounts, referenced_mounts}
 use Rattle.change_laws.proofs.Standing.{worn_stands, spoiled_stands, protected_stands, referenced_stands}
@@ -36,11 +43,12 @@ use Rattle.tape_cmd.specs.New.{NewOutcome}
 use Rattle.tape_cmd.specs.Format.{FormatOutcome}
 use Rattle.tape_cmd.specs.Traits.{traits_of}
 use Rattle.tape_cmd.specs.Machine.{HasValues, Yields, Spells}
-use Rattle.tape_cmd.specs.Runs.{is_fault, fault_of, may_come_from, IsCutOff, Finished, Ends}
+use Rattle.tape_cmd.specs.Runs.{is_fault, fault_of, may_come_from, IsOfBytes, IsCutOff, Finished, Ends}
 use Rattle.tape_cmd.specs.Headline.{EachLeft, EachNow, StopLeaves, WordsLeave}
-use Rattle.tape_cmd.specs.Volumes.{KeepsVolumes, StillStands, VolumesStay, KeepsList, StillMounts, ListStays, StandsEmpty, FormatsOrNot, StopsFormat, StandsFresh, IsCarriedOut, IsChanged, IsBare}
+use Rattle.tape_cmd.specs.Volumes.{KeepsVolumes, StillStands, VolumesStay, KeepsList, StillMounts, ListStays, StandsEmpty, FormatsOrNot, StopsFormat, AreBytes, StandsAppended, AppendedOrNot, StopsAppend, StandsFresh, IsCarriedOut, WasNotDone, IsChanged, IsBare}
 use Rattle.tape_cmd.proofs.Ends.{Laws, over_at, told_weaker, told_whole, after_steps, ends_finished}
-use Rattle.tape_cmd.proofs.PlainLaws.{SectorLeaves, OpeningLeaves, FormatLeaves, CommandLeaves, plain_leaves}
+use Rattle.tape_cmd.proofs.PlainLaws.{SectorLeaves, OpeningLeaves, ScrubbingLeaves, FormatLeaves, CommandLeaves, plain_leaves}
+use Rattle.tape_cmd.proofs.Appends.{append_stopped, append_done, append_refused, append_unanswered}
 use Rattle.tape_cmd.proofs.Totals.{plain_answers}
 
 -- an answer that tells of a change
@@ -74,6 +82,22 @@ open_stands : (c : Cartridge) (plain : Plain) (left : Option Cartridge) → Stan
 open_stands c plain left stood (inl before) = same_stands c plain left stood before
 open_stands c plain left stood (inr (header, (words, (table, (entries, mounts, torn))))) = stopped_stands c plain table left stood mounts.reads torn
 
+-- the mounting of a cartridge that stands for a plain one is that one's
+stands_as : (c : Cartridge) (plain : Plain) (m : Mounting) → Stands c plain → Mounts c m → (n : Mounting) → m ≡ n → ((lost : ℕ) → n ≡ TableLost lost → ⊥) → n ≡ mounted_as plain
+stands_as c plain m stood mounts n same read =
+    elim (standing_mounts_only_so c plain m stood mounts) [ inl is ↦ sym same ∙ is | inr (lost, is) ↦ absurd (read lost (sym same ∙ is)) ]
+
+scrub_stands : (c : Cartridge) (plain : Plain) (left : Option Cartridge) → Stands c plain → ScrubbingLeaves (Some c) left → IsSomeAnd left (λ d. Stands d plain)
+scrub_stands c plain left stood (inl before) = same_stands c plain left stood before
+scrub_stands c plain left stood (inr (header, (words, (table, (entries, (acts, mounts, scrubs, inl torn)))))) = stopped_stands c plain table left stood mounts.reads torn
+scrub_stands c plain left stood (inr (header, (words, (table, (entries, (acts, mounts, scrubs, inr torn)))))) =
+    let m : Mounting = Mounted header words table entries in
+    let same : m ≡ mounted_as plain = stands_as c plain m stood mounts m refl (λ lost is. cc) in
+    let map : words ≡ plain.words = cc in
+    let list : entries ≡ entries_of plain = cc in
+    stopped_scrub_stands (settled table c) plain acts left (settled_stands c plain table stood mounts.reads)
+    (subst (λ (es : List Entry). Scrubs (settled table c) plain.words es acts) list (subst (λ (ws : List ℕ). Scrubs (settled table c) ws entries acts) map scrubs)) torn
+
 format_stands : (label : List ℕ) (date : ℕ) (c : Cartridge) (plain : Plain) (left : Option Cartridge) → Stands c plain → c.info.protected ≡ true →
     FormatLeaves label date (Some c) left → IsSomeAnd left (λ d. Stands d plain)
 format_stands label date c plain left stood locked (inl same) = same_stands c plain left stood same.1
@@ -103,6 +127,9 @@ command_stands commands.List c plain left stood keeps leaves = open_stands c pla
 command_stands (commands.Format label date) c plain left stood keeps leaves = format_stands label date c plain left stood keeps leaves
 command_stands commands.Info c plain left stood keeps leaves = open_stands c plain left stood leaves
 command_stands commands.Pulses c plain left stood keeps leaves = pulses_stand c plain left stood leaves
+command_stands (commands.Append name date) c plain left stood keeps leaves = same_stands c plain left stood (leaves keeps)
+command_stands (commands.Restore number) c plain left stood keeps leaves = open_stands c plain left stood leaves
+command_stands commands.Scrub c plain left stood keeps leaves = scrub_stands c plain left stood leaves
 command_stands command c plain left stood keeps leaves = absurd leaves
 
 -- what a command leaves, by the command
@@ -125,6 +152,16 @@ open_mounts c m left mounts (inl before) = some_and (λ d. Mounts d m) c left mo
 open_mounts c m left mounts (inr (header, (words, (table, (entries, again, torn))))) =
     let same : Mounted header words table entries ≡ m = mounts_is_function c (Mounted header words table entries) m again mounts in
     subst (λ (n : Mounting). IsSomeAnd left (λ d. Mounts d n)) same (stopped_mounts c header words table entries left again torn)
+
+scrub_mounts : (c : Cartridge) (m : Mounting) (left : Option Cartridge) → Mounts c m → ScrubbingLeaves (Some c) left → IsSomeAnd left (λ d. Mounts d m)
+scrub_mounts c m left mounts (inl before) = some_and (λ d. Mounts d m) c left mounts before
+scrub_mounts c m left mounts (inr (header, (words, (table, (entries, (acts, again, scrubs, inl torn)))))) =
+    let same : Mounted header words table entries ≡ m = mounts_is_function c (Mounted header words table entries) m again mounts in
+    subst (λ (n : Mounting). IsSomeAnd left (λ d. Mounts d n)) same (stopped_mounts c header words table entries left again torn)
+scrub_mounts c m left mounts (inr (header, (words, (table, (entries, (acts, again, scrubs, inr torn)))))) =
+    let same : Mounted header words table entries ≡ m = mounts_is_function c (Mounted header words table entries) m again mounts in
+    subst (λ (n : Mounting). IsSomeAnd left (λ d. Mounts d n)) same
+    (stopped_scrub_mounts (settled table c) header words table entries acts left (settled_mounts c header words table entries again) scrubs torn)
 
 command_mounts : (command : Words) (c : Cartridge) (header : Header) (words : List ℕ) (table : List (List ℕ)) (entries : List Entry) (left : Option Cartridge) →
     Mounts c (Mounted header words table entries) → KeepsList command c → CommandLeaves command (Some c) left → IsSomeAnd left (λ d. Mounts d (Mounted header words table entries))
@@ -159,6 +196,9 @@ command_mounts command c header words table entries left mounts keeps leaves = b
     by_command (commands.Format label date) locked is = format label date locked is
     by_command commands.Info none is = open_mounts c (Mounted header words table entries) left mounts is
     by_command commands.Pulses none is = pulses is
+    by_command (commands.Append name date) locked is = some_and P c left mounts (is locked)
+    by_command (commands.Restore number) none is = open_mounts c (Mounted header words table entries) left mounts is
+    by_command commands.Scrub none is = scrub_mounts c (Mounted header words table entries) left mounts is
     by_command w none is = absurd is
 
 still_mounts : (told : Option (List ℕ)) (words : List (List ℕ)) (held left : Option Cartridge) → WordsLeave told words held left → StillMounts words held left
@@ -237,6 +277,32 @@ formats_or_not told words held left whole leaves = record {
 pub stops_format : {T : Type 0} (t : tapes.Meaning T) (told : Option (List ℕ)) (words : List (List ℕ)) (a b : T) → tapes.IsToldRight (t.told a) (t.size a) → EachLeft t a b (WordsLeave told words) → StopsFormat t words a b
 stops_format t told words a b right leaves = each_weaker t a b right (λ held left whole is. formats_or_not told words held left whole is) leaves
 
+-- ---- appending
+
+-- an input is one of bytes, told or not
+of_bytes : (told : Option (List ℕ)) (input : List ℕ) → AreBytes told → IfSome told (λ bytes. input ≡ bytes) → IfNone told (All (λ b. b < 256) input) → All (λ b. b < 256) input
+of_bytes None input known is given = given
+of_bytes (Some bytes) input known is given = subst (λ (xs : List ℕ). All (λ b. b < 256) xs) (sym is) known
+
+-- what is left by words of appending
+appended_or_not : (told : Option (List ℕ)) (words : List (List ℕ)) (held left : Option Cartridge) → ((command : Words) → Spells words command → HasValues command) → IfSome held IsCartridge →
+    WordsLeave told words held left → AppendedOrNot told words held left
+appended_or_not told words held left values whole (inl same) name date c plain spells is bytes stood live =
+    some_and (λ d. Stands d plain ⊎ StandsAppended told name date c plain d) c left (inl stood) (same ∙ is)
+appended_or_not told words held left values whole (inr (command, spelled, leaves)) name date c plain spells is bytes stood live =
+    let other : Words = commands.Append name date in
+    let same : command ≡ other = one_command words command other spelled.spelled spells.spelled in
+    let known : HasValues other = values other spells in
+    let l : StopLeaves told other (Some c) left =
+    subst (λ (w : Words). StopLeaves told w (Some c) left) same (subst (λ (h : Option Cartridge). StopLeaves told command h left) is leaves) in
+    some_weaker left
+    (λ d stands. elim stands [ inl old ↦ inl old | inr new ↦ inr (record { input = l.input; is_told = l.is_told; stands = new }) ])
+    (append_stopped name date l.input c plain l.outcome left known.0 known.1 (of_bytes told l.input bytes l.is_told (l.bytes refl)) (whole_of held c whole is) stood live l.plain l.torn)
+
+pub stops_append : {T : Type 0} (t : tapes.Meaning T) (told : Option (List ℕ)) (words : List (List ℕ)) (a b : T) → tapes.IsToldRight (t.told a) (t.size a) →
+    ((command : Words) → Spells words command → HasValues command) → EachLeft t a b (WordsLeave told words) → StopsAppend t told words a b
+stops_append t told words a b right values leaves = each_weaker t a b right (λ held left whole is. appended_or_not told words held left values whole is) leaves
+
 -- ---- when a run is over
 
 -- what stands behind steps that were done
@@ -259,51 +325,26 @@ now_weaker t a b follows each = record {
 }
 
 -- over what was told, an outcome with this status was done
-record Did {T : Type 0} (t : tapes.Meaning T) (command : Words) (a b : T) (held : Option Cartridge) (is : Status) : Type 0 where
+record Did {T : Type 0} (t : tapes.Meaning T) (told : Option (List ℕ)) (command : Words) (a b : T) (held : Option Cartridge) (is : Status) : Type 0 where
   input : List ℕ
+  is_told : IfSome told (λ bytes. input ≡ bytes)
+  bytes : IsOfBytes command told input
   outcome : Outcome
   sound : outcome.status ≡ is
   plain : Yields command held input outcome
   did : tapes.Done t a b (steps_of outcome.acts)
 
--- a fault of the sink in the only act comes when all steps are done
-only_act : (front rest : List Act) (act only : Act) → front ++ act ∷ rest ≡ only ∷ [] → steps_of front ++ act.steps ≡ steps_of (only ∷ [])
-only_act [] rest act only parts =
-    let same : act ≡ only = cc in ap (λ (a : Act). a.steps) same ∙ sym (append-nil only.steps)
-only_act (first ∷ []) rest act only parts = cc
-only_act (first ∷ second ∷ front) rest act only parts = cc
-
-no_act : (front rest : List Act) (act : Act) → front ++ act ∷ rest ≡ [] → ⊥
-no_act [] rest act parts = cc
-no_act (first ∷ front) rest act parts = cc
-
-abbrev IsOne : List Act → Type 0
-IsOne acts = (acts ≡ []) ⊎ ((only : Act) × (acts ≡ only ∷ []))
-
-sink_did : {T S K : Type 0} (t : tapes.Meaning T) (s : sources.Meaning S) (k : sinks.Meaning K) (old new : Outside T S K) (acts : List Act) → IsOne acts →
-    SinkCut t s k old new acts → tapes.Done t old.tape new.tape (steps_of acts)
-sink_did t s k old new acts (inl none) cut = absurd (no_act cut.at.front cut.at.rest cut.at.act (cut.at.parts ∙ none))
-sink_did t s k old new acts (inr (only, is)) cut =
-    subst (tapes.Done t old.tape new.tape)
-    (only_act cut.at.front cut.at.rest cut.at.act only (cut.at.parts ∙ is) ∙ ap (λ (xs : List Act). steps_of xs) (sym is)) cut.did
-
-one_of_format : (label : List ℕ) (date : ℕ) (c : Cartridge) (outcome : Outcome) → FormatOutcome label date (Some c) outcome → IsOne outcome.acts
-one_of_format label date c outcome (inl (locked, is)) = inl (ap (λ (o : Outcome). o.acts) is)
-one_of_format label date c outcome (inr (inl (free, (segment, first, is)))) = inr (_, ap (λ (o : Outcome). o.acts) is)
-one_of_format label date c outcome (inr (inr (free, none, (words, (area, fresh, is))))) = inr (_, ap (λ (o : Outcome). o.acts) is)
-
-one_of_new : (segments : ℕ) (outcome : Outcome) → NewOutcome segments outcome → IsOne outcome.acts
-one_of_new segments outcome plain = inr (_, ap (λ (o : Outcome). o.acts) plain)
-
 module _ {T S K : Type 0} (t : tapes.Meaning T) (s : sources.Meaning S) (k : sinks.Meaning K) (command : Words) (old new : Outside T S K) (answer : Status) where
   finished_did : (held : Option Cartridge) (is : Status) → t.told old.tape ≡ Some held → Finished t s k command old new answer → answer ≡ is →
-      Did t command old.tape new.tape held is
+      Did t (s.left old.source) command old.tape new.tape held is
   finished_did held is told finished same =
       let over = over_at (t.told old.tape) _ held finished.told told in record {
         input = over.0;
+        is_told = over.1;
+        bytes = over.2;
         outcome = finished.outcome;
         sound = sym finished.answered ∙ same;
-        plain = over.2;
+        plain = over.3;
         did = finished.went.did;
       }
 
@@ -316,21 +357,24 @@ module _ {T S K : Type 0} (t : tapes.Meaning T) (s : sources.Meaning S) (k : sin
 
   -- it was carried out, though its output may be cut off
   carried_out_did : (held : Option Cartridge) → IfSome held IsCartridge → (traits_of command).built ≡ true → HasValues command → (traits_of command).goes ≡ false →
-      ((input : List ℕ) (outcome : Outcome) → Yields command held input outcome → IsOne outcome.acts) → t.told old.tape ≡ Some held →
-      IsCarriedOut answer → Ends t s k command old new answer → Did t command old.tape new.tape held status.Done
-  carried_out_did held whole built values still one told (inl done) (inl finished) = finished_did held status.Done told finished done
-  carried_out_did held whole built values still one told (inr fault) (inl finished) =
+      t.told old.tape ≡ Some held →
+      IsCarriedOut answer → Ends t s k command old new answer → Did t (s.left old.source) command old.tape new.tape held status.Done
+  carried_out_did held whole built values still told (inl done) (inl finished) = finished_did held status.Done told finished done
+  carried_out_did held whole built values still told (inr fault) (inl finished) =
       let no = ap (λ (a : Status). may_come_from a command) fault in let sound = finished.sound in absurd (cc)
-  carried_out_did held whole built values still one told which (inr (failing, is, stopped)) =
+  carried_out_did held whole built values still told which (inr (failing, is, stopped)) =
       let sink : failing ≡ SinkFails = not_otherwise failing which is in
       let over = over_at (t.told old.tape) _ held stopped.told told in
       let some = plain_answers command held over.0 values built whole in
-      let off : IsCutOff t s k command old new SinkFails some.0 = subst (λ (f : Failing). IsCutOff t s k command old new f some.0) sink (over.2 some.0 some.1) in record {
+      let off : IsCutOff t s k command old new SinkFails some.0 = subst (λ (f : Failing). IsCutOff t s k command old new f some.0) sink (over.3 some.0 some.1) in
+      let all = off.done refl still in record {
         input = over.0;
+        is_told = over.1;
+        bytes = over.2;
         outcome = some.0;
-        sound = off.done refl still;
+        sound = all.0;
         plain = some.1;
-        did = sink_did t s k old new some.0.acts (one over.0 some.0 some.1) off.cut;
+        did = all.1;
       }
 
 renewed_effect : (segments : ℕ) (held : Option Cartridge) → effects (Renew segments ∷ []) held ≡ Some (new_cartridge segments)
@@ -371,15 +415,39 @@ cleared_is_bare label date front c outcome whole (inr (inl (free, (segment, firs
     (ap (λ (o : Outcome). effects (steps_of o.acts) (Some c)) is ∙ ap (λ (steps : List TapeStep). effects steps (Some c)) (append-nil (clearing_steps n)) ∙ effects-some (clearing_steps n) c)
 cleared_is_bare label date front c outcome whole (inr (inr (free, none, (words, (area, fresh, is))))) done = let other = ap (λ (o : Outcome). o.status) is in absurd (cc)
 
+-- an append that was refused, or whose input failed
+append_unchanged : {T S K : Type 0} (t : tapes.Meaning T) (s : sources.Meaning S) (k : sinks.Meaning K) (name : List ℕ) (date : ℕ) (old new : Outside T S K) (answer : Status) (c : Cartridge) (plain : Plain) →
+    Laws t s k old new → HasValues (commands.Append name date) → IsCartridge c → Stands c plain → t.told old.tape ≡ Some (Some c) → WasNotDone answer → Ends t s k (commands.Append name date) old new answer →
+    EachNow t old.tape new.tape (λ left. IsSomeAnd left (λ d. Stands d plain))
+append_unchanged t s k name date old new answer c plain laws values whole stood told not (inl finished) =
+    let d : Did t (s.left old.source) (commands.Append name date) old.tape new.tape (Some c) answer =
+    finished_did t s k (commands.Append name date) old new answer (Some c) answer told finished refl in
+    now_weaker t old.tape new.tape
+    (λ left is. subst (λ (o : Option Cartridge). IsSomeAnd o (λ e. Stands e plain)) (sym is)
+    (append_refused name date d.input c plain d.outcome whole stood d.plain (λ same. not.0 (sym d.sound ∙ same))))
+    (done_now t old.tape new.tape (steps_of d.outcome.acts) (Some c) laws.after d.did told)
+append_unchanged t s k name date old new answer c plain laws values whole stood told not (inr (TapeFails, is, stopped)) = absurd (not.2 is)
+append_unchanged t s k name date old new answer c plain laws values whole stood told not (inr (SinkFails, is, stopped)) = absurd (not.1 is)
+append_unchanged t s k name date old new answer c plain laws values whole stood told not (inr (SourceFails, is, stopped)) =
+    let command : Words = commands.Append name date in
+    let over = over_at (t.told old.tape) _ (Some c) stopped.told told in
+    let some = plain_answers command (Some c) over.0 values refl whole in
+    let off : IsCutOff t s k command old new SourceFails some.0 = over.3 some.0 some.1 in
+    let cut = off.cut in
+    now_weaker t old.tape new.tape
+    (λ left same. subst (λ (o : Option Cartridge). IsSomeAnd o (λ e. Stands e plain)) (sym same)
+    (append_unanswered name date over.0 c plain some.0 cut.front cut.rest whole stood some.1 cut.parts (off.silent refl)))
+    (done_now t old.tape new.tape (steps_of cut.front) (Some c) laws.after cut.did told)
+
 pub is_changed : {T S K : Type 0} (t : tapes.Meaning T) (s : sources.Meaning S) (k : sinks.Meaning K) (words : List (List ℕ)) (command : Words) (old new : Outside T S K) (answer : Status) →
-    Laws t s k old new → Spells words command → HasValues command → Ends t s k command old new answer → IsChanged t words old.tape new.tape answer
+    Laws t s k old new → Spells words command → HasValues command → Ends t s k command old new answer → IsChanged t (s.left old.source) words old.tape new.tape answer
 is_changed t s k words command old new answer laws spelled values ends = record {
   renewed = λ segments held which spells told.
       let other : Words = commands.New segments in
       let same : command ≡ other = one_command words command other spelled.spelled spells.spelled in
-      let d : Did t other old.tape new.tape held status.Done =
+      let d : Did t (s.left old.source) other old.tape new.tape held status.Done =
       carried_out_did t s k other old new answer held (told_whole held (t.told old.tape) (t.size old.tape) laws.right told) refl
-      (subst HasValues same values) refl (λ input outcome plain. one_of_new segments outcome plain) told which (subst (λ (w : Words). Ends t s k w old new answer) same ends) in
+      (subst HasValues same values) refl told which (subst (λ (w : Words). Ends t s k w old new answer) same ends) in
       now_weaker t old.tape new.tape
       (λ left is. is ∙ ap (λ (o : Outcome). effects (steps_of o.acts) held) d.plain ∙ renewed_effect segments held)
       (done_now t old.tape new.tape (steps_of d.outcome.acts) held laws.after d.did told);
@@ -387,9 +455,9 @@ is_changed t s k words command old new answer laws spelled values ends = record 
       let other : Words = commands.Format label date in
       let same : command ≡ other = one_command words command other spelled.spelled spells.spelled in
       let whole : IsCartridge c = told_whole (Some c) (t.told old.tape) (t.size old.tape) laws.right told in
-      let d : Did t other old.tape new.tape (Some c) status.Done =
+      let d : Did t (s.left old.source) other old.tape new.tape (Some c) status.Done =
       carried_out_did t s k other old new answer (Some c) whole refl
-      (subst HasValues same values) refl (λ input outcome plain. one_of_format label date c outcome plain) told which (subst (λ (w : Words). Ends t s k w old new answer) same ends) in
+      (subst HasValues same values) refl told which (subst (λ (w : Words). Ends t s k w old new answer) same ends) in
       let fresh : IsSomeAnd (effects (steps_of d.outcome.acts) (Some c)) (StandsFresh c label date) =
       formatted_fresh label date c d.outcome whole d.plain d.sound in
       now_weaker t old.tape new.tape
@@ -401,20 +469,42 @@ is_changed t s k words command old new answer laws spelled values ends = record 
       let whole : IsCartridge c = told_whole (Some c) (t.told old.tape) (t.size old.tape) laws.right told in
       let finished : Finished t s k other old new answer =
       ends_finished t s k words other old new answer (subst (λ (w : Words). Ends t s k w old new answer) same ends) (ap is_fault front) in
-      let d : Did t other old.tape new.tape (Some c) (status.DefectInFront segment) = finished_did t s k other old new answer (Some c) (status.DefectInFront segment) told finished front in
+      let d : Did t (s.left old.source) other old.tape new.tape (Some c) (status.DefectInFront segment) = finished_did t s k other old new answer (Some c) (status.DefectInFront segment) told finished front in
       let none : IsSomeAnd (effects (steps_of d.outcome.acts) (Some c)) IsBare =
       cleared_is_bare label date segment c d.outcome whole d.plain d.sound in
       now_weaker t old.tape new.tape
       (λ left is. subst (λ (o : Option Cartridge). IsSomeAnd o IsBare) (sym is) none)
       (done_now t old.tape new.tape (steps_of d.outcome.acts) (Some c) laws.after d.did told);
+  appended = λ name date c plain which spells told bytes stood.
+      let other : Words = commands.Append name date in
+      let same : command ≡ other = one_command words command other spelled.spelled spells.spelled in
+      let whole : IsCartridge c = told_whole (Some c) (t.told old.tape) (t.size old.tape) laws.right told in
+      let known : HasValues other = subst HasValues same values in
+      let d : Did t (s.left old.source) other old.tape new.tape (Some c) status.Done =
+      carried_out_did t s k other old new answer (Some c) whole refl known refl told which (subst (λ (w : Words). Ends t s k w old new answer) same ends) in
+      let left : IsSomeAnd (effects (steps_of d.outcome.acts) (Some c)) (λ e. Stands e (new_plain c plain name date d.input)) =
+      append_done name date d.input c plain d.outcome known.0 known.1 (of_bytes (s.left old.source) d.input bytes d.is_told (d.bytes refl)) whole stood d.plain d.sound in
+      now_weaker t old.tape new.tape
+      (λ l is. subst (λ (o : Option Cartridge). IsSomeAnd o (StandsAppended (s.left old.source) name date c plain)) (sym is)
+      (some_weaker (effects (steps_of d.outcome.acts) (Some c)) (λ e stands. record { input = d.input; is_told = d.is_told; stands = stands }) left))
+      (done_now t old.tape new.tape (steps_of d.outcome.acts) (Some c) laws.after d.did told);
+  unchanged = λ name date c plain not spells told stood.
+      let other : Words = commands.Append name date in
+      let same : command ≡ other = one_command words command other spelled.spelled spells.spelled in
+      let whole : IsCartridge c = told_whole (Some c) (t.told old.tape) (t.size old.tape) laws.right told in
+      append_unchanged t s k name date old new answer c plain laws (subst HasValues same values) whole stood told not (subst (λ (w : Words). Ends t s k w old new answer) same ends);
 }
 
 -- words of no command change nothing, and want of memory
-pub none_changed : {T : Type 0} (t : tapes.Meaning T) (words : List (List ℕ)) (a b : T) (answer : Status) → is_fault answer ≡ false → may_change answer ≡ false → IsChanged t words a b answer
-none_changed t words a b answer no_fault none = record {
+pub none_changed : {T : Type 0} (t : tapes.Meaning T) (input : Option (List ℕ)) (words : List (List ℕ)) (a : T) (answer : Status) → tapes.IsLeftNow t a →
+    is_fault answer ≡ false → may_change answer ≡ false → IsChanged t input words a a answer
+none_changed t input words a answer now no_fault none = record {
   renewed = λ segments held which spells told. absurd (never which);
   formatted = λ label date c which spells told. absurd (never which);
   cleared = λ label date segment c front spells told. let no = ap may_change front in absurd (cc);
+  appended = λ name date c plain which spells told bytes stood. absurd (never which);
+  unchanged = λ name date c plain not spells told stood.
+      now_weaker t a a (λ left is. same_stands c plain left stood is) (done_now t a a [] (Some c) now (Done-nothing t a) told);
 } where
   never : IsCarriedOut answer → ⊥
   never (inl done) = let no = ap may_change done in cc

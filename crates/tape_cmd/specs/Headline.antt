@@ -14,7 +14,7 @@ use Rattle.tape_cmd.specs.declared.status.Status.TheVariants as status
 use Rattle.tape_cmd.specs.Outcome.{Outcome}
 use Rattle.tape_cmd.specs.Traits.{Traits, traits_of}
 use Rattle.tape_cmd.specs.Machine.{Yields, CommandPrints, HasInputFault, Spells, Step}
-use Rattle.tape_cmd.specs.Runs.{OverTold, InputLeft, IsCutOff}
+use Rattle.tape_cmd.specs.Runs.{OverTold, InputLeft, IsOfBytes, IsCutOff}
 
 -- ---- a step of the plain machine
 
@@ -73,6 +73,7 @@ pub record EachNow {T : Type 0} (t : tapes.Meaning T) (old new : T) (P : (left :
 pub record StopLeaves (told : Option (List ℕ)) (command : Words) (held left : Option Cartridge) : Type 0 where
   pub input : List ℕ
   pub is_told : IfSome told (λ bytes. input ≡ bytes)
+  pub bytes : IsOfBytes command told input
   pub outcome : Outcome
   pub plain : Yields command held input outcome
   pub torn : Torn (steps_of outcome.acts) held left

@@ -1,3 +1,4 @@
+pub mod Append
 pub mod Defect
 pub mod Format
 pub mod Headline
@@ -14,7 +15,9 @@ pub mod Place
 pub mod Promises
 pub mod Protect
 pub mod Pulses
+pub mod Restore
 pub mod Runs
+pub mod Scrub
 pub mod Traits
 pub mod Volumes
 pub mod Writing

@@ -29,6 +29,12 @@ defect_line segment sector = place_line (codes "defect") segment sector
 abbrev pub lost_line : (segment sector : ℕ) → List ℕ
 lost_line segment sector = place_line (codes "lost") segment sector
 
+-- a volume that was appended: its number, its length in bytes, and its first and its last segment
+unfoldable pub appended_line : (number bytes start end : ℕ) → List ℕ
+appended_line number bytes start end =
+    codes "appended " ++ decimal number ++ codes " " ++ decimal bytes ++ codes " " ++ decimal start ++ codes " " ++ decimal end
+    ++ codes "\n"
+
 -- how many segments were formatted, and how many sectors are bad
 abbrev pub formatted_line : (segments bad : ℕ) → List ℕ
 formatted_line segments bad = place_line (codes "formatted") segments bad

@@ -6,13 +6,15 @@ use Rattle.cartridge_spec.specs.Header.{Header}
 use Rattle.cartridge_spec.specs.Table.{Entry}
 use Rattle.format_plan.specs.Fresh.{IsLabel}
 use Rattle.acts.specs.Acts.{steps_of}
+use Rattle.scrub_plan.specs.Scrubbing.{Counts, looked_at}
+use Rattle.segment_mending.specs.Mending.{IsScrubText}
 use Rattle.tape_script.specs.declared.words.Words.{Words}
 use Rattle.tape_script.specs.declared.words.Words.TheVariants as words
 use Rattle.tape_script.specs.Input.{AtFault, IsPulses}
 use Rattle.tape_script.specs.Words.{IsCommand}
 use Rattle.tape_cmd.specs.declared.status.Status.{Status}
 use Rattle.tape_cmd.specs.declared.status.Status.TheVariants as status
-use Rattle.tape_cmd.specs.Lines.{blank_line, defect_line, lost_line, protected_line, formatted_line, list_text, info_text}
+use Rattle.tape_cmd.specs.Lines.{blank_line, defect_line, lost_line, protected_line, formatted_line, appended_line, list_text, info_text}
 use Rattle.tape_cmd.specs.Outcome.{Outcome, output_of}
 use Rattle.tape_cmd.specs.Traits.{traits_of}
 use Rattle.tape_cmd.specs.New.{NewOutcome}
@@ -22,14 +24,18 @@ use Rattle.tape_cmd.specs.Protect.{ProtectOutcome}
 use Rattle.tape_cmd.specs.Format.{FormatOutcome}
 use Rattle.tape_cmd.specs.Info.{InfoOutcome}
 use Rattle.tape_cmd.specs.List.{ListOutcome}
+use Rattle.tape_cmd.specs.Append.{AppendOutcome}
+use Rattle.tape_cmd.specs.Restore.{RestoreOutcome}
+use Rattle.tape_cmd.specs.Scrub.{ScrubOutcome}
 use Rattle.tape_cmd.specs.Pulses.{SentOutcome, AreLevels}
 
 -- ---- commands
 
--- the bounds of a command's values: a cartridge's length; a label of 44 bytes, and a date word
+-- the bounds of a command's values: a cartridge's length; a label or a name of 44 bytes, and a date word
 abbrev pub HasValues : Words → Type 0
 HasValues (words.New segments) = IsLength segments
 HasValues (words.Format label date) = IsLabel label × (date < 2 ^ 32)
+HasValues (words.Append name date) = IsLabel name × (date < 2 ^ 32)
 HasValues command = Unit {0}
 
 -- a command over what the drive holds and an input
@@ -41,6 +47,9 @@ Yields (words.Protect on) held input outcome = ProtectOutcome on held outcome
 Yields (words.Format label date) held input outcome = FormatOutcome label date held outcome
 Yields words.Info held input outcome = InfoOutcome held outcome
 Yields words.List held input outcome = ListOutcome held outcome
+Yields (words.Append name date) held input outcome = AppendOutcome name date held input outcome
+Yields (words.Restore number) held input outcome = RestoreOutcome number held outcome
+Yields words.Scrub held input outcome = ScrubOutcome held outcome
 Yields words.Pulses held input outcome = SentOutcome held input outcome
 Yields command held input outcome = ⊥
 
@@ -53,8 +62,21 @@ CommandPrints (words.Protect on) text = text ≡ protected_line on
 CommandPrints (words.Format label date) text = (segments : ℕ) × ((bad : ℕ) × (text ≡ formatted_line segments bad))
 CommandPrints words.Info text = (header : Header) × ((words : List ℕ) × ((volumes : ℕ) × (text ≡ info_text header words volumes)))
 CommandPrints words.List text = (words : List ℕ) × ((entries : List Entry) × (text ≡ list_text words entries))
+CommandPrints (words.Append name date) text =
+    (number : ℕ) × ((bytes : ℕ) × ((start : ℕ) × ((end : ℕ) × (text ≡ appended_line number bytes start end))))
+-- the bytes of a volume may be any
+CommandPrints (words.Restore number) text = Unit {0}
+CommandPrints words.Scrub text =
+    (words : List ℕ) × ((entries : List Entry) × ((counts : Counts) × IsScrubText (looked_at words entries) counts text))
 CommandPrints words.Pulses text = AreLevels text
 CommandPrints command text = ⊥
+
+-- what a command has printed that was refused: most of them nothing; the levels of the trains before a fault of the input,
+-- and the bytes of a volume before a segment that doesn't read
+abbrev pub RefusedPrints : Words → List ℕ → Type 0
+RefusedPrints (words.Restore number) text = Unit {0}
+RefusedPrints words.Pulses text = AreLevels text
+RefusedPrints command text = text ≡ []
 
 -- the fault of the input of a command: the number of the line, counted from 1, and how many bytes stand before it
 abbrev pub HasInputFault : Words → (input : List ℕ) → (line place : ℕ) → Type 0

@@ -1,5 +1,5 @@
 -- How the opening of a cartridge ends: refused, or with its table settled and what was found (this project's own).
-use Rattle.std.specs.Prelude.{◌≡◌, ◌⊎◌, ℕ, Bool, true, false, List, [], ◌++◌, Option, Some, None, IfSome, Result, Ok, Err}
+use Rattle.std.specs.Prelude.{◌≡◌, ◌⊎◌, ℕ, Bool, true, false, List, [], ◌++◌, Option, Some, None, IfSome, IsSomeAnd, Result, Ok, Err}
 use Rattle.qic_base.specs.Cartridge.{Cartridge}
 use Rattle.qic_base.specs.Step.{Step}
 use Rattle.qic_base.specs.Tape.{Meaning, Done, Broke}
@@ -15,9 +15,10 @@ use Rattle.host_driver.specs.Fits.{AgreesWithTape}
 use Rattle.host_driver.specs.Starts.{KnowsTold}
 use Rattle.volume_store.specs.declared.fault.StoreFault.{StoreFault}
 use Rattle.volume_store.specs.declared.fault.StoreFault.TheVariants as fault
-use Rattle.volume_store.specs.Mounting.{StoreView}
+use Rattle.volume_store.specs.Mounting.{StoreView, StoreFits, IsSettling}
 use Rattle.tape_cmd.specs.declared.status.Status.{Status}
 use Rattle.tape_cmd.specs.declared.status.Status.TheVariants as status
+use Rattle.acts.specs.Acts.{Act}
 use Rattle.tape_cmd.specs.Outcome.{Outcome, refused, acted, first_steps}
 
 -- ---- the plain machine
@@ -26,21 +27,47 @@ use Rattle.tape_cmd.specs.Outcome.{Outcome, refused, acted, first_steps}
 abbrev pub foreign : HeaderFault → Status
 foreign fault = status.Foreign fault.field fault.value
 
+-- what a command does on a cartridge that is mounted with this header, these words, these data of the table and these volumes
+abbrev pub Going : Type 1
+Going = Cartridge → Header → (words : List ℕ) → (table : List (List ℕ)) → List Entry → Outcome → Type 0
+
+-- what it does by what the mounting gives
+abbrev pub Opened : Going → Cartridge → Mounting → Outcome → Type 0
+Opened goes c mounting.NotFormatted outcome = outcome ≡ refused status.NotFormatted
+Opened goes c (mounting.Foreign fault) outcome = outcome ≡ refused (foreign fault)
+Opened goes c (mounting.TableLost lost) outcome = outcome ≡ refused (status.Lost 2 lost)
+Opened goes c mounting.TableMismatch outcome = outcome ≡ refused status.TableMismatch
+Opened goes c (mounting.Mounted header words table entries) outcome = goes c header words table entries outcome
+
+-- and by what the drive holds
+abbrev pub OpenOutcome : Going → Option Cartridge → Outcome → Type 0
+OpenOutcome goes None outcome = outcome ≡ refused status.NoCartridge
+OpenOutcome goes (Some c) outcome = (m : Mounting) × Mounts c m × Opened goes c m outcome
+
+-- what the mounting gives is refused so
+abbrev pub IsRefusal : Mounting → Status → Type 0
+IsRefusal mounting.NotFormatted why = why ≡ status.NotFormatted
+IsRefusal (mounting.Foreign fault) why = why ≡ foreign fault
+IsRefusal (mounting.TableLost lost) why = why ≡ status.Lost 2 lost
+IsRefusal mounting.TableMismatch why = why ≡ status.TableMismatch
+IsRefusal (mounting.Mounted header words table entries) why = ⊥
+
+-- and so is what the drive holds, whatever the command does on one that is mounted
+abbrev pub RefusesOpening : Option Cartridge → Status → Type 0
+RefusesOpening None why = why ≡ status.NoCartridge
+RefusesOpening (Some c) why = (m : Mounting) × Mounts c m × IsRefusal m why
+
+-- the act with which each begins: the table is settled
+abbrev pub settling_act : (table : List (List ℕ)) → Cartridge → Act
+settling_act table c = record { steps = settling_steps table c; text = [] }
+
 -- what is printed of a header, the words of its map and the volumes
 abbrev pub Printing : Type 0
 Printing = Header → (words : List ℕ) → List Entry → List ℕ
 
--- what a command does that prints this of a cartridge once it is open, by what the mounting gives
-abbrev pub opened : Printing → Cartridge → Mounting → Outcome
-opened prints c mounting.NotFormatted = refused status.NotFormatted
-opened prints c (mounting.Foreign fault) = refused (foreign fault)
-opened prints c (mounting.TableLost lost) = refused (status.Lost 2 lost)
-opened prints c mounting.TableMismatch = refused status.TableMismatch
-opened prints c (mounting.Mounted header words table entries) = acted (settling_steps table c) (prints header words entries)
-
-abbrev pub OpenOutcome : Printing → Option Cartridge → Outcome → Type 0
-OpenOutcome prints None outcome = outcome ≡ refused status.NoCartridge
-OpenOutcome prints (Some c) outcome = (m : Mounting) × Mounts c m × (outcome ≡ opened prints c m)
+-- a command that prints this once the cartridge is open
+abbrev pub Shows : Printing → Going
+Shows prints c header words table entries outcome = outcome ≡ acted (settling_steps table c) (prints header words entries)
 
 -- ---- how the call ended
 
@@ -87,28 +114,33 @@ abbrev pub StartEnds : {T : Type 0} (m : Meaning T) (old new : UnitView T) → R
 StartEnds m old new (Ok host) = HasStarted m old new host
 StartEnds m old new (Err why) = StartFails m old.tape new.tape why
 
+-- the cartridge is mounted as the store shows it, and these steps settle it
+pub record IsOpened (c : Cartridge) (store : StoreView) (steps : List Step) : Type 0 where
+  pub table : List (List ℕ)
+  pub mounts : Mounts c (mounting.Mounted store.header store.words table store.entries)
+  pub settles : steps ≡ settling_steps table c
+
 -- The cartridge was opened, by these steps.
-pub record HasOpened {T : Type 0} (m : Meaning T) (old new : T) (store : StoreView) : Type 0 where
+pub record HasOpened {T : Type 0} (m : Meaning T) (old : T) (new : UnitView T) (store : StoreView) : Type 0 where
   pub steps : List Step
-  pub did : Done m old new steps
-  pub told : IfSome (m.told old) (λ held. (prints : Printing) →
-      OpenOutcome prints held (acted steps (prints store.header store.words store.entries)))
+  pub did : Done m old new.tape steps
+  pub told : IfSome (m.told old) (λ held. IsSomeAnd held (λ c. IsOpened c store steps))
+  pub fits : StoreFits m store new
 
 -- It was refused, before anything was written.
 pub record OpeningRefused {T : Type 0} (m : Meaning T) (old new : T) (why : Status) : Type 0 where
   pub did : Done m old new []
   pub sound : is_opening why ≡ true
-  pub told : IfSome (m.told old) (λ held. (prints : Printing) → OpenOutcome prints held (refused why))
+  pub told : IfSome (m.told old) (λ held. RefusesOpening held why)
 
 -- A fault of the tape broke a front of its steps off.
 pub record OpeningCut {T : Type 0} (m : Meaning T) (old new : T) (why : Status) : Type 0 where
   pub answered : why ≡ status.TapeFault
   pub steps : List Step
   pub broke : Broke m old new steps
-  pub front : IfSome (m.told old) (λ held. (prints : Printing) (outcome : Outcome) → OpenOutcome prints held outcome →
-      (rest : List Step) × (steps ++ rest ≡ first_steps outcome))
+  pub front : IfSome (m.told old) (λ held. (steps ≡ []) ⊎ IsSomeAnd held (λ c. IsSettling c steps))
 
 -- how the opening of what a drive holds ended
-abbrev pub OpeningEnds : {T : Type 0} (m : Meaning T) (old new : T) → Result StoreView Status → Type 0
+abbrev pub OpeningEnds : {T : Type 0} (m : Meaning T) (old : T) (new : UnitView T) → Result StoreView Status → Type 0
 OpeningEnds m old new (Ok store) = HasOpened m old new store
-OpeningEnds m old new (Err why) = OpeningRefused m old new why ⊎ OpeningCut m old new why
+OpeningEnds m old new (Err why) = OpeningRefused m old new.tape why ⊎ OpeningCut m old new.tape why

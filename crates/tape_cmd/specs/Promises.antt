@@ -10,7 +10,7 @@ use Rattle.tape_cmd.specs.declared.status.Status.TheVariants as status
 use Rattle.tape_cmd.specs.Machine.{Spells, SpellsNone}
 use Rattle.tape_cmd.specs.Runs.{is_fault, fault_of, is_outcome, may_come_from}
 use Rattle.tape_cmd.specs.Headline.{Answers, NoneRose, IsCut, EachLeft, WordsLeave, Joins, SpellsOne, SpellsNoneThat, HasNamedFault, HasNoFault, PrintsText, PrintsFront}
-use Rattle.tape_cmd.specs.Volumes.{VolumesStay, ListStays, StopsFormat, IsChanged}
+use Rattle.tape_cmd.specs.Volumes.{VolumesStay, ListStays, StopsFormat, StopsAppend, IsChanged}
 
 -- What a run of words promises, by the objects of the outside before it and after it, and by its answer.
 pub record Promises {T S K : Type 0} (t : tapes.Meaning T) (s : sources.Meaning S) (k : sinks.Meaning K) (words : List (List ℕ)) (old new : Outside T S K) (answer : Status) : Type 0 where
@@ -25,15 +25,17 @@ pub record Promises {T S K : Type 0} (t : tapes.Meaning T) (s : sources.Meaning 
   pub asked : answer ≡ status.SourceFault → SpellsOne words (λ traits. traits.reads)
   -- Where the tape tells, the run, a stop at any moment since it began, and one now leave what the command may leave.
   pub stops : EachLeft t old.tape new.tape (WordsLeave (s.left old.source) words)
-  -- The volumes: each cartridge so left stands for what the old one stood for, but for `new`, `format` of a cartridge that
-  -- is not protected, and a `lose` that doesn't spare header and table; and likewise it has the old one's list. Formatting
-  -- a cartridge with clean header copies leaves that, or an unformatted one, or the empty one.
+  -- The volumes: each cartridge so left stands for what the old one stood for, but for `new`, `format` and `append` of a
+  -- cartridge that is not protected, and a `lose` that doesn't spare header and table; and likewise it has the old one's
+  -- list. Formatting a cartridge with clean header copies leaves that, or an unformatted one, or the empty one; appending
+  -- leaves what stood, or that with the volume of the input.
   pub volumes : VolumesStay t words old.tape new.tape
   pub lists : ListStays t words old.tape new.tape
   pub formats : StopsFormat t words old.tape new.tape
-  -- After Done or a fault of the sink the cartridge of `new`, or the empty one of `format`, stands; after a defect in front
-  -- a bare one.
-  pub changed : IsChanged t words old.tape new.tape answer
+  pub appends : StopsAppend t (s.left old.source) words old.tape new.tape
+  -- After Done or a fault of the sink the cartridge of `new`, the empty one of `format`, or the one with the volume of
+  -- `append` stands; after a defect in front a bare one; after a refused append, or a fault of its input, what stood.
+  pub changed : IsChanged t (s.left old.source) words old.tape new.tape answer
   -- Two runs can be joined.
   pub joins : Joins t s k old new
   -- The other answers come only from a command that may give them, over any tape and source.

@@ -1,17 +1,18 @@
 -- How a command ended: all acts of its outcome went, or a fault of the outside cut them off (this project's own).
-use Rattle.std.specs.Prelude.{◌≡◌, ◌≢◌, ◌⊎◌, ℕ, ◌+◌, Bool, true, false, List, [], ◌++◌, drop, Option, None, IfSome, is_some}
+use Rattle.std.specs.Prelude.{◌≡◌, ◌≢◌, ◌⊎◌, ℕ, ◌+◌, ◌<◌, Bool, true, false, List, [], ◌++◌, drop, All, Option, None, IfSome, IfNone, is_some}
 use Rattle.std.specs.Option.{option_map}
 use Rattle.qic_base.specs.Cartridge.{Cartridge}
 use Rattle.qic_base.specs.Sink as sinks
 use Rattle.qic_base.specs.Source as sources
 use Rattle.qic_base.specs.Tape as tapes
-use Rattle.acts.specs.Acts.{Act, text_of, Outside, Failing, TapeFails, SourceFails, SinkFails, Went, Cut}
+use Rattle.acts.specs.Acts.{Act, steps_of, text_of, Outside, Failing, TapeFails, SourceFails, SinkFails, Went, Cut}
+use Rattle.acts.specs.Around.{no_source, around}
 use Rattle.tape_script.specs.declared.words.Words.{Words}
 use Rattle.tape_cmd.specs.declared.status.Status.{Status}
 use Rattle.tape_cmd.specs.declared.status.Status.TheVariants as status
 use Rattle.tape_cmd.specs.Outcome.{Outcome, output_of}
 use Rattle.tape_cmd.specs.Traits.{traits_of}
-use Rattle.tape_cmd.specs.Machine.{Yields, CommandPrints, HasInputFault}
+use Rattle.tape_cmd.specs.Machine.{Yields, CommandPrints, RefusedPrints, HasInputFault}
 
 -- where the tape tells, a fact of what it told and of the input: that which the source told, or some input where it
 -- tells none
@@ -62,15 +63,21 @@ may_come_from (status.Foreign field value) command = (traits_of command).mounts
 may_come_from (status.Lost segment lost) command = (traits_of command).mounts
 may_come_from (status.DefectInFront segment) command = (traits_of command).formats
 may_come_from status.TableMismatch command = (traits_of command).mounts
+may_come_from (status.Full need have) command = (traits_of command).appends
+may_come_from (status.NoVolume number count) command = (traits_of command).restores
+may_come_from (status.Mismatch segment) command = (traits_of command).restores
 may_come_from answer command = false
+
+-- where the source tells nothing, the input of an append is one of bytes
+abbrev pub IsOfBytes : Words → (told : Option (List ℕ)) → (input : List ℕ) → Type 0
+IsOfBytes command told input = (traits_of command).appends ≡ true → IfNone told (All (λ b. b < 256) input)
 
 -- ---- how a command ended
 
--- the texts behind an answer: those of a command that was carried out; or none, but that a command may print as it goes
+-- the texts behind an answer: those of a command that was carried out, or that was refused
 abbrev pub Prints : Words → Status → List ℕ → Type 0
 Prints command answer text =
-    ((answer ≡ status.Done) ⊎ ((traits_of command).goes ≡ true) → CommandPrints command text)
-    × ((traits_of command).goes ≡ false → answer ≢ status.Done → text ≡ [])
+    (answer ≡ status.Done → CommandPrints command text) × (answer ≢ status.Done → RefusedPrints command text)
 
 -- the input's fault is named, where one is answered, and Done comes only over an input without one
 pub record NamesFault (command : Words) (input : List ℕ) (answer : Status) : Type 0 where
@@ -82,7 +89,7 @@ pub record Finished {T S K : Type 0} (t : tapes.Meaning T) (s : sources.Meaning 
   pub outcome : Outcome
   pub answered : answer ≡ outcome.status
   -- over what is told the plain machine's
-  pub told : OverTold t s old (λ held input. Yields command held input outcome)
+  pub told : OverTold t s old (λ held input. IsOfBytes command (s.left old.source) input × Yields command held input outcome)
   pub went : Went t s k old new outcome.acts
   pub left : InputLeft answer outcome.taken (s.left old.source) (s.left new.source)
   -- and over any tape and source one that the command may have
@@ -93,16 +100,25 @@ pub record Finished {T S K : Type 0} (t : tapes.Meaning T) (s : sources.Meaning 
   -- where the source tells its bytes their fault is named, if one is
   pub fault : IfSome (s.left old.source) (λ input. NamesFault command input answer)
 
--- A fault of an object cut the acts of an outcome off. Where it is the sink's, a command that prints once all is done was
--- carried out.
+-- the acts that were done and written before the fault
+abbrev pub acts_before : {T S K : Type 0} (t : tapes.Meaning T) (s : sources.Meaning S) (k : sinks.Meaning K) (old new : Outside T S K) (acts : List Act) (failing : Failing) → Cut t s k old new acts failing → List Act
+acts_before t s k old new acts TapeFails cut = cut.front
+acts_before t s k old new acts SourceFails cut = cut.front
+acts_before t s k old new acts SinkFails cut = cut.at.front
+
+-- A fault of an object cut the acts of an outcome off. A command that prints once all is done had printed nothing before;
+-- where it is the sink's, it was carried out, and all steps were done.
 pub record IsCutOff {T S K : Type 0} (t : tapes.Meaning T) (s : sources.Meaning S) (k : sinks.Meaning K) (command : Words) (old new : Outside T S K) (failing : Failing) (outcome : Outcome) : Type 0 where
   pub cut : Cut t s k old new outcome.acts failing
-  pub done : failing ≡ SinkFails → (traits_of command).goes ≡ false → outcome.status ≡ status.Done
+  pub done : failing ≡ SinkFails → (traits_of command).goes ≡ false →
+      (outcome.status ≡ status.Done) × tapes.Done t old.tape new.tape (steps_of outcome.acts)
+  pub silent : (traits_of command).goes ≡ false → text_of (acts_before t s k old new outcome.acts failing cut) ≡ []
 
 -- A fault of an object of the outside cut it off, or came behind its last act.
 pub record Stopped {T S K : Type 0} (t : tapes.Meaning T) (s : sources.Meaning S) (k : sinks.Meaning K) (command : Words) (old new : Outside T S K) (failing : Failing) : Type 0 where
   -- over what is told in the acts of the plain machine's outcome
-  pub told : OverTold t s old (λ held input. (outcome : Outcome) → Yields command held input outcome → IsCutOff t s k command old new failing outcome)
+  pub told : OverTold t s old (λ held input. IsOfBytes command (s.left old.source) input
+      × ((outcome : Outcome) → Yields command held input outcome → IsCutOff t s k command old new failing outcome))
   -- and over any tape and source in some that print a front of the command's text
   pub acts : List Act
   pub cut : Cut t s k old new acts failing
@@ -119,13 +135,6 @@ Ends t s k command old new answer =
     ⊎ ((failing : Failing) × (answer ≡ fault_of failing) × Stopped t s k command old new failing)
 
 -- ---- a command that reads no input
-
--- a source that is never asked
-abbrev pub no_source : sources.Meaning (Unit {0})
-no_source = record { left = λ asked. None; keeps = λ old new. Unit {0}; faults = λ asked. 0 }
-
-abbrev pub around : {T K : Type 0} → T → K → Outside T (Unit {0}) K
-around tape sink = record { tape = tape; source = tt; sink = sink }
 
 -- how it ended, whatever the source is
 abbrev pub EndsBlind : {T K : Type 0} (t : tapes.Meaning T) (k : sinks.Meaning K) (command : Words) (old new : T) (sink printed : K) → Status → Type 0

@@ -24,6 +24,10 @@ pub record Traits : Type 0 where
   pub formats : Bool
   -- it mounts the cartridge
   pub mounts : Bool
+  -- it adds a volume, for which there has to be room
+  pub appends : Bool
+  -- it names a volume, and reads its segments
+  pub restores : Bool
 
 -- one that is not built
 abbrev pub unbuilt : Traits
@@ -38,6 +42,8 @@ unbuilt = record {
   blank = false;
   formats = false;
   mounts = false;
+  appends = false;
+  restores = false;
 }
 
 -- A new cartridge needs none before it, and the drive shows its levels without one.
@@ -48,10 +54,18 @@ traits_of (words.Lose segment sector) = record unbuilt { built = true; cartridge
 traits_of (words.Protect on) = record unbuilt { built = true; cartridge = true }
 traits_of (words.Format label date) = record unbuilt { built = true; memory = true; cartridge = true; writable = true; formats = true }
 traits_of words.Info = record unbuilt { built = true; memory = true; cartridge = true; mounts = true }
-traits_of (words.Append name date) = unbuilt
+traits_of (words.Append name date) = record unbuilt {
+  built = true;
+  reads = true;
+  memory = true;
+  cartridge = true;
+  writable = true;
+  mounts = true;
+  appends = true;
+}
 traits_of words.List = record unbuilt { built = true; memory = true; cartridge = true; mounts = true }
-traits_of (words.Restore number) = unbuilt
-traits_of words.Scrub = unbuilt
+traits_of (words.Restore number) = record unbuilt { built = true; goes = true; memory = true; cartridge = true; mounts = true; restores = true }
+traits_of words.Scrub = record unbuilt { built = true; goes = true; memory = true; cartridge = true; writable = true; mounts = true }
 traits_of words.Pulses = record unbuilt { built = true; reads = true; goes = true }
 traits_of words.Script = unbuilt
 traits_of (words.Make seed count) = unbuilt

@@ -1,6 +1,6 @@
 -- What a run leaves of the plain cartridge that a cartridge stands for, with its header and its volumes, and of the list
 -- that it is mounted with (this project's own).
-use Rattle.std.specs.Prelude.{◌≡◌, ◌⊎◌, ℕ, ◌≤◌, List, Option, Some, IsSomeAnd, true}
+use Rattle.std.specs.Prelude.{◌≡◌, ◌≢◌, ◌⊎◌, ℕ, ◌<◌, ◌≤◌, List, All, Option, Some, IfSome, IsSomeAnd, true}
 use Rattle.qic_base.specs.Cartridge.{Cartridge, new_cartridge}
 use Rattle.qic_base.specs.Tape as tapes
 use Rattle.cartridge_spec.specs.Header.{Header}
@@ -10,7 +10,9 @@ use Rattle.cartridge_spec.specs.Mounting.{Mounted, Mounts}
 use Rattle.cartridge_spec.specs.HeaderAndTable.{IsUnformatted}
 use Rattle.format_plan.specs.Clean.{StandsCleanly, HasNoHeader}
 use Rattle.format_plan.specs.Fresh.{IsFreshFor, fresh_plain}
+use Rattle.append_plan.specs.Laws.{new_plain}
 use Rattle.change_laws.specs.Wear.{WearSpares}
+use Rattle.mount_laws.specs.Laws.{IsTableLive}
 use Rattle.tape_script.specs.declared.words.Words.{Words}
 use Rattle.tape_script.specs.declared.words.Words.TheVariants as commands
 use Rattle.tape_cmd.specs.declared.status.Status.{Status}
@@ -21,10 +23,11 @@ use Rattle.tape_cmd.specs.Headline.{EachLeft, EachNow}
 
 -- ---- commands that keep the volumes
 
--- The command keeps what a cartridge stands for. A new cartridge takes its place, and formatting empties it, but for a
--- protected one; a sector that is worn has to spare the header and the table.
+-- The command keeps what a cartridge stands for. A new cartridge takes its place, formatting empties it, and an append adds a
+-- volume, but for a protected one; a sector that is worn has to spare the header and the table.
 abbrev pub KeepsVolumes : Words → Cartridge → Plain → Type 0
 KeepsVolumes (commands.New segments) c plain = ⊥
+KeepsVolumes (commands.Append name date) c plain = c.info.protected ≡ true
 KeepsVolumes (commands.Format label date) c plain = c.info.protected ≡ true
 KeepsVolumes (commands.Lose segment sector) c plain = HasPlace c segment sector → WearSpares c plain segment sector
 KeepsVolumes command c plain = Unit {0}
@@ -47,6 +50,7 @@ VolumesStay t words old new = EachLeft t old new (StillStands words)
 -- The command keeps what a cartridge is mounted as, whether it stands for a plain one or not.
 abbrev pub KeepsList : Words → Cartridge → Type 0
 KeepsList (commands.New segments) c = ⊥
+KeepsList (commands.Append name date) c = c.info.protected ≡ true
 KeepsList (commands.Format label date) c = c.info.protected ≡ true
 KeepsList (commands.Lose segment sector) c = HasPlace c segment sector → 3 ≤ segment
 KeepsList command c = Unit {0}
@@ -90,6 +94,33 @@ pub record FormatsOrNot (words : List (List ℕ)) (held left : Option Cartridge)
 abbrev pub StopsFormat : {T : Type 0} (t : tapes.Meaning T) (words : List (List ℕ)) (old new : T) → Type 0
 StopsFormat t words old new = EachLeft t old new (FormatsOrNot words)
 
+-- ---- appending
+
+-- the input, where it is told
+abbrev pub IsInput : (told : Option (List ℕ)) → (input : List ℕ) → Type 0
+IsInput told input = IfSome told (λ bytes. input ≡ bytes)
+
+-- the volumes of a plain cartridge, and one of the input behind them
+pub record StandsAppended (told : Option (List ℕ)) (name : List ℕ) (date : ℕ) (c : Cartridge) (plain : Plain) (d : Cartridge) : Type 0 where
+  pub input : List ℕ
+  pub is_told : IsInput told input
+  pub stands : Stands d (new_plain c plain name date input)
+
+-- an input that is told is one of bytes
+abbrev pub AreBytes : (told : Option (List ℕ)) → Type 0
+AreBytes told = IfSome told (λ bytes. All (λ b. b < 256) bytes)
+
+-- What words of appending leave of a cartridge that stood for a plain one, each sector of whose table's segment takes a
+-- write: it stands for that, or for that with the volume of the input.
+abbrev pub AppendedOrNot : (told : Option (List ℕ)) → (words : List (List ℕ)) → (held left : Option Cartridge) → Type 0
+AppendedOrNot told words held left =
+    (name : List ℕ) (date : ℕ) (c : Cartridge) (plain : Plain) → Spells words (commands.Append name date) → held ≡ Some c →
+    AreBytes told → Stands c plain → IsTableLive c → IsSomeAnd left (λ d. Stands d plain ⊎ StandsAppended told name date c plain d)
+
+-- An append may be stopped: each cartridge that a run leaves is so.
+abbrev pub StopsAppend : {T : Type 0} (t : tapes.Meaning T) (told : Option (List ℕ)) (words : List (List ℕ)) (old new : T) → Type 0
+StopsAppend t told words old new = EachLeft t old new (AppendedOrNot told words)
+
 -- ---- when a run is over
 
 -- the cartridge stands for that empty one with clean header copies, so that a next formatting may be stopped, too
@@ -107,9 +138,14 @@ IsCarriedOut answer = (answer ≡ status.Done) ⊎ (answer ≡ status.SinkFault)
 abbrev pub IsBare : Cartridge → Type 0
 IsBare c = HasNoHeader c × IsUnformatted c
 
+-- the command was refused, or its input failed
+abbrev pub WasNotDone : Status → Type 0
+WasNotDone answer = (answer ≢ status.Done) × (answer ≢ status.SinkFault) × (answer ≢ status.TapeFault)
+
 -- What stands when a run is over: behind `new` the new cartridge, behind `format` the empty one; where a defect in front
--- was answered, a bare one.
-pub record IsChanged {T : Type 0} (t : tapes.Meaning T) (words : List (List ℕ)) (old new : T) (answer : Status) : Type 0 where
+-- was answered, a bare one. Behind `append` of a cartridge that stands for a plain one that with the volume of the input, and
+-- where it was refused, or the input failed, what stood.
+pub record IsChanged {T : Type 0} (t : tapes.Meaning T) (told : Option (List ℕ)) (words : List (List ℕ)) (old new : T) (answer : Status) : Type 0 where
   pub renewed : (segments : ℕ) (held : Option Cartridge) → IsCarriedOut answer → Spells words (commands.New segments) →
       t.told old ≡ Some held → EachNow t old new (λ left. left ≡ Some (new_cartridge segments))
   pub formatted : (label : List ℕ) (date : ℕ) (c : Cartridge) → IsCarriedOut answer → Spells words (commands.Format label date) →
@@ -117,3 +153,7 @@ pub record IsChanged {T : Type 0} (t : tapes.Meaning T) (words : List (List ℕ)
   pub cleared : (label : List ℕ) (date segment : ℕ) (c : Cartridge) → answer ≡ status.DefectInFront segment →
       Spells words (commands.Format label date) → t.told old ≡ Some (Some c) →
       EachNow t old new (λ left. IsSomeAnd left IsBare)
+  pub appended : (name : List ℕ) (date : ℕ) (c : Cartridge) (plain : Plain) → IsCarriedOut answer → Spells words (commands.Append name date) →
+      t.told old ≡ Some (Some c) → AreBytes told → Stands c plain → EachNow t old new (λ left. IsSomeAnd left (StandsAppended told name date c plain))
+  pub unchanged : (name : List ℕ) (date : ℕ) (c : Cartridge) (plain : Plain) → WasNotDone answer → Spells words (commands.Append name date) →
+      t.told old ≡ Some (Some c) → Stands c plain → EachNow t old new (λ left. IsSomeAnd left (λ d. Stands d plain))

@@ -1,10 +1,11 @@
 ghost use Rattle.std.specs.Prelude.{◌≡◌, ◌≢◌, ◌⊎◌, ℕ, List, true, false, map, string_bytes};
 ghost use Rattle.tape_cmd.specs.Machine.{HasValues, Spells, ReadsCommand};
 ghost use Rattle.tape_cmd.specs.Promises.{Promises};
-ghost use Rattle.tape_cmd.specs.Runs.{Ends, EndsBlind};
+ghost use Rattle.tape_cmd.specs.Runs.{Ends};
 ghost use Rattle.tape_cmd.specs.Traits.{traits_of};
 
 use crate::Status;
+use crate::append::append;
 use crate::defect::spoil;
 use crate::format::format_cartridge;
 use crate::info::info;
@@ -13,7 +14,9 @@ use crate::lose::lose;
 use crate::new::put_in_new;
 use crate::protect::protect;
 use crate::pulses::pulses;
+use crate::restore::restore;
 use crate::room::Room;
+use crate::scrub::scrub;
 use bad_sector_map::BadMap;
 use drive_states::Unit;
 use qic_base::{NoMemory, Sink, Source, Tape};
@@ -25,38 +28,47 @@ use volume_table::Table;
 fn is_built(command: &Words) -> bool
     ensures { result ≡ (traits_of command.now).built }
 {
-    !matches!(
-        command,
-        Words::Append { .. }
-            | Words::Restore { .. }
-            | Words::Scrub
-            | Words::Script
-            | Words::Make { .. }
-    )
+    !matches!(command, Words::Script | Words::Make { .. })
 }
 
 fn takes_memory(command: &Words) -> bool
     ensures { result ≡ (traits_of command.now).memory }
 {
-    matches!(command, Words::Format { .. } | Words::Info | Words::List)
+    matches!(
+        command,
+        Words::Format { .. }
+            | Words::Info
+            | Words::Append { .. }
+            | Words::List
+            | Words::Restore { .. }
+            | Words::Scrub
+    )
 }
 
 /// Carries out a command that takes memory, in what it has taken.
-fn carry_out_in<T: Tape, K: Sink>(
+fn carry_out_in<T: Tape, S: Source, K: Sink>(
     mut room: Room,
     command: &Words,
     unit: &mut Unit<T>,
+    source: &mut S,
     sink: &mut K,
 ) -> Status
+    requires values { HasValues command.now }
     requires built { (traits_of command.now).built ≡ true }
     requires memory { (traits_of command.now).memory ≡ true }
-    ensures { EndsBlind T.means K.means command.now
-        unit.old.tape unit.new.tape sink.old sink.new result }
+    ensures ends { Ends T.means S.means K.means command.now
+        record { tape = unit.old.tape; source = source.old; sink = sink.old }
+        record { tape = unit.new.tape; source = source.new; sink = sink.new } result }
+    ensures source { (traits_of command.now).reads ≡ false → source.new ≡ source.old }
+    ensures kept { S.means.keeps source.old source.new }
 {
     match *command {
         Words::Format { ref label, date } => format_cartridge(unit, &mut room, label, date, sink),
         Words::Info => info(unit, room, sink),
+        Words::Append { ref name, date } => append(unit, room, name, date, source, sink),
         Words::List => list(unit, room, sink),
+        Words::Restore { number } => restore(unit, room, number, sink),
+        Words::Scrub => scrub(unit, room, sink),
         _ => unreachable!("no other command takes memory"),
     }
 }
@@ -127,7 +139,7 @@ pub fn run_ready<T: Tape, S: Source, K: Sink>(
     ensures memory { result ≢ Status.NoMemory }
 {
     if takes_memory(words) {
-        carry_out_in(Room { work, map, table }, words, unit, sink)
+        carry_out_in(Room { work, map, table }, words, unit, source, sink)
     } else {
         carry_out(words, unit, source, sink)
     }

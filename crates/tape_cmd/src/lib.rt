@@ -2,6 +2,7 @@
 //! of `run` is the headline, over the plain machine of specs/Machine.
 #![tactic(auto)]
 
+mod append;
 mod command;
 mod defect;
 mod format;
@@ -14,7 +15,9 @@ mod new;
 mod opening;
 mod protect;
 mod pulses;
+mod restore;
 mod room;
+mod scrub;
 mod status;
 
 pub use command::{run, run_ready};

@@ -25,7 +25,7 @@ pub fn start<T: Tape>(unit: &mut Unit<T>) -> Result<Host, Status>
 
 /// Puts the cartridge in and mounts it.
 pub fn open<T: Tape>(unit: &mut Unit<T>, room: Room) -> Result<Store, Status>
-    ensures { OpeningEnds T.means unit.old.tape unit.new.tape result }
+    ensures { OpeningEnds T.means unit.old.tape unit.new result }
 {
     let host = match start(unit) {
         Ok(host) => host,
@@ -38,7 +38,7 @@ pub fn open<T: Tape>(unit: &mut Unit<T>, room: Room) -> Result<Store, Status>
 }
 
 /// The answer that a refusal of a store makes, or its fault.
-fn store_status(fault: StoreFault) -> Status
+pub fn store_status(fault: StoreFault) -> Status
     requires { (promised read : ℕ) → fault ≢ Short promised read }
     ensures { result ≡ status_of fault }
 {

@@ -2,6 +2,7 @@
 //! host; and its volume table settled (the volume table and its settling are this project's profile).
 #![tactic(auto)]
 
+mod appended;
 mod fault;
 mod header_reader;
 mod learning;
@@ -12,6 +13,7 @@ mod table_reader;
 mod table_writer;
 mod volume_reader;
 
+pub use appended::Appended;
 pub use fault::StoreFault;
 pub use segment_mending::ScrubReport;
 pub use store::Store;

@@ -1,0 +1,652 @@
+-- How an append ends.
+use Rattle.std.proofs.Common.{◌≡◌, ◌≢◌, ◌⊎◌, ℕ, ◌+◌, ◌-◌, ◌<◌, ◌++◌, ◌&&◌, nat_le, cond, min, Bool, true, false, List, [], ◌∷◌, All, length, drop, Option, Some, None, IfSome, Result, Ok, Err, refl, sym, ap, ◌∙◌, subst, inl, inr, arith, append-nil, append_assoc}
+use Rattle.std.specs.Prelude.{◌↔◌, IfNone, is_some, if◌then◌else◌}
+use Rattle.std.specs.Option.{option_map}
+use Rattle.qic_base.specs.Cartridge.{Cartridge}
+use Rattle.qic_base.specs.declared.sink.SinkFailed.{SinkFailed}
+use Rattle.qic_base.specs.Sink as sinks
+use Rattle.qic_base.specs.Source as sources
+use Rattle.qic_base.specs.Step.{Step as TapeStep, effects}
+use Rattle.qic_base.specs.Tape as tapes
+use Rattle.qic_base.proofs.Steps.{Broke-front, Done-nothing, Done-Done, Done-Broke, effects-append}
+use Rattle.qic_base.specs.Stop.{Torn}
+use Rattle.qic_base.proofs.Writing.{TakesBoth}
+use Rattle.acts.specs.Acts.{Act, steps_of, text_of, next_steps, Outside, Failing, TapeFails, SourceFails, SinkFails, Went, Cut, TapeCut, SourceCut, SinkCut}
+use Rattle.acts.specs.Around.{no_sink, reading}
+use Rattle.acts.proofs.Joins.{steps_of-append, text_of-append}
+use Rattle.cartridge_spec.specs.HeaderAndTable.{TableIs, table_cells, last_segment}
+use Rattle.cartridge_spec.specs.Says.{Data, LostSectors, AsRead, ByCode, TableSays}
+use Rattle.cartridge_spec.proofs.TableSayings.{table_says_is_function}
+use Rattle.cartridge_spec.specs.Mounting as mounting
+use Rattle.cartridge_spec.specs.Mounting.{Mounting, settled}
+use Rattle.cartridge_spec.specs.Table.{Entry}
+use Rattle.drive_states.specs.Deck.{is_protected}
+use Rattle.drive_states.specs.Unit.{UnitView}
+use Rattle.mount_laws.specs.Settling.{settling_steps}
+use Rattle.mount_laws.proofs.Mounting.{mounts_is_function, one_table}
+use Rattle.mount_laws.proofs.Settled.{settled_keeps_table}
+use Rattle.tape_script.specs.declared.words.Words.TheVariants as words
+use Rattle.volume_input.specs.Input.{input_acts}
+use Rattle.volume_input.proofs.ActLaws.{input_prints_nothing}
+use Rattle.volume_store.proofs.Copies.{tells_two}
+use Rattle.volume_store.specs.declared.appended.Appended.{Appended}
+use Rattle.volume_store.specs.Mounting.{StoreView}
+use Rattle.volume_store.specs.Appending.{Taking, Fits, TooLong, TooShort, taking, bytes_taken, Kept, room_in, free_in, has_promised_room, most_written, input_writes, entry_for, entry_acts, append_acts, table_with, silently, kept_by, AppendRan, HasAppended, TableRefused, AppendCut, AppendEnds}
+use Rattle.volume_store.specs.declared.fault.StoreFault.{StoreFault}
+use Rattle.volume_store.specs.declared.fault.StoreFault.TheVariants as fault
+use Rattle.tape_cmd.specs.declared.status.Status.{Status}
+use Rattle.tape_cmd.specs.declared.status.Status.TheVariants as status
+use Rattle.tape_cmd.specs.Append.{Appends, AppendOutcome, append_status, appended, kept_on, reply_behind}
+use Rattle.tape_cmd.specs.Lines.{appended_line}
+use Rattle.tape_cmd.specs.Opening.{Opened, OpenOutcome, IsOpened, HasOpened, OpeningEnds, OpeningRefused, OpeningCut, is_opening, settling_act, store_status}
+use Rattle.tape_cmd.specs.Outcome.{Outcome, refused, refused_behind, first_steps, output_of}
+use Rattle.tape_cmd.specs.Runs.{Ends, Finished, InputLeft, IsOfBytes, IsCutOff, NamesFault, Prints, fault_of, may_come_from}
+use Rattle.tape_cmd.specs.Machine.{CommandPrints}
+use Rattle.append_plan.specs.Between.{table_writes}
+use Rattle.cartridge_spec.specs.Slots.{slot_sector}
+use Rattle.tape_cmd.specs.Writing.{printed_status}
+use Rattle.tape_cmd.proofs.PlainLaws.{plain_is_function}
+use Rattle.tape_cmd.proofs.Endings.{told_map, some_text}
+use Rattle.tape_cmd.proofs.Ends.{is_some-map}
+use Rattle.tape_cmd.proofs.Mounted.{Settles, opened_is, refused_is, begins_is}
+use Rattle.tape_cmd.proofs.Opened.{IsKnown, quiet, outside, went_behind, cut_behind, settled_told, opened_known, known_before, unlocked}
+
+-- ---- the input
+
+-- an input that is told, or none
+abbrev input_of : Option (List ℕ) → List ℕ
+input_of None = []
+input_of (Some bytes) = bytes
+
+input_told : (told : Option (List ℕ)) → IfSome told (λ bytes. input_of told ≡ bytes)
+input_told None = tt
+input_told (Some bytes) = refl
+
+input_bytes : (told : Option (List ℕ)) → IfNone told (All (λ b. b < 256) (input_of told))
+input_bytes None = λ k d within. absurd (cc)
+input_bytes (Some bytes) = tt
+
+none_taken : (told : Option (List ℕ)) → told ≡ option_map (drop 0) told
+none_taken None = refl
+none_taken (Some bytes) = refl
+
+-- an answer that names no fault of the input
+names_none : (name : List ℕ) (date : ℕ) (answer : Status) (told : Option (List ℕ)) → may_come_from answer (words.Append name date) ≡ true → ((line place : ℕ) → answer ≢ status.ScriptFault line place) →
+    IfSome told (λ input. NamesFault (words.Append name date) input answer)
+names_none name date answer None sound none = tt
+names_none name date answer (Some input) sound none = record { named = λ line place is. none line place is; none = λ done line place fault. fault }
+
+-- ---- what an append goes by
+
+abbrev goes_by : StoreView → (last : ℕ) (table : List (List ℕ)) (settling : List TapeStep) → Kept
+goes_by store last table settling = record { words = store.words; entries = store.entries; last = last; table = table; settling = settling }
+
+same_kept : (c : Cartridge) (store : StoreView) (steps : List TapeStep) (is : IsOpened c store steps) (table : List (List ℕ)) (settling : List TapeStep) → length store.words - 1 ≡ last_segment c →
+    TableIs (settled is.table c) table → settling ≡ settling_steps table (settled is.table c) → kept_by store table settling ≡ kept_on c store.words is.table store.entries
+same_kept c store steps is table settling last reads settles =
+    let one : table ≡ is.table = one_table (settled is.table c) table is.table reads (settled_keeps_table c is.table is.mounts.reads).table in
+    ap (λ (n : ℕ). goes_by store n table settling) last
+    ∙ ap (λ (ss : List TapeStep). goes_by store (last_segment c) table ss) (settles ∙ ap (λ (area : List (List ℕ)). settling_steps area (settled is.table c)) one)
+    ∙ ap (λ (area : List (List ℕ)). goes_by store (last_segment c) area (settling_steps is.table (settled is.table c))) one
+
+-- ---- the acts
+
+input_texts : (kept : Kept) (promised : Option ℕ) (input : List ℕ) → text_of (input_writes kept promised input) ≡ []
+input_texts kept promised input = by_room (has_promised_room (room_in kept) promised)
+  where
+    by_room : (b : Bool) → text_of (if b then input_acts kept.words (free_in kept) (most_written (room_in kept) promised) (is_some promised) input else []) ≡ []
+    by_room true = input_prints_nothing kept.words (free_in kept) (most_written (room_in kept) promised) (is_some promised) input
+    by_room false = refl
+
+entry_steps : (kept : Kept) (name : List ℕ) (date : ℕ) (reply : Entry → List ℕ) (became : Taking) → steps_of (entry_acts kept name date silently became) ≡ steps_of (entry_acts kept name date reply became)
+entry_steps kept name date reply (Fits bytes) = refl
+entry_steps kept name date reply (TooLong need have) = refl
+entry_steps kept name date reply (TooShort promised read) = refl
+
+-- the reply changes no step
+replied_steps : (kept : Kept) (name : List ℕ) (date : ℕ) (reply : Entry → List ℕ) (input : List ℕ) →
+    steps_of (append_acts kept name date None silently input) ≡ steps_of (append_acts kept name date None reply input)
+replied_steps kept name date reply input =
+    let became : Taking = taking (room_in kept) None input in
+    let ws : List Act = input_writes kept None input in
+    ap (λ (ss : List TapeStep). kept.settling ++ ss)
+    (steps_of-append ws (entry_acts kept name date silently became)
+    ∙ ap (λ (ss : List TapeStep). steps_of ws ++ ss) (entry_steps kept name date reply became)
+    ∙ sym (steps_of-append ws (entry_acts kept name date reply became)))
+
+-- and is the whole text
+replied_text : (kept : Kept) (name : List ℕ) (date : ℕ) (reply : Entry → List ℕ) (input bytes : List ℕ) → taking (room_in kept) None input ≡ Fits bytes →
+    text_of (append_acts kept name date None reply input) ≡ reply (entry_for kept name date bytes)
+replied_text kept name date reply input bytes took =
+    let ws : List Act = input_writes kept None input in
+    text_of-append ws (entry_acts kept name date reply (taking (room_in kept) None input))
+    ∙ ap (λ (text : List ℕ). text ++ text_of (entry_acts kept name date reply (taking (room_in kept) None input))) (input_texts kept None input)
+    ∙ ap (λ (became : Taking). text_of (entry_acts kept name date reply became)) took
+    ∙ append-nil (reply (entry_for kept name date bytes))
+
+-- without one there is none
+silent_text : (kept : Kept) (name : List ℕ) (date : ℕ) (reply : Entry → List ℕ) (input : List ℕ) (need have : ℕ) → taking (room_in kept) None input ≡ TooLong need have →
+    append_acts kept name date None reply input ≡ quiet kept.settling ∷ input_writes kept None input
+silent_text kept name date reply input need have took =
+    ap (λ (acts : List Act). quiet kept.settling ∷ (input_writes kept None input ++ acts)) (ap (λ (became : Taking). entry_acts kept name date reply became) took)
+    ∙ ap (λ (acts : List Act). quiet kept.settling ∷ acts) (append-nil (input_writes kept None input))
+
+-- ---- the answer
+
+status_by : (flag : Bool) (have : ℕ) (input : List ℕ) (became : Taking) → (if flag then Fits input else TooLong (min (length input) (have + 1)) have) ≡ became →
+    ((bytes : List ℕ) → became ≡ Fits bytes → (if flag then status.Done else status.Full (min (length input) (have + 1)) have) ≡ status.Done)
+    × ((need most : ℕ) → became ≡ TooLong need most → (if flag then status.Done else status.Full (min (length input) (have + 1)) have) ≡ status.Full need most)
+status_by true have input became is = ((λ bytes fits. refl), (λ need most long. cc))
+status_by false have input became is = ((λ bytes fits. cc), (λ need most long. cc))
+
+status_fits : (have : ℕ) (input bytes : List ℕ) → taking have None input ≡ Fits bytes → append_status have input ≡ status.Done
+status_fits have input bytes took = (status_by (nat_le 1 have && nat_le (length input) have) have input (taking have None input) refl).0 bytes took
+
+status_full : (have : ℕ) (input : List ℕ) (need most : ℕ) → taking have None input ≡ TooLong need most → append_status have input ≡ status.Full need most
+status_full have input need most took = (status_by (nat_le 1 have && nat_le (length input) have) have input (taking have None input) refl).1 need most took
+
+-- what a table that can be read says is not that it is lost
+pub not_lost : (lost : ℕ) (d : Cartridge) (table : List (List ℕ)) → TableIs d table → TableSays (table_cells d) (ByCode (LostSectors lost)) → ⊥
+not_lost lost d table (inl read) says =
+    let same = table_says_is_function (table_cells d) (AsRead table) (ByCode (LostSectors lost)) read says in cc
+not_lost lost d table (inr code) says =
+    let same = table_says_is_function (table_cells d) (ByCode (Data table)) (ByCode (LostSectors lost)) code says in cc
+
+-- with nothing promised no input ends too early
+never_short : (have : ℕ) (input : List ℕ) (asked read : ℕ) → taking have None input ≡ TooShort asked read → ⊥
+never_short have input asked read took = by_flag (nat_le 1 have && nat_le (length input) have) took
+  where
+    by_flag : (flag : Bool) → (if flag then Fits input else TooLong (min (length input) (have + 1)) have) ≡ TooShort asked read → ⊥
+    by_flag true is = cc
+    by_flag false is = cc
+
+-- ---- the opening
+
+found_by_append : (name : List ℕ) (date : ℕ) (why : Status) → is_opening why ≡ true → may_come_from why (words.Append name date) ≡ true
+found_by_append name date status.NoCartridge sound = refl
+found_by_append name date status.NotFormatted sound = refl
+found_by_append name date (status.Foreign field value) sound = refl
+found_by_append name date (status.Lost segment lost) sound = refl
+found_by_append name date status.TableMismatch sound = refl
+found_by_append name date why sound = cc
+
+no_script : (why : Status) → is_opening why ≡ true → (line place : ℕ) → why ≢ status.ScriptFault line place
+no_script why sound line place is = let no = ap is_opening is in cc
+
+not_done : (why : Status) → is_opening why ≡ true → why ≢ status.Done
+not_done why sound is = let no = ap is_opening is in cc
+
+left_by_opening : (why : Status) (taken : ℕ) (before after : Option (List ℕ)) → ((line place : ℕ) → why ≢ status.ScriptFault line place) → after ≡ option_map (drop taken) before → InputLeft why taken before after
+left_by_opening (status.ScriptFault line place) taken before after none left = absurd (none line place refl)
+left_by_opening why taken before after none left = left
+
+appends_first : (name : List ℕ) (date : ℕ) (input : List ℕ) → Settles (Appends name date input)
+appends_first name date input c header ws table entries outcome (inl locked) = ap (λ (o : Outcome). first_steps o) locked.1
+appends_first name date input c header ws table entries outcome (inr (free, is)) = ap (λ (o : Outcome). first_steps o) is
+
+-- the outcome of acts
+abbrev with_acts : List Act → (taken : ℕ) → Status → Outcome
+with_acts acts taken answer = record { acts = acts; taken = taken; status = answer }
+
+-- what an append does that goes by this
+abbrev going_by : Act → Kept → (name : List ℕ) (date : ℕ) (input : List ℕ) → Outcome
+going_by first kept name date input =
+    with_acts (first ∷ append_acts kept name date None (reply_behind (length kept.entries)) input) (bytes_taken None (taking (room_in kept) None input)) (append_status (room_in kept) input)
+
+module _ {T S K : Type 0} (t : tapes.Meaning T) (s : sources.Meaning S) (k : sinks.Meaning K) (name : List ℕ) (date : ℕ) (a : T) (i : S) (x : K) where
+  -- refused with some acts that print nothing
+  turned : (b : T) (j : S) (why : Status) (acts : List Act) (taken : ℕ) → ((z : K) → k.took z [] z) → may_come_from why (words.Append name date) ≡ true → ((line place : ℕ) → why ≢ status.ScriptFault line place) → why ≢ status.Done →
+      text_of acts ≡ [] → s.left j ≡ option_map (drop taken) (s.left i) →
+      IfSome (t.told a) (λ held. (input : List ℕ) × IfSome (s.left i) (λ bytes. input ≡ bytes)
+          × (IsOfBytes (words.Append name date) (s.left i) input × AppendOutcome name date held input (with_acts acts taken why))) →
+      Went t s k (outside a i x) (outside b j x) acts → Ends t s k (words.Append name date) (outside a i x) (outside b j x) why
+  turned b j why acts taken nothing sound script other silent left told went = inl (record {
+    outcome = with_acts acts taken why;
+    answered = refl;
+    told = told;
+    went = went;
+    left = left_by_opening why taken (s.left i) (s.left j) script left;
+    sound = sound;
+    none_taken = λ blind. absurd (cc);
+    prints = ((λ is. absurd (other is)), (λ unlike. silent));
+    silent = λ still unlike. refl;
+    fault = names_none name date why (s.left i) sound script;
+  })
+
+  -- with the input that is told, or none, whatever it is
+  whatever : (outcome : Outcome) → IfSome (t.told a) (λ held. (input : List ℕ) → AppendOutcome name date held input outcome) →
+      IfSome (t.told a) (λ held. (input : List ℕ) × IfSome (s.left i) (λ bytes. input ≡ bytes) × (IsOfBytes (words.Append name date) (s.left i) input × AppendOutcome name date held input outcome))
+  whatever outcome told =
+      told_map (t.told a) _ _ told (λ held each. (input_of (s.left i), input_told (s.left i), ((λ is. input_bytes (s.left i)), each (input_of (s.left i)))))
+
+  -- a fault of the tape in a front of the settling
+  opening_cut : (b : T) (steps : List TapeStep) (acts : List Act) → ((z : K) → k.took z [] z) → (rest : List TapeStep) → steps ++ rest ≡ next_steps acts → tapes.Broke t a b steps →
+      TapeCut t s k (outside a i x) (outside b i x) acts
+  opening_cut b steps acts nothing rest is broke =
+      let longer : tapes.Broke t a b (next_steps acts) = subst (tapes.Broke t a b) is (Broke-front rest broke) in record {
+        front = [];
+        rest = acts;
+        parts = refl;
+        broke = longer;
+        here = λ held left told now. longer.torn held left told now;
+        wrote = record { took = nothing x; later = omega arith };
+        source_later = omega arith;
+      }
+
+  -- the opening was refused, or cut off
+  pub append_unopened : (b : UnitView T) (why : Status) → ((z : K) → k.took z [] z) → OpeningEnds t a b (Err why) → Ends t s k (words.Append name date) (outside a i x) (outside b.tape i x) why
+  append_unopened b why nothing (inl refusal) =
+      turned b.tape i why [] 0 nothing (found_by_append name date why refusal.sound) (no_script why refusal.sound) (not_done why refusal.sound) refl (none_taken (s.left i))
+      (whatever (refused why) (told_map (t.told a) _ _ refusal.told (λ held is input. refused_is (Appends name date input) why held is)))
+      (record { did = refusal.did; wrote = record { took = nothing x; later = omega arith }; source_later = omega arith })
+  append_unopened b why nothing (inr cut) =
+      rw cut.answered (inr (
+        TapeFails,
+        refl,
+        record {
+          told = told_map (t.told a) _ _ cut.front (λ held front. (
+            input_of (s.left i),
+            input_told (s.left i),
+            (
+              (λ is. input_bytes (s.left i)),
+              λ outcome plain.
+                  let begins = begins_is (Appends name date (input_of (s.left i))) (appends_first name date (input_of (s.left i))) cut.steps held front outcome plain in record {
+                    cut = opening_cut b.tape cut.steps outcome.acts nothing begins.0 begins.1 cut.broke;
+                    done = λ sink still. absurd (cc);
+                    silent = λ still. refl;
+                  },
+            ),
+          ));
+          acts = quiet cut.steps ∷ [];
+          cut = opening_cut b.tape cut.steps (quiet cut.steps ∷ []) nothing [] (append-nil cut.steps) cut.broke;
+          front = some_text (words.Append name date) refl;
+          silent = λ still unlike. refl;
+          reads = λ same. absurd (cc);
+          source_tells = refl;
+        },
+      ))
+
+  module _ (b : UnitView T) (store : StoreView) (opening : HasOpened t a b store) where
+    -- the cartridge is protected
+    pub append_locked : ((z : K) → k.took z [] z) → TakesBoth k → is_protected b.drive.deck ≡ true → Ends t s k (words.Append name date) (outside a i x) (outside b.tape i x) status.Protected
+    append_locked nothing both locked =
+        turned b.tape i status.Protected (quiet opening.steps ∷ []) 0 nothing refl (λ line place is. cc) (λ is. cc) refl (none_taken (s.left i))
+        (whatever (refused_behind opening.steps status.Protected)
+        (settled_told t a b store opening (λ d. IsKnown d store true) _ (opened_known t a b store opening true locked)
+        (λ c is known input. (
+          mounting.Mounted store.header store.words is.table store.entries,
+          is.mounts,
+          inl ((known_before c store true opening.steps is known).protected, ap (λ (ss : List TapeStep). refused_behind ss status.Protected) is.settles),
+        ))))
+        (went_behind t s k both nothing a b.tape i x (outside b.tape i x) opening.steps [] opening.did
+        (record { did = Done-nothing t b.tape; wrote = record { took = nothing x; later = omega arith }; source_later = omega arith }))
+
+    -- what an append found of the table, beside what was learnt of the cartridge
+    record Found (table : List (List ℕ)) (settling : List TapeStep) (d : Cartridge) : Type 0 where
+      known : IsKnown d store false
+      reads : TableIs d table
+      settles : settling ≡ settling_steps table d
+
+    found : (table : List (List ℕ)) (settling : List TapeStep) → is_protected b.drive.deck ≡ false → tapes.Tells t b.tape (λ d. TableIs d table × (settling ≡ settling_steps table d)) →
+        tapes.Tells t b.tape (Found table settling)
+    found table settling free told =
+        tells_two t b.tape (λ d. IsKnown d store false) (λ d. TableIs d table × (settling ≡ settling_steps table d)) (Found table settling)
+        (λ d known is. record { known = known; reads = is.0; settles = is.1 }) (opened_known t a b store opening false free) told
+
+    -- it is the machine's over what is told
+    is_plain : (table : List (List ℕ)) (settling : List TapeStep) (input : List ℕ) (c : Cartridge) → (is : IsOpened c store opening.steps) → Found table settling (settled is.table c) →
+        AppendOutcome name date (Some c) input (going_by (quiet opening.steps) (kept_by store table settling) name date input)
+    is_plain table settling input c is f =
+        let known : IsKnown c store false = known_before c store false opening.steps is f.known in (
+          mounting.Mounted store.header store.words is.table store.entries,
+          is.mounts,
+          inr (
+            known.protected,
+            ap (λ (kept : Kept). going_by (quiet opening.steps) kept name date input) (same_kept c store opening.steps is table settling known.last f.reads f.settles)
+            ∙ ap (λ (ss : List TapeStep). going_by (quiet ss) (kept_on c store.words is.table store.entries) name date input) is.settles,
+          ),
+        )
+
+    -- what is told of an append that ran
+    told_ran : (j : S) (c : T) (became : Taking) → is_protected b.drive.deck ≡ false → (ran : AppendRan t s (reading b.tape i) (reading c j) store name date None became) →
+        IfSome (t.told a) (λ held. (input : List ℕ) × IfSome (s.left i) (λ bytes. input ≡ bytes)
+        × (IsOfBytes (words.Append name date) (s.left i) input × AppendOutcome name date held input (going_by (quiet opening.steps) (kept_by store ran.table ran.settling) name date ran.input)))
+    told_ran j c became free ran =
+        settled_told t a b store opening (Found ran.table ran.settling) _ (found ran.table ran.settling free ran.known)
+        (λ d is f. (ran.input, ran.is_told, ((λ no. ran.content), is_plain ran.table ran.settling ran.input d is f)))
+
+    -- there was no room for all of the input
+    pub append_full : (c : T) (j : S) (need have : ℕ) → ((z : K) → k.took z [] z) → TakesBoth k → is_protected b.drive.deck ≡ false →
+        AppendRan t s (reading b.tape i) (reading c j) store name date None (TooLong need have) →
+        Ends t s k (words.Append name date) (outside a i x) (outside c j x) (status.Full need have)
+    append_full c j need have nothing both free ran =
+        let kept : Kept = kept_by store ran.table ran.settling in
+        let reply : Entry → List ℕ = reply_behind (length store.entries) in
+        let acts : List Act = append_acts kept name date None reply ran.input in
+        let plain : acts ≡ quiet ran.settling ∷ input_writes kept None ran.input = silent_text kept name date reply ran.input need have ran.took in
+        let quietly : append_acts kept name date None silently ran.input ≡ quiet ran.settling ∷ input_writes kept None ran.input = silent_text kept name date silently ran.input need have ran.took in
+        let went : Went t s k (outside b.tape i x) (outside c j x) acts =
+        subst (Went t s k (outside b.tape i x) (outside c j x)) (sym plain) (record {
+          did = subst (λ (xs : List Act). tapes.Done t b.tape c (steps_of xs)) quietly ran.went.did;
+          wrote = subst (sinks.Wrote k x x) (sym (input_texts kept None ran.input)) (record { took = nothing x; later = omega arith });
+          source_later = ran.went.source_later;
+        }) in
+        let answer : append_status (room_in kept) ran.input ≡ status.Full need have = status_full (room_in kept) ran.input need have ran.took in
+        let taken : bytes_taken None (taking (room_in kept) None ran.input) ≡ need = ap (bytes_taken None) ran.took in
+        turned c j (status.Full need have) (quiet opening.steps ∷ acts) need nothing refl (λ line place is. cc) (λ is. cc)
+        (ap (λ (xs : List Act). text_of xs) plain ∙ input_texts kept None ran.input) ran.left
+        (told_map (t.told a) _ _ (told_ran j c (TooLong need have) free ran) (λ held o. (
+          o.0,
+          o.1,
+          (
+            o.2,
+            subst (λ (w : Outcome). AppendOutcome name date held o.0 w)
+                (ap (λ (n : ℕ). with_acts (quiet opening.steps ∷ acts) n (append_status (room_in kept) ran.input)) taken
+                ∙ ap (λ (why : Status). with_acts (quiet opening.steps ∷ acts) need why) answer) o.3,
+          ),
+        )))
+        (went_behind t s k both nothing a b.tape i x (outside c j x) opening.steps acts opening.did went)
+
+    -- ---- with a reply
+
+    module _ (c : T) (j : S) (after : StoreView) (added : Appended) (free : is_protected b.drive.deck ≡ false) (has : HasAppended t s (reading b.tape i) (reading c j) store after name date None added) where
+      abbrev ran : AppendRan t s (reading b.tape i) (reading c j) store name date None (Fits has.bytes)
+      ran = has.ran
+
+      abbrev kept : Kept
+      kept = kept_by store ran.table ran.settling
+
+      abbrev reply : Entry → List ℕ
+      reply = reply_behind (length store.entries)
+
+      abbrev entry : Entry
+      entry = entry_for kept name date has.bytes
+
+      abbrev acts : List Act
+      acts = append_acts kept name date None reply ran.input
+
+      abbrev writes : List Act
+      writes = input_writes kept None ran.input
+
+      abbrev last_act : Act
+      last_act = record { steps = table_writes (slot_sector (length store.entries)) (table_with kept entry); text = reply entry }
+
+      abbrev outcome : Outcome
+      outcome = going_by (quiet opening.steps) kept name date ran.input
+
+      line_is : appended_line added.number added.bytes added.start added.end ≡ reply entry
+      line_is =
+          ap (λ (n : ℕ). appended_line n added.bytes added.start added.end) has.number
+          ∙ ap (λ (n : ℕ). appended_line (length store.entries + 1) n added.start added.end) has.count
+          ∙ ap (λ (n : ℕ). appended_line (length store.entries + 1) (length has.bytes) n added.end) (has.start ∙ ap (λ (e : Entry). e.start) has.is_entry)
+          ∙ ap (λ (n : ℕ). appended_line (length store.entries + 1) (length has.bytes) entry.start n) (has.end ∙ ap (λ (e : Entry). e.end) has.is_entry)
+
+      is_done : outcome.status ≡ status.Done
+      is_done = status_fits (room_in kept) ran.input has.bytes ran.took
+
+      all_did : tapes.Done t a c (steps_of outcome.acts)
+      all_did = Done-Done opening.did (subst (tapes.Done t b.tape c) (replied_steps kept name date reply ran.input) ran.went.did)
+
+      text_is : text_of acts ≡ reply entry
+      text_is = replied_text kept name date reply ran.input has.bytes ran.took
+
+      replied : (y : K) → sinks.Wrote k x y (reply entry) → Went t s k (outside a i x) (outside c j y) outcome.acts
+      replied y wrote = record {
+        did = all_did;
+        wrote = subst (sinks.Wrote k x y) (sym text_is) wrote;
+        source_later = ran.went.source_later;
+      }
+
+      -- the acts before the last one, and that one
+      parted : quiet opening.steps ∷ (quiet ran.settling ∷ writes) ++ last_act ∷ [] ≡ outcome.acts
+      parted = ap (λ (es : List Act). quiet opening.steps ∷ (quiet ran.settling ∷ (writes ++ es))) (sym (ap (entry_acts kept name date reply) ran.took))
+
+      steps_before : steps_of (quiet opening.steps ∷ (quiet ran.settling ∷ writes)) ++ last_act.steps ≡ steps_of outcome.acts
+      steps_before =
+          ap (λ (ss : List TapeStep). steps_of (quiet opening.steps ∷ (quiet ran.settling ∷ writes)) ++ ss) (sym (append-nil last_act.steps))
+          ∙ sym (steps_of-append (quiet opening.steps ∷ (quiet ran.settling ∷ writes)) (last_act ∷ []))
+          ∙ ap (λ (xs : List Act). steps_of xs) parted
+
+      none_before : text_of (quiet opening.steps ∷ (quiet ran.settling ∷ writes)) ≡ []
+      none_before = input_texts kept None ran.input
+
+      broken : (y : K) → sinks.BrokeOff k x y (reply entry) → SinkCut t s k (outside a i x) (outside c j y) outcome.acts
+      broken y broke = record {
+        at = record { front = quiet opening.steps ∷ (quiet ran.settling ∷ writes); act = last_act; rest = []; parts = parted };
+        did = subst (tapes.Done t a c) (sym steps_before) all_did;
+        broke = record {
+          part = broke.front;
+          rest = broke.rest;
+          parts = broke.parts;
+          took = subst (λ (text : List ℕ). k.took x (text ++ broke.front) y) (sym none_before) broke.took;
+          cause = broke.cause;
+          later = broke.later;
+        };
+        source_later = ran.went.source_later;
+      }
+
+      prints_line : CommandPrints (words.Append name date) (text_of acts)
+      prints_line = (length store.entries + 1, (entry.size, (entry.start, (entry.end, text_is))))
+
+      -- the reply was written, ..
+      pub append_done : (y : K) → sinks.Wrote k x y (reply entry) → Ends t s k (words.Append name date) (outside a i x) (outside c j y) status.Done
+      append_done y wrote = inl (record {
+        outcome = outcome;
+        answered = sym is_done;
+        told = told_ran j c (Fits has.bytes) free ran;
+        went = replied y wrote;
+        left = subst (λ (n : ℕ). s.left j ≡ option_map (drop n) (s.left i)) (sym (ap (bytes_taken None) ran.took)) ran.left;
+        sound = refl;
+        none_taken = λ blind. absurd (cc);
+        prints = ((λ is. prints_line), (λ other. absurd (other refl)));
+        silent = λ still other. absurd (other refl);
+        fault = names_none name date status.Done (s.left i) refl (λ line place is. cc);
+      })
+
+      -- .. or broken off
+      pub append_unsaid : (y : K) → sinks.BrokeOff k x y (reply entry) → Ends t s k (words.Append name date) (outside a i x) (outside c j y) status.SinkFault
+      append_unsaid y broke =
+          let off : IsCutOff t s k (words.Append name date) (outside a i x) (outside c j y) SinkFails outcome =
+              record { cut = broken y broke; done = λ same still. (is_done, all_did); silent = λ still. none_before } in
+          inr (
+            SinkFails,
+            refl,
+            record {
+              told = settled_told t a b store opening (Found ran.table ran.settling) _ (found ran.table ran.settling free ran.known)
+                  (λ d is f. (
+                    ran.input,
+                    ran.is_told,
+                    (
+                      (λ no. ran.content),
+                      λ other plain.
+                          subst (IsCutOff t s k (words.Append name date) (outside a i x) (outside c j y) SinkFails)
+                          (plain_is_function (words.Append name date) (Some d) ran.input outcome other (is_plain ran.table ran.settling ran.input d is f) plain) off,
+                    ),
+                  ));
+              acts = outcome.acts;
+              cut = broken y broke;
+              front = ([], subst (CommandPrints (words.Append name date)) (sym (append-nil (text_of acts))) prints_line);
+              silent = λ still other. absurd (other refl);
+              reads = λ same. absurd (cc);
+              source_tells = ap is_some ran.left ∙ is_some-map (drop (length has.bytes)) (s.left i);
+            },
+          )
+
+      pub append_replied : (y : K) (r : Result (Unit {0}) SinkFailed) → sinks.Writes k x y (appended_line added.number added.bytes added.start added.end) r →
+          Ends t s k (words.Append name date) (outside a i x) (outside c j y) (printed_status r)
+      append_replied y (Ok all) wrote = append_done y (subst (sinks.Wrote k x y) line_is wrote)
+      append_replied y (Err failed) broke = append_unsaid y (subst (sinks.BrokeOff k x y) line_is broke)
+
+    -- ---- cut off
+
+    -- the acts of an append were cut off by the tape, which printed nothing
+    tape_behind : (c : T) (j : S) (acts : List Act) → ((z : K) → k.took z [] z) → (cut : TapeCut t s no_sink (reading b.tape i) (reading c j) acts) →
+        (all : List Act) → quiet opening.steps ∷ (cut.front ++ cut.rest) ≡ all → TapeCut t s k (outside a i x) (outside c j x) all
+    tape_behind c j acts nothing cut all parts = record {
+      front = quiet opening.steps ∷ cut.front;
+      rest = cut.rest;
+      parts = parts;
+      broke = subst (tapes.Broke t a c) (sym (append_assoc opening.steps (steps_of cut.front) (next_steps cut.rest))) (Done-Broke opening.did cut.broke);
+      here = λ held left told now.
+          subst (λ (h : Option Cartridge). Torn (next_steps cut.rest) h left) (sym (effects-append opening.steps (steps_of cut.front) held))
+          (cut.here (effects opening.steps held) left (opening.did.told ∙ ap (λ (o : Option (Option Cartridge)). option_map (effects opening.steps) o) told) now);
+      wrote = record { took = subst (λ (text : List ℕ). k.took x text x) (sym cut.wrote.took) (nothing x); later = omega arith };
+      source_later = cut.source_later;
+    }
+
+    source_behind : (c : T) (j : S) (acts : List Act) → ((z : K) → k.took z [] z) → (cut : SourceCut t s no_sink (reading b.tape i) (reading c j) acts) →
+        (all : List Act) (rest : List Act) → quiet opening.steps ∷ (cut.front ++ rest) ≡ all → SourceCut t s k (outside a i x) (outside c j x) all
+    source_behind c j acts nothing cut all rest parts = record {
+      front = quiet opening.steps ∷ cut.front;
+      rest = rest;
+      parts = parts;
+      did = Done-Done opening.did cut.did;
+      wrote = record { took = subst (λ (text : List ℕ). k.took x text x) (sym cut.wrote.took) (nothing x); later = omega arith };
+      cause = cut.cause;
+      source_later = cut.source_later;
+    }
+
+    -- what the plain machine does over a cartridge that was opened and is not protected
+    plain_is : (c : Cartridge) (is : IsOpened c store opening.steps) → IsKnown (settled is.table c) store false → (input : List ℕ) (outcome : Outcome) → AppendOutcome name date (Some c) input outcome →
+        outcome ≡ going_by (quiet opening.steps) (kept_by store is.table (settling_steps is.table (settled is.table c))) name date input
+    plain_is c is known input outcome plain =
+        plain_is_function (words.Append name date) (Some c) input outcome _ plain
+        (is_plain is.table (settling_steps is.table (settled is.table c)) input c is
+        (record { known = known; reads = (settled_keeps_table c is.table is.mounts.reads).table; settles = refl }))
+
+    abbrev Cuts : (c : T) (j : S) (input : List ℕ) (failing : Failing) → Cartridge → Type 0
+    Cuts c j input failing d =
+        IsKnown d store false × ((table : List (List ℕ)) → TableIs d table → (reply : Entry → List ℕ) →
+        Cut t s no_sink (reading b.tape i) (reading c j) (append_acts (kept_by store table (settling_steps table d)) name date None reply input) failing)
+
+    cuts : (c : T) (j : S) (failing : Failing) → is_protected b.drive.deck ≡ false → (cut : AppendCut t s (reading b.tape i) (reading c j) store name date None failing) → tapes.Tells t b.tape (Cuts c j cut.input failing)
+    cuts c j failing free cut =
+        tells_two t b.tape (λ d. IsKnown d store false)
+        (λ d. (table : List (List ℕ)) → TableIs d table → (reply : Entry → List ℕ) →
+        Cut t s no_sink (reading b.tape i) (reading c j) (append_acts (kept_by store table (settling_steps table d)) name date None reply cut.input) failing)
+        (Cuts c j cut.input failing) (λ d known each. (known, each)) (opened_known t a b store opening false free) cut.told
+
+    pub append_tape : (c : T) (j : S) → ((z : K) → k.took z [] z) → is_protected b.drive.deck ≡ false → AppendCut t s (reading b.tape i) (reading c j) store name date None TapeFails →
+        Ends t s k (words.Append name date) (outside a i x) (outside c j x) status.TapeFault
+    append_tape c j nothing free cut =
+        let once : TapeCut t s no_sink (reading b.tape i) (reading c j) cut.acts = cut.cut in
+        inr (
+          TapeFails,
+          refl,
+          record {
+            told = settled_told t a b store opening (Cuts c j cut.input TapeFails) _ (cuts c j TapeFails free cut)
+                (λ d is each. (
+                  cut.input,
+                  cut.is_told,
+                  (
+                    (λ no. cut.content),
+                    λ outcome plain.
+                        let table = (settled_keeps_table d is.table is.mounts.reads).table in
+                        let off : TapeCut t s no_sink (reading b.tape i) (reading c j)
+                        (append_acts (kept_by store is.table (settling_steps is.table (settled is.table d))) name date None (reply_behind (length store.entries)) cut.input) =
+                        each.1 is.table table (reply_behind (length store.entries)) in
+                        let same = plain_is d is each.0 cut.input outcome plain in
+                        let all = ap (λ (xs : List Act). quiet opening.steps ∷ xs) off.parts ∙ sym (ap (λ (o : Outcome). o.acts) same) in record {
+                          cut = tape_behind c j _ nothing off outcome.acts all;
+                          done = λ sink still. absurd (cc);
+                          silent = λ still. off.wrote.took;
+                        },
+                  ),
+                ));
+            acts = quiet opening.steps ∷ (once.front ++ quiet (next_steps once.rest) ∷ []);
+            cut = tape_behind c j _ nothing
+                (record {
+                  front = once.front;
+                  rest = quiet (next_steps once.rest) ∷ [];
+                  parts = refl;
+                  broke = once.broke;
+                  here = once.here;
+                  wrote = once.wrote;
+                  source_later = once.source_later;
+                }) _ refl;
+            front = unsaid (text_of-append once.front (quiet (next_steps once.rest) ∷ []) ∙ append-nil (text_of once.front) ∙ once.wrote.took);
+            silent = λ still unlike. refl;
+            reads = λ same. absurd (cc);
+            source_tells = cut.tells;
+          },
+        )
+      where
+        unsaid : {text : List ℕ} → text ≡ [] → (rest : List ℕ) × CommandPrints (words.Append name date) (text ++ rest)
+        unsaid none =
+            let some = some_text (words.Append name date) refl in
+            (some.0, subst (λ (front : List ℕ). CommandPrints (words.Append name date) (front ++ some.0)) (sym none) some.1)
+
+    pub append_source : (c : T) (j : S) → ((z : K) → k.took z [] z) → is_protected b.drive.deck ≡ false → AppendCut t s (reading b.tape i) (reading c j) store name date None SourceFails →
+        Ends t s k (words.Append name date) (outside a i x) (outside c j x) status.SourceFault
+    append_source c j nothing free cut =
+        let once : SourceCut t s no_sink (reading b.tape i) (reading c j) cut.acts = cut.cut in
+        inr (
+          SourceFails,
+          refl,
+          record {
+            told = settled_told t a b store opening (Cuts c j cut.input SourceFails) _ (cuts c j SourceFails free cut)
+                (λ d is each. (
+                  cut.input,
+                  cut.is_told,
+                  (
+                    (λ no. cut.content),
+                    λ outcome plain.
+                        let table = (settled_keeps_table d is.table is.mounts.reads).table in
+                        let off : SourceCut t s no_sink (reading b.tape i) (reading c j)
+                        (append_acts (kept_by store is.table (settling_steps is.table (settled is.table d))) name date None (reply_behind (length store.entries)) cut.input) =
+                        each.1 is.table table (reply_behind (length store.entries)) in
+                        let same = plain_is d is each.0 cut.input outcome plain in
+                        let all = ap (λ (xs : List Act). quiet opening.steps ∷ xs) off.parts ∙ sym (ap (λ (o : Outcome). o.acts) same) in record {
+                          cut = source_behind c j _ nothing off outcome.acts off.rest all;
+                          done = λ sink still. absurd (cc);
+                          silent = λ still. off.wrote.took;
+                        },
+                  ),
+                ));
+            acts = quiet opening.steps ∷ (once.front ++ []);
+            cut = source_behind c j _ nothing once _ [] refl;
+            front = unsaid (text_of-append once.front [] ∙ append-nil (text_of once.front) ∙ once.wrote.took);
+            silent = λ still unlike. refl;
+            reads = λ same. refl;
+            source_tells = cut.tells;
+          },
+        )
+      where
+        unsaid : {text : List ℕ} → text ≡ [] → (rest : List ℕ) × CommandPrints (words.Append name date) (text ++ rest)
+        unsaid none =
+            let some = some_text (words.Append name date) refl in
+            (some.0, subst (λ (front : List ℕ). CommandPrints (words.Append name date) (front ++ some.0)) (sym none) some.1)
+
+    -- ---- the table refused, which a told cartridge never is
+
+    pub append_untabled : (c : T) (j : S) (why : Status) (Says : Cartridge → Type 0) → ((z : K) → k.took z [] z) → TakesBoth k → may_come_from why (words.Append name date) ≡ true →
+        ((line place : ℕ) → why ≢ status.ScriptFault line place) → why ≢ status.Done → ((d : Cartridge) (table : List (List ℕ)) → TableIs d table → Says d → ⊥) →
+        TableRefused t s (reading b.tape i) (reading c j) Says → Ends t s k (words.Append name date) (outside a i x) (outside c j x) why
+    append_untabled c j why Says nothing both sound script other never refusal =
+        turned c j why (quiet opening.steps ∷ refusal.acts) refusal.taken nothing sound script other refusal.went.wrote.took refusal.left
+        (settled_told t a b store opening (λ d. (refusal.acts ≡ []) × (j ≡ i) × Says d) _ refusal.told
+        (λ d is says. absurd (never (settled is.table d) is.table (settled_keeps_table d is.table is.mounts.reads).table says.2)))
+        (went_behind t s k both nothing a b.tape i x (outside c j x) opening.steps refusal.acts opening.did (record {
+          did = refusal.went.did;
+          wrote = record { took = subst (λ (text : List ℕ). k.took x text x) (sym refusal.went.wrote.took) (nothing x); later = omega arith };
+          source_later = refusal.went.source_later;
+        }))
+
+    -- ---- by the answer of the call
+
+    pub append_failed : (c : T) (j : S) (after : StoreView) (f : StoreFault) → ((z : K) → k.took z [] z) → TakesBoth k → (f ≡ fault.Protected) ↔ (is_protected b.drive.deck ≡ true) →
+        AppendEnds t s (reading b.tape i) (reading c j) store after name date None (Err f) → Ends t s k (words.Append name date) (outside a i x) (outside c j x) (store_status f)
+    append_failed c j after fault.Protected nothing both mark same =
+        subst (λ (z : S). Ends t s k (words.Append name date) (outside a i x) (outside c z x) status.Protected) (sym same.1)
+        (subst (λ (w : T). Ends t s k (words.Append name date) (outside a i x) (outside w i x) status.Protected) (sym same.0) (append_locked nothing both (mark.0 refl)))
+    append_failed c j after (fault.Lost segment lost) nothing both mark refusal =
+        append_untabled c j (status.Lost segment lost) (λ d. TableSays (table_cells d) (ByCode (LostSectors lost))) nothing both refl (λ line place is. cc) (λ is. cc)
+        (λ d table is says. not_lost lost d table is says) refusal.2
+    append_failed c j after fault.TableMismatch nothing both mark refusal =
+        append_untabled c j status.TableMismatch (λ d. ⊥) nothing both refl (λ line place is. cc) (λ is. cc) (λ d table is says. says) refusal
+    append_failed c j after (fault.Full need have) nothing both mark ran = append_full c j need have nothing both (unlocked {T} {b} (fault.Full need have) mark (λ same. cc)) ran
+    append_failed c j after (fault.Short asked read) nothing both mark ran =
+        absurd (never_short (room_in (kept_by store ran.table ran.settling)) ran.input asked read ran.took)
+    append_failed c j after fault.Source nothing both mark cut = append_source c j nothing (unlocked {T} {b} fault.Source mark (λ same. cc)) cut
+    append_failed c j after fault.Tape nothing both mark cut = append_tape c j nothing (unlocked {T} {b} fault.Tape mark (λ same. cc)) cut
+    append_failed c j after f nothing both mark no = absurd no

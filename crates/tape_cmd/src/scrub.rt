@@ -1,0 +1,24 @@
+//! A cartridge scrubbed.
+
+ghost use Rattle.tape_script.specs.declared.words.Words.TheVariants.{Scrub};
+ghost use Rattle.tape_cmd.specs.Runs.{EndsBlind};
+
+use crate::Status;
+use crate::opening::{open, store_status};
+use crate::room::Room;
+use drive_states::Unit;
+use qic_base::{Sink, Tape};
+
+/// Opens the cartridge, and writes unreadable sectors again where they can be found.
+pub fn scrub<T: Tape, K: Sink>(unit: &mut Unit<T>, room: Room, sink: &mut K) -> Status
+    ensures { EndsBlind T.means K.means Scrub unit.old.tape unit.new.tape sink.old sink.new result }
+{
+    let mut store = match open(unit, room) {
+        Ok(store) => store,
+        Err(status) => return status,
+    };
+    match store.scrub(unit, sink) {
+        Ok(_) => Status::Done,
+        Err(fault) => store_status(fault),
+    }
+}
