@@ -156,11 +156,8 @@ A path that can be neither opened nor made is no image.
   $ told no/such/folder.img list
   20 tape: cannot open the image
 
-`append`, `restore`, `scrub`, `script` and `make` are not built yet: they are answered as words that are no command.
+`script` and `make` are not built yet: they are answered as words that are no command.
 
-  $ for command in 'append a' 'restore 1' scrub script 'make 150 3'; do told cart.img $command; done
-  2 usage: tape IMAGE COMMAND
-  2 usage: tape IMAGE COMMAND
-  2 usage: tape IMAGE COMMAND
+  $ for command in script 'make 150 3'; do told cart.img $command; done
   2 usage: tape IMAGE COMMAND
   2 usage: tape IMAGE COMMAND

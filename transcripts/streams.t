@@ -5,17 +5,14 @@ Standard streams that are closed, full or broken, paths that are no image, two r
 stream itself, and a full disk. Behind each case the image's bytes are those from before it, unless the page says
 otherwise.
 
-Nothing is appended yet, so a volume of ten bytes is written by hand: its slot in the volume table, and its bytes in
-segment 3. The first look at it gives the table its parity.
+The cartridge has one volume, of ten bytes.
 
   $ tape cart.img new 3
   blank 3
   $ tape cart.img format evening
   formatted 84 0
-  $ put() { printf "$2" | dd of=cart.img bs=1 seek=$1 conv=notrunc status=none; }
-  $ put 73664 'VTBL\003\000\003\000a%43s\300\145\122\060\001\001'
-  $ put 73760 '\012'
-  $ put 106432 'ten bytes.'
+  $ printf 'ten bytes.' | tape cart.img append a 1994-03-01T12:00:00
+  appended 1 10 3 3
   $ tape cart.img list
   1 3 3 10 1994-03-01T12:00:00 a
   volumes 1

@@ -3,7 +3,7 @@ Volume tables of other tools
 
   $ . "$TESTDIR/image.sh"
 
-Nothing is appended yet, so here the volume table is written by hand. It has eight slots of 128 bytes in each of the data
+`append` makes no such tables, so here they are written by hand. A table has eight slots of 128 bytes in each of the data
 sectors of segment 2. The parity need not be right: the data can be read without it, and the next look writes it.
 
   $ word() { printf '\\x%02x\\x%02x' $(($1 % 256)) $(($1 / 256)); }

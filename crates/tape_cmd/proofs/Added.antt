@@ -1,6 +1,7 @@
 -- How an append ends.
 use Rattle.std.proofs.Common.{◌≡◌, ◌≢◌, ◌⊎◌, ℕ, ◌+◌, ◌-◌, ◌<◌, ◌++◌, ◌&&◌, nat_le, cond, min, Bool, true, false, List, [], ◌∷◌, All, length, drop, Option, Some, None, IfSome, Result, Ok, Err, refl, sym, ap, ◌∙◌, subst, inl, inr, arith, append-nil, append_assoc}
 use Rattle.std.specs.Prelude.{◌↔◌, IfNone, is_some, if◌then◌else◌}
+use Rattle.std.proofs.lemmas.List.Elements.{All-nil}
 use Rattle.std.specs.Option.{option_map}
 use Rattle.qic_base.specs.Cartridge.{Cartridge}
 use Rattle.qic_base.specs.declared.sink.SinkFailed.{SinkFailed}
@@ -63,7 +64,7 @@ input_told None = tt
 input_told (Some bytes) = refl
 
 input_bytes : (told : Option (List ℕ)) → IfNone told (All (λ b. b < 256) (input_of told))
-input_bytes None = λ k d within. absurd (cc)
+input_bytes None = All-nil (λ b. b < 256)
 input_bytes (Some bytes) = tt
 
 none_taken : (told : Option (List ℕ)) → told ≡ option_map (drop 0) told
@@ -220,7 +221,7 @@ module _ {T S K : Type 0} (t : tapes.Meaning T) (s : sources.Meaning S) (k : sin
       told_map (t.told a) _ _ told (λ held each. (input_of (s.left i), input_told (s.left i), ((λ is. input_bytes (s.left i)), each (input_of (s.left i)))))
 
   -- a fault of the tape in a front of the settling
-  opening_cut : (b : T) (steps : List TapeStep) (acts : List Act) → ((z : K) → k.took z [] z) → (rest : List TapeStep) → steps ++ rest ≡ next_steps acts → tapes.Broke t a b steps →
+  abbrev opening_cut : (b : T) (steps : List TapeStep) (acts : List Act) → ((z : K) → k.took z [] z) → (rest : List TapeStep) → steps ++ rest ≡ next_steps acts → tapes.Broke t a b steps →
       TapeCut t s k (outside a i x) (outside b i x) acts
   opening_cut b steps acts nothing rest is broke =
       let longer : tapes.Broke t a b (next_steps acts) = subst (tapes.Broke t a b) is (Broke-front rest broke) in record {
@@ -339,10 +340,10 @@ module _ {T S K : Type 0} (t : tapes.Meaning T) (s : sources.Meaning S) (k : sin
           o.0,
           o.1,
           (
-            o.2,
+            o.2.0,
             subst (λ (w : Outcome). AppendOutcome name date held o.0 w)
                 (ap (λ (n : ℕ). with_acts (quiet opening.steps ∷ acts) n (append_status (room_in kept) ran.input)) taken
-                ∙ ap (λ (why : Status). with_acts (quiet opening.steps ∷ acts) need why) answer) o.3,
+                ∙ ap (λ (why : Status). with_acts (quiet opening.steps ∷ acts) need why) answer) o.2.1,
           ),
         )))
         (went_behind t s k both nothing a b.tape i x (outside c j x) opening.steps acts opening.did went)
@@ -410,7 +411,7 @@ module _ {T S K : Type 0} (t : tapes.Meaning T) (s : sources.Meaning S) (k : sin
       none_before : text_of (quiet opening.steps ∷ (quiet ran.settling ∷ writes)) ≡ []
       none_before = input_texts kept None ran.input
 
-      broken : (y : K) → sinks.BrokeOff k x y (reply entry) → SinkCut t s k (outside a i x) (outside c j y) outcome.acts
+      abbrev broken : (y : K) → sinks.BrokeOff k x y (reply entry) → SinkCut t s k (outside a i x) (outside c j y) outcome.acts
       broken y broke = record {
         at = record { front = quiet opening.steps ∷ (quiet ran.settling ∷ writes); act = last_act; rest = []; parts = parted };
         did = subst (tapes.Done t a c) (sym steps_before) all_did;
@@ -480,7 +481,7 @@ module _ {T S K : Type 0} (t : tapes.Meaning T) (s : sources.Meaning S) (k : sin
     -- ---- cut off
 
     -- the acts of an append were cut off by the tape, which printed nothing
-    tape_behind : (c : T) (j : S) (acts : List Act) → ((z : K) → k.took z [] z) → (cut : TapeCut t s no_sink (reading b.tape i) (reading c j) acts) →
+    abbrev tape_behind : (c : T) (j : S) (acts : List Act) → ((z : K) → k.took z [] z) → (cut : TapeCut t s no_sink (reading b.tape i) (reading c j) acts) →
         (all : List Act) → quiet opening.steps ∷ (cut.front ++ cut.rest) ≡ all → TapeCut t s k (outside a i x) (outside c j x) all
     tape_behind c j acts nothing cut all parts = record {
       front = quiet opening.steps ∷ cut.front;
@@ -494,7 +495,7 @@ module _ {T S K : Type 0} (t : tapes.Meaning T) (s : sources.Meaning S) (k : sin
       source_later = cut.source_later;
     }
 
-    source_behind : (c : T) (j : S) (acts : List Act) → ((z : K) → k.took z [] z) → (cut : SourceCut t s no_sink (reading b.tape i) (reading c j) acts) →
+    abbrev source_behind : (c : T) (j : S) (acts : List Act) → ((z : K) → k.took z [] z) → (cut : SourceCut t s no_sink (reading b.tape i) (reading c j) acts) →
         (all : List Act) (rest : List Act) → quiet opening.steps ∷ (cut.front ++ rest) ≡ all → SourceCut t s k (outside a i x) (outside c j x) all
     source_behind c j acts nothing cut all rest parts = record {
       front = quiet opening.steps ∷ cut.front;
@@ -644,9 +645,14 @@ module _ {T S K : Type 0} (t : tapes.Meaning T) (s : sources.Meaning S) (k : sin
         (λ d table is says. not_lost lost d table is says) refusal.2
     append_failed c j after fault.TableMismatch nothing both mark refusal =
         append_untabled c j status.TableMismatch (λ d. ⊥) nothing both refl (λ line place is. cc) (λ is. cc) (λ d table is says. says) refusal
-    append_failed c j after (fault.Full need have) nothing both mark ran = append_full c j need have nothing both (unlocked {T} {b} (fault.Full need have) mark (λ same. cc)) ran
+    append_failed c j after (fault.Full need have) nothing both mark ran = append_full c j need have nothing both (unlocked b (fault.Full need have) mark (λ same. cc)) ran
     append_failed c j after (fault.Short asked read) nothing both mark ran =
         absurd (never_short (room_in (kept_by store ran.table ran.settling)) ran.input asked read ran.took)
-    append_failed c j after fault.Source nothing both mark cut = append_source c j nothing (unlocked {T} {b} fault.Source mark (λ same. cc)) cut
-    append_failed c j after fault.Tape nothing both mark cut = append_tape c j nothing (unlocked {T} {b} fault.Tape mark (λ same. cc)) cut
-    append_failed c j after f nothing both mark no = absurd no
+    append_failed c j after fault.Source nothing both mark cut = append_source c j nothing (unlocked b fault.Source mark (λ same. cc)) cut
+    append_failed c j after fault.Tape nothing both mark cut = append_tape c j nothing (unlocked b fault.Tape mark (λ same. cc)) cut
+    append_failed c j after f nothing both mark never = absurd never
+
+-- so an append of all of the input is never answered as short
+pub never_short_told : {T S : Type 0} (t : tapes.Meaning T) (s : sources.Meaning S) (a : T) (i : S) (c : T) (j : S) (store after : StoreView) (name : List ℕ) (date : ℕ) (asked read : ℕ) →
+    AppendRan t s (reading a i) (reading c j) store name date None (TooShort asked read) → ⊥
+never_short_told t s a i c j store after name date asked read ran = never_short (room_in (kept_by store ran.table ran.settling)) ran.input asked read ran.took

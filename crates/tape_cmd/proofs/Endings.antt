@@ -98,7 +98,7 @@ abbrev pub first_act : Outcome → Act
 first_act outcome = first_of outcome.acts
 
 -- no byte was taken of a source that is never asked
-none_taken : (answer : Status) (taken : ℕ) → InputLeft answer taken None None
+pub none_taken : (answer : Status) (taken : ℕ) → InputLeft answer taken None None
 none_taken (status.ScriptFault line place) taken = (0, refl)
 none_taken answer taken = refl
 
@@ -178,7 +178,7 @@ module _ {T K : Type 0} (t : tapes.Meaning T) (k : sinks.Meaning K) where
     fault = tt;
   })
 
-  sink_cut_one : (a b : T) (x y : K) (steps : List TapeStep) (text : List ℕ) → tapes.Done t a b steps → sinks.BrokeOff k x y text →
+  abbrev sink_cut_one : (a b : T) (x y : K) (steps : List TapeStep) (text : List ℕ) → tapes.Done t a b steps → sinks.BrokeOff k x y text →
       SinkCut t no_source k (around a x) (around b y) (record { steps = steps; text = text } ∷ [])
   sink_cut_one a b x y steps text did broke = record {
     at = record { front = []; act = record { steps = steps; text = text }; rest = []; parts = refl };
@@ -239,7 +239,7 @@ module _ {T K : Type 0} (t : tapes.Meaning T) (k : sinks.Meaning K) where
   printed command blind a b x y outcome (Ok all) ends one prints told did wrote = done command blind a b x y outcome ends one prints told did wrote
   printed command blind a b x y outcome (Err failed) ends one prints told did broke = unprinted command blind a b x y outcome ends one prints told did broke
 
-  tape_cut_first : (a b : T) (x : K) (acts : List Act) → ((z : K) → k.took z [] z) → tapes.Broke t a b (next_steps acts) →
+  abbrev tape_cut_first : (a b : T) (x : K) (acts : List Act) → ((z : K) → k.took z [] z) → tapes.Broke t a b (next_steps acts) →
       TapeCut t no_source k (around a x) (around b x) acts
   tape_cut_first a b x acts nothing broke = record {
     front = [];
@@ -278,14 +278,16 @@ module _ {T K : Type 0} (t : tapes.Meaning T) (k : sinks.Meaning K) where
       by_told (Some held) front = (
         [],
         tt,
-        appends_none command None [] blind.reads,
-        λ outcome plain.
-            let longer = front outcome (any_input command held [] outcome blind.reads plain) in
-            record {
-              cut = tape_cut_first a b x outcome.acts nothing (subst (tapes.Broke t a b) longer.1 (Broke-front longer.0 broke));
-              done = λ same still. absurd (cc);
-              silent = λ still. refl;
-            },
+        (
+          appends_none command None [] blind.reads,
+          λ outcome plain.
+              let longer = front outcome (any_input command held [] outcome blind.reads plain) in
+              record {
+                cut = tape_cut_first a b x outcome.acts nothing (subst (tapes.Broke t a b) longer.1 (Broke-front longer.0 broke));
+                done = λ same still. absurd (cc);
+                silent = λ still. refl;
+              },
+        ),
       )
 
   -- .. before the first of them

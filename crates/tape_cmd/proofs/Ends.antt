@@ -213,17 +213,17 @@ module _ {T S K : Type 0} (t : tapes.Meaning T) (s : sources.Meaning S) (k : sin
         stops = finished.went.did.stops;
         torn = done_torn t old.tape new.tape (steps_of finished.outcome.acts) held finished.went.did told;
         leaves = λ left torn.
-            inr (command, spelled, record { input = over.0; is_told = over.1; bytes = over.2; outcome = finished.outcome; plain = over.3; torn = torn });
+            inr (command, spelled, record { input = over.0; is_told = over.1; bytes = over.2.0; outcome = finished.outcome; plain = over.2.1; torn = torn });
       }
   left_by laws spelled values (inr (failing, is, stopped)) held told =
       let over = over_at (t.told old.tape) _ held stopped.told told in
       let some = has_outcome laws spelled values held over.0 told in
-      let off = over.3 some.0 some.1 in record {
+      let off = over.2.1 some.0 some.1 in record {
         steps = steps_of some.0.acts;
         stops = cut_stops t s k old new some.0.acts failing off.cut;
         torn = cut_is_torn t s k old new some.0.acts failing held off.cut told;
         leaves = λ left torn.
-            inr (command, spelled, record { input = over.0; is_told = over.1; bytes = over.2; outcome = some.0; plain = some.1; torn = torn });
+            inr (command, spelled, record { input = over.0; is_told = over.1; bytes = over.2.0; outcome = some.0; plain = some.1; torn = torn });
       }
 
   pub ends_stops : Laws t s k old new → Spells words command → HasValues command → Ends t s k command old new answer →

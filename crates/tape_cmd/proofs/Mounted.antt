@@ -104,15 +104,15 @@ absent_told None none = tt
 absent_told (Some None) none = refl
 absent_told (Some (Some c)) none = absurd (cc)
 
-nothing_begins : (told : Option (Option Cartridge)) → IfSome told (λ held. ([] ≡ []) ⊎ IsSomeAnd held (λ c. IsSettling c []))
-nothing_begins None = tt
-nothing_begins (Some h) = inl refl
+nothing_begins : (steps : List TapeStep) (told : Option (Option Cartridge)) → steps ≡ [] → IfSome told (λ held. (steps ≡ []) ⊎ IsSomeAnd held (λ c. IsSettling c steps))
+nothing_begins steps None none = tt
+nothing_begins steps (Some h) none = inl none
 
 -- there was no start
 pub open_unstarted : {T : Type 0} (t : tapes.Meaning T) (a : T) (b : UnitView T) (why : Status) → StartFails t a b.tape why → OpeningEnds t a b (Err why)
 open_unstarted t a b why (inl (is, did, none)) =
     inl (record { did = did; sound = ap is_opening is; told = rw is (absent_told (t.told a) none) })
-open_unstarted t a b why (inr (is, broke)) = inr (record { answered = is; steps = []; broke = broke; front = nothing_begins (t.told a) })
+open_unstarted t a b why (inr (is, broke)) = inr (record { answered = is; steps = []; broke = broke; front = nothing_begins [] (t.told a) refl })
 
 pub open_shown : {T : Type 0} (t : tapes.Meaning T) (a b : T) (c : UnitView T) (info : TapeInfo) (store : StoreView) → Present t a b info → MountDoes t b c.tape (Ok store) → StoreFits t store c →
     OpeningEnds t a c (Ok store)

@@ -96,10 +96,14 @@ known_before c store mark steps is known =
       last = known.last ∙ ap (λ (info : TapeInfo). 28 * info.segments_per_track - 1) same;
     }
 
--- an answer other than Protected, which comes just where the cartridge is protected
-pub unlocked : {T : Type 0} {b : UnitView T} (f : StoreFault) → (f ≡ fault.Protected) ↔ (is_protected b.drive.deck ≡ true) → f ≢ fault.Protected → is_protected b.drive.deck ≡ false
-unlocked {T} {b} f mark other = by_mark (is_protected b.drive.deck) refl
+-- the cartridge is not protected, where something is not so that is so of a protected one
+pub unlocked_where : {T : Type 0} (b : UnitView T) (P : Type 0) → (is_protected b.drive.deck ≡ true → P) → (P → ⊥) → is_protected b.drive.deck ≡ false
+unlocked_where b P locked never = by_mark (is_protected b.drive.deck) refl
   where
     by_mark : (m : Bool) → is_protected b.drive.deck ≡ m → is_protected b.drive.deck ≡ false
-    by_mark true is = absurd (other (mark.1 is))
+    by_mark true is = absurd (never (locked is))
     by_mark false is = is
+
+-- an answer other than Protected, which comes just where it is protected
+pub unlocked : {T : Type 0} (b : UnitView T) (f : StoreFault) → (f ≡ fault.Protected) ↔ (is_protected b.drive.deck ≡ true) → f ≢ fault.Protected → is_protected b.drive.deck ≡ false
+unlocked b f mark other = unlocked_where b (f ≡ fault.Protected) mark.1 other

@@ -84,7 +84,7 @@ module _ {T S K : Type 0} (t : tapes.Meaning T) (s : sources.Meaning S) (k : sin
   went_over : (acts : List Act) → Went t no_source k (around a x) (around b y) acts → Went t s k before behind acts
   went_over acts went = record { did = went.did; wrote = went.wrote; source_later = omega arith }
 
-  cut_over : (acts : List Act) (failing : Failing) → Cut t no_source k (around a x) (around b y) acts failing → Cut t s k before behind acts failing
+  abbrev cut_over : (acts : List Act) (failing : Failing) → Cut t no_source k (around a x) (around b y) acts failing → Cut t s k before behind acts failing
   cut_over acts TapeFails cut = record {
     front = cut.front;
     rest = cut.rest;
@@ -142,11 +142,6 @@ unbuilt_none words command spelled unbuilt other spells =
     let same : other ≡ command = one_command words other command spells.spelled spelled in
     let built : (traits_of command).built ≡ true = ap (λ (w : Words). (traits_of w).built) (sym same) ∙ spells.built in
     cc
-
--- a command that takes memory reads no input
-pub memory_reads_none : (command : Words) → (traits_of command).memory ≡ true → (traits_of command).reads ≡ false
-memory_reads_none words.Pulses takes = absurd (cc)
-memory_reads_none command takes = refl
 
 -- ---- a run whose words are those of a command that is built
 

@@ -179,4 +179,4 @@ module _ {T K : Type 0} (t : tapes.Meaning T) (k : sinks.Meaning K) (number : �
   restore_failed c x y (fault.Mismatch segment) both nothing (e, numbered, gave) = restored c x y e (MismatchIn segment) both nothing numbered gave
   restore_failed c x y fault.Sink both nothing (e, numbered, cut) = restore_cut c x y e SinkFails (λ same. cc) both nothing numbered cut
   restore_failed c x y fault.Tape both nothing (e, numbered, cut) = restore_cut c x y e TapeFails (λ same. cc) both nothing numbered cut
-  restore_failed c x y f both nothing no = absurd no
+  restore_failed c x y f both nothing never = absurd never

@@ -170,6 +170,6 @@ module _ {T K : Type 0} (t : tapes.Meaning T) (k : sinks.Meaning K) (a : T) (b :
   scrub_failed c x y fault.Protected both nothing mark same =
       subst (λ (z : K). EndsBlind t k words.Scrub a c x z status.Protected) (sym same.1)
       (subst (λ (w : T). EndsBlind t k words.Scrub a w x x status.Protected) (sym same.0) (scrub_locked x nothing (mark.0 refl)))
-  scrub_failed c x y fault.Sink both nothing mark cut = scrub_cut c x y SinkFails (λ same. cc) both nothing (unlocked {T} {b} fault.Sink mark (λ same. cc)) cut
-  scrub_failed c x y fault.Tape both nothing mark cut = scrub_cut c x y TapeFails (λ same. cc) both nothing (unlocked {T} {b} fault.Tape mark (λ same. cc)) cut
-  scrub_failed c x y f both nothing mark no = absurd no
+  scrub_failed c x y fault.Sink both nothing mark cut = scrub_cut c x y SinkFails (λ same. cc) both nothing (unlocked b fault.Sink mark (λ same. cc)) cut
+  scrub_failed c x y fault.Tape both nothing mark cut = scrub_cut c x y TapeFails (λ same. cc) both nothing (unlocked b fault.Tape mark (λ same. cc)) cut
+  scrub_failed c x y f both nothing mark never = absurd never

@@ -1,7 +1,7 @@
 ghost use Rattle.std.specs.Prelude.{◌≡◌, ◌≢◌, ◌⊎◌, ℕ, List, true, false, map, string_bytes};
 ghost use Rattle.tape_cmd.specs.Machine.{HasValues, Spells, ReadsCommand};
 ghost use Rattle.tape_cmd.specs.Promises.{Promises};
-ghost use Rattle.tape_cmd.specs.Runs.{Ends};
+ghost use Rattle.tape_cmd.specs.Runs.{Ends, EndsBlind};
 ghost use Rattle.tape_cmd.specs.Traits.{traits_of};
 
 use crate::Status;
@@ -45,9 +45,38 @@ fn takes_memory(command: &Words) -> bool
     )
 }
 
+fn reads_input(command: &Words) -> bool
+    ensures { result ≡ (traits_of command.now).reads }
+{
+    matches!(command, Words::Append { .. } | Words::Pulses)
+}
+
+/// Carries out a command that takes memory and reads no input, in what it has taken.
+fn carry_out_blind<T: Tape, K: Sink>(
+    mut room: Room,
+    command: &Words,
+    unit: &mut Unit<T>,
+    sink: &mut K,
+) -> Status
+    requires built { (traits_of command.now).built ≡ true }
+    requires memory { (traits_of command.now).memory ≡ true }
+    requires reads { (traits_of command.now).reads ≡ false }
+    ensures { EndsBlind T.means K.means command.now
+        unit.old.tape unit.new.tape sink.old sink.new result }
+{
+    match *command {
+        Words::Format { ref label, date } => format_cartridge(unit, &mut room, label, date, sink),
+        Words::Info => info(unit, room, sink),
+        Words::List => list(unit, room, sink),
+        Words::Restore { number } => restore(unit, room, number, sink),
+        Words::Scrub => scrub(unit, room, sink),
+        _ => unreachable!("the other commands take no memory, or read the input"),
+    }
+}
+
 /// Carries out a command that takes memory, in what it has taken.
 fn carry_out_in<T: Tape, S: Source, K: Sink>(
-    mut room: Room,
+    room: Room,
     command: &Words,
     unit: &mut Unit<T>,
     source: &mut S,
@@ -62,14 +91,12 @@ fn carry_out_in<T: Tape, S: Source, K: Sink>(
     ensures source { (traits_of command.now).reads ≡ false → source.new ≡ source.old }
     ensures kept { S.means.keeps source.old source.new }
 {
+    if !reads_input(command) {
+        return carry_out_blind(room, command, unit, sink);
+    }
     match *command {
-        Words::Format { ref label, date } => format_cartridge(unit, &mut room, label, date, sink),
-        Words::Info => info(unit, room, sink),
         Words::Append { ref name, date } => append(unit, room, name, date, source, sink),
-        Words::List => list(unit, room, sink),
-        Words::Restore { number } => restore(unit, room, number, sink),
-        Words::Scrub => scrub(unit, room, sink),
-        _ => unreachable!("no other command takes memory"),
+        _ => unreachable!("no other command that takes memory reads the input"),
     }
 }
 
