@@ -1,4 +1,5 @@
 pub mod Again
+pub mod Appending
 pub mod Finding
-pub mod Settling
 pub mod Mounting
+pub mod Settling

@@ -2,6 +2,8 @@
 //! host; and its volume table settled (the volume table and its settling are this project's profile).
 #![tactic(auto)]
 
+mod appended;
+mod appending;
 mod fault;
 mod header_reader;
 mod learning;
@@ -12,6 +14,7 @@ mod table_reader;
 mod table_writer;
 mod volume_reader;
 
+pub use appended::Appended;
 pub use fault::StoreFault;
 pub use store::Store;
 pub use table_reader::read_table;

@@ -1,0 +1,231 @@
+-- What an append does, by the map, the list, the table's data and the input; and how the call ended (this project's own).
+use Rattle.std.specs.Prelude.{◌≡◌, ℕ, ◌+◌, ◌-◌, ◌*◌, ◌<◌, ◌≤◌, ◌&&◌, Bool, true, false, List, [], ◌∷◌, ◌++◌, length, take, drop, min, Option, Some, None, All, IfSome, IfNone, is_some, nat_le, nat_lt, if◌then◌else◌, Result, Ok, Err}
+use Rattle.std.specs.Option.{option_map}
+use Rattle.qic_base.specs.Cartridge.{Cartridge}
+use Rattle.qic_base.specs.Source as sources
+use Rattle.qic_base.specs.Step.{Step}
+use Rattle.qic_base.specs.Tape as tapes
+use Rattle.acts.specs.Acts.{Act, Outside, Failing, TapeFails, SourceFails, Went, Cut}
+use Rattle.acts.specs.Around.{no_sink}
+use Rattle.cartridge_spec.specs.HeaderAndTable.{table_cells, TableIs}
+use Rattle.cartridge_spec.specs.Says.{LostSectors, ByCode, TableSays}
+use Rattle.cartridge_spec.specs.Slots.{slot_bytes, slot_sector, with_slot}
+use Rattle.cartridge_spec.specs.Table.{Entry, Shows}
+use Rattle.append_plan.specs.Between.{table_writes}
+use Rattle.append_plan.specs.NewVolume.{new_entry}
+use Rattle.append_plan.specs.Room.{free_segments, room, taken_by}
+use Rattle.mount_laws.specs.Settling.{settling_steps}
+use Rattle.volume_input.specs.Input.{input_acts}
+use Rattle.volume_input.specs.declared.written.Written.{Written}
+use Rattle.volume_store.specs.declared.appended.Appended.{Appended}
+use Rattle.volume_store.specs.declared.fault.StoreFault.{StoreFault}
+use Rattle.volume_store.specs.declared.fault.StoreFault.TheVariants as fault
+use Rattle.volume_store.specs.Mounting.{StoreView}
+
+-- ---- the input
+
+-- What becomes of an input: these bytes are the volume's; or there is no room for so many; or it ends before so many as were
+-- promised.
+pub data Taking : Type 0 where
+  Fits : (bytes : List ℕ) → Taking
+  TooLong : (need have : ℕ) → Taking
+  TooShort : (promised read : ℕ) → Taking
+
+-- There is room for a byte at least, and for as many as are promised.
+abbrev pub has_promised_room : (have : ℕ) → (promised : Option ℕ) → Bool
+has_promised_room have None = nat_le 1 have
+has_promised_room have (Some n) = nat_le 1 have && nat_le n have
+
+-- With nothing promised all of the input is taken, and of one that is too long a byte more than there is room for; with a
+-- promise just as many bytes, and none where there is no room for them.
+abbrev pub taking : (have : ℕ) → (promised : Option ℕ) → (input : List ℕ) → Taking
+taking have None input =
+    if nat_le 1 have && nat_le (length input) have then Fits input else TooLong (min (length input) (have + 1)) have
+taking have (Some n) input =
+    if has_promised_room have (Some n)
+    then (if nat_lt (length input) n then TooShort n (length input) else Fits (take n input))
+    else TooLong n have
+
+-- how many bytes are taken
+abbrev pub bytes_taken : (promised : Option ℕ) → Taking → ℕ
+bytes_taken promised (Fits bytes) = length bytes
+bytes_taken None (TooLong need have) = need
+bytes_taken (Some n) (TooLong need have) = 0
+bytes_taken promised (TooShort n read) = read
+
+-- at most so many bytes are written
+abbrev pub most_written : (have : ℕ) → (promised : Option ℕ) → ℕ
+most_written have None = have
+most_written have (Some n) = n
+
+-- ---- the acts
+
+-- what an append goes by: the words of the map, the list, the last segment, the table's data, and the steps that settle it
+pub record Kept : Type 0 where
+  pub words : List ℕ
+  pub entries : List Entry
+  pub last : ℕ
+  pub table : List (List ℕ)
+  pub settling : List Step
+
+abbrev pub room_in : Kept → ℕ
+room_in kept = room kept.words kept.entries kept.last
+
+abbrev pub free_in : Kept → List ℕ
+free_in kept = free_segments kept.words kept.entries kept.last
+
+-- the segments that the bytes of the input fill, where there is room: one act for each
+abbrev pub input_writes : Kept → (promised : Option ℕ) → (input : List ℕ) → List Act
+input_writes kept promised input =
+    if has_promised_room (room_in kept) promised
+    then input_acts kept.words (free_in kept) (most_written (room_in kept) promised) (is_some promised) input
+    else []
+
+-- the entry of a volume of these bytes
+abbrev pub entry_for : Kept → (name : List ℕ) → (date : ℕ) → (bytes : List ℕ) → Entry
+entry_for kept name date bytes = new_entry (taken_by kept.words (length bytes) (free_in kept)) name date (length bytes)
+
+-- the table's data with an entry in the slot behind the last one
+abbrev pub table_with : Kept → Entry → List (List ℕ)
+table_with kept entry = with_slot kept.table (length kept.entries) (slot_bytes entry)
+
+-- last, where all bytes are there, the writes of the table, and the reply
+abbrev pub entry_acts : Kept → (name : List ℕ) → (date : ℕ) → (reply : Entry → List ℕ) → Taking → List Act
+entry_acts kept name date reply (Fits bytes) =
+    record {
+      steps = table_writes (slot_sector (length kept.entries)) (table_with kept (entry_for kept name date bytes));
+      text = reply (entry_for kept name date bytes);
+    } ∷ []
+entry_acts kept name date reply (TooLong need have) = []
+entry_acts kept name date reply (TooShort promised read) = []
+
+-- the settling of the table, the volume's segments, and the table
+abbrev pub append_acts : Kept → (name : List ℕ) → (date : ℕ) → (promised : Option ℕ) → (reply : Entry → List ℕ) → (input : List ℕ) → List Act
+append_acts kept name date promised reply input =
+    record { steps = kept.settling; text = [] }
+    ∷ (input_writes kept promised input ++ entry_acts kept name date reply (taking (room_in kept) promised input))
+
+-- no reply
+abbrev pub silently : Entry → List ℕ
+silently entry = []
+
+-- ---- how the input was taken
+
+-- what an append goes by but for the table
+abbrev pub kept_in : (words : List ℕ) → (entries : List Entry) → Kept
+kept_in words entries = record { words = words; entries = entries; last = length words - 1; table = []; settling = [] }
+
+-- The segments were written, and this became of the input that the source told, or of some input where it tells none.
+pub record InputWent {T S : Type 0} (t : tapes.Meaning T) (s : sources.Meaning S) (words : List ℕ) (entries : List Entry) (promised : Option ℕ) (old new : Outside T S (Unit {0})) (became : Taking) : Type 0 where
+  pub input : List ℕ
+  pub is_told : IfSome (s.left old.source) (λ bytes. input ≡ bytes)
+  pub content : IfNone (s.left old.source) (All (λ b. b < 256) input)
+  pub took : taking (room_in (kept_in words entries)) promised input ≡ became
+  pub went : Went t s no_sink old new (input_writes (kept_in words entries) promised input)
+  pub left : s.left new.source ≡ option_map (drop (bytes_taken promised became)) (s.left old.source)
+
+-- .. all of it was written: what is answered of it
+pub record InputWritten {T S : Type 0} (t : tapes.Meaning T) (s : sources.Meaning S) (words : List ℕ) (entries : List Entry) (promised : Option ℕ) (old new : Outside T S (Unit {0})) (written : Written) : Type 0 where
+  pub bytes : List ℕ
+  pub went : InputWent t s words entries promised old new (Fits bytes)
+  pub count : written.bytes ≡ length bytes
+  pub start : written.start ≡ (entry_for (kept_in words entries) [] 0 bytes).start
+  pub end : written.end ≡ (entry_for (kept_in words entries) [] 0 bytes).end
+
+-- A fault of the tape or of the source cut the writes off.
+pub record InputBroke {T S : Type 0} (t : tapes.Meaning T) (s : sources.Meaning S) (words : List ℕ) (entries : List Entry) (promised : Option ℕ) (old new : Outside T S (Unit {0})) (failing : Failing) : Type 0 where
+  pub input : List ℕ
+  pub is_told : IfSome (s.left old.source) (λ bytes. input ≡ bytes)
+  pub content : IfNone (s.left old.source) (All (λ b. b < 256) input)
+  pub cut : Cut t s no_sink old new (input_writes (kept_in words entries) promised input) failing
+  pub tells : is_some (s.left new.source) ≡ is_some (s.left old.source)
+
+abbrev pub InputIs : {T S : Type 0} (t : tapes.Meaning T) (s : sources.Meaning S) (words : List ℕ) (entries : List Entry) (promised : Option ℕ) (old new : Outside T S (Unit {0})) → Result Written StoreFault → Type 0
+InputIs t s words entries promised old new (Ok written) = InputWritten t s words entries promised old new written
+InputIs t s words entries promised old new (Err (fault.Full need have)) = InputWent t s words entries promised old new (TooLong need have)
+InputIs t s words entries promised old new (Err (fault.Short asked read)) = InputWent t s words entries promised old new (TooShort asked read)
+InputIs t s words entries promised old new (Err fault.Source) = InputBroke t s words entries promised old new SourceFails
+InputIs t s words entries promised old new (Err fault.Tape) = InputBroke t s words entries promised old new TapeFails
+InputIs t s words entries promised old new (Err fault) = ⊥
+
+-- ---- how the call ended
+
+-- what an append to the cartridge of a store goes by, where the table's data are these and these steps settle it
+abbrev pub kept_by : StoreView → (table : List (List ℕ)) → (settling : List Step) → Kept
+kept_by store table settling = record {
+  words = store.words;
+  entries = store.entries;
+  last = length store.words - 1;
+  table = table;
+  settling = settling;
+}
+
+-- All acts went, and this became of the input that the source told, or of some input where it tells none.
+pub record AppendRan {T S : Type 0} (t : tapes.Meaning T) (s : sources.Meaning S) (old new : Outside T S (Unit {0})) (store : StoreView) (name : List ℕ) (date : ℕ) (promised : Option ℕ) (became : Taking) : Type 0 where
+  pub table : List (List ℕ)
+  pub settling : List Step
+  pub shown : Shows table store.entries
+  pub known : tapes.Tells t old.tape (λ c. TableIs c table × (settling ≡ settling_steps table c))
+  pub input : List ℕ
+  pub is_told : IfSome (s.left old.source) (λ bytes. input ≡ bytes)
+  pub content : IfNone (s.left old.source) (All (λ b. b < 256) input)
+  pub took : taking (room_in (kept_by store table settling)) promised input ≡ became
+  pub went : Went t s no_sink old new (append_acts (kept_by store table settling) name date promised silently input)
+  pub left : s.left new.source ≡ option_map (drop (bytes_taken promised became)) (s.left old.source)
+
+-- .. and the volume was added: what is answered of it
+pub record HasAppended {T S : Type 0} (t : tapes.Meaning T) (s : sources.Meaning S) (old new : Outside T S (Unit {0})) (store after : StoreView) (name : List ℕ) (date : ℕ) (promised : Option ℕ) (appended : Appended) : Type 0 where
+  pub bytes : List ℕ
+  pub ran : AppendRan t s old new store name date promised (Fits bytes)
+  pub entry : Entry
+  pub is_entry : entry ≡ entry_for (kept_by store ran.table ran.settling) name date bytes
+  pub added : after.entries ≡ store.entries ++ entry ∷ []
+  pub number : appended.number ≡ length store.entries + 1
+  pub count : appended.bytes ≡ length bytes
+  pub start : appended.start ≡ entry.start
+  pub end : appended.end ≡ entry.end
+
+-- The table was refused: where the tape tells its cartridge, by this that it says, and before anything was done.
+pub record TableRefused {T S : Type 0} (t : tapes.Meaning T) (s : sources.Meaning S) (old new : Outside T S (Unit {0})) (Says : Cartridge → Type 0) : Type 0 where
+  pub acts : List Act
+  pub went : Went t s no_sink old new acts
+  pub told : tapes.Tells t old.tape (λ c. (acts ≡ []) × (new.source ≡ old.source) × Says c)
+  pub tells : is_some (s.left new.source) ≡ is_some (s.left old.source)
+
+-- A fault of the tape or of the source cut the acts off, whatever the reply would have been: it was not begun.
+pub record AppendCut {T S : Type 0} (t : tapes.Meaning T) (s : sources.Meaning S) (old new : Outside T S (Unit {0})) (store : StoreView) (name : List ℕ) (date : ℕ) (promised : Option ℕ) (failing : Failing) : Type 0 where
+  pub input : List ℕ
+  pub is_told : IfSome (s.left old.source) (λ bytes. input ≡ bytes)
+  pub content : IfNone (s.left old.source) (All (λ b. b < 256) input)
+  pub told : tapes.Tells t old.tape (λ c. (table : List (List ℕ)) → TableIs c table → (reply : Entry → List ℕ) →
+      Cut t s no_sink old new (append_acts (kept_by store table (settling_steps table c)) name date promised reply input) failing)
+  -- and over any tape
+  pub acts : List Act
+  pub cut : Cut t s no_sink old new acts failing
+  pub tells : is_some (s.left new.source) ≡ is_some (s.left old.source)
+
+-- nothing was touched
+abbrev pub IsUntouched : {T S : Type 0} (old new : Outside T S (Unit {0})) → Type 0
+IsUntouched old new = (new.tape ≡ old.tape) × (new.source ≡ old.source)
+
+abbrev pub AppendEnds : {T S : Type 0} (t : tapes.Meaning T) (s : sources.Meaning S) (old new : Outside T S (Unit {0})) (store after : StoreView) (name : List ℕ) (date : ℕ) (promised : Option ℕ) → Result Appended StoreFault → Type 0
+AppendEnds t s old new store after name date promised (Ok appended) = HasAppended t s old new store after name date promised appended
+AppendEnds t s old new store after name date promised (Err fault.Protected) = IsUntouched old new
+AppendEnds t s old new store after name date promised (Err (fault.Lost segment lost)) =
+    (segment ≡ 2) × (3 < lost) × TableRefused t s old new (λ c. TableSays (table_cells c) (ByCode (LostSectors lost)))
+AppendEnds t s old new store after name date promised (Err fault.TableMismatch) = TableRefused t s old new (λ c. ⊥)
+AppendEnds t s old new store after name date promised (Err (fault.Full need have)) = AppendRan t s old new store name date promised (TooLong need have)
+AppendEnds t s old new store after name date promised (Err (fault.Short asked read)) = AppendRan t s old new store name date promised (TooShort asked read)
+AppendEnds t s old new store after name date promised (Err fault.Source) = AppendCut t s old new store name date promised SourceFails
+AppendEnds t s old new store after name date promised (Err fault.Tape) = AppendCut t s old new store name date promised TapeFails
+AppendEnds t s old new store after name date promised (Err fault) = ⊥
+
+-- all answers leave the list but Ok and a fault of the tape, and each the header and the map
+abbrev pub KeepsList : Result Appended StoreFault → (store after : StoreView) → Type 0
+KeepsList (Ok appended) store after = Unit {0}
+KeepsList (Err fault.Tape) store after = Unit {0}
+KeepsList (Err fault) store after = after.entries ≡ store.entries
+
+pub record KeepsFormat (store after : StoreView) : Type 0 where
+  pub header : after.header ≡ store.header
+  pub words : after.words ≡ store.words

@@ -1,0 +1,41 @@
+-- How the restoring of a volume ended, by the answer of the call (this project's own).
+use Rattle.std.specs.Prelude.{◌≡◌, ℕ, zero, suc, Bool, List, length, slice_get, Option, None, Some, Result, Ok, Err}
+use Rattle.qic_base.specs.Sink as sinks
+use Rattle.qic_base.specs.Tape as tapes
+use Rattle.acts.specs.Acts.{Outside, TapeFails, SinkFails}
+use Rattle.cartridge_spec.specs.Table.{Entry}
+use Rattle.cartridge_spec.specs.Volumes.{volume_length}
+use Rattle.restore_plan.specs.Restoring.{Restored, LostIn, MismatchIn, pieces}
+use Rattle.volume_output.specs.Output.{GaveVolume, VolumeCut}
+use Rattle.volume_store.specs.declared.fault.StoreFault.{StoreFault}
+use Rattle.volume_store.specs.declared.fault.StoreFault.TheVariants as fault
+use Rattle.volume_store.specs.Mounting.{StoreView}
+
+-- the volume with a number, counted from 1
+abbrev pub volume_at : List Entry → (number : ℕ) → Option Entry
+volume_at entries zero = None
+volume_at entries (suc n) = slice_get entries n
+
+-- there is a volume of this number, and this is so of it
+abbrev pub OfVolume : StoreView → (number : ℕ) → (Entry → Type 0) → Type 0
+OfVolume store number P = (e : Entry) × (volume_at store.entries number ≡ Some e) × P e
+
+-- there is none, and nothing was touched
+pub record NoneGiven {T K : Type 0} (store : StoreView) (asked : ℕ) (old new : Outside T (Unit {0}) K) (number count : ℕ) : Type 0 where
+  pub none : volume_at store.entries asked ≡ None
+  pub named : number ≡ asked
+  pub counted : count ≡ length store.entries
+  pub tape : new.tape ≡ old.tape
+  pub sink : new.sink ≡ old.sink
+
+abbrev pub RestoreEnds : {T K : Type 0} (t : tapes.Meaning T) (k : sinks.Meaning K) (store : StoreView) (number : ℕ) (lined : Bool) (old new : Outside T (Unit {0}) K) → Result ℕ StoreFault → Type 0
+RestoreEnds t k store number lined old new (Ok bytes) =
+    OfVolume store number (λ e. (bytes ≡ volume_length store.words e) × GaveVolume t k store.words (pieces store.words e) lined old new Restored)
+RestoreEnds t k store number lined old new (Err (fault.NoVolume asked count)) = NoneGiven store number old new asked count
+RestoreEnds t k store number lined old new (Err (fault.Lost segment lost)) =
+    OfVolume store number (λ e. GaveVolume t k store.words (pieces store.words e) lined old new (LostIn segment lost))
+RestoreEnds t k store number lined old new (Err (fault.Mismatch segment)) =
+    OfVolume store number (λ e. GaveVolume t k store.words (pieces store.words e) lined old new (MismatchIn segment))
+RestoreEnds t k store number lined old new (Err fault.Sink) = OfVolume store number (λ e. VolumeCut t k store.words (pieces store.words e) lined old new SinkFails)
+RestoreEnds t k store number lined old new (Err fault.Tape) = OfVolume store number (λ e. VolumeCut t k store.words (pieces store.words e) lined old new TapeFails)
+RestoreEnds t k store number lined old new (Err fault) = ⊥
