@@ -43,9 +43,9 @@ act_front words s bytes more carry full =
     let n : ℕ = data_count (mask_at words s) in
     let room : 1024 * n ≤ length bytes = omega (arith, carried_all words s carry) in
     ap (sectors_act words s) (
-      sym (sectors_take_theirs n (bytes ++ more))
-      ∙ ap (in_sectors n) (take-append-le (1024 * n) bytes more room)
-      ∙ sectors_take_theirs n bytes
+    sym (sectors_take_theirs n (bytes ++ more))
+    ∙ ap (in_sectors n) (take-append-le (1024 * n) bytes more room)
+    ∙ sectors_take_theirs n bytes
     )
 
 -- ---- what is decided by a test

@@ -1,9 +1,10 @@
 -- The input of a volume that was cut off, and the acts that it asks for.
-use Rattle.std.proofs.Common.{◌≡◌, ◌⊎◌, inl, inr, ℕ, ◌+◌, ◌-◌, ◌<◌, ◌≤◌, ◌&&◌, min, Bool, true, false, cond, List, [], ◌∷◌, ◌++◌, length, take, drop, Option, Some, None, IfSome, refl, sym, ap, ◌∙◌, subst, arith, nat_lt, nat_le, append_assoc, append-nil}
+use Rattle.std.proofs.Common.{◌≡◌, ◌⊎◌, inl, inr, ℕ, ◌+◌, ◌-◌, ◌<◌, ◌≤◌, ◌&&◌, min, Bool, true, false, cond, List, [], ◌∷◌, ◌++◌, length, take, drop, All, Option, Some, None, IfSome, IfNone, refl, sym, ap, ◌∙◌, subst, arith, nat_lt, nat_le, append_assoc, append-nil}
 use Rattle.std.specs.Prelude.{is_some}
 use Rattle.std.specs.Option.{option_map}
 use Rattle.std.proofs.lemmas.Bool.{cases_lt, and_parts, ltb-true, ltb-false, cases_Bool}
 use Rattle.std.proofs.lemmas.List.{length-append, length-take, take_all}
+use Rattle.std.proofs.lemmas.List.Elements.{All-nil, All-append}
 use Rattle.std.proofs.Math.Seq.{take-append-add, take-nil}
 use Rattle.acts.specs.Acts.{Act}
 use Rattle.cartridge_spec.specs.Shape.{Carries, mask_at, capacity}
@@ -30,6 +31,29 @@ still_tells before (Some rest) bytes gave = ap (λ (o : Option (List ℕ)). is_s
 pub none_left : (after : Option (List ℕ)) → IfSome after (λ bytes. bytes ≡ []) → left_of after ≡ []
 none_left None ended = refl
 none_left (Some bytes) ended = ended
+
+-- ---- bytes that no one tells
+
+pub untold_content : (told : Option (List ℕ)) (bytes : List ℕ) → All (λ (b : ℕ). b < 256) bytes → IfNone told (All (λ (b : ℕ). b < 256) bytes)
+untold_content None bytes content = content
+untold_content (Some told) bytes content = tt
+
+-- those of two readings, and what is left
+pub bytes_untold : (before now after : Option (List ℕ)) (first came : List ℕ) → before ≡ option_map (λ rest. first ++ rest) now → now ≡ option_map (λ rest. came ++ rest) after →
+    All (λ (b : ℕ). b < 256) first → IfNone now (All (λ (b : ℕ). b < 256) came) →
+    IfNone before (All (λ (b : ℕ). b < 256) ((first ++ came) ++ left_of after))
+bytes_untold (Some told) now after first came gave more content some = tt
+bytes_untold None (Some told) after first came gave more content some = absurd (cc)
+bytes_untold None None (Some left) first came gave more content some = absurd (cc)
+bytes_untold None None None first came gave more content some =
+    subst (All (λ (b : ℕ). b < 256)) (sym (append-nil (first ++ came))) (All-append (λ (b : ℕ). b < 256) first came content some)
+
+-- where none tells them, there may have been none
+pub told_bytes : (before after : Option (List ℕ)) (came : List ℕ) → before ≡ option_map (λ rest. came ++ rest) after →
+    (bytes : List ℕ) × (before ≡ option_map (λ rest. bytes ++ rest) after) × IfNone before (All (λ (b : ℕ). b < 256) bytes)
+told_bytes (Some told) after came gave = (came, gave, tt)
+told_bytes None None came gave = ([], refl, All-nil (λ (b : ℕ). b < 256))
+told_bytes None (Some left) came gave = absurd (cc)
 
 -- ---- acts that the input begins with
 
@@ -126,8 +150,7 @@ module _ (words front : List ℕ) (s : ℕ) (rest bytes came behind : List ℕ) 
   next_in_volume =
       let left : ℕ = most - length bytes in
       let more : List ℕ = take left (came ++ behind) in
-      let acts : List Act = cond (nat_le (length more) (capacity (mask_at words s))) [] (volume_acts words rest (drop (capacity (mask_at words s)) more)) in
-      (
+      let acts : List Act = cond (nat_le (length more) (capacity (mask_at words s))) [] (volume_acts words rest (drop (capacity (mask_at words s)) more)) in (
         acts,
         append_assoc (filled_acts words front bytes) (segment_act words s came ∷ []) acts
             ∙ ap (λ (act : Act). filled_acts words front bytes ++ act ∷ acts) (sym (next_act words s came behind left here fits few ended))
@@ -144,8 +167,7 @@ module _ (words front : List ℕ) (s : ℕ) (rest bytes came behind : List ℕ) 
       (acts : List Act) × ((filled_acts words front bytes ++ segment_act words s came ∷ []) ++ acts ≡ filled_acts words (front ++ s ∷ rest) (bytes ++ (came ++ behind)))
   next_in_filled all =
       let acts : List Act = filled_acts words rest (drop (capacity (mask_at words s)) (came ++ behind)) in
-      let more : capacity (mask_at words s) ≤ length (came ++ behind) = omega (arith, length-append came behind) in
-      (
+      let more : capacity (mask_at words s) ≤ length (came ++ behind) = omega (arith, length-append came behind) in (
         acts,
         append_assoc (filled_acts words front bytes) (segment_act words s came ∷ []) acts
             ∙ ap (λ (act : Act). filled_acts words front bytes ++ act ∷ acts) (sym (act_front words s came behind here all))
@@ -160,17 +182,22 @@ module _ (words front : List ℕ) (s : ℕ) (rest bytes came behind : List ℕ) 
             let long : length (bytes ++ (came ++ behind)) ≡ length bytes + (length came + length behind) =
             omega (arith, length-append bytes (came ++ behind), length-append came behind) in
             let begins = next_in_filled (exact_fills exact (length came) (length (bytes ++ (came ++ behind))) most (capacity (mask_at words s)) (most - length bytes) short whole few
-            (λ all. omega arith)) in
-            (begins.0, begins.1 ∙ sym (chosen_true (exact && nat_lt (length (bytes ++ (came ++ behind))) most) (filled_acts words (front ++ s ∷ rest) (bytes ++ (came ++ behind)))
-            (volume_acts words (front ++ s ∷ rest) (take most (bytes ++ (came ++ behind)))) short))
-        | inr other ↦
-            (next_in_volume.0, next_in_volume.1 ∙ sym (chosen_false (exact && nat_lt (length (bytes ++ (came ++ behind))) most) (filled_acts words (front ++ s ∷ rest) (bytes ++ (came ++ behind)))
-            (volume_acts words (front ++ s ∷ rest) (take most (bytes ++ (came ++ behind)))) other))
+            (λ all. omega arith)) in (
+              begins.0,
+              begins.1 ∙ sym (chosen_true (exact && nat_lt (length (bytes ++ (came ++ behind))) most) (filled_acts words (front ++ s ∷ rest) (bytes ++ (came ++ behind)))
+                  (volume_acts words (front ++ s ∷ rest) (take most (bytes ++ (came ++ behind)))) short),
+            )
+        | inr other ↦ (
+          next_in_volume.0,
+          next_in_volume.1 ∙ sym (chosen_false (exact && nat_lt (length (bytes ++ (came ++ behind))) most) (filled_acts words (front ++ s ∷ rest) (bytes ++ (came ++ behind)))
+              (volume_acts words (front ++ s ∷ rest) (take most (bytes ++ (came ++ behind)))) other),
+        )
       ]
     where
       chosen_true : (b : Bool) (x y : List Act) → b ≡ true → cond b x y ≡ x
       chosen_true true x y is = refl
       chosen_true false x y is = absurd (cc)
+
       chosen_false : (b : Bool) (x y : List Act) → b ≡ false → cond b x y ≡ y
       chosen_false true x y is = absurd (cc)
       chosen_false false x y is = refl

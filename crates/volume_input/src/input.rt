@@ -52,7 +52,15 @@ pub fn write_volume<T: Tape, S: Source>(
             continue;
         }
         match write_next(
-            host, unit, map, segment, written.bytes, most, exact, work, source,
+            host,
+            unit,
+            map,
+            segment,
+            written.bytes,
+            most,
+            exact,
+            work,
+            source,
         ) {
             Ok(Some(read)) => {
                 written = written.with(segment, read);
