@@ -8,3 +8,4 @@ pub mod Slots
 pub mod Stale
 pub mod Storing
 pub mod TableSegment
+pub mod Taking

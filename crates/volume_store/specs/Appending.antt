@@ -2,11 +2,13 @@
 use Rattle.std.specs.Prelude.{◌≡◌, ℕ, ◌+◌, ◌-◌, ◌*◌, ◌<◌, ◌≤◌, ◌&&◌, Bool, true, false, List, [], ◌∷◌, ◌++◌, length, take, drop, min, Option, Some, None, All, IfSome, IfNone, is_some, nat_le, nat_lt, if◌then◌else◌, Result, Ok, Err}
 use Rattle.std.specs.Option.{option_map}
 use Rattle.qic_base.specs.Cartridge.{Cartridge}
+use Rattle.qic_base.specs.Cause.{Rose}
 use Rattle.qic_base.specs.Source as sources
 use Rattle.qic_base.specs.Step.{Step}
 use Rattle.qic_base.specs.Tape as tapes
 use Rattle.acts.specs.Acts.{Act, Outside, Failing, TapeFails, SourceFails, Went, Cut}
 use Rattle.acts.specs.Around.{no_sink}
+use Rattle.tape_script.specs.Reading.{Skips}
 use Rattle.cartridge_spec.specs.HeaderAndTable.{table_cells, TableIs}
 use Rattle.cartridge_spec.specs.Says.{LostSectors, ByCode, TableSays}
 use Rattle.cartridge_spec.specs.Slots.{slot_bytes, slot_sector, with_slot}
@@ -147,6 +149,12 @@ InputIs t s words entries promised old new (Err (fault.Short asked read)) = Inpu
 InputIs t s words entries promised old new (Err fault.Source) = InputBroke t s words entries promised old new SourceFails
 InputIs t s words entries promised old new (Err fault.Tape) = InputBroke t s words entries promised old new TapeFails
 InputIs t s words entries promised old new (Err fault) = ⊥
+
+-- What a call took where there is no room: at most one byte, which it tells of; or the source failed.
+abbrev pub TakesNone : {S : Type 0} (s : sources.Meaning S) (old new : S) → StoreFault → Type 0
+TakesNone s old new (fault.Full need have) = (have ≡ 0) × (s.faults old ≤ s.faults new) × Skips {E = Unit {0}} s old new 1 (Ok need)
+TakesNone s old new fault.Source = (s.faults old ≤ s.faults new) × Rose (s.faults old) (s.faults new) × Skips {E = Unit {0}} s old new 1 (Err tt)
+TakesNone s old new fault = ⊥
 
 -- ---- how the call ended
 
