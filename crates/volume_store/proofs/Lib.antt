@@ -1,4 +1,6 @@
 pub mod Adding
+pub mod Behind
+pub mod Ending
 pub mod Again
 pub mod Copies
 pub mod Mending

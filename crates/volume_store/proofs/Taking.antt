@@ -37,7 +37,7 @@ chosen_false : {X : Type 0} (b : Bool) (x y : X) → b ≡ false → cond b x y 
 chosen_false true x y is = absurd (cc)
 chosen_false false x y is = refl
 
-both_true : (a b : Bool) → a ≡ true → b ≡ true → (a && b) ≡ true
+pub both_true : (a b : Bool) → a ≡ true → b ≡ true → (a && b) ≡ true
 both_true true true one other = refl
 both_true true false one other = absurd (cc)
 both_true false b one other = absurd (cc)
@@ -90,7 +90,7 @@ promised_full have n input few =
 
 -- ---- the input, by what was given of it
 
-untold_content : (before after : Option (List ℕ)) (bytes : List ℕ) → before ≡ option_map (λ rest. bytes ++ rest) after →
+pub untold_content : (before after : Option (List ℕ)) (bytes : List ℕ) → before ≡ option_map (λ rest. bytes ++ rest) after →
     IfNone before (All (λ (b : ℕ). b < 256) bytes) → IfNone before (All (λ (b : ℕ). b < 256) (bytes ++ left_of after))
 untold_content (Some told) after bytes gave content = tt
 untold_content None (Some left) bytes gave content = absurd (cc)

@@ -1,23 +1,29 @@
 //! A mounted cartridge.
 
-ghost use Rattle.std.specs.Prelude.{◌≡◌, ◌+◌, ◌-◌, ◌*◌, ◌<◌, ◌≤◌, IfOk, IfSome, slice_get, length};
+ghost use Rattle.std.specs.Prelude.{◌≡◌, ◌≢◌, ◌↔◌, ◌+◌, ◌-◌, ◌*◌, ◌<◌, ◌≤◌, true, Err, IfOk, IfSome, slice_get, length};
+ghost use Rattle.acts.specs.Around.{reading};
+ghost use Rattle.drive_states.specs.Deck.{is_protected};
 ghost use Rattle.host_driver.specs.Calls.{IsReady};
 ghost use Rattle.host_driver.specs.Fits.{AgreesWithTape, segments_of};
 ghost use Rattle.cartridge_spec.specs.Shape.{mask_at, marked_sectors};
 ghost use Rattle.cartridge_spec.specs.Volumes.{capacity_between, volume_length};
 ghost use Rattle.header_segments.specs.Header.{header_of};
+ghost use Rattle.volume_store.specs.Appending.{AppendEnds, KeepsFormat, KeepsList};
 ghost use Rattle.volume_store.specs.Finding.{NamesCause, RefusesMounting};
 ghost use Rattle.volume_store.specs.Mounting.{MountDoes, StoreFits};
 ghost use Rattle.volume_table.specs.Entry.{entry_of};
 
+use crate::appended::Appended;
+use crate::appending::take_input;
 use crate::fault::StoreFault;
 use crate::learning::learn;
+use crate::refreshing::{add_entry, settle_again};
 use crate::settling::settle;
 use bad_sector_map::BadMap;
 use drive_states::Unit;
 use header_segments::Header;
 use host_driver::Host;
-use qic_base::Tape;
+use qic_base::{Name, Source, Tape};
 use segment_io::Workspace;
 use std::marker::Model;
 use volume_table::{Entry, Table};
@@ -115,7 +121,6 @@ impl Store {
             (is_protected unit.old.drive.deck ≡ true) }
         ensures list { KeepsList result self.old self.new }
         ensures format { KeepsFormat self.old self.new }
-        ensures fits { result ≢ Err StoreFault.Tape → StoreFits T.means self.new unit.new }
         ensures kept { S.means.keeps source.old source.new }
         ensures size { T.means.size unit.new.tape ≡ T.means.size unit.old.tape }
     {
