@@ -32,8 +32,14 @@ pub fn append<T: Tape, S: Source, K: Sink>(
         record { tape = unit.new.tape; source = source.new; sink = sink.new } result }
     ensures kept { S.means.keeps source.old source.new }
 {
-    let _ = (room, sink);
-    Status::Done
+    let mut store = match open(unit, room) {
+        Ok(store) => store,
+        Err(status) => return status,
+    };
+    match store.append(unit, name, date, None, source) {
+        Ok(appended) => printed(write_text(appended_text(&appended).bytes(), sink)),
+        Err(fault) => store_status(fault),
+    }
 }
 
 #[tactic(auto, unfolding(crate::specs::Lines::appended_line))]

@@ -1,9 +1,10 @@
 -- The input of a volume that was cut off, and the acts that it asks for.
-use Rattle.std.proofs.Common.{◌≡◌, ◌⊎◌, inl, inr, ℕ, ◌+◌, ◌-◌, ◌<◌, ◌≤◌, ◌&&◌, min, Bool, true, false, cond, List, [], ◌∷◌, ◌++◌, length, take, drop, Option, Some, None, IfSome, refl, sym, ap, ◌∙◌, subst, arith, nat_lt, nat_le, append_assoc, append-nil}
+use Rattle.std.proofs.Common.{◌≡◌, ◌⊎◌, inl, inr, ℕ, ◌+◌, ◌-◌, ◌<◌, ◌≤◌, ◌&&◌, min, Bool, true, false, cond, List, [], ◌∷◌, ◌++◌, length, take, drop, All, Option, Some, None, IfSome, IfNone, refl, sym, ap, ◌∙◌, subst, arith, nat_lt, nat_le, append_assoc, append-nil}
 use Rattle.std.specs.Prelude.{is_some}
 use Rattle.std.specs.Option.{option_map}
-use Rattle.std.proofs.lemmas.Bool.{cases_lt, and_parts, ltb-true, cases_Bool}
-use Rattle.std.proofs.lemmas.List.{length-append, length-take}
+use Rattle.std.proofs.lemmas.Bool.{cases_lt, and_parts, ltb-true, ltb-false, cases_Bool}
+use Rattle.std.proofs.lemmas.List.{length-append, length-take, take_all}
+use Rattle.std.proofs.lemmas.List.Elements.{All-nil, All-append}
 use Rattle.std.proofs.Math.Seq.{take-append-add, take-nil}
 use Rattle.acts.specs.Acts.{Act}
 use Rattle.cartridge_spec.specs.Shape.{Carries, mask_at, capacity}
@@ -30,6 +31,29 @@ still_tells before (Some rest) bytes gave = ap (λ (o : Option (List ℕ)). is_s
 pub none_left : (after : Option (List ℕ)) → IfSome after (λ bytes. bytes ≡ []) → left_of after ≡ []
 none_left None ended = refl
 none_left (Some bytes) ended = ended
+
+-- ---- bytes that no one tells
+
+pub untold_content : (told : Option (List ℕ)) (bytes : List ℕ) → All (λ (b : ℕ). b < 256) bytes → IfNone told (All (λ (b : ℕ). b < 256) bytes)
+untold_content None bytes content = content
+untold_content (Some told) bytes content = tt
+
+-- those of two readings, and what is left
+pub bytes_untold : (before now after : Option (List ℕ)) (first came : List ℕ) → before ≡ option_map (λ rest. first ++ rest) now → now ≡ option_map (λ rest. came ++ rest) after →
+    All (λ (b : ℕ). b < 256) first → IfNone now (All (λ (b : ℕ). b < 256) came) →
+    IfNone before (All (λ (b : ℕ). b < 256) ((first ++ came) ++ left_of after))
+bytes_untold (Some told) now after first came gave more content some = tt
+bytes_untold None (Some told) after first came gave more content some = absurd (cc)
+bytes_untold None None (Some left) first came gave more content some = absurd (cc)
+bytes_untold None None None first came gave more content some =
+    subst (All (λ (b : ℕ). b < 256)) (sym (append-nil (first ++ came))) (All-append (λ (b : ℕ). b < 256) first came content some)
+
+-- where none tells them, there may have been none
+pub told_bytes : (before after : Option (List ℕ)) (came : List ℕ) → before ≡ option_map (λ rest. came ++ rest) after →
+    (bytes : List ℕ) × (before ≡ option_map (λ rest. bytes ++ rest) after) × IfNone before (All (λ (b : ℕ). b < 256) bytes)
+told_bytes (Some told) after came gave = (came, gave, tt)
+told_bytes None None came gave = ([], refl, All-nil (λ (b : ℕ). b < 256))
+told_bytes None (Some left) came gave = absurd (cc)
 
 -- ---- acts that the input begins with
 

@@ -1,5 +1,6 @@
 -- One segment: what was read for it, and what became of that.
-use Rattle.std.proofs.Common.{◌≡◌, ◌⊎◌, inl, inr, ℕ, ◌+◌, ◌-◌, ◌*◌, ◌/◌, ◌<◌, ◌≤◌, min, Bool, true, List, [], ◌∷◌, length, take, refl, sym, ap, ◌∙◌, subst, arith, append-nil}
+use Rattle.std.proofs.Common.{◌≡◌, ◌⊎◌, inl, inr, ℕ, ◌+◌, ◌-◌, ◌*◌, ◌/◌, ◌<◌, ◌≤◌, min, Bool, true, List, [], ◌∷◌, ◌++◌, length, take, All, refl, sym, ap, ◌∙◌, subst, arith, append-nil}
+use Rattle.std.proofs.lemmas.List.Elements.{All-nil, All-head, All-tail, All-append, All-take}
 use Rattle.qic_base.specs.Cause.{Rose}
 use Rattle.qic_base.specs.Source as sources
 use Rattle.qic_base.specs.Tape as tapes
@@ -9,8 +10,9 @@ use Rattle.acts.specs.Around.{no_sink, reading}
 use Rattle.cartridge_spec.specs.Says.{with_parity}
 use Rattle.cartridge_spec.specs.Shape.{Carries, mask_at, usable_places, data_count, capacity}
 use Rattle.cartridge_spec.specs.Writes.{writes_of, segment_writes}
-use Rattle.append_plan.specs.NewVolume.{in_sectors}
-use Rattle.append_plan.proofs.Bytes.{carried_all}
+use Rattle.append_plan.specs.NewVolume.{in_sectors, bytes_in}
+use Rattle.append_plan.proofs.Bytes.{carried_all, bytes_of_sectors}
+use Rattle.gf256_qic.specs.Code.{IsSector}
 use Rattle.sector_fill.specs.Filling.{GaveUpTo, GaveWithin, AreFilled}
 use Rattle.volume_input.specs.Input.{segment_act}
 use Rattle.volume_input.specs.Next.{Came, NextWritten, NextBroken, NoneCame, CameShort}
@@ -29,6 +31,21 @@ same_writes words s count usable sectors bytes all is filled =
     ∙ ap (λ (n : ℕ). writes_of s (usable_places (mask_at words s)) (with_parity (take n sectors))) (sym all)
     ∙ ap (λ (data_part : List (List ℕ)). writes_of s (usable_places (mask_at words s)) (with_parity data_part)) filled
     ∙ ap (λ (n : ℕ). writes_of s (usable_places (mask_at words s)) (with_parity (in_sectors n bytes))) all
+
+-- bytes that stand in sectors are bytes
+bytes_of_each : (sectors : List (List ℕ)) → All IsSector sectors → All (λ (x : ℕ). x < 256) (bytes_in sectors)
+bytes_of_each [] are = All-nil (λ (x : ℕ). x < 256)
+bytes_of_each (sector ∷ sectors) are =
+    All-append (λ (x : ℕ). x < 256) sector (bytes_in sectors) (All-head IsSector sector sectors are).bytes
+    (bytes_of_each sectors (All-tail IsSector sector sectors are))
+
+are_bytes : (count : ℕ) (sectors : List (List ℕ)) (bytes : List ℕ) → All IsSector sectors → length bytes ≤ 1024 * count →
+    take count sectors ≡ in_sectors count bytes → All (λ (x : ℕ). x < 256) bytes
+are_bytes count sectors bytes are within filled =
+    subst (All (λ (x : ℕ). x < 256))
+    (ap (λ (ss : List (List ℕ)). take (length bytes) (bytes_in ss)) filled ∙ bytes_of_sectors count bytes within)
+    (All-take (λ (x : ℕ). x < 256) (length bytes) (bytes_in (take count sectors))
+    (bytes_of_each (take count sectors) (All-take IsSector count sectors are)))
 
 module _ {T S : Type 0} (t : tapes.Meaning T) (s : sources.Meaning S) (x y : T) (a b : S) (later : s.faults a ≤ s.faults b) where
   -- nothing was written
@@ -63,11 +80,15 @@ module _ {T S : Type 0} (t : tapes.Meaning T) (s : sources.Meaning S) (x y : T) 
       source_cut rose,
     )
 
-    module _ (read : ℕ) (sectors : List (List ℕ)) (filled : AreFilled s a b (n / 1024) (most - before) (take (n / 1024) sectors) read) where
+    module _ (read : ℕ) (sectors : List (List ℕ)) (are : All IsSector sectors) (filled : AreFilled s a b (n / 1024) (most - before) (take (n / 1024) sectors) read) where
+      content : All (λ (e : ℕ). e < 256) filled.0
+      content = are_bytes (n / 1024) sectors filled.0 are filled.2.fits filled.3
+
       pub came_short : exact ≡ true → read < min n (most - before) →
           CameShort t s words segment before most exact (reading x a) (reading x b) (before + read)
       came_short asked less = record {
         bytes = filled.0;
+        content = content;
         took = up_to filled.0 filled.2;
         is_exact = asked;
         short = (let long = filled.1 in omega arith);
@@ -95,7 +116,7 @@ module _ {T S : Type 0} (t : tapes.Meaning T) (s : sources.Meaning S) (x y : T) 
             by_bytes (e ∷ es) long took all = absurd (omega arith)
 
         came : (before ≡ 0) ⊎ (1 ≤ read) → Came s words segment before most exact a b filled.0
-        came some = record { took = up_to filled.0 filled.2; whole = whole; some = some_of some }
+        came some = record { content = content; took = up_to filled.0 filled.2; whole = whole; some = some_of some }
           where
             some_of : (before ≡ 0) ⊎ (1 ≤ read) → (before ≡ 0) ⊎ (1 ≤ length filled.0)
             some_of (inl first) = inl first

@@ -1,5 +1,5 @@
 -- A volume that is written, segment after segment: those before are filled, and what comes goes behind them.
-use Rattle.std.proofs.Common.{◌≡◌, ◌⊎◌, inl, inr, ℕ, ◌+◌, ◌-◌, ◌<◌, ◌≤◌, min, Bool, List, [], ◌∷◌, ◌++◌, length, Err, refl, sym, ap, ◌∙◌, subst, arith, append_assoc, append-nil}
+use Rattle.std.proofs.Common.{◌≡◌, ◌⊎◌, inl, inr, ℕ, ◌+◌, ◌-◌, ◌<◌, ◌≤◌, min, Bool, true, List, [], ◌∷◌, ◌++◌, length, All, Option, IfSome, IfNone, Result, Ok, Err, refl, sym, ap, ◌∙◌, subst, arith, append_assoc, append-nil}
 use Rattle.std.proofs.lemmas.Bool.{cases_lt}
 use Rattle.std.proofs.lemmas.List.{length-append}
 use Rattle.std.proofs.lemmas.List.Elements.{All-nil, All-cons, All-append}
@@ -22,7 +22,7 @@ use Rattle.volume_input.specs.declared.fault.InputFault.{InputFault}
 use Rattle.volume_input.specs.declared.fault.InputFault.TheVariants as fault
 use Rattle.volume_input.specs.declared.written.Written.{Written}
 use Rattle.volume_input.proofs.Filled.{Carry, GoesOn, carry_head, carries_some, filled_more, filled_ends, volume_ends, filled_behind, volume_behind, volume_full, taken_full, taken_last}
-use Rattle.volume_input.proofs.Inputs.{left_of, whole_told, still_tells, none_left, Begins, filled_begin, next_begins}
+use Rattle.volume_input.proofs.Inputs.{left_of, bytes_untold, told_bytes, untold_content, whole_told, still_tells, none_left, Begins, filled_begin, next_begins}
 use Rattle.volume_input.proofs.Told.{Tells, tells_more}
 
 no_text : TakesBoth no_sink
@@ -36,6 +36,7 @@ pub record SoFar {T S : Type 0} (t : tapes.Meaning T) (s : sources.Meaning S) (w
   pub carry : Carry words front
   pub full : length bytes ≡ capacity_of words front
   pub going : (front ≡ []) ⊎ (length bytes < most)
+  pub content : All (λ b. b < 256) bytes
   pub gave : Gave s start.source now.source bytes
   pub went : Went t s no_sink start now (filled_acts words front bytes)
   pub tells : Tells front (length bytes) written
@@ -74,6 +75,7 @@ module _ {T S : Type 0} {t : tapes.Meaning T} {s : sources.Meaning S} where
     carry = All-nil (λ (segment : ℕ). Carries (mask_at words segment));
     full = refl;
     going = inl refl;
+    content = All-nil (λ (b : ℕ). b < 256);
     gave = Gave-nothing s start.source start.source refl;
     went = nothing_went t s no_sink (λ x. refl) start;
     tells = record { bytes = refl; start = refl; end = refl };
@@ -86,6 +88,9 @@ module _ {T S : Type 0} {t : tapes.Meaning T} {s : sources.Meaning S} where
     -- more bytes came
     all_gave : (came : List ℕ) → Gave s now.source new.source came → Gave s start.source new.source (far.bytes ++ came)
     all_gave came gave = Gave-Gave s start.source now.source new.source far.bytes came far.gave gave
+
+    all_content : (came : List ℕ) → All (λ (b : ℕ). b < 256) came → All (λ (b : ℕ). b < 256) (far.bytes ++ came)
+    all_content came content = All-append (λ (b : ℕ). b < 256) far.bytes came far.content content
 
     -- they are some, or the first
     goes_on : (came : List ℕ) → (written.bytes ≡ 0) ⊎ (1 ≤ length came) → GoesOn far.front came
@@ -120,6 +125,7 @@ module _ {T S : Type 0} {t : tapes.Meaning T} {s : sources.Meaning S} where
               (All-cons (λ (x : ℕ). Carries (mask_at words x)) segment [] here (All-nil (λ (x : ℕ). Carries (mask_at words x))));
           full = (let f = far.full in let p = sum_by_push (λ (x : ℕ). capacity (mask_at words x)) far.front segment in omega arith);
           going = inr (omega arith);
+          content = all_content came come.came.content;
           gave = all_gave came come.came.took.gave;
           went = subst (Went t s no_sink start new)
               (sym (filled_behind words far.front (segment ∷ []) far.bytes came far.carry far.full
@@ -151,6 +157,7 @@ module _ {T S : Type 0} {t : tapes.Meaning T} {s : sources.Meaning S} where
         subst (λ (ss : List ℕ). Tells ss (length far.bytes + length came) (grown written segment read)) (sym taken) told in
         record {
           bytes = far.bytes ++ came;
+          content = all_content came come.came.content;
           gave = all_gave came took.gave;
           within = omega arith;
           ended = λ less. took.ended (in_segment ends few (omega arith)) (omega arith);
@@ -191,6 +198,7 @@ module _ {T S : Type 0} {t : tapes.Meaning T} {s : sources.Meaning S} where
         subst (λ (ss : List ℕ). Tells ss (length far.bytes) written) (sym taken) far.tells in
         record {
           bytes = far.bytes;
+          content = far.content;
           gave = Gave-end s start.source now.source new.source far.bytes far.gave come.took.gave;
           within = inside;
           ended = λ less. come.took.ended (omega arith) (omega arith);
@@ -221,6 +229,7 @@ module _ {T S : Type 0} {t : tapes.Meaning T} {s : sources.Meaning S} where
         let few : length came < capacity (mask_at words segment) = omega arith in
         record {
           bytes = far.bytes ++ came;
+          content = all_content came come.content;
           gave = all_gave came come.took.gave;
           ended = come.took.ended few (omega arith);
           is_exact = come.is_exact;
@@ -236,10 +245,11 @@ module _ {T S : Type 0} {t : tapes.Meaning T} {s : sources.Meaning S} where
     -- ---- a fault
 
     -- the acts of some more were cut off, and the input asks for them
-    cut_off : (came : List ℕ) (acts : List Act) (failing : Failing) → Gave s now.source new.source came → Cut t s no_sink now new acts failing →
+    cut_off : (came : List ℕ) (acts : List Act) (failing : Failing) → Gave s now.source new.source came →
+        IfNone (s.left now.source) (All (λ (b : ℕ). b < 256) came) → Cut t s no_sink now new acts failing →
         Begins words (far.front ++ segment ∷ rest) most exact (far.bytes ++ (came ++ left_of (s.left new.source))) (filled_acts words far.front far.bytes ++ acts) →
         InputCut t s words segments most exact start new failing
-    cut_off came acts failing gave cut begins =
+    cut_off came acts failing gave content cut begins =
         let done : List Act = filled_acts words far.front far.bytes in
         let behind : List ℕ = left_of (s.left new.source) in
         let input : List ℕ = (far.bytes ++ came) ++ behind in
@@ -247,6 +257,7 @@ module _ {T S : Type 0} {t : tapes.Meaning T} {s : sources.Meaning S} where
         record {
           input = input;
           is_told = whole_told (s.left start.source) (s.left new.source) (far.bytes ++ came) (all_gave came gave);
+          content = bytes_untold (s.left start.source) (s.left now.source) (s.left new.source) far.bytes came far.gave gave far.content content;
           cut = subst (λ (xs : List Act). Cut t s no_sink start new xs failing)
               (begins.1 ∙ ap (input_acts words (far.front ++ segment ∷ rest) most exact) same ∙ ap (λ (ss : List ℕ). input_acts words ss most exact input) (sym far.parts))
               (cut_is_longer t s no_sink start new (done ++ acts) begins.0 failing
@@ -258,8 +269,9 @@ module _ {T S : Type 0} {t : tapes.Meaning T} {s : sources.Meaning S} where
         InputCut t s words segments most exact start new SourceFails
     source_failed gave cut =
         let done : List Act = filled_acts words far.front far.bytes in
-        let begins = filled_begin words far.front (segment ∷ rest) far.bytes most far.carry far.full far.going within exact (gave.0 ++ left_of (s.left new.source)) in
-        cut_off gave.0 [] SourceFails gave.3 cut
+        let came = told_bytes (s.left now.source) (s.left new.source) gave.0 gave.3 in
+        let begins = filled_begin words far.front (segment ∷ rest) far.bytes most far.carry far.full far.going within exact (came.0 ++ left_of (s.left new.source)) in
+        cut_off came.0 [] SourceFails came.1 came.2 cut
         (begins.0, ap (λ (acts : List Act). acts ++ begins.0) (append-nil done) ∙ begins.1)
 
     pub tape_failed : NextBroken t s words segment written.bytes most exact now new → InputCut t s words segments most exact start new TapeFails
@@ -267,7 +279,7 @@ module _ {T S : Type 0} {t : tapes.Meaning T} {s : sources.Meaning S} where
         let came : List ℕ = come.bytes in
         let took = come.came.took in
         let before : written.bytes ≡ length far.bytes = far.tells.bytes in
-        cut_off came (segment_act words segment came ∷ []) TapeFails took.gave come.cut
+        cut_off came (segment_act words segment came ∷ []) TapeFails took.gave (untold_content (s.left now.source) came come.came.content) come.cut
         (next_begins words far.front segment rest far.bytes came (left_of (s.left new.source)) most exact far.carry here far.full within took.fits
         (let few = took.within in omega arith)
         (λ less fewer. none_left (s.left new.source) (took.ended less (omega arith)))

@@ -1,5 +1,5 @@
 -- How the bytes of a source went into the segments of a volume (this project's own).
-use Rattle.std.specs.Prelude.{◌≡◌, ℕ, ◌-◌, ◌<◌, ◌≤◌, ◌&&◌, Bool, true, List, [], ◌∷◌, length, take, drop, nat_le, nat_lt, if◌then◌else◌, is_some, IfSome, slice_index, Result, Ok, Err}
+use Rattle.std.specs.Prelude.{◌≡◌, ℕ, ◌-◌, ◌<◌, ◌≤◌, ◌&&◌, Bool, true, List, [], ◌∷◌, length, take, drop, nat_le, nat_lt, if◌then◌else◌, is_some, All, IfSome, IfNone, slice_index, Result, Ok, Err}
 use Rattle.qic_base.specs.Source as sources
 use Rattle.qic_base.specs.Tape as tapes
 use Rattle.acts.specs.Acts.{Act, Outside, Failing, TapeFails, SourceFails, Went, Cut}
@@ -49,6 +49,7 @@ input_acts words segments most exact input =
 -- The source gave these bytes, as many as were wanted, or fewer where it has ended; they were written.
 pub record HasWritten {T S : Type 0} (t : tapes.Meaning T) (s : sources.Meaning S) (words segments : List ℕ) (most : ℕ) (exact : Bool) (old new : Outside T S (Unit {0})) (written : Written) : Type 0 where
   pub bytes : List ℕ
+  pub content : All (λ b. b < 256) bytes
   pub gave : Gave s old.source new.source bytes
   pub within : length bytes ≤ most
   pub ended : length bytes < most → HasEnded s new.source
@@ -62,6 +63,7 @@ pub record HasWritten {T S : Type 0} (t : tapes.Meaning T) (s : sources.Meaning 
 -- It ended before just as many bytes as were wanted; the segments that they fill were written.
 pub record EndedShort {T S : Type 0} (t : tapes.Meaning T) (s : sources.Meaning S) (words segments : List ℕ) (most : ℕ) (exact : Bool) (old new : Outside T S (Unit {0})) (read : ℕ) : Type 0 where
   pub bytes : List ℕ
+  pub content : All (λ b. b < 256) bytes
   pub gave : Gave s old.source new.source bytes
   pub ended : HasEnded s new.source
   pub is_exact : exact ≡ true
@@ -73,6 +75,7 @@ pub record EndedShort {T S : Type 0} (t : tapes.Meaning T) (s : sources.Meaning 
 pub record InputCut {T S : Type 0} (t : tapes.Meaning T) (s : sources.Meaning S) (words segments : List ℕ) (most : ℕ) (exact : Bool) (old new : Outside T S (Unit {0})) (failing : Failing) : Type 0 where
   pub input : List ℕ
   pub is_told : IfSome (s.left old.source) (λ bytes. input ≡ bytes)
+  pub content : IfNone (s.left old.source) (All (λ b. b < 256) input)
   pub cut : Cut t s no_sink old new (input_acts words segments most exact input) failing
   pub tells : is_some (s.left new.source) ≡ is_some (s.left old.source)
 

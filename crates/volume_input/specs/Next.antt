@@ -1,6 +1,6 @@
 -- What the writing of one segment of a volume did, with so many bytes of the input in the segments before it (this
 -- project's own).
-use Rattle.std.specs.Prelude.{◌≡◌, ◌⊎◌, ℕ, ◌+◌, ◌-◌, ◌==◌, ◌<◌, ◌≤◌, if◌then◌else◌, min, Bool, true, List, [], ◌∷◌, length, Option, Some, None, Result, Ok, Err}
+use Rattle.std.specs.Prelude.{◌≡◌, ◌⊎◌, ℕ, ◌+◌, ◌-◌, ◌==◌, ◌<◌, ◌≤◌, if◌then◌else◌, min, Bool, true, List, [], ◌∷◌, length, All, Option, Some, None, Result, Ok, Err}
 use Rattle.qic_base.specs.Source as sources
 use Rattle.qic_base.specs.Tape as tapes
 use Rattle.acts.specs.Acts.{Outside, TapeFails, SourceFails, Went, Cut}
@@ -15,6 +15,7 @@ use Rattle.volume_input.specs.declared.written.Written.{Written}
 -- The source gave these bytes: as many as the segment carries, or as are still wanted, or fewer where it has ended and an
 -- exact number of bytes was not asked for. They are some, or the segment is the first one.
 pub record Came {S : Type 0} (s : sources.Meaning S) (words : List ℕ) (segment before most : ℕ) (exact : Bool) (old new : S) (bytes : List ℕ) : Type 0 where
+  pub content : All (λ b. b < 256) bytes
   pub took : GaveUpTo s old new (capacity (mask_at words segment)) (most - before) bytes
   pub whole : exact ≡ true → length bytes ≡ min (capacity (mask_at words segment)) (most - before)
   pub some : (before ≡ 0) ⊎ (1 ≤ length bytes)
@@ -42,6 +43,7 @@ pub record NoneCame {T S : Type 0} (t : tapes.Meaning T) (s : sources.Meaning S)
 -- fewer came than an exact number of bytes asks for, and the segment was left
 pub record CameShort {T S : Type 0} (t : tapes.Meaning T) (s : sources.Meaning S) (words : List ℕ) (segment before most : ℕ) (exact : Bool) (old new : Outside T S (Unit {0})) (read : ℕ) : Type 0 where
   pub bytes : List ℕ
+  pub content : All (λ b. b < 256) bytes
   pub took : GaveUpTo s old.source new.source (capacity (mask_at words segment)) (most - before) bytes
   pub is_exact : exact ≡ true
   pub short : length bytes < min (capacity (mask_at words segment)) (most - before)

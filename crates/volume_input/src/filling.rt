@@ -1,6 +1,7 @@
 //! The bytes of a source in a workspace.
 
-ghost use Rattle.std.specs.Prelude.{◌≡◌, ◌≤◌, take};
+ghost use Rattle.std.specs.Prelude.{◌≡◌, ◌≤◌, All, take};
+ghost use Rattle.gf256_qic.specs.Code.{IsSector};
 ghost use Rattle.qic_base.specs.Cause.{HasCause};
 ghost use Rattle.sector_fill.specs.Filling.{FillsSectors};
 
@@ -23,4 +24,19 @@ pub fn fill_work<S: Source>(
     ensures cause { HasCause (S.means.faults source.old) (S.means.faults source.new) result }
 {
     fill_sectors(source, work.sectors_mut(), count, most)
+}
+
+/// States that the sectors hold bytes, and does nothing.
+pub fn are_sectors(sectors: &[[u8; 1024]])
+    ensures { All IsSector sectors.now }
+{
+    for sector in sectors {
+        is_sector(sector);
+    }
+}
+
+fn is_sector(sector: &[u8; 1024])
+    ensures { IsSector sector.now }
+{
+    let _bytes = sector.iter();
 }

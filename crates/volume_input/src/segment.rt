@@ -8,7 +8,7 @@ ghost use Rattle.segment_io.specs.Calls.{HasSegment};
 ghost use Rattle.volume_input.specs.Next.{NextEnds};
 
 use crate::fault::InputFault;
-use crate::filling::fill_work;
+use crate::filling::{are_sectors, fill_work};
 use bad_sector_map::BadMap;
 use drive_states::Unit;
 use host_driver::Host;
@@ -45,6 +45,7 @@ pub fn write_next<T: Tape, S: Source>(
         Ok(read) => read,
         Err(SourceFailed) => return Err(InputFault::Source),
     };
+    are_sectors(work.sectors());
     if exact && read < capacity.min(left) {
         return Err(InputFault::Short {
             read: before + read,

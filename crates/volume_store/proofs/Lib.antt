@@ -1,4 +1,6 @@
 pub mod Adding
+pub mod Behind
+pub mod Ending
 pub mod Again
 pub mod Copies
 pub mod Mending
@@ -10,3 +12,4 @@ pub mod Slots
 pub mod Stale
 pub mod Storing
 pub mod TableSegment
+pub mod Taking

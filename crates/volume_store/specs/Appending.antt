@@ -2,11 +2,13 @@
 use Rattle.std.specs.Prelude.{◌≡◌, ℕ, ◌+◌, ◌-◌, ◌*◌, ◌<◌, ◌≤◌, ◌&&◌, Bool, true, false, List, [], ◌∷◌, ◌++◌, length, take, drop, min, Option, Some, None, All, IfSome, IfNone, is_some, nat_le, nat_lt, if◌then◌else◌, Result, Ok, Err}
 use Rattle.std.specs.Option.{option_map}
 use Rattle.qic_base.specs.Cartridge.{Cartridge}
+use Rattle.qic_base.specs.Cause.{Rose}
 use Rattle.qic_base.specs.Source as sources
 use Rattle.qic_base.specs.Step.{Step}
 use Rattle.qic_base.specs.Tape as tapes
 use Rattle.acts.specs.Acts.{Act, Outside, Failing, TapeFails, SourceFails, Went, Cut}
 use Rattle.acts.specs.Around.{no_sink}
+use Rattle.tape_script.specs.Reading.{Skips}
 use Rattle.cartridge_spec.specs.HeaderAndTable.{table_cells, TableIs}
 use Rattle.cartridge_spec.specs.Says.{LostSectors, ByCode, TableSays}
 use Rattle.cartridge_spec.specs.Slots.{slot_bytes, slot_sector, with_slot}
@@ -15,7 +17,8 @@ use Rattle.append_plan.specs.Between.{table_writes}
 use Rattle.append_plan.specs.NewVolume.{new_entry}
 use Rattle.append_plan.specs.Room.{free_segments, room, taken_by}
 use Rattle.mount_laws.specs.Settling.{settling_steps}
-use Rattle.volume_input.specs.Input.{input_acts, volume_acts}
+use Rattle.volume_input.specs.Input.{input_acts}
+use Rattle.volume_input.specs.declared.written.Written.{Written}
 use Rattle.volume_store.specs.declared.appended.Appended.{Appended}
 use Rattle.volume_store.specs.declared.fault.StoreFault.{StoreFault}
 use Rattle.volume_store.specs.declared.fault.StoreFault.TheVariants as fault
@@ -107,6 +110,51 @@ append_acts kept name date promised reply input =
 -- no reply
 abbrev pub silently : Entry → List ℕ
 silently entry = []
+
+-- ---- how the input was taken
+
+-- what an append goes by but for the table
+abbrev pub kept_in : (words : List ℕ) → (entries : List Entry) → Kept
+kept_in words entries = record { words = words; entries = entries; last = length words - 1; table = []; settling = [] }
+
+-- The segments were written, and this became of the input that the source told, or of some input where it tells none.
+pub record InputWent {T S : Type 0} (t : tapes.Meaning T) (s : sources.Meaning S) (words : List ℕ) (entries : List Entry) (promised : Option ℕ) (old new : Outside T S (Unit {0})) (became : Taking) : Type 0 where
+  pub input : List ℕ
+  pub is_told : IfSome (s.left old.source) (λ bytes. input ≡ bytes)
+  pub content : IfNone (s.left old.source) (All (λ b. b < 256) input)
+  pub took : taking (room_in (kept_in words entries)) promised input ≡ became
+  pub went : Went t s no_sink old new (input_writes (kept_in words entries) promised input)
+  pub left : s.left new.source ≡ option_map (drop (bytes_taken promised became)) (s.left old.source)
+
+-- .. all of it was written: what is answered of it
+pub record InputWritten {T S : Type 0} (t : tapes.Meaning T) (s : sources.Meaning S) (words : List ℕ) (entries : List Entry) (promised : Option ℕ) (old new : Outside T S (Unit {0})) (written : Written) : Type 0 where
+  pub bytes : List ℕ
+  pub went : InputWent t s words entries promised old new (Fits bytes)
+  pub count : written.bytes ≡ length bytes
+  pub start : written.start ≡ (entry_for (kept_in words entries) [] 0 bytes).start
+  pub end : written.end ≡ (entry_for (kept_in words entries) [] 0 bytes).end
+
+-- A fault of the tape or of the source cut the writes off.
+pub record InputBroke {T S : Type 0} (t : tapes.Meaning T) (s : sources.Meaning S) (words : List ℕ) (entries : List Entry) (promised : Option ℕ) (old new : Outside T S (Unit {0})) (failing : Failing) : Type 0 where
+  pub input : List ℕ
+  pub is_told : IfSome (s.left old.source) (λ bytes. input ≡ bytes)
+  pub content : IfNone (s.left old.source) (All (λ b. b < 256) input)
+  pub cut : Cut t s no_sink old new (input_writes (kept_in words entries) promised input) failing
+  pub tells : is_some (s.left new.source) ≡ is_some (s.left old.source)
+
+abbrev pub InputIs : {T S : Type 0} (t : tapes.Meaning T) (s : sources.Meaning S) (words : List ℕ) (entries : List Entry) (promised : Option ℕ) (old new : Outside T S (Unit {0})) → Result Written StoreFault → Type 0
+InputIs t s words entries promised old new (Ok written) = InputWritten t s words entries promised old new written
+InputIs t s words entries promised old new (Err (fault.Full need have)) = InputWent t s words entries promised old new (TooLong need have)
+InputIs t s words entries promised old new (Err (fault.Short asked read)) = InputWent t s words entries promised old new (TooShort asked read)
+InputIs t s words entries promised old new (Err fault.Source) = InputBroke t s words entries promised old new SourceFails
+InputIs t s words entries promised old new (Err fault.Tape) = InputBroke t s words entries promised old new TapeFails
+InputIs t s words entries promised old new (Err fault) = ⊥
+
+-- What a call took where there is no room: at most one byte, which it tells of; or the source failed.
+abbrev pub TakesNone : {S : Type 0} (s : sources.Meaning S) (old new : S) → StoreFault → Type 0
+TakesNone s old new (fault.Full need have) = (have ≡ 0) × (s.faults old ≤ s.faults new) × Skips {E = Unit {0}} s old new 1 (Ok need)
+TakesNone s old new fault.Source = (s.faults old ≤ s.faults new) × Rose (s.faults old) (s.faults new) × Skips {E = Unit {0}} s old new 1 (Err tt)
+TakesNone s old new fault = ⊥
 
 -- ---- how the call ended
 

@@ -3,6 +3,7 @@
 #![tactic(auto)]
 
 mod appended;
+mod appending;
 mod fault;
 mod header_reader;
 mod learning;

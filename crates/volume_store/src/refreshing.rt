@@ -1,6 +1,6 @@
 //! The volume table read again: settled, and written with one entry more.
 
-ghost use Rattle.std.specs.Prelude.{◌≡◌, ◌≢◌, ◌<◌, ◌++◌, ◌∷◌, [], true, false, length, take, OnOk, OnErr};
+ghost use Rattle.std.specs.Prelude.{◌≡◌, ◌≢◌, ◌⊎◌, ◌<◌, ◌++◌, ◌∷◌, [], true, false, length, take, OnOk, OnErr};
 ghost use Rattle.qic_base.specs.Tape.{Tells};
 ghost use Rattle.cartridge_spec.specs.Table.{Shows};
 ghost use Rattle.drive_states.specs.Deck.{is_protected, is_referenced};
@@ -89,6 +89,7 @@ pub(crate) fn add_entry<T: Tape>(
     ensures kind { IsOfReading result }
     ensures list { OnOk result (table.new ≡ table.old ++ entry_of entry.now ∷ []) }
     ensures kept { result ≢ Err StoreFault.Tape → OnErr result (table.new ≡ table.old) }
+    ensures either { (table.new ≡ table.old) ⊎ (table.new ≡ table.old ++ entry_of entry.now ∷ []) }
     ensures keeps { Keeps T.means host.new unit.old unit.new }
 {
     read_list(host, unit, work, table)?;

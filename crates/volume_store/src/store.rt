@@ -1,27 +1,31 @@
 //! A mounted cartridge.
 
 ghost use Rattle.std.specs.Prelude.{◌≡◌, ◌≢◌, ◌↔◌, ◌+◌, ◌-◌, ◌*◌, ◌<◌, ◌≤◌, true, Err, IfOk, IfSome, slice_get, length};
-ghost use Rattle.acts.specs.Around.{around};
+ghost use Rattle.acts.specs.Around.{around, reading};
 ghost use Rattle.drive_states.specs.Deck.{is_protected};
 ghost use Rattle.host_driver.specs.Calls.{IsReady};
 ghost use Rattle.host_driver.specs.Fits.{AgreesWithTape, segments_of};
 ghost use Rattle.cartridge_spec.specs.Shape.{mask_at, marked_sectors};
 ghost use Rattle.cartridge_spec.specs.Volumes.{capacity_between, volume_length};
 ghost use Rattle.header_segments.specs.Header.{header_of};
+ghost use Rattle.volume_store.specs.Appending.{AppendEnds, KeepsFormat, KeepsList};
 ghost use Rattle.volume_store.specs.Finding.{NamesCause, RefusesMounting};
 ghost use Rattle.volume_store.specs.Mounting.{MountDoes, StoreFits, KeepsStore};
 ghost use Rattle.volume_store.specs.Restoring.{RestoreEnds, fault_of_output};
 ghost use Rattle.volume_store.specs.Scrubbing.{MendEnds};
 ghost use Rattle.volume_table.specs.Entry.{entry_of};
 
+use crate::appended::Appended;
+use crate::appending::take_input;
 use crate::fault::StoreFault;
 use crate::learning::learn;
+use crate::refreshing::{add_entry, settle_again};
 use crate::settling::settle;
 use bad_sector_map::BadMap;
 use drive_states::Unit;
 use header_segments::Header;
 use host_driver::Host;
-use qic_base::{Sink, Tape};
+use qic_base::{Name, Sink, Source, Tape};
 use segment_io::Workspace;
 use segment_mending::{ScrubFault, ScrubReport, scrub_segments};
 use std::marker::Model;
@@ -59,7 +63,7 @@ impl Model for Store {
 }
 
 // The bytes of data that the segments from one to another carry.
-fn capacity_between(map: &BadMap, start: u16, end: u16) -> u64
+pub(crate) fn capacity_between(map: &BadMap, start: u16, end: u16) -> u64
     requires { end < length map.now }
     ensures { result ≡ capacity_between map.now start end }
 {
@@ -108,6 +112,62 @@ impl Store {
             map,
             table,
             header: learnt.header,
+        })
+    }
+
+    /// Appends a volume of this name and date word behind the others: with nothing promised the whole source, and with a
+    /// promise just as many of its bytes. In this order: `Protected`; the volume table is read again, which is refused as by
+    /// `mount`, and settled; `Full` where fewer bytes have room than are promised, or none, before a byte is read; the
+    /// volume's segments are written as the bytes come; `Full` where there are more, and just one more is taken; `Short`
+    /// where there are fewer than were promised; then the table is written. A refusal leaves the volumes as they were.
+    pub fn append<T: Tape, S: Source>(
+        &mut self,
+        unit: &mut Unit<T>,
+        name: &Name,
+        date: u32,
+        promised: Option<u32>,
+        source: &mut S,
+    ) -> Result<Appended, StoreFault>
+        requires fits { StoreFits T.means self.old unit.old }
+        ensures ends { AppendEnds T.means S.means
+            (reading unit.old.tape source.old) (reading unit.new.tape source.new)
+            self.old self.new name.now date promised result }
+        ensures protected { (result ≡ Err StoreFault.Protected) ↔
+            (is_protected unit.old.drive.deck ≡ true) }
+        ensures list { KeepsList result self.old self.new }
+        ensures format { KeepsFormat self.old self.new }
+        ensures kept { S.means.keeps source.old source.new }
+        ensures size { T.means.size unit.new.tape ≡ T.means.size unit.old.tape }
+    {
+        if self.host.protected() {
+            return Err(StoreFault::Protected);
+        }
+        settle_again(&mut self.host, unit, &mut self.work, &self.table)?;
+        let written = take_input(
+            &mut self.host,
+            unit,
+            &self.map,
+            &self.table,
+            promised,
+            &mut self.work,
+            source,
+        )?;
+        let entry = Entry {
+            start: written.start,
+            end: written.end,
+            name: *name,
+            date,
+            flags: 1,
+            sequence: 1,
+            directory: 0,
+            size: u64::from(written.bytes),
+        };
+        add_entry(&mut self.host, unit, &entry, &mut self.work, &mut self.table)?;
+        Ok(Appended {
+            number: self.count(),
+            bytes: entry.size,
+            start: entry.start,
+            end: entry.end,
         })
     }
 

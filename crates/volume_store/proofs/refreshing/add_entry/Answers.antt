@@ -1,4 +1,4 @@
-use Rattle.std.proofs.Common.{◌≡◌, ◌++◌, ◌∷◌, [], ℕ, List, take, Err, subst, arith}
+use Rattle.std.proofs.Common.{◌≡◌, ◌++◌, ◌∷◌, [], ℕ, List, take, Err, refl, inl, inr, subst, arith}
 use Rattle.std.proofs.lemmas.Grind.{common_steps}
 use Rattle.std.proofs.lemmas.List.{length-take-le}
 use Rattle.qic_base.specs.Tape.{Tells}
@@ -49,3 +49,9 @@ returns-in_err-read_list-clause-kind g c =
     let fault : StoreFault = c.in_err-read_list.field-0.0 in
     let is : c.from_residual.result ≡ Err fault = grind (arith, common_steps, c.from_residual.ensures) in
     reads_on LostSet fault c.from_residual.result is c.in_err-read_list.ensures.kind
+
+pub returns-clause-either : goal.returns-clause-either
+returns-clause-either g c = inr c.write_entry.ensures.list
+
+pub returns-in_err-read_list-clause-either : goal.returns-in_err-read_list-clause-either
+returns-in_err-read_list-clause-either g c = inl refl

@@ -1,0 +1,435 @@
+-- An input that was taken: what became of it, and the acts that it asked for.
+use Rattle.std.proofs.Common.{◌≡◌, ◌⊎◌, inl, inr, ℕ, zero, suc, ◌+◌, ◌-◌, ◌*◌, ◌<◌, ◌≤◌, ◌&&◌, min, Bool, true, false, cond, List, [], ◌∷◌, ◌++◌, length, take, drop, All, Option, Some, None, IfSome, IfNone, Result, Ok, Err, refl, sym, ap, ◌∙◌, subst, arith, nat_lt, nat_le, append_assoc, append-nil}
+use Rattle.std.specs.Prelude.{is_some}
+use Rattle.std.specs.Option.{option_map}
+use Rattle.std.proofs.Math.Seq.{take-append-add, drop-append_seam}
+use Rattle.std.proofs.lemmas.Bool.{le-leb, lt-leb, le-ltb, lt-ltb, cases_lt}
+use Rattle.std.proofs.lemmas.List.{length-append, take_all}
+use Rattle.std.proofs.lemmas.List.Elements.{All-nil, All-cons, All-append}
+use Rattle.qic_base.specs.Cause.{Rose}
+use Rattle.qic_base.specs.Source as sources
+use Rattle.qic_base.specs.Tape as tapes
+use Rattle.qic_base.proofs.Steps.{Done-nothing, Rose-after}
+use Rattle.tape_script.specs.Reading.{Gave, GaveSome, HasEnded, Skips}
+use Rattle.tape_script.proofs.Giving.{Gave-nothing, Gave-Gave, Gave-end}
+use Rattle.acts.specs.Acts.{Act, Outside, Failing, TapeFails, SourceFails, Went, Cut}
+use Rattle.acts.specs.Around.{no_sink, reading}
+use Rattle.acts.proofs.Joins.{nothing_went}
+use Rattle.std.proofs.Common.{slice_get}
+use Rattle.std.proofs.lemmas.Option.{same_Some}
+use Rattle.cartridge_spec.specs.Table.{Entry, LieBehind}
+use Rattle.cartridge_spec.specs.Volumes.{carrying}
+use Rattle.append_plan.specs.Room.{room, free_segments, last_end, end_behind}
+use Rattle.volume_input.specs.Input.{volume_acts, filled_acts, input_acts, HasWritten, EndedShort, InputCut}
+use Rattle.volume_input.specs.declared.written.Written.{Written}
+use Rattle.volume_input.proofs.Inputs.{left_of, whole_told, still_tells, none_left}
+use Rattle.volume_store.specs.Appending.{Taking, Fits, TooLong, TooShort, taking, bytes_taken, has_promised_room, Kept, kept_in, room_in, free_in, input_writes, InputWent, InputWritten, InputBroke, InputIs, TakesNone}
+use Rattle.volume_store.specs.declared.fault.StoreFault.{StoreFault}
+use Rattle.volume_store.specs.declared.fault.StoreFault.TheVariants as fault
+
+-- ---- choices
+
+chosen_true : {X : Type 0} (b : Bool) (x y : X) → b ≡ true → cond b x y ≡ x
+chosen_true true x y is = refl
+chosen_true false x y is = absurd (cc)
+
+chosen_false : {X : Type 0} (b : Bool) (x y : X) → b ≡ false → cond b x y ≡ y
+chosen_false true x y is = absurd (cc)
+chosen_false false x y is = refl
+
+pub both_true : (a b : Bool) → a ≡ true → b ≡ true → (a && b) ≡ true
+both_true true true one other = refl
+both_true true false one other = absurd (cc)
+both_true false b one other = absurd (cc)
+
+first_false : (a b : Bool) → a ≡ false → (a && b) ≡ false
+first_false true b is = absurd (cc)
+first_false false b is = refl
+
+second_false : (a b : Bool) → b ≡ false → (a && b) ≡ false
+second_false true b is = is
+second_false false b is = refl
+
+-- ---- what becomes of an input
+
+fits_all : (have : ℕ) (input : List ℕ) → 1 ≤ have → length input ≤ have → taking have None input ≡ Fits input
+fits_all have input some within =
+    chosen_true (nat_le 1 have && nat_le (length input) have) (Fits input) (TooLong (min (length input) (have + 1)) have)
+    (both_true (nat_le 1 have) (nat_le (length input) have) (le-leb 1 have some) (le-leb (length input) have within))
+
+too_long : (have : ℕ) (input : List ℕ) → have < length input → taking have None input ≡ TooLong (have + 1) have
+too_long have input beyond =
+    let least : min (length input) (have + 1) ≡ have + 1 = omega arith in
+    chosen_false (nat_le 1 have && nat_le (length input) have) (Fits input) (TooLong (min (length input) (have + 1)) have)
+    (second_false (nat_le 1 have) (nat_le (length input) have) (lt-leb (length input) have beyond))
+    ∙ ap (λ (n : ℕ). TooLong n have) least
+
+no_room : (input : List ℕ) (n : ℕ) → n ≡ min (length input) 1 → taking 0 None input ≡ TooLong n 0
+no_room input n is = ap (λ (k : ℕ). TooLong k 0) (sym is)
+
+has_room : (have n : ℕ) → 1 ≤ have → n ≤ have → has_promised_room have (Some n) ≡ true
+has_room have n some within = both_true (nat_le 1 have) (nat_le n have) (le-leb 1 have some) (le-leb n have within)
+
+has_none : (have n : ℕ) → (have ≡ 0) ⊎ (have < n) → has_promised_room have (Some n) ≡ false
+has_none have n (inl none) = first_false (nat_le 1 have) (nat_le n have) (lt-leb 1 have (omega arith))
+has_none have n (inr few) = second_false (nat_le 1 have) (nat_le n have) (lt-leb n have few)
+
+promised_fits : (have n : ℕ) (input : List ℕ) → 1 ≤ have → n ≤ have → n ≤ length input → taking have (Some n) input ≡ Fits (take n input)
+promised_fits have n input some within enough =
+    chosen_true (has_promised_room have (Some n)) (cond (nat_lt (length input) n) (TooShort n (length input)) (Fits (take n input))) (TooLong n have) (has_room have n some within)
+    ∙ chosen_false (nat_lt (length input) n) (TooShort n (length input)) (Fits (take n input)) (le-ltb (length input) n enough)
+
+promised_short : (have n : ℕ) (input : List ℕ) → 1 ≤ have → n ≤ have → length input < n → taking have (Some n) input ≡ TooShort n (length input)
+promised_short have n input some within less =
+    chosen_true (has_promised_room have (Some n)) (cond (nat_lt (length input) n) (TooShort n (length input)) (Fits (take n input))) (TooLong n have) (has_room have n some within)
+    ∙ chosen_true (nat_lt (length input) n) (TooShort n (length input)) (Fits (take n input)) (lt-ltb (length input) n less)
+
+promised_full : (have n : ℕ) (input : List ℕ) → (have ≡ 0) ⊎ (have < n) → taking have (Some n) input ≡ TooLong n have
+promised_full have n input few =
+    chosen_false (has_promised_room have (Some n)) (cond (nat_lt (length input) n) (TooShort n (length input)) (Fits (take n input))) (TooLong n have) (has_none have n few)
+
+-- ---- the input, by what was given of it
+
+pub untold_content : (before after : Option (List ℕ)) (bytes : List ℕ) → before ≡ option_map (λ rest. bytes ++ rest) after →
+    IfNone before (All (λ (b : ℕ). b < 256) bytes) → IfNone before (All (λ (b : ℕ). b < 256) (bytes ++ left_of after))
+untold_content (Some told) after bytes gave content = tt
+untold_content None (Some left) bytes gave content = absurd (cc)
+untold_content None None bytes gave content = subst (All (λ (b : ℕ). b < 256)) (sym (append-nil bytes)) content
+
+pub content_always : (told : Option (List ℕ)) (bytes : List ℕ) → All (λ (b : ℕ). b < 256) bytes → IfNone told (All (λ (b : ℕ). b < 256) bytes)
+content_always None bytes content = content
+content_always (Some told) bytes content = tt
+
+dropped : (before after : Option (List ℕ)) (bytes : List ℕ) → before ≡ option_map (λ rest. bytes ++ rest) after → after ≡ option_map (drop (length bytes)) before
+dropped before None bytes gave = sym (ap (option_map (drop (length bytes))) gave)
+dropped before (Some rest) bytes gave =
+    ap (λ (xs : List ℕ). Some xs) (sym (drop-append_seam bytes rest)) ∙ sym (ap (option_map (drop (length bytes))) gave)
+
+-- at most one byte that was skipped, whatever it may be where it isn't told
+abbrev SkippedAs : (before after : Option (List ℕ)) (n : ℕ) → Type 0
+SkippedAs before after n =
+    (bytes : List ℕ) × (length bytes ≡ n) × (before ≡ option_map (λ rest. bytes ++ rest) after) × IfNone before (All (λ (b : ℕ). b < 256) bytes)
+
+skipped_as : (before after : Option (List ℕ)) (bytes : List ℕ) (n : ℕ) → n ≤ 1 → length bytes ≡ n → before ≡ option_map (λ rest. bytes ++ rest) after → SkippedAs before after n
+skipped_as (Some told) after bytes n few long gave = (bytes, long, gave, tt)
+skipped_as None (Some left) bytes n few long gave = absurd (cc)
+skipped_as None None bytes zero few long gave = ([], refl, refl, All-nil (λ (b : ℕ). b < 256))
+skipped_as None None bytes (suc zero) few long gave =
+    (0 ∷ [], refl, refl, All-cons (λ (b : ℕ). b < 256) 0 [] (omega arith) (All-nil (λ (b : ℕ). b < 256)))
+skipped_as None None bytes (suc (suc n)) few long gave = absurd (omega arith)
+
+content_both : (before between after : Option (List ℕ)) (xs ys : List ℕ) → before ≡ option_map (λ rest. xs ++ rest) between → All (λ (b : ℕ). b < 256) xs →
+    IfNone between (All (λ (b : ℕ). b < 256) ys) → IfNone before (All (λ (b : ℕ). b < 256) (xs ++ ys))
+content_both (Some told) between after xs ys gave content more = tt
+content_both None (Some left) after xs ys gave content more = absurd (cc)
+content_both None None after xs ys gave content more = All-append (λ (b : ℕ). b < 256) xs ys content more
+
+front_of : (bytes rest : List ℕ) (n : ℕ) → length bytes ≡ n → take n (bytes ++ rest) ≡ bytes
+front_of bytes rest n long =
+    let same : n ≡ length bytes + 0 = omega arith in
+    ap (λ (k : ℕ). take k (bytes ++ rest)) same ∙ take-append-add bytes rest 0 ∙ append-nil bytes
+
+-- ---- the first free segment
+
+pub end_of_last : (entries : List Entry) (before i : ℕ) (e : Entry) → slice_get entries i ≡ Some e → length entries ≡ i + 1 → end_behind before entries ≡ e.end
+end_of_last [] before i e at long = absurd (omega arith)
+end_of_last (x ∷ []) before zero e at long = ap (λ (y : Entry). y.end) (same_Some x e at)
+end_of_last (x ∷ []) before (suc i) e at long = absurd (omega arith)
+end_of_last (x ∷ y ∷ ys) before zero e at long = absurd (omega arith)
+end_of_last (x ∷ y ∷ ys) before (suc i) e at long = end_of_last (y ∷ ys) x.end i e at (omega arith)
+
+pub end_within : (before last : ℕ) (entries : List Entry) → LieBehind before last entries → before ≤ last → end_behind before entries ≤ last
+end_within before last [] order within = within
+end_within before last (e ∷ es) order within = end_within e.end last es order.3 order.2
+
+pub no_entries : (entries : List Entry) → length entries ≡ 0 → 2 ≡ last_end entries
+no_entries [] none = refl
+no_entries (e ∷ es) none = absurd (omega arith)
+
+module _ {T S : Type 0} (t : tapes.Meaning T) (s : sources.Meaning S) (words : List ℕ) (entries : List Entry) (old new : Outside T S (Unit {0})) where
+  abbrev last : ℕ
+  last = length words - 1
+
+  abbrev segments : List ℕ
+  segments = free_segments words entries last
+
+  abbrev have : ℕ
+  have = room words entries last
+
+  -- the writes that an input asks for, where there is room
+  writes_none : (input : List ℕ) → 1 ≤ have → input_writes (kept_in words entries) None input ≡ volume_acts words segments (take have input)
+  writes_none input some = chosen_true (nat_le 1 have) (volume_acts words segments (take have input)) [] (le-leb 1 have some)
+
+  writes_some : (n : ℕ) (input : List ℕ) → 1 ≤ have → n ≤ have →
+      input_writes (kept_in words entries) (Some n) input ≡ input_acts words segments n true input
+  writes_some n input some within = chosen_true (has_promised_room have (Some n)) (input_acts words segments n true input) [] (has_room have n some within)
+
+  went_with : (promised : Option ℕ) (bytes : List ℕ) (became : Taking) → Gave s old.source new.source bytes → IfNone (s.left old.source) (All (λ (b : ℕ). b < 256) bytes) →
+      taking have promised (bytes ++ left_of (s.left new.source)) ≡ became → bytes_taken promised became ≡ length bytes →
+      Went t s no_sink old new (input_writes (kept_in words entries) promised (bytes ++ left_of (s.left new.source))) →
+      InputWent t s words entries promised old new became
+  went_with promised bytes became gave content took taken went = record {
+    input = bytes ++ left_of (s.left new.source);
+    is_told = whole_told (s.left old.source) (s.left new.source) bytes gave;
+    content = untold_content (s.left old.source) (s.left new.source) bytes gave content;
+    took = took;
+    went = went;
+    left = dropped (s.left old.source) (s.left new.source) bytes gave ∙ ap (λ (n : ℕ). option_map (drop n) (s.left old.source)) (sym taken);
+  }
+
+  broke_with : (promised : Option ℕ) (failing : Failing) (bytes : List ℕ) → Gave s old.source new.source bytes → IfNone (s.left old.source) (All (λ (b : ℕ). b < 256) bytes) →
+      Cut t s no_sink old new (input_writes (kept_in words entries) promised (bytes ++ left_of (s.left new.source))) failing →
+      InputBroke t s words entries promised old new failing
+  broke_with promised failing bytes gave content cut = record {
+    input = bytes ++ left_of (s.left new.source);
+    is_told = whole_told (s.left old.source) (s.left new.source) bytes gave;
+    content = untold_content (s.left old.source) (s.left new.source) bytes gave content;
+    cut = cut;
+    tells = still_tells (s.left old.source) (s.left new.source) bytes gave;
+  }
+
+  -- ---- with a promise
+  module _ (n : ℕ) (some : 1 ≤ have) (within : n ≤ have) where
+    pub promised_written : (written : Written) → HasWritten t s words segments n true old new written → InputWritten t s words entries (Some n) old new written
+    promised_written written has =
+        let all : length has.bytes ≡ n = has.whole refl in
+        let input : List ℕ = has.bytes ++ left_of (s.left new.source) in
+        let front : take n input ≡ has.bytes = front_of has.bytes (left_of (s.left new.source)) n all in
+        let enough : n ≤ length input = omega (arith, length-append has.bytes (left_of (s.left new.source))) in
+        record {
+          bytes = has.bytes;
+          went = went_with (Some n) has.bytes (Fits has.bytes) has.gave (content_always (s.left old.source) has.bytes has.content)
+              (promised_fits have n input some within enough ∙ ap (λ (xs : List ℕ). Fits xs) front) refl
+              (subst (Went t s no_sink old new)
+              (ap (volume_acts words segments) (sym front)
+              ∙ sym (chosen_false (true && nat_lt (length input) n) (filled_acts words segments input) (volume_acts words segments (take n input)) (second_false true (nat_lt (length input) n) (le-ltb (length input) n enough)))
+              ∙ sym (writes_some n input some within))
+              has.went);
+          count = has.count;
+          start = has.start;
+          end = has.end;
+        }
+
+    pub promised_ends_short : (read : ℕ) → EndedShort t s words segments n true old new read → InputWent t s words entries (Some n) old new (TooShort n read)
+    promised_ends_short read has =
+        let input : List ℕ = has.bytes ++ left_of (s.left new.source) in
+        let all : input ≡ has.bytes = ap (λ (xs : List ℕ). has.bytes ++ xs) (none_left (s.left new.source) has.ended) ∙ append-nil has.bytes in
+        let long : length input ≡ read = ap (λ (xs : List ℕ). length xs) all ∙ sym has.count in
+        let less : length input < n = subst (λ (xs : List ℕ). length xs < n) (sym all) has.short in
+        went_with (Some n) has.bytes (TooShort n read) has.gave (content_always (s.left old.source) has.bytes has.content)
+        (promised_short have n input some within less ∙ ap (λ (k : ℕ). TooShort n k) long) has.count
+        (subst (Went t s no_sink old new)
+        (ap (filled_acts words segments) (sym all)
+        ∙ sym (chosen_true (true && nat_lt (length input) n) (filled_acts words segments input) (volume_acts words segments (take n input)) (both_true true (nat_lt (length input) n) refl (lt-ltb (length input) n less)))
+        ∙ sym (writes_some n input some within))
+        has.went)
+
+    pub promised_breaks : (failing : Failing) → InputCut t s words segments n true old new failing → InputBroke t s words entries (Some n) old new failing
+    promised_breaks failing cut = record {
+      input = cut.input;
+      is_told = cut.is_told;
+      content = cut.content;
+      cut = subst (λ (acts : List Act). Cut t s no_sink old new acts failing) (sym (writes_some n cut.input some within)) cut.cut;
+      tells = cut.tells;
+    }
+
+  -- ---- with none
+  module _ (some : 1 ≤ have) where
+    pub all_breaks : (failing : Failing) → InputCut t s words segments have false old new failing → InputBroke t s words entries None old new failing
+    all_breaks failing cut = record {
+      input = cut.input;
+      is_told = cut.is_told;
+      content = cut.content;
+      cut = subst (λ (acts : List Act). Cut t s no_sink old new acts failing) (sym (writes_none cut.input some)) cut.cut;
+      tells = cut.tells;
+    }
+
+    -- the source has ended
+    all_written : (bytes : List ℕ) → Gave s old.source new.source bytes → All (λ (b : ℕ). b < 256) bytes → length bytes ≤ have → HasEnded s new.source →
+        Went t s no_sink old new (volume_acts words segments bytes) → InputWent t s words entries None old new (Fits bytes)
+    all_written bytes gave content few ended went =
+        let input : List ℕ = bytes ++ left_of (s.left new.source) in
+        let all : input ≡ bytes = ap (λ (xs : List ℕ). bytes ++ xs) (none_left (s.left new.source) ended) ∙ append-nil bytes in
+        went_with None bytes (Fits bytes) gave (content_always (s.left old.source) bytes content)
+        (ap (taking have None) all ∙ fits_all have bytes some few) refl
+        (subst (Went t s no_sink old new)
+        (ap (volume_acts words segments) (sym (take_all have bytes few) ∙ ap (take have) (sym all)) ∙ sym (writes_none input some)) went)
+
+    pub all_ended : (written : Written) → HasWritten t s words segments have false old new written → written.bytes < have → InputWritten t s words entries None old new written
+    all_ended written has less =
+        let count : written.bytes ≡ length has.bytes = has.count in
+        record {
+          bytes = has.bytes;
+          went = all_written has.bytes has.gave has.content has.within (has.ended (omega arith)) has.went;
+          count = has.count;
+          start = has.start;
+          end = has.end;
+        }
+
+module _ {T S : Type 0} (t : tapes.Meaning T) (s : sources.Meaning S) (words : List ℕ) (entries : List Entry) (old new : Outside T S (Unit {0})) where
+  -- the segments and the room by the numbers that a call was handed
+  pub moved : (first most : ℕ) (written : Written) → first ≡ last_end entries + 1 → most ≡ room words entries (length words - 1) →
+      HasWritten t s words (carrying words first (length words - 1)) most false old new written →
+      HasWritten t s words (free_segments words entries (length words - 1)) (room words entries (length words - 1)) false old new written
+  moved first most written at is has =
+      subst (λ (n : ℕ). HasWritten t s words (free_segments words entries (length words - 1)) n false old new written) is
+      (subst (λ (n : ℕ). HasWritten t s words (carrying words n (length words - 1)) most false old new written) at has)
+
+  -- what was written is no more than there is room for
+  pub all_full : (written : Written) → HasWritten t s words (free_segments words entries (length words - 1)) (room words entries (length words - 1)) false old new written →
+      room words entries (length words - 1) ≤ written.bytes → written.bytes ≡ room words entries (length words - 1)
+  all_full written has least = let count = has.count in let few = has.within in omega arith
+
+module _ {T S : Type 0} (t : tapes.Meaning T) (s : sources.Meaning S) (words : List ℕ) (entries : List Entry) (x : T) (a : S) where
+  nothing : (c : S) → s.faults a ≤ s.faults c → Went t s no_sink (reading x a) (reading x c) []
+  nothing c later = record { did = Done-nothing t x; wrote = record { took = refl; later = omega arith }; source_later = later }
+
+  no_writes : (input : List ℕ) → room words entries (length words - 1) ≡ 0 → input_writes (kept_in words entries) None input ≡ []
+  no_writes input none =
+      chosen_false (nat_le 1 (room words entries (length words - 1)))
+      (volume_acts words (free_segments words entries (length words - 1)) (take (room words entries (length words - 1)) input)) []
+      (lt-leb 1 (room words entries (length words - 1)) (omega arith))
+
+  -- ---- no byte was read where there is no room for those that are promised
+  pub promise_refused : (n : ℕ) → (room words entries (length words - 1) ≡ 0) ⊎ (room words entries (length words - 1) < n) →
+      InputWent t s words entries (Some n) (reading x a) (reading x a) (TooLong n (room words entries (length words - 1)))
+  promise_refused n few =
+      let have : ℕ = room words entries (length words - 1) in
+      let input : List ℕ = [] ++ left_of (s.left a) in
+      went_with t s words entries (reading x a) (reading x a) (Some n) [] (TooLong n have) (Gave-nothing s a a refl)
+      (content_always (s.left a) [] (All-nil (λ (b : ℕ). b < 256)))
+      (promised_full have n input few) refl
+      (subst (Went t s no_sink (reading x a) (reading x a))
+      (sym (chosen_false (has_promised_room have (Some n)) (input_acts words (free_segments words entries (length words - 1)) n true input) [] (has_none have n few)))
+      (nothing a (omega arith)))
+
+  -- ---- one at most where there is no room, and none is promised
+  pub none_fits : (c : S) (n : ℕ) → room words entries (length words - 1) ≡ 0 → s.faults a ≤ s.faults c → Skips {E = Unit {0}} s a c 1 (Ok n) →
+      InputWent t s words entries None (reading x a) (reading x c) (TooLong n 0)
+  none_fits c n none later skipped =
+      let have : ℕ = room words entries (length words - 1) in
+      let few : n ≤ 1 = skipped.0 in
+      let got = skipped_as (s.left a) (s.left c) skipped.1.0 n few skipped.1.1 skipped.1.2 in
+      let input : List ℕ = got.0 ++ left_of (s.left c) in
+      let count : n ≡ min (length input) 1 = counted got.0 got.1 (cases_lt n 1) few in
+      went_with t s words entries (reading x a) (reading x c) None got.0 (TooLong n 0) got.2 got.3
+      (ap (λ (h : ℕ). taking h None input) none ∙ no_room input n count) (sym got.1)
+      (subst (Went t s no_sink (reading x a) (reading x c)) (sym (no_writes input none)) (nothing c later))
+    where
+      counted : (bytes : List ℕ) → length bytes ≡ n → (n < 1) ⊎ (1 ≤ n) → n ≤ 1 → n ≡ min (length (bytes ++ left_of (s.left c))) 1
+      counted bytes long (inl ends) few =
+          let rest : length (left_of (s.left c)) ≡ 0 = ap (λ (xs : List ℕ). length xs) (none_left (s.left c) (skipped.2 ends)) in
+          let all = length-append bytes (left_of (s.left c)) in
+          omega arith
+      counted bytes long (inr some) few =
+          let all = length-append bytes (left_of (s.left c)) in
+          omega arith
+
+  pub none_fails : (c : S) → room words entries (length words - 1) ≡ 0 → s.faults a ≤ s.faults c → Rose (s.faults a) (s.faults c) → Skips {E = Unit {0}} s a c 1 (Err tt) →
+      InputBroke t s words entries None (reading x a) (reading x c) SourceFails
+  none_fails c none later rose skipped =
+      let got = skipped_as (s.left a) (s.left c) skipped.2.0 skipped.0 skipped.1 skipped.2.1 skipped.2.2 in
+      let input : List ℕ = got.0 ++ left_of (s.left c) in
+      broke_with t s words entries (reading x a) (reading x c) None SourceFails got.0 got.2 got.3
+      (subst (λ (acts : List Act). Cut t s no_sink (reading x a) (reading x c) acts SourceFails) (sym (no_writes input none))
+      (record {
+        front = [];
+        rest = [];
+        parts = refl;
+        did = Done-nothing t x;
+        wrote = record { took = refl; later = omega arith };
+        cause = rose;
+        source_later = later;
+      }))
+
+  -- ---- a byte more where all of the room was written
+  module _ (y : T) (b c : S) (some : 1 ≤ room words entries (length words - 1)) (written : Written) (has : HasWritten t s words (free_segments words entries (length words - 1)) (room words entries (length words - 1)) false (reading x a) (reading y b) written) (full : written.bytes ≡ room words entries (length words - 1)) (later : s.faults b ≤ s.faults c) where
+    abbrev had : ℕ
+    had = room words entries (length words - 1)
+
+    abbrev places : List ℕ
+    places = free_segments words entries (length words - 1)
+
+    long_all : length has.bytes ≡ had
+    long_all = sym has.count ∙ full
+
+    behind : Went t s no_sink (reading x a) (reading y c) (volume_acts words places has.bytes)
+    behind = record {
+      did = has.went.did;
+      wrote = has.went.wrote;
+      source_later = (let first = has.went.source_later in omega arith);
+    }
+
+    all_given : (more : List ℕ) → Gave s b c more → Gave s a c (has.bytes ++ more)
+    all_given more gave = Gave-Gave s a b c has.bytes more has.gave gave
+
+    writes_same : (more : List ℕ) → volume_acts words places has.bytes ≡ input_writes (kept_in words entries) None ((has.bytes ++ more) ++ left_of (s.left c))
+    writes_same more =
+        let rest : List ℕ = left_of (s.left c) in
+        ap (volume_acts words places)
+        (sym (ap (take had) (append_assoc has.bytes more rest) ∙ front_of has.bytes (more ++ rest) had long_all))
+        ∙ sym (writes_none t s words entries (reading x a) (reading y c) ((has.bytes ++ more) ++ rest) some)
+
+    pub no_more : Skips {E = Unit {0}} s b c 1 (Ok 0) → InputWritten t s words entries None (reading x a) (reading y c) written
+    no_more skipped = record {
+      bytes = has.bytes;
+      went = all_written t s words entries (reading x a) (reading y c) some has.bytes (given skipped.1.0 skipped.1.1 skipped.1.2) has.content has.within (skipped.2 (omega arith)) behind;
+      count = has.count;
+      start = has.start;
+      end = has.end;
+    }
+      where
+        given : (bytes : List ℕ) → length bytes ≡ 0 → Gave s b c bytes → Gave s a c has.bytes
+        given [] none gave = Gave-end s a b c has.bytes has.gave gave
+        given (e ∷ es) none gave = absurd (omega arith)
+
+    pub one_more : (n : ℕ) → 1 ≤ n → Skips {E = Unit {0}} s b c 1 (Ok n) → InputWent t s words entries None (reading x a) (reading y c) (TooLong (had + 1) had)
+    one_more n more skipped =
+        let got = skipped_as (s.left b) (s.left c) skipped.1.0 n skipped.0 skipped.1.1 skipped.1.2 in
+        let one : n ≡ 1 = (let few : n ≤ 1 = skipped.0 in omega arith) in
+        let all : length (has.bytes ++ got.0) ≡ had + 1 = length-append has.bytes got.0 ∙ ap (λ (k : ℕ). length has.bytes + k) (got.1 ∙ one) ∙ ap (λ (k : ℕ). k + 1) long_all in
+        let beyond : had < length ((has.bytes ++ got.0) ++ left_of (s.left c)) = omega (arith, length-append (has.bytes ++ got.0) (left_of (s.left c))) in
+        went_with t s words entries (reading x a) (reading y c) None (has.bytes ++ got.0) (TooLong (had + 1) had) (all_given got.0 got.2)
+        (content_both (s.left a) (s.left b) (s.left c) has.bytes got.0 has.gave has.content got.3)
+        (too_long had ((has.bytes ++ got.0) ++ left_of (s.left c)) beyond) (sym all)
+        (subst (Went t s no_sink (reading x a) (reading y c)) (writes_same got.0) behind)
+
+    pub more_fails : Rose (s.faults b) (s.faults c) → Skips {E = Unit {0}} s b c 1 (Err tt) → InputBroke t s words entries None (reading x a) (reading y c) SourceFails
+    more_fails rose skipped =
+        let got = skipped_as (s.left b) (s.left c) skipped.2.0 skipped.0 skipped.1 skipped.2.1 skipped.2.2 in
+        broke_with t s words entries (reading x a) (reading y c) None SourceFails (has.bytes ++ got.0) (all_given got.0 got.2)
+        (content_both (s.left a) (s.left b) (s.left c) has.bytes got.0 has.gave has.content got.3)
+        (subst (λ (acts : List Act). Cut t s no_sink (reading x a) (reading y c) acts SourceFails) (writes_same got.0)
+        (record {
+          front = volume_acts words places has.bytes;
+          rest = [];
+          parts = append-nil (volume_acts words places has.bytes);
+          did = behind.did;
+          wrote = behind.wrote;
+          cause = Rose-after (s.faults a) (s.faults b) (s.faults c) has.went.source_later rose;
+          source_later = behind.source_later;
+        }))
+
+-- ---- where nothing has room, by the answer
+
+pub none_taken : {T S : Type 0} (t : tapes.Meaning T) (s : sources.Meaning S) (words : List ℕ) (entries : List Entry) (x y : T) (a c : S) (promised : Option ℕ) (why : StoreFault) →
+    y ≡ x → promised ≡ None → room words entries (length words - 1) ≡ 0 → TakesNone s a c why → InputIs t s words entries promised (reading x a) (reading y c) (Err why)
+none_taken {T} {S} t s words entries x y a c promised why same is none takes =
+    subst (λ (z : T). InputIs t s words entries promised (reading x a) (reading z c) (Err why)) (sym same)
+    (subst (λ (p : Option ℕ). InputIs t s words entries p (reading x a) (reading x c) (Err why)) (sym is) (by_fault why takes))
+  where
+    by_fault : (why : StoreFault) → TakesNone s a c why → InputIs t s words entries None (reading x a) (reading x c) (Err why)
+    by_fault (fault.Full need room_left) takes =
+        subst (λ (h : ℕ). InputWent t s words entries None (reading x a) (reading x c) (TooLong need h)) (sym takes.0)
+        (none_fits t s words entries x a c need none takes.1 takes.2)
+    by_fault fault.Source takes = none_fails t s words entries x a c none takes.0 takes.1 takes.2
+    by_fault fault.NotFormatted takes = absurd takes
+    by_fault (fault.Foreign field value) takes = absurd takes
+    by_fault fault.TableMismatch takes = absurd takes
+    by_fault (fault.NoVolume number count) takes = absurd takes
+    by_fault (fault.Lost segment lost) takes = absurd takes
+    by_fault (fault.Mismatch segment) takes = absurd takes
+    by_fault fault.Protected takes = absurd takes
+    by_fault (fault.Short promised read) takes = absurd takes
+    by_fault fault.Sink takes = absurd takes
+    by_fault fault.Tape takes = absurd takes

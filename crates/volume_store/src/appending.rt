@@ -1,0 +1,178 @@
+//! A volume appended.
+
+ghost use Rattle.std.specs.Prelude.{◌≡◌, ◌-◌, ◌+◌, ◌*◌, ◌≤◌, Some, None, true, length};
+ghost use Rattle.acts.specs.Around.{reading};
+ghost use Rattle.append_plan.specs.Room.{last_end, room};
+ghost use Rattle.cartridge_spec.specs.Table.{IsSoundList};
+ghost use Rattle.drive_states.specs.Deck.{is_referenced};
+ghost use Rattle.host_driver.specs.Calls.{IsReady, MayWrite, Keeps};
+ghost use Rattle.host_driver.specs.Fits.{segments_of};
+ghost use Rattle.qic_base.specs.declared.TheConstants.{LONGEST};
+ghost use Rattle.volume_store.specs.Appending.{InputIs, TakesNone};
+
+use crate::fault::StoreFault;
+use crate::store::capacity_between;
+use bad_sector_map::BadMap;
+use drive_states::Unit;
+use host_driver::Host;
+use qic_base::{Source, SourceFailed, Tape};
+use segment_io::Workspace;
+use tape_script::skip;
+use volume_input::{InputFault, Written, write_volume};
+use volume_table::Table;
+
+/// The volumes that a table has room for.
+const SLOTS: u8 = 232;
+
+/// The last segment in front of the volumes: that of the volume table.
+const IN_FRONT: u16 = 2;
+
+// The last segment that is taken.
+fn last_taken(table: &Table) -> u16
+    ensures { result ≡ last_end table.now }
+{
+    match table.len() {
+        0 => IN_FRONT,
+        count => table.entry(count - 1).end,
+    }
+}
+
+// The first segment behind the last volume.
+fn first_free(table: &Table) -> u32
+    ensures { result ≡ last_end table.now + 1 }
+{
+    u32::from(last_taken(table)) + 1
+}
+
+// The bytes that a new volume may have on a cartridge of so many segments.
+fn free_room(map: &BadMap, table: &Table, segments: u32) -> u32
+    requires map { length map.now ≡ segments }
+    requires least { 84 ≤ segments }
+    requires most { segments ≤ 28 * LONGEST }
+    requires list { IsSoundList (length map.now - 1) table.now }
+    ensures { result ≡ room map.now table.now (length map.now - 1) }
+{
+    if table.len() == SLOTS {
+        return 0;
+    }
+    capacity_between(map, first_free(table) as u16, (segments - 1) as u16) as u32
+}
+
+// Takes just so many bytes, where there is room for them.
+fn take_promised<T: Tape, S: Source>(
+    host: &mut Host,
+    unit: &mut Unit<T>,
+    map: &BadMap,
+    table: &Table,
+    have: u32,
+    count: u32,
+    work: &mut Workspace,
+    source: &mut S,
+) -> Result<Written, StoreFault>
+    requires ready { IsReady T.means host.old unit.old }
+    requires referenced { is_referenced unit.old.drive.deck ≡ true }
+    requires writable { MayWrite unit.old.drive.deck }
+    requires map { length map.now ≡ 28 * segments_of host.old }
+    requires have { have ≡ room map.now table.now (length map.now - 1) }
+    ensures ends { InputIs T.means S.means map.now table.now (Some count)
+        (reading unit.old.tape source.old) (reading unit.new.tape source.new) result }
+    ensures kept { S.means.keeps source.old source.new }
+    ensures keeps { Keeps T.means host.new unit.old unit.new }
+{
+    if have == 0 || count > have {
+        return Err(StoreFault::Full {
+            need: u64::from(count),
+            have: u64::from(have),
+        });
+    }
+    match write_volume(host, unit, map, first_free(table), count, true, work, source) {
+        Ok(written) => Ok(written),
+        Err(InputFault::Short { read }) => Err(StoreFault::Short {
+            promised: count,
+            read,
+        }),
+        Err(InputFault::Source) => Err(StoreFault::Source),
+        Err(InputFault::Tape) => Err(StoreFault::Tape),
+    }
+}
+
+// Takes all bytes, where there is room for any, and one more than there is room for where the source has it.
+fn take_all<T: Tape, S: Source>(
+    host: &mut Host,
+    unit: &mut Unit<T>,
+    map: &BadMap,
+    table: &Table,
+    have: u32,
+    work: &mut Workspace,
+    source: &mut S,
+) -> Result<Written, StoreFault>
+    requires ready { IsReady T.means host.old unit.old }
+    requires referenced { is_referenced unit.old.drive.deck ≡ true }
+    requires writable { MayWrite unit.old.drive.deck }
+    requires map { length map.now ≡ 28 * segments_of host.old }
+    requires have { have ≡ room map.now table.now (length map.now - 1) }
+    requires some { 1 ≤ have }
+    ensures ends { InputIs T.means S.means map.now table.now None
+        (reading unit.old.tape source.old) (reading unit.new.tape source.new) result }
+    ensures kept { S.means.keeps source.old source.new }
+    ensures keeps { Keeps T.means host.new unit.old unit.new }
+{
+    let written = match write_volume(host, unit, map, first_free(table), have, false, work, source) {
+        Ok(written) => written,
+        Err(InputFault::Source) => return Err(StoreFault::Source),
+        Err(InputFault::Short { .. } | InputFault::Tape) => return Err(StoreFault::Tape),
+    };
+    if written.bytes < have {
+        return Ok(written);
+    }
+    match skip(source, 1) {
+        Ok(0) => Ok(written),
+        Ok(_) => Err(StoreFault::Full {
+            need: u64::from(have) + 1,
+            have: u64::from(have),
+        }),
+        Err(SourceFailed) => Err(StoreFault::Source),
+    }
+}
+
+// Takes one byte at most, where there is no room for any.
+fn take_none<S: Source>(source: &mut S) -> StoreFault
+    ensures ends { TakesNone S.means source.old source.new result }
+    ensures kept { S.means.keeps source.old source.new }
+{
+    match skip(source, 1) {
+        Ok(need) => StoreFault::Full {
+            need: u64::from(need),
+            have: 0,
+        },
+        Err(SourceFailed) => StoreFault::Source,
+    }
+}
+
+// Takes the input, and writes it into the free segments.
+pub(crate) fn take_input<T: Tape, S: Source>(
+    host: &mut Host,
+    unit: &mut Unit<T>,
+    map: &BadMap,
+    table: &Table,
+    promised: Option<u32>,
+    work: &mut Workspace,
+    source: &mut S,
+) -> Result<Written, StoreFault>
+    requires ready { IsReady T.means host.old unit.old }
+    requires referenced { is_referenced unit.old.drive.deck ≡ true }
+    requires writable { MayWrite unit.old.drive.deck }
+    requires map { length map.now ≡ 28 * segments_of host.old }
+    requires list { IsSoundList (length map.now - 1) table.now }
+    ensures ends { InputIs T.means S.means map.now table.now promised
+        (reading unit.old.tape source.old) (reading unit.new.tape source.new) result }
+    ensures kept { S.means.keeps source.old source.new }
+    ensures keeps { Keeps T.means host.new unit.old unit.new }
+{
+    let have = free_room(map, table, host.geometry().segments());
+    match promised {
+        Some(count) => take_promised(host, unit, map, table, have, count, work, source),
+        None if have == 0 => Err(take_none(source)),
+        None => take_all(host, unit, map, table, have, work, source),
+    }
+}
