@@ -36,8 +36,15 @@ returns-clause-ends g c =
     let b = around c.write_volume.new.unit.tape c.write_volume.new.sink in
     elim c.match-write_volume.branch [
       | in-Ok w ↦
-          rw w.result-is (e, there, (long, of_volume g.T.Tape.means g.K.Sink.means store c.args.number c.args.lined a b c.self.inside.map e c.length-length.result
-          (Ok tt) words long w.in-Ok.ensures.ends))
+          rw w.result-is (
+            e,
+            there,
+            (
+              long,
+              of_volume g.T.Tape.means g.K.Sink.means store c.args.number c.args.lined a b c.self.inside.map e c.length-length.result
+                  (Ok tt) words long w.in-Ok.ensures.ends,
+            ),
+          )
       | in-Err w ↦
           rw w.result-is (rw w.output_fault.ensures (restore_failed g.T.Tape.means g.K.Sink.means store c.args.number c.args.lined a b e w.in-Err.fault there
           (of_volume g.T.Tape.means g.K.Sink.means store c.args.number c.args.lined a b c.self.inside.map e c.length-length.result
