@@ -86,7 +86,16 @@ fn take_promised<T: Tape, S: Source>(
             have: u64::from(have),
         });
     }
-    match write_volume(host, unit, map, first_free(table), count, true, work, source) {
+    match write_volume(
+        host,
+        unit,
+        map,
+        first_free(table),
+        count,
+        true,
+        work,
+        source,
+    ) {
         Ok(written) => Ok(written),
         Err(InputFault::Short { read }) => Err(StoreFault::Short {
             promised: count,
@@ -118,7 +127,16 @@ fn take_all<T: Tape, S: Source>(
     ensures kept { S.means.keeps source.old source.new }
     ensures keeps { Keeps T.means host.new unit.old unit.new }
 {
-    let written = match write_volume(host, unit, map, first_free(table), have, false, work, source) {
+    let written = match write_volume(
+        host,
+        unit,
+        map,
+        first_free(table),
+        have,
+        false,
+        work,
+        source,
+    ) {
         Ok(written) => written,
         Err(InputFault::Source) => return Err(StoreFault::Source),
         Err(InputFault::Short { .. } | InputFault::Tape) => return Err(StoreFault::Tape),

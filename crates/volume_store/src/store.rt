@@ -149,7 +149,13 @@ impl Store {
             directory: 0,
             size: u64::from(written.bytes),
         };
-        add_entry(&mut self.host, unit, &entry, &mut self.work, &mut self.table)?;
+        add_entry(
+            &mut self.host,
+            unit,
+            &entry,
+            &mut self.work,
+            &mut self.table,
+        )?;
         Ok(Appended {
             number: self.count(),
             bytes: entry.size,

@@ -86,11 +86,13 @@ invariant_of-self-in_err-add_entry g c =
     subst (λ (ws : List ℕ). InputWritten m g.S.Source.means ws store.entries c.args.promised (reading c.settle_again.new.unit.tape c.args.source.now)
     (reading c.take_input.new.unit.tape c.take_input.new.source) c.in_ok-written.written) words
     (subst (λ (es : List Entry). InputWritten m g.S.Source.means c.self.inside.map es c.args.promised (reading c.settle_again.new.unit.tape c.args.source.now)
-    (reading c.take_input.new.unit.tape c.take_input.new.source) c.in_ok-written.written) entries c.in_ok-written.ensures.ends) in
-    (c.self.invariant.0, either_order c.self.inside.map store.words c.self.inside.table store.entries c.add_entry.new.table (made c.args.name.now c.args.date c.in_ok-written.written.start c.in_ok-written.written.end c.from.result)
-    words entries order
-    (new_order m g.S.Source.means store store c.args.name.now c.args.date c.args.promised c.args.unit.now.tape c.settle_again.new.unit.tape c.take_input.new.unit.tape c.args.source.now c.take_input.new.source (take 29 c.settle_again.new.work) again c.add_entry.new.unit.tape c.in_ok-written.written c.from.result c.from.ensures order unprotected whole wrote)
-    c.in_err-add_entry.ensures.either)
+    (reading c.take_input.new.unit.tape c.take_input.new.source) c.in_ok-written.written) entries c.in_ok-written.ensures.ends) in (
+      c.self.invariant.0,
+      either_order c.self.inside.map store.words c.self.inside.table store.entries c.add_entry.new.table (made c.args.name.now c.args.date c.in_ok-written.written.start c.in_ok-written.written.end c.from.result)
+          words entries order
+          (new_order m g.S.Source.means store store c.args.name.now c.args.date c.args.promised c.args.unit.now.tape c.settle_again.new.unit.tape c.take_input.new.unit.tape c.args.source.now c.take_input.new.source (take 29 c.settle_again.new.work) again c.add_entry.new.unit.tape c.in_ok-written.written c.from.result c.from.ensures order unprotected whole wrote)
+          c.in_err-add_entry.ensures.either,
+    )
 
 pub invariant_of-self-2 : goal.invariant_of-self-2
 invariant_of-self-2 g c =
@@ -113,11 +115,13 @@ invariant_of-self-2 g c =
     subst (λ (ws : List ℕ). InputWritten m g.S.Source.means ws store.entries c.args.promised (reading c.settle_again.new.unit.tape c.args.source.now)
     (reading c.take_input.new.unit.tape c.take_input.new.source) c.in_ok-written.written) words
     (subst (λ (es : List Entry). InputWritten m g.S.Source.means c.self.inside.map es c.args.promised (reading c.settle_again.new.unit.tape c.args.source.now)
-    (reading c.take_input.new.unit.tape c.take_input.new.source) c.in_ok-written.written) entries c.in_ok-written.ensures.ends) in
-    (c.self.invariant.0, either_order c.self.inside.map store.words c.self.inside.table store.entries c.add_entry.new.table (made c.args.name.now c.args.date c.in_ok-written.written.start c.in_ok-written.written.end c.from.result)
-    words entries order
-    (new_order m g.S.Source.means store store c.args.name.now c.args.date c.args.promised c.args.unit.now.tape c.settle_again.new.unit.tape c.take_input.new.unit.tape c.args.source.now c.take_input.new.source (take 29 c.settle_again.new.work) again c.add_entry.new.unit.tape c.in_ok-written.written c.from.result c.from.ensures order unprotected whole wrote)
-    c.in_ok-add_entry.ensures.either)
+    (reading c.take_input.new.unit.tape c.take_input.new.source) c.in_ok-written.written) entries c.in_ok-written.ensures.ends) in (
+      c.self.invariant.0,
+      either_order c.self.inside.map store.words c.self.inside.table store.entries c.add_entry.new.table (made c.args.name.now c.args.date c.in_ok-written.written.start c.in_ok-written.written.end c.from.result)
+          words entries order
+          (new_order m g.S.Source.means store store c.args.name.now c.args.date c.args.promised c.args.unit.now.tape c.settle_again.new.unit.tape c.take_input.new.unit.tape c.args.source.now c.take_input.new.source (take 29 c.settle_again.new.work) again c.add_entry.new.unit.tape c.in_ok-written.written c.from.result c.from.ensures order unprotected whole wrote)
+          c.in_ok-add_entry.ensures.either,
+    )
 
 pub returns-in_err-add_entry-clause-ends : goal.returns-in_err-add_entry-clause-ends
 returns-in_err-add_entry-clause-ends g c =
