@@ -173,14 +173,18 @@ module _ {T S : Type 0} (t : tapes.Meaning T) (s : sources.Meaning S) (store aft
   -- ---- the settling was refused, or broke off
   pub first_refused : (x0 x1 : T) (a : S) (sectors : List (List ℕ)) (why : StoreFault) → SettlesAgain {A = Unit {0}} t x0 x1 store.entries sectors (Err why) → IsOfReading {A = Unit {0}} (Err why) →
       Tells t x0 (λ c. HasList c store.entries) → AppendEnds t s (reading x0 a) (reading x1 a) store after name date promised (Err why)
-  first_refused x0 x1 a sectors (fault.Lost segment lost) did kind lists = (kind.0, kind.1, record {
-    acts = [];
-    went = record { did = did.done; wrote = record { took = refl; later = omega arith }; source_later = omega arith };
-    told = Tells-map t x0 (λ c. TableSays (table_cells c) (ByCode (LostSectors lost))) (λ c. ([] ≡ []) × (a ≡ a) × TableSays (table_cells c) (ByCode (LostSectors lost)))
-        (λ c says. (refl, refl, says)) did.told;
-    taken = 0;
-    left = none_left (s.left a);
-  })
+  first_refused x0 x1 a sectors (fault.Lost segment lost) did kind lists = (
+    kind.0,
+    kind.1,
+    record {
+      acts = [];
+      went = record { did = did.done; wrote = record { took = refl; later = omega arith }; source_later = omega arith };
+      told = Tells-map t x0 (λ c. TableSays (table_cells c) (ByCode (LostSectors lost))) (λ c. ([] ≡ []) × (a ≡ a) × TableSays (table_cells c) (ByCode (LostSectors lost)))
+          (λ c says. (refl, refl, says)) did.told;
+      taken = 0;
+      left = none_left (s.left a);
+    },
+  )
   first_refused x0 x1 a sectors fault.TableMismatch did kind lists = record {
     acts = [];
     went = record { did = did.done; wrote = record { took = refl; later = omega arith }; source_later = omega arith };
@@ -373,9 +377,12 @@ module _ {T S : Type 0} (t : tapes.Meaning T) (s : sources.Meaning S) (store aft
 
       pub entry_refused : (why : StoreFault) → AddsEntry {A = Unit {0}} t x2 x3 store.entries new (Err why) → IsOfReading {A = Unit {0}} (Err why) →
           AppendEnds t s (reading x0 a) (reading x3 b) store after name date promised (Err why)
-      entry_refused (fault.Lost segment lost) did kind =
-          (kind.0, kind.1, refused (λ c. TableSays (table_cells c) (ByCode (LostSectors lost))) (λ c. TableSays (table_cells c) (ByCode (LostSectors lost)))
-          (λ c is known says. not_lost c area lost known.table says) did)
+      entry_refused (fault.Lost segment lost) did kind = (
+        kind.0,
+        kind.1,
+        refused (λ c. TableSays (table_cells c) (ByCode (LostSectors lost))) (λ c. TableSays (table_cells c) (ByCode (LostSectors lost)))
+            (λ c is known says. not_lost c area lost known.table says) did,
+      )
       entry_refused fault.TableMismatch did kind =
           refused (λ c. ⊥) (λ c. HasList c store.entries → ⊥) (λ c is known none. none (has_list c area store.entries is known again.shown)) did
       entry_refused fault.Tape did kind = broken did

@@ -1,6 +1,7 @@
 pub mod Adding
 pub mod Behind
 pub mod Ending
+pub mod Fitting
 pub mod Again
 pub mod Copies
 pub mod Mending

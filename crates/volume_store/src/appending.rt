@@ -5,6 +5,7 @@ ghost use Rattle.acts.specs.Around.{reading};
 ghost use Rattle.append_plan.specs.Room.{last_end, room};
 ghost use Rattle.cartridge_spec.specs.Table.{IsSoundList};
 ghost use Rattle.drive_states.specs.Deck.{is_referenced};
+ghost use Rattle.format_plan.specs.Fresh.{IsLabel};
 ghost use Rattle.host_driver.specs.Calls.{IsReady, MayWrite, Keeps};
 ghost use Rattle.host_driver.specs.Fits.{segments_of};
 ghost use Rattle.qic_base.specs.declared.TheConstants.{LONGEST};
@@ -15,7 +16,7 @@ use crate::store::capacity_between;
 use bad_sector_map::BadMap;
 use drive_states::Unit;
 use host_driver::Host;
-use qic_base::{Source, SourceFailed, Tape};
+use qic_base::{Name, Source, SourceFailed, Tape};
 use segment_io::Workspace;
 use tape_script::skip;
 use volume_input::{InputFault, Written, write_volume};
@@ -85,7 +86,16 @@ fn take_promised<T: Tape, S: Source>(
             have: u64::from(have),
         });
     }
-    match write_volume(host, unit, map, first_free(table), count, true, work, source) {
+    match write_volume(
+        host,
+        unit,
+        map,
+        first_free(table),
+        count,
+        true,
+        work,
+        source,
+    ) {
         Ok(written) => Ok(written),
         Err(InputFault::Short { read }) => Err(StoreFault::Short {
             promised: count,
@@ -117,7 +127,16 @@ fn take_all<T: Tape, S: Source>(
     ensures kept { S.means.keeps source.old source.new }
     ensures keeps { Keeps T.means host.new unit.old unit.new }
 {
-    let written = match write_volume(host, unit, map, first_free(table), have, false, work, source) {
+    let written = match write_volume(
+        host,
+        unit,
+        map,
+        first_free(table),
+        have,
+        false,
+        work,
+        source,
+    ) {
         Ok(written) => written,
         Err(InputFault::Source) => return Err(StoreFault::Source),
         Err(InputFault::Short { .. } | InputFault::Tape) => return Err(StoreFault::Tape),
@@ -175,4 +194,17 @@ pub(crate) fn take_input<T: Tape, S: Source>(
         None if have == 0 => Err(take_none(source)),
         None => take_all(host, unit, map, table, have, work, source),
     }
+}
+
+/// States that a name is 44 bytes, and does nothing.
+pub(crate) fn is_label(name: &Name)
+    ensures { IsLabel name.now }
+{
+    is_label_text(name.bytes());
+}
+
+fn is_label_text(text: &[u8; 44])
+    ensures { IsLabel text.now }
+{
+    let _bytes = text.iter();
 }

@@ -16,7 +16,7 @@ ghost use Rattle.volume_store.specs.Scrubbing.{MendEnds};
 ghost use Rattle.volume_table.specs.Entry.{entry_of};
 
 use crate::appended::Appended;
-use crate::appending::take_input;
+use crate::appending::{is_label, take_input};
 use crate::fault::StoreFault;
 use crate::learning::learn;
 use crate::refreshing::{add_entry, settle_again};
@@ -136,6 +136,7 @@ impl Store {
             (is_protected unit.old.drive.deck ≡ true) }
         ensures list { KeepsList result self.old self.new }
         ensures format { KeepsFormat self.old self.new }
+        ensures fits { result ≢ Err StoreFault.Tape → StoreFits T.means self.new unit.new }
         ensures kept { S.means.keeps source.old source.new }
         ensures size { T.means.size unit.new.tape ≡ T.means.size unit.old.tape }
     {
@@ -152,6 +153,7 @@ impl Store {
             &mut self.work,
             source,
         )?;
+        is_label(name);
         let entry = Entry {
             start: written.start,
             end: written.end,
@@ -162,7 +164,13 @@ impl Store {
             directory: 0,
             size: u64::from(written.bytes),
         };
-        add_entry(&mut self.host, unit, &entry, &mut self.work, &mut self.table)?;
+        add_entry(
+            &mut self.host,
+            unit,
+            &entry,
+            &mut self.work,
+            &mut self.table,
+        )?;
         Ok(Appended {
             number: self.count(),
             bytes: entry.size,
