@@ -16,7 +16,7 @@ use qic_base::{ForeignField, LostSet, Tape};
 use segment_io::{SegFault, Workspace};
 use volume_table::{Table, TableFault};
 
-// Why the table's segment has no data.
+/// Why the table's segment has no data.
 pub(crate) fn table_fault(fault: SegFault) -> StoreFault
     ensures { result ≡ refusal_of fault }
 {
