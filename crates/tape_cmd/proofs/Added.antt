@@ -199,7 +199,7 @@ module _ {T S K : Type 0} (t : tapes.Meaning T) (s : sources.Meaning S) (k : sin
   turned : (b : T) (j : S) (why : Status) (acts : List Act) (taken : ℕ) → ((z : K) → k.took z [] z) → may_come_from why (words.Append name date) ≡ true → ((line place : ℕ) → why ≢ status.ScriptFault line place) → why ≢ status.Done →
       text_of acts ≡ [] → s.left j ≡ option_map (drop taken) (s.left i) →
       IfSome (t.told a) (λ held. (input : List ℕ) × IfSome (s.left i) (λ bytes. input ≡ bytes)
-          × (IsOfBytes (words.Append name date) (s.left i) input × AppendOutcome name date held input (with_acts acts taken why))) →
+      × (IsOfBytes (words.Append name date) (s.left i) input × AppendOutcome name date held input (with_acts acts taken why))) →
       Went t s k (outside a i x) (outside b j x) acts → Ends t s k (words.Append name date) (outside a i x) (outside b j x) why
   turned b j why acts taken nothing sound script other silent left told went = inl (record {
     outcome = with_acts acts taken why;
@@ -304,7 +304,7 @@ module _ {T S K : Type 0} (t : tapes.Meaning T) (s : sources.Meaning S) (k : sin
           inr (
             known.protected,
             ap (λ (kept : Kept). going_by (quiet opening.steps) kept name date input) (same_kept c store opening.steps is table settling known.last f.reads f.settles)
-            ∙ ap (λ (ss : List TapeStep). going_by (quiet ss) (kept_on c store.words is.table store.entries) name date input) is.settles,
+                ∙ ap (λ (ss : List TapeStep). going_by (quiet ss) (kept_on c store.words is.table store.entries) name date input) is.settles,
           ),
         )
 
@@ -448,7 +448,7 @@ module _ {T S K : Type 0} (t : tapes.Meaning T) (s : sources.Meaning S) (k : sin
       pub append_unsaid : (y : K) → sinks.BrokeOff k x y (reply entry) → Ends t s k (words.Append name date) (outside a i x) (outside c j y) status.SinkFault
       append_unsaid y broke =
           let off : IsCutOff t s k (words.Append name date) (outside a i x) (outside c j y) SinkFails outcome =
-              record { cut = broken y broke; done = λ same still. (is_done, all_did); silent = λ still. none_before } in
+          record { cut = broken y broke; done = λ same still. (is_done, all_did); silent = λ still. none_before } in
           inr (
             SinkFails,
             refl,

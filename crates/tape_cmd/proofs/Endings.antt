@@ -65,13 +65,25 @@ some_text words.Info built = (_, (record { format_date = 0; write_date = 0; segm
 some_text words.List built = (_, ([], ([], refl)))
 some_text (words.Append name date) built = (_, (0, (0, (0, (0, refl)))))
 some_text (words.Restore number) built = ([], tt)
-some_text words.Scrub built = (_, ([], ([], (record { segments = 3; mended = 0; unreadable = 3 }, record {
-  sayings = Mismatch ∷ Mismatch ∷ Mismatch ∷ [];
-  each = refl;
-  lines = refl;
-  segments = refl;
-  unreadable = refl;
-}))))
+some_text words.Scrub built = (
+  _,
+  (
+    [],
+    (
+      [],
+      (
+        record { segments = 3; mended = 0; unreadable = 3 },
+        record {
+          sayings = Mismatch ∷ Mismatch ∷ Mismatch ∷ [];
+          each = refl;
+          lines = refl;
+          segments = refl;
+          unreadable = refl;
+        },
+      ),
+    ),
+  ),
+)
 some_text words.Pulses built = (_, (None, ([], refl)))
 some_text command built = absurd (cc)
 
@@ -196,11 +208,11 @@ module _ {T K : Type 0} (t : tapes.Meaning T) (k : sinks.Meaning K) where
       let act : Act = first_act outcome in
       let cut : SinkCut t no_source k (around a x) (around b y) (act ∷ []) = sink_cut_one a b x y act.steps act.text did broke in
       let off : IsCutOff t no_source k command (around a x) (around b y) SinkFails outcome =
-          subst (IsCutOff t no_source k command (around a x) (around b y) SinkFails) (sym one) (record {
-            cut = cut;
-            done = λ same still. (refl, subst (tapes.Done t a b) (sym (append-nil act.steps)) did);
-            silent = λ still. refl;
-          }) in
+      subst (IsCutOff t no_source k command (around a x) (around b y) SinkFails) (sym one) (record {
+        cut = cut;
+        done = λ same still. (refl, subst (tapes.Done t a b) (sym (append-nil act.steps)) did);
+        silent = λ still. refl;
+      }) in
       inr (
         SinkFails,
         refl,

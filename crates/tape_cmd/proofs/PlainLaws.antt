@@ -173,8 +173,21 @@ restoring_leaves number (Some c) left outcome (mounting.Mounted header words tab
     inr (header, (words, (table, (entries, mounts, one_act (settling_steps table c) (Some c) left outcome _ none.1 refl torn))))
 restoring_leaves number (Some c) left outcome (mounting.Mounted header words table entries, mounts, inr found) torn =
     let none : steps_of found.acts ≡ [] = restores_in_no_step (settled table c) words (pieces words found.entry) found.acts found.ending found.restores in
-    inr (header, (words, (table, (entries, mounts, one_act (settling_steps table c) (Some c) left outcome _ found.is
-    (ap (λ (steps : List TapeStep). settling_steps table c ++ steps) none) torn))))
+    inr (
+      header,
+      (
+        words,
+        (
+          table,
+          (
+            entries,
+            mounts,
+            one_act (settling_steps table c) (Some c) left outcome _ found.is
+                (ap (λ (steps : List TapeStep). settling_steps table c ++ steps) none) torn,
+          ),
+        ),
+      ),
+    )
 
 -- nothing settles a protected cartridge
 locked_stays : (table : List (List ℕ)) (c : Cartridge) (left : Option Cartridge) → c.info.protected ≡ true → Torn (settling_steps table c) (Some c) left → left ≡ Some c
@@ -190,11 +203,27 @@ scrubbing_leaves (Some c) left outcome (mounting.TableMismatch, mounts, is) torn
 scrubbing_leaves (Some c) left outcome (mounting.Mounted header words table entries, mounts, inl locked) torn =
     inl (locked_stays table c left locked.0 (one_act (settling_steps table c) (Some c) left outcome _ locked.1 refl torn))
 scrubbing_leaves (Some c) left outcome (mounting.Mounted header words table entries, mounts, inr (free, found)) torn =
-    inr (header, (words, (table, (entries, (found.acts, mounts, found.scrubs,
-    elim (behind_leaves (settling_steps table c) found.acts (Some c) left outcome _ found.is refl torn) [
-      | inl first ↦ inl first
-      | inr next ↦ inr (subst (λ (held : Option Cartridge). Torn (steps_of found.acts) held left) (settling_effects c table mounts.reads) next)
-    ])))))
+    inr (
+      header,
+      (
+        words,
+        (
+          table,
+          (
+            entries,
+            (
+              found.acts,
+              mounts,
+              found.scrubs,
+              elim (behind_leaves (settling_steps table c) found.acts (Some c) left outcome _ found.is refl torn) [
+                | inl first ↦ inl first
+                | inr next ↦ inr (subst (λ (held : Option Cartridge). Torn (steps_of found.acts) held left) (settling_effects c table mounts.reads) next)
+              ],
+            ),
+          ),
+        ),
+      ),
+    )
 
 appending_leaves : (name : List ℕ) (date : ℕ) (held left : Option Cartridge) (input : List ℕ) (outcome : Outcome) → AppendOutcome name date held input outcome →
     Torn (steps_of outcome.acts) held left → AppendingLeaves held left
@@ -293,7 +322,7 @@ gives_one number c header ws table entries a b (inr is) (inr was) =
     let p = is.numbered in let q = was.numbered in
     let same : is.entry ≡ was.entry = cc in
     let both = restores_is_function (settled table c) ws (pieces ws was.entry) is.acts was.acts is.ending was.ending
-        (subst (λ (e : Entry). Restores (settled table c) ws (pieces ws e) is.acts is.ending) same is.restores) was.restores in
+    (subst (λ (e : Entry). Restores (settled table c) ws (pieces ws e) is.acts is.ending) same is.restores) was.restores in
     is.is ∙ ap (λ (xs : List Act). given table c xs (ending_status is.ending)) both.0
     ∙ ap (λ (e : Ending). given table c was.acts (ending_status e)) both.1 ∙ sym was.is
 
@@ -303,7 +332,7 @@ mends_one c header ws table entries a b (inl is) (inr was) = let p = is.0 in let
 mends_one c header ws table entries a b (inr is) (inl was) = let p = is.0 in let q = was.0 in absurd (cc)
 mends_one c header ws table entries a b (inr (free, is)) (inr (unlocked, was)) =
     is.is ∙ ap (λ (xs : List Act). given table c xs status.Done)
-        (scrubs_is_function (settled table c) ws entries is.acts was.acts is.scrubs was.scrubs) ∙ sym was.is
+    (scrubs_is_function (settled table c) ws entries is.acts was.acts is.scrubs was.scrubs) ∙ sym was.is
 
 -- ---- formatting is a function
 

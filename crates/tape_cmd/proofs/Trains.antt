@@ -123,11 +123,14 @@ module _ {T S K : Type 0} (t : tapes.Meaning T) (s : sources.Meaning S) (k : sin
           (λ held input. IsOfBytes words.Pulses (s.left old.source) input
           × ((outcome : Outcome) → SentOutcome held input outcome → IsCutOff t s k words.Pulses old new failing outcome))
           run.over.cartridge run.over.bytes
-          (λ held same. (λ is. absurd (cc), λ outcome plain. record {
-            cut = subst (λ (acts : List Act). Cut t s k old new acts failing) (same_acts run.known held run.input run.outcome outcome same run.plain plain) run.cut;
-            done = λ sink still. absurd (cc);
-            silent = λ still. absurd (cc);
-          }));
+          (λ held same. (
+            λ is. absurd (cc),
+            λ outcome plain. record {
+              cut = subst (λ (acts : List Act). Cut t s k old new acts failing) (same_acts run.known held run.input run.outcome outcome same run.plain plain) run.cut;
+              done = λ sink still. absurd (cc);
+              silent = λ still. absurd (cc);
+            },
+          ));
       acts = run.outcome.acts;
       cut = run.cut;
       front = (

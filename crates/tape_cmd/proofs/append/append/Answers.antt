@@ -16,7 +16,7 @@ returns-in-Err-clause-ends g c =
 pub returns-in-Ok-append-clause-ends : goal.returns-in-Ok-append-clause-ends
 returns-in-Ok-append-clause-ends g c =
     let written : Writes g.K.Sink.means c.args.sink.now c.write_text.new.sink
-        (appended_line c.in-Ok-append.appended.number c.in-Ok-append.appended.bytes c.in-Ok-append.appended.start c.in-Ok-append.appended.end) c.write_text.result =
+    (appended_line c.in-Ok-append.appended.number c.in-Ok-append.appended.bytes c.in-Ok-append.appended.start c.in-Ok-append.appended.end) c.write_text.result =
     rw (c.bytes.ensures, c.appended_text.ensures) at c.write_text.ensures in
     rw c.printed.ensures (append_replied g.T.Tape.means g.S.Source.means g.K.Sink.means c.args.name.now c.args.date c.args.unit.now.tape c.args.source.now c.args.sink.now
     c.open.new.unit c.in-Ok.store c.in-Ok.ensures c.append.new.unit.tape c.append.new.source c.append.new.self c.in-Ok-append.appended
