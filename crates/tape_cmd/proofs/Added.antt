@@ -1,5 +1,5 @@
 -- How an append ends.
-use Rattle.std.proofs.Common.{◌≡◌, ◌≢◌, ◌⊎◌, ℕ, ◌+◌, ◌-◌, ◌<◌, ◌++◌, ◌&&◌, nat_le, cond, min, Bool, true, false, List, [], ◌∷◌, All, length, drop, Option, Some, None, IfSome, Result, Ok, Err, refl, sym, ap, ◌∙◌, subst, inl, inr, arith, append-nil, append_assoc}
+use Rattle.std.proofs.Common.{◌≡◌, ◌≢◌, ℕ, ◌+◌, ◌-◌, ◌<◌, ◌++◌, ◌&&◌, nat_le, min, Bool, true, false, List, [], ◌∷◌, All, length, drop, Option, Some, None, IfSome, Result, Ok, Err, refl, sym, ap, ◌∙◌, subst, inl, inr, arith, append-nil, append_assoc}
 use Rattle.std.specs.Prelude.{◌↔◌, IfNone, is_some, if◌then◌else◌}
 use Rattle.std.proofs.lemmas.List.Elements.{All-nil}
 use Rattle.std.specs.Option.{option_map}
@@ -12,7 +12,7 @@ use Rattle.qic_base.specs.Tape as tapes
 use Rattle.qic_base.proofs.Steps.{Broke-front, Done-nothing, Done-Done, Done-Broke, effects-append}
 use Rattle.qic_base.specs.Stop.{Torn}
 use Rattle.qic_base.proofs.Writing.{TakesBoth}
-use Rattle.acts.specs.Acts.{Act, steps_of, text_of, next_steps, Outside, Failing, TapeFails, SourceFails, SinkFails, Went, Cut, TapeCut, SourceCut, SinkCut}
+use Rattle.acts.specs.Acts.{Act, steps_of, text_of, next_steps, Failing, TapeFails, SourceFails, SinkFails, Went, Cut, TapeCut, SourceCut, SinkCut}
 use Rattle.acts.specs.Around.{no_sink, reading}
 use Rattle.acts.proofs.Joins.{steps_of-append, text_of-append}
 use Rattle.cartridge_spec.specs.HeaderAndTable.{TableIs, table_cells, last_segment}
@@ -24,7 +24,7 @@ use Rattle.cartridge_spec.specs.Table.{Entry}
 use Rattle.drive_states.specs.Deck.{is_protected}
 use Rattle.drive_states.specs.Unit.{UnitView}
 use Rattle.mount_laws.specs.Settling.{settling_steps}
-use Rattle.mount_laws.proofs.Mounting.{mounts_is_function, one_table}
+use Rattle.mount_laws.proofs.Mounting.{one_table}
 use Rattle.mount_laws.proofs.Settled.{settled_keeps_table}
 use Rattle.tape_script.specs.declared.words.Words.TheVariants as words
 use Rattle.volume_input.specs.Input.{input_acts}
@@ -37,11 +37,11 @@ use Rattle.volume_store.specs.declared.fault.StoreFault.{StoreFault}
 use Rattle.volume_store.specs.declared.fault.StoreFault.TheVariants as fault
 use Rattle.tape_cmd.specs.declared.status.Status.{Status}
 use Rattle.tape_cmd.specs.declared.status.Status.TheVariants as status
-use Rattle.tape_cmd.specs.Append.{Appends, AppendOutcome, append_status, appended, kept_on, reply_behind}
+use Rattle.tape_cmd.specs.Append.{Appends, AppendOutcome, append_status, kept_on, reply_behind}
 use Rattle.tape_cmd.specs.Lines.{appended_line}
-use Rattle.tape_cmd.specs.Opening.{Opened, OpenOutcome, IsOpened, HasOpened, OpeningEnds, OpeningRefused, OpeningCut, is_opening, settling_act, store_status}
-use Rattle.tape_cmd.specs.Outcome.{Outcome, refused, refused_behind, first_steps, output_of}
-use Rattle.tape_cmd.specs.Runs.{Ends, Finished, InputLeft, IsOfBytes, IsCutOff, NamesFault, Prints, fault_of, may_come_from}
+use Rattle.tape_cmd.specs.Opening.{IsOpened, HasOpened, OpeningEnds, is_opening, store_status}
+use Rattle.tape_cmd.specs.Outcome.{Outcome, refused, refused_behind, first_steps}
+use Rattle.tape_cmd.specs.Runs.{Ends, InputLeft, IsOfBytes, IsCutOff, NamesFault, may_come_from}
 use Rattle.tape_cmd.specs.Machine.{CommandPrints}
 use Rattle.append_plan.specs.Between.{table_writes}
 use Rattle.cartridge_spec.specs.Slots.{slot_sector}
@@ -49,8 +49,8 @@ use Rattle.tape_cmd.specs.Writing.{printed_status}
 use Rattle.tape_cmd.proofs.PlainLaws.{plain_is_function}
 use Rattle.tape_cmd.proofs.Endings.{told_map, some_text}
 use Rattle.tape_cmd.proofs.Ends.{is_some-map}
-use Rattle.tape_cmd.proofs.Mounted.{Settles, opened_is, refused_is, begins_is}
-use Rattle.tape_cmd.proofs.Opened.{IsKnown, quiet, outside, went_behind, cut_behind, settled_told, opened_known, known_before, unlocked}
+use Rattle.tape_cmd.proofs.Mounted.{Settles, refused_is, begins_is}
+use Rattle.tape_cmd.proofs.Opened.{IsKnown, quiet, outside, went_behind, settled_told, opened_known, known_before, unlocked}
 
 -- ---- the input
 

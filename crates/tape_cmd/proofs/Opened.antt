@@ -1,5 +1,5 @@
 -- How a command goes on that has mounted a cartridge: the settling, and then its acts.
-use Rattle.std.proofs.Common.{◌≡◌, ◌≢◌, ℕ, ◌*◌, ◌-◌, ◌++◌, Bool, true, false, List, [], ◌∷◌, length, Option, Some, None, IfSome, IsSomeAnd, refl, sym, ap, ◌∙◌, subst, arith, append-nil}
+use Rattle.std.proofs.Common.{◌≡◌, ◌≢◌, ℕ, ◌*◌, ◌-◌, Bool, true, false, List, [], ◌∷◌, length, Option, Some, None, IfSome, IsSomeAnd, refl, sym, ap, ◌∙◌, subst, arith, append-nil}
 use Rattle.std.specs.Option.{option_map}
 use Rattle.qic_base.specs.Cartridge.{Cartridge}
 use Rattle.qic_base.specs.declared.tape.TapeInfo.{TapeInfo}
@@ -14,14 +14,13 @@ use Rattle.cartridge_spec.specs.HeaderAndTable.{last_segment}
 use Rattle.cartridge_spec.specs.Mounting.{settled}
 use Rattle.drive_states.specs.Deck.{is_protected}
 use Rattle.drive_states.specs.Unit.{UnitView}
-use Rattle.host_driver.specs.Fits.{segments_of, deck_of}
 use Rattle.mount_laws.proofs.Settled.{settled_keeps_table}
 use Rattle.mount_laws.proofs.Whole.{settling_effects}
 use Rattle.std.specs.Prelude.{◌↔◌}
 use Rattle.volume_store.specs.declared.fault.StoreFault.{StoreFault}
 use Rattle.volume_store.specs.declared.fault.StoreFault.TheVariants as fault
 use Rattle.volume_store.specs.Mounting.{StoreView}
-use Rattle.volume_store.proofs.Copies.{IsLearnt, told_learnt, tells_two}
+use Rattle.volume_store.proofs.Copies.{IsLearnt, told_learnt}
 use Rattle.tape_cmd.specs.Opening.{IsOpened, HasOpened}
 
 -- the act of some steps, without a text

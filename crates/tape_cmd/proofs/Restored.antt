@@ -1,5 +1,5 @@
 -- How the restoring of a volume ends.
-use Rattle.std.proofs.Common.{◌≡◌, ◌≢◌, ℕ, false, List, [], ◌∷◌, length, true, Option, Some, None, IfSome, Ok, Err, refl, sym, ap, ◌∙◌, subst, inl, inr}
+use Rattle.std.proofs.Common.{◌≡◌, ◌≢◌, ℕ, false, List, [], ◌∷◌, length, true, Some, None, Ok, Err, refl, sym, ap, ◌∙◌, subst, inl, inr}
 use Rattle.qic_base.specs.Cartridge.{Cartridge}
 use Rattle.qic_base.specs.Sink as sinks
 use Rattle.qic_base.specs.Step.{Step as TapeStep}
@@ -23,9 +23,9 @@ use Rattle.tape_cmd.specs.declared.status.Status.{Status}
 use Rattle.tape_cmd.specs.declared.status.Status.TheVariants as status
 use Rattle.tape_cmd.specs.Opening.{Opened, IsOpened, HasOpened, OpeningEnds, is_opening, store_status}
 use Rattle.tape_cmd.specs.Outcome.{Outcome, refused_behind, first_steps}
-use Rattle.tape_cmd.specs.Restore.{Gives, RestoreOutcome, RestoresOn, ending_status}
+use Rattle.tape_cmd.specs.Restore.{Gives, RestoreOutcome, ending_status}
 use Rattle.tape_cmd.specs.Runs.{EndsBlind, IsCutOff, fault_of, may_come_from}
-use Rattle.tape_cmd.proofs.Endings.{IsBlind, none_taken, turned_behind, told_map}
+use Rattle.tape_cmd.proofs.Endings.{none_taken, turned_behind, told_map}
 use Rattle.tape_cmd.proofs.Mounted.{Follows, Settles, opened_is, refuses}
 use Rattle.tape_cmd.proofs.Opened.{quiet, went_behind, cut_behind, settled_told}
 

@@ -1,5 +1,5 @@
 -- How the scrubbing of a cartridge ends.
-use Rattle.std.proofs.Common.{◌≡◌, ◌≢◌, ℕ, Bool, true, false, List, [], ◌∷◌, Option, Some, None, IfSome, Err, refl, sym, ap, ◌∙◌, subst, inl, inr}
+use Rattle.std.proofs.Common.{◌≡◌, ◌≢◌, true, false, List, [], ◌∷◌, Some, Err, refl, sym, ap, ◌∙◌, subst, inl, inr}
 use Rattle.qic_base.specs.Cartridge.{Cartridge}
 use Rattle.qic_base.specs.Sink as sinks
 use Rattle.qic_base.specs.Step.{Step as TapeStep}
@@ -28,8 +28,8 @@ use Rattle.tape_cmd.specs.Opening.{Opened, IsOpened, HasOpened, OpeningEnds, is_
 use Rattle.tape_cmd.specs.Outcome.{Outcome, refused_behind, first_steps}
 use Rattle.tape_cmd.specs.Scrub.{Mends, ScrubOutcome}
 use Rattle.tape_cmd.specs.Runs.{EndsBlind, IsCutOff, fault_of, may_come_from}
-use Rattle.tape_cmd.proofs.Endings.{none_taken, turned_behind, told_map}
-use Rattle.tape_cmd.proofs.Mounted.{Follows, Settles, opened_is, refuses}
+use Rattle.tape_cmd.proofs.Endings.{turned_behind}
+use Rattle.tape_cmd.proofs.Mounted.{Follows, Settles, refuses}
 use Rattle.tape_cmd.proofs.Opened.{IsKnown, quiet, went_behind, cut_behind, settled_told, opened_known, known_before, unlocked}
 
 -- scrubbing begins with the settling

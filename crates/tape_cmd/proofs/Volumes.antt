@@ -1,5 +1,5 @@
 -- What a run leaves of what a cartridge stands for, by what a stop in its command leaves.
-use Rattle.std.proofs.Common.{◌≡◌, ◌⊎◌, ℕ, ◌<◌, Bool, true, List, [], ◌∷◌, ◌++◌, All, Option, Some, IfSome, IfNone, IsSomeAnd, sym, ap, ◌∙◌, subst, inl, inr, None, false, refl, arith, append-nil}
+use Rattle.std.proofs.Common.{◌≡◌, ◌⊎◌, ℕ, ◌<◌, Bool, true, List, [], ◌∷◌, All, Option, Some, IfSome, IfNone, IsSomeAnd, sym, ap, ◌∙◌, subst, inl, inr, None, false, refl, arith, append-nil}
 use Rattle.qic_base.specs.Cartridge.{Cartridge, IsCartridge, new_cartridge}
 use Rattle.qic_base.specs.Step.{Step as TapeStep, Renew, SetReferenced, SetProtected, Wear, Spoil, changed, effects}
 use Rattle.qic_base.specs.Stop.{Torn}
@@ -34,12 +34,11 @@ use Rattle.change_laws.proofs.Standing.{worn_stands, spoiled_stands, protected_s
 use Rattle.tape_script.specs.declared.words.Words.{Words}
 use Rattle.tape_script.specs.declared.words.Words.TheVariants as commands
 use Rattle.tape_script.proofs.Commands.{one_command}
-use Rattle.acts.specs.Acts.{Act, steps_of, Outside, Failing, TapeFails, SourceFails, SinkFails, SinkCut}
+use Rattle.acts.specs.Acts.{steps_of, Outside, Failing, TapeFails, SourceFails, SinkFails}
 use Rattle.tape_cmd.specs.declared.status.Status.{Status}
 use Rattle.tape_cmd.specs.declared.status.Status.TheVariants as status
 use Rattle.tape_cmd.specs.Outcome.{Outcome}
 use Rattle.tape_cmd.specs.Place.{HasPlace}
-use Rattle.tape_cmd.specs.New.{NewOutcome}
 use Rattle.tape_cmd.specs.Format.{FormatOutcome}
 use Rattle.tape_cmd.specs.Traits.{traits_of}
 use Rattle.tape_cmd.specs.Machine.{HasValues, Yields, Spells}

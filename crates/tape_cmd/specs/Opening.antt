@@ -1,5 +1,5 @@
 -- How the opening of a cartridge ends: refused, or with its table settled and what was found (this project's own).
-use Rattle.std.specs.Prelude.{◌≡◌, ◌⊎◌, ℕ, Bool, true, false, List, [], ◌++◌, Option, Some, None, IfSome, IsSomeAnd, Result, Ok, Err}
+use Rattle.std.specs.Prelude.{◌≡◌, ◌⊎◌, ℕ, Bool, true, false, List, [], Option, Some, None, IfSome, IsSomeAnd, Result, Ok, Err}
 use Rattle.qic_base.specs.Cartridge.{Cartridge}
 use Rattle.qic_base.specs.Step.{Step}
 use Rattle.qic_base.specs.Tape.{Meaning, Done, Broke}
@@ -19,7 +19,7 @@ use Rattle.volume_store.specs.Mounting.{StoreView, StoreFits, IsSettling}
 use Rattle.tape_cmd.specs.declared.status.Status.{Status}
 use Rattle.tape_cmd.specs.declared.status.Status.TheVariants as status
 use Rattle.acts.specs.Acts.{Act}
-use Rattle.tape_cmd.specs.Outcome.{Outcome, refused, acted, first_steps}
+use Rattle.tape_cmd.specs.Outcome.{Outcome, refused, acted}
 
 -- ---- the plain machine
 

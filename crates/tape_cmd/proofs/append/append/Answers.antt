@@ -1,4 +1,4 @@
-use Rattle.std.proofs.Common.{◌≡◌, ℕ, None, Err, ap, subst}
+use Rattle.std.proofs.Common.{None, Err, ap, subst}
 use Rattle.acts.specs.Around.{reading}
 use Rattle.qic_base.specs.Sink.{Writes}
 use Rattle.volume_store.specs.declared.fault.StoreFault.{StoreFault}

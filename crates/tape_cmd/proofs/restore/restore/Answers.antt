@@ -1,4 +1,4 @@
-use Rattle.std.proofs.Common.{ℕ, false, Err, subst}
+use Rattle.std.proofs.Common.{false, Err, subst}
 use Rattle.acts.specs.Around.{around}
 use Rattle.volume_store.specs.declared.fault.StoreFault.{StoreFault}
 use Rattle.volume_store.specs.Restoring.{RestoreEnds}

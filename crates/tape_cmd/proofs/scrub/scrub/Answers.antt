@@ -1,4 +1,4 @@
-use Rattle.std.proofs.Common.{◌≡◌, ℕ, Ok, Err, ap, subst}
+use Rattle.std.proofs.Common.{Err, ap, subst}
 use Rattle.acts.specs.Around.{around}
 use Rattle.volume_store.specs.declared.fault.StoreFault.{StoreFault}
 use Rattle.volume_store.specs.Scrubbing.{MendEnds}
