@@ -1,22 +1,20 @@
 -- The writes of an input lie behind the table's segment.
-use Rattle.std.proofs.Common.{◌≡◌, ◌⊎◌, inl, inr, ℕ, ◌+◌, ◌-◌, ◌<◌, ◌≤◌, ◌&&◌, Bool, true, false, cond, List, [], ◌∷◌, ◌++◌, length, take, drop, All, Option, Some, None, refl, sym, ap, ◌∙◌, subst, arith, nat_lt, nat_le, append-nil}
+use Rattle.std.proofs.Common.{◌≡◌, ℕ, ◌+◌, ◌<◌, ◌≤◌, ◌&&◌, Bool, true, false, cond, List, [], ◌∷◌, ◌++◌, length, take, drop, All, Option, sym, ap, ◌∙◌, subst, arith, nat_lt, nat_le, append-nil}
 use Rattle.std.specs.Prelude.{is_some}
 use Rattle.std.proofs.lemmas.List.{take_all}
 use Rattle.std.proofs.lemmas.List.Elements.{All-nil, All-cons, All-head, All-tail}
-use Rattle.qic_base.specs.Cartridge.{Cartridge, view_at}
+use Rattle.qic_base.specs.Cartridge.{Cartridge}
 use Rattle.qic_base.specs.Step.{Step}
 use Rattle.acts.specs.Acts.{Act, steps_of}
 use Rattle.acts.proofs.Joins.{steps_of-append}
 use Rattle.cartridge_spec.specs.Shape.{mask_at, data_count, capacity}
-use Rattle.cartridge_spec.specs.Table.{Entry}
 use Rattle.cartridge_spec.specs.Writes.{changed_by}
 use Rattle.append_plan.specs.Appending.{part_writes}
 use Rattle.append_plan.specs.NewVolume.{in_sectors}
-use Rattle.append_plan.specs.Room.{room, last_end, free_segments}
+use Rattle.append_plan.specs.Room.{last_end}
 use Rattle.append_plan.proofs.Keeping.{AreIn, in_append, parts_of_segments, steps_kept}
 use Rattle.append_plan.proofs.Parts.{length-in_sectors}
 use Rattle.append_plan.proofs.Segments.{carrying_from}
-use Rattle.append_plan.proofs.Standing.{AreKeptTo}
 use Rattle.append_plan.specs.Settled.{IsSettledFor}
 use Rattle.append_plan.proofs.Dead.{settled_kept}
 use Rattle.volume_input.specs.Input.{segment_act, volume_acts, filled_acts, input_acts}

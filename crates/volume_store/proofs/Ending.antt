@@ -1,5 +1,5 @@
 -- How an append ended, by what its stages did.
-use Rattle.std.proofs.Common.{◌≡◌, ◌⊎◌, inl, inr, ℕ, ◌+◌, ◌-◌, ◌<◌, ◌≤◌, ◌&&◌, min, Bool, true, false, cond, nat_lt, nat_le, List, [], ◌∷◌, ◌++◌, length, take, drop, All, Option, Some, None, IfSome, IfNone, Result, Ok, Err, refl, sym, ap, ◌∙◌, subst, arith, append-nil}
+use Rattle.std.proofs.Common.{◌≡◌, ◌⊎◌, inl, inr, ℕ, ◌+◌, ◌-◌, ◌<◌, ◌≤◌, ◌&&◌, min, Bool, true, false, cond, nat_lt, nat_le, List, [], ◌∷◌, ◌++◌, length, take, drop, Option, Some, None, IfSome, Result, Err, refl, sym, ap, ◌∙◌, subst, arith, append-nil}
 use Rattle.std.specs.Option.{option_map}
 use Rattle.std.specs.Prelude.{slice_index, is_some}
 use Rattle.std.proofs.lemmas.Bool.{and_parts, leb-true, le-leb}
@@ -17,15 +17,12 @@ use Rattle.acts.specs.Acts.{Act, Outside, Failing, TapeFails, SourceFails, Went,
 use Rattle.acts.specs.Around.{no_sink, reading}
 use Rattle.acts.proofs.Joins.{went_both, went_then_cut, cut_is_longer}
 use Rattle.cartridge_spec.specs.HeaderAndTable.{TableIs, table_cells}
-use Rattle.cartridge_spec.specs.Mounting.{settled}
-use Rattle.cartridge_spec.specs.Says.{TableSaying, TableSays, AsRead, ByCode, LostSectors, Data, with_parity}
-use Rattle.cartridge_spec.specs.Slots.{slot_bytes, slot_sector, with_slot}
+use Rattle.cartridge_spec.specs.Says.{TableSays, AsRead, ByCode, LostSectors, Data, with_parity}
 use Rattle.cartridge_spec.specs.Table.{Entry, Shows, IsSoundList}
 use Rattle.cartridge_spec.specs.Writes.{changed_by}
 use Rattle.cartridge_spec.proofs.Sayings.{data_of-parity}
 use Rattle.cartridge_spec.proofs.TableSayings.{table_says_is_function}
 use Rattle.gf256_qic.proofs.Parities.{parity_block}
-use Rattle.append_plan.specs.Between.{table_writes}
 use Rattle.append_plan.specs.NewVolume.{new_entry}
 use Rattle.append_plan.specs.Room.{last_end, taken_by, room, free_segments}
 use Rattle.append_plan.proofs.Orders.{end_least, order_more}
@@ -41,10 +38,10 @@ use Rattle.volume_store.specs.declared.appended.Appended.{Appended}
 use Rattle.volume_store.specs.declared.fault.StoreFault.{StoreFault}
 use Rattle.volume_store.specs.declared.fault.StoreFault.TheVariants as fault
 use Rattle.volume_store.specs.Again.{IsSettledAgain, IsRefused, IsBrokenOff, IsAdded, IsOfReading, SettlesAgain, AddsEntry, entry_writes}
-use Rattle.volume_store.specs.Appending.{Taking, Fits, TooLong, TooShort, taking, Kept, kept_by, kept_in, room_in, free_in, bytes_taken, has_promised_room, entry_for, input_writes, entry_acts, append_acts, silently, table_with, InputWent, InputWritten, InputBroke, InputIs, AppendRan, HasAppended, AppendCut, TableRefused, AppendEnds}
+use Rattle.volume_store.specs.Appending.{Taking, Fits, TooLong, TooShort, taking, Kept, kept_by, room_in, free_in, bytes_taken, has_promised_room, entry_for, input_writes, entry_acts, append_acts, silently, InputWent, InputWritten, InputBroke, InputIs, AppendRan, HasAppended, AppendCut, TableRefused, AppendEnds}
 use Rattle.volume_store.specs.Mounting.{StoreView, HasList}
 use Rattle.volume_store.proofs.Again.{table_one}
-use Rattle.volume_store.proofs.Behind.{AreBehind, input_behind, settled_behind}
+use Rattle.volume_store.proofs.Behind.{input_behind, settled_behind}
 use Rattle.volume_store.proofs.Copies.{tells_two}
 use Rattle.volume_store.proofs.Settled.{steps_settle, table_sectors, table_size}
 use Rattle.volume_store.proofs.Taking.{untold_content, content_always, both_true}

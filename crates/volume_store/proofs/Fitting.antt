@@ -1,5 +1,5 @@
 -- What is known of a store and its unit after an append.
-use Rattle.std.proofs.Common.{◌≡◌, ◌≢◌, ℕ, ◌+◌, ◌-◌, ◌*◌, ◌/◌, ◌<◌, ◌≤◌, true, false, List, [], ◌∷◌, ◌++◌, length, All, Option, Some, None, IfSome, IsSomeAnd, Result, Ok, Err, refl, sym, ap, ◌∙◌, subst, arith}
+use Rattle.std.proofs.Common.{◌≡◌, ◌≢◌, ℕ, ◌-◌, ◌*◌, ◌/◌, ◌<◌, ◌≤◌, false, List, [], ◌∷◌, ◌++◌, length, Option, Some, None, IfSome, IsSomeAnd, Err, refl, sym, ap, ◌∙◌, subst, arith}
 use Rattle.std.specs.Option.{option_map}
 use Rattle.std.proofs.lemmas.List.{length-append}
 use Rattle.qic_base.specs.Cartridge.{Cartridge, IsCartridge}
@@ -11,7 +11,7 @@ use Rattle.qic_base.specs.declared.tape.TapeInfo.{TapeInfo}
 use Rattle.qic_base.proofs.Steps.{Tells-map, Done-told}
 use Rattle.format_plan.specs.Fresh.{IsLabel}
 use Rattle.format_plan.proofs.Writing.{effects-some}
-use Rattle.acts.specs.Acts.{Act, steps_of}
+use Rattle.acts.specs.Acts.{steps_of}
 use Rattle.acts.specs.Around.{reading}
 use Rattle.cartridge_spec.specs.HeaderAndTable.{IsArea, TableIs}
 use Rattle.cartridge_spec.specs.Slots.{slot_bytes, slot_sector}

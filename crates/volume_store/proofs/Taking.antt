@@ -1,6 +1,5 @@
 -- An input that was taken: what became of it, and the acts that it asked for.
-use Rattle.std.proofs.Common.{◌≡◌, ◌⊎◌, inl, inr, ℕ, zero, suc, ◌+◌, ◌-◌, ◌*◌, ◌<◌, ◌≤◌, ◌&&◌, min, Bool, true, false, cond, List, [], ◌∷◌, ◌++◌, length, take, drop, All, Option, Some, None, IfSome, IfNone, Result, Ok, Err, refl, sym, ap, ◌∙◌, subst, arith, nat_lt, nat_le, append_assoc, append-nil}
-use Rattle.std.specs.Prelude.{is_some}
+use Rattle.std.proofs.Common.{◌≡◌, ◌⊎◌, inl, inr, ℕ, zero, suc, ◌+◌, ◌-◌, ◌<◌, ◌≤◌, ◌&&◌, min, Bool, true, false, cond, List, [], ◌∷◌, ◌++◌, length, take, drop, All, Option, Some, None, IfNone, Ok, Err, refl, sym, ap, ◌∙◌, subst, arith, nat_lt, nat_le, append_assoc, append-nil}
 use Rattle.std.specs.Option.{option_map}
 use Rattle.std.proofs.Math.Seq.{take-append-add, drop-append_seam}
 use Rattle.std.proofs.lemmas.Bool.{le-leb, lt-leb, le-ltb, lt-ltb, cases_lt}
@@ -10,11 +9,10 @@ use Rattle.qic_base.specs.Cause.{Rose}
 use Rattle.qic_base.specs.Source as sources
 use Rattle.qic_base.specs.Tape as tapes
 use Rattle.qic_base.proofs.Steps.{Done-nothing, Rose-after}
-use Rattle.tape_script.specs.Reading.{Gave, GaveSome, HasEnded, Skips}
+use Rattle.tape_script.specs.Reading.{Gave, HasEnded, Skips}
 use Rattle.tape_script.proofs.Giving.{Gave-nothing, Gave-Gave, Gave-end}
-use Rattle.acts.specs.Acts.{Act, Outside, Failing, TapeFails, SourceFails, Went, Cut}
+use Rattle.acts.specs.Acts.{Act, Outside, Failing, SourceFails, Went, Cut}
 use Rattle.acts.specs.Around.{no_sink, reading}
-use Rattle.acts.proofs.Joins.{nothing_went}
 use Rattle.std.proofs.Common.{slice_get}
 use Rattle.std.proofs.lemmas.Option.{same_Some}
 use Rattle.cartridge_spec.specs.Table.{Entry, LieBehind}
@@ -23,7 +21,7 @@ use Rattle.append_plan.specs.Room.{room, free_segments, last_end, end_behind}
 use Rattle.volume_input.specs.Input.{volume_acts, filled_acts, input_acts, HasWritten, EndedShort, InputCut}
 use Rattle.volume_input.specs.declared.written.Written.{Written}
 use Rattle.volume_input.proofs.Inputs.{left_of, whole_told, still_tells, none_left}
-use Rattle.volume_store.specs.Appending.{Taking, Fits, TooLong, TooShort, taking, bytes_taken, has_promised_room, Kept, kept_in, room_in, free_in, input_writes, InputWent, InputWritten, InputBroke, InputIs, TakesNone}
+use Rattle.volume_store.specs.Appending.{Taking, Fits, TooLong, TooShort, taking, bytes_taken, has_promised_room, kept_in, input_writes, InputWent, InputWritten, InputBroke, InputIs, TakesNone}
 use Rattle.volume_store.specs.declared.fault.StoreFault.{StoreFault}
 use Rattle.volume_store.specs.declared.fault.StoreFault.TheVariants as fault
 

@@ -1,7 +1,6 @@
-use Rattle.std.proofs.Common.{◌≡◌, ℕ, ◌+◌, ◌-◌, ◌<◌, ◌≤◌, false, length, None, Ok, subst, sym, ap, ◌∙◌, arith}
+use Rattle.std.proofs.Common.{◌≡◌, ℕ, ◌+◌, ◌-◌, length, None, Ok, subst, sym, ◌∙◌, arith}
 use Rattle.acts.specs.Around.{reading}
 use Rattle.append_plan.specs.Room.{room}
-use Rattle.cartridge_spec.specs.Volumes.{carrying}
 use Rattle.tape_script.specs.Reading.{Skips}
 use Rattle.volume_store.specs.Appending.{InputWent, TooLong}
 use Rattle.volume_store.proofs.Taking.{all_ended, moved, no_more, one_more, more_fails, all_full}

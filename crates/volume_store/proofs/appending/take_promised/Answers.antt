@@ -1,6 +1,6 @@
-use Rattle.std.proofs.Common.{◌≡◌, ◌⊎◌, inl, inr, ℕ, ◌+◌, ◌-◌, ◌<◌, ◌≤◌, true, length, Some, subst, sym, ap, ◌∙◌, arith}
+use Rattle.std.proofs.Common.{◌≡◌, ◌⊎◌, inl, inr, ℕ, ◌-◌, ◌<◌, true, length, Some, subst, sym, ◌∙◌, arith}
 use Rattle.acts.specs.Around.{reading}
-use Rattle.append_plan.specs.Room.{room, last_end}
+use Rattle.append_plan.specs.Room.{room}
 use Rattle.cartridge_spec.specs.Volumes.{carrying}
 use Rattle.volume_input.specs.Input.{HasWritten, EndedShort}
 use Rattle.volume_store.specs.Appending.{InputWent, TooLong}
