@@ -1,9 +1,9 @@
 pub mod Adding
+pub mod Again
 pub mod Behind
+pub mod Copies
 pub mod Ending
 pub mod Fitting
-pub mod Again
-pub mod Copies
 pub mod Mending
 pub mod Mounts
 pub mod Restored
@@ -14,3 +14,4 @@ pub mod Stale
 pub mod Storing
 pub mod TableSegment
 pub mod Taking
+pub mod Worn

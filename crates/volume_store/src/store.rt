@@ -2,7 +2,9 @@
 
 ghost use Rattle.std.specs.Prelude.{◌≡◌, ◌≢◌, ◌↔◌, ◌+◌, ◌-◌, ◌*◌, ◌<◌, ◌≤◌, true, Err, IfOk, IfSome, slice_get, length};
 ghost use Rattle.acts.specs.Around.{around, reading};
-ghost use Rattle.drive_states.specs.Deck.{is_protected};
+ghost use Rattle.drive_states.specs.Deck.{is_protected, segments_per_track};
+ghost use Rattle.drive_states.specs.Hand.{Wears};
+ghost use Rattle.qic_base.specs.Cartridge.{IsPlace};
 ghost use Rattle.host_driver.specs.Calls.{IsReady};
 ghost use Rattle.host_driver.specs.Fits.{AgreesWithTape, segments_of};
 ghost use Rattle.cartridge_spec.specs.Shape.{mask_at, marked_sectors};
@@ -22,7 +24,7 @@ use crate::learning::learn;
 use crate::refreshing::{add_entry, settle_again};
 use crate::settling::settle;
 use bad_sector_map::BadMap;
-use drive_states::Unit;
+use drive_states::{HandFault, Unit};
 use header_segments::Header;
 use host_driver::Host;
 use qic_base::{Name, Sink, Source, Tape};
@@ -252,6 +254,28 @@ impl Store {
             Err(ScrubFault::Sink) => Err(StoreFault::Sink),
             Err(ScrubFault::Tape) => Err(StoreFault::Tape),
         }
+    }
+
+    /// Makes a readable sector unreadable until it is written again, by a person's hand; the segment counts from 0, the
+    /// sector is its index, 0 to 31. `BadPlace` exactly where the cartridge has no such sector.
+    pub fn wear<T: Tape>(
+        &mut self,
+        unit: &mut Unit<T>,
+        segment: u32,
+        sector: u32,
+    ) -> Result<(), HandFault>
+        requires fits { StoreFits T.means self.old unit.old }
+        ensures misplaced { ¬ (IsPlace (segments_per_track unit.old.drive.deck) segment sector) →
+            (result ≡ Err HandFault.BadPlace) × (unit.new ≡ unit.old) }
+        ensures placed { IsPlace (segments_per_track unit.old.drive.deck) segment sector →
+            Wears T.means unit.old unit.new segment sector result }
+        ensures drive { unit.new.drive ≡ unit.old.drive }
+        ensures store { self.new ≡ self.old }
+        ensures fits { IsPlace (segments_per_track unit.old.drive.deck) segment sector →
+            result ≢ Err HandFault.Tape → StoreFits T.means self.new unit.new }
+        ensures size { T.means.size unit.new.tape ≡ T.means.size unit.old.tape }
+    {
+        self.host.wear(unit, segment, sector)
     }
 
     /// The number of volumes, 0 to 232.

@@ -1,0 +1,55 @@
+-- A store behind a sector that was worn.
+use Rattle.std.proofs.Common.{◌≡◌, ℕ, false, List, [], ◌∷◌, Option, Some, None, IfSome, Result, Ok, Err, refl, sym, ◌∙◌, subst}
+use Rattle.std.specs.Option.{option_map}
+use Rattle.qic_base.specs.Cartridge.{Cartridge}
+use Rattle.qic_base.specs.Step.{Wear, changed, effects}
+use Rattle.qic_base.specs.Tape.{Meaning, Done, Tells}
+use Rattle.cartridge_spec.proofs.Segments.{length-whole_cells}
+use Rattle.cartridge_spec.specs.Table.{Entry}
+use Rattle.change_laws.proofs.Changes.{worn_reads_no_more}
+use Rattle.drive_states.specs.declared.fault.HandFault.{HandFault}
+use Rattle.drive_states.specs.declared.fault.HandFault.TheVariants as fault
+use Rattle.drive_states.specs.Hand.{Wears}
+use Rattle.drive_states.specs.Unit.{UnitView}
+use Rattle.format_plan.proofs.Copies.{held_view, view_held}
+use Rattle.volume_store.specs.Mounting.{HasList}
+
+-- what can be read agrees with the same block
+worn_list : (c : Cartridge) (segment sector : ℕ) (entries : List Entry) → HasList c entries → HasList (changed (Wear segment sector) c) entries
+worn_list c segment sector entries has =
+    let d : Cartridge = changed (Wear segment sector) c in
+    record {
+      block = has.block;
+      code = has.code;
+      agrees = record {
+        size = has.agrees.size ∙ length-whole_cells c 2 ∙ sym (length-whole_cells d 2);
+        each = λ i bytes at.
+            let held = held_view d 2 i bytes at in
+            has.agrees.each i bytes (view_held c 2 i bytes held.within (worn_reads_no_more c segment sector 2 i bytes held.view));
+      };
+      shown = has.shown;
+    }
+
+-- the list stands where it may be written
+abbrev Lists : List Entry → Cartridge → Type 0
+Lists entries c = c.info.protected ≡ false → HasList c entries
+
+worn_told : {T : Type 0} (m : Meaning T) (old new : T) (segment sector : ℕ) (entries : List Entry) → Done m old new (Wear segment sector ∷ []) →
+    Tells m old (Lists entries) → Tells m new (Lists entries)
+worn_told m old new segment sector entries done lists =
+    subst (λ (held : Option (Option Cartridge)). IfSome held (λ h. IfSome h (Lists entries))) (sym done.told) (by_told (m.told old) lists)
+  where
+    by_told : (held : Option (Option Cartridge)) → IfSome held (λ h. IfSome h (Lists entries)) →
+        IfSome (option_map (effects (Wear segment sector ∷ [])) held) (λ h. IfSome h (Lists entries))
+    by_told None known = tt
+    by_told (Some None) known = tt
+    by_told (Some (Some c)) known = λ mark. worn_list c segment sector entries (known mark)
+
+-- where the tape didn't fail
+pub worn_lists : {T : Type 0} (m : Meaning T) (old new : UnitView T) (segment sector : ℕ) (entries : List Entry) (answer : Result (Unit {0}) HandFault) →
+    Wears m old new segment sector answer → (answer ≡ Err fault.Tape → ⊥) → Tells m old.tape (Lists entries) → Tells m new.tape (Lists entries)
+worn_lists m old new segment sector entries (Ok done) wears other lists = worn_told m old.tape new.tape segment sector entries wears lists
+worn_lists m old new segment sector entries (Err fault.NoCartridge) wears other lists = absurd wears
+worn_lists m old new segment sector entries (Err fault.BadPlace) wears other lists = absurd wears
+worn_lists m old new segment sector entries (Err fault.Tape) wears other lists = absurd (other refl)
+worn_lists m old new segment sector entries (Err fault.NotBlank) wears other lists = absurd wears
