@@ -1,4 +1,5 @@
-use Rattle.std.proofs.Common.{refl}
+use Rattle.std.proofs.Common.{ap}
+use Rattle.header_segments.specs.Header.{header_of}
 use Rattle.volume_store.specs.Mounting.{StoreView}
 use Rattle.volume_store.proofs.Restored.{still_fits}
 use Rattle.volume_store.proofs.Worn.{worn_lists}
@@ -7,5 +8,8 @@ use Rattle.volume_store.proofs.store.Store.wear.Goals as goal
 pub returns-clause-fits : goal.returns-clause-fits
 returns-clause-fits g c = λ place other.
     let store : StoreView = c.args.self.now in
-    still_fits g.T.Tape.means store store c.args.unit.now c.wear.new.unit c.requires (record { header = refl; words = refl; entries = refl }) c.wear.ensures.keeps
-    (worn_lists g.T.Tape.means c.args.unit.now c.wear.new.unit c.args.segment c.args.sector store.entries c.wear.result (c.wear.ensures.placed place) other c.requires.volumes)
+    let after : StoreView = record { host = c.wear.new.self; header = header_of c.self.inside.header; words = c.self.inside.map; entries = c.self.inside.table } in
+    still_fits g.T.Tape.means store after c.args.unit.now c.wear.new.unit c.requires.fits
+    (record { header = ap (λ (v : StoreView). v.header) c.self.view_is; words = ap (λ (v : StoreView). v.words) c.self.view_is; entries = ap (λ (v : StoreView). v.entries) c.self.view_is })
+    c.wear.ensures.keeps
+    (worn_lists g.T.Tape.means c.args.unit.now c.wear.new.unit c.args.segment c.args.sector store.entries c.wear.result (c.wear.ensures.placed place) other c.requires.fits.volumes)
