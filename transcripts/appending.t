@@ -23,8 +23,8 @@ last segment. A name is one word, and a date another; without one it is the firs
   2 4 4 4 1970-01-01T00:00:00 a second one
   volumes 2
 
-The first slot of the volume table, which stands in segment 2, has the signature, both segments, the name, the date, and
-the length. The bytes stand in segment 3, with zero bytes behind them.
+The first slot of the volume table, which stands in segment 2, has the signature, both segments, the name, the date, the
+flags and the sequence number, both 1, and the length. The bytes stand in segment 3, with zero bytes behind them.
 
   $ look 2 0 0 16
    56 54 42 4c 03 00 03 00 61 20 20 20 20 20 20 20

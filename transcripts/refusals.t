@@ -32,6 +32,12 @@ needs one.
   4 tape: no cartridge
   $ told cart.img lose 84 32
   4 tape: no cartridge
+  $ told cart.img append a < /dev/null
+  4 tape: no cartridge
+  $ told cart.img restore 1
+  4 tape: no cartridge
+  $ told cart.img scrub
+  4 tape: no cartridge
   $ wc -c < cart.img
   0
 
@@ -47,6 +53,16 @@ A protected cartridge is not formatted, and a new one is no formatted one.
   6 tape: the cartridge is not formatted
   $ told cart.img info
   6 tape: the cartridge is not formatted
+  $ told cart.img restore 1
+  6 tape: the cartridge is not formatted
+
+A protected cartridge is not appended to and not scrubbed. That is told before it is mounted, so also where it is not
+formatted.
+
+  $ told cart.img append a < /dev/null
+  5 tape: the cartridge is protected
+  $ told cart.img scrub
+  5 tape: the cartridge is protected
 
 The protect mark stops nothing that a person's hand does: neither a defect, nor a lost sector, nor another cartridge.
 

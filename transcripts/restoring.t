@@ -71,7 +71,8 @@ and nothing behind it.
   29696
   $ head -c 29696 volume | cmp - part
 
-A segment that holds none of a volume's bytes is not read: with all of segment 3 lost a volume of no byte is restored.
+A segment that holds none of a volume's bytes is not read: with four sectors of segment 3 lost, so that it can't be
+read, a volume of no byte is restored.
 
   $ cp whole.img cart.img
   $ tape cart.img append e < /dev/null
@@ -80,8 +81,8 @@ A segment that holds none of a volume's bytes is not read: with all of segment 3
   4 of 4 done
   $ tape cart.img restore 1
 
-A sector that was changed behind the drive's back is found where it stands beside the others: no code block agrees, and
-none of the segment's bytes are given.
+A sector that was changed behind the drive's back is noticed: no code block agrees with the segment's sectors, and none of
+its bytes are given.
 
   $ cp whole.img cart.img
   $ tape cart.img append v < volume

@@ -21,7 +21,7 @@ were written, and how many segments don't read.
   scrub 7 0 0
   $ cmp whole.img cart.img
 
-Three lost sectors in each of them can be found. Those of the table are written by each command that looks at it, before
+Three lost sectors in each of them can be found. Those of the table are written by each command that mounts, before
 anything else, so they aren't counted here.
 
   $ each lose 0 0 5 31
