@@ -39,7 +39,7 @@ use Rattle.tape_cmd.specs.declared.status.Status.{Status}
 use Rattle.tape_cmd.specs.declared.status.Status.TheVariants as status
 use Rattle.tape_cmd.specs.Append.{Appends, AppendOutcome, append_status, kept_on, reply_behind}
 use Rattle.tape_cmd.specs.Lines.{appended_line}
-use Rattle.tape_cmd.specs.Opening.{IsOpened, HasOpened, OpeningEnds, is_opening, store_status}
+use Rattle.tape_cmd.specs.Opening.{IsOpened, HasOpened, IsUnlocked, WritableEnds, is_opening, store_status}
 use Rattle.tape_cmd.specs.Outcome.{Outcome, refused, refused_behind, first_steps}
 use Rattle.tape_cmd.specs.Runs.{Ends, InputLeft, IsOfBytes, IsCutOff, NamesFault, may_come_from}
 use Rattle.tape_cmd.specs.Machine.{CommandPrints}
@@ -49,8 +49,8 @@ use Rattle.tape_cmd.specs.Writing.{printed_status}
 use Rattle.tape_cmd.proofs.PlainLaws.{plain_is_function}
 use Rattle.tape_cmd.proofs.Endings.{told_map, some_text}
 use Rattle.tape_cmd.proofs.Ends.{is_some-map}
-use Rattle.tape_cmd.proofs.Mounted.{Settles, refused_is, begins_is}
-use Rattle.tape_cmd.proofs.Opened.{IsKnown, quiet, outside, went_behind, settled_told, opened_known, known_before, unlocked}
+use Rattle.tape_cmd.proofs.Mounted.{Settles, told_both, locked_is, unlocked_refused_is, writable_begins}
+use Rattle.tape_cmd.proofs.Opened.{IsKnown, quiet, outside, went_behind, settled_told, opened_known, known_before, found_locked, never_both, unlocked}
 
 -- ---- the input
 
@@ -182,8 +182,7 @@ left_by_opening (status.ScriptFault line place) taken before after none left = a
 left_by_opening why taken before after none left = left
 
 appends_first : (name : List ℕ) (date : ℕ) (input : List ℕ) → Settles (Appends name date input)
-appends_first name date input c header ws table entries outcome (inl locked) = ap (λ (o : Outcome). first_steps o) locked.1
-appends_first name date input c header ws table entries outcome (inr (free, is)) = ap (λ (o : Outcome). first_steps o) is
+appends_first name date input c header ws table entries outcome is = ap (λ (o : Outcome). first_steps o) is
 
 -- the outcome of acts
 abbrev with_acts : List Act → (taken : ℕ) → Status → Outcome
@@ -235,12 +234,16 @@ module _ {T S K : Type 0} (t : tapes.Meaning T) (s : sources.Meaning S) (k : sin
       }
 
   -- the opening was refused, or cut off
-  pub append_unopened : (b : UnitView T) (why : Status) → ((z : K) → k.took z [] z) → OpeningEnds t a b (Err why) → Ends t s k (words.Append name date) (outside a i x) (outside b.tape i x) why
-  append_unopened b why nothing (inl refusal) =
+  pub append_unopened : (b : UnitView T) (why : Status) → ((z : K) → k.took z [] z) → WritableEnds t a b (Err why) → Ends t s k (words.Append name date) (outside a i x) (outside b.tape i x) why
+  append_unopened b why nothing (inl locked) =
+      rw locked.answered (turned b.tape i status.Protected [] 0 nothing refl (λ line place is. cc) (λ is. cc) refl (none_taken (s.left i))
+      (whatever (refused status.Protected) (told_map (t.told a) _ _ locked.told (λ held is input. locked_is (Appends name date input) held is)))
+      (record { did = locked.did; wrote = record { took = nothing x; later = omega arith }; source_later = omega arith }))
+  append_unopened b why nothing (inr (inl (free, refusal))) =
       turned b.tape i why [] 0 nothing (found_by_append name date why refusal.sound) (no_script why refusal.sound) (not_done why refusal.sound) refl (none_taken (s.left i))
-      (whatever (refused why) (told_map (t.told a) _ _ refusal.told (λ held is input. refused_is (Appends name date input) why held is)))
+      (whatever (refused why) (told_map (t.told a) _ _ (told_both (t.told a) _ _ free refusal.told) (λ held is input. unlocked_refused_is (Appends name date input) why held is.0 is.1)))
       (record { did = refusal.did; wrote = record { took = nothing x; later = omega arith }; source_later = omega arith })
-  append_unopened b why nothing (inr cut) =
+  append_unopened b why nothing (inr (inr cut)) =
       rw cut.answered (inr (
         TapeFails,
         refl,
@@ -251,7 +254,7 @@ module _ {T S K : Type 0} (t : tapes.Meaning T) (s : sources.Meaning S) (k : sin
             (
               (λ is. input_bytes (s.left i)),
               λ outcome plain.
-                  let begins = begins_is (Appends name date (input_of (s.left i))) (appends_first name date (input_of (s.left i))) cut.steps held front outcome plain in record {
+                  let begins = writable_begins (Appends name date (input_of (s.left i))) (appends_first name date (input_of (s.left i))) cut.steps held front outcome plain in record {
                     cut = opening_cut b.tape cut.steps outcome.acts nothing begins.0 begins.1 cut.broke;
                     done = λ sink still. absurd (cc);
                     silent = λ still. refl;
@@ -268,17 +271,12 @@ module _ {T S K : Type 0} (t : tapes.Meaning T) (s : sources.Meaning S) (k : sin
       ))
 
   module _ (b : UnitView T) (store : StoreView) (opening : HasOpened t a b store) where
-    -- the cartridge is protected
-    pub append_locked : ((z : K) → k.took z [] z) → TakesBoth k → is_protected b.drive.deck ≡ true → Ends t s k (words.Append name date) (outside a i x) (outside b.tape i x) status.Protected
-    append_locked nothing both locked =
+    -- a protected one is none that is told
+    pub append_locked : ((z : K) → k.took z [] z) → TakesBoth k → IsUnlocked t a → is_protected b.drive.deck ≡ true → Ends t s k (words.Append name date) (outside a i x) (outside b.tape i x) status.Protected
+    append_locked nothing both free locked =
         turned b.tape i status.Protected (quiet opening.steps ∷ []) 0 nothing refl (λ line place is. cc) (λ is. cc) refl (none_taken (s.left i))
         (whatever (refused_behind opening.steps status.Protected)
-        (settled_told t a b store opening (λ d. IsKnown d store true) _ (opened_known t a b store opening true locked)
-        (λ c is known input. (
-          mounting.Mounted store.header store.words is.table store.entries,
-          is.mounts,
-          inl ((known_before c store true opening.steps is known).protected, ap (λ (ss : List TapeStep). refused_behind ss status.Protected) is.settles),
-        ))))
+        (told_map (t.told a) _ _ (told_both (t.told a) _ _ free (found_locked t a b store opening locked)) (λ held is. absurd (never_both held is.0 is.1))))
         (went_behind t s k both nothing a b.tape i x (outside b.tape i x) opening.steps [] opening.did
         (record { did = Done-nothing t b.tape; wrote = record { took = nothing x; later = omega arith }; source_later = omega arith }))
 
@@ -298,11 +296,11 @@ module _ {T S K : Type 0} (t : tapes.Meaning T) (s : sources.Meaning S) (k : sin
     is_plain : (table : List (List ℕ)) (settling : List TapeStep) (input : List ℕ) (c : Cartridge) → (is : IsOpened c store opening.steps) → Found table settling (settled is.table c) →
         AppendOutcome name date (Some c) input (going_by (quiet opening.steps) (kept_by store table settling) name date input)
     is_plain table settling input c is f =
-        let known : IsKnown c store false = known_before c store false opening.steps is f.known in (
-          mounting.Mounted store.header store.words is.table store.entries,
-          is.mounts,
-          inr (
-            known.protected,
+        let known : IsKnown c store false = known_before c store false opening.steps is f.known in inr (
+          known.protected,
+          (
+            mounting.Mounted store.header store.words is.table store.entries,
+            is.mounts,
             ap (λ (kept : Kept). going_by (quiet opening.steps) kept name date input) (same_kept c store opening.steps is table settling known.last f.reads f.settles)
                 ∙ ap (λ (ss : List TapeStep). going_by (quiet ss) (kept_on c store.words is.table store.entries) name date input) is.settles,
           ),
@@ -635,22 +633,22 @@ module _ {T S K : Type 0} (t : tapes.Meaning T) (s : sources.Meaning S) (k : sin
 
     -- ---- by the answer of the call
 
-    pub append_failed : (c : T) (j : S) (after : StoreView) (f : StoreFault) → ((z : K) → k.took z [] z) → TakesBoth k → (f ≡ fault.Protected) ↔ (is_protected b.drive.deck ≡ true) →
+    pub append_failed : (c : T) (j : S) (after : StoreView) (f : StoreFault) → ((z : K) → k.took z [] z) → TakesBoth k → IsUnlocked t a → (f ≡ fault.Protected) ↔ (is_protected b.drive.deck ≡ true) →
         AppendEnds t s (reading b.tape i) (reading c j) store after name date None (Err f) → Ends t s k (words.Append name date) (outside a i x) (outside c j x) (store_status f)
-    append_failed c j after fault.Protected nothing both mark same =
+    append_failed c j after fault.Protected nothing both free mark same =
         subst (λ (z : S). Ends t s k (words.Append name date) (outside a i x) (outside c z x) status.Protected) (sym same.1)
-        (subst (λ (w : T). Ends t s k (words.Append name date) (outside a i x) (outside w i x) status.Protected) (sym same.0) (append_locked nothing both (mark.0 refl)))
-    append_failed c j after (fault.Lost segment lost) nothing both mark refusal =
+        (subst (λ (w : T). Ends t s k (words.Append name date) (outside a i x) (outside w i x) status.Protected) (sym same.0) (append_locked nothing both free (mark.0 refl)))
+    append_failed c j after (fault.Lost segment lost) nothing both free mark refusal =
         append_untabled c j (status.Lost segment lost) (λ d. TableSays (table_cells d) (ByCode (LostSectors lost))) nothing both refl (λ line place is. cc) (λ is. cc)
         (λ d table is says. not_lost lost d table is says) refusal.2
-    append_failed c j after fault.TableMismatch nothing both mark refusal =
+    append_failed c j after fault.TableMismatch nothing both free mark refusal =
         append_untabled c j status.TableMismatch (λ d. ⊥) nothing both refl (λ line place is. cc) (λ is. cc) (λ d table is says. says) refusal
-    append_failed c j after (fault.Full need have) nothing both mark ran = append_full c j need have nothing both (unlocked b (fault.Full need have) mark (λ same. cc)) ran
-    append_failed c j after (fault.Short asked read) nothing both mark ran =
+    append_failed c j after (fault.Full need have) nothing both free mark ran = append_full c j need have nothing both (unlocked b (fault.Full need have) mark (λ same. cc)) ran
+    append_failed c j after (fault.Short asked read) nothing both free mark ran =
         absurd (never_short (room_in (kept_by store ran.table ran.settling)) ran.input asked read ran.took)
-    append_failed c j after fault.Source nothing both mark cut = append_source c j nothing (unlocked b fault.Source mark (λ same. cc)) cut
-    append_failed c j after fault.Tape nothing both mark cut = append_tape c j nothing (unlocked b fault.Tape mark (λ same. cc)) cut
-    append_failed c j after f nothing both mark never = absurd never
+    append_failed c j after fault.Source nothing both free mark cut = append_source c j nothing (unlocked b fault.Source mark (λ same. cc)) cut
+    append_failed c j after fault.Tape nothing both free mark cut = append_tape c j nothing (unlocked b fault.Tape mark (λ same. cc)) cut
+    append_failed c j after f nothing both free mark never = absurd never
 
 -- so an append of all of the input is never answered as short
 pub never_short_told : {T S : Type 0} (t : tapes.Meaning T) (s : sources.Meaning S) (a : T) (i : S) (c : T) (j : S) (store after : StoreView) (name : List ℕ) (date : ℕ) (asked read : ℕ) →

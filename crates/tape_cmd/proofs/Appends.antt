@@ -68,34 +68,21 @@ record WasRun (name : List ℕ) (date : ℕ) (input : List ℕ) (c : Cartridge) 
 refusal : (why : Status) (outcome : Outcome) → why ≢ status.Done → outcome ≡ refused why → WasRefused outcome
 refusal why outcome other is = record { why = why; acts = []; is = is; none = refl; not_done = other }
 
--- nothing settles a protected cartridge
-locked_steps : (table : List (List ℕ)) (c : Cartridge) → c.info.protected ≡ true → settling_steps table c ++ [] ≡ []
-locked_steps table c is =
-    append-nil (settling_steps table c)
-    ∙ ap (λ (b : Bool). if b then [] else block_writes (with_parity table) (places_where (is_unsettled c (with_parity table)))) is
-
 course : (name : List ℕ) (date : ℕ) (input : List ℕ) (c : Cartridge) (plain : Plain) (outcome : Outcome) → Stands c plain →
     AppendOutcome name date (Some c) input outcome → WasRefused outcome ⊎ WasRun name date input c plain outcome
-course name date input c plain outcome stood (m, mounts, opened) =
+course name date input c plain outcome stood (inl (locked, is)) = inl (refusal status.Protected outcome (λ same. cc) is)
+course name date input c plain outcome stood (inr (free, (m, mounts, opened))) =
     elim (standing_mounts_only_so c plain m stood mounts) [
       | inl same ↦
-          let table : TableIs c plain.table_area = (subst (Mounts c) same mounts).reads in
-          by_marks table (subst (λ (a : Mounting). Opened (Appends name date input) c a outcome) same opened)
+          inr (record {
+            unprotected = free;
+            table = (subst (Mounts c) same mounts).reads;
+            is = subst (λ (a : Mounting). Opened (Appends name date input) c a outcome) same opened;
+          })
       | inr (n, same) ↦
           inl (refusal (status.Lost 2 n) outcome (λ is. cc)
           (subst (λ (a : Mounting). Opened (Appends name date input) c a outcome) same opened))
     ]
-  where
-    by_marks : TableIs c plain.table_area → Appends name date input c plain.header plain.words plain.table_area (entries_of plain) outcome →
-        WasRefused outcome ⊎ WasRun name date input c plain outcome
-    by_marks table (inl (protected, is)) = inl (record {
-      why = status.Protected;
-      acts = record { steps = settling_steps plain.table_area c; text = [] } ∷ [];
-      is = is;
-      none = locked_steps plain.table_area c protected;
-      not_done = λ same. cc;
-    })
-    by_marks table (inr (unprotected, is)) = inr (record { unprotected = unprotected; table = table; is = is })
 
 -- ---- behind the settling
 

@@ -1,5 +1,5 @@
 -- How the commands that mount a cartridge end.
-use Rattle.std.proofs.Common.{◌≡◌, ◌≢◌, ◌⊎◌, ℕ, ◌++◌, true, List, [], length, Option, Some, None, IfSome, IsSomeAnd, Result, Ok, Err, refl, sym, ap, ◌∙◌, subst, inl, inr, append-nil}
+use Rattle.std.proofs.Common.{◌≡◌, ◌≢◌, ◌⊎◌, ℕ, ◌++◌, Bool, true, false, List, [], length, Option, Some, None, IfSome, IsSomeAnd, Result, Ok, Err, refl, sym, ap, ◌∙◌, subst, inl, inr, append-nil}
 use Rattle.qic_base.specs.Cartridge.{Cartridge}
 use Rattle.qic_base.specs.declared.tape.TapeInfo.{TapeInfo}
 use Rattle.qic_base.specs.declared.sink.SinkFailed.{SinkFailed}
@@ -18,7 +18,9 @@ use Rattle.volume_store.specs.Finding.{is_of_mounting}
 use Rattle.volume_store.specs.Mounting.{StoreView, StoreFits, IsSettling, MountRefuses, MountDoes}
 use Rattle.volume_store.specs.Mounting as stores
 use Rattle.drive_states.specs.Unit.{UnitView}
-use Rattle.mount_laws.specs.Settling.{settling_steps}
+use Rattle.mount_laws.specs.Settling.{settling_steps, block_writes, places_where, is_unsettled}
+use Rattle.cartridge_spec.specs.Says.{with_parity}
+use Rattle.std.specs.Prelude.{if◌then◌else◌}
 use Rattle.cartridge_spec.specs.Mounting.{Mounting}
 use Rattle.tape_script.specs.declared.words.Words.{Words}
 use Rattle.tape_script.specs.declared.words.Words.TheVariants as words
@@ -26,7 +28,7 @@ use Rattle.tape_cmd.specs.declared.status.Status.{Status}
 use Rattle.tape_cmd.specs.declared.status.Status.TheVariants as status
 use Rattle.tape_cmd.specs.Lines.{list_text, info_text}
 use Rattle.tape_cmd.specs.Outcome.{Outcome, refused, acted, first_steps}
-use Rattle.tape_cmd.specs.Opening.{Going, Opened, OpenOutcome, IsRefusal, RefusesOpening, Printing, Shows, store_status, is_opening, StartFails, IsOpened, HasOpened, OpeningEnds}
+use Rattle.tape_cmd.specs.Opening.{Going, Opened, OpenOutcome, WritableOutcome, IsRefusal, RefusesOpening, Printing, Shows, store_status, is_opening, StartFails, IsOpened, HasOpened, OpeningEnds, IsUnlocked, WritableEnds}
 use Rattle.tape_cmd.specs.Info.{telling}
 use Rattle.tape_cmd.specs.List.{listing}
 use Rattle.tape_cmd.specs.Machine.{CommandPrints}
@@ -76,6 +78,35 @@ begins_is goes first steps (Some c) (inr settling) outcome (m, mounts, is) =
     let same : m ≡ mounting.Mounted settling.header settling.words found.table settling.entries = mounts_is_function c m _ mounts found.mounts in
     let does : goes c settling.header settling.words found.table settling.entries outcome = subst (λ (n : Mounting). Opened goes c n outcome) same is in
     ([], append-nil steps ∙ found.settles ∙ sym (first c settling.header settling.words found.table settling.entries outcome does))
+
+-- ---- with a cartridge that is written on
+
+pub told_both : {A : Type 0} (held : Option A) (P Q : A → Type 0) → IfSome held P → IfSome held Q → IfSome held (λ a. P a × Q a)
+told_both None P Q one other = tt
+told_both (Some a) P Q one other = (one, other)
+
+pub locked_is : (goes : Going) (held : Option Cartridge) → IsSomeAnd held (λ c. c.info.protected ≡ true) → WritableOutcome goes held (refused status.Protected)
+locked_is goes None locked = absurd locked
+locked_is goes (Some c) locked = inl (locked, refl)
+
+pub unlocked_refused_is : (goes : Going) (why : Status) (held : Option Cartridge) → IfSome held (λ c. c.info.protected ≡ false) → RefusesOpening held why → WritableOutcome goes held (refused why)
+unlocked_refused_is goes why None free is = ap refused is
+unlocked_refused_is goes why (Some c) free is = inr (free, refused_is goes why (Some c) is)
+
+-- nothing settles a protected cartridge
+locked_steps : (table : List (List ℕ)) (c : Cartridge) → c.info.protected ≡ true → settling_steps table c ≡ []
+locked_steps table c is = ap (λ (b : Bool). if b then [] else block_writes (with_parity table) (places_where (is_unsettled c (with_parity table)))) is
+
+pub writable_begins : (goes : Going) → Settles goes → (steps : List TapeStep) (held : Option Cartridge) → (steps ≡ []) ⊎ IsSomeAnd held (λ c. IsSettling c steps) →
+    (outcome : Outcome) → WritableOutcome goes held outcome → BeginsSteps steps outcome
+writable_begins goes first steps None front outcome plain = begins_is goes first steps None front outcome plain
+writable_begins goes first steps (Some c) front outcome (inr (free, plain)) = begins_is goes first steps (Some c) front outcome plain
+writable_begins goes first steps (Some c) front outcome (inl (locked, is)) =
+    (first_steps outcome, ap (λ (ss : List TapeStep). ss ++ first_steps outcome) (none front))
+  where
+    none : (steps ≡ []) ⊎ IsSettling c steps → steps ≡ []
+    none (inl empty) = empty
+    none (inr settling) = settling.settles.settles ∙ locked_steps settling.settles.table c locked
 
 -- ---- how a mounting ends
 
@@ -152,9 +183,43 @@ open_failed t a b c info fault.Tape there does kind = inr (record {
 })
 open_failed t a b c info f there does kind = absurd (cc)
 
+-- ---- .. of a cartridge to write on
+
+mark_known : {T : Type 0} (t : tapes.Meaning T) (a b : T) (info : TapeInfo) → Present t a b info → info.protected ≡ true → IfSome (t.told a) (λ held. IsSomeAnd held (λ c. c.info.protected ≡ true))
+mark_known t a b info there locked = told_map (t.told a) _ _ there.known (λ held known. by_held held known)
+  where
+    by_held : (held : Option Cartridge) → Knows (Some info) held → IsSomeAnd held (λ c. c.info.protected ≡ true)
+    by_held None known = cc
+    by_held (Some c) known = let same : info ≡ c.info = cc in ap (λ (i : TapeInfo). i.protected) (sym same) ∙ locked
+
+pub unlocked_known : {T : Type 0} (t : tapes.Meaning T) (a b : T) (info : TapeInfo) → Present t a b info → info.protected ≡ false → IsUnlocked t a
+unlocked_known t a b info there free = told_map (t.told a) _ _ there.known (λ held known. by_held held known)
+  where
+    by_held : (held : Option Cartridge) → Knows (Some info) held → IfSome held (λ c. c.info.protected ≡ false)
+    by_held None known = tt
+    by_held (Some c) known = let same : info ≡ c.info = cc in ap (λ (i : TapeInfo). i.protected) (sym same) ∙ free
+
+absent_unlocked : (o : Option (Option Cartridge)) → IfSome o (λ held. held ≡ None) → IfSome o (λ held. IfSome held (λ c. c.info.protected ≡ false))
+absent_unlocked None none = tt
+absent_unlocked (Some None) none = tt
+absent_unlocked (Some (Some c)) none = absurd (cc)
+
+pub writable_unstarted : {T : Type 0} (t : tapes.Meaning T) (a : T) (b : UnitView T) (why : Status) → StartFails t a b.tape why → WritableEnds t a b (Err why)
+writable_unstarted t a b why (inl (is, did, none)) =
+    inr (inl (absent_unlocked (t.told a) none, record { did = did; sound = ap is_opening is; told = rw is (absent_told (t.told a) none) }))
+writable_unstarted t a b why (inr (is, broke)) =
+    inr (inr (record { answered = is; steps = []; broke = broke; front = nothing_begins [] (t.told a) refl }))
+
+pub writable_locked : {T : Type 0} (t : tapes.Meaning T) (a : T) (b : UnitView T) (info : TapeInfo) → Present t a b.tape info → info.protected ≡ true → WritableEnds t a b (Err status.Protected)
+writable_locked t a b info there locked = inl (record { answered = refl; did = there.did; told = mark_known t a b.tape info there locked })
+
+pub writable_failed : {T : Type 0} (t : tapes.Meaning T) (a : T) (b : UnitView T) (why : Status) → IsUnlocked t a → OpeningEnds t a b (Err why) → WritableEnds t a b (Err why)
+writable_failed t a b why free (inl turned) = inr (inl (free, turned))
+writable_failed t a b why free (inr cut) = inr (inr cut)
+
 -- ---- how a command ends that mounts and prints
 
-no_outcome : (why : Status) → is_opening why ≡ true → why ≢ status.Done
+pub no_outcome : (why : Status) → is_opening why ≡ true → why ≢ status.Done
 no_outcome why sound same = let no = ap is_opening same in cc
 
 found_by_list : (why : Status) → is_opening why ≡ true → may_come_from why words.List ≡ true

@@ -95,6 +95,17 @@ known_before c store mark steps is known =
       last = known.last ∙ ap (λ (info : TapeInfo). 28 * info.segments_per_track - 1) same;
     }
 
+-- .. which is protected where the drive knows so
+pub found_locked : {T : Type 0} (t : tapes.Meaning T) (a : T) (b : UnitView T) (store : StoreView) (opening : HasOpened t a b store) → is_protected b.drive.deck ≡ true →
+    IfSome (t.told a) (λ held. IsSomeAnd held (λ c. c.info.protected ≡ true))
+found_locked t a b store opening locked =
+    settled_told t a b store opening (λ d. IsKnown d store true) (λ held. IsSomeAnd held (λ c. c.info.protected ≡ true)) (opened_known t a b store opening true locked)
+    (λ c is known. (known_before c store true opening.steps is known).protected)
+
+pub never_both : (held : Option Cartridge) → IfSome held (λ c. c.info.protected ≡ false) → IsSomeAnd held (λ c. c.info.protected ≡ true) → ⊥
+never_both None free locked = locked
+never_both (Some c) free locked = cc
+
 -- the cartridge is not protected, where something is not so that is so of a protected one
 pub unlocked_where : {T : Type 0} (b : UnitView T) (P : Type 0) → (is_protected b.drive.deck ≡ true → P) → (P → ⊥) → is_protected b.drive.deck ≡ false
 unlocked_where b P locked never = by_mark (is_protected b.drive.deck) refl

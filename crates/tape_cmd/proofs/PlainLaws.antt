@@ -23,9 +23,7 @@ use Rattle.cartridge_spec.specs.Mounting as mounting
 use Rattle.mount_laws.proofs.Mounting.{mounts_is_function}
 use Rattle.fresh_header.proofs.Front.{first_defect_is_none, first_defect_is_one}
 use Rattle.fresh_header.proofs.Marks.{fresh_area_is_one}
-use Rattle.cartridge_spec.specs.Says.{with_parity}
-use Rattle.mount_laws.specs.Settling.{settling_steps, block_writes, places_where, is_unsettled}
-use Rattle.std.specs.Prelude.{if◌then◌else◌}
+use Rattle.mount_laws.specs.Settling.{settling_steps}
 use Rattle.format_plan.specs.Formatting.{clearing_steps, format_steps, HasNoDefectInFront}
 use Rattle.format_plan.specs.Fresh.{IsFreshWith}
 use Rattle.cartridge_spec.specs.Header.{Header}
@@ -37,7 +35,7 @@ use Rattle.tape_cmd.specs.Defect.{DefectOutcome}
 use Rattle.tape_cmd.specs.Lose.{LoseOutcome}
 use Rattle.tape_cmd.specs.Protect.{ProtectOutcome}
 use Rattle.tape_cmd.specs.Format.{FormatOutcome, cleared, formatted}
-use Rattle.tape_cmd.specs.Opening.{Going, Opened, OpenOutcome, Printing, Shows, settling_act}
+use Rattle.tape_cmd.specs.Opening.{Going, Opened, OpenOutcome, WritableOutcome, Printing, Shows, settling_act}
 use Rattle.tape_cmd.specs.Append.{Appends, AppendOutcome}
 use Rattle.tape_cmd.specs.Restore.{Gives, RestoreOutcome, ending_status}
 use Rattle.tape_cmd.specs.Scrub.{Mends, ScrubOutcome}
@@ -189,20 +187,14 @@ restoring_leaves number (Some c) left outcome (mounting.Mounted header words tab
       ),
     )
 
--- nothing settles a protected cartridge
-locked_stays : (table : List (List ℕ)) (c : Cartridge) (left : Option Cartridge) → c.info.protected ≡ true → Torn (settling_steps table c) (Some c) left → left ≡ Some c
-locked_stays table c left is torn =
-    subst (λ (b : Bool). Torn (if b then [] else block_writes (with_parity table) (places_where (is_unsettled c (with_parity table)))) (Some c) left) is torn
-
 scrubbing_leaves : (held left : Option Cartridge) (outcome : Outcome) → ScrubOutcome held outcome → Torn (steps_of outcome.acts) held left → ScrubbingLeaves held left
 scrubbing_leaves None left outcome plain torn = stays None left outcome _ plain refl torn
-scrubbing_leaves (Some c) left outcome (mounting.NotFormatted, mounts, is) torn = inl (stays (Some c) left outcome _ is refl torn)
-scrubbing_leaves (Some c) left outcome (mounting.Foreign fault, mounts, is) torn = inl (stays (Some c) left outcome _ is refl torn)
-scrubbing_leaves (Some c) left outcome (mounting.TableLost lost, mounts, is) torn = inl (stays (Some c) left outcome _ is refl torn)
-scrubbing_leaves (Some c) left outcome (mounting.TableMismatch, mounts, is) torn = inl (stays (Some c) left outcome _ is refl torn)
-scrubbing_leaves (Some c) left outcome (mounting.Mounted header words table entries, mounts, inl locked) torn =
-    inl (locked_stays table c left locked.0 (one_act (settling_steps table c) (Some c) left outcome _ locked.1 refl torn))
-scrubbing_leaves (Some c) left outcome (mounting.Mounted header words table entries, mounts, inr (free, found)) torn =
+scrubbing_leaves (Some c) left outcome (inl (locked, is)) torn = inl (stays (Some c) left outcome _ is refl torn)
+scrubbing_leaves (Some c) left outcome (inr (free, (mounting.NotFormatted, mounts, is))) torn = inl (stays (Some c) left outcome _ is refl torn)
+scrubbing_leaves (Some c) left outcome (inr (free, (mounting.Foreign fault, mounts, is))) torn = inl (stays (Some c) left outcome _ is refl torn)
+scrubbing_leaves (Some c) left outcome (inr (free, (mounting.TableLost lost, mounts, is))) torn = inl (stays (Some c) left outcome _ is refl torn)
+scrubbing_leaves (Some c) left outcome (inr (free, (mounting.TableMismatch, mounts, is))) torn = inl (stays (Some c) left outcome _ is refl torn)
+scrubbing_leaves (Some c) left outcome (inr (free, (mounting.Mounted header words table entries, mounts, found))) torn =
     inr (
       header,
       (
@@ -228,13 +220,8 @@ scrubbing_leaves (Some c) left outcome (mounting.Mounted header words table entr
 appending_leaves : (name : List ℕ) (date : ℕ) (held left : Option Cartridge) (input : List ℕ) (outcome : Outcome) → AppendOutcome name date held input outcome →
     Torn (steps_of outcome.acts) held left → AppendingLeaves held left
 appending_leaves name date None left input outcome plain torn = stays None left outcome _ plain refl torn
-appending_leaves name date (Some c) left input outcome (mounting.NotFormatted, mounts, is) torn = λ locked. stays (Some c) left outcome _ is refl torn
-appending_leaves name date (Some c) left input outcome (mounting.Foreign fault, mounts, is) torn = λ locked. stays (Some c) left outcome _ is refl torn
-appending_leaves name date (Some c) left input outcome (mounting.TableLost lost, mounts, is) torn = λ locked. stays (Some c) left outcome _ is refl torn
-appending_leaves name date (Some c) left input outcome (mounting.TableMismatch, mounts, is) torn = λ locked. stays (Some c) left outcome _ is refl torn
-appending_leaves name date (Some c) left input outcome (mounting.Mounted header words table entries, mounts, inl locked) torn = λ mark.
-    locked_stays table c left mark (one_act (settling_steps table c) (Some c) left outcome _ locked.1 refl torn)
-appending_leaves name date (Some c) left input outcome (mounting.Mounted header words table entries, mounts, inr (free, is)) torn = λ mark. absurd (cc)
+appending_leaves name date (Some c) left input outcome (inl (locked, is)) torn = λ mark. stays (Some c) left outcome _ is refl torn
+appending_leaves name date (Some c) left input outcome (inr (free, opened)) torn = λ mark. absurd (cc)
 
 sent_leaves : (held left : Option Cartridge) (input : List ℕ) (outcome : Outcome) → SentOutcome held input outcome → Torn (steps_of outcome.acts) held left → (left ≡ held) ⊎ (left ≡ effect SetReferenced held)
 sent_leaves held left input outcome (came, plain, is) torn =
@@ -302,14 +289,18 @@ open_is_function goes one (Some c) a b (m, mounts, is) (n, gives, was) =
     opened_is_function goes one c m a b is
     (subst (λ (k : Mounting). Opened goes c k b) (sym (mounts_is_function c m n mounts gives)) was)
 
+writable_is_function : (goes : Going) → IsOne goes → (held : Option Cartridge) (a b : Outcome) → WritableOutcome goes held a → WritableOutcome goes held b → a ≡ b
+writable_is_function goes one None a b is was = is ∙ sym was
+writable_is_function goes one (Some c) a b (inl is) (inl was) = is.1 ∙ sym was.1
+writable_is_function goes one (Some c) a b (inl is) (inr was) = let p = is.0 in let q = was.0 in absurd (cc)
+writable_is_function goes one (Some c) a b (inr is) (inl was) = let p = is.0 in let q = was.0 in absurd (cc)
+writable_is_function goes one (Some c) a b (inr is) (inr was) = open_is_function goes one (Some c) a b is.1 was.1
+
 shows_one : (prints : Printing) → IsOne (Shows prints)
 shows_one prints c header ws table entries a b is was = is ∙ sym was
 
 appends_one : (name : List ℕ) (date : ℕ) (input : List ℕ) → IsOne (Appends name date input)
-appends_one name date input c header ws table entries a b (inl is) (inl was) = is.1 ∙ sym was.1
-appends_one name date input c header ws table entries a b (inl is) (inr was) = let p = is.0 in let q = was.0 in absurd (cc)
-appends_one name date input c header ws table entries a b (inr is) (inl was) = let p = is.0 in let q = was.0 in absurd (cc)
-appends_one name date input c header ws table entries a b (inr is) (inr was) = is.1 ∙ sym was.1
+appends_one name date input c header ws table entries a b is was = is ∙ sym was
 
 abbrev given : (table : List (List ℕ)) (c : Cartridge) → List Act → Status → Outcome
 given table c acts answer = record { acts = settling_act table c ∷ acts; taken = 0; status = answer }
@@ -327,10 +318,7 @@ gives_one number c header ws table entries a b (inr is) (inr was) =
     ∙ ap (λ (e : Ending). given table c was.acts (ending_status e)) both.1 ∙ sym was.is
 
 mends_one : IsOne Mends
-mends_one c header ws table entries a b (inl is) (inl was) = is.1 ∙ sym was.1
-mends_one c header ws table entries a b (inl is) (inr was) = let p = is.0 in let q = was.0 in absurd (cc)
-mends_one c header ws table entries a b (inr is) (inl was) = let p = is.0 in let q = was.0 in absurd (cc)
-mends_one c header ws table entries a b (inr (free, is)) (inr (unlocked, was)) =
+mends_one c header ws table entries a b is was =
     is.is ∙ ap (λ (xs : List Act). given table c xs status.Done)
     (scrubs_is_function (settled table c) ws entries is.acts was.acts is.scrubs was.scrubs) ∙ sym was.is
 
@@ -369,8 +357,8 @@ plain_is_function (words.Protect on) held input a b one other = protect_is_funct
 plain_is_function words.List held input a b one other = open_is_function (Shows listing) (shows_one listing) held a b one other
 plain_is_function (words.Format label date) held input a b one other = format_is_function label date held a b one other
 plain_is_function words.Info held input a b one other = open_is_function (Shows telling) (shows_one telling) held a b one other
-plain_is_function (words.Append name date) held input a b one other = open_is_function (Appends name date input) (appends_one name date input) held a b one other
+plain_is_function (words.Append name date) held input a b one other = writable_is_function (Appends name date input) (appends_one name date input) held a b one other
 plain_is_function (words.Restore number) held input a b one other = open_is_function (Gives number) (gives_one number) held a b one other
-plain_is_function words.Scrub held input a b one other = open_is_function Mends mends_one held a b one other
+plain_is_function words.Scrub held input a b one other = writable_is_function Mends mends_one held a b one other
 plain_is_function words.Pulses held input a b one other = sent_is_function held input a b one other
 plain_is_function command held input a b one other = absurd one

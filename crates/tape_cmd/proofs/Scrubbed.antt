@@ -24,18 +24,17 @@ use Rattle.volume_store.specs.Mounting.{StoreView}
 use Rattle.volume_store.specs.Scrubbing.{MendEnds}
 use Rattle.tape_cmd.specs.declared.status.Status.{Status}
 use Rattle.tape_cmd.specs.declared.status.Status.TheVariants as status
-use Rattle.tape_cmd.specs.Opening.{Opened, IsOpened, HasOpened, OpeningEnds, is_opening, store_status}
-use Rattle.tape_cmd.specs.Outcome.{Outcome, refused_behind, first_steps}
+use Rattle.tape_cmd.specs.Opening.{Opened, IsOpened, HasOpened, IsUnlocked, WritableEnds, is_opening, store_status}
+use Rattle.tape_cmd.specs.Outcome.{Outcome, first_steps}
 use Rattle.tape_cmd.specs.Scrub.{Mends, ScrubOutcome}
 use Rattle.tape_cmd.specs.Runs.{EndsBlind, IsCutOff, fault_of, may_come_from}
-use Rattle.tape_cmd.proofs.Endings.{turned_behind}
-use Rattle.tape_cmd.proofs.Mounted.{Follows, Settles, refuses}
-use Rattle.tape_cmd.proofs.Opened.{IsKnown, quiet, went_behind, cut_behind, settled_told, opened_known, known_before, unlocked}
+use Rattle.tape_cmd.proofs.Endings.{IsBlind, turned_behind, turned_down, cut_off, told_map}
+use Rattle.tape_cmd.proofs.Mounted.{Settles, no_outcome, told_both, locked_is, unlocked_refused_is, writable_begins}
+use Rattle.tape_cmd.proofs.Opened.{IsKnown, quiet, went_behind, cut_behind, settled_told, opened_known, known_before, found_locked, never_both, unlocked}
 
 -- scrubbing begins with the settling
 mends_first : Settles Mends
-mends_first c header ws table entries outcome (inl locked) = ap (λ (o : Outcome). first_steps o) locked.1
-mends_first c header ws table entries outcome (inr (free, found)) = ap (λ (o : Outcome). first_steps o) found.is
+mends_first c header ws table entries outcome found = ap (λ (o : Outcome). first_steps o) found.is
 
 found_by_scrub : (why : Status) → is_opening why ≡ true → may_come_from why words.Scrub ≡ true
 found_by_scrub status.NoCartridge sound = refl
@@ -45,34 +44,31 @@ found_by_scrub (status.Lost segment lost) sound = refl
 found_by_scrub status.TableMismatch sound = refl
 found_by_scrub why sound = cc
 
-scrub_follows : Follows words.Scrub Mends
-scrub_follows = record {
-  blind = record { built = refl; reads = refl };
-  rules = λ held outcome plain input. plain;
-  plain = λ held outcome rules. rules [];
-  first = mends_first;
-  found = found_by_scrub;
-}
+scrub_blind : IsBlind words.Scrub
+scrub_blind = record { built = refl; reads = refl }
 
 pub scrub_refused : {T K : Type 0} (t : tapes.Meaning T) (k : sinks.Meaning K) (a : T) (b : UnitView T) (x : K) (why : Status) → ((z : K) → k.took z [] z) →
-    OpeningEnds t a b (Err why) → EndsBlind t k words.Scrub a b.tape x x why
-scrub_refused t k a b x why nothing ends = refuses t k words.Scrub Mends a b x why scrub_follows nothing ends
+    WritableEnds t a b (Err why) → EndsBlind t k words.Scrub a b.tape x x why
+scrub_refused t k a b x why nothing (inl locked) =
+    rw locked.answered (turned_down t k words.Scrub scrub_blind a b.tape x status.Protected nothing refl (λ is. cc)
+    (told_map (t.told a) _ _ locked.told (λ held is input. locked_is Mends held is)) locked.did)
+scrub_refused t k a b x why nothing (inr (inl (free, turned))) =
+    turned_down t k words.Scrub scrub_blind a b.tape x why nothing (found_by_scrub why turned.sound) (no_outcome why turned.sound)
+    (told_map (t.told a) _ _ (told_both (t.told a) _ _ free turned.told) (λ held is input. unlocked_refused_is Mends why held is.0 is.1)) turned.did
+scrub_refused t k a b x why nothing (inr (inr cut)) =
+    rw cut.answered (cut_off t k words.Scrub scrub_blind a b.tape x cut.steps nothing
+    (told_map (t.told a) _ _ cut.front (λ held front outcome rules. writable_begins Mends mends_first cut.steps held front outcome (rules []))) cut.broke)
 
 -- the outcome of these acts
 abbrev mended : List Act → Outcome
 mended acts = record { acts = acts; taken = 0; status = status.Done }
 
 module _ {T K : Type 0} (t : tapes.Meaning T) (k : sinks.Meaning K) (a : T) (b : UnitView T) (store : StoreView) (opening : HasOpened t a b store) where
-  -- the cartridge is protected
-  pub scrub_locked : (x : K) → ((z : K) → k.took z [] z) → is_protected b.drive.deck ≡ true → EndsBlind t k words.Scrub a b.tape x x status.Protected
-  scrub_locked x nothing locked =
-      turned_behind t k words.Scrub scrub_follows.blind a b.tape x status.Protected opening.steps nothing refl (λ is. cc)
-      (settled_told t a b store opening (λ d. IsKnown d store true) _ (opened_known t a b store opening true locked)
-      (λ c is known input. (
-        mounting.Mounted store.header store.words is.table store.entries,
-        is.mounts,
-        inl ((known_before c store true opening.steps is known).protected, ap (λ (ss : List TapeStep). refused_behind ss status.Protected) is.settles),
-      ))) opening.did
+  -- a protected one is none that is told
+  pub scrub_locked : (x : K) → ((z : K) → k.took z [] z) → IsUnlocked t a → is_protected b.drive.deck ≡ true → EndsBlind t k words.Scrub a b.tape x x status.Protected
+  scrub_locked x nothing free locked =
+      turned_behind t k words.Scrub scrub_blind a b.tape x status.Protected opening.steps nothing refl (λ is. cc)
+      (told_map (t.told a) _ _ (told_both (t.told a) _ _ free (found_locked t a b store opening locked)) (λ held is. absurd (never_both held is.0 is.1))) opening.did
 
   -- what was learnt of the cartridge, beside what is told of its scrubbing
   abbrev Beside : (Cartridge → Type 0) → Cartridge → Type 0
@@ -95,11 +91,11 @@ module _ {T K : Type 0} (t : tapes.Meaning T) (k : sinks.Meaning K) (a : T) (b :
               tt,
               (
                 λ no. absurd (cc),
-                (
-                  mounting.Mounted store.header store.words is.table store.entries,
-                  is.mounts,
-                  inr (
-                    (known_before d store false opening.steps is known.0).protected,
+                inr (
+                  (known_before d store false opening.steps is known.0).protected,
+                  (
+                    mounting.Mounted store.header store.words is.table store.entries,
+                    is.mounts,
                     record { acts = did.acts; scrubs = known.1.0; is = ap (λ (ss : List TapeStep). mended (quiet ss ∷ did.acts)) is.settles },
                   ),
                 ),
@@ -118,13 +114,13 @@ module _ {T K : Type 0} (t : tapes.Meaning T) (k : sinks.Meaning K) (a : T) (b :
   scrubbing_cut : (c : T) (x y : K) (failing : Failing) → TakesBoth k → ((z : K) → k.took z [] z) → (d : Cartridge) → (is : IsOpened d store opening.steps) → d.info.protected ≡ false →
       ((acts : List Act) → Scrubs (mounting.settled is.table d) store.words store.entries acts → Cut t no_source k (around b.tape x) (around c y) acts failing) →
       (outcome : Outcome) → ScrubOutcome (Some d) outcome → IsCutOff t no_source k words.Scrub (around a x) (around c y) failing outcome
-  scrubbing_cut c x y failing both nothing d is free each outcome (m, mounts, does) =
+  scrubbing_cut c x y failing both nothing d is free each outcome (inl locked) = let p = locked.0 in absurd (cc)
+  scrubbing_cut c x y failing both nothing d is free each outcome (inr (unlocked, (m, mounts, does))) =
       let same : m ≡ mounting.Mounted store.header store.words is.table store.entries = mounts_is_function d m _ mounts is.mounts in
-      by_mark (subst (λ (n : Mounting). Opened Mends d n outcome) same does)
+      by_acts (subst (λ (n : Mounting). Opened Mends d n outcome) same does)
     where
-      by_mark : Mends d store.header store.words is.table store.entries outcome → IsCutOff t no_source k words.Scrub (around a x) (around c y) failing outcome
-      by_mark (inl locked) = let p = locked.0 in absurd (cc)
-      by_mark (inr (unlocked, found)) =
+      by_acts : Mends d store.header store.words is.table store.entries outcome → IsCutOff t no_source k words.Scrub (around a x) (around c y) failing outcome
+      by_acts found =
           let acts : List Act = found.acts in
           let cut : Cut t no_source k (around a x) (around c y) (quiet opening.steps ∷ acts) failing =
           cut_behind t no_source k both nothing a b.tape tt x (around c y) opening.steps acts failing opening.did (each acts found.scrubs) in
@@ -165,11 +161,11 @@ module _ {T K : Type 0} (t : tapes.Meaning T) (k : sinks.Meaning K) (a : T) (b :
       )
 
   -- by the answer of the call
-  pub scrub_failed : (c : T) (x y : K) (f : StoreFault) → TakesBoth k → ((z : K) → k.took z [] z) → (f ≡ fault.Protected) ↔ (is_protected b.drive.deck ≡ true) →
+  pub scrub_failed : (c : T) (x y : K) (f : StoreFault) → TakesBoth k → ((z : K) → k.took z [] z) → IsUnlocked t a → (f ≡ fault.Protected) ↔ (is_protected b.drive.deck ≡ true) →
       MendEnds t k store (around b.tape x) (around c y) (Err f) → EndsBlind t k words.Scrub a c x y (store_status f)
-  scrub_failed c x y fault.Protected both nothing mark same =
+  scrub_failed c x y fault.Protected both nothing free mark same =
       subst (λ (z : K). EndsBlind t k words.Scrub a c x z status.Protected) (sym same.1)
-      (subst (λ (w : T). EndsBlind t k words.Scrub a w x x status.Protected) (sym same.0) (scrub_locked x nothing (mark.0 refl)))
-  scrub_failed c x y fault.Sink both nothing mark cut = scrub_cut c x y SinkFails (λ same. cc) both nothing (unlocked b fault.Sink mark (λ same. cc)) cut
-  scrub_failed c x y fault.Tape both nothing mark cut = scrub_cut c x y TapeFails (λ same. cc) both nothing (unlocked b fault.Tape mark (λ same. cc)) cut
-  scrub_failed c x y f both nothing mark never = absurd never
+      (subst (λ (w : T). EndsBlind t k words.Scrub a w x x status.Protected) (sym same.0) (scrub_locked x nothing free (mark.0 refl)))
+  scrub_failed c x y fault.Sink both nothing free mark cut = scrub_cut c x y SinkFails (λ same. cc) both nothing (unlocked b fault.Sink mark (λ same. cc)) cut
+  scrub_failed c x y fault.Tape both nothing free mark cut = scrub_cut c x y TapeFails (λ same. cc) both nothing (unlocked b fault.Tape mark (λ same. cc)) cut
+  scrub_failed c x y f both nothing free mark never = absurd never

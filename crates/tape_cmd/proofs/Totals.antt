@@ -17,7 +17,7 @@ use Rattle.tape_cmd.specs.Defect.{DefectOutcome}
 use Rattle.tape_cmd.specs.Lose.{LoseOutcome}
 use Rattle.tape_cmd.specs.Protect.{ProtectOutcome}
 use Rattle.tape_cmd.specs.Format.{FormatOutcome}
-use Rattle.tape_cmd.specs.Opening.{Going, Opened, OpenOutcome, Printing, Shows}
+use Rattle.tape_cmd.specs.Opening.{Going, Opened, OpenOutcome, WritableOutcome, Printing, Shows}
 use Rattle.tape_cmd.specs.Append.{Appends}
 use Rattle.tape_cmd.specs.Restore.{Gives}
 use Rattle.volume_store.specs.Restoring.{volume_at}
@@ -93,15 +93,19 @@ open_answers goes each (Some c) whole =
     let outcome = opened_answers goes each c some.0 whole some.1 in
     (outcome.0, (some.0, some.1, outcome.1))
 
+writable_answers : (goes : Going) → Answers goes → (held : Option Cartridge) → IfSome held IsCartridge → (outcome : Outcome) × WritableOutcome goes held outcome
+writable_answers goes each None whole = (_, refl)
+writable_answers goes each (Some c) whole = by_mark c.info.protected refl
+  where
+    by_mark : (mark : Bool) → c.info.protected ≡ mark → (outcome : Outcome) × WritableOutcome goes (Some c) outcome
+    by_mark true is = (_, inl (is, refl))
+    by_mark false is = let some = open_answers goes each (Some c) whole in (some.0, inr (is, some.1))
+
 shows_answers : (prints : Printing) → Answers (Shows prints)
 shows_answers prints c header ws table entries whole reads = (_, refl)
 
 appends_answers : (name : List ℕ) (date : ℕ) (input : List ℕ) → Answers (Appends name date input)
-appends_answers name date input c header ws table entries whole reads = by_mark c.info.protected refl
-  where
-    by_mark : (mark : Bool) → c.info.protected ≡ mark → (outcome : Outcome) × Appends name date input c header ws table entries outcome
-    by_mark true is = (_, inl (is, refl))
-    by_mark false is = (_, inr (is, refl))
+appends_answers name date input c header ws table entries whole reads = (_, refl)
 
 gives_answers : (number : ℕ) → Answers (Gives number)
 gives_answers number c header ws table entries whole reads = by_volume (volume_at entries number) refl
@@ -113,13 +117,9 @@ gives_answers number c header ws table entries whole reads = by_volume (volume_a
         (_, inr (record { entry = e; numbered = is; acts = some.0; ending = some.1; restores = some.2; is = refl }))
 
 mends_answers : Answers Mends
-mends_answers c header ws table entries whole reads = by_mark c.info.protected refl
-  where
-    by_mark : (mark : Bool) → c.info.protected ≡ mark → (outcome : Outcome) × Mends c header ws table entries outcome
-    by_mark true is = (_, inl (is, refl))
-    by_mark false is =
-        let some = scrubs_always (settled table c) ws entries (settled_is_cartridge c table whole reads) in
-        (_, inr (is, record { acts = some.0; scrubs = some.1; is = refl }))
+mends_answers c header ws table entries whole reads =
+    let some = scrubs_always (settled table c) ws entries (settled_is_cartridge c table whole reads) in
+    (_, record { acts = some.0; scrubs = some.1; is = refl })
 
 format_answers : (label : List ℕ) (date : ℕ) (held : Option Cartridge) → IsLabel label → date < 2 ^ 32 → IfSome held IsCartridge → (outcome : Outcome) × FormatOutcome label date held outcome
 format_answers label date None is few whole = (_, refl)
@@ -146,8 +146,8 @@ plain_answers (words.Protect on) held input values built whole = protect_answers
 plain_answers (words.Format label date) held input values built whole = format_answers label date held values.0 values.1 whole
 plain_answers words.Info held input values built whole = open_answers (Shows telling) (shows_answers telling) held whole
 plain_answers words.List held input values built whole = open_answers (Shows listing) (shows_answers listing) held whole
-plain_answers (words.Append name date) held input values built whole = open_answers (Appends name date input) (appends_answers name date input) held whole
+plain_answers (words.Append name date) held input values built whole = writable_answers (Appends name date input) (appends_answers name date input) held whole
 plain_answers (words.Restore number) held input values built whole = open_answers (Gives number) (gives_answers number) held whole
-plain_answers words.Scrub held input values built whole = open_answers Mends mends_answers held whole
+plain_answers words.Scrub held input values built whole = writable_answers Mends mends_answers held whole
 plain_answers words.Pulses held input values built whole = sent_answers held input
 plain_answers command held input values built whole = absurd (cc)

@@ -1,5 +1,5 @@
 -- The plain machine of `append` (this project's own).
-use Rattle.std.specs.Prelude.{◌≡◌, ◌⊎◌, ℕ, ◌+◌, ◌&&◌, true, false, List, ◌∷◌, length, min, Option, None, nat_le, if◌then◌else◌}
+use Rattle.std.specs.Prelude.{◌≡◌, ℕ, ◌+◌, ◌&&◌, List, ◌∷◌, length, min, Option, None, nat_le, if◌then◌else◌}
 use Rattle.qic_base.specs.Cartridge.{Cartridge}
 use Rattle.cartridge_spec.specs.HeaderAndTable.{last_segment}
 use Rattle.cartridge_spec.specs.Mounting.{settled}
@@ -9,8 +9,8 @@ use Rattle.volume_store.specs.Appending.{Kept, append_acts, bytes_taken, room_in
 use Rattle.tape_cmd.specs.declared.status.Status.{Status}
 use Rattle.tape_cmd.specs.declared.status.Status.TheVariants as status
 use Rattle.tape_cmd.specs.Lines.{appended_line}
-use Rattle.tape_cmd.specs.Opening.{Going, OpenOutcome, settling_act}
-use Rattle.tape_cmd.specs.Outcome.{Outcome, refused_behind}
+use Rattle.tape_cmd.specs.Opening.{Going, WritableOutcome, settling_act}
+use Rattle.tape_cmd.specs.Outcome.{Outcome}
 
 -- what it goes by once the table is settled: a sector that takes no write is written again
 abbrev pub kept_on : Cartridge → (words : List ℕ) → (table : List (List ℕ)) → List Entry → Kept
@@ -40,11 +40,8 @@ appended name date input c words table entries =
       status = append_status (room_in kept) input;
     }
 
--- a protected cartridge is left as it is: nothing settles it
 abbrev pub Appends : (name : List ℕ) → (date : ℕ) → (input : List ℕ) → Going
-Appends name date input c header words table entries outcome =
-    ((c.info.protected ≡ true) × (outcome ≡ refused_behind (settling_steps table c) status.Protected))
-    ⊎ ((c.info.protected ≡ false) × (outcome ≡ appended name date input c words table entries))
+Appends name date input c header words table entries outcome = outcome ≡ appended name date input c words table entries
 
 abbrev pub AppendOutcome : (name : List ℕ) → (date : ℕ) → Option Cartridge → (input : List ℕ) → Outcome → Type 0
-AppendOutcome name date held input outcome = OpenOutcome (Appends name date input) held outcome
+AppendOutcome name date held input outcome = WritableOutcome (Appends name date input) held outcome

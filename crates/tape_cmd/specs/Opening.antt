@@ -2,7 +2,7 @@
 use Rattle.std.specs.Prelude.{◌≡◌, ◌⊎◌, ℕ, Bool, true, false, List, [], Option, Some, None, IfSome, IsSomeAnd, Result, Ok, Err}
 use Rattle.qic_base.specs.Cartridge.{Cartridge}
 use Rattle.qic_base.specs.Step.{Step}
-use Rattle.qic_base.specs.Tape.{Meaning, Done, Broke}
+use Rattle.qic_base.specs.Tape.{Meaning, Done, Broke, Tells}
 use Rattle.cartridge_spec.specs.Header.{Header, HeaderFault}
 use Rattle.cartridge_spec.specs.Table.{Entry}
 use Rattle.cartridge_spec.specs.Mounting.{Mounting, Mounts}
@@ -43,6 +43,13 @@ Opened goes c (mounting.Mounted header words table entries) outcome = goes c hea
 abbrev pub OpenOutcome : Going → Option Cartridge → Outcome → Type 0
 OpenOutcome goes None outcome = outcome ≡ refused status.NoCartridge
 OpenOutcome goes (Some c) outcome = (m : Mounting) × Mounts c m × Opened goes c m outcome
+
+-- what a command does that writes on the cartridge: a protected one is refused, whether it mounts or not
+abbrev pub WritableOutcome : Going → Option Cartridge → Outcome → Type 0
+WritableOutcome goes None outcome = outcome ≡ refused status.NoCartridge
+WritableOutcome goes (Some c) outcome =
+    ((c.info.protected ≡ true) × (outcome ≡ refused status.Protected))
+    ⊎ ((c.info.protected ≡ false) × OpenOutcome goes (Some c) outcome)
 
 -- what the mounting gives is refused so
 abbrev pub IsRefusal : Mounting → Status → Type 0
@@ -144,3 +151,21 @@ pub record OpeningCut {T : Type 0} (m : Meaning T) (old new : T) (why : Status) 
 abbrev pub OpeningEnds : {T : Type 0} (m : Meaning T) (old : T) (new : UnitView T) → Result StoreView Status → Type 0
 OpeningEnds m old new (Ok store) = HasOpened m old new store
 OpeningEnds m old new (Err why) = OpeningRefused m old new.tape why ⊎ OpeningCut m old new.tape why
+
+-- ---- to write on it
+
+-- The cartridge is protected: nothing was written.
+pub record IsLockedOut {T : Type 0} (m : Meaning T) (old new : T) (why : Status) : Type 0 where
+  pub answered : why ≡ status.Protected
+  pub did : Done m old new []
+  pub told : IfSome (m.told old) (λ held. IsSomeAnd held (λ c. c.info.protected ≡ true))
+
+-- a cartridge that is told is not protected
+abbrev pub IsUnlocked : {T : Type 0} (m : Meaning T) → T → Type 0
+IsUnlocked m old = Tells m old (λ c. c.info.protected ≡ false)
+
+-- how the opening of what a drive holds ended, by a command that writes on it
+abbrev pub WritableEnds : {T : Type 0} (m : Meaning T) (old : T) (new : UnitView T) → Result StoreView Status → Type 0
+WritableEnds m old new (Ok store) = IsUnlocked m old × HasOpened m old new store
+WritableEnds m old new (Err why) =
+    IsLockedOut m old new.tape why ⊎ (IsUnlocked m old × OpeningRefused m old new.tape why) ⊎ OpeningCut m old new.tape why

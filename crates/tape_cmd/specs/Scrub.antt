@@ -1,14 +1,13 @@
 -- The plain machine of `scrub` (this project's own).
-use Rattle.std.specs.Prelude.{◌≡◌, ◌⊎◌, true, false, List, ◌∷◌, ℕ, Option}
+use Rattle.std.specs.Prelude.{◌≡◌, List, ◌∷◌, ℕ, Option}
 use Rattle.qic_base.specs.Cartridge.{Cartridge}
 use Rattle.acts.specs.Acts.{Act}
 use Rattle.cartridge_spec.specs.Mounting.{settled}
 use Rattle.cartridge_spec.specs.Table.{Entry}
-use Rattle.mount_laws.specs.Settling.{settling_steps}
 use Rattle.scrub_plan.specs.Scrubbing.{Scrubs}
 use Rattle.tape_cmd.specs.declared.status.Status.TheVariants as status
-use Rattle.tape_cmd.specs.Opening.{Going, OpenOutcome, settling_act}
-use Rattle.tape_cmd.specs.Outcome.{Outcome, refused_behind}
+use Rattle.tape_cmd.specs.Opening.{Going, WritableOutcome, settling_act}
+use Rattle.tape_cmd.specs.Outcome.{Outcome}
 
 -- the settled cartridge is scrubbed so
 pub record ScrubsOn (c : Cartridge) (words : List ℕ) (table : List (List ℕ)) (entries : List Entry) (outcome : Outcome) : Type 0 where
@@ -16,11 +15,8 @@ pub record ScrubsOn (c : Cartridge) (words : List ℕ) (table : List (List ℕ))
   pub scrubs : Scrubs (settled table c) words entries acts
   pub is : outcome ≡ record { acts = settling_act table c ∷ acts; taken = 0; status = status.Done }
 
--- a protected cartridge is left as it is: nothing settles it
 abbrev pub Mends : Going
-Mends c header words table entries outcome =
-    ((c.info.protected ≡ true) × (outcome ≡ refused_behind (settling_steps table c) status.Protected))
-    ⊎ ((c.info.protected ≡ false) × ScrubsOn c words table entries outcome)
+Mends c header words table entries outcome = ScrubsOn c words table entries outcome
 
 abbrev pub ScrubOutcome : Option Cartridge → Outcome → Type 0
-ScrubOutcome held outcome = OpenOutcome Mends held outcome
+ScrubOutcome held outcome = WritableOutcome Mends held outcome

@@ -8,14 +8,14 @@ ghost use Rattle.tape_cmd.specs.Runs.{Ends};
 
 use crate::Status;
 use crate::lines::printed;
-use crate::opening::{open, store_status};
+use crate::opening::{open_writable, store_status};
 use crate::room::Room;
 use drive_states::Unit;
 use qic_base::{Name, Sink, Source, Tape};
 use tape_script::{TextLine, write_text};
 use volume_store::Appended;
 
-/// Opens the cartridge and appends the whole input as a volume. Prints its number, its length in bytes, and its first and
+/// Opens the cartridge, where it isn't protected, and appends the whole input as a volume. Prints its number, its length in bytes, and its first and
 /// its last segment.
 pub fn append<T: Tape, S: Source, K: Sink>(
     unit: &mut Unit<T>,
@@ -32,7 +32,7 @@ pub fn append<T: Tape, S: Source, K: Sink>(
         record { tape = unit.new.tape; source = source.new; sink = sink.new } result }
     ensures kept { S.means.keeps source.old source.new }
 {
-    let mut store = match open(unit, room) {
+    let mut store = match open_writable(unit, room) {
         Ok(store) => store,
         Err(status) => return status,
     };

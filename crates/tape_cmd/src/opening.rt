@@ -1,7 +1,7 @@
 //! The cartridge that the drive holds, opened: put in and mounted.
 
 ghost use Rattle.std.specs.Prelude.{◌≡◌, ◌≢◌, ℕ};
-ghost use Rattle.tape_cmd.specs.Opening.{OpeningEnds, StartEnds, store_status as status_of};
+ghost use Rattle.tape_cmd.specs.Opening.{OpeningEnds, StartEnds, WritableEnds, store_status as status_of};
 ghost use Rattle.volume_store.specs.declared.fault.StoreFault.TheVariants.{Short};
 
 use crate::Status;
@@ -31,6 +31,23 @@ pub fn open<T: Tape>(unit: &mut Unit<T>, room: Room) -> Result<Store, Status>
         Ok(host) => host,
         Err(status) => return Err(status),
     };
+    match Store::mount(unit, host, room.work, room.map, room.table) {
+        Ok(store) => Ok(store),
+        Err(fault) => Err(store_status(fault)),
+    }
+}
+
+/// Puts the cartridge in to write on it: a protected one is refused, and else it is mounted.
+pub fn open_writable<T: Tape>(unit: &mut Unit<T>, room: Room) -> Result<Store, Status>
+    ensures { WritableEnds T.means unit.old.tape unit.new result }
+{
+    let host = match start(unit) {
+        Ok(host) => host,
+        Err(status) => return Err(status),
+    };
+    if host.protected() {
+        return Err(Status::Protected);
+    }
     match Store::mount(unit, host, room.work, room.map, room.table) {
         Ok(store) => Ok(store),
         Err(fault) => Err(store_status(fault)),

@@ -4,16 +4,16 @@ ghost use Rattle.tape_script.specs.declared.words.Words.TheVariants.{Scrub};
 ghost use Rattle.tape_cmd.specs.Runs.{EndsBlind};
 
 use crate::Status;
-use crate::opening::{open, store_status};
+use crate::opening::{open_writable, store_status};
 use crate::room::Room;
 use drive_states::Unit;
 use qic_base::{Sink, Tape};
 
-/// Opens the cartridge, and writes unreadable sectors again where they can be found.
+/// Opens the cartridge, where it isn't protected, and writes unreadable sectors again where they can be found.
 pub fn scrub<T: Tape, K: Sink>(unit: &mut Unit<T>, room: Room, sink: &mut K) -> Status
     ensures { EndsBlind T.means K.means Scrub unit.old.tape unit.new.tape sink.old sink.new result }
 {
-    let mut store = match open(unit, room) {
+    let mut store = match open_writable(unit, room) {
         Ok(store) => store,
         Err(status) => return status,
     };
