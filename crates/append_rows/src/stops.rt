@@ -175,7 +175,7 @@ fn failing_tape(rt: HostRuntime) -> Result<(), Fail> {
 }
 
 #[test]
-fn an_append_has_so_many_calls(rt: HostRuntime) -> Result<(), Fail> {
+fn an_append_has_no_more_calls(rt: HostRuntime) -> Result<(), Fail> {
     let alloc = rt.alloc();
     // The first call behind it is the insertion of the next command.
     let mut unit = formatted_before(&rt, alloc, CALLS, Outcome::Old)?;
