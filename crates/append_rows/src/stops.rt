@@ -177,7 +177,7 @@ fn failing_tape(rt: HostRuntime) -> Result<(), Fail> {
 #[test]
 fn an_append_has_no_more_calls(rt: HostRuntime) -> Result<(), Fail> {
     let alloc = rt.alloc();
-    // The first call behind it is the insertion of the next command.
+    // The last one is in `failing_tape`. The first call behind it is the insertion of the next command.
     let mut unit = formatted_before(&rt, alloc, CALLS, Outcome::Old)?;
     appends(&rt, alloc, &mut unit, b"appended 1 0 3 3\n");
     breaks_off(&rt, alloc, &mut unit);
