@@ -3,6 +3,7 @@ pub mod Appends
 pub mod Endings
 pub mod Ends
 pub mod Formats
+pub mod GivenBack
 pub mod Hands
 pub mod Listings
 pub mod MachineLaws

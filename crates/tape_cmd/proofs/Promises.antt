@@ -22,6 +22,7 @@ use Rattle.tape_cmd.specs.Runs.{InputLeft, is_fault, is_outcome, may_come_from, 
 use Rattle.acts.specs.Around.{no_source, around}
 use Rattle.tape_cmd.specs.Headline.{Stepped, Answers, WordsLeave, EachLeft, SpellsOne, PrintsFront}
 use Rattle.tape_cmd.specs.Promises.{Promises}
+use Rattle.tape_cmd.proofs.GivenBack.{gives_back}
 use Rattle.tape_cmd.proofs.Endings.{appends_none, any_input, some_text}
 use Rattle.tape_cmd.proofs.Ends.{Laws, is_a_fault, each_left, stops_go_on, ends_asked, ends_cause, ends_answers, ends_carried, ends_cut, ends_stops, ends_joins, ends_otherwise, ends_named, ends_finished, ends_begun, ends_silent}
 use Rattle.tape_cmd.proofs.MachineLaws.{machine_is_function_where, machine_answers_where}
@@ -177,6 +178,9 @@ module _ {T S K : Type 0} (t : tapes.Meaning T) (s : sources.Meaning S) (k : sin
         formats = stops_format t (s.left old.source) words old.tape new.tape laws.right stops;
         appends = stops_append t (s.left old.source) words old.tape new.tape laws.right (λ other spells. has_values words other spells.spelled) stops;
         changed = is_changed t s k words command old new answer laws spelled values ends;
+        restores =
+            gives_back t s k words old new answer (ends_carried t s k words command old new answer laws spelled ends)
+            (ends_cut t s k words command old new answer laws spelled values ends);
         joins = ends_joins t s k words command old new answer laws ends;
         usage = ((λ is. absurd (ends_otherwise t s k words command old new answer ends (inl is))), (λ none. absurd (none command spelled)));
         memory = λ is. absurd (ends_otherwise t s k words command old new answer ends (inr is));
@@ -243,6 +247,7 @@ module _ {T S K : Type 0} (t : tapes.Meaning T) (s : sources.Meaning S) (k : sin
         formats = stops_format t (s.left old.source) words old.tape old.tape laws.right stops;
         appends = stops_append t (s.left old.source) words old.tape old.tape laws.right (λ other spells. has_values words other spells.spelled) stops;
         changed = none_changed t (s.left old.source) words old.tape answer laws.before nothing.0 nothing.1;
+        restores = gives_back t s k words old old answer (λ sound. answers) (λ failing same. let fault = ap is_fault same ∙ is_a_fault failing in let no = nothing.0 in absurd (cc));
         joins = record {
           counts = record { tape = omega arith; source = omega arith; sink = omega arith };
           tape = refl;

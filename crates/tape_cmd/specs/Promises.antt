@@ -10,7 +10,7 @@ use Rattle.tape_cmd.specs.declared.status.Status.TheVariants as status
 use Rattle.tape_cmd.specs.Machine.{Spells, SpellsNone}
 use Rattle.tape_cmd.specs.Runs.{is_fault, fault_of, is_outcome, may_come_from}
 use Rattle.tape_cmd.specs.Headline.{Answers, NoneRose, IsCut, EachLeft, WordsLeave, Joins, SpellsOne, SpellsNoneThat, HasNamedFault, HasNoFault, PrintsText, PrintsFront}
-use Rattle.tape_cmd.specs.Volumes.{VolumesStay, ListStays, StopsFormat, StopsAppend, IsChanged}
+use Rattle.tape_cmd.specs.Volumes.{VolumesStay, ListStays, StopsFormat, StopsAppend, IsChanged, GivesBack}
 
 -- What a run of words promises, by the objects of the outside before it and after it, and by its answer.
 pub record Promises {T S K : Type 0} (t : tapes.Meaning T) (s : sources.Meaning S) (k : sinks.Meaning K) (words : List (List ℕ)) (old new : Outside T S K) (answer : Status) : Type 0 where
@@ -36,6 +36,8 @@ pub record Promises {T S K : Type 0} (t : tapes.Meaning T) (s : sources.Meaning 
   -- After Done or a fault of the sink the cartridge of `new`, the empty one of `format`, or the one with the volume of
   -- `append` stands; after a defect in front a bare one; after a refused append, or a fault of its input, what stood.
   pub changed : IsChanged t (s.left old.source) words old.tape new.tape answer
+  -- Of a cartridge that stands for a plain one a volume is given back byte for byte.
+  pub restores : GivesBack t k words old.tape new.tape old.sink new.sink answer
   -- Two runs can be joined.
   pub joins : Joins t s k old new
   -- The other answers come only from a command that may give them, over any tape and source.

@@ -1,24 +1,31 @@
 -- What a run leaves of the plain cartridge that a cartridge stands for, with its header and its volumes, and of the list
 -- that it is mounted with (this project's own).
-use Rattle.std.specs.Prelude.{◌≡◌, ◌≢◌, ◌⊎◌, ℕ, ◌<◌, ◌≤◌, List, All, Option, Some, IfSome, IsSomeAnd, true}
+use Rattle.std.specs.Prelude.{◌≡◌, ◌≢◌, ◌⊎◌, ℕ, suc, ◌<◌, ◌≤◌, List, take, slice_get, All, Option, Some, IfSome, IsSomeAnd, true, false}
 use Rattle.qic_base.specs.Cartridge.{Cartridge, new_cartridge}
+use Rattle.qic_base.specs.Sink as sinks
 use Rattle.qic_base.specs.Tape as tapes
+use Rattle.acts.specs.Acts.{Failing, TookFront}
 use Rattle.cartridge_spec.specs.Header.{Header}
 use Rattle.cartridge_spec.specs.Table.{Entry}
-use Rattle.cartridge_spec.specs.Volumes.{Plain, Stands}
+use Rattle.cartridge_spec.specs.Says.{unreadable_count}
+use Rattle.cartridge_spec.specs.Volumes.{Plain, Volume, Stands}
 use Rattle.cartridge_spec.specs.Mounting.{Mounted, Mounts}
 use Rattle.cartridge_spec.specs.HeaderAndTable.{IsUnformatted}
 use Rattle.format_plan.specs.Clean.{StandsCleanly, HasNoHeader}
 use Rattle.format_plan.specs.Fresh.{IsFreshFor, fresh_plain}
 use Rattle.append_plan.specs.Laws.{new_plain}
 use Rattle.change_laws.specs.Wear.{WearSpares}
-use Rattle.mount_laws.specs.Laws.{IsTableLive}
+use Rattle.append_plan.specs.NewVolume.{volume_bytes}
+use Rattle.mount_laws.specs.Laws.{IsTableLive, CanBeRead}
+use Rattle.restore_plan.specs.Laws.{FirstLost, pieces_in}
+use Rattle.restore_plan.specs.Restoring.{LosesFew, bytes_held, piece_cells}
 use Rattle.tape_script.specs.declared.words.Words.{Words}
 use Rattle.tape_script.specs.declared.words.Words.TheVariants as commands
 use Rattle.tape_cmd.specs.declared.status.Status.{Status}
 use Rattle.tape_cmd.specs.declared.status.Status.TheVariants as status
 use Rattle.tape_cmd.specs.Place.{HasPlace}
 use Rattle.tape_cmd.specs.Machine.{Spells}
+use Rattle.tape_cmd.specs.Runs.{is_fault, fault_of}
 use Rattle.tape_cmd.specs.Headline.{EachLeft, EachNow}
 
 -- ---- commands that keep the volumes
@@ -120,6 +127,35 @@ AppendedOrNot told words held left =
 -- An append may be stopped: each cartridge that a run leaves is so.
 abbrev pub StopsAppend : {T : Type 0} (t : tapes.Meaning T) (told : Option (List ℕ)) (words : List (List ℕ)) (old new : T) → Type 0
 StopsAppend t told words old new = EachLeft t old new (AppendedOrNot told words)
+
+-- ---- restoring
+
+-- a cartridge stands for a plain one that has this volume of the number, counted from 1, and its volume table can be read
+pub record HasNumber (c : Cartridge) (plain : Plain) (number : ℕ) (volume : Volume) : Type 0 where
+  pub stands : Stands c plain
+  pub reads : CanBeRead c
+  pub place : ℕ
+  pub numbered : number ≡ suc place
+  pub is : slice_get plain.volumes place ≡ Some volume
+
+-- the command came to its end
+abbrev pub CameToEnd : Status → Type 0
+CameToEnd answer = (is_fault answer ≡ false) × (answer ≢ status.NoMemory)
+
+-- What words of restoring print of a volume: just its bytes, where no segment that holds some of them has lost more than
+-- three sectors; and else those of the segments before the first that has, which is named with the number of its lost ones.
+-- Behind a fault it is a front of the bytes.
+pub record GivesBack {T K : Type 0} (t : tapes.Meaning T) (k : sinks.Meaning K) (words : List (List ℕ)) (old new : T) (before behind : K) (answer : Status) : Type 0 where
+  pub whole : (number : ℕ) (c : Cartridge) (plain : Plain) (volume : Volume) → CameToEnd answer → Spells words (commands.Restore number) →
+      t.told old ≡ Some (Some c) → HasNumber c plain number volume → All (LosesFew c plain.words) (pieces_in plain volume) →
+      (answer ≡ status.Done) × k.took before (volume_bytes plain.words volume) behind
+  pub lost : (number : ℕ) (c : Cartridge) (plain : Plain) (volume : Volume) (first : FirstLost c plain.words (pieces_in plain volume)) →
+      CameToEnd answer → Spells words (commands.Restore number) → t.told old ≡ Some (Some c) → HasNumber c plain number volume →
+      (answer ≡ status.Lost first.piece.segment (unreadable_count (piece_cells c plain.words first.piece)))
+      × k.took before (take (bytes_held first.front) (volume_bytes plain.words volume)) behind
+  pub broken : (number : ℕ) (c : Cartridge) (plain : Plain) (volume : Volume) (failing : Failing) → answer ≡ fault_of failing →
+      Spells words (commands.Restore number) → t.told old ≡ Some (Some c) → HasNumber c plain number volume →
+      TookFront k before behind (volume_bytes plain.words volume)
 
 -- ---- when a run is over
 
