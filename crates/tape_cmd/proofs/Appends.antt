@@ -20,9 +20,7 @@ use Rattle.cartridge_spec.specs.Writes.{changed_by}
 use Rattle.format_plan.specs.Fresh.{IsLabel}
 use Rattle.format_plan.proofs.Writing.{effects-some, some_and, some_weaker}
 use Rattle.mount_laws.specs.Laws.{IsTableLive}
-use Rattle.cartridge_spec.specs.Says.{with_parity}
-use Rattle.mount_laws.specs.Settling.{settling_steps, block_writes, places_where, is_unsettled}
-use Rattle.std.specs.Prelude.{if◌then◌else◌}
+use Rattle.mount_laws.specs.Settling.{settling_steps}
 use Rattle.mount_laws.proofs.Keeping.{stopped_stands}
 use Rattle.mount_laws.proofs.Settled.{settled_keeps_table, settled_stands, settled_twice}
 use Rattle.mount_laws.proofs.Standing.{standing_mounts_only_so}

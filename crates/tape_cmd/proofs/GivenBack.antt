@@ -1,5 +1,5 @@
 -- A volume is given back byte for byte by words of restoring.
-use Rattle.std.proofs.Common.{◌≡◌, ◌≢◌, ◌⊎◌, ℕ, suc, zero, ◌+◌, ◌<◌, ◌≤◌, ◌++◌, Bool, true, false, List, [], ◌∷◌, length, take, drop, slice_get, All, Contains, Option, Some, None, IfSome, refl, sym, ap, ◌∙◌, subst, inl, inr, arith, append_assoc}
+use Rattle.std.proofs.Common.{◌≡◌, ◌⊎◌, ℕ, suc, zero, ◌<◌, ◌≤◌, ◌++◌, false, List, [], ◌∷◌, take, drop, slice_get, All, Contains, Option, Some, IfSome, refl, sym, ap, ◌∙◌, subst, inl, inr, arith, append_assoc}
 use Rattle.std.specs.Option.{option_map}
 use Rattle.std.proofs.lemmas.List.{take-append-drop}
 use Rattle.std.proofs.lemmas.List.Elements.{All-nil, All-cons, All-head, All-tail, All-weaker, Contains-get_or}
@@ -9,7 +9,7 @@ use Rattle.qic_base.specs.Cartridge.{Cartridge}
 use Rattle.qic_base.specs.Sink as sinks
 use Rattle.qic_base.specs.Source as sources
 use Rattle.qic_base.specs.Tape as tapes
-use Rattle.acts.specs.Acts.{Act, Outside, Failing, TookFront, text_of}
+use Rattle.acts.specs.Acts.{Act, Outside, Failing, TookFront}
 use Rattle.acts.proofs.Outcomes.{cut_took_front}
 use Rattle.append_plan.specs.NewVolume.{volume_bytes}
 use Rattle.append_plan.proofs.Segments.{carrying_from}
@@ -18,9 +18,9 @@ use Rattle.cartridge_spec.specs.Mounting.{Mounting, settled}
 use Rattle.cartridge_spec.specs.Says.{unreadable_count}
 use Rattle.cartridge_spec.specs.Shape.{mask_at}
 use Rattle.cartridge_spec.specs.Table.{Entry, LieBehind}
-use Rattle.cartridge_spec.specs.Volumes.{Plain, Volume, Stands, carrying_segments, entries_of, volume_length}
+use Rattle.cartridge_spec.specs.Volumes.{Plain, Volume, carrying_segments, entries_of, volume_length}
 use Rattle.format_plan.proofs.Standing.{same_cells}
-use Rattle.mount_laws.specs.Laws.{CanBeRead, mounted_as}
+use Rattle.mount_laws.specs.Laws.{mounted_as}
 use Rattle.mount_laws.proofs.Mounting.{mounts_is_function}
 use Rattle.mount_laws.proofs.Settled.{settled_keeps_table, settled_stands}
 use Rattle.mount_laws.proofs.Standing.{standing_mounts}
