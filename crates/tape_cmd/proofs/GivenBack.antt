@@ -180,8 +180,7 @@ given_lost number c plain volume first outcome has g =
     let d : Cartridge = settled plain.table_area c in
     let alike = lost_alike c d plain.words (pieces_in plain volume) first (pieces_alike number c plain volume has g.table) in
     let gives : GivesFront d plain volume alike.there g.acts g.ending =
-    restores_front d plain volume alike.there g.acts g.ending (has_volume number c plain volume has g.table) g.restores in
-    (
+    restores_front d plain volume alike.there g.acts g.ending (has_volume number c plain volume has g.table) g.restores in (
       ap (λ (o : Outcome). o.status) g.is ∙ ap ending_status gives.ends
           ∙ ap (λ (p : Piece). status.Lost p.segment (unreadable_count (piece_cells d plain.words alike.there.piece))) alike.piece
           ∙ ap (status.Lost first.piece.segment) alike.count,
