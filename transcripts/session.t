@@ -1,0 +1,44 @@
+A session
+=========
+
+A cartridge is made and formatted, and gets a volume.
+
+  $ tape cart.img new 3
+  blank 3
+  $ tape cart.img format evening
+  formatted 84 0
+  $ echo 'a page of text' | tape cart.img append page
+  appended 1 15 3 3
+  $ tape cart.img list
+  1 3 3 15 1970-01-01T00:00:00 page
+  volumes 1
+
+Three lost sectors of a segment are found again by its parity, and a scrub writes them again.
+
+  $ for sector in 0 1 2; do tape cart.img lose 3 $sector; done
+  lost 3 0
+  lost 3 1
+  lost 3 2
+  $ tape cart.img restore 1
+  a page of text
+  $ cp cart.img scrubbed.img
+  $ tape scrubbed.img scrub
+  scrub 4 3 0
+  $ tape scrubbed.img restore 1
+  a page of text
+
+A fourth is one too many, and that is told.
+
+  $ tape cart.img lose 3 3
+  lost 3 3
+  $ tape cart.img restore 1
+  tape: segment 3 lost 4 sectors
+  [11]
+
+The recording of a seek to track 3 and of a broken-off report, by the second program:
+
+  $ { seq 0 12; seq 5000 5004; seq 9000 9005; echo '9100 0'; } | pulse_trace --gap 100
+  0 13 SeekTrack
+  5000 5 value 3
+  9000 6 ReportStatus
+  9100 not acknowledged
