@@ -1,0 +1,90 @@
+The examples of the manual
+==========================
+
+Every command of the examples in the manual pages `tape.1` and `pulse_trace.1`, in their order, with exactly what is shown
+there, so that the examples stay true. Who changes a line here changes it there, too.
+
+tape
+----
+
+A new cartridge, formatted, and a volume on it. The numbers from 1 to 10,000 have 9 digits, then 2 * 90, 3 * 900,
+4 * 9,000 and 5, and 10,000 newlines: 48,894 bytes, of which 29,696 stand in segment 3 and the others in segment 4.
+
+  $ tape evening.img new 3
+  blank 3
+  $ tape evening.img format evening 1994-03-01T12:00:00
+  formatted 84 0
+  $ seq 10000 > numbers
+  $ tape evening.img append numbers 1994-03-01T20:15:00 < numbers
+  appended 1 48894 3 4
+  $ tape evening.img list
+  1 3 4 48894 1994-03-01T20:15:00 numbers
+  volumes 1
+
+Three sectors of a segment may be lost.
+
+  $ for segment in 3 4; do
+  >   for sector in 0 7 31; do
+  >     tape evening.img lose $segment $sector
+  >   done
+  > done
+  lost 3 0
+  lost 3 7
+  lost 3 31
+  lost 4 0
+  lost 4 7
+  lost 4 31
+  $ tape evening.img restore 1 | cmp - numbers
+
+With a fourth one only the bytes of the segments before it are given.
+
+  $ tape evening.img lose 4 8
+  lost 4 8
+  $ tape evening.img restore 1 > part; echo $?
+  tape: segment 4 lost 4 sectors
+  11
+  $ head -c 29696 numbers | cmp - part
+
+Looked at are the two copies of the header, the volume table, and the two segments of the volume.
+
+  $ tape evening.img scrub
+  lost 4 4
+  scrub 5 3 1
+
+The drive's status is 0x75, its least bit first, between two ones.
+
+  $ (echo 6; yes 2 | head -n 9) | tape evening.img pulses | xargs
+  1 1 0 1 0 1 1 1 0 1
+
+A look that writes nothing but the mark.
+
+  $ tape evening.img protect on
+  protected on
+  $ tape evening.img info
+  label evening
+  formatted 1994-03-01T12:00:00
+  segments 84
+  bad sectors 0
+  volumes 1
+
+pulse_trace
+-----------
+
+Two trains; a seek, and a drive that does not answer; a report without the trains that ask for its bits.
+
+  $ (seq 0 100 200; seq 5000 100 5100) | pulse_trace
+  0 3 Pause
+  5000 2 ReportNextBit
+  $ (seq 0 12; seq 5000 5004; seq 9000 9005; echo 9100 0) |
+  >   pulse_trace --gap 100
+  0 13 SeekTrack
+  5000 5 value 3
+  9000 6 ReportStatus
+  9100 not acknowledged
+  $ (seq 0 100 500; echo 600 1; time=2000
+  >   for level in 1 0 1 0 1 1 1 0 1; do
+  >     seq $time 100 $((time + 100)); echo $((time + 200)) $level
+  >     time=$((time + 2000))
+  >   done) | pulse_trace | grep -v next
+  0 6 ReportStatus
+  18200 word 0x0075
