@@ -3,6 +3,10 @@ use Rattle.std.proofs.Common.{◌≡◌, ◌≢◌, ℕ, ◌+◌, ◌-◌, ◌<�
 use Rattle.std.specs.Prelude.{◌↔◌, IfNone, is_some, if◌then◌else◌}
 use Rattle.std.proofs.lemmas.List.Elements.{All-nil}
 use Rattle.std.specs.Option.{option_map}
+use Rattle.std.specs.Prelude.{◌==◌, ◌≤◌, nat_lt}
+use Rattle.std.proofs.Math.Nat.{min-le_right}
+use Rattle.std.proofs.lemmas.Bool.{lt-ltb, le-leb}
+use Rattle.volume_store.proofs.Taking.{both_true}
 use Rattle.qic_base.specs.Cartridge.{Cartridge}
 use Rattle.qic_base.specs.declared.sink.SinkFailed.{SinkFailed}
 use Rattle.qic_base.specs.Sink as sinks
@@ -146,6 +150,17 @@ status_fits have input bytes took = (status_by (nat_le 1 have && nat_le (length 
 status_full : (have : ℕ) (input : List ℕ) (need most : ℕ) → taking have None input ≡ TooLong need most → append_status have input ≡ status.Full need most
 status_full have input need most took = (status_by (nat_le 1 have && nat_le (length input) have) have input (taking have None input) refl).1 need most took
 
+-- one byte more than has room is asked for at most
+full_small : (have : ℕ) (input : List ℕ) (need most : ℕ) → taking have None input ≡ TooLong need most → nat_le need (most + 1) ≡ true
+full_small have input need most took = by_flag (nat_le 1 have && nat_le (length input) have) took
+  where
+    by_flag : (flag : Bool) → (if flag then Fits input else TooLong (min (length input) (have + 1)) have) ≡ TooLong need most → nat_le need (most + 1) ≡ true
+    by_flag true is = absurd (cc)
+    by_flag false is =
+        let n : min (length input) (have + 1) ≡ need = cc in
+        let m : have ≡ most = cc in
+        le-leb need (most + 1) (subst (λ (x : ℕ). need ≤ x + 1) m (subst (λ (x : ℕ). x ≤ have + 1) n (min-le_right (length input) (have + 1))))
+
 -- what a table that can be read says is not that it is lost
 pub not_lost : (lost : ℕ) (d : Cartridge) (table : List (List ℕ)) → TableIs d table → TableSays (table_cells d) (ByCode (LostSectors lost)) → ⊥
 not_lost lost d table (inl read) says =
@@ -167,7 +182,7 @@ found_by_append : (name : List ℕ) (date : ℕ) (why : Status) → is_opening w
 found_by_append name date status.NoCartridge sound = refl
 found_by_append name date status.NotFormatted sound = refl
 found_by_append name date (status.Foreign field value) sound = refl
-found_by_append name date (status.Lost segment lost) sound = refl
+found_by_append name date (status.Lost segment lost) sound = sound
 found_by_append name date status.TableMismatch sound = refl
 found_by_append name date why sound = cc
 
@@ -332,7 +347,7 @@ module _ {T S K : Type 0} (t : tapes.Meaning T) (s : sources.Meaning S) (k : sin
         }) in
         let answer : append_status (room_in kept) ran.input ≡ status.Full need have = status_full (room_in kept) ran.input need have ran.took in
         let taken : bytes_taken None (taking (room_in kept) None ran.input) ≡ need = ap (bytes_taken None) ran.took in
-        turned c j (status.Full need have) (quiet opening.steps ∷ acts) need nothing refl (λ line place is. cc) (λ is. cc)
+        turned c j (status.Full need have) (quiet opening.steps ∷ acts) need nothing (full_small (room_in kept) ran.input need have ran.took) (λ line place is. cc) (λ is. cc)
         (ap (λ (xs : List Act). text_of xs) plain ∙ input_texts kept None ran.input) ran.left
         (told_map (t.told a) _ _ (told_ran j c (TooLong need have) free ran) (λ held o. (
           o.0,
@@ -639,7 +654,8 @@ module _ {T S K : Type 0} (t : tapes.Meaning T) (s : sources.Meaning S) (k : sin
         subst (λ (z : S). Ends t s k (words.Append name date) (outside a i x) (outside c z x) status.Protected) (sym same.1)
         (subst (λ (w : T). Ends t s k (words.Append name date) (outside a i x) (outside w i x) status.Protected) (sym same.0) (append_locked nothing both free (mark.0 refl)))
     append_failed c j after (fault.Lost segment lost) nothing both free mark refusal =
-        append_untabled c j (status.Lost segment lost) (λ d. TableSays (table_cells d) (ByCode (LostSectors lost))) nothing both refl (λ line place is. cc) (λ is. cc)
+        append_untabled c j (status.Lost segment lost) (λ d. TableSays (table_cells d) (ByCode (LostSectors lost))) nothing both
+        (both_true (nat_lt 3 lost) (segment == 2) (lt-ltb 3 lost refusal.1) (ap (λ (s : ℕ). s == 2) refusal.0)) (λ line place is. cc) (λ is. cc)
         (λ d table is says. not_lost lost d table is says) refusal.2
     append_failed c j after fault.TableMismatch nothing both free mark refusal =
         append_untabled c j status.TableMismatch (λ d. ⊥) nothing both refl (λ line place is. cc) (λ is. cc) (λ d table is says. says) refusal

@@ -14,7 +14,10 @@ use Rattle.mount_laws.proofs.Mounting.{mounts_is_function}
 use Rattle.volume_store.specs.declared.fault.StoreFault.{StoreFault}
 use Rattle.volume_store.specs.declared.fault.StoreFault.TheVariants as fault
 use Rattle.cartridge_spec.specs.Header.{fault_as}
-use Rattle.volume_store.specs.Finding.{is_of_mounting}
+use Rattle.volume_store.specs.Finding.{is_of_mounting, NamesCause}
+use Rattle.volume_store.proofs.Taking.{both_true}
+use Rattle.std.proofs.lemmas.Bool.{lt-ltb}
+use Rattle.std.specs.Prelude.{◌==◌, nat_lt}
 use Rattle.volume_store.specs.Mounting.{StoreView, StoreFits, IsSettling, MountRefuses, MountDoes}
 use Rattle.volume_store.specs.Mounting as stores
 use Rattle.drive_states.specs.Unit.{UnitView}
@@ -166,13 +169,15 @@ turned t a b c info f there did told sound = inl (record {
       (told_at_start t a b there.did (λ d. MountRefuses d f) told) (λ held known refuses. refuses_mounting info f held known refuses);
 })
 
-pub open_failed : {T : Type 0} (t : tapes.Meaning T) (a b : T) (c : UnitView T) (info : TapeInfo) (f : StoreFault) → Present t a b info → MountDoes t b c.tape (Err f) → is_of_mounting f ≡ true →
-    OpeningEnds t a c (Err (store_status f))
-open_failed t a b c info fault.NotFormatted there does kind = turned t a b c info fault.NotFormatted there does.done does.told refl
-open_failed t a b c info (fault.Foreign field value) there does kind = turned t a b c info (fault.Foreign field value) there does.done does.told refl
-open_failed t a b c info (fault.Lost segment lost) there does kind = turned t a b c info (fault.Lost segment lost) there does.done does.told refl
-open_failed t a b c info fault.TableMismatch there does kind = turned t a b c info fault.TableMismatch there does.done does.told refl
-open_failed t a b c info fault.Tape there does kind = inr (record {
+pub open_failed : {T : Type 0} (A : Type 0) (n : ℕ) (t : tapes.Meaning T) (a b : T) (c : UnitView T) (info : TapeInfo) (f : StoreFault) → Present t a b info → MountDoes t b c.tape (Err f) → is_of_mounting f ≡ true →
+    NamesCause {A = A} n (Err f) → OpeningEnds t a c (Err (store_status f))
+open_failed A n t a b c info fault.NotFormatted there does kind cause = turned t a b c info fault.NotFormatted there does.done does.told refl
+open_failed A n t a b c info (fault.Foreign field value) there does kind cause = turned t a b c info (fault.Foreign field value) there does.done does.told refl
+open_failed A n t a b c info (fault.Lost segment lost) there does kind cause =
+    turned t a b c info (fault.Lost segment lost) there does.done does.told
+    (both_true (nat_lt 3 lost) (segment == 2) (lt-ltb 3 lost cause.1) (ap (λ (s : ℕ). s == 2) cause.0))
+open_failed A n t a b c info fault.TableMismatch there does kind cause = turned t a b c info fault.TableMismatch there does.done does.told refl
+open_failed A n t a b c info fault.Tape there does kind cause = inr (record {
   answered = refl;
   steps = does.steps;
   broke = Done-Broke there.did does.broke;
@@ -181,7 +186,7 @@ open_failed t a b c info fault.Tape there does kind = inr (record {
       (told_at_start t a b there.did (λ d. (does.steps ≡ []) ⊎ IsSettling d does.steps) does.told)
       (λ held known settling. is_settling info does.steps held known settling);
 })
-open_failed t a b c info f there does kind = absurd (cc)
+open_failed A n t a b c info f there does kind cause = absurd (cc)
 
 -- ---- .. of a cartridge to write on
 
@@ -226,7 +231,7 @@ found_by_list : (why : Status) → is_opening why ≡ true → may_come_from why
 found_by_list status.NoCartridge sound = refl
 found_by_list status.NotFormatted sound = refl
 found_by_list (status.Foreign field value) sound = refl
-found_by_list (status.Lost segment lost) sound = refl
+found_by_list (status.Lost segment lost) sound = sound
 found_by_list status.TableMismatch sound = refl
 found_by_list why sound = cc
 
@@ -234,7 +239,7 @@ found_by_info : (why : Status) → is_opening why ≡ true → may_come_from why
 found_by_info status.NoCartridge sound = refl
 found_by_info status.NotFormatted sound = refl
 found_by_info (status.Foreign field value) sound = refl
-found_by_info (status.Lost segment lost) sound = refl
+found_by_info (status.Lost segment lost) sound = sound
 found_by_info status.TableMismatch sound = refl
 found_by_info why sound = cc
 

@@ -1,5 +1,10 @@
 -- How the restoring of a volume ends.
-use Rattle.std.proofs.Common.{◌≡◌, ◌≢◌, ℕ, false, List, [], ◌∷◌, length, true, Some, None, Ok, Err, refl, sym, ap, ◌∙◌, subst, inl, inr}
+use Rattle.std.proofs.Common.{◌≡◌, ◌≢◌, ℕ, Bool, false, List, [], ◌∷◌, length, true, Some, None, Ok, Err, refl, sym, ap, ◌∙◌, subst, inl, inr}
+use Rattle.std.specs.Prelude.{◌==◌, ◌&&◌, nat_lt, nat_le, zero, suc}
+use Rattle.std.proofs.lemmas.Bool.{lt-ltb, le-leb, eq-eqb}
+use Rattle.std.proofs.lemmas.Option.{slice_get_cases, none-some}
+use Rattle.volume_store.proofs.Taking.{both_true}
+use Rattle.volume_output.specs.Output.{EndsAt}
 use Rattle.qic_base.specs.Cartridge.{Cartridge}
 use Rattle.qic_base.specs.Sink as sinks
 use Rattle.qic_base.specs.Step.{Step as TapeStep}
@@ -24,7 +29,7 @@ use Rattle.tape_cmd.specs.declared.status.Status.TheVariants as status
 use Rattle.tape_cmd.specs.Opening.{Opened, IsOpened, HasOpened, OpeningEnds, is_opening, store_status}
 use Rattle.tape_cmd.specs.Outcome.{Outcome, refused_behind, first_steps}
 use Rattle.tape_cmd.specs.Restore.{Gives, RestoreOutcome, ending_status}
-use Rattle.tape_cmd.specs.Runs.{EndsBlind, IsCutOff, fault_of, may_come_from}
+use Rattle.tape_cmd.specs.Runs.{EndsBlind, IsCutOff, fault_of, may_come_from, is_no_volume}
 use Rattle.tape_cmd.proofs.Endings.{none_taken, turned_behind, told_map}
 use Rattle.tape_cmd.proofs.Mounted.{Follows, Settles, opened_is, refuses}
 use Rattle.tape_cmd.proofs.Opened.{quiet, went_behind, cut_behind, settled_told}
@@ -34,11 +39,25 @@ gives_first : (number : ℕ) → Settles (Gives number)
 gives_first number c header ws table entries outcome (inl none) = ap (λ (o : Outcome). first_steps o) none.1
 gives_first number c header ws table entries outcome (inr found) = ap (λ (o : Outcome). first_steps o) found.is
 
+left_of : (a b : Bool) → (a && b) ≡ true → a ≡ true
+left_of true b is = refl
+left_of false b is = is
+
+-- there is no volume of the number
+none_sound : (entries : List Entry) (number : ℕ) → volume_at entries number ≡ None → is_no_volume (words.Restore number) number (length entries) ≡ true
+none_sound entries zero none = refl
+none_sound entries (suc n) none =
+    elim (slice_get_cases entries n).1 [
+      | inl there ↦ absurd (none-some there.0 (sym none ∙ there.2))
+      | inr past ↦
+          both_true (suc n == suc n) (nat_le (length entries) n) (eq-eqb (suc n) (suc n) refl) (le-leb (length entries) n past.0)
+    ]
+
 found_by_restore : (number : ℕ) (why : Status) → is_opening why ≡ true → may_come_from why (words.Restore number) ≡ true
 found_by_restore number status.NoCartridge sound = refl
 found_by_restore number status.NotFormatted sound = refl
 found_by_restore number (status.Foreign field value) sound = refl
-found_by_restore number (status.Lost segment lost) sound = refl
+found_by_restore number (status.Lost segment lost) sound = both_true (nat_lt 3 lost) true (left_of (nat_lt 3 lost) (segment == 2) sound) refl
 found_by_restore number status.TableMismatch sound = refl
 found_by_restore number why sound = cc
 
@@ -55,10 +74,10 @@ pub restore_refused : {T K : Type 0} (t : tapes.Meaning T) (k : sinks.Meaning K)
     OpeningEnds t a b (Err why) → EndsBlind t k (words.Restore number) a b.tape x x why
 restore_refused t k number a b x why nothing ends = refuses t k (words.Restore number) (Gives number) a b x why (restore_follows number) nothing ends
 
-ending_sound : (number : ℕ) (ending : Ending) → may_come_from (ending_status ending) (words.Restore number) ≡ true
-ending_sound number Restored = refl
-ending_sound number (LostIn segment lost) = refl
-ending_sound number (MismatchIn segment) = refl
+ending_sound : (number : ℕ) (needed : List Piece) (done : ℕ) (ending : Ending) → EndsAt needed done ending → may_come_from (ending_status ending) (words.Restore number) ≡ true
+ending_sound number needed done Restored at = refl
+ending_sound number needed done (LostIn segment lost) at = both_true (nat_lt 3 lost) true (lt-ltb 3 lost at.0) refl
+ending_sound number needed done (MismatchIn segment) at = refl
 
 -- the outcome of these acts
 abbrev given : List Act → Status → Outcome
@@ -72,7 +91,7 @@ module _ {T K : Type 0} (t : tapes.Meaning T) (k : sinks.Meaning K) (number : �
   pub none_given : (x : K) → ((z : K) → k.took z [] z) → volume_at store.entries number ≡ None →
       EndsBlind t k (words.Restore number) a b.tape x x (status.NoVolume number (length store.entries))
   none_given x nothing none =
-      turned_behind t k (words.Restore number) (restore_follows number).blind a b.tape x (status.NoVolume number (length store.entries)) opening.steps nothing refl (λ is. cc)
+      turned_behind t k (words.Restore number) (restore_follows number).blind a b.tape x (status.NoVolume number (length store.entries)) opening.steps nothing (none_sound store.entries number none) (λ is. cc)
       (told_map (t.told a) _ _ opening.told (λ held is input.
       opened_is (Gives number) (refused_behind opening.steps (status.NoVolume number (length store.entries))) store opening.steps held is
       (λ c table there mounts settles. inl (none, ap (λ (ss : List TapeStep). refused_behind ss (status.NoVolume number (length store.entries))) settles)))) opening.did
@@ -107,7 +126,7 @@ module _ {T K : Type 0} (t : tapes.Meaning T) (k : sinks.Meaning K) (number : �
             ));
         went = went_behind t no_source k both nothing a b.tape tt x (around c y) opening.steps gave.acts opening.did gave.went;
         left = none_taken (ending_status ending) 0;
-        sound = ending_sound number ending;
+        sound = ending_sound number (needed e) (length gave.acts) ending gave.ends;
         none_taken = λ blind. refl;
         prints = ((λ done. tt), (λ other. tt));
         silent = λ still. absurd (cc);

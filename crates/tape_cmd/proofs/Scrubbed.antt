@@ -40,7 +40,7 @@ found_by_scrub : (why : Status) → is_opening why ≡ true → may_come_from wh
 found_by_scrub status.NoCartridge sound = refl
 found_by_scrub status.NotFormatted sound = refl
 found_by_scrub (status.Foreign field value) sound = refl
-found_by_scrub (status.Lost segment lost) sound = refl
+found_by_scrub (status.Lost segment lost) sound = sound
 found_by_scrub status.TableMismatch sound = refl
 found_by_scrub why sound = cc
 

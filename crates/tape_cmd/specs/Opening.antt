@@ -1,5 +1,5 @@
 -- How the opening of a cartridge ends: refused, or with its table settled and what was found (this project's own).
-use Rattle.std.specs.Prelude.{◌≡◌, ◌⊎◌, ℕ, Bool, true, false, List, [], Option, Some, None, IfSome, IsSomeAnd, Result, Ok, Err}
+use Rattle.std.specs.Prelude.{◌≡◌, ◌⊎◌, ℕ, ◌&&◌, ◌==◌, nat_lt, Bool, true, false, List, [], Option, Some, None, IfSome, IsSomeAnd, Result, Ok, Err}
 use Rattle.qic_base.specs.Cartridge.{Cartridge}
 use Rattle.qic_base.specs.Step.{Step}
 use Rattle.qic_base.specs.Tape.{Meaning, Done, Broke, Tells}
@@ -99,7 +99,7 @@ abbrev pub is_opening : Status → Bool
 is_opening status.NoCartridge = true
 is_opening status.NotFormatted = true
 is_opening (status.Foreign field value) = true
-is_opening (status.Lost segment lost) = true
+is_opening (status.Lost segment lost) = nat_lt 3 lost && segment == 2
 is_opening status.TableMismatch = true
 is_opening answer = false
 

@@ -1,5 +1,5 @@
 -- How a command ended: all acts of its outcome went, or a fault of the outside cut them off (this project's own).
-use Rattle.std.specs.Prelude.{◌≡◌, ◌≢◌, ◌⊎◌, ℕ, ◌+◌, ◌<◌, Bool, true, false, List, [], ◌++◌, drop, All, Option, IfSome, IfNone, is_some}
+use Rattle.std.specs.Prelude.{◌≡◌, ◌≢◌, ◌⊎◌, ℕ, ◌+◌, ◌<◌, Bool, true, false, List, [], ◌++◌, drop, All, Option, IfSome, IfNone, is_some, ◌&&◌, ◌||◌, ◌==◌, zero, suc, nat_lt, nat_le}
 use Rattle.std.specs.Option.{option_map}
 use Rattle.qic_base.specs.Cartridge.{Cartridge}
 use Rattle.qic_base.specs.Sink as sinks
@@ -8,6 +8,7 @@ use Rattle.qic_base.specs.Tape as tapes
 use Rattle.acts.specs.Acts.{Act, steps_of, text_of, Outside, Failing, TapeFails, SourceFails, SinkFails, Went, Cut}
 use Rattle.acts.specs.Around.{no_source, around}
 use Rattle.tape_script.specs.declared.words.Words.{Words}
+use Rattle.tape_script.specs.declared.words.Words.TheVariants as words
 use Rattle.tape_cmd.specs.declared.status.Status.{Status}
 use Rattle.tape_cmd.specs.declared.status.Status.TheVariants as status
 use Rattle.tape_cmd.specs.Outcome.{Outcome, output_of}
@@ -50,7 +51,19 @@ is_outcome status.TapeFault = false
 is_outcome status.NoMemory = false
 is_outcome answer = true
 
--- the commands that such an answer may come from, whatever the tape and the source tell
+-- a number, counted from 1, is that of none of so many volumes
+abbrev pub is_past : (number count : ℕ) → Bool
+is_past zero count = true
+is_past (suc n) count = nat_le count n
+
+-- these are the number of a volume that was asked for, and the count of those that there are, among which it is none
+abbrev pub is_no_volume : Words → (number count : ℕ) → Bool
+is_no_volume (words.Restore asked) number count = (number == asked) && is_past asked count
+is_no_volume command number count = false
+
+-- the commands that such an answer may come from, and with which numbers, whatever the tape and the source tell: a segment
+-- that doesn't read lost more than three sectors, and is that of the volume table but for a restore; and at most one byte
+-- beyond the room was asked for
 abbrev pub may_come_from : Status → Words → Bool
 may_come_from status.Done command = true
 may_come_from (status.ScriptFault line place) command = (traits_of command).reads
@@ -60,11 +73,12 @@ may_come_from status.Protected command = (traits_of command).writable
 may_come_from status.BadPlace command = (traits_of command).sector
 may_come_from status.NotBlank command = (traits_of command).blank
 may_come_from (status.Foreign field value) command = (traits_of command).mounts
-may_come_from (status.Lost segment lost) command = (traits_of command).mounts
+may_come_from (status.Lost segment lost) command =
+    (traits_of command).mounts && (nat_lt 3 lost && ((traits_of command).restores || segment == 2))
 may_come_from (status.DefectInFront segment) command = (traits_of command).formats
 may_come_from status.TableMismatch command = (traits_of command).mounts
-may_come_from (status.Full need have) command = (traits_of command).appends
-may_come_from (status.NoVolume number count) command = (traits_of command).restores
+may_come_from (status.Full need have) command = (traits_of command).appends && nat_le need (have + 1)
+may_come_from (status.NoVolume number count) command = is_no_volume command number count
 may_come_from (status.Mismatch segment) command = (traits_of command).restores
 may_come_from answer command = false
 

@@ -1,3 +1,4 @@
+use Rattle.std.specs.Prelude.{ℕ}
 use Rattle.tape_cmd.proofs.Formats.{there_of, present}
 use Rattle.tape_cmd.proofs.Mounted.{open_unstarted, open_shown, open_failed}
 use Rattle.tape_cmd.proofs.opening.open.Goals as goal
@@ -12,5 +13,5 @@ returns-in-Ok-mount g c =
 
 pub returns-in-Err-mount : goal.returns-in-Err-mount
 returns-in-Err-mount g c =
-    rw c.store_status.ensures (open_failed g.T.Tape.means c.args.unit.now.tape c.start.new.unit.tape c.mount.new.unit (there_of c.in-Ok.ensures).info c.in-Err-mount.fault
-    (present c.in-Ok.ensures) c.in-Err-mount.ensures.did c.in-Err-mount.ensures.kind)
+    rw c.store_status.ensures (open_failed ℕ _ g.T.Tape.means c.args.unit.now.tape c.start.new.unit.tape c.mount.new.unit (there_of c.in-Ok.ensures).info c.in-Err-mount.fault
+    (present c.in-Ok.ensures) c.in-Err-mount.ensures.did c.in-Err-mount.ensures.kind c.in-Err-mount.ensures.cause)

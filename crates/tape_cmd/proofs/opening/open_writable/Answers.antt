@@ -1,3 +1,4 @@
+use Rattle.std.specs.Prelude.{ℕ}
 use Rattle.std.proofs.Common.{◌≡◌, false, sym, ap, ◌∙◌}
 use Rattle.std.specs.Option.{option_map_or}
 use Rattle.drive_states.specs.Deck.{is_protected}
@@ -25,5 +26,5 @@ returns-in-Err-mount g c =
     sym (ap (λ i. option_map_or (λ c. c.protected) i false) there.is) ∙ ap is_protected c.in-Ok.ensures.ready.fits.deck ∙ sym c.protected.ensures ∙ c.if-protected.false in
     rw c.store_status.ensures (writable_failed g.T.Tape.means c.args.unit.now.tape c.mount.new.unit _
     (unlocked_known g.T.Tape.means c.args.unit.now.tape c.start.new.unit.tape there.info (present c.in-Ok.ensures) free)
-    (open_failed g.T.Tape.means c.args.unit.now.tape c.start.new.unit.tape c.mount.new.unit there.info c.in-Err-mount.fault
-    (present c.in-Ok.ensures) c.in-Err-mount.ensures.did c.in-Err-mount.ensures.kind))
+    (open_failed ℕ _ g.T.Tape.means c.args.unit.now.tape c.start.new.unit.tape c.mount.new.unit there.info c.in-Err-mount.fault
+    (present c.in-Ok.ensures) c.in-Err-mount.ensures.did c.in-Err-mount.ensures.kind c.in-Err-mount.ensures.cause))
