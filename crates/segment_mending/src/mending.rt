@@ -23,7 +23,7 @@ use tape_script::{TextLine, write_text};
 /// What a header's data begin with (Linux ftape headers).
 const SIGNATURE: u32 = 0xAA55_AA55;
 
-// Whether the data of a header copy, which was read and solved, begin with a header's signature.
+/// Whether the data of a header copy, which was read and solved, begin with a header's signature.
 pub(crate) fn is_header(work: &Workspace) -> bool
     requires { length work.now ≡ 32 }
     ensures { result ≡ has_signature (data_of (take 32 work.now)) }
@@ -58,7 +58,7 @@ fn write_lost<T: Tape>(
     }
 }
 
-// Mends a segment that reads, and counts it.
+/// Mends a segment that reads, and counts it.
 #[tactic(auto, using(cartridge_spec::proofs::Places::count_below))]
 pub(crate) fn mend<T: Tape>(
     host: &mut Host,
@@ -86,7 +86,7 @@ pub(crate) fn mend<T: Tape>(
     Ok(())
 }
 
-// Prints the line of a segment that does not read, and counts it.
+/// Prints the line of a segment that does not read, and counts it.
 pub(crate) fn pass_over<K: Sink>(
     line: &TextLine,
     sink: &mut K,

@@ -168,7 +168,7 @@ fn take_none<S: Source>(source: &mut S) -> StoreFault
     }
 }
 
-// Takes the input, and writes it into the free segments.
+/// Takes the input, and writes it into the free segments.
 pub(crate) fn take_input<T: Tape, S: Source>(
     host: &mut Host,
     unit: &mut Unit<T>,

@@ -64,7 +64,7 @@ impl Model for Store {
         × IsSoundList (length store.map - 1) store.table };
 }
 
-// The bytes of data that the segments from one to another carry.
+/// The bytes of data that the segments from one to another carry.
 pub(crate) fn capacity_between(map: &BadMap, start: u16, end: u16) -> u64
     requires { end < length map.now }
     ensures { result ≡ capacity_between map.now start end }

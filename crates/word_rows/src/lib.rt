@@ -1,4 +1,5 @@
-//! What `tape_script` reads that no command takes yet, as tests: words, lines of scripts, made volumes.
+//! What `tape_script` reads, as tests: words, lines of scripts, made volumes, and a line of `pulses` amid which its source
+//! fails.
 #![tactic(auto)]
 
 #[cfg(test)]
