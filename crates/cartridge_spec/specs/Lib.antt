@@ -9,6 +9,7 @@ pub mod Segment
 pub mod Shape
 pub mod Slots
 pub mod Table
+pub mod TableSets
 pub mod Volumes
 pub mod Writes
 pub mod WritingLaws

@@ -8,6 +8,7 @@ use Rattle.qic_base.specs.LostSet.{IsLost}
 use Rattle.gf256_qic.specs.Code.{IsCodeBlock, parity_sectors}
 use Rattle.cartridge_spec.specs.Segment.{is_unreadable}
 use Rattle.cartridge_spec.specs.Shape.{usable_places}
+use Rattle.cartridge_spec.specs.TableSets.{table_sets}
 
 -- a segment without a bad sector
 abbrev pub whole_mask : ℕ
@@ -110,10 +111,6 @@ abbrev pub SaysBy : List ℕ → List SectorView → Saying → Type 0
 SaysBy sets cells (Data sectors) = (unreadable_count cells ≤ 3) × HasFirstBlock sets cells sectors
 SaysBy sets cells (LostSectors n) = (unreadable_count cells ≡ n) × (3 < n)
 SaysBy sets cells Mismatch = (unreadable_count cells ≤ 3) × HasNoBlocks sets cells
-
--- the sets of the table's segment: none of its sectors is left out of account
-abbrev pub table_sets : List SectorView → List ℕ
-table_sets cells = 0 ∷ []
 
 -- ---- what the table's segment says
 
