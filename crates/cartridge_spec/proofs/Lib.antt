@@ -2,9 +2,11 @@ pub mod Blocks
 pub mod Cells
 pub mod Hiding
 pub mod Places
+pub mod Readings
 pub mod Sayings
 pub mod Search
 pub mod Segments
+pub mod Sets
 pub mod Shapes
 pub mod SlotBytes
 pub mod Slots

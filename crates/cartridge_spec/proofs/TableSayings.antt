@@ -8,12 +8,14 @@ use Rattle.std.proofs.lemmas.Option.{slice_get-map, get_or_from_slice_get}
 use Rattle.qic_base.specs.declared.tape.SectorView.{SectorView}
 use Rattle.qic_base.specs.declared.tape.SectorView.TheVariants.{Blank, Defect, Lost, Holds}
 use Rattle.gf256_qic.specs.Code.{IsSector}
-use Rattle.cartridge_spec.specs.Says.{Saying, Says, SaysBy, unreadable_data, ReadsAll, AsRead, ByCode, TableSays, table_sets}
-use Rattle.cartridge_spec.specs.SayingLaws.{TableSaysIsFunction, TableSaysAlways, ReadAreSectors}
+use Rattle.cartridge_spec.specs.Says.{Saying, Says, Data, LostSectors, Mismatch, HasBlock, unreadable_data, ReadsAll, AsRead, ByCode, TableSays}
+use Rattle.cartridge_spec.specs.TableSets.{table_sets}
+use Rattle.cartridge_spec.specs.SayingLaws.{TableSaysIsFunction, TableSaysAlways, SaidIsTable, ReadAreSectors}
 use Rattle.cartridge_spec.proofs.Cells.{IsReadable, count_of_readable, readable_from_count}
-use Rattle.cartridge_spec.proofs.Sayings.{says_is_function, code_sector}
-use Rattle.cartridge_spec.proofs.Blocks.{says_always, held_sector}
-use Rattle.cartridge_spec.proofs.Hiding.{says_by_none}
+use Rattle.cartridge_spec.proofs.Sayings.{code_sector}
+use Rattle.cartridge_spec.proofs.Blocks.{held_sector}
+use Rattle.cartridge_spec.proofs.Hiding.{nothing_is_hidden}
+use Rattle.cartridge_spec.proofs.Readings.{table_sets_are_small, one_answer, code_always}
 
 -- ---- at most one thing
 
@@ -39,23 +41,22 @@ no_code cells xs reads some =
     let none : unreadable_data cells ≡ 0 = none_unreadable cells xs reads in
     absurd (omega arith)
 
--- what the code says is one
-one_answer : (cells : List SectorView) (a b : Saying) → SaysBy (table_sets cells) cells a → SaysBy (table_sets cells) cells b → a ≡ b
-one_answer cells a b ha hb =
-    says_is_function cells a b ((says_by_none cells a).0 ha) ((says_by_none cells b).0 hb)
+-- data that the code finds where no sector is left out of account are those of the table
+pub says_data : (cells : List SectorView) (xs : List (List ℕ)) → 0 < unreadable_data cells → Says cells (Data xs) → TableSays cells (ByCode (Data xs))
+says_data cells xs some says =
+    (some, (says.0, inl (subst (λ (cs : List SectorView). HasBlock cs xs) (sym (nothing_is_hidden cells)) says.1)))
 
--- what the table's segment says by the code is what any segment says
-pub code_says : (cells : List SectorView) (saying : Saying) → TableSays cells (ByCode saying) → Says cells saying
-code_says cells saying says = (says_by_none cells saying).0 says.1
-
-pub says_code : (cells : List SectorView) (saying : Saying) → 0 < unreadable_data cells → Says cells saying → TableSays cells (ByCode saying)
-says_code cells saying some says = (some, (says_by_none cells saying).1 says)
+pub said_is_table : SaidIsTable
+said_is_table cells (Data xs) some says other = says_data cells xs some says
+said_is_table cells (LostSectors n) some says other = (some, says)
+said_is_table cells Mismatch some says other = absurd (other refl)
 
 pub table_says_is_function : TableSaysIsFunction
 table_says_is_function cells (AsRead xs) (AsRead ys) ha hb = ap AsRead (one_reading cells xs ys ha hb)
 table_says_is_function cells (AsRead xs) (ByCode b) ha hb = no_code cells xs ha hb.0
 table_says_is_function cells (ByCode a) (AsRead ys) ha hb = no_code cells ys hb ha.0
-table_says_is_function cells (ByCode a) (ByCode b) ha hb = ap (λ (saying : Saying). ByCode saying) (one_answer cells a b ha.1 hb.1)
+table_says_is_function cells (ByCode a) (ByCode b) ha hb =
+    ap (λ (saying : Saying). ByCode saying) (one_answer (table_sets cells) cells a b (table_sets_are_small cells) ha.1 hb.1)
 
 -- ---- something
 
@@ -88,9 +89,9 @@ reads_all cells long none = record {
 
 pub table_says_always : TableSaysAlways
 table_says_always cells long views =
-    let code = says_always cells views in
+    let code = code_always (table_sets cells) cells views (table_sets_are_small cells) in
     elim (cases_lt 0 (unreadable_data cells)) [
-      | inl some ↦ (ByCode code.0, (some, (says_by_none cells code.0).1 code.1))
+      | inl some ↦ (ByCode code.0, (some, code.1))
       | inr few ↦ (AsRead (map contents (take 29 cells)), reads_all cells long (omega arith))
     ]
 

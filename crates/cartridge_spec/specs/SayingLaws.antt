@@ -1,5 +1,5 @@
 -- The laws of what segments say, as facts.
-use Rattle.std.specs.Prelude.{◌≡◌, ◌↔◌, ℕ, ◌+◌, ◌<◌, ◌≤◌, false, List, length, replicate, All, Some, slice_get}
+use Rattle.std.specs.Prelude.{◌≡◌, ◌≢◌, ◌↔◌, ℕ, ◌+◌, ◌<◌, ◌≤◌, false, List, length, replicate, All, Some, slice_get}
 use Rattle.std.specs.List.{range_with_len}
 use Rattle.qic_base.specs.declared.tape.SectorView.{SectorView}
 use Rattle.qic_base.specs.Cartridge.{Cartridge, IsCartridge, IsView, view_at, zero_sector}
@@ -7,7 +7,7 @@ use Rattle.qic_base.specs.Cartridge as cartridges
 use Rattle.gf256_qic.specs.Code.{IsSector}
 use Rattle.cartridge_spec.specs.Shape.{usable_places, usable_count}
 use Rattle.cartridge_spec.specs.Header.{has_signature}
-use Rattle.cartridge_spec.specs.Says.{Saying, Data, LostSectors, Says, Written, Zero, unreadable_count, whole_mask, cells_of, ReadsAll, TableSaying, TableSays}
+use Rattle.cartridge_spec.specs.Says.{Saying, Data, LostSectors, Mismatch, Says, Written, Zero, unreadable_count, unreadable_data, whole_mask, cells_of, ReadsAll, TableSaying, ByCode, TableSays}
 use Rattle.cartridge_spec.specs.HeaderAndTable.{copy_cells, CopyDoesNotRead}
 
 -- ---- what a segment says
@@ -29,6 +29,12 @@ TableSaysIsFunction = (cells : List SectorView) (a b : TableSaying) → TableSay
 abbrev pub TableSaysAlways : Type 0
 TableSaysAlways =
     (cells : List SectorView) → 29 ≤ length cells → All IsView cells → (saying : TableSaying) × TableSays cells saying
+
+-- what any segment would say by the code, it says too where a sector of data is unreadable, unless that is a mismatch
+abbrev pub SaidIsTable : Type 0
+SaidIsTable =
+    (cells : List SectorView) (saying : Saying) → 0 < unreadable_data cells → Says cells saying → saying ≢ Mismatch →
+    TableSays cells (ByCode saying)
 
 -- data that are read as they are, are sectors
 abbrev pub ReadAreSectors : Type 0

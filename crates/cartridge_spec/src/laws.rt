@@ -1,7 +1,7 @@
 //! The laws of what segments say, and of what writes leave of them. Each is the contract of a function that does nothing, so that other crates can
 //! rest on it; their proofs import the lemmas of this crate's `proofs`.
 
-ghost use Rattle.cartridge_spec.specs.SayingLaws.{SaysIsFunction, SaysAlways, TableSaysIsFunction, TableSaysAlways, ReadAreSectors, CountOfCells, CellsAreViews, PlacesOfWhole, CellsOfWhole, SectorNotionsAgree, WrittenIsSaid, WrittenIsLost, SaidIsWritten, SaidAreSectors, ZeroIsWritten, ZeroSaysZero, ZeroHasNoSignature, ZeroDoesNotRead};
+ghost use Rattle.cartridge_spec.specs.SayingLaws.{SaysIsFunction, SaysAlways, TableSaysIsFunction, TableSaysAlways, SaidIsTable, ReadAreSectors, CountOfCells, CellsAreViews, PlacesOfWhole, CellsOfWhole, SectorNotionsAgree, WrittenIsSaid, WrittenIsLost, SaidIsWritten, SaidAreSectors, ZeroIsWritten, ZeroSaysZero, ZeroHasNoSignature, ZeroDoesNotRead};
 ghost use Rattle.cartridge_spec.specs.ReadingLaws.{NothingIsHidden, SaysByNone, PlacesAreDataAndParity};
 ghost use Rattle.cartridge_spec.specs.WritingLaws.{WritesLeaveData, WritesMakeReadable, WritesTouchOnly};
 
@@ -23,6 +23,12 @@ pub fn table_says_is_function()
 /// A segment of 29 cells or more, whose readable ones hold sectors, says something as the table's.
 pub fn table_says_always()
     ensures { TableSaysAlways }
+{}
+
+/// What the code says of the table's segment where no readable sector is left out of account is what the segment says, but for a
+/// mismatch: then some are left out, by the sets.
+pub fn said_is_table()
+    ensures { SaidIsTable }
 {}
 
 /// Data of the table that are read as they are, are sectors.

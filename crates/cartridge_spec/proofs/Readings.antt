@@ -1,18 +1,16 @@
--- The further reading of the table's segment says one thing, and what is said without sets.
-use Rattle.std.proofs.Common.{◌≡◌, ◌⊎◌, ℕ, ◌<◌, ◌≤◌, ◌++◌, inl, inr, refl, sym, ◌∙◌, ap, subst, arith, Bool, true, false, List, [], ◌∷◌, length, All, Option, Some, None, nat_lt}
+-- What is read by sets of sectors that are left out of account: at most one thing, and something.
+use Rattle.std.proofs.Common.{◌≡◌, ◌⊎◌, ℕ, ◌≤◌, ◌++◌, inl, inr, refl, sym, ◌∙◌, ap, subst, arith, Bool, true, false, List, [], ◌∷◌, length, All, Option, Some, None, nat_lt}
 use Rattle.std.specs.Prelude.{◌==◌, if◌then◌else◌}
 use Rattle.std.proofs.lemmas.Bool.{cases_lt, eqb-true}
 use Rattle.qic_base.specs.declared.tape.SectorView.{SectorView}
 use Rattle.qic_base.specs.Cartridge.{IsView}
-use Rattle.cartridge_spec.specs.Says.{Saying, Data, LostSectors, Mismatch, Says, SaysBy, HasBlock, HasNoBlock, HasNoBlocks, HasFirstBlock, hidden, unreadable_count, unreadable_data, ReadsAll, TableSaying, AsRead, ByCode, TableSays}
-use Rattle.cartridge_spec.proofs.Cells.{unreadable_at, count_of_readable}
+use Rattle.cartridge_spec.specs.Says.{Saying, Data, LostSectors, Mismatch, Says, SaysBy, HasBlock, HasNoBlock, HasNoBlocks, HasFirstBlock, hidden, unreadable_count}
+use Rattle.cartridge_spec.specs.TableSets.{set_of, with_used, sets_by_one, sets_by_two, sets_by, table_sets, last_used, unreadable_places}
+use Rattle.cartridge_spec.proofs.Cells.{unreadable_at}
 use Rattle.cartridge_spec.proofs.Sayings.{says_is_function}
 use Rattle.cartridge_spec.proofs.Blocks.{says_always}
 use Rattle.cartridge_spec.proofs.Hiding.{nothing_is_hidden}
-use Rattle.cartridge_spec.proofs.TableSayings.{table_says_is_function, table_says_always}
-use Rattle.table_reading.specs.FurtherSets.{set_of, with_used, sets_by_one, sets_by_two, sets_by, further_sets, last_used, unreadable_places, FurtherSays}
-use Rattle.table_reading.specs.Laws.{FurtherSaysIsFunction, FurtherSaysAlways, FurtherSaysTheSame}
-use Rattle.table_reading.proofs.Sets.{IsOneOf, few_outside, unreadable_is_named, views_hidden}
+use Rattle.cartridge_spec.proofs.Sets.{IsOneOf, few_outside, unreadable_is_named, views_hidden}
 
 -- ---- sets that leave enough sectors
 
@@ -86,8 +84,8 @@ small_sets cells used (m ∷ other ∷ []) among =
     small_if cells (nat_lt m 29) (sets_by_two used m other) [] (small_by_two cells used m other among) tt
 small_sets cells used (m ∷ other ∷ third ∷ more) among = tt
 
-pub further_are_small : (cells : List SectorView) → unreadable_count cells ≤ 3 → AreSmall cells (further_sets cells)
-further_are_small cells few = (
+pub table_sets_are_small : (cells : List SectorView) → unreadable_count cells ≤ 3 → AreSmall cells (table_sets cells)
+table_sets_are_small cells few = (
   subst (λ (cs : List SectorView). unreadable_count cs ≤ 3) (sym (nothing_is_hidden cells)) few,
   small_sets cells (last_used cells) (unreadable_places cells) (unreadable_is_named cells),
 )
@@ -117,7 +115,7 @@ first_or_none [] cells xs has none = absurd has
 first_or_none (set ∷ sets) cells xs (inl has) none = block_or_none (hidden set cells) xs has none.0
 first_or_none (set ∷ sets) cells xs (inr has) none = first_or_none sets cells xs has.1 none.1
 
-one_answer : (sets : List ℕ) (cells : List SectorView) (a b : Saying) → (unreadable_count cells ≤ 3 → AreSmall cells sets) →
+pub one_answer : (sets : List ℕ) (cells : List SectorView) (a b : Saying) → (unreadable_count cells ≤ 3 → AreSmall cells sets) →
     SaysBy sets cells a → SaysBy sets cells b → a ≡ b
 one_answer sets cells (Data xs) (Data ys) small ha hb = ap Data (first_is_one sets cells xs ys (small ha.0) ha.1 hb.1)
 one_answer sets cells (Data xs) (LostSectors n) small ha hb = absurd (omega (arith, ha.0, hb.0, hb.1))
@@ -128,19 +126,6 @@ one_answer sets cells (LostSectors m) Mismatch small ha hb = absurd (omega (arit
 one_answer sets cells Mismatch (Data ys) small ha hb = first_or_none sets cells ys hb.1 ha.1
 one_answer sets cells Mismatch (LostSectors n) small ha hb = absurd (omega (arith, ha.0, hb.0, hb.1))
 one_answer sets cells Mismatch Mismatch small ha hb = refl
-
-no_code : {P : Type 0} (cells : List SectorView) (xs : List (List ℕ)) → ReadsAll cells xs → 0 < unreadable_data cells → P
-no_code cells xs reads some =
-    let none : unreadable_data cells ≡ 0 = count_of_readable 29 cells (λ i h. ((reads.each i h).0, (reads.each i h).1)) in
-    absurd (omega arith)
-
-pub further_says_is_function : FurtherSaysIsFunction
-further_says_is_function cells (AsRead xs) (AsRead ys) ha hb = table_says_is_function cells (AsRead xs) (AsRead ys) ha hb
-further_says_is_function cells (AsRead xs) (ByCode b) ha hb = no_code cells xs ha hb.0
-further_says_is_function cells (ByCode a) (AsRead ys) ha hb = no_code cells ys hb ha.0
-further_says_is_function cells (ByCode a) (ByCode b) ha hb =
-    ap (λ (saying : Saying). ByCode saying)
-    (one_answer (further_sets cells) cells a b (further_are_small cells) ha.1 hb.1)
 
 -- ---- something
 
@@ -163,7 +148,7 @@ find_first (set ∷ sets) cells views small =
       ]
     ]
 
-code_always : (sets : List ℕ) (cells : List SectorView) → All IsView cells → (unreadable_count cells ≤ 3 → AreSmall cells sets) →
+pub code_always : (sets : List ℕ) (cells : List SectorView) → All IsView cells → (unreadable_count cells ≤ 3 → AreSmall cells sets) →
     (saying : Saying) × SaysBy sets cells saying
 code_always sets cells views small =
     elim (cases_lt 3 (unreadable_count cells)) [
@@ -173,27 +158,3 @@ code_always sets cells views small =
         | inr none ↦ (Mismatch, (few, none))
       ]
     ]
-
-further_by : (cells : List SectorView) → All IsView cells → (saying : TableSaying) → TableSays cells saying →
-    (said : TableSaying) × FurtherSays cells said
-further_by cells views (AsRead xs) says = (AsRead xs, says)
-further_by cells views (ByCode saying) says =
-    let code = code_always (further_sets cells) cells views (further_are_small cells) in
-    (ByCode code.0, (says.0, code.1))
-
-pub further_says_always : FurtherSaysAlways
-further_says_always cells long views =
-    let plain = table_says_always cells long views in
-    further_by cells views plain.0 plain.1
-
--- ---- what is said without sets
-
-pub further_says_the_same : FurtherSaysTheSame
-further_says_the_same cells (AsRead xs) says other = says
-further_says_the_same cells (ByCode (Data xs)) says other = (says.0, (says.1.0, first_of_all says.1.1))
-  where
-    first_of_all : HasFirstBlock (0 ∷ []) cells xs → HasFirstBlock (further_sets cells) cells xs
-    first_of_all (inl has) = inl has
-    first_of_all (inr rest) = absurd rest.1
-further_says_the_same cells (ByCode (LostSectors n)) says other = says
-further_says_the_same cells (ByCode Mismatch) says other = absurd (other refl)

@@ -12,7 +12,7 @@ use Rattle.gf256_qic.specs.Code.{lost_below}
 use Rattle.cartridge_spec.specs.Segment.{is_unreadable}
 use Rattle.cartridge_spec.specs.Says.{hidden_from, hidden, unreadable_count}
 use Rattle.cartridge_spec.proofs.Cells.{unreadable_at, lost_below-cells}
-use Rattle.table_reading.specs.FurtherSets.{set_of, unreadable_from, unreadable_places}
+use Rattle.cartridge_spec.specs.TableSets.{set_of, unreadable_from, unreadable_places}
 
 -- ---- the places of a set
 
