@@ -14,35 +14,11 @@ use Rattle.cartridge_spec.specs.HeaderAndTable.{IsArea, table_cells}
 use Rattle.cartridge_spec.proofs.Cells.{IsReadable, count_of_readable, unreadable_count-first}
 use Rattle.cartridge_spec.proofs.Segments.{length-whole_cells}
 use Rattle.format_plan.proofs.Copies.{view_held}
+use Rattle.mount_laws.proofs.Parts.{length-block, data_read, readable_front}
 use Rattle.mount_laws.proofs.Standing.{written_table}
 use Rattle.mount_laws.proofs.Stops.{block_written}
-use Rattle.append_plan.specs.Between.{HoldsPart, IsBegun}
+use Rattle.append_plan.specs.Between.{IsBegun}
 use Rattle.append_plan.specs.Laws.{BeforeReadsOld, TurnedReadsNew}
-
--- ---- the sectors of a table's block
-
-pub length-block : (area : List (List ℕ)) → IsArea area → length (with_parity area) ≡ 32
-length-block area is =
-    let size : length area ≡ 29 = is.size in
-    omega (arith, length-append area (parity_sectors area), length-parity_sectors area)
-
--- the first ones are those of data
-pub data_sector : (area : List (List ℕ)) (i : ℕ) → i < length area → sector_at (with_parity area) i ≡ get_or area i []
-data_sector area i h =
-    unwrap_or-slice_get (with_parity area) i [] ∙ get_or_append_left area (parity_sectors area) [] i h
-
--- data sectors that hold their parts are read
-pub data_read : (c : Cartridge) (area : List (List ℕ)) → IsArea area → ((i : ℕ) → i < 29 → HoldsPart c area i) → ReadsAll (table_cells c) area
-data_read c area is holds =
-    let size : length area ≡ 29 = is.size in
-    record {
-      size = size;
-      each = λ i h. (
-        sector_at (with_parity area) i,
-        view_held c 2 i (sector_at (with_parity area) i) (omega arith) (holds i h),
-        slice_get-get_or area i [] (omega arith) ∙ ap Some (sym (data_sector area i (omega arith))),
-      );
-    }
 
 -- ---- one sector lost
 
@@ -57,12 +33,6 @@ none_if_readable false is = omega arith
 none_of_readable : (cells : List SectorView) → ((i : ℕ) → i < length cells → IsReadable cells i) → unreadable_count cells ≡ 0
 none_of_readable cells each =
     ap unreadable_count (sym (take_all (length cells) cells (omega arith))) ∙ count_of_readable (length cells) cells each
-
-pub readable_front : (cell : SectorView) (cells : List SectorView) → IsReadable (cell ∷ cells) 0 → is_unreadable cell ≡ false
-readable_front Blank cells held = let first = held.1 in absurd (cc)
-readable_front Defect cells held = let first = held.1 in absurd (cc)
-readable_front Lost cells held = let first = held.1 in absurd (cc)
-readable_front (Holds bytes) cells held = refl
 
 -- cells of which each but one can be read
 one_at_most : (cells : List SectorView) (k : ℕ) → ((i : ℕ) → i < length cells → i ≢ k → IsReadable cells i) → unreadable_count cells ≤ 1

@@ -1,11 +1,10 @@
 -- The table's segment while an append writes it: its data sector first, then the sectors of parity (this project's profile).
 use Rattle.std.specs.Prelude.{◌≡◌, ◌≢◌, ◌⊎◌, ℕ, ◌<◌, ◌≤◌, List, [], ◌∷◌}
-use Rattle.qic_base.specs.declared.tape.SectorView.TheVariants.{Lost, Holds}
+use Rattle.qic_base.specs.declared.tape.SectorView.TheVariants.{Lost}
 use Rattle.qic_base.specs.Cartridge.{Cartridge, view_at}
 use Rattle.qic_base.specs.Step.{Step}
-use Rattle.cartridge_spec.specs.Segment.{sector_at}
 use Rattle.cartridge_spec.specs.Says.{with_parity}
-use Rattle.mount_laws.specs.Settling.{block_writes}
+use Rattle.mount_laws.specs.Settling.{block_writes, HoldsPart}
 
 -- the sectors that an append writes, in their order: the changed sector of data, and those of parity
 abbrev pub table_places : (changed : ℕ) → List ℕ
@@ -14,10 +13,6 @@ table_places changed = changed ∷ 29 ∷ 30 ∷ 31 ∷ []
 -- the writes of the table's new data
 abbrev pub table_writes : (changed : ℕ) → (new : List (List ℕ)) → List Step
 table_writes changed new = block_writes (with_parity new) (table_places changed)
-
--- sector i of the segment holds its part of these data and their parity
-abbrev pub HoldsPart : Cartridge → (area : List (List ℕ)) → (i : ℕ) → Type 0
-HoldsPart c area i = view_at c 2 i ≡ Holds (sector_at (with_parity area) i)
 
 -- all 32 sectors hold theirs
 abbrev pub IsWhole : Cartridge → (area : List (List ℕ)) → Type 0

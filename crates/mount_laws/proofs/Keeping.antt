@@ -1,24 +1,25 @@
 -- A cartridge of which only the table's segment changed, and that not in what it says, is mounted as before and stands for
 -- what it stood for.
-use Rattle.std.proofs.Common.{◌≡◌, ◌⊎◌, ℕ, ◌-◌, ◌*◌, ◌<◌, inl, inr, List, sym, ap, ◌∙◌, subst, arith}
+use Rattle.std.proofs.Common.{◌≡◌, ◌⊎◌, ℕ, ◌-◌, ◌*◌, ◌<◌, inl, inr, List, Option, Some, IsSomeAnd, sym, ap, ◌∙◌, subst, arith}
 use Rattle.qic_base.specs.declared.tape.SectorView.{SectorView}
 use Rattle.qic_base.specs.declared.tape.TapeInfo.{TapeInfo}
 use Rattle.qic_base.specs.Cartridge.{Cartridge}
+use Rattle.qic_base.specs.Stop.{Torn}
 use Rattle.cartridge_spec.specs.Header.{Header, header_fault}
 use Rattle.cartridge_spec.specs.Table.{Entry, HasNoFault, slot_fault}
 use Rattle.cartridge_spec.specs.Says.{whole_mask, Data, Says, Written, Zero, ReadsAll}
 use Rattle.cartridge_spec.specs.Volumes.{Plain, Stands, CopiesAre, entries_of}
 use Rattle.cartridge_spec.specs.Mounting.{IsMounted}
 use Rattle.cartridge_spec.specs.HeaderAndTable.{HasHeader, IsInForce, CopyReads, CopyDoesNotRead, TableIs, copy_cells, table_cells, last_segment}
-use Rattle.cartridge_spec.proofs.TableSayings.{code_says}
 use Rattle.cartridge_spec.proofs.Sayings.{said_is_written}
 use Rattle.format_plan.proofs.Standing.{same_cells, entry_starts, volumes_behind, volumes_kept}
 use Rattle.format_plan.proofs.Writing.{some_weaker}
 use Rattle.format_plan.specs.Clean.{StandsCleanly}
-use Rattle.mount_laws.specs.Laws.{StoppedMounts, StoppedStands, StoppedIsClean}
-use Rattle.mount_laws.specs.Settling.{KeepsTable}
-use Rattle.mount_laws.proofs.Standing.{standing_data}
-use Rattle.mount_laws.proofs.Stops.{stopped_settling}
+use Rattle.mount_laws.specs.Laws.{ReadsPlainly, StoppedMounts, StoppedStands, StoppedIsClean}
+use Rattle.mount_laws.specs.Settling.{settling_steps, KeepsTable}
+use Rattle.mount_laws.proofs.Settling.{stopped_settling, stopped_plainly}
+use Rattle.mount_laws.proofs.Standing.{standing_data, standing_plainly}
+use Rattle.mount_laws.proofs.Stops.{some_both}
 
 -- ---- the header
 
@@ -77,12 +78,13 @@ kept_mounts c d header words area entries kept mounted = record {
 
 -- ---- the plain cartridge
 
-table_stands : (d : Cartridge) (area : List (List ℕ)) → TableIs d area → Written (table_cells d) area ⊎ ReadsAll (table_cells d) area
+table_stands : (d : Cartridge) (area : List (List ℕ)) → ReadsPlainly d area → Written (table_cells d) area ⊎ ReadsAll (table_cells d) area
 table_stands d area (inl reads) = inr reads
-table_stands d area (inr says) = inl (said_is_written (table_cells d) area (code_says (table_cells d) (Data area) says))
+table_stands d area (inr says) = inl (said_is_written (table_cells d) area says)
 
-pub standing_kept : (c d : Cartridge) (plain : Plain) → KeepsTable plain.table_area c d → Stands c plain → Stands d plain
-standing_kept c d plain kept stood =
+pub standing_kept : (c d : Cartridge) (plain : Plain) → KeepsTable plain.table_area c d → ReadsPlainly d plain.table_area → Stands c plain →
+    Stands d plain
+standing_kept c d plain kept reads stood =
     let table : List (List ℕ) = plain.table_area in
     record {
       whole = stood.whole;
@@ -94,7 +96,7 @@ standing_kept c d plain kept stood =
       volumes = volumes_kept c d plain.words plain.volumes (λ s i from h. kept.others s i h (λ same. absurd (omega arith)))
           (volumes_behind plain.volumes (entry_starts table (last_segment c) (entries_of plain) stood.sound_table stood.shown))
           stood.volumes;
-      table = table_stands d table kept.table;
+      table = table_stands d table reads;
     }
 
 -- ---- after a stop
@@ -105,26 +107,36 @@ stopped_mounts c header words area entries left mounted torn =
     (stopped_settling c area left mounted.reads torn)
 
 -- as well where the data are known to be these
-pub data_kept : (c d : Cartridge) (plain : Plain) (area : List (List ℕ)) → Stands c plain → TableIs c area → KeepsTable area c d → Stands d plain
-data_kept c d plain area stood table kept =
-    standing_kept c d plain (subst (λ (xs : List (List ℕ)). KeepsTable xs c d) (standing_data c plain area stood table) kept) stood
+pub data_kept : (c d : Cartridge) (plain : Plain) (area : List (List ℕ)) → Stands c plain → TableIs c area → KeepsTable area c d →
+    ReadsPlainly d area → Stands d plain
+data_kept c d plain area stood table kept reads =
+    let same : area ≡ plain.table_area = standing_data c plain area stood table in
+    standing_kept c d plain (subst (λ (xs : List (List ℕ)). KeepsTable xs c d) same kept) (subst (ReadsPlainly d) same reads) stood
+
+-- what a stop leaves of one that stands
+kept_plainly : (c : Cartridge) (plain : Plain) (area : List (List ℕ)) (left : Option Cartridge) → Stands c plain → TableIs c area →
+    Torn (settling_steps area c) (Some c) left → IsSomeAnd left (λ d. KeepsTable area c d × ReadsPlainly d area)
+kept_plainly c plain area left stood table torn =
+    some_both (KeepsTable area c) (λ d. ReadsPlainly d area) left (stopped_settling c area left table torn)
+    (stopped_plainly c area left (standing_plainly c plain area stood table) torn)
 
 pub stopped_stands : StoppedStands
 stopped_stands c plain area left stood table torn =
-    some_weaker left (λ d kept. data_kept c d plain area stood table kept) (stopped_settling c area left table torn)
+    some_weaker left (λ d kept. data_kept c d plain area stood table kept.0 kept.1) (kept_plainly c plain area left stood table torn)
 
 -- ---- header copies
 
 clean_copy : (xs ys : List SectorView) (area : List (List ℕ)) → ys ≡ xs → Written xs area ⊎ Zero xs → Written ys area ⊎ Zero ys
 clean_copy xs ys area same clean = subst (λ (cells : List SectorView). Written cells area ⊎ Zero cells) (sym same) clean
 
-pub clean_kept : (c d : Cartridge) (plain : Plain) (area : List (List ℕ)) → StandsCleanly c plain → TableIs c area → KeepsTable area c d → StandsCleanly d plain
-clean_kept c d plain area clean table kept = record {
-  stands = data_kept c d plain area clean.stands table kept;
+pub clean_kept : (c d : Cartridge) (plain : Plain) (area : List (List ℕ)) → StandsCleanly c plain → TableIs c area → KeepsTable area c d →
+    ReadsPlainly d area → StandsCleanly d plain
+clean_kept c d plain area clean table kept reads = record {
+  stands = data_kept c d plain area clean.stands table kept reads;
   first = clean_copy (copy_cells c 0) (copy_cells d 0) plain.header_area (same_copy 0 kept (omega arith)) clean.first;
   second = clean_copy (copy_cells c 1) (copy_cells d 1) plain.header_area (same_copy 1 kept (omega arith)) clean.second;
 }
 
 pub stopped_is_clean : StoppedIsClean
 stopped_is_clean c plain area left clean table torn =
-    some_weaker left (λ d kept. clean_kept c d plain area clean table kept) (stopped_settling c area left table torn)
+    some_weaker left (λ d kept. clean_kept c d plain area clean table kept.0 kept.1) (kept_plainly c plain area left clean.stands table torn)

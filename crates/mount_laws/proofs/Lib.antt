@@ -1,6 +1,16 @@
+pub mod Alike
+pub mod Far
 pub mod Keeping
+pub mod LeftOut
 pub mod Mounting
+pub mod Near
+pub mod Parts
+pub mod Places
+pub mod Seen
 pub mod Settled
+pub mod Settles
+pub mod Settling
+pub mod SoFar
 pub mod Standing
 pub mod Stops
 pub mod Whole

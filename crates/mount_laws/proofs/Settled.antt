@@ -1,5 +1,6 @@
 -- A cartridge whose table was settled.
-use Rattle.std.proofs.Common.{◌≡◌, ℕ, zero, suc, ◌+◌, ◌<◌, ◌≤◌, inl, inr, Bool, true, false, not, cond, List, [], IsSomeAnd, Option, Some, refl, sym, ap, ◌∙◌, subst, arith}
+use Rattle.std.proofs.Common.{◌≡◌, ℕ, ◌<◌, ◌++◌, inl, inr, refl, sym, ◌∙◌, ap, subst, Bool, true, false, not, cond, List, [], Option, Some, IsSomeAnd}
+use Rattle.std.specs.Prelude.{if◌then◌else◌}
 use Rattle.std.proofs.lemmas.Bool.{cases_lt}
 use Rattle.qic_base.specs.declared.tape.SectorView.{SectorView}
 use Rattle.qic_base.specs.declared.tape.SectorView.TheVariants.{Blank, Defect, Lost, Holds}
@@ -9,16 +10,22 @@ use Rattle.qic_base.specs.Step.{Step, written_view, effects}
 use Rattle.qic_base.proofs.Steps.{Torn-all}
 use Rattle.cartridge_spec.specs.Segment.{sector_at, is_unreadable, IsLive}
 use Rattle.cartridge_spec.specs.Shape.{usable_places}
-use Rattle.cartridge_spec.specs.Says.{whole_mask}
+use Rattle.cartridge_spec.specs.Says.{whole_mask, with_parity}
 use Rattle.cartridge_spec.specs.HeaderAndTable.{TableIs}
 use Rattle.cartridge_spec.specs.Mounting.{settled}
 use Rattle.cartridge_spec.specs.Writes.{writes_of, changed_by}
-use Rattle.format_plan.proofs.Writing.{effects-some}
-use Rattle.mount_laws.specs.Settling.{holds, is_unsettled, block_writes, settling_steps, KeepsTable}
-use Rattle.mount_laws.specs.Laws.{IsTableLive, SettledKeepsTable, SettledMounts, SettledStands, SettledIsClean, SettledIsWritten, SettledTwice, SettledIsWhole, SettledNeedsNoSteps}
+use Rattle.mount_laws.specs.Settling.{holds, is_left_out, is_unsettled, places_where, block_writes, settling_steps, HoldsPart, KeepsTable}
+use Rattle.mount_laws.specs.Laws.{IsTableLive, ReadsPlainly, SettledKeepsTable, SettledMounts, SettledStands, SettledIsClean, SettledIsWritten, SettledReadsPlainly, SettledTwice, SettledIsWhole, SettledNeedsNoSteps}
+use Rattle.mount_laws.proofs.Alike.{stopped_settles_alike}
+use Rattle.mount_laws.proofs.Far.{is_far, far_area, length-table_block}
 use Rattle.mount_laws.proofs.Keeping.{kept_mounts, data_kept, clean_kept}
-use Rattle.mount_laws.proofs.Stops.{stopped_settling, stopped_settles_alike, written_right, holds_same, block_written}
-use Rattle.mount_laws.proofs.Writing.{table_block, places_that, places_none, places_fails, settling_writes, steps_are, unsettled_data, unsettled_parity, length-table_block, IsAllWritten, all_written, settling_settles}
+use Rattle.mount_laws.proofs.LeftOut.{left_out_parity, not_left_out}
+use Rattle.mount_laws.proofs.Places.{no_place}
+use Rattle.mount_laws.proofs.Settles.{settling_effects}
+use Rattle.mount_laws.proofs.Settling.{settling_writes, stopped_settling, stopped_plainly}
+use Rattle.mount_laws.proofs.Standing.{can_be_read, plainly_read, standing_plainly}
+use Rattle.mount_laws.proofs.Stops.{written_right, holds_same, block_written}
+use Rattle.mount_laws.proofs.Writing.{unsettled_data, unsettled_parity, IsAllWritten, all_written}
 
 -- ---- it says the same
 
@@ -27,18 +34,29 @@ settled_keeps_table c area table =
     let steps : List Step = settling_steps area c in
     let all : IsSomeAnd (effects steps (Some c)) (KeepsTable area c) =
     stopped_settling c area (effects steps (Some c)) table (Torn-all steps (Some c)) in
-    subst (KeepsTable area c) (settling_settles c area table)
-    (subst (λ (o : Option Cartridge). IsSomeAnd o (KeepsTable area c)) (effects-some steps c) all)
+    subst (λ (o : Option Cartridge). IsSomeAnd o (KeepsTable area c)) (settling_effects c area table) all
+
+-- what is read plainly is read so still
+settled_plainly : (c : Cartridge) (area : List (List ℕ)) → TableIs c area → ReadsPlainly c area → ReadsPlainly (settled area c) area
+settled_plainly c area table plain =
+    let steps : List Step = settling_steps area c in
+    let all : IsSomeAnd (effects steps (Some c)) (λ d. ReadsPlainly d area) =
+    stopped_plainly c area (effects steps (Some c)) plain (Torn-all steps (Some c)) in
+    subst (λ (o : Option Cartridge). IsSomeAnd o (λ d. ReadsPlainly d area)) (settling_effects c area table) all
 
 pub settled_mounts : SettledMounts
 settled_mounts c header words area entries mounted =
     kept_mounts c (settled area c) header words area entries (settled_keeps_table c area mounted.reads) mounted
 
 pub settled_stands : SettledStands
-settled_stands c plain area stood table = data_kept c (settled area c) plain area stood table (settled_keeps_table c area table)
+settled_stands c plain area stood table =
+    data_kept c (settled area c) plain area stood table (settled_keeps_table c area table)
+    (settled_plainly c area table (standing_plainly c plain area stood table))
 
 pub settled_is_clean : SettledIsClean
-settled_is_clean c plain area clean table = clean_kept c (settled area c) plain area clean table (settled_keeps_table c area table)
+settled_is_clean c plain area clean table =
+    clean_kept c (settled area c) plain area clean table (settled_keeps_table c area table)
+    (settled_plainly c area table (standing_plainly c plain area clean.stands table))
 
 pub settled_twice : SettledTwice
 settled_twice c area table =
@@ -46,26 +64,35 @@ settled_twice c area table =
     let alike : Cartridge → Type 0 = λ d. settled area d ≡ settled area c in
     let all : IsSomeAnd (effects steps (Some c)) alike =
     stopped_settles_alike c area (effects steps (Some c)) table (Torn-all steps (Some c)) in
-    subst alike (settling_settles c area table)
-    (subst (λ (o : Option Cartridge). IsSomeAnd o alike) (effects-some steps c) all)
+    subst (λ (o : Option Cartridge). IsSomeAnd o alike) (settling_effects c area table) all
 
 -- ---- its sectors
 
 -- one that is not protected
 settled_open : (c : Cartridge) (area : List (List ℕ)) → c.info.protected ≡ false →
-    settled area c ≡ changed_by (writes_of 2 (usable_places whole_mask) (table_block area)) c
-settled_open c area is = ap (λ (b : Bool). cond b c (changed_by (writes_of 2 (usable_places whole_mask) (table_block area)) c)) is
+    settled area c ≡ changed_by (writes_of 2 (usable_places whole_mask) (with_parity area)) c
+settled_open c area is = ap (λ (b : Bool). cond b c (changed_by (writes_of 2 (usable_places whole_mask) (with_parity area)) c)) is
 
 settled_all_written : (c : Cartridge) (area : List (List ℕ)) → TableIs c area → c.info.protected ≡ false →
-    IsAllWritten (table_block area) c (settled area c)
+    IsAllWritten (with_parity area) c (settled area c)
 settled_all_written c area table is =
-    subst (IsAllWritten (table_block area) c) (sym (settled_open c area is)) (all_written (table_block area) c (length-table_block c area table))
+    subst (IsAllWritten (with_parity area) c) (sym (settled_open c area is)) (all_written (with_parity area) c (length-table_block c area table))
 
 pub settled_is_written : SettledIsWritten
 settled_is_written c area table is =
     let written = settled_all_written c area table is in
     block_written (settled area c) area (length-table_block c area table) (λ i held h view.
-    written_right (sector_at (table_block area) i) (view_at c 2 i) held (sym (written.table i h) ∙ view))
+    written_right (sector_at (with_parity area) i) (view_at c 2 i) held (sym (written.table i h) ∙ view))
+
+-- so the data are read plainly
+pub settled_reads_plainly : SettledReadsPlainly
+settled_reads_plainly c area table is =
+    elim (is_far c area table) [
+      | inl plain ↦ settled_plainly c area table plain
+      | inr far ↦
+          plainly_read (settled area c) area (far_area c area far) (inl (settled_is_written c area table is))
+          (can_be_read (settled area c) area (settled_keeps_table c area table).table)
+    ]
 
 live_holds : (view : SectorView) (bytes : List ℕ) → IsLive view → written_view bytes view ≡ Holds bytes
 live_holds Blank bytes live = absurd live
@@ -75,15 +102,9 @@ live_holds (Holds old) bytes live = refl
 
 pub settled_is_whole : SettledIsWhole
 settled_is_whole c area i table is live h =
-    (settled_all_written c area table is).table i h ∙ live_holds (view_at c 2 i) (sector_at (table_block area) i) (live i h)
+    (settled_all_written c area table is).table i h ∙ live_holds (view_at c 2 i) (sector_at (with_parity area) i) (live i h)
 
 -- ---- it needs no steps
-
-no_places : (test : ℕ → Bool) (m from : ℕ) → ((i : ℕ) → from ≤ i → i < from + m → test i ≡ false) → places_that test from m ≡ []
-no_places test zero from none = places_none test from
-no_places test (suc m) from none =
-    places_fails test from m (none from (omega arith) (omega arith))
-    ∙ no_places test m (from + 1) (λ i low high. none i (omega arith) (omega arith))
 
 whole_is_settled : (d : Cartridge) (block : List (List ℕ)) (i : ℕ) → view_at d 2 i ≡ Holds (sector_at block i) → is_unsettled d block i ≡ false
 whole_is_settled d block i view =
@@ -93,20 +114,27 @@ whole_is_settled d block i view =
       | inr parity ↦ unsettled_parity d block i parity ∙ ap (λ (v : SectorView). not (holds v bytes)) view ∙ holds_same bytes
     ]
 
-no_writes : (d : Cartridge) (block : List (List ℕ)) → ((i : ℕ) → i < 32 → view_at d 2 i ≡ Holds (sector_at block i)) → settling_writes d block ≡ []
-no_writes d block whole =
-    ap (λ (places : List ℕ). block_writes block places)
-    (no_places (is_unsettled d block) 32 0 (λ i low high. whole_is_settled d block i (whole i (omega arith))))
+whole_is_left : (d : Cartridge) (area : List (List ℕ)) (i : ℕ) → HoldsPart d area i → is_left_out d (with_parity area) i ≡ false
+whole_is_left d area i part =
+    elim (cases_lt i 29) [
+      | inl data_sector ↦ not_left_out d area i data_sector (inl part)
+      | inr parity ↦ left_out_parity d (with_parity area) i parity
+    ]
+
+no_writes : (d : Cartridge) (area : List (List ℕ)) → ((i : ℕ) → i < 32 → HoldsPart d area i) → settling_writes d area ≡ []
+no_writes d area whole =
+    ap (λ (places : List ℕ). block_writes (with_parity area) (places ++ places_where (is_unsettled d (with_parity area))))
+    (no_place (is_left_out d (with_parity area)) (λ i h. whole_is_left d area i (whole i h)))
+    ∙ ap (λ (places : List ℕ). block_writes (with_parity area) places)
+    (no_place (is_unsettled d (with_parity area)) (λ i h. whole_is_settled d (with_parity area) i (whole i h)))
 
 by_marks : (c : Cartridge) (area : List (List ℕ)) (b : Bool) → c.info.protected ≡ b → TableIs c area → IsTableLive c →
-    cond b [] (settling_writes (settled area c) (table_block area)) ≡ []
+    (if b then [] else settling_writes (settled area c) area) ≡ []
 by_marks c area true is table live = refl
-by_marks c area false is table live =
-    no_writes (settled area c) (table_block area) (λ i h. settled_is_whole c area i table is live h)
+by_marks c area false is table live = no_writes (settled area c) area (λ i h. settled_is_whole c area i table is live h)
 
 pub settled_needs_no_steps : SettledNeedsNoSteps
 settled_needs_no_steps c area table live =
     let info = (settled_keeps_table c area table).info in
-    steps_are area (settled area c)
-    ∙ ap (λ (i : TapeInfo). cond i.protected [] (settling_writes (settled area c) (table_block area))) info
+    ap (λ (i : TapeInfo). if i.protected then [] else settling_writes (settled area c) area) info
     ∙ by_marks c area c.info.protected refl table live

@@ -1,23 +1,31 @@
 -- What a cartridge that stands for a plain one is mounted as.
-use Rattle.std.proofs.Common.{◌≡◌, ◌⊎◌, ℕ, ◌<◌, ◌≤◌, ◌++◌, inl, inr, List, [], length, slice_get, Some, sym, ap, ◌∙◌, arith}
+use Rattle.std.proofs.Common.{◌≡◌, ◌⊎◌, ℕ, ◌+◌, ◌<◌, ◌≤◌, ◌++◌, inl, inr, List, [], length, slice_get, Some, sym, ap, ◌∙◌, subst, arith}
 use Rattle.std.proofs.lemmas.Bool.{cases_lt}
 use Rattle.std.proofs.lemmas.List.{get_or_append_left}
 use Rattle.std.proofs.lemmas.Option.{slice_get-get_or, get_or_from_slice_get}
 use Rattle.qic_base.specs.declared.tape.SectorView.{SectorView}
 use Rattle.qic_base.specs.Cartridge.{Cartridge}
 use Rattle.gf256_qic.specs.Code.{parity_sectors}
-use Rattle.cartridge_spec.specs.Says.{unreadable_count, unreadable_data, Written, ReadsAll, Data, LostSectors}
+use Rattle.cartridge_spec.specs.Says.{unreadable_count, unreadable_data, Written, Says, ReadsAll, Data}
 use Rattle.cartridge_spec.specs.Volumes.{Plain, Stands}
 use Rattle.cartridge_spec.specs.Mounting.{TableLost, IsSoundlyFormatted}
 use Rattle.cartridge_spec.specs.HeaderAndTable.{IsArea, TableIs, table_cells}
 use Rattle.cartridge_spec.proofs.Cells.{IsReadable, count_of_readable, readable_from_count}
-use Rattle.cartridge_spec.proofs.Sayings.{written_is_said, written_is_lost, code_sectors}
-use Rattle.cartridge_spec.proofs.TableSayings.{code_says, says_code}
+use Rattle.cartridge_spec.proofs.Sayings.{written_is_said, written_is_lost, said_is_written, said_are_sectors, code_sectors, cartridge_sectors}
+use Rattle.cartridge_spec.proofs.TableSayings.{says_data}
 use Rattle.cartridge_spec.proofs.Segments.{length-whole_cells}
-use Rattle.mount_laws.specs.Laws.{CanBeRead, mounted_as, StandingMounts, StandingMountsOnlySo}
+use Rattle.mount_laws.specs.Laws.{CanBeRead, ReadsPlainly, mounted_as, StandingMounts, StandingMountsOnlySo}
 use Rattle.mount_laws.proofs.Mounting.{mounts_is_function, one_table}
 
 -- ---- a written table
+
+-- data that are said are an area
+pub said_area : (c : Cartridge) (area : List (List ℕ)) → Says (table_cells c) (Data area) → IsArea area
+said_area c area says =
+    let are = said_are_sectors (table_cells c) area says in
+    let size : length area + 3 ≡ length (table_cells c) = are.size in
+    let cells : length (table_cells c) ≡ 32 = length-whole_cells c 2 in
+    record { size = omega arith; sectors = cartridge_sectors area are.each }
 
 front_at : (xs ys : List (List ℕ)) (i : ℕ) (x : List ℕ) → i < length xs → slice_get (xs ++ ys) i ≡ Some x → slice_get xs i ≡ Some x
 front_at xs ys i x h at =
@@ -38,7 +46,7 @@ few_read : (c : Cartridge) (area : List (List ℕ)) → IsArea area → Written 
 few_read c area is_area written few =
     let size : length area ≡ 29 = is_area.size in
     elim (cases_lt 0 (unreadable_data (table_cells c))) [
-      | inl some ↦ inr (says_code (table_cells c) (Data area) some
+      | inl some ↦ inr (says_data (table_cells c) area some
           (written_is_said (table_cells c) area (omega arith) (omega arith) (code_sectors area is_area.sectors) written few))
       | inr none ↦ inl (written_is_read (table_cells c) area size (length-whole_cells c 2) written (omega arith))
     ]
@@ -48,6 +56,20 @@ written_table c area is_area written (inl none) =
     inl (written_is_read (table_cells c) area is_area.size (length-whole_cells c 2) written none)
 written_table c area is_area written (inr few) = few_read c area is_area written few
 
+-- so it is read plainly
+pub plainly_read : (c : Cartridge) (area : List (List ℕ)) → IsArea area → Written (table_cells c) area ⊎ ReadsAll (table_cells c) area →
+    CanBeRead c → ReadsPlainly c area
+plainly_read c area is_area (inl written) (inl none) =
+    inl (written_is_read (table_cells c) area is_area.size (length-whole_cells c 2) written none)
+plainly_read c area is_area (inl written) (inr few) =
+    let size : length area ≡ 29 = is_area.size in
+    inr (written_is_said (table_cells c) area (omega arith) (omega arith) (code_sectors area is_area.sectors) written few)
+plainly_read c area is_area (inr reads) read = inl reads
+
+pub plain_is_table : (c : Cartridge) (area : List (List ℕ)) → ReadsPlainly c area → TableIs c area
+plain_is_table c area (inl reads) = inl reads
+plain_is_table c area (inr says) = few_read c area (said_area c area says) (said_is_written (table_cells c) area says) says.0
+
 standing_table : (c : Cartridge) (area : List (List ℕ)) → IsArea area → Written (table_cells c) area ⊎ ReadsAll (table_cells c) area →
     CanBeRead c → TableIs c area
 standing_table c area is_area (inl written) read = written_table c area is_area written read
@@ -56,13 +78,19 @@ standing_table c area is_area (inr reads) read = inl reads
 -- a table whose data are known can be read
 pub can_be_read : (c : Cartridge) (area : List (List ℕ)) → TableIs c area → CanBeRead c
 can_be_read c area (inl reads) = inl (count_of_readable 29 (table_cells c) (λ i h. ((reads.each i h).0, (reads.each i h).1)))
-can_be_read c area (inr says) = inr (code_says (table_cells c) (Data area) says).0
+can_be_read c area (inr says) = inr says.1.0
 
 -- and they are those of the plain cartridge
 pub standing_data : (c : Cartridge) (plain : Plain) (area : List (List ℕ)) → Stands c plain → TableIs c area → area ≡ plain.table_area
 standing_data c plain area stands table =
     one_table c area plain.table_area table
     (standing_table c plain.table_area stands.whole.table_area stands.table (can_be_read c area table))
+
+-- and they are read plainly
+pub standing_plainly : (c : Cartridge) (plain : Plain) (area : List (List ℕ)) → Stands c plain → TableIs c area → ReadsPlainly c area
+standing_plainly c plain area stands table =
+    subst (ReadsPlainly c) (sym (standing_data c plain area stands table))
+    (plainly_read c plain.table_area stands.whole.table_area stands.table (can_be_read c area table))
 
 -- ---- mounting
 
@@ -103,6 +131,6 @@ standing_mounts_only_so c plain m stands is =
           inr (
             n,
             mounts_is_function c m (TableLost n) is
-                (soundly_formatted c plain stands, says_code (table_cells c) (LostSectors n) lost.0 (written_is_lost (table_cells c) lost.1)),
+                (soundly_formatted c plain stands, (lost.0, written_is_lost (table_cells c) lost.1)),
           )
     ]

@@ -1,31 +1,29 @@
--- What a stop among the steps that settle a table leaves: a table with the same data.
-use Rattle.std.proofs.Common.{◌≡◌, ◌≢◌, ℕ, zero, suc, ◌+◌, ◌*◌, ◌<◌, ◌≤◌, inl, inr, Bool, true, false, not, cond, List, [], ◌∷◌, length, Option, Some, None, IsSomeAnd, refl, sym, ap, ◌∙◌, subst, arith}
+-- What a stop among writes to the table's segment keeps, and the plain reading after one.
+use Rattle.std.proofs.Common.{◌≡◌, ◌≢◌, ℕ, zero, suc, ◌+◌, ◌*◌, ◌<◌, ◌≤◌, inl, inr, Bool, true, false, not, List, [], ◌∷◌, length, Option, Some, None, IsSomeAnd, refl, sym, ap, ◌∙◌, subst, arith}
 use Rattle.std.proofs.lemmas.Bool.{cases_Bool, cases_eq, cases_lt, true≢false}
 use Rattle.std.proofs.lemmas.List.{length-set}
 use Rattle.std.proofs.lemmas.Option.{slice_get-get_or, unwrap_or-slice_get}
 use Rattle.std.proofs.lemmas.Slice.Eq.{bytes_eq-Decides}
 use Rattle.qic_base.specs.declared.tape.SectorView.{SectorView}
 use Rattle.qic_base.specs.declared.tape.SectorView.TheVariants.{Blank, Defect, Lost, Holds}
-use Rattle.qic_base.specs.declared.tape.TapeInfo.{TapeInfo}
 use Rattle.qic_base.specs.Cartridge.{Cartridge, view_at, with_view}
 use Rattle.qic_base.specs.Step.{Step, WriteSector, Wear, changed, written_view, worn_view}
 use Rattle.qic_base.specs.Stop.{Torn}
 use Rattle.cartridge_spec.specs.Segment.{sector_at, is_unreadable}
 use Rattle.cartridge_spec.specs.Shape.{usable_places}
 use Rattle.cartridge_spec.specs.Says.{whole_mask, unreadable_count, ReadsAll, Written, Says, Data}
-use Rattle.cartridge_spec.specs.HeaderAndTable.{IsArea, TableIs, table_cells}
-use Rattle.cartridge_spec.specs.Mounting.{settled}
+use Rattle.cartridge_spec.specs.HeaderAndTable.{IsArea, table_cells}
 use Rattle.cartridge_spec.specs.Writes.{writes_of, changed_by}
-use Rattle.cartridge_spec.proofs.Sayings.{said_are_sectors, cartridge_sectors}
-use Rattle.cartridge_spec.proofs.TableSayings.{code_says}
+use Rattle.cartridge_spec.proofs.Sayings.{written_is_said, code_sectors}
 use Rattle.cartridge_spec.proofs.Segments.{cells_of_whole, length-whole_cells}
 use Rattle.format_plan.proofs.Copies.{held_view, view_held, no_fewer_unreadable}
 use Rattle.format_plan.proofs.Views.{view_of_sector, view_of_other_sector}
 use Rattle.format_plan.proofs.Writing.{some_and, some_weaker}
-use Rattle.mount_laws.specs.Settling.{holds, is_unsettled, settling_steps}
-use Rattle.mount_laws.specs.Laws.{StoppedSettling, StoppedSettlesAlike}
-use Rattle.mount_laws.proofs.Standing.{written_table}
-use Rattle.mount_laws.proofs.Writing.{table_block, settling_writes, steps_are, unsettled_data, unsettled_parity, steps_that, steps_none, steps_passes, steps_fails, solved_agree, length-table_block, IsAllWritten, all_written, same_written}
+use Rattle.mount_laws.specs.Settling.{holds, is_unsettled}
+use Rattle.mount_laws.specs.Laws.{ReadsPlainly}
+use Rattle.mount_laws.proofs.Parts.{length-block}
+use Rattle.mount_laws.proofs.Standing.{said_area}
+use Rattle.mount_laws.proofs.Writing.{table_block, unsettled_data, unsettled_parity, steps_that, steps_none, steps_passes, steps_fails, solved_agree, IsAllWritten, all_written, same_written}
 
 -- ---- a fact that each write keeps, done or stopped
 
@@ -58,14 +56,14 @@ steps_stopped P test block (suc m) from c left kept room holds torn =
           (subst (λ (ss : List Step). Torn ss (Some c) left) (steps_fails test block from m fails) torn)
     ]
 
-some_both : (P Q : Cartridge → Type 0) (left : Option Cartridge) → IsSomeAnd left P → IsSomeAnd left Q → IsSomeAnd left (λ d. P d × Q d)
+pub some_both : (P Q : Cartridge → Type 0) (left : Option Cartridge) → IsSomeAnd left P → IsSomeAnd left Q → IsSomeAnd left (λ d. P d × Q d)
 some_both P Q None p q = absurd p
 some_both P Q (Some d) p q = (p, q)
 
 -- ---- one sector changed
 
 -- a change of a sector that leaves it as live as it was
-record IsMild (f : SectorView → SectorView) : Type 0 where
+pub record IsMild (f : SectorView → SectorView) : Type 0 where
   blank : f Blank ≡ Blank
   takes : (bytes : List ℕ) (view : SectorView) → written_view bytes (f view) ≡ written_view bytes view
 
@@ -81,10 +79,10 @@ written_worn bytes Defect = refl
 written_worn bytes Lost = refl
 written_worn bytes (Holds held) = refl
 
-written_mild : (old : List ℕ) → IsMild (written_view old)
+pub written_mild : (old : List ℕ) → IsMild (written_view old)
 written_mild old = record { blank = refl; takes = λ bytes view. written_twice bytes old view }
 
-worn_mild : IsMild worn_view
+pub worn_mild : IsMild worn_view
 worn_mild = record { blank = refl; takes = written_worn }
 
 abbrev with_change : Cartridge → (i : ℕ) → (SectorView → SectorView) → Cartridge
@@ -97,10 +95,10 @@ pub record IsOnTheWay (c d : Cartridge) : Type 0 where
   pub others : (s i : ℕ) → i < 32 → s ≢ 2 → view_at d s i ≡ view_at c s i
   pub takes : (i : ℕ) (bytes : List ℕ) → i < 32 → written_view bytes (view_at d 2 i) ≡ written_view bytes (view_at c 2 i)
 
-way_begun : (c : Cartridge) → IsOnTheWay c c
+pub way_begun : (c : Cartridge) → IsOnTheWay c c
 way_begun c = record { info = refl; size = refl; others = λ s i h apart. refl; takes = λ i bytes h. refl }
 
-way_more : (c d : Cartridge) (i : ℕ) (f : SectorView → SectorView) → i < 32 → IsMild f → IsOnTheWay c d → IsOnTheWay c (with_change d i f)
+pub way_more : (c d : Cartridge) (i : ℕ) (f : SectorView → SectorView) → i < 32 → IsMild f → IsOnTheWay c d → IsOnTheWay c (with_change d i f)
 way_more c d i f small mild way =
     let view : SectorView = f (view_at d 2 i) in
     record {
@@ -241,13 +239,6 @@ solved_begun c area says = record {
   kept = λ i held h is. is;
 }
 
-pub said_area : (c : Cartridge) (area : List (List ℕ)) → Says (table_cells c) (Data area) → IsArea area
-said_area c area says =
-    let are = said_are_sectors (table_cells c) area says in
-    let size : length area + 3 ≡ length (table_cells c) = are.size in
-    let cells : length (table_cells c) ≡ 32 = length-whole_cells c 2 in
-    record { size = omega arith; sectors = cartridge_sectors area are.each }
-
 pub block_written : (d : Cartridge) (area : List (List ℕ)) → length (table_block area) ≡ 32 →
     ((i : ℕ) (held : List ℕ) → i < 32 → view_at d 2 i ≡ Holds held → held ≡ sector_at (table_block area) i) → Written (table_cells d) area
 block_written d area long agrees = record {
@@ -260,7 +251,7 @@ block_written d area long agrees = record {
 }
 
 solved_still : (c d : Cartridge) (area : List (List ℕ)) → Says (table_cells c) (Data area) → length (table_block area) ≡ 32 →
-    IsSolvedWay (table_block area) c d → TableIs d area
+    IsSolvedWay (table_block area) c d → Says (table_cells d) (Data area)
 solved_still c d area says long way =
     let few : unreadable_count (table_cells c) ≤ 3 = says.0 in
     let fewer : unreadable_count (table_cells d) ≤ unreadable_count (table_cells c) =
@@ -268,43 +259,24 @@ solved_still c d area says long way =
     (λ i held at.
     let is = held_view c 2 i held at in
     view_held d 2 i held is.within (way.kept i held is.within is.view)) in
-    written_table d area (said_area c area says) (block_written d area long way.agrees) (inr (omega arith))
+    let is_area : IsArea area = said_area c area says in
+    let size : length area ≡ 29 = is_area.size in
+    written_is_said (table_cells d) area (omega arith) (omega arith) (code_sectors area is_area.sectors) (block_written d area long way.agrees)
+    (omega arith)
 
 -- ---- a stop
 
--- the table says the same data, and what else is known on the way
-record IsLeft (area : List (List ℕ)) (c d : Cartridge) : Type 0 where
-  way : IsOnTheWay c d
-  table : TableIs d area
-
-writes_stopped : (c : Cartridge) (area : List (List ℕ)) (left : Option Cartridge) → TableIs c area →
-    Torn (settling_writes c (table_block area)) (Some c) left → IsSomeAnd left (IsLeft area c)
-writes_stopped c area left (inl reads) torn =
-    some_weaker left (λ d way. record { way = way.way; table = inl (reads_still c d area reads way) })
+-- where no readable sector was left out of account, none is after a stop among the writes of the others
+pub plain_stopped : (c : Cartridge) (area : List (List ℕ)) (left : Option Cartridge) → ReadsPlainly c area →
+    Torn (steps_that (is_unsettled c (table_block area)) (table_block area) 0 32) (Some c) left → IsSomeAnd left (λ d. ReadsPlainly d area)
+plain_stopped c area left (inl reads) torn =
+    some_weaker left (λ d way. inl (reads_still c d area reads way))
     (steps_stopped (IsReadWay c) (is_unsettled c (table_block area)) (table_block area) 32 0 c left (read_kept c area reads) (omega arith)
     (record { way = way_begun c; kept = λ i h. refl }) torn)
-writes_stopped c area left (inr says) torn =
-    some_weaker left (λ d way. record {
-      way = way.way;
-      table = solved_still c d area (code_says (table_cells c) (Data area) says) (length-table_block c area (inr says)) way;
-    })
+plain_stopped c area left (inr says) torn =
+    some_weaker left (λ d way. inr (solved_still c d area says (length-block area (said_area c area says)) way))
     (steps_stopped (IsSolvedWay (table_block area) c) (is_unsettled c (table_block area)) (table_block area) 32 0 c left
-    (solved_kept c area (code_says (table_cells c) (Data area) says)) (omega arith) (solved_begun c area (code_says (table_cells c) (Data area) says)) torn)
-
-stopped_by : (c : Cartridge) (area : List (List ℕ)) (left : Option Cartridge) (b : Bool) → TableIs c area →
-    Torn (cond b [] (settling_writes c (table_block area))) (Some c) left → IsSomeAnd left (IsLeft area c)
-stopped_by c area left true table is = some_and (IsLeft area c) c left (record { way = way_begun c; table = table }) is
-stopped_by c area left false table torn = writes_stopped c area left table torn
-
-settling_left : (c : Cartridge) (area : List (List ℕ)) (left : Option Cartridge) → TableIs c area →
-    Torn (settling_steps area c) (Some c) left → IsSomeAnd left (IsLeft area c)
-settling_left c area left table torn =
-    stopped_by c area left c.info.protected table (subst (λ (ss : List Step). Torn ss (Some c) left) (steps_are area c) torn)
-
-pub stopped_settling : StoppedSettling
-stopped_settling c area left table torn =
-    some_weaker left (λ d rest. record { info = rest.way.info; others = rest.way.others; table = rest.table })
-    (settling_left c area left table torn)
+    (solved_kept c area says) (omega arith) (solved_begun c area says) torn)
 
 -- ---- settling after it
 
@@ -316,25 +288,7 @@ way_written block c d e way written = record {
   others = λ s i h apart. written.others s i h apart ∙ way.others s i h apart;
 }
 
-open_alike : (block : List (List ℕ)) (c d : Cartridge) → length block ≡ 32 → IsOnTheWay c d →
+pub open_alike : (block : List (List ℕ)) (c d : Cartridge) → length block ≡ 32 → IsOnTheWay c d →
     changed_by (writes_of 2 (usable_places whole_mask) block) d ≡ changed_by (writes_of 2 (usable_places whole_mask) block) c
 open_alike block c d long way =
     same_written block c _ _ (way_written block c d _ way (all_written block d long)) (all_written block c long)
-
--- on a protected cartridge nothing was written
-protected_left : (c : Cartridge) (area : List (List ℕ)) (left : Option Cartridge) (b : Bool) → TableIs c area →
-    Torn (cond b [] (settling_writes c (table_block area))) (Some c) left →
-    IsSomeAnd left (λ d. cond b d (changed_by (writes_of 2 (usable_places whole_mask) (table_block area)) d)
-    ≡ cond b c (changed_by (writes_of 2 (usable_places whole_mask) (table_block area)) c))
-protected_left c area left true table torn = some_and (λ d. d ≡ c) c left refl torn
-protected_left c area left false table torn =
-    some_weaker left (λ d rest. open_alike (table_block area) c d (length-table_block c area table) rest.way)
-    (writes_stopped c area left table torn)
-
-pub stopped_settles_alike : StoppedSettlesAlike
-stopped_settles_alike c area left table torn =
-    let writes : List Step = writes_of 2 (usable_places whole_mask) (table_block area) in
-    let both = some_both (IsLeft area c) (λ d. cond c.info.protected d (changed_by writes d) ≡ settled area c) left
-    (settling_left c area left table torn) (protected_left c area left c.info.protected table
-    (subst (λ (ss : List Step). Torn ss (Some c) left) (steps_are area c) torn)) in
-    some_weaker left (λ d known. ap (λ (i : TapeInfo). cond i.protected d (changed_by writes d)) known.0.way.info ∙ known.1) both

@@ -7,7 +7,7 @@ use Rattle.qic_base.specs.Stop.{Torn}
 use Rattle.cartridge_spec.specs.Segment.{sector_at, IsLive}
 use Rattle.cartridge_spec.specs.Header.{Header}
 use Rattle.cartridge_spec.specs.Table.{Entry}
-use Rattle.cartridge_spec.specs.Says.{unreadable_count, unreadable_data, Written, with_parity}
+use Rattle.cartridge_spec.specs.Says.{unreadable_count, unreadable_data, Says, Data, ReadsAll, Written, with_parity}
 use Rattle.cartridge_spec.specs.Volumes.{Plain, Stands, entries_of}
 use Rattle.cartridge_spec.specs.Mounting.{Mounting, TableLost, Mounted, Mounts, settled}
 use Rattle.cartridge_spec.specs.HeaderAndTable.{IsArea, TableIs, table_cells}
@@ -117,6 +117,16 @@ SettledStands =
 abbrev pub SettledIsWritten : Type 0
 SettledIsWritten =
     (c : Cartridge) (area : List (List ℕ)) → TableIs c area → c.info.protected ≡ false → Written (table_cells (settled area c)) area
+
+-- no readable sector is left out of account: the data are read as they are, or are those of the code block that agrees with all
+-- readable sectors
+abbrev pub ReadsPlainly : Cartridge → (area : List (List ℕ)) → Type 0
+ReadsPlainly c area = ReadsAll (table_cells c) area ⊎ Says (table_cells c) (Data area)
+
+-- so they are read from then on
+abbrev pub SettledReadsPlainly : Type 0
+SettledReadsPlainly =
+    (c : Cartridge) (area : List (List ℕ)) → TableIs c area → c.info.protected ≡ false → ReadsPlainly (settled area c) area
 
 -- settling it again leaves it as it is
 abbrev pub SettledTwice : Type 0

@@ -2,7 +2,7 @@
 //! function that does nothing, so that other crates can rest on it; their proofs import the lemmas of this crate's
 //! `proofs`.
 
-ghost use Rattle.mount_laws.specs.Laws.{MountsIsFunction, MountsAlways, StandingMounts, StandingMountsOnlySo, SettlingSettles, StoppedSettling, StoppedSettlesAlike, StoppedMounts, StoppedStands, StoppedIsClean, SettledKeepsTable, SettledMounts, SettledStands, SettledIsClean, SettledIsWritten, SettledTwice, SettledIsWhole, SettledNeedsNoSteps, TableIsArea, SettlingEffects, StoppedIsCartridge, SettledIsCartridge};
+ghost use Rattle.mount_laws.specs.Laws.{MountsIsFunction, MountsAlways, StandingMounts, StandingMountsOnlySo, SettlingSettles, StoppedSettling, StoppedSettlesAlike, StoppedMounts, StoppedStands, StoppedIsClean, SettledKeepsTable, SettledMounts, SettledStands, SettledIsClean, SettledIsWritten, SettledReadsPlainly, SettledTwice, SettledIsWhole, SettledNeedsNoSteps, TableIsArea, SettlingEffects, StoppedIsCartridge, SettledIsCartridge};
 
 /// The mounting of a cartridge gives at most one thing.
 pub fn mounts_is_function()
@@ -43,13 +43,14 @@ pub fn stopped_settling()
 {}
 
 /// A cartridge whose table was settled has the data that it had, and is mounted and stands as before. Nothing is left to
-/// be settled.
+/// be settled, and no readable sector is left out of account any more.
 pub fn settled_table()
     ensures table { SettledKeepsTable }
     ensures mounts { SettledMounts }
     ensures stands { SettledStands }
     ensures clean { SettledIsClean }
     ensures written { SettledIsWritten }
+    ensures plain { SettledReadsPlainly }
     ensures whole { SettledIsCartridge }
     ensures twice { SettledTwice }
     ensures all { SettledIsWhole }

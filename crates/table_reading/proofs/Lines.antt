@@ -18,19 +18,6 @@ use Rattle.table_reading.proofs.Seen.{HoldsOutside, ReadsOutside, few_in_table, 
 
 -- ---- the sectors
 
-pub by_place : (P : ℕ → Type 0) → ((i : ℕ) → i < 29 → P i) → P 29 → P 30 → P 31 → (i : ℕ) → i < 32 → P i
-by_place P front p29 p30 p31 i h =
-    elim (cases_lt i 29) [
-      | inl small ↦ front i small
-      | inr large ↦ elim (cases_eq i 29) [
-        | inl first ↦ subst P (sym first) p29
-        | inr not_first ↦ elim (cases_eq i 30) [
-          | inl second ↦ subst P (sym second) p30
-          | inr not_second ↦ let third : 31 ≡ i = omega arith in subst P third p31
-        ]
-      ]
-    ]
-
 -- the data are new, but for a sector that is lost
 pub record IsBroken (d : Cartridge) (old new : List (List ℕ)) (changed lost : ℕ) : Type 0 where
   pub differ : DifferInOne old new changed
@@ -84,23 +71,6 @@ changed_differs d old new k m broken same =
     let differ : DifferInOne old new k = broken.differ in
     differ.differs (sym (front_sector old differ.old_area k differ.data_sector) ∙ sym same ∙ front_sector new differ.new_area k differ.data_sector)
 
--- ---- the sets that are tried
-
-pub first_set : (d : Cartridge) (area : List (List ℕ)) → HasBlock (hidden (set_of []) (table_cells d)) area →
-    HasBlock (hidden 0 (table_cells d)) area
-unfolding set_of
-first_set d area has = has
-
-pub not_first_set : (d : Cartridge) → HasNoBlock (hidden (set_of []) (table_cells d)) → HasNoBlock (hidden 0 (table_cells d))
-unfolding set_of
-not_first_set d none = none
-
-pub sets_of_one : (used : Option ℕ) (m : ℕ) → m < 29 → sets_by used (m ∷ []) ≡ sets_by_one used m
-sets_of_one used m small = ap (λ (b : Bool). if b then sets_by_one used m else []) (lt-ltb m 29 small)
-
-pub sets_of_two : (used : Option ℕ) (m other : ℕ) → m < 29 → sets_by used (m ∷ other ∷ []) ≡ sets_by_two used m other
-sets_of_two used m other small = ap (λ (b : Bool). if b then sets_by_two used m other else []) (lt-ltb m 29 small)
-
 shows_used : (d : Cartridge) (area : List (List ℕ)) (i : ℕ) → IsArea area → i < 29 → HoldsPart d area i →
     shows_used_slot (unwrap_or (slice_get (table_cells d) i) Lost) ≡ has_used_slot (sector_at area i)
 shows_used d area i is h part =
@@ -122,14 +92,6 @@ used_is_changed d old new k m broken other =
           ap (λ (o : Option SectorView). shows_used_slot (unwrap_or o Lost)) (cells_of_whole d 2 i (omega arith)) ∙ ap shows_used_slot gone
       | inr apart ↦ shows_used d new i is h (broken.data_sectors i h apart) ∙ broken.last.behind i behind h
     ])
-
--- a reading by the sets
-pub by_gone : (d : Cartridge) (area : List (List ℕ)) (m : ℕ) (sets : List ℕ) → m < 29 → IsUnreadable (view_at d 2 m) →
-    unreadable_count (table_cells d) ≤ 3 →
-    sets_by (last_used (table_cells d)) (unreadable_places (table_cells d)) ≡ sets → HasFirstBlock (0 ∷ sets) (table_cells d) area →
-    FurtherIs d area
-by_gone d area m sets small gone few tried first =
-    inr (some_lost d m small gone, (few, subst (λ (ss : List ℕ). HasFirstBlock (0 ∷ ss) (table_cells d) area) (sym tried) first))
 
 by_sets : (d : Cartridge) (area : List (List ℕ)) (m : ℕ) (sets : List ℕ) → m < 29 → view_at d 2 m ≡ Lost →
     unreadable_count (table_cells d) ≤ 3 →

@@ -16,44 +16,6 @@ use Rattle.table_reading.specs.OneLoss.{DifferInOne}
 use Rattle.table_reading.specs.Laws.{ParityBytesDiffer, ParityDiffers, NearBlockIsTables}
 use Rattle.table_reading.proofs.Sets.{names, IsNoneOf, named_is_one, unnamed_is_none, few_lost}
 
--- ---- sectors at their places
-
-pub sector_there : (xs : List (List ℕ)) (i : ℕ) → i < length xs → slice_get xs i ≡ Some (sector_at xs i)
-sector_there xs i h = slice_get-get_or xs i [] h ∙ ap (λ (x : List ℕ). Some x) (sym (unwrap_or-slice_get xs i []))
-
--- a table's sectors of data are the first of its block
-pub front_sector : (area : List (List ℕ)) → IsArea area → (i : ℕ) → i < 29 → sector_at (with_parity area) i ≡ sector_at area i
-front_sector area is i h =
-    let size : length area ≡ 29 = is.size in
-    data_sector area i (omega arith) ∙ sym (unwrap_or-slice_get area i [])
-
-pub table_block : (area : List (List ℕ)) → IsArea area → IsCodeBlock (with_parity area)
-table_block area is =
-    let size : length area ≡ 29 = is.size in
-    parity_block area (omega arith) (omega arith) (code_sectors area is.sectors)
-
--- ---- blocks that differ at few places
-
-few_named : (ps : List ℕ) (n : ℕ) → length ps ≤ 3 → lost_below (names (set_of ps)) n ≤ 3
-few_named ps n few =
-    let most : lost_below (names (set_of ps)) n ≤ length ps = few_lost ps (names (set_of ps)) n (named_is_one ps) in
-    omega arith
-
--- code blocks with the same sectors outside three places at most are the same
-pub near_blocks : (xs ys : List (List ℕ)) (ps : List ℕ) → IsCodeBlock xs → IsCodeBlock ys → length xs ≡ 32 → length ys ≡ 32 →
-    length ps ≤ 3 →
-    ((i : ℕ) → i < 32 → IsNoneOf ps i → sector_at xs i ≡ sector_at ys i) → xs ≡ ys
-near_blocks xs ys ps hx hy nx ny few same =
-    one_block (names (set_of ps)) xs ys hx hy
-    (record {
-      size = nx ∙ sym ny;
-      others = λ i h unnamed.
-          sector_there xs i h
-          ∙ ap (λ (x : List ℕ). Some x) (same i (omega arith) (unnamed_is_none ps i unnamed))
-          ∙ sym (sector_there ys i (omega arith));
-    })
-    (few_named ps (length xs) few)
-
 byte_there : (xs : List (List ℕ)) (i j : ℕ) → i < length xs → slice_get (column j xs) i ≡ Some (slice_index (sector_at xs i) j)
 byte_there xs i j h = slice_get-column j xs i ∙ ap (option_map (λ s. slice_index s j)) (sector_there xs i h)
 

@@ -1,5 +1,5 @@
 use Rattle.mount_laws.proofs.Whole.{settled_is_cartridge}
-use Rattle.mount_laws.proofs.Settled.{settled_keeps_table, settled_mounts, settled_stands, settled_is_clean, settled_is_written, settled_twice, settled_is_whole, settled_needs_no_steps}
+use Rattle.mount_laws.proofs.Settled.{settled_keeps_table, settled_mounts, settled_stands, settled_is_clean, settled_is_written, settled_reads_plainly, settled_twice, settled_is_whole, settled_needs_no_steps}
 use Rattle.mount_laws.proofs.laws.settled_table.Goals as goal
 
 pub returns-clause-table : goal.returns-clause-table
@@ -28,3 +28,6 @@ returns-clause-all c = settled_is_whole
 
 pub returns-clause-clean : goal.returns-clause-clean
 returns-clause-clean c = settled_is_clean
+
+pub returns-clause-plain : goal.returns-clause-plain
+returns-clause-plain c = settled_reads_plainly

@@ -1,5 +1,4 @@
-use Rattle.mount_laws.proofs.Whole.{settling_effects}
-use Rattle.mount_laws.proofs.Writing.{settling_settles}
+use Rattle.mount_laws.proofs.Settles.{settling_settles, settling_effects}
 use Rattle.mount_laws.proofs.laws.settling_settles.Goals as goal
 
 pub returns-clause-settled : goal.returns-clause-settled

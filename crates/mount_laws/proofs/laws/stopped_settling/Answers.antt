@@ -1,6 +1,7 @@
 use Rattle.mount_laws.proofs.Whole.{stopped_is_cartridge}
 use Rattle.mount_laws.proofs.Keeping.{stopped_mounts, stopped_stands, stopped_is_clean}
-use Rattle.mount_laws.proofs.Stops.{stopped_settling, stopped_settles_alike}
+use Rattle.mount_laws.proofs.Alike.{stopped_settles_alike}
+use Rattle.mount_laws.proofs.Settling.{stopped_settling}
 use Rattle.mount_laws.proofs.laws.stopped_settling.Goals as goal
 
 pub returns-clause-table : goal.returns-clause-table

@@ -7,18 +7,16 @@ use Rattle.qic_base.specs.declared.tape.SectorView.{SectorView}
 use Rattle.qic_base.specs.declared.tape.SectorView.TheVariants.{Blank, Defect, Lost, Holds}
 use Rattle.qic_base.specs.Cartridge.{Cartridge, view_at}
 use Rattle.cartridge_spec.specs.Segment.{sector_at, is_unreadable, IsUnreadable}
-use Rattle.cartridge_spec.specs.Says.{unreadable_count, whole_mask, with_parity, AsRead, ByCode, Data}
-use Rattle.cartridge_spec.specs.HeaderAndTable.{IsArea, table_cells}
+use Rattle.cartridge_spec.specs.Says.{unreadable_count, whole_mask, with_parity, TableSays, AsRead, ByCode, Data}
+use Rattle.cartridge_spec.specs.TableSets.{set_of, sets_by, sets_by_one, last_used}
+use Rattle.cartridge_spec.specs.HeaderAndTable.{IsArea, TableIs, table_cells}
+use Rattle.cartridge_spec.proofs.Sets.{IsOneOf, IsNoneOf}
 use Rattle.format_plan.proofs.Standing.{same_cells}
+use Rattle.mount_laws.specs.Settling.{HoldsPart}
+use Rattle.mount_laws.proofs.Parts.{length-block, data_read}
+use Rattle.mount_laws.proofs.Seen.{HoldsOutside, ReadsOutside, one_or_none, by_place, few_in_table, one_in_table, two_in_table, block_outside, no_block_outside, not_first_set, sets_of_one, sets_of_two, by_gone}
 use Rattle.mount_laws.proofs.Standing.{written_table}
 use Rattle.mount_laws.proofs.Stops.{block_written}
-use Rattle.append_plan.specs.Between.{HoldsPart}
-use Rattle.append_plan.proofs.Between.{length-block, data_read}
-use Rattle.table_reading.specs.FurtherSets.{FurtherIs, FurtherSays, set_of, sets_by, sets_by_one, last_used}
-use Rattle.table_reading.proofs.Sets.{IsOneOf, IsNoneOf}
-use Rattle.table_reading.proofs.Seen.{HoldsOutside, ReadsOutside, one_or_none, few_in_table, one_in_table, two_in_table, block_outside, no_block_outside}
-use Rattle.table_reading.proofs.Lines.{by_place, by_gone, not_first_set, sets_of_one, sets_of_two}
-use Rattle.table_reading.proofs.OneLoss.{read_still}
 
 -- ---- views
 
@@ -54,32 +52,31 @@ abbrev pub AllBut : Cartridge → (area : List (List ℕ)) → (m : ℕ) → Typ
 AllBut d area m = (i : ℕ) → i < 29 → i ≢ m → HoldsPart d area i
 
 -- the same views, and so the same reading
-pub same_reads : (c d : Cartridge) (area : List (List ℕ)) → ((i : ℕ) → i < 32 → view_at d 2 i ≡ view_at c 2 i) → FurtherIs c area →
-    FurtherIs d area
+pub same_reads : (c d : Cartridge) (area : List (List ℕ)) → ((i : ℕ) → i < 32 → view_at d 2 i ≡ view_at c 2 i) → TableIs c area →
+    TableIs d area
 same_reads c d area same reads =
     let cells : table_cells d ≡ table_cells c = same_cells c d 2 whole_mask same in
-    subst (λ (cs : List SectorView). FurtherSays cs (AsRead area) ⊎ FurtherSays cs (ByCode (Data area))) (sym cells) reads
+    subst (λ (cs : List SectorView). TableSays cs (AsRead area) ⊎ TableSays cs (ByCode (Data area))) (sym cells) reads
 
 -- all data are as they are
-pub data_reads : (d : Cartridge) (area : List (List ℕ)) (m : ℕ) → IsArea area → AllBut d area m → HoldsPart d area m → FurtherIs d area
+pub data_reads : (d : Cartridge) (area : List (List ℕ)) (m : ℕ) → IsArea area → AllBut d area m → HoldsPart d area m → TableIs d area
 data_reads d area m is all here =
     inl (data_read d area is (λ i h.
     elim (cases_eq i m) [ inl same ↦ subst (HoldsPart d area) (sym same) here | inr apart ↦ all i h apart ]))
 
 -- the sectors hold their parts, but for three at most that are unreadable
 pub few_gone : (d : Cartridge) (area : List (List ℕ)) (ps : List ℕ) → IsArea area → length ps ≤ 3 → HoldsOutside d area ps →
-    ((i : ℕ) → IsOneOf ps i → PartOrGone d area i) → FurtherIs d area
+    ((i : ℕ) → IsOneOf ps i → PartOrGone d area i) → TableIs d area
 few_gone d area ps is few holds others =
     let count : unreadable_count (table_cells d) ≤ length ps =
     few_in_table d ps (λ i h none. (sector_at (with_parity area) i, holds i h none)) in
-    read_still d area
-    (written_table d area is
+    written_table d area is
     (block_written d area (length-block area is) (λ i held h view.
     elim (one_or_none ps i) [
       | inl one ↦ right i held view (others i one)
       | inr none ↦ right i held view (inl (holds i h none))
     ]))
-    (inr (omega arith)))
+    (inr (omega arith))
   where
     right : (i : ℕ) (held : List ℕ) → view_at d 2 i ≡ Holds held → PartOrGone d area i → held ≡ sector_at (with_parity area) i
     right i held view (inl part) = let there : Holds held ≡ Holds (sector_at (with_parity area) i) = sym view ∙ part in cc
@@ -114,7 +111,7 @@ three_parts d area p q r i at_p at_q at_r (inr one) = two_parts d area q r i at_
 -- ---- the second and the third sector of parity hold their parts
 
 pub first_gone : (d : Cartridge) (area : List (List ℕ)) (m : ℕ) → IsArea area → AllBut d area m → PartOrGone d area m →
-    PartOrGone d area 29 → HoldsPart d area 30 → HoldsPart d area 31 → FurtherIs d area
+    PartOrGone d area 29 → HoldsPart d area 30 → HoldsPart d area 31 → TableIs d area
 first_gone d area m is all here p29 p30 p31 =
     few_gone d area (m ∷ 29 ∷ []) is (omega arith)
     (outside_but d area m (m ∷ 29 ∷ []) all (λ i none. none.0) (λ none. absurd (none.1.0 refl)) (λ none. p30) (λ none. p31))
@@ -125,7 +122,7 @@ first_gone d area m is all here p29 p30 p31 =
 -- the third one differs, and only the sector of data is unreadable
 third_differs : (d : Cartridge) (area : List (List ℕ)) (m : ℕ) (other : List ℕ) → IsArea area → m < 29 → AllBut d area m →
     IsUnreadable (view_at d 2 m) → HoldsPart d area 29 → HoldsPart d area 30 → view_at d 2 31 ≡ Holds other →
-    other ≢ sector_at (with_parity area) 31 → FurtherIs d area
+    other ≢ sector_at (with_parity area) 31 → TableIs d area
 third_differs d area m other is small all gone p29 p30 view differs =
     let reads : ReadsOutside d (m ∷ []) =
     read_but d area m (m ∷ []) all (λ i none. none.0) (λ none. part_read d area 29 p29) (λ none. part_read d area 30 p30) (other, view) in
@@ -142,7 +139,7 @@ third_differs d area m other is small all gone p29 p30 view differs =
 -- and the second one is unreadable as well
 second_gone : (d : Cartridge) (area : List (List ℕ)) (m : ℕ) (other : List ℕ) → IsArea area → m < 29 → AllBut d area m →
     IsUnreadable (view_at d 2 m) → HoldsPart d area 29 → IsUnreadable (view_at d 2 30) → view_at d 2 31 ≡ Holds other →
-    other ≢ sector_at (with_parity area) 31 → FurtherIs d area
+    other ≢ sector_at (with_parity area) 31 → TableIs d area
 second_gone d area m other is small all gone p29 gone_30 view differs =
     let reads : ReadsOutside d (m ∷ 30 ∷ []) =
     read_but d area m (m ∷ 30 ∷ []) all (λ i none. none.0) (λ none. part_read d area 29 p29) (λ none. absurd (none.1.0 refl)) (other, view) in
@@ -160,7 +157,7 @@ second_gone d area m other is small all gone p29 gone_30 view differs =
 
 -- whatever the third one is
 pub third_any : (d : Cartridge) (area : List (List ℕ)) (m : ℕ) → IsArea area → m < 29 → AllBut d area m → PartOrGone d area m →
-    HoldsPart d area 29 → PartOrGone d area 30 → FurtherIs d area
+    HoldsPart d area 29 → PartOrGone d area 30 → TableIs d area
 third_any d area m is small all (inl here) p29 p30 = data_reads d area m is all here
 third_any d area m is small all (inr gone) p29 p30 =
     elim (gone_or_read (view_at d 2 31)) [
@@ -171,7 +168,7 @@ third_any d area m is small all (inr gone) p29 p30 =
       ]
     ]
   where
-    without : PartOrGone d area 31 → FurtherIs d area
+    without : PartOrGone d area 31 → TableIs d area
     without p31 =
         few_gone d area (m ∷ 30 ∷ 31 ∷ []) is (omega arith)
         (outside_but d area m (m ∷ 30 ∷ 31 ∷ []) all (λ i none. none.0) (λ none. p29) (λ none. absurd (none.1.0 refl))
@@ -179,6 +176,6 @@ third_any d area m is small all (inr gone) p29 p30 =
         (λ i one. three_parts d area m 30 31 i (inr gone) p30 p31 one)
 
     by_second : (other : List ℕ) → view_at d 2 31 ≡ Holds other → other ≢ sector_at (with_parity area) 31 → PartOrGone d area 30 →
-        FurtherIs d area
+        TableIs d area
     by_second other view differs (inl part) = third_differs d area m other is small all gone p29 part view differs
     by_second other view differs (inr lost) = second_gone d area m other is small all gone p29 lost view differs

@@ -2,22 +2,21 @@
 -- outside a set.
 use Rattle.std.proofs.Common.{◌≡◌, ◌≢◌, ◌⊎◌, ℕ, zero, suc, ◌+◌, ◌<◌, ◌≤◌, ◌++◌, inl, inr, refl, sym, ◌∙◌, ap, subst, arith, Bool, true, false, List, [], ◌∷◌, length, slice_get, Option, Some}
 use Rattle.std.specs.Prelude.{if◌then◌else◌, unwrap_or}
-use Rattle.std.proofs.lemmas.Bool.{cases_eq, cases_lt}
+use Rattle.std.proofs.lemmas.Bool.{cases_eq, cases_lt, lt-ltb}
 use Rattle.qic_base.specs.declared.tape.SectorView.{SectorView}
 use Rattle.qic_base.specs.declared.tape.SectorView.TheVariants.{Lost, Holds}
 use Rattle.qic_base.specs.Cartridge.{Cartridge, view_at}
 use Rattle.cartridge_spec.specs.Segment.{sector_at, is_unreadable, IsUnreadable}
-use Rattle.cartridge_spec.specs.Says.{HasBlock, HasNoBlock, hidden, unreadable_count, unreadable_data, with_parity}
-use Rattle.cartridge_spec.specs.HeaderAndTable.{IsArea, table_cells}
+use Rattle.cartridge_spec.specs.Says.{HasBlock, HasNoBlock, HasFirstBlock, hidden, unreadable_count, unreadable_data, with_parity}
+use Rattle.cartridge_spec.specs.TableSets.{set_of, unreadable_from, unreadable_places, shows_used_slot, last_used_below, last_used, sets_by, sets_by_one, sets_by_two}
+use Rattle.cartridge_spec.specs.HeaderAndTable.{IsArea, TableIs, table_cells}
 use Rattle.cartridge_spec.proofs.Cells.{IsReadable, unreadable_at, readable_from_count}
 use Rattle.cartridge_spec.proofs.Sayings.{data_of-parity}
 use Rattle.cartridge_spec.proofs.Segments.{length-whole_cells, cells_of_whole}
+use Rattle.cartridge_spec.proofs.Sets.{IsOneOf, IsNoneOf, none_is_unnamed, unnamed_is_none, held_outside, seen_outside, length-hidden, few_unreadable}
 use Rattle.format_plan.proofs.Copies.{view_held, held_view}
-use Rattle.append_plan.specs.Between.{HoldsPart}
-use Rattle.append_plan.proofs.Between.{length-block, readable_front}
-use Rattle.table_reading.specs.FurtherSets.{set_of, unreadable_from, unreadable_places, shows_used_slot, last_used_below}
-use Rattle.table_reading.proofs.Sets.{IsOneOf, IsNoneOf, none_is_unnamed, unnamed_is_none, held_outside, seen_outside, length-hidden, few_unreadable}
-use Rattle.table_reading.proofs.Parity.{sector_there, table_block, near_blocks}
+use Rattle.mount_laws.specs.Settling.{HoldsPart}
+use Rattle.mount_laws.proofs.Parts.{length-block, readable_front, sector_there, code_block, near_blocks}
 
 -- ---- places
 
@@ -36,6 +35,19 @@ none_of_first (p ∷ ps) rs i none = (none.0, none_of_first ps rs i none.1)
 none_of_both : (ps rs : List ℕ) (i : ℕ) → IsNoneOf ps i → IsNoneOf rs i → IsNoneOf (ps ++ rs) i
 none_of_both [] rs i none others = others
 none_of_both (p ∷ ps) rs i none others = (none.0, none_of_both ps rs i none.1 others)
+
+pub by_place : (P : ℕ → Type 0) → ((i : ℕ) → i < 29 → P i) → P 29 → P 30 → P 31 → (i : ℕ) → i < 32 → P i
+by_place P front p29 p30 p31 i h =
+    elim (cases_lt i 29) [
+      | inl small ↦ front i small
+      | inr large ↦ elim (cases_eq i 29) [
+        | inl first ↦ subst P (sym first) p29
+        | inr not_first ↦ elim (cases_eq i 30) [
+          | inl second ↦ subst P (sym second) p30
+          | inr not_second ↦ let third : 31 ≡ i = omega arith in subst P third p31
+        ]
+      ]
+    ]
 
 -- ---- which cells are unreadable
 
@@ -196,7 +208,7 @@ pub block_outside : (d : Cartridge) (area : List (List ℕ)) (ps rs : List ℕ) 
     ((i : ℕ) → IsOneOf rs i → IsUnreadable (view_at d 2 i)) → HasBlock (hidden (set_of ps) (table_cells d)) area
 block_outside d area ps rs is holds lost = record {
   block = with_parity area;
-  code = table_block area is;
+  code = code_block area is;
   agrees = record {
     size = length-block area is ∙ sym (length-whole_cells d 2) ∙ sym (length-hidden (set_of ps) 0 (table_cells d));
     each = λ i bytes seen.
@@ -233,6 +245,31 @@ no_block_outside d area ps rs p other is few holds within outside view differs b
     (seen_outside (set_of ps) (table_cells d) i bytes (none_is_unnamed ps i none) (view_held d 2 i bytes h held)) in
     ap (λ (o : Option (List ℕ)). unwrap_or o []) there in
     let same : block ≡ with_parity area =
-    near_blocks block (with_parity area) (ps ++ rs) code (table_block area is) long (length-block area is) few (λ i h none.
+    near_blocks block (with_parity area) (ps ++ rs) code (code_block area is) long (length-block area is) few (λ i h none.
     seen i (sector_at (with_parity area) i) h (none_of_first ps rs i none) (holds i h none)) in
     differs (sym (seen p other within outside view) ∙ ap (λ (ss : List (List ℕ)). sector_at ss p) same)
+
+-- ---- the sets that are tried
+
+pub first_set : (d : Cartridge) (area : List (List ℕ)) → HasBlock (hidden (set_of []) (table_cells d)) area →
+    HasBlock (hidden 0 (table_cells d)) area
+unfolding set_of
+first_set d area has = has
+
+pub not_first_set : (d : Cartridge) → HasNoBlock (hidden (set_of []) (table_cells d)) → HasNoBlock (hidden 0 (table_cells d))
+unfolding set_of
+not_first_set d none = none
+
+pub sets_of_one : (used : Option ℕ) (m : ℕ) → m < 29 → sets_by used (m ∷ []) ≡ sets_by_one used m
+sets_of_one used m small = ap (λ (b : Bool). if b then sets_by_one used m else []) (lt-ltb m 29 small)
+
+pub sets_of_two : (used : Option ℕ) (m other : ℕ) → m < 29 → sets_by used (m ∷ other ∷ []) ≡ sets_by_two used m other
+sets_of_two used m other small = ap (λ (b : Bool). if b then sets_by_two used m other else []) (lt-ltb m 29 small)
+
+-- a reading by the sets
+pub by_gone : (d : Cartridge) (area : List (List ℕ)) (m : ℕ) (sets : List ℕ) → m < 29 → IsUnreadable (view_at d 2 m) →
+    unreadable_count (table_cells d) ≤ 3 →
+    sets_by (last_used (table_cells d)) (unreadable_places (table_cells d)) ≡ sets → HasFirstBlock (0 ∷ sets) (table_cells d) area →
+    TableIs d area
+by_gone d area m sets small gone few tried first =
+    inr (some_lost d m small gone, (few, subst (λ (ss : List ℕ). HasFirstBlock (0 ∷ ss) (table_cells d) area) (sym tried) first))

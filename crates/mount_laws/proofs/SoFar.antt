@@ -8,13 +8,12 @@ use Rattle.qic_base.specs.Step.{Step, WriteSector, Wear, changed, written_view, 
 use Rattle.qic_base.specs.Stop.{Torn}
 use Rattle.cartridge_spec.specs.Segment.{sector_at, is_unreadable, IsUnreadable}
 use Rattle.cartridge_spec.specs.Says.{with_parity}
-use Rattle.cartridge_spec.specs.HeaderAndTable.{IsArea}
+use Rattle.cartridge_spec.specs.HeaderAndTable.{IsArea, TableIs}
 use Rattle.format_plan.proofs.Views.{view_of_sector, view_of_other_sector}
 use Rattle.format_plan.proofs.Writing.{some_and}
 use Rattle.mount_laws.proofs.Writing.{steps_that, steps_none, steps_passes, steps_fails}
-use Rattle.append_plan.specs.Between.{HoldsPart}
-use Rattle.table_reading.specs.FurtherSets.{FurtherIs}
-use Rattle.table_reading.proofs.Near.{IsRead, gone_or_read, gone_not_read, PartOrGone, AllBut, same_reads, data_reads, first_gone, third_any}
+use Rattle.mount_laws.specs.Settling.{HoldsPart}
+use Rattle.mount_laws.proofs.Near.{IsRead, gone_or_read, gone_not_read, PartOrGone, AllBut, same_reads, data_reads, first_gone, third_any}
 
 -- ---- one sector changed
 
@@ -62,7 +61,7 @@ pub record IsBase (c : Cartridge) (area : List (List ℕ)) (m : ℕ) : Type 0 wh
   pub small : m < 29
   pub gone : IsUnreadable (view_at c 2 m)
   pub data_sectors : AllBut c area m
-  pub reads : FurtherIs c area
+  pub reads : TableIs c area
   pub parity : (HoldsPart c area 30 × HoldsPart c area 31) ⊎ (HoldsPart c area 29 × IsRead (view_at c 2 31))
 
 -- a test that is true of no sector that holds its part, and of each other sector of parity
@@ -124,7 +123,7 @@ all_stay c d area n m base far i h apart = part_stays c d area n i far (omega ar
 
 -- the same sectors, where none of parity changed
 all_same : (c d : Cartridge) (area : List (List ℕ)) (n m : ℕ) → IsBase c area m → IsSoFar c d area n → view_at d 2 m ≡ view_at c 2 m →
-    ((i : ℕ) → 29 ≤ i → i < 32 → view_at d 2 i ≡ view_at c 2 i) → FurtherIs d area
+    ((i : ℕ) → 29 ≤ i → i < 32 → view_at d 2 i ≡ view_at c 2 i) → TableIs d area
 all_same c d area n m base far here parity =
     same_reads c d area (λ i h.
     elim (cases_lt i 29) [
@@ -136,7 +135,7 @@ all_same c d area n m base far here parity =
     ]) base.reads
 
 -- so the reading is the same
-pub so_far_reads : (c d : Cartridge) (area : List (List ℕ)) (n m : ℕ) → IsBase c area m → IsSoFar c d area n → FurtherIs d area
+pub so_far_reads : (c d : Cartridge) (area : List (List ℕ)) (n m : ℕ) → IsBase c area m → IsSoFar c d area n → TableIs d area
 so_far_reads c d area n m base far =
     let small : m < 29 = base.small in
     let all : AllBut d area m = all_stay c d area n m base far in
@@ -149,7 +148,7 @@ so_far_reads c d area n m base far =
     small_m = let small : m < 29 = base.small in omega arith
 
     by_parity : view_at d 2 m ≡ view_at c 2 m → (HoldsPart c area 30 × HoldsPart c area 31) ⊎ (HoldsPart c area 29 × IsRead (view_at c 2 31)) →
-        FurtherIs d area
+        TableIs d area
     by_parity same (inl both) =
         elim (cases_lt 29 n) [
           | inl past ↦
@@ -220,7 +219,7 @@ far_passed c d area test n m base tests small fails far =
 
 -- a write that was stopped
 far_worn : (c d : Cartridge) (area : List (List ℕ)) (test : ℕ → Bool) (n m : ℕ) → IsBase c area m → IsTest c area test → n < 32 →
-    test n ≡ true → IsSoFar c d area n → FurtherIs (changed (Wear 2 n) d) area
+    test n ≡ true → IsSoFar c d area n → TableIs (changed (Wear 2 n) d) area
 far_worn c d area test n m base tests small passes far =
     elim (gone_or_read (view_at c 2 n)) [
       | inl gone ↦ so_far_reads c e area n m base (unchanged gone)
@@ -280,7 +279,7 @@ far_worn c d area test n m base tests small passes far =
     stays : (i : ℕ) → i < 32 → HoldsPart c area i → HoldsPart e area i
     stays i h part = worn_other d n i small h (λ same. not_this i part (sym same)) ∙ part_stays c d area n i far h part
 
-    by_parity : 29 ≤ n → (HoldsPart c area 30 × HoldsPart c area 31) ⊎ (HoldsPart c area 29 × IsRead (view_at c 2 31)) → FurtherIs e area
+    by_parity : 29 ≤ n → (HoldsPart c area 30 × HoldsPart c area 31) ⊎ (HoldsPart c area 29 × IsRead (view_at c 2 31)) → TableIs e area
     by_parity back (inl both) =
         let not_second : n ≢ 30 = not_this 30 both.0 in
         let not_third : n ≢ 31 = not_this 31 both.1 in
@@ -305,9 +304,9 @@ far_worn c d area test n m base tests small passes far =
 pub stopped_from : (c : Cartridge) (area : List (List ℕ)) (test : ℕ → Bool) (m count n : ℕ) (d : Cartridge) (left : Option Cartridge) →
     IsBase c area m →
     IsTest c area test → n + count ≤ 32 → IsSoFar c d area n → Torn (steps_that test (with_parity area) n count) (Some d) left →
-    IsSomeAnd left (λ e. FurtherIs e area)
+    IsSomeAnd left (λ e. TableIs e area)
 stopped_from c area test m zero n d left base tests room far torn =
-    some_and (λ e. FurtherIs e area) d left (so_far_reads c d area n m base far)
+    some_and (λ e. TableIs e area) d left (so_far_reads c d area n m base far)
     (subst (λ (ss : List Step). Torn ss (Some d) left) (steps_none test (with_parity area) n) torn)
 stopped_from c area test m (suc count) n d left base tests room far torn =
     elim (cases_Bool (test n)) [
@@ -323,10 +322,10 @@ stopped_from c area test m (suc count) n d left base tests room far torn =
   where
     step : test n ≡ true →
         (Torn (steps_that test (with_parity area) (n + 1) count) (Some (changed (WriteSector 2 n (sector_at (with_parity area) n)) d)) left →
-        IsSomeAnd left (λ e. FurtherIs e area)) →
+        IsSomeAnd left (λ e. TableIs e area)) →
         Torn (WriteSector 2 n (sector_at (with_parity area) n) ∷ steps_that test (with_parity area) (n + 1) count) (Some d) left →
-        IsSomeAnd left (λ e. FurtherIs e area)
-    step passes then (inl before) = some_and (λ e. FurtherIs e area) d left (so_far_reads c d area n m base far) before
+        IsSomeAnd left (λ e. TableIs e area)
+    step passes then (inl before) = some_and (λ e. TableIs e area) d left (so_far_reads c d area n m base far) before
     step passes then (inr (inl inside)) =
-        some_and (λ e. FurtherIs e area) (changed (Wear 2 n) d) left (far_worn c d area test n m base tests (omega arith) passes far) inside
+        some_and (λ e. TableIs e area) (changed (Wear 2 n) d) left (far_worn c d area test n m base tests (omega arith) passes far) inside
     step passes then (inr (inr behind)) = then behind
