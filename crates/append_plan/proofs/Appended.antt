@@ -20,7 +20,8 @@ use Rattle.append_plan.specs.Laws.{IsReady, AppendedStands, AppendedIsWhole, Sto
 use Rattle.append_plan.specs.Settled.{MayAppendTo, IsSettledFor, DoneStands, DoneIsSettledFor}
 use Rattle.append_plan.specs.Room.{last_end}
 use Rattle.cartridge_spec.specs.Slots.{slot_bytes, slot_sector}
-use Rattle.append_plan.proofs.Between.{data_read, begun_written, before_reads_old, turned_reads_new}
+use Rattle.mount_laws.proofs.Parts.{data_read}
+use Rattle.append_plan.proofs.Between.{begun_written, before_reads_old, turned_reads_new}
 use Rattle.append_plan.proofs.Dead.{ready_settled, settled_kept, live_written, table_settled}
 use Rattle.append_plan.proofs.Keeping.{AreIn, IsKeptBut, steps_kept, steps_stopped}
 use Rattle.append_plan.proofs.Orders.{LiesWithin}

@@ -1,15 +1,12 @@
 -- What the table's segment says while an append writes it.
-use Rattle.std.proofs.Common.{◌≡◌, ◌≢◌, ℕ, zero, suc, ◌<◌, ◌≤◌, inl, inr, Bool, true, false, cond, List, [], ◌∷◌, length, get_or, Some, refl, sym, ap, ◌∙◌, arith, length-append}
+use Rattle.std.proofs.Common.{◌≡◌, ◌≢◌, ℕ, zero, suc, ◌<◌, ◌≤◌, inl, inr, Bool, true, false, cond, List, [], ◌∷◌, length, refl, sym, ap, ◌∙◌, arith}
 use Rattle.std.proofs.lemmas.Bool.{cases_eq}
-use Rattle.std.proofs.lemmas.List.{take_all, get_or_append_left}
-use Rattle.std.proofs.lemmas.Option.{slice_get-get_or, unwrap_or-slice_get}
+use Rattle.std.proofs.lemmas.List.{take_all}
 use Rattle.qic_base.specs.declared.tape.SectorView.{SectorView}
-use Rattle.qic_base.specs.declared.tape.SectorView.TheVariants.{Blank, Defect, Lost, Holds}
+use Rattle.qic_base.specs.declared.tape.SectorView.TheVariants.{Lost, Holds}
 use Rattle.qic_base.specs.Cartridge.{Cartridge, view_at}
-use Rattle.gf256_qic.specs.Code.{parity_sectors}
-use Rattle.gf256_qic.proofs.Parities.{length-parity_sectors}
 use Rattle.cartridge_spec.specs.Segment.{sector_at, is_unreadable}
-use Rattle.cartridge_spec.specs.Says.{unreadable_count, ReadsAll, Written, with_parity}
+use Rattle.cartridge_spec.specs.Says.{unreadable_count, Written, with_parity}
 use Rattle.cartridge_spec.specs.HeaderAndTable.{IsArea, table_cells}
 use Rattle.cartridge_spec.proofs.Cells.{IsReadable, count_of_readable, unreadable_count-first}
 use Rattle.cartridge_spec.proofs.Segments.{length-whole_cells}

@@ -16,14 +16,16 @@ use Rattle.cartridge_spec.proofs.Segments.{length-whole_cells}
 use Rattle.format_plan.proofs.Copies.{held_view, view_held}
 use Rattle.format_plan.proofs.Standing.{same_cells}
 use Rattle.mount_laws.specs.Laws.{CanBeRead}
+use Rattle.mount_laws.proofs.Far.{length-table_block}
+use Rattle.mount_laws.proofs.Parts.{length-block, data_read, readable_front}
 use Rattle.mount_laws.proofs.Settled.{settled_keeps_table}
 use Rattle.mount_laws.proofs.Standing.{can_be_read, written_table}
 use Rattle.mount_laws.proofs.Stops.{block_written}
-use Rattle.mount_laws.proofs.Writing.{IsAllWritten, all_written, length-table_block}
+use Rattle.mount_laws.proofs.Writing.{IsAllWritten, all_written}
 use Rattle.append_plan.specs.Between.{IsWhole, table_writes}
 use Rattle.append_plan.specs.Laws.{IsReady}
 use Rattle.append_plan.specs.Settled.{IsSettledFor, SettledIsSettledFor}
-use Rattle.append_plan.proofs.Between.{length-block, data_read, one_if_any, none_if_readable, readable_front}
+use Rattle.append_plan.proofs.Between.{one_if_any, none_if_readable}
 use Rattle.append_plan.proofs.Standing.{AreKeptTo}
 use Rattle.append_plan.proofs.TableWrites.{DifferIn, HoldParts, table_written, table_lived}
 

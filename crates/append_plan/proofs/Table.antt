@@ -13,7 +13,7 @@ use Rattle.append_plan.specs.Laws.{AppendedTableShows}
 use Rattle.append_plan.specs.Settled.{MayAppendTo, DoneTableShows}
 use Rattle.append_plan.specs.Room.{last_end}
 use Rattle.cartridge_spec.specs.Slots.{slot_bytes, FitsSlot, slot_sector, with_slot}
-use Rattle.append_plan.proofs.Between.{data_sector}
+use Rattle.mount_laws.proofs.Parts.{data_sector}
 use Rattle.append_plan.proofs.Orders.{order_more}
 use Rattle.append_plan.proofs.Segments.{AreTaken, HasRoom, room_is, room_most}
 use Rattle.cartridge_spec.proofs.SlotBytes.{length-slot_bytes, slot_is_used, slot_shows, slot_are_bytes}

@@ -11,7 +11,8 @@ use Rattle.cartridge_spec.specs.Says.{with_parity}
 use Rattle.cartridge_spec.specs.Writes.{changed_by}
 use Rattle.format_plan.proofs.Views.{view_of_sector, view_of_other_sector}
 use Rattle.format_plan.proofs.Writing.{some_and, some_weaker}
-use Rattle.append_plan.specs.Between.{HoldsPart, IsWhole, IsBegun, IsTurned, Between, table_writes}
+use Rattle.mount_laws.specs.Settling.{HoldsPart}
+use Rattle.append_plan.specs.Between.{IsWhole, IsBegun, IsTurned, Between, table_writes}
 
 -- two tables' data differ in one sector of data
 abbrev pub DifferIn : (old new : List (List ℕ)) → (changed : ℕ) → Type 0

@@ -23,7 +23,7 @@ use Rattle.append_plan.specs.Laws.{AppendedIsCartridge, StoppedAppendIsCartridge
 use Rattle.append_plan.specs.Settled.{MayAppendTo, DoneIsCartridge}
 use Rattle.cartridge_spec.specs.Slots.{slot_sector}
 use Rattle.append_plan.specs.Writes.{IsWrite, AreWrites, IsOfSector}
-use Rattle.append_plan.proofs.Between.{length-block}
+use Rattle.mount_laws.proofs.Parts.{length-block}
 use Rattle.append_plan.proofs.Parts.{are_sectors}
 use Rattle.append_plan.proofs.Table.{done_table_shows, ready_count}
 use Rattle.append_plan.proofs.Volume.{may_append}

@@ -14,7 +14,7 @@ table_places changed = changed ∷ 29 ∷ 30 ∷ 31 ∷ []
 abbrev pub table_writes : (changed : ℕ) → (new : List (List ℕ)) → List Step
 table_writes changed new = block_writes (with_parity new) (table_places changed)
 
--- all 32 sectors hold theirs
+-- all 32 sectors of the segment hold their parts of these data
 abbrev pub IsWhole : Cartridge → (area : List (List ℕ)) → Type 0
 IsWhole c area = (i : ℕ) → i < 32 → HoldsPart c area i
 

@@ -13,7 +13,7 @@ use Rattle.format_plan.specs.Clean.{StandsCleanly}
 use Rattle.format_plan.specs.Fresh.{IsLabel}
 use Rattle.mount_laws.specs.Laws.{mounted_as}
 use Rattle.append_plan.specs.Appending.{IsNamed}
-use Rattle.append_plan.specs.Between.{HoldsPart}
+use Rattle.mount_laws.specs.Settling.{HoldsPart}
 use Rattle.append_plan.specs.Laws.{volume_of, new_plain, new_table, steps_of, IsReady}
 use Rattle.append_plan.specs.NewVolume.{volume_bytes}
 use Rattle.append_plan.specs.Room.{has_room, last_end}

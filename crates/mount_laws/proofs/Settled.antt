@@ -21,10 +21,10 @@ use Rattle.mount_laws.proofs.Far.{is_far, far_area, length-table_block}
 use Rattle.mount_laws.proofs.Keeping.{kept_mounts, data_kept, clean_kept}
 use Rattle.mount_laws.proofs.LeftOut.{left_out_parity, not_left_out}
 use Rattle.mount_laws.proofs.Places.{no_place}
-use Rattle.mount_laws.proofs.Settles.{settling_effects}
 use Rattle.mount_laws.proofs.Settling.{settling_writes, stopped_settling, stopped_plainly}
 use Rattle.mount_laws.proofs.Standing.{can_be_read, plainly_read, standing_plainly}
 use Rattle.mount_laws.proofs.Stops.{written_right, holds_same, block_written}
+use Rattle.mount_laws.proofs.Whole.{settling_effects}
 use Rattle.mount_laws.proofs.Writing.{unsettled_data, unsettled_parity, IsAllWritten, all_written}
 
 -- ---- it says the same

@@ -1,5 +1,5 @@
 -- All writes that settle a table leave its whole segment written.
-use Rattle.std.proofs.Common.{◌≡◌, ℕ, ◌+◌, ◌*◌, ◌<◌, inl, inr, refl, sym, ◌∙◌, ap, subst, Bool, true, false, List, [], ◌∷◌, Some}
+use Rattle.std.proofs.Common.{◌≡◌, ℕ, ◌+◌, ◌*◌, ◌<◌, inl, inr, refl, sym, ◌∙◌, ap, subst, Bool, true, false, List, [], ◌∷◌}
 use Rattle.std.specs.Prelude.{if◌then◌else◌}
 use Rattle.std.proofs.lemmas.Bool.{cases_eq, cases_lt, true≢false}
 use Rattle.std.proofs.lemmas.List.{length-set}
@@ -13,9 +13,8 @@ use Rattle.cartridge_spec.specs.Says.{whole_mask, with_parity}
 use Rattle.cartridge_spec.specs.Writes.{writes_of, changed_by}
 use Rattle.cartridge_spec.proofs.Sets.{IsNoneOf}
 use Rattle.format_plan.proofs.Views.{view_of_other_sector}
-use Rattle.format_plan.proofs.Writing.{effects-some}
-use Rattle.mount_laws.specs.Settling.{is_left_out, is_unsettled, places_where, block_writes, settling_places, settling_steps, HoldsPart}
-use Rattle.mount_laws.specs.Laws.{SettlingSettles, SettlingEffects}
+use Rattle.mount_laws.specs.Settling.{is_left_out, is_unsettled, places_where, block_writes, settling_places, HoldsPart}
+use Rattle.mount_laws.specs.Laws.{SettlingSettles}
 use Rattle.mount_laws.proofs.Far.{length-table_block}
 use Rattle.mount_laws.proofs.LeftOut.{no_other_is_part, left_out_data, settled_parity}
 use Rattle.mount_laws.proofs.Near.{gone_or_read}
@@ -127,6 +126,3 @@ settling_settles c area reads =
     let block : List (List ℕ) = with_parity area in
     by_protection c (changed_by (writes_of 2 (usable_places whole_mask) block) c) (settling_writes c area) c.info.protected
     (same_written block c _ _ (settling_written c area) (all_written block c (length-table_block c area reads)))
-
-pub settling_effects : SettlingEffects
-settling_effects c area reads = effects-some (settling_steps area c) c ∙ ap Some (settling_settles c area reads)

@@ -1,5 +1,5 @@
 -- The data of a table are sectors, and its settling leaves a cartridge, done or stopped.
-use Rattle.std.proofs.Common.{◌≡◌, ℕ, ◌<◌, inl, inr, List, [], length, Option, IsSomeAnd, Some, sym, subst, arith, All}
+use Rattle.std.proofs.Common.{◌≡◌, ℕ, ◌<◌, inl, inr, List, [], length, Option, IsSomeAnd, Some, sym, ap, ◌∙◌, subst, arith, All}
 use Rattle.std.proofs.lemmas.List.Elements.{All-get_or}
 use Rattle.std.proofs.lemmas.Option.{unwrap_or-slice_get}
 use Rattle.qic_base.specs.Cartridge.{Cartridge, IsCartridge, IsSector, view_at}
@@ -13,10 +13,11 @@ use Rattle.cartridge_spec.proofs.Sayings.{cartridge_sectors, code_sectors}
 use Rattle.cartridge_spec.proofs.Segments.{cells_are_views, view_of_cartridge}
 use Rattle.cartridge_spec.proofs.Whole.{with_view_whole, written_is_view, worn_is_view}
 use Rattle.cartridge_spec.proofs.TableSayings.{read_are_sectors}
+use Rattle.format_plan.proofs.Writing.{effects-some}
 use Rattle.mount_laws.specs.Settling.{settling_steps}
-use Rattle.mount_laws.specs.Laws.{ReadsPlainly, TableIsArea, StoppedIsCartridge, SettledIsCartridge}
+use Rattle.mount_laws.specs.Laws.{ReadsPlainly, TableIsArea, StoppedIsCartridge, SettledIsCartridge, SettlingEffects}
 use Rattle.mount_laws.proofs.Far.{is_far, far_area, length-table_block}
-use Rattle.mount_laws.proofs.Settles.{settling_effects}
+use Rattle.mount_laws.proofs.Settles.{settling_settles}
 use Rattle.mount_laws.proofs.Settling.{IsKeptBy, stopped_keeps}
 use Rattle.mount_laws.proofs.Standing.{said_area}
 
@@ -58,6 +59,9 @@ whole_kept c area whole table = record {
 pub stopped_is_cartridge : StoppedIsCartridge
 stopped_is_cartridge c area left whole table torn =
     stopped_keeps IsCartridge c area left (whole_kept c area whole table) whole torn
+
+pub settling_effects : SettlingEffects
+settling_effects c area table = effects-some (settling_steps area c) c ∙ ap Some (settling_settles c area table)
 
 pub settled_is_cartridge : SettledIsCartridge
 settled_is_cartridge c area whole table =

@@ -1,4 +1,5 @@
-use Rattle.mount_laws.proofs.Settles.{settling_settles, settling_effects}
+use Rattle.mount_laws.proofs.Settles.{settling_settles}
+use Rattle.mount_laws.proofs.Whole.{settling_effects}
 use Rattle.mount_laws.proofs.laws.settling_settles.Goals as goal
 
 pub returns-clause-settled : goal.returns-clause-settled
