@@ -1,19 +1,18 @@
 -- A cartridge of which one sector, or a mark, changed is mounted as before.
-use Rattle.std.proofs.Common.{◌≡◌, ◌⊎◌, ℕ, inl, inr, List, refl, sym, subst, arith}
+use Rattle.std.proofs.Common.{◌≡◌, ◌⊎◌, ℕ, List, refl, sym, subst, arith}
 use Rattle.qic_base.specs.declared.tape.SectorView.{SectorView}
-use Rattle.qic_base.specs.Cartridge.{Cartridge, view_at}
+use Rattle.qic_base.specs.Cartridge.{Cartridge}
 use Rattle.qic_base.specs.Step.{SetReferenced, SetProtected, changed}
 use Rattle.cartridge_spec.specs.Header.{Header}
-use Rattle.cartridge_spec.specs.Shape.{usable_places}
 use Rattle.cartridge_spec.specs.Table.{Entry}
-use Rattle.cartridge_spec.specs.Says.{whole_mask, unreadable_data, ReadsAll, TableSays, AsRead, ByCode, Data}
+use Rattle.cartridge_spec.specs.Says.{TableSays, AsRead, ByCode, Data}
 use Rattle.cartridge_spec.specs.Mounting.{IsMounted}
-use Rattle.cartridge_spec.specs.HeaderAndTable.{HasHeader, TableIs, table_cells}
-use Rattle.cartridge_spec.proofs.TableSayings.{code_says, says_code}
+use Rattle.cartridge_spec.specs.HeaderAndTable.{HasHeader, TableIs}
 use Rattle.change_laws.specs.Laws.{WornMounts, SpoiledMounts, ProtectedMounts, ReferencedMounts}
 use Rattle.change_laws.specs.Wear.{worn}
-use Rattle.change_laws.proofs.Changes.{ReadsAlike, spoiled_alike, same_count_front}
-use Rattle.change_laws.proofs.Standing.{CellsAlike, in_force, says_alike, spoiled, spoiled_cells, same_views, other_cells, header_elsewhere}
+use Rattle.change_laws.proofs.Changes.{spoiled_alike}
+use Rattle.change_laws.proofs.Table.{table_alike}
+use Rattle.change_laws.proofs.Standing.{in_force, spoiled, spoiled_cells, same_views, other_cells, header_elsewhere}
 
 -- a cartridge of the same length with the same header and the same table
 still_mounted : (c d : Cartridge) (header : Header) (words : List ℕ) (table : List (List ℕ)) (entries : List Entry) → d.info.segments_per_track ≡ c.info.segments_per_track →
@@ -41,21 +40,6 @@ worn_mounts c segment sector header words table entries small behind mounted =
 
 -- ---- a further defect
 
-reads_alike : (xs ys : List SectorView) (area : List (List ℕ)) → CellsAlike xs ys → ReadsAll xs area → ReadsAll ys area
-reads_alike xs ys area alike reads = record {
-  size = reads.size;
-  each = λ i h. let at = reads.each i h in (at.0, alike.no_less i at.0 at.1, at.2);
-}
-
-spoiled_table : (c : Cartridge) (segment sector : ℕ) (table : List (List ℕ)) → TableIs c table → TableIs (spoiled segment sector c) table
-spoiled_table c segment sector table (inl reads) = inl (reads_alike _ _ table (spoiled_cells c segment sector 2) reads)
-spoiled_table c segment sector table (inr (some, says)) =
-    let d : Cartridge = spoiled segment sector c in
-    let alike : ReadsAlike c d = spoiled_alike c segment sector in
-    let same : unreadable_data (table_cells d) ≡ unreadable_data (table_cells c) =
-    same_count_front (view_at d 2) (view_at c 2) 29 (usable_places whole_mask) (λ p. alike.unreadable 2 p) in
-    inr (says_code (table_cells d) (Data table) (omega arith) (says_alike _ _ table (spoiled_cells c segment sector 2) (code_says (table_cells c) (Data table) (some, says))))
-
 pub spoiled_mounts : SpoiledMounts
 spoiled_mounts c segment sector header words table entries mounted =
     still_mounted c (spoiled segment sector c) header words table entries refl
@@ -63,7 +47,7 @@ spoiled_mounts c segment sector header words table entries mounted =
       referenced = has.referenced;
       in_force = in_force c (spoiled segment sector c) area (spoiled_cells c segment sector 0) (spoiled_cells c segment sector 1) has.in_force;
     })
-    (spoiled_table c segment sector table) mounted
+    (table_alike c (spoiled segment sector c) table (spoiled_alike c segment sector) (spoiled_cells c segment sector 2)) mounted
 
 -- ---- a mark
 

@@ -64,7 +64,7 @@ same_alike xs ys same = record {
   no_less = λ i bytes at. ap (λ (cells : List SectorView). slice_get cells i) (sym same) ∙ at;
 }
 
-turned : {xs ys : List SectorView} → CellsAlike xs ys → CellsAlike ys xs
+pub turned : {xs ys : List SectorView} → CellsAlike xs ys → CellsAlike ys xs
 turned alike = record { long = sym alike.long; count = sym alike.count; no_more = alike.no_less; no_less = alike.no_more }
 
 pub says_alike : (xs ys : List SectorView) (area : List (List ℕ)) → CellsAlike xs ys → Says xs (Data area) → Says ys (Data area)

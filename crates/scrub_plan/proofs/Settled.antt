@@ -18,7 +18,7 @@ use Rattle.format_plan.proofs.Copies.{held_view}
 use Rattle.format_plan.proofs.Writing.{some_weaker}
 use Rattle.mount_laws.proofs.Standing.{can_be_read}
 use Rattle.append_plan.specs.Settled.{IsSettledFor}
-use Rattle.append_plan.proofs.Between.{length-block}
+use Rattle.mount_laws.proofs.Parts.{length-block}
 use Rattle.scrub_plan.specs.Mended.{IsBeingMended}
 use Rattle.scrub_plan.specs.Scrubbing.{Looked, looked_at}
 use Rattle.scrub_plan.specs.Laws.{SettledTableReads, DoneScrubIsSettled, StoppedScrubIsSettled}

@@ -14,13 +14,13 @@ use Rattle.gf256_qic.proofs.Parities.{block_count, length-parity_sectors}
 use Rattle.cartridge_spec.specs.Header.{header_fault}
 use Rattle.cartridge_spec.specs.HeaderAndTable.{IsArea, IsInForce, CopyReads, CopyDoesNotRead, TableIs, copy_cells, table_cells}
 use Rattle.cartridge_spec.specs.Shape.{mask_at, usable_places, usable_count, data_count}
-use Rattle.cartridge_spec.specs.Says.{whole_mask, cells_of, unreadable_count, Data, Says, Written, Zero, ReadsAll, with_parity}
+use Rattle.cartridge_spec.specs.Says.{whole_mask, cells_of, unreadable_count, Data, Says, HasBlock, HasNoBlock, Written, Zero, ReadsAll, TableSays, AsRead, ByCode, with_parity}
 use Rattle.cartridge_spec.specs.Table.{Entry, slot_fault}
 use Rattle.cartridge_spec.specs.Volumes.{Plain, Volume, VolumeStands, Part, PartStands, parts_of, Stands, CopiesAre, carrying_segments, entries_of}
+use Rattle.cartridge_spec.proofs.Hiding.{nothing_is_hidden}
 use Rattle.cartridge_spec.proofs.Places.{count_below, usable_small, usable_apart}
 use Rattle.cartridge_spec.proofs.Sayings.{says_is_function, written_is_said, said_is_written, said_are_sectors, code_sectors, cartridge_sectors}
 use Rattle.cartridge_spec.proofs.Segments.{count_of_cells, length-whole_cells, zero_does_not_read}
-use Rattle.cartridge_spec.proofs.TableSayings.{code_says}
 use Rattle.format_plan.proofs.Copies.{held_view, view_held, no_fewer_unreadable, written_reads}
 use Rattle.format_plan.proofs.Standing.{same_cells}
 use Rattle.mount_laws.proofs.Standing.{written_table}
@@ -245,11 +245,22 @@ reads_kept looked c d area way all = record {
 pub table_kept : (looked : List Looked) (c d : Cartridge) (area : List (List ℕ)) → LooksInFront looked → IsBeingMended looked c d →
     TableIs c area → TableIs d area
 table_kept looked c d area front way (inl all) = inl (reads_kept looked c d area way all)
-table_kept looked c d area front way (inr by_code) =
-    let says : Says (table_cells c) (Data area) = code_says (table_cells c) (Data area) by_code in
-    let few : unreadable_count (table_cells c) ≤ 3 = says.0 in
+table_kept looked c d area front way (inr (some, (few, inl has))) =
+    let says : Says (table_cells c) (Data area) =
+    (few, subst (λ (cells : List SectorView). HasBlock cells area) (nothing_is_hidden (table_cells c)) has) in
     let fewer = fewer_unreadable looked c d (whole_segment 2) way in
-    written_table d area (said_area c 2 area says) (said_kept looked c d (whole_segment 2) area front.rise front.table way says) (inr (omega arith))
+    written_table d area (said_area c 2 area says) (said_kept looked c d (whole_segment 2) area front.rise front.table way says)
+    (inr (omega arith))
+-- where readable sectors were left out of account, nothing is written to the table's segment
+table_kept looked c d area front way (inr (some, (few, inr (none, rest)))) =
+    let same : table_cells d ≡ table_cells c =
+    same_cells c d 2 whole_mask (unread_kept looked c d (whole_segment 2) front.rise front.table way (λ ds says can.
+    no_block (subst (λ (cells : List SectorView). HasNoBlock cells) (nothing_is_hidden (table_cells c)) none) says.1)) in
+    subst (λ (cells : List SectorView). TableSays cells (AsRead area) ⊎ TableSays cells (ByCode (Data area))) (sym same)
+    (inr (some, (few, inr (none, rest))))
+  where
+    no_block : {ds : List (List ℕ)} → HasNoBlock (table_cells c) → HasBlock (table_cells c) ds → ⊥
+    no_block none has = none has.block has.code has.agrees
 
 table_stands : (looked : List Looked) (c d : Cartridge) (area : List (List ℕ)) → LooksInFront looked → IsBeingMended looked c d →
     IsArea area →
