@@ -14,7 +14,7 @@ use Rattle.append_plan.specs.Laws.{new_plain, new_table, volume_of}
 use Rattle.append_plan.proofs.Appended.{stopped_list}
 use Rattle.append_plan.proofs.Table.{ready_count, done_table_shows}
 use Rattle.append_plan.proofs.Volume.{may_append}
-use Rattle.table_reading.specs.FurtherSets.{some_used_below}
+use Rattle.cartridge_spec.specs.TableSets.{some_used_below}
 use Rattle.table_reading.specs.OneLoss.{IsLastUsed}
 use Rattle.table_reading.specs.Laws.{AppendChangesOneSector, StoppedAppendReadsEither}
 use Rattle.table_reading.proofs.OneLoss.{one_loss_reads_either}

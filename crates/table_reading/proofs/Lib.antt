@@ -1,12 +1,5 @@
 pub mod Append
+pub mod ComesBack
 pub mod Lines
-pub mod Near
 pub mod OneLoss
 pub mod Parity
-pub mod Readings
-pub mod Seen
-pub mod Sets
-pub mod Settled
-pub mod Settling
-pub mod SoFar
-pub mod Standing

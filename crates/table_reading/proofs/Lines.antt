@@ -1,20 +1,21 @@
 -- The reading of a table's segment whose data are new but for one sector that is lost, by what its sectors of parity hold.
-use Rattle.std.proofs.Common.{◌≡◌, ◌≢◌, ℕ, ◌<◌, ◌≤◌, inl, inr, refl, sym, ◌∙◌, ap, subst, arith, Bool, List, [], ◌∷◌, length, slice_get, Option, Some}
-use Rattle.std.specs.Prelude.{if◌then◌else◌, unwrap_or}
-use Rattle.std.proofs.lemmas.Bool.{cases_eq, cases_lt, lt-ltb}
+use Rattle.std.proofs.Common.{◌≡◌, ◌≢◌, ℕ, ◌<◌, ◌≤◌, inl, inr, refl, sym, ◌∙◌, ap, arith, List, [], ◌∷◌, length, slice_get, Option, Some}
+use Rattle.std.specs.Prelude.{unwrap_or}
+use Rattle.std.proofs.lemmas.Bool.{cases_eq}
 use Rattle.qic_base.specs.declared.tape.SectorView.{SectorView}
 use Rattle.qic_base.specs.declared.tape.SectorView.TheVariants.{Lost, Holds}
 use Rattle.qic_base.specs.Cartridge.{Cartridge, view_at}
-use Rattle.cartridge_spec.specs.Segment.{sector_at, is_unreadable, IsUnreadable}
-use Rattle.cartridge_spec.specs.Says.{HasBlock, HasNoBlock, HasFirstBlock, hidden, unreadable_count, with_parity}
-use Rattle.cartridge_spec.specs.HeaderAndTable.{IsArea, table_cells}
+use Rattle.cartridge_spec.specs.Segment.{sector_at, is_unreadable}
+use Rattle.cartridge_spec.specs.Says.{HasFirstBlock, unreadable_count, with_parity}
+use Rattle.cartridge_spec.specs.HeaderAndTable.{IsArea, TableIs, table_cells}
 use Rattle.cartridge_spec.proofs.Segments.{cells_of_whole}
-use Rattle.append_plan.specs.Between.{HoldsPart}
-use Rattle.table_reading.specs.FurtherSets.{set_of, has_used_slot, shows_used_slot, last_used, with_used, sets_by_one, sets_by_two, sets_by, unreadable_places, FurtherIs}
+use Rattle.mount_laws.specs.Settling.{HoldsPart}
+use Rattle.cartridge_spec.specs.TableSets.{set_of, has_used_slot, shows_used_slot, last_used, with_used, sets_by_one, sets_by_two, sets_by, unreadable_places}
 use Rattle.table_reading.specs.OneLoss.{DifferInOne, IsLastUsed}
-use Rattle.table_reading.proofs.Sets.{IsOneOf, IsNoneOf}
-use Rattle.table_reading.proofs.Parity.{front_sector, same_data, parity_differs}
-use Rattle.table_reading.proofs.Seen.{HoldsOutside, ReadsOutside, few_in_table, one_in_table, two_in_table, some_lost, last_used_is, block_outside, no_block_outside}
+use Rattle.cartridge_spec.proofs.Sets.{IsOneOf, IsNoneOf}
+use Rattle.mount_laws.proofs.Parts.{front_sector}
+use Rattle.table_reading.proofs.Parity.{same_data, parity_differs}
+use Rattle.mount_laws.proofs.Seen.{HoldsOutside, ReadsOutside, by_place, few_in_table, one_in_table, two_in_table, last_used_is, block_outside, no_block_outside, first_set, not_first_set, sets_of_one, sets_of_two, by_gone}
 
 -- ---- the sectors
 
@@ -96,12 +97,12 @@ used_is_changed d old new k m broken other =
 by_sets : (d : Cartridge) (area : List (List ℕ)) (m : ℕ) (sets : List ℕ) → m < 29 → view_at d 2 m ≡ Lost →
     unreadable_count (table_cells d) ≤ 3 →
     sets_by (last_used (table_cells d)) (unreadable_places (table_cells d)) ≡ sets → HasFirstBlock (0 ∷ sets) (table_cells d) area →
-    FurtherIs d area
+    TableIs d area
 by_sets d area m sets small lost = by_gone d area m sets small (ap is_unreadable lost)
 
 -- the block of an area agrees at once
 pub at_once : (d : Cartridge) (area : List (List ℕ)) (m : ℕ) (rs : List ℕ) → IsArea area → m < 29 → view_at d 2 m ≡ Lost → length rs ≤ 3 →
-    HoldsOutside d area rs → ((i : ℕ) → IsOneOf rs i → view_at d 2 i ≡ Lost) → FurtherIs d area
+    HoldsOutside d area rs → ((i : ℕ) → IsOneOf rs i → view_at d 2 i ≡ Lost) → TableIs d area
 at_once d area m rs is small lost few holds gone =
     let count : unreadable_count (table_cells d) ≤ length rs =
     few_in_table d rs (λ i h none. part_read d area i (holds i h none)) in
@@ -140,7 +141,7 @@ two_lost d old new k m other broken from below gone reads =
 
 -- old, old, old
 pub all_old : (d : Cartridge) (old new : List (List ℕ)) (k m : ℕ) → IsBroken d old new k m → m ≢ k →
-    HoldsPart d old 29 → HoldsPart d old 30 → HoldsPart d old 31 → FurtherIs d old
+    HoldsPart d old 29 → HoldsPart d old 30 → HoldsPart d old 31 → TableIs d old
 all_old d old new k m broken other p29 p30 p31 =
     let is : IsArea old = broken.differ.old_area in
     let place : k < 29 = broken.differ.data_sector in
@@ -174,7 +175,7 @@ all_old d old new k m broken other p29 p30 p31 =
 
 -- lost, old, old
 pub first_lost : (d : Cartridge) (old new : List (List ℕ)) (k m : ℕ) → IsBroken d old new k m → m ≢ k →
-    view_at d 2 29 ≡ Lost → HoldsPart d old 30 → HoldsPart d old 31 → FurtherIs d old
+    view_at d 2 29 ≡ Lost → HoldsPart d old 30 → HoldsPart d old 31 → TableIs d old
 first_lost d old new k m broken other gone p30 p31 =
     let is : IsArea old = broken.differ.old_area in
     let place : k < 29 = broken.differ.data_sector in
@@ -201,7 +202,7 @@ first_lost d old new k m broken other gone p30 p31 =
 
 -- new, old, old
 pub one_new : (d : Cartridge) (old new : List (List ℕ)) (k m : ℕ) → IsBroken d old new k m → m ≢ k →
-    HoldsPart d new 29 → HoldsPart d old 30 → HoldsPart d old 31 → FurtherIs d new
+    HoldsPart d new 29 → HoldsPart d old 30 → HoldsPart d old 31 → TableIs d new
 one_new d old new k m broken other p29 p30 p31 =
     let is_old : IsArea old = broken.differ.old_area in
     let is_new : IsArea new = broken.differ.new_area in
@@ -251,7 +252,7 @@ one_new d old new k m broken other p29 p30 p31 =
 
 -- new, lost, old
 pub second_lost : (d : Cartridge) (old new : List (List ℕ)) (k m : ℕ) → IsBroken d old new k m →
-    HoldsPart d new 29 → view_at d 2 30 ≡ Lost → HoldsPart d old 31 → FurtherIs d new
+    HoldsPart d new 29 → view_at d 2 30 ≡ Lost → HoldsPart d old 31 → TableIs d new
 second_lost d old new k m broken p29 gone p31 =
     let is : IsArea new = broken.differ.new_area in
     let small : m < 29 = broken.small in
@@ -272,7 +273,7 @@ second_lost d old new k m broken p29 gone p31 =
 
 -- new, new, old
 pub two_new : (d : Cartridge) (old new : List (List ℕ)) (k m : ℕ) → IsBroken d old new k m →
-    HoldsPart d new 29 → HoldsPart d new 30 → HoldsPart d old 31 → FurtherIs d new
+    HoldsPart d new 29 → HoldsPart d new 30 → HoldsPart d old 31 → TableIs d new
 two_new d old new k m broken p29 p30 p31 =
     let is : IsArea new = broken.differ.new_area in
     let small : m < 29 = broken.small in
@@ -291,7 +292,7 @@ two_new d old new k m broken p29 p30 p31 =
 
 -- new, new, lost
 pub third_lost : (d : Cartridge) (old new : List (List ℕ)) (k m : ℕ) → IsBroken d old new k m →
-    HoldsPart d new 29 → HoldsPart d new 30 → view_at d 2 31 ≡ Lost → FurtherIs d new
+    HoldsPart d new 29 → HoldsPart d new 30 → view_at d 2 31 ≡ Lost → TableIs d new
 third_lost d old new k m broken p29 p30 gone =
     at_once d new m (m ∷ 31 ∷ []) broken.differ.new_area broken.small broken.here (omega arith)
     (new_outside d old new k m (m ∷ 31 ∷ []) broken (λ i none. none.0) (λ none. p29) (λ none. p30) (λ none. absurd (none.1.0 refl)))
@@ -299,7 +300,7 @@ third_lost d old new k m broken p29 p30 gone =
 
 -- new, new, new
 pub all_new : (d : Cartridge) (old new : List (List ℕ)) (k m : ℕ) → IsBroken d old new k m →
-    HoldsPart d new 29 → HoldsPart d new 30 → HoldsPart d new 31 → FurtherIs d new
+    HoldsPart d new 29 → HoldsPart d new 30 → HoldsPart d new 31 → TableIs d new
 all_new d old new k m broken p29 p30 p31 =
     at_once d new m (m ∷ []) broken.differ.new_area broken.small broken.here (omega arith)
     (new_outside d old new k m (m ∷ []) broken (λ i none. none.0) (λ none. p29) (λ none. p30) (λ none. p31))
@@ -312,7 +313,7 @@ changed_is_lost k m i same apart = (apart, ((λ e. apart (e ∙ sym same)), tt))
 
 -- old, old, old
 pub all_old_at_once : (d : Cartridge) (old new : List (List ℕ)) (k m : ℕ) → IsBroken d old new k m → m ≡ k →
-    HoldsPart d old 29 → HoldsPart d old 30 → HoldsPart d old 31 → FurtherIs d old
+    HoldsPart d old 29 → HoldsPart d old 30 → HoldsPart d old 31 → TableIs d old
 all_old_at_once d old new k m broken same p29 p30 p31 =
     at_once d old m (m ∷ []) broken.differ.old_area broken.small broken.here (omega arith)
     (old_outside d old new k m (m ∷ []) broken (λ i none. changed_is_lost k m i same none.0) (λ none. p29) (λ none. p30) (λ none. p31))
@@ -320,7 +321,7 @@ all_old_at_once d old new k m broken same p29 p30 p31 =
 
 -- lost, old, old
 pub first_lost_at_once : (d : Cartridge) (old new : List (List ℕ)) (k m : ℕ) → IsBroken d old new k m → m ≡ k →
-    view_at d 2 29 ≡ Lost → HoldsPart d old 30 → HoldsPart d old 31 → FurtherIs d old
+    view_at d 2 29 ≡ Lost → HoldsPart d old 30 → HoldsPart d old 31 → TableIs d old
 first_lost_at_once d old new k m broken same gone p30 p31 =
     at_once d old m (m ∷ 29 ∷ []) broken.differ.old_area broken.small broken.here (omega arith)
     (old_outside d old new k m (m ∷ 29 ∷ []) broken (λ i none. changed_is_lost k m i same none.0) (λ none. absurd (none.1.0 refl))
@@ -329,7 +330,7 @@ first_lost_at_once d old new k m broken same gone p30 p31 =
 
 -- new, old, old
 pub one_new_still_old : (d : Cartridge) (old new : List (List ℕ)) (k m : ℕ) → IsBroken d old new k m → m ≡ k →
-    HoldsPart d new 29 → HoldsPart d old 30 → HoldsPart d old 31 → FurtherIs d old
+    HoldsPart d new 29 → HoldsPart d old 30 → HoldsPart d old 31 → TableIs d old
 one_new_still_old d old new k m broken same p29 p30 p31 =
     let is : IsArea old = broken.differ.old_area in
     let small : m < 29 = broken.small in

@@ -4,25 +4,19 @@ use Rattle.std.proofs.lemmas.Bool.{cases_eq, cases_lt}
 use Rattle.qic_base.specs.declared.tape.SectorView.TheVariants.{Lost, Holds}
 use Rattle.qic_base.specs.Cartridge.{Cartridge, view_at}
 use Rattle.cartridge_spec.specs.Segment.{sector_at}
-use Rattle.cartridge_spec.specs.Says.{unreadable_count, with_parity, Data, ByCode}
+use Rattle.cartridge_spec.specs.Says.{unreadable_count, with_parity}
 use Rattle.cartridge_spec.specs.HeaderAndTable.{TableIs, table_cells}
 use Rattle.mount_laws.proofs.Standing.{written_table}
 use Rattle.mount_laws.proofs.Stops.{block_written}
-use Rattle.append_plan.specs.Between.{HoldsPart, IsWhole, IsBegun, IsTurned}
-use Rattle.append_plan.proofs.Between.{length-block, data_read}
-use Rattle.table_reading.specs.FurtherSets.{FurtherIs}
+use Rattle.mount_laws.specs.Settling.{HoldsPart}
+use Rattle.append_plan.specs.Between.{IsWhole, IsBegun, IsTurned}
+use Rattle.mount_laws.proofs.Parts.{length-block, data_read}
 use Rattle.table_reading.specs.OneLoss.{DifferInOne, IsLastUsed, LosesOne}
 use Rattle.table_reading.specs.Laws.{BeforeReadsOldStill, LostParityReadsNew, LostDataReadsOld, LostDataReadsNew, OneLossReadsEither}
-use Rattle.table_reading.proofs.Readings.{further_says_the_same}
-use Rattle.table_reading.proofs.Seen.{few_in_table}
+use Rattle.mount_laws.proofs.Seen.{few_in_table}
 use Rattle.table_reading.proofs.Lines.{IsBroken, all_old, first_lost, one_new, second_lost, two_new, third_lost, all_new, all_old_at_once, first_lost_at_once, one_new_still_old}
 
 -- ---- before the changed sector is new
-
--- data that are read without sets are read with them
-pub read_still : (d : Cartridge) (area : List (List ℕ)) → TableIs d area → FurtherIs d area
-read_still d area (inl reads) = inl reads
-read_still d area (inr says) = inr (further_says_the_same (table_cells d) (ByCode (Data area)) says (λ e. cc))
 
 -- a sector that is not lost holds what it held
 kept : (c d : Cartridge) (area : List (List ℕ)) (m i : ℕ) → LosesOne c d m → i < 32 → i ≢ m → HoldsPart c area i → HoldsPart d area i
@@ -54,14 +48,13 @@ before_reads_old_still c d old k m is small before loses =
     let few : unreadable_count (table_cells d) ≤ 2 =
     few_in_table d (m ∷ k ∷ []) (λ i h none.
     (sector_at (with_parity old) i, old_outside c d old k m i before loses h none.0 none.1.0)) in
-    read_still d old
-    (written_table d old is
+    written_table d old is
     (block_written d old (length-block old is) (λ i held h view.
     elim (old_or_lost c d old k m i before loses h) [
       | inl part ↦ let there : Holds held ≡ Holds (sector_at (with_parity old) i) = sym view ∙ part in cc
       | inr lost ↦ absurd (cc)
     ]))
-    (inr (omega arith)))
+    (inr (omega arith))
 
 -- ---- a sector of parity
 
@@ -155,7 +148,7 @@ lost_data_reads_new c d old new k m differ last turned small loses least apart =
 
 turned_reads_either : (c d : Cartridge) (old new : List (List ℕ)) (k m : ℕ) → DifferInOne old new k → IsLastUsed new k →
     IsTurned c old new → m < 29 →
-    LosesOne c d m → FurtherIs d old ⊎ FurtherIs d new
+    LosesOne c d m → TableIs d old ⊎ TableIs d new
 turned_reads_either c d old new k m differ last turned small loses =
     let begins : 29 ≤ turned.turn = turned.from in
     elim (cases_eq turned.turn 29) [

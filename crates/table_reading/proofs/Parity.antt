@@ -2,24 +2,22 @@
 use Rattle.std.proofs.Common.{◌≡◌, ◌≢◌, ℕ, ◌<◌, ◌≤◌, inl, inr, sym, ◌∙◌, ap, subst, arith, List, [], ◌∷◌, length, slice_get, slice_index, Some}
 use Rattle.std.specs.Option.{option_map}
 use Rattle.std.proofs.lemmas.Bool.{cases_eq, cases_lt}
-use Rattle.std.proofs.lemmas.Option.{slice_get-get_or, unwrap_or-slice_get}
-use Rattle.gf256_qic.specs.Code.{IsCodeBlock, column, lost_below}
-use Rattle.gf256_qic.proofs.Agreement.{one_block, one_codeword, length-column, slice_get-column}
-use Rattle.gf256_qic.proofs.Parities.{parity_block}
+use Rattle.gf256_qic.specs.Code.{IsCodeBlock, column}
+use Rattle.gf256_qic.proofs.Agreement.{one_codeword, length-column, slice_get-column}
 use Rattle.cartridge_spec.specs.Segment.{sector_at}
 use Rattle.cartridge_spec.specs.Says.{with_parity}
-use Rattle.cartridge_spec.specs.HeaderAndTable.{IsArea}
-use Rattle.cartridge_spec.proofs.Sayings.{code_sectors}
-use Rattle.append_plan.proofs.Between.{length-block, data_sector}
-use Rattle.table_reading.specs.FurtherSets.{set_of}
+use Rattle.cartridge_spec.specs.TableSets.{set_of}
+use Rattle.cartridge_spec.proofs.Sets.{names, IsNoneOf, unnamed_is_none}
+use Rattle.mount_laws.proofs.Parts.{length-block, sector_there, front_sector, code_block, few_named, near_blocks}
 use Rattle.table_reading.specs.OneLoss.{DifferInOne}
 use Rattle.table_reading.specs.Laws.{ParityBytesDiffer, ParityDiffers, NearBlockIsTables}
-use Rattle.table_reading.proofs.Sets.{names, IsNoneOf, named_is_one, unnamed_is_none, few_lost}
+
+-- ---- a code block near a table's
 
 byte_there : (xs : List (List ℕ)) (i j : ℕ) → i < length xs → slice_get (column j xs) i ≡ Some (slice_index (sector_at xs i) j)
 byte_there xs i j h = slice_get-column j xs i ∙ ap (option_map (λ s. slice_index s j)) (sector_there xs i h)
 
--- so are columns with the same bytes there
+-- columns with the same bytes outside three places at most are the same
 near_columns : (xs ys : List (List ℕ)) (j : ℕ) (ps : List ℕ) → IsCodeBlock xs → IsCodeBlock ys → length xs ≡ 32 →
     length ys ≡ 32 → j < 1024 →
     length ps ≤ 3 → ((i : ℕ) → i < 32 → IsNoneOf ps i → slice_index (sector_at xs i) j ≡ slice_index (sector_at ys i) j) →
@@ -38,7 +36,7 @@ near_columns xs ys j ps hx hy nx ny small few same =
 
 pub near_block_is_tables : NearBlockIsTables
 near_block_is_tables area block first second third is code long same =
-    near_blocks block (with_parity area) (first ∷ second ∷ third ∷ []) code (table_block area is) long (length-block area is) (omega arith)
+    near_blocks block (with_parity area) (first ∷ second ∷ third ∷ []) code (code_block area is) long (length-block area is) (omega arith)
     (λ i h none. same i h none.0 none.1.0 none.1.1.0)
 
 -- ---- the parity of two tables
@@ -69,7 +67,7 @@ parity_bytes_differ old new changed parity j differ from below small apart same 
     let long_old : length (with_parity old) ≡ 32 = length-block old differ.old_area in
     let long_new : length (with_parity new) ≡ 32 = length-block new differ.new_area in
     let columns : column j (with_parity old) ≡ column j (with_parity new) =
-    near_columns (with_parity old) (with_parity new) j (changed ∷ q ∷ r ∷ []) (table_block old differ.old_area) (table_block new differ.new_area)
+    near_columns (with_parity old) (with_parity new) j (changed ∷ q ∷ r ∷ []) (code_block old differ.old_area) (code_block new differ.new_area)
     long_old long_new small (omega arith) (λ i h none.
     elim (cases_lt i 29) [
       | inl front ↦ ap (λ (s : List ℕ). slice_index s j) (same_data old new changed i differ front none.0)
@@ -90,7 +88,7 @@ parity_differs old new changed parity differ from below same =
     with_others ⊥ parity from below (λ q r others.
     let place : changed < 29 = differ.data_sector in
     let blocks : with_parity old ≡ with_parity new =
-    near_blocks (with_parity old) (with_parity new) (changed ∷ q ∷ r ∷ []) (table_block old differ.old_area) (table_block new differ.new_area)
+    near_blocks (with_parity old) (with_parity new) (changed ∷ q ∷ r ∷ []) (code_block old differ.old_area) (code_block new differ.new_area)
     (length-block old differ.old_area) (length-block new differ.new_area) (omega arith) (λ i h none.
     elim (cases_lt i 29) [
       | inl front ↦ same_data old new changed i differ front none.0

@@ -1,4 +1,2 @@
-pub mod FurtherSets
 pub mod Laws
 pub mod OneLoss
-pub mod Settling

@@ -4,7 +4,7 @@ use Rattle.qic_base.specs.declared.tape.SectorView.TheVariants.{Lost}
 use Rattle.qic_base.specs.Cartridge.{Cartridge, view_at}
 use Rattle.cartridge_spec.specs.Segment.{sector_at}
 use Rattle.cartridge_spec.specs.HeaderAndTable.{IsArea}
-use Rattle.table_reading.specs.FurtherSets.{has_used_slot}
+use Rattle.cartridge_spec.specs.TableSets.{has_used_slot}
 
 -- the data of two tables, which differ in one sector alone
 pub record DifferInOne (old new : List (List ℕ)) (changed : ℕ) : Type 0 where
@@ -25,8 +25,12 @@ pub record LosesOne (c d : Cartridge) (lost : ℕ) : Type 0 where
   pub here : view_at d 2 lost ≡ Lost
   pub others : (i : ℕ) → i < 32 → i ≢ lost → view_at d 2 i ≡ view_at c 2 i
 
--- and nothing else has changed: neither a mark nor a sector of another segment
+-- nothing but the table's segment has changed: neither a mark nor a sector of another segment
+pub record ChangesTableAlone (c d : Cartridge) : Type 0 where
+  pub info : d.info ≡ c.info
+  pub others : (segment sector : ℕ) → sector < 32 → segment ≢ 2 → view_at d segment sector ≡ view_at c segment sector
+
+-- one sector of the table's segment is lost, and nothing else has changed
 pub record LosesOneAlone (c d : Cartridge) (lost : ℕ) : Type 0 where
   pub loses : LosesOne c d lost
-  pub info : d.info ≡ c.info
-  pub elsewhere : (segment sector : ℕ) → sector < 32 → segment ≢ 2 → view_at d segment sector ≡ view_at c segment sector
+  pub alone : ChangesTableAlone c d
