@@ -1,5 +1,5 @@
 -- How a call goes to its segment and through its sectors.
-use Rattle.std.proofs.Common.{◌≡◌, ℕ, ◌+◌, ◌≤◌, Bool, false, sym, ◌∙◌, ap, subst, arith, Option, Some, None, [], Result, Ok, Err, ◌*◌, ◌<◌, true, refl, List}
+use Rattle.std.proofs.Common.{◌≡◌, ℕ, ◌+◌, ◌≤◌, sym, subst, arith, Option, Some, None, [], Result, Ok, Err, ◌*◌, ◌<◌, true}
 use Rattle.std.specs.Prelude.{IfSome, IsSomeAnd, OnOk}
 use Rattle.std.specs.Option.{option_map_or}
 use Rattle.qic_base.specs.Cartridge.{Cartridge}

@@ -1,3 +1,4 @@
+pub mod ByRegister
 pub mod GatheredCells
 pub mod Going
 pub mod NamedWrites

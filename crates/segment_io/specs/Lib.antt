@@ -2,4 +2,5 @@ pub mod Calls
 pub mod Gathered
 pub mod Lending
 pub mod Reading
+pub mod Register
 pub mod Writes

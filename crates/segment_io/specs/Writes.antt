@@ -13,3 +13,8 @@ named_write segment index places place sectors =
 abbrev pub usable_write : (segment usable index places place : ℕ) → List (List ℕ) → List Step
 usable_write segment usable index places place sectors =
     if usable / 2 ^ index % 2 == 1 then named_write segment index places place sectors else []
+
+-- the sector with an index, which has this place, where it is usable
+abbrev pub next_write : (segment usable index place : ℕ) → List (List ℕ) → List Step
+next_write segment usable index place sectors =
+    if usable / 2 ^ index % 2 == 1 then WriteSector segment index (sector_at sectors place) ∷ [] else []

@@ -1,5 +1,5 @@
 -- The sectors below the index are gathered, and the tape was only read.
-use Rattle.std.proofs.Common.{◌≡◌, [], true, length, ◌+◌, ◌^◌, ◌<◌}
+use Rattle.std.proofs.Common.{◌≡◌, [], true, length, ◌^◌, ◌<◌}
 use Rattle.qic_base.specs.LostSet.{lost_places}
 use Rattle.qic_base.specs.Tape.{Done, Tells}
 use Rattle.drive_states.specs.Reach.{reads_in, IsUnder}

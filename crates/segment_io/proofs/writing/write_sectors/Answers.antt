@@ -1,10 +1,9 @@
-use Rattle.std.proofs.Common.{◌≡◌, ℕ, ◌+◌, ◌≤◌, ◌++◌, true, List, length, ap, subst, sym, ◌∙◌, arith, []}
+use Rattle.std.proofs.Common.{◌≡◌, ℕ, ◌+◌, ◌≤◌, ◌++◌, List, length, ap, subst, sym, ◌∙◌, arith}
 use Rattle.std.proofs.lemmas.Result.{err_from_is_err_and}
 use Rattle.qic_base.specs.LostSet.{lost_places}
 use Rattle.qic_base.specs.Step.{Step}
 use Rattle.qic_base.specs.Tape.{Done, Broke}
 use Rattle.qic_base.proofs.Steps.{Done-Done, Done-Broke, Broke-front}
-use Rattle.qic117_commands.specs.Views.{is_primary}
 use Rattle.cartridge_spec.specs.Shape.{usable_count}
 use Rattle.segment_io.specs.Writes.{usable_write}
 use Rattle.cartridge_spec.specs.Writes.{named_writes}
