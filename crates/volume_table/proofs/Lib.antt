@@ -6,3 +6,5 @@ pub mod SoFar
 pub mod Spelling
 pub mod TableLaws
 pub mod Totals
+pub mod Trying
+pub mod Used

@@ -4,7 +4,9 @@
 mod entry;
 mod fault;
 pub mod laws;
+mod leaving_out;
 mod reading;
+mod sets_tried;
 mod showing;
 mod slots;
 mod table;
@@ -12,5 +14,7 @@ mod writing;
 
 pub use entry::Entry;
 pub use fault::{TableFault, TableFull};
+pub use leaving_out::{last_used, trials};
 pub use reading::TableReading;
+pub use sets_tried::Trials;
 pub use table::Table;

@@ -1,0 +1,167 @@
+//! Which sectors of the table's segment its reading leaves out of account, where a data sector is unreadable and no code
+//! block agrees with the readable ones (this project's profile).
+
+ghost use Rattle.std.specs.Prelude.{◌≡◌, ◌<◌, ◌≤◌, ◌↔◌, ◌+◌, ◌++◌, ◌∷◌, [], ℕ, List, length, map, slice_get, unwrap_or, IfSome};
+ghost use Rattle.qic_base.specs.LostSet.{lost_places};
+ghost use Rattle.qic_base.specs.declared.tape.SectorView.TheVariants.{Holds, Lost};
+ghost use Rattle.cartridge_spec.specs.Says.{hidden, LosesData};
+ghost use Rattle.cartridge_spec.specs.Segment.{sector_at};
+ghost use Rattle.cartridge_spec.specs.TableSets.{has_used_slot, last_used, shows_used_slot};
+ghost use Rattle.volume_table.specs.Trials.{AreTrials, IsLastUsed, ShowsUsed, tried, with_last_used, with_place};
+
+use crate::reading::DATA_SECTORS;
+use crate::sets_tried::Trials;
+use crate::slots::{SIGNATURE, slot_at};
+use qic_base::{LostSet, read_u32};
+
+/// The slots of a sector.
+const SLOTS_A_SECTOR: u8 = 8;
+
+// Whether a data sector has a used slot.
+fn has_used_slot(area: &[[u8; 1024]], place: u8) -> bool
+    requires sectors { length area.now ≡ 29 }
+    requires within { place < 29 }
+    ensures { result ≡ has_used_slot (sector_at area.now place) }
+{
+    for slot in 0..SLOTS_A_SECTOR {
+        if read_u32(slot_at(area, SLOTS_A_SECTOR * place + slot), 0) == SIGNATURE {
+            return true;
+        }
+    }
+    false
+}
+
+// Whether a data sector is not lost and has a used slot.
+fn shows_used_slot(area: &[[u8; 1024]], lost: LostSet, place: u8) -> bool
+    requires sectors { length area.now ≡ 29 }
+    requires within { place < 29 }
+    ensures { result ≡ shows_used_slot
+        (unwrap_or (slice_get (hidden lost (map Holds area.now)) place) Lost) }
+{
+    !lost.contains(place) && has_used_slot(area, place)
+}
+
+/// The last of the table's 29 data sectors, 0 to 28, that is not lost and has a slot that begins with `VTBL`.
+pub fn last_used(area: &[[u8; 1024]], lost: LostSet) -> Option<u8>
+    requires { length area.now ≡ 29 }
+    ensures greatest { (k : ℕ) → (result ≡ Some k) ↔ IsLastUsed area.now lost k }
+    ensures none { (result ≡ None) ↔ ((i : ℕ) → ¬ (ShowsUsed area.now lost i)) }
+    // The same by the cells of the segment: those that are lost can't be read, and the others hold the sectors.
+    ensures cells { result ≡ last_used (hidden lost (map Holds area.now)) }
+{
+    let mut last = None;
+    for place in 0..DATA_SECTORS {
+        if shows_used_slot(area, lost, place) {
+            last = Some(place);
+        }
+    }
+    last
+}
+
+// The set with one place more.
+fn with_place(set: LostSet, place: u8) -> LostSet
+    ensures { place < 32 → result ≡ with_place set place }
+{
+    if place < 32 {
+        LostSet::from_mask(set.mask() | 1 << place)
+    } else {
+        set
+    }
+}
+
+// The lost places with the last sector that has a used slot, where there is one.
+fn add_used(trials: &mut Trials, lost: LostSet, last_used: Option<u8>)
+    requires { trials.old.count < 5 }
+    ensures more { IfSome last_used (λ k. k < 32) → (sets : List ℕ) → AreTrials trials.old sets →
+        AreTrials trials.new (sets ++ with_last_used lost last_used) }
+    ensures count { trials.new.count ≤ trials.old.count + 1 }
+{
+    if let Some(used) = last_used {
+        trials.add(with_place(lost, used));
+    }
+}
+
+/// The sets of places that the reading of the table's segment leaves out of account, of which 1 to 3 sectors are lost, one
+/// of them of data: first those that are lost, and then, where one or two are, the sets with the parity sectors and with
+/// the last data sector that has a used slot. No set has a place from 32 on.
+pub fn trials(lost: LostSet, last_used: Option<u8>) -> Trials
+    requires few { length (lost_places lost 32) ≤ 3 }
+    requires loses_data { LosesData lost }
+    ensures { IfSome last_used (λ k. k < 32) → AreTrials result (tried lost last_used) }
+{
+    let mut trials = Trials::of(lost);
+    match lost.count() {
+        1 => {
+            trials.add(with_place(lost, 31));
+            trials.add(with_place(lost, 29));
+            add_used(&mut trials, lost, last_used);
+            trials.add(with_place(with_place(lost, 30), 31));
+        }
+        2 if lost.contains(29) => add_used(&mut trials, lost, last_used),
+        2 if lost.contains(30) => trials.add(with_place(lost, 31)),
+        _ => {}
+    }
+    trials
+}
+
+#[cfg(test)]
+mod tests {
+    use super::*;
+    use crate::reading::TableReading;
+    use crate::table::Table;
+    use qic_base::write_u32;
+    use std::test::Fail;
+
+    #[test]
+    fn the_sets_are_those_of_the_lost_places(rt: HostRuntime) {
+        for (mask, used, count, sets) in [
+            // Sector 5 alone.
+            (
+                0x20,
+                Some(7),
+                5,
+                [0x20, 0x8000_0020, 0x2000_0020, 0xA0, 0xC000_0020],
+            ),
+            (
+                0x20,
+                None,
+                4,
+                [0x20, 0x8000_0020, 0x2000_0020, 0xC000_0020, 0],
+            ),
+            // Sectors 1 and 29, 1 and 30, 1 and 31, 1 and 2.
+            (0x2000_0002, Some(0), 2, [0x2000_0002, 0x2000_0003, 0, 0, 0]),
+            (0x4000_0002, Some(0), 2, [0x4000_0002, 0xC000_0002, 0, 0, 0]),
+            (0x8000_0002, Some(0), 1, [0x8000_0002, 0, 0, 0, 0]),
+            (6, Some(0), 1, [6, 0, 0, 0, 0]),
+        ] {
+            let lost = LostSet::from_mask(mask);
+            assert_eq!(rt; Table::reading(lost), TableReading::Solve);
+            let tried = trials(lost, used);
+            assert_eq!(rt; tried.count, count, "at {mask}");
+            assert!(rt; tried.sets == sets.map(LostSet::from_mask), "at {mask}");
+        }
+    }
+
+    #[test]
+    fn the_last_sector_with_a_used_slot_is_found(rt: HostRuntime) -> Result<(), Fail> {
+        let mut area = vec![in rt.alloc(); [0u8; 1024]; 29]?;
+        assert_eq!(rt; area.len(), 29);
+        assert_eq!(rt; last_used(&area, LostSet::from_mask(0)), None);
+        write_u32(&mut area[0], 0, SIGNATURE);
+        write_u32(&mut area[4], 896, SIGNATURE);
+        write_u32(&mut area[6], 4, SIGNATURE);
+        for (lost, want) in [
+            (0, Some(4)),
+            (1 << 4, Some(0)),
+            (0x11, None),
+            (1 << 6, Some(4)),
+        ] {
+            assert_eq!(rt;
+                last_used(&area, LostSet::from_mask(lost)),
+                want,
+                "at {lost}"
+            );
+        }
+        Ok(())
+    }
+}
