@@ -160,7 +160,9 @@ Where the last two bytes are 1 and 0 it is 67 A6 C0.
    a6
    c0
 
-But where data are lost, too, the parity does not help to find them. With sector 1 changed:
+But where data are lost, too, the parity does not help to find them. Then other sectors are left out of account, one set
+of them after the other: with one data sector lost alone the last set leaves sectors 30 and 31 out, and there is always
+a code block for that, which may be a wrong one. With sector 1 changed:
 
   $ changed() { cp whole.img cart.img; put 2 1 500 '\x07'; each lose 2 "$@" > done; tape cart.img list; }
   $ changed
@@ -173,8 +175,8 @@ But where data are lost, too, the parity does not help to find them. With sector
   1 3 3 10 1994-03-01T12:00:00 a
   volumes 1
   $ changed 5
-  tape: the volume table does not agree
-  [8]
+  1 3 3 10 1994-03-01T12:00:00 a
+  volumes 1
   $ changed 5 31
   tape: the volume table does not agree
   [8]

@@ -21,7 +21,7 @@ use Rattle.std.specs.Prelude.{◌==◌, nat_lt}
 use Rattle.volume_store.specs.Mounting.{StoreView, StoreFits, IsSettling, MountRefuses, MountDoes}
 use Rattle.volume_store.specs.Mounting as stores
 use Rattle.drive_states.specs.Unit.{UnitView}
-use Rattle.mount_laws.specs.Settling.{settling_steps, block_writes, places_where, is_unsettled}
+use Rattle.mount_laws.specs.Settling.{settling_steps, settling_places, block_writes}
 use Rattle.cartridge_spec.specs.Says.{with_parity}
 use Rattle.std.specs.Prelude.{if◌then◌else◌}
 use Rattle.cartridge_spec.specs.Mounting.{Mounting}
@@ -98,7 +98,7 @@ unlocked_refused_is goes why (Some c) free is = inr (free, refused_is goes why (
 
 -- nothing settles a protected cartridge
 locked_steps : (table : List (List ℕ)) (c : Cartridge) → c.info.protected ≡ true → settling_steps table c ≡ []
-locked_steps table c is = ap (λ (b : Bool). if b then [] else block_writes (with_parity table) (places_where (is_unsettled c (with_parity table)))) is
+locked_steps table c is = ap (λ (b : Bool). if b then [] else block_writes (with_parity table) (settling_places c table)) is
 
 pub writable_begins : (goes : Going) → Settles goes → (steps : List TapeStep) (held : Option Cartridge) → (steps ≡ []) ⊎ IsSomeAnd held (λ c. IsSettling c steps) →
     (outcome : Outcome) → WritableOutcome goes held outcome → BeginsSteps steps outcome

@@ -6,10 +6,11 @@ use Rattle.qic_base.specs.Cartridge.{Cartridge}
 use Rattle.qic_base.specs.Step.{Step}
 use Rattle.qic_base.specs.Tape.{Meaning, Done, Broke, Does, Tells}
 use Rattle.cartridge_spec.specs.HeaderAndTable.{table_cells, TableIs}
-use Rattle.cartridge_spec.specs.Says.{Says, Data, Mismatch, AsRead, ByCode, ReadsAll, HasBlock, Agrees, data_of}
+use Rattle.cartridge_spec.specs.Says.{Data, AsRead, ByCode, ReadsAll, TableSays, HasBlock, HasNoBlock, Agrees, data_of}
 use Rattle.cartridge_spec.specs.Table.{Entry, Shows}
-use Rattle.cartridge_spec.proofs.Sayings.{says_is_function}
-use Rattle.cartridge_spec.proofs.TableSayings.{code_says, table_says_is_function}
+use Rattle.qic_base.specs.declared.tape.SectorView.{SectorView}
+use Rattle.cartridge_spec.proofs.Hiding.{nothing_is_hidden}
+use Rattle.cartridge_spec.proofs.TableSayings.{said_is_table, table_says_is_function}
 use Rattle.cartridge_spec.proofs.Segments.{length-whole_cells}
 use Rattle.mount_laws.specs.Settling.{settling_steps}
 use Rattle.segment_io.specs.declared.fault.SegFault.{SegFault}
@@ -21,6 +22,7 @@ use Rattle.drive_states.specs.Unit.{UnitView}
 use Rattle.qic_base.proofs.Steps.{Done-after_reads, Broke-after_reads, Tells-map, Tells-read}
 use Rattle.segment_io.proofs.Going.{tells_always}
 use Rattle.volume_store.specs.declared.fault.StoreFault.{StoreFault}
+use Rattle.volume_store.specs.declared.table_reader.Unread.{Unread}
 use Rattle.volume_store.specs.declared.fault.StoreFault.TheVariants as fault
 use Rattle.volume_store.specs.Again.{HasTable, FindsList, IsOfReading, IsSettledAgain, IsBrokenOff, SettlesAgain, AddsEntry, data_with, entry_writes}
 use Rattle.volume_store.specs.Finding.{FindsTable, Leaves, refusal_of}
@@ -61,9 +63,10 @@ pub list_shown : (c : Cartridge) (area : List (List ℕ)) (entries : List Entry)
 list_shown c area entries has (inl reads) =
     subst (λ (a : List (List ℕ)). Shows a entries) (sym (read_block c area has.block reads has.agrees)) has.shown
 list_shown c area entries has (inr solved) =
-    let says : Says (table_cells c) (Data area) = code_says (table_cells c) (Data area) solved in
     let block : HasBlock (table_cells c) (data_of has.block) = record { block = has.block; code = has.code; agrees = has.agrees; shown = refl } in
-    let same : Data area ≡ Data (data_of has.block) = says_is_function (table_cells c) (Data area) (Data (data_of has.block)) says (says.0, block) in
+    let says : TableSays (table_cells c) (ByCode (Data (data_of has.block))) =
+    said_is_table (table_cells c) (Data (data_of has.block)) solved.0 (solved.1.0, block) (λ same. cc) in
+    let same : ByCode (Data area) ≡ ByCode (Data (data_of has.block)) = table_says_is_function (table_cells c) (ByCode (Data area)) (ByCode (Data (data_of has.block))) solved says in
     let one : area ≡ data_of has.block = cc in
     subst (λ (a : List (List ℕ)). Shows a entries) (sym one) has.shown
 
@@ -72,11 +75,11 @@ pub list_missing : (c : Cartridge) (area : List (List ℕ)) (entries : List Entr
 list_missing c area entries none table = λ has. none (list_shown c area entries has table)
 
 -- .. and so does a segment that no code block agrees with
-pub finds_fault : (c : Cartridge) (sectors : List (List ℕ)) (entries : List Entry) (f : SegFault) → FindsTable {A = ℕ} c sectors (Err f) → FindsList c sectors entries (Err (refusal_of f))
+pub finds_fault : (c : Cartridge) (sectors : List (List ℕ)) (entries : List Entry) (f : SegFault) → FindsTable {A = Unread} c sectors (Err f) → FindsList c sectors entries (Err (refusal_of f))
 finds_fault c sectors entries (seg.Lost segment lost) found = found.1
 finds_fault c sectors entries (seg.Mismatch segment) found =
-    let says : Says (table_cells c) Mismatch = code_says (table_cells c) Mismatch found.1 in
-    λ has. says.1 has.block has.code has.agrees
+    let none : HasNoBlock (table_cells c) = subst (λ (cells : List SectorView). HasNoBlock cells) (nothing_is_hidden (table_cells c)) found.1.1.1.0 in
+    λ has. none has.block has.code has.agrees
 finds_fault c sectors entries seg.Tape found = found
 
 -- ---- a call that was refused by its reading
@@ -90,10 +93,10 @@ broken_before m old new wanted broke = record {
 }
 
 pub settles_refused : {T : Type 0} (m : Meaning T) (old new : T) (entries : List Entry) (found sectors : List (List ℕ)) (f : StoreFault) (r : Result (Unit {0}) StoreFault) → r ≡ Err f →
-    Leaves {A = ℕ} m old new [] (Err f) → (f ≢ fault.Tape → Tells m old (λ c. FindsList c found entries (Err f))) → IsOfReading {A = ℕ} (Err f) → SettlesAgain m old new entries sectors r
+    Leaves {A = Unread} m old new [] (Err f) → (f ≢ fault.Tape → Tells m old (λ c. FindsList c found entries (Err f))) → IsOfReading {A = Unread} (Err f) → SettlesAgain m old new entries sectors r
 settles_refused m old new entries found sectors f r is left told kind = subst (λ (answer : Result (Unit {0}) StoreFault). SettlesAgain m old new entries sectors answer) (sym is) (by_fault f left told kind)
   where
-    by_fault : (f : StoreFault) → Leaves {A = ℕ} m old new [] (Err f) → (f ≢ fault.Tape → Tells m old (λ c. FindsList c found entries (Err f))) → IsOfReading {A = ℕ} (Err f) →
+    by_fault : (f : StoreFault) → Leaves {A = Unread} m old new [] (Err f) → (f ≢ fault.Tape → Tells m old (λ c. FindsList c found entries (Err f))) → IsOfReading {A = Unread} (Err f) →
         SettlesAgain {A = Unit {0}} m old new entries sectors (Err f)
     by_fault (fault.Lost segment lost) left told kind = record { done = left; told = told (λ same. cc) }
     by_fault fault.TableMismatch left told kind = record { done = left; told = told (λ same. cc) }
@@ -109,10 +112,10 @@ settles_refused m old new entries found sectors f r is left told kind = subst (�
     by_fault fault.Sink left told kind = kind
 
 pub adds_refused : {T : Type 0} (m : Meaning T) (old new : T) (entries : List Entry) (entry : Entry) (found : List (List ℕ)) (f : StoreFault) (r : Result (Unit {0}) StoreFault) → r ≡ Err f →
-    Leaves {A = ℕ} m old new [] (Err f) → (f ≢ fault.Tape → Tells m old (λ c. FindsList c found entries (Err f))) → IsOfReading {A = ℕ} (Err f) → AddsEntry m old new entries entry r
+    Leaves {A = Unread} m old new [] (Err f) → (f ≢ fault.Tape → Tells m old (λ c. FindsList c found entries (Err f))) → IsOfReading {A = Unread} (Err f) → AddsEntry m old new entries entry r
 adds_refused m old new entries entry found f r is left told kind = subst (λ (answer : Result (Unit {0}) StoreFault). AddsEntry m old new entries entry answer) (sym is) (by_fault f left told kind)
   where
-    by_fault : (f : StoreFault) → Leaves {A = ℕ} m old new [] (Err f) → (f ≢ fault.Tape → Tells m old (λ c. FindsList c found entries (Err f))) → IsOfReading {A = ℕ} (Err f) →
+    by_fault : (f : StoreFault) → Leaves {A = Unread} m old new [] (Err f) → (f ≢ fault.Tape → Tells m old (λ c. FindsList c found entries (Err f))) → IsOfReading {A = Unread} (Err f) →
         AddsEntry {A = Unit {0}} m old new entries entry (Err f)
     by_fault (fault.Lost segment lost) left told kind = record { done = left; told = told (λ same. cc) }
     by_fault fault.TableMismatch left told kind = record { done = left; told = told (λ same. cc) }
@@ -130,13 +133,13 @@ adds_refused m old new entries entry found f r is left told kind = subst (λ (an
 -- ---- the steps of a told cartridge
 
 -- the writes of the workspace settle it
-pub told_mending : {T : Type 0} (m : Meaning T) (host : Host) (old : T) (u : UnitView T) (sectors : List (List ℕ)) (lost : ℕ) →
-    Fits m host u → AgreesWithTape m u → Done m old u.tape [] → length sectors ≡ 32 → Tells m old (λ c. HasTable c sectors lost) →
-    Tells m old (λ c. TableIs c (take 29 sectors) × (mending_steps (is_protected u.drive.deck) lost sectors ≡ settling_steps (take 29 sectors) c))
-told_mending m host old u sectors lost fits agrees read room has =
-    tells_two m old (IsLearnt host) (λ c. HasTable c sectors lost)
-    (λ c. TableIs c (take 29 sectors) × (mending_steps (is_protected u.drive.deck) lost sectors ≡ settling_steps (take 29 sectors) c))
-    (λ c known table. (table.table, mending_settles c (is_protected u.drive.deck) lost sectors room table.gathered (known.protected ∙ sym (ap is_protected fits.deck))))
+pub told_mending : {T : Type 0} (m : Meaning T) (host : Host) (old : T) (u : UnitView T) (sectors : List (List ℕ)) (unread : Unread) →
+    Fits m host u → AgreesWithTape m u → Done m old u.tape [] → length sectors ≡ 32 → Tells m old (λ c. HasTable c sectors unread) →
+    Tells m old (λ c. TableIs c (take 29 sectors) × (mending_steps (is_protected u.drive.deck) unread sectors ≡ settling_steps (take 29 sectors) c))
+told_mending m host old u sectors unread fits agrees read room has =
+    tells_two m old (IsLearnt host) (λ c. HasTable c sectors unread)
+    (λ c. TableIs c (take 29 sectors) × (mending_steps (is_protected u.drive.deck) unread sectors ≡ settling_steps (take 29 sectors) c))
+    (λ c known table. (table.table, mending_settles c (is_protected u.drive.deck) unread sectors room table.known (known.protected ∙ sym (ap is_protected fits.deck))))
     (Tells-read (IsLearnt host) read (told_learnt m host u fits agrees)) has
 
 -- all steps that data call for are those that other data of the cartridge do

@@ -15,3 +15,6 @@ pub mod Storing
 pub mod TableSegment
 pub mod Taking
 pub mod Worn
+pub mod Tried
+pub mod Trials
+pub mod Collected

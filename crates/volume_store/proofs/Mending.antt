@@ -10,11 +10,12 @@ use Rattle.qic_base.specs.LostSet.{lost_places}
 use Rattle.erasure_solve.specs.Lost.{is_lost}
 use Rattle.cartridge_spec.specs.Segment.{sector_at}
 use Rattle.cartridge_spec.specs.Says.{whole_mask}
-use Rattle.cartridge_spec.specs.Shape.{usable_places}
-use Rattle.cartridge_spec.specs.Writes.{writes_of, named_writes}
+use Rattle.cartridge_spec.specs.Shape.{usable_places, sectors_of}
 use Rattle.cartridge_spec.proofs.Segments.{places_of_whole}
 use Rattle.mount_laws.specs.Settling.{places_where, block_writes}
+use Rattle.volume_store.specs.declared.table_reader.Unread.{Unread}
 use Rattle.volume_store.specs.Settling.{collected_block, is_stale, mending_steps}
+use Rattle.qic_base.specs.Step.{Step, WriteSector}
 
 -- ---- the places of a set
 
@@ -68,25 +69,24 @@ index_of mask (suc n) few =
     last true = ap (λ (k : ℕ). k ∷ []) here
     last false = refl
 
--- the writes of a set of places of a whole segment
-pub writes_of_set : (stale : ℕ) (block : List (List ℕ)) (test : ℕ → Bool) → ((i : ℕ) → i < 32 → is_lost stale i ≡ test i) →
-    named_writes 2 4294967295 stale block ≡ block_writes block (places_where test)
-writes_of_set stale block test same =
-    ap (λ (places : List ℕ). writes_of 2 places (map (λ place. sector_at block place) (lost_places stale 32))) (index_of stale 32 (omega arith))
-    ∙ ap (block_writes block) (places_of_set stale test same)
-
-pub mend_writes : (stale lost : ℕ) (old new : List (List ℕ)) → new ≡ collected_block old → ((i : ℕ) → i < 32 → is_lost stale i ≡ is_stale lost old new i) →
-    named_writes 2 4294967295 stale new ≡ mending_steps false lost old
-mend_writes stale lost old new is same =
-    writes_of_set stale new (is_stale lost old new) same
-    ∙ ap (λ (block : List (List ℕ)). block_writes block (places_where (is_stale lost old block))) is
-
 -- the block has the data that were collected
 pub data_kept : (old new : List (List ℕ)) → length old ≡ 32 → new ≡ collected_block old → take 29 new ≡ take 29 old
 data_kept old new room is =
     ap (take 29) is ∙ take_at (take 29 old) (parity_sectors (take 29 old)) 29 (length-take-le 29 old (omega arith))
 
--- an empty set writes nothing
-pub no_writes : (sectors : List (List ℕ)) → named_writes 2 4294967295 0 sectors ≡ []
+-- the writes of some places, and then of others
+writes_both : (block : List (List ℕ)) (ps qs : List ℕ) → block_writes block ps ++ block_writes block qs ≡ block_writes block (ps ++ qs)
+writes_both block [] qs = refl
+writes_both block (p ∷ ps) qs = ap (λ (steps : List Step). WriteSector 2 p (sector_at block p) ∷ steps) (writes_both block ps qs)
+
+pub mend_both : (unread : Unread) (stale : ℕ) (old new : List (List ℕ)) → new ≡ collected_block old → ((i : ℕ) → i < 32 → is_lost stale i ≡ is_stale unread.lost old new i) →
+    block_writes new (sectors_of unread.left_out) ++ block_writes new (sectors_of stale) ≡ mending_steps false unread old
+mend_both unread stale old new is same =
+    writes_both new (sectors_of unread.left_out) (sectors_of stale)
+    ∙ ap (λ (places : List ℕ). block_writes new (places ++ sectors_of stale)) (places_of_set unread.left_out (is_lost unread.left_out) (λ i within. refl))
+    ∙ ap (λ (places : List ℕ). block_writes new (places_where (is_lost unread.left_out) ++ places)) (places_of_set stale (is_stale unread.lost old new) same)
+    ∙ ap (λ (block : List (List ℕ)). block_writes block (places_where (is_lost unread.left_out) ++ places_where (is_stale unread.lost old block))) is
+
+pub no_sectors : (block : List (List ℕ)) → block_writes block (sectors_of 0) ≡ []
 unfolding lost_places
-no_writes sectors = refl
+no_sectors block = refl

@@ -14,7 +14,7 @@ use Rattle.cartridge_spec.specs.HeaderAndTable.{TableIs}
 use Rattle.cartridge_spec.specs.Mounting.{settled}
 use Rattle.cartridge_spec.specs.Writes.{writes_of, changed_by}
 use Rattle.cartridge_spec.specs.Segment.{sector_at}
-use Rattle.cartridge_spec.specs.Says.{whole_mask}
+use Rattle.cartridge_spec.specs.Says.{whole_mask, with_parity}
 use Rattle.cartridge_spec.specs.Shape.{usable_places}
 use Rattle.gf256_qic.specs.Code.{parity_sectors}
 use Rattle.drive_states.specs.Deck.{is_protected, is_referenced}
@@ -32,8 +32,9 @@ use Rattle.volume_store.specs.Finding.{ShowsVolumes}
 use Rattle.volume_store.specs.Mounting.{HasLearnt, Settles, HasList}
 use Rattle.volume_table.proofs.Orders.{faultless_is_sound}
 use Rattle.std.proofs.lemmas.Option.{same_Some}
-use Rattle.mount_laws.specs.Settling.{settling_steps, block_writes, places_where, is_unsettled}
-use Rattle.volume_store.specs.Settling.{mending_steps, collected_block, is_stale}
+use Rattle.mount_laws.specs.Settling.{settling_steps, block_writes, settling_places}
+use Rattle.volume_store.specs.declared.table_reader.Unread.{Unread}
+use Rattle.volume_store.specs.Settling.{mending_steps, mending_places, collected_block}
 use Rattle.volume_store.proofs.Copies.{IsLearnt, told_learnt, tells_two}
 use Rattle.volume_store.proofs.Mending.{range_more}
 use Rattle.volume_store.proofs.Settled.{mending_settles, steps_settle, settled_list, writes_info}
@@ -82,11 +83,11 @@ last_below m host u fits =
 -- the writes of the workspace settle a cartridge that was learnt
 pub settles_learnt : (host : Host) (c : Cartridge) (words : List ℕ) (sectors : List (List ℕ)) (entries : List Entry) (learnt : Learnt) (protected : Bool) → length sectors ≡ 32 →
     protected ≡ is_protected (deck_of host) → IsLearnt host c → HasLearnt c words sectors entries learnt →
-    Settles c (header_of learnt.header) words entries (mending_steps protected learnt.lost sectors)
+    Settles c (header_of learnt.header) words entries (mending_steps protected learnt.unread sectors)
 settles_learnt host c words sectors entries learnt protected room mark known has = record {
   table = take 29 sectors;
   mounts = has.mounts;
-  settles = mending_settles c protected learnt.lost sectors room has.gathered (known.protected ∙ sym mark);
+  settles = mending_settles c protected learnt.unread sectors room has.known (known.protected ∙ sym mark);
 }
 
 -- writes to a cartridge that is there
@@ -99,10 +100,10 @@ pub settling_effects : (area : List (List ℕ)) (c : Cartridge) → effects (set
 settling_effects area c = by_mark c.info.protected
   where
     by_mark : (b : Bool) →
-        effects (if b then [] else block_writes (area ++ parity_sectors area) (places_where (is_unsettled c (area ++ parity_sectors area)))) (Some c)
-        ≡ Some (changed_by (if b then [] else block_writes (area ++ parity_sectors area) (places_where (is_unsettled c (area ++ parity_sectors area)))) c)
+        effects (if b then [] else block_writes (with_parity area) (settling_places c area)) (Some c)
+        ≡ Some (changed_by (if b then [] else block_writes (with_parity area) (settling_places c area)) c)
     by_mark true = refl
-    by_mark false = effects_changed (places_where (is_unsettled c (area ++ parity_sectors area))) (map (sector_at (area ++ parity_sectors area)) (places_where (is_unsettled c (area ++ parity_sectors area)))) c
+    by_mark false = effects_changed (settling_places c area) (map (sector_at (with_parity area)) (settling_places c area)) c
 
 settled_info : (area : List (List ℕ)) (c : Cartridge) → (settled area c).info ≡ c.info
 settled_info area c = by_mark c.info.protected
@@ -117,10 +118,10 @@ none_written [] sectors = refl
 none_written (p ∷ places) [] = refl
 none_written (p ∷ places) (bytes ∷ sectors) = none_written places sectors
 
-pub none_mended : (protected : Bool) (lost : ℕ) (sectors : List (List ℕ)) → effects (mending_steps protected lost sectors) None ≡ None
-none_mended true lost sectors = refl
-none_mended false lost sectors =
-    none_written (places_where (is_stale lost sectors (collected_block sectors))) (map (sector_at (collected_block sectors)) (places_where (is_stale lost sectors (collected_block sectors))))
+pub none_mended : (protected : Bool) (unread : Unread) (sectors : List (List ℕ)) → effects (mending_steps protected unread sectors) None ≡ None
+none_mended true unread sectors = refl
+none_mended false unread sectors =
+    none_written (mending_places unread sectors) (map (sector_at (collected_block sectors)) (mending_places unread sectors))
 
 -- what a told cartridge is after it was settled
 abbrev ListsWhereWritable : List Entry → Option Cartridge → Type 0
@@ -151,10 +152,10 @@ told_lists m old new header words entries steps right none done settles =
 -- where the tape tells, the settling's writes are those of the cartridge that was mounted
 pub told_settles : {T : Type 0} (m : Meaning T) (host : Host) (old : T) (u : UnitView T) (words : List ℕ) (sectors : List (List ℕ)) (entries : List Entry) (learnt : Learnt) →
     Fits m host u → AgreesWithTape m u → Done m old u.tape [] → length sectors ≡ 32 → Tells m old (λ c. HasLearnt c words sectors entries learnt) →
-    Tells m old (λ c. Settles c (header_of learnt.header) words entries (mending_steps (is_protected u.drive.deck) learnt.lost sectors))
+    Tells m old (λ c. Settles c (header_of learnt.header) words entries (mending_steps (is_protected u.drive.deck) learnt.unread sectors))
 told_settles m host old u words sectors entries learnt fits agrees read room has =
     tells_two m old (IsLearnt host) (λ c. HasLearnt c words sectors entries learnt)
-    (λ c. Settles c (header_of learnt.header) words entries (mending_steps (is_protected u.drive.deck) learnt.lost sectors))
+    (λ c. Settles c (header_of learnt.header) words entries (mending_steps (is_protected u.drive.deck) learnt.unread sectors))
     (λ c known mounted. settles_learnt host c words sectors entries learnt (is_protected u.drive.deck) room (ap is_protected fits.deck) known mounted)
     (Tells-read (IsLearnt host) read (told_learnt m host u fits agrees)) has
 

@@ -1,27 +1,33 @@
 -- The table's segment as it was collected, and what it says.
-use Rattle.std.proofs.Common.{◌≡◌, ℕ, ◌-◌, ◌<◌, ◌≤◌, zero, suc, Bool, cond, List, [], ◌∷◌, length, take, Option, Some, IsSomeAnd, Result, Err, refl, sym, ap, ◌∙◌, subst, inl, inr, arith, get_or, length-take}
+use Rattle.std.proofs.Common.{◌≡◌, ℕ, ◌-◌, ◌/◌, ◌%◌, ◌^◌, ◌<◌, ◌≤◌, zero, suc, Bool, cond, List, [], ◌∷◌, length, take, Option, Some, IsSomeAnd, Result, Ok, Err, IfOk, refl, sym, ap, ◌∙◌, subst, inl, inr, arith, get_or, length-take}
 use Rattle.std.specs.List.{slice_get}
+use Rattle.std.proofs.lemmas.Nat.Bits.{bit_at-zero}
 use Rattle.std.proofs.lemmas.List.{get_or-take, take_all}
 use Rattle.std.proofs.lemmas.Option.{slice_get-get_or, slice_get_within}
 use Rattle.qic_base.specs.Cartridge.{Cartridge}
-use Rattle.qic_base.specs.LostSet.{lost_places}
+use Rattle.qic_base.specs.LostSet.{lost_places, IsLost}
+use Rattle.qic_base.specs.Tape.{Meaning, Tells}
+use Rattle.qic_base.proofs.Steps.{Tells-map}
 use Rattle.qic_base.specs.declared.tape.SectorView.{SectorView}
 use Rattle.qic_base.specs.declared.tape.SectorView.TheVariants.{Blank, Defect, Lost, Holds}
 use Rattle.cartridge_spec.specs.Segment.{IsUnreadable, is_unreadable}
-use Rattle.cartridge_spec.specs.Says.{unreadable_count, unreadable_data, LosesData, ReadsAll, TableSays, ByCode, LostSectors, Mismatch, Says, Data, data_of}
+use Rattle.cartridge_spec.specs.Says.{unreadable_count, unreadable_data, LosesData, ReadsAll, TableSays, ByCode, LostSectors, data_of}
 use Rattle.cartridge_spec.specs.HeaderAndTable.{table_cells, TableIs}
-use Rattle.cartridge_spec.proofs.TableSayings.{says_code}
 use Rattle.cartridge_spec.proofs.Cells.{unreadable_count-first}
 use Rattle.cartridge_spec.specs.Shape.{Carries, usable_count}
 use Rattle.cartridge_spec.proofs.Segments.{length-whole_cells, count_of_whole, count_of_cells}
-use Rattle.segment_io.specs.Gathered.{Gathered, IsUnreadableAt}
-use Rattle.segment_io.specs.Reading.{Solves, HasSolved}
+use Rattle.segment_io.specs.Gathered.{Gathered, IsUnreadableAt, NamesUnreadable}
 use Rattle.segment_io.specs.declared.fault.SegFault.{SegFault}
 use Rattle.segment_io.specs.declared.fault.SegFault.TheVariants as seg
 use Rattle.segment_io.proofs.SolvedCells.{says_lost}
-use Rattle.volume_store.specs.Finding.{FindsTable}
+use Rattle.volume_store.specs.declared.table_reader.Unread.{Unread}
+use Rattle.cartridge_spec.specs.Table.{Entry}
+use Rattle.volume_store.specs.declared.fault.StoreFault.{StoreFault}
+use Rattle.volume_store.specs.declared.fault.StoreFault.TheVariants as store
+use Rattle.volume_store.specs.Finding.{FindsTable, FindsVolumes, DecodesTable}
+use Rattle.volume_store.specs.Reading.{IsReadBut, SolvesTable}
 
-get-take : {A : Type 0} (n : ℕ) (xs : List A) (i : ℕ) → i < n → slice_get (take n xs) i ≡ slice_get xs i
+pub get-take : {A : Type 0} (n : ℕ) (xs : List A) (i : ℕ) → i < n → slice_get (take n xs) i ≡ slice_get xs i
 get-take zero xs i h = absurd (omega arith)
 get-take (suc n) [] i h = refl
 get-take (suc n) (x ∷ xs) zero h = refl
@@ -89,27 +95,35 @@ pub finds_read : (c : Cartridge) (lost : ℕ) (sectors : List (List ℕ)) → le
 finds_read c lost sectors room gathered none =
     inl (collected_reads (table_cells c) lost sectors (length-whole_cells c 2) room gathered none)
 
--- .. and else those of the block that agrees
-pub finds_solved : (c : Cartridge) (lost : ℕ) (old new : List (List ℕ)) → length new ≡ 32 → Gathered (table_cells c) lost old → LosesData lost →
-    HasSolved (table_cells c) new → TableIs c (take 29 new)
-finds_solved c lost old new room gathered loses solved =
-    let says : Says (table_cells c) (Data (take 29 new)) =
-    subst (λ (area : List (List ℕ)). Says (table_cells c) (Data area)) (data_of-whole new (length (table_cells c)) (length-whole_cells c 2) room) solved.says in
-    inr (says_code (table_cells c) (Data (take 29 new)) (collected_loses (table_cells c) lost old gathered loses) says)
+-- .. and the other sectors stand as the tape holds them
+pub read_known : (cells : List SectorView) (lost : ℕ) (sectors : List (List ℕ)) (unread : Unread) → unread.lost ≡ lost → unread.left_out ≡ 0 → Gathered cells lost sectors →
+    IsReadBut cells unread sectors
+read_known cells lost sectors unread same none gathered = record {
+  lost = subst (NamesUnreadable cells) (sym same) gathered.unreadable;
+  left_out = λ i. (
+    λ there. absurd (no_bit i (subst (λ (set : ℕ). IsLost set i) none there)),
+    λ other. absurd (other.other (gathered.readable i other.bytes other.held)),
+  );
+  held = λ i bytes kept at. gathered.readable i bytes at;
+}
+  where
+    no_bit : (i : ℕ) → IsLost 0 i → ⊥
+    no_bit i there = let bit : 0 / 2 ^ i % 2 ≡ 0 = bit_at-zero i in absurd (omega arith)
 
--- the answer is a fault of the solving, ..
-finds_fault : (A : Type 0) (c : Cartridge) (lost : ℕ) (old new : List (List ℕ)) (fault : SegFault) → Gathered (table_cells c) lost old → LosesData lost →
-    Solves {A = Unit {0}} 2 (table_cells c) new (Err fault) → FindsTable {A = A} c new (Err fault)
-finds_fault A c lost old new (seg.Lost segment n) gathered loses solved =
-    (solved.0, says_code (table_cells c) (LostSectors n) (collected_loses (table_cells c) lost old gathered loses) solved.1)
-finds_fault A c lost old new (seg.Mismatch segment) gathered loses solved =
-    (solved.0, says_code (table_cells c) Mismatch (collected_loses (table_cells c) lost old gathered loses) solved.1)
-finds_fault A c lost old new seg.Tape gathered loses solved = solved
+-- .. and else those that the code says
+pub finds_solving : (c : Cartridge) (sectors : List (List ℕ)) (r : Result Unread SegFault) → SolvesTable (table_cells c) sectors r → FindsTable c sectors r
+finds_solving c sectors (Ok unread) solves = inr solves.says
+finds_solving c sectors (Err (seg.Lost segment n)) solves = absurd solves
+finds_solving c sectors (Err (seg.Mismatch segment)) solves = solves
+finds_solving c sectors (Err seg.Tape) solves = solves
 
-pub finds_answer : {A : Type 0} (c : Cartridge) (lost : ℕ) (old new : List (List ℕ)) (fault : SegFault) (r : Result A SegFault) → r ≡ Err fault → Gathered (table_cells c) lost old → LosesData lost →
-    Solves {A = Unit {0}} 2 (table_cells c) new (Err fault) → FindsTable c new r
-finds_answer {A} c lost old new fault r is gathered loses solved =
-    subst (λ (answer : Result A SegFault). FindsTable c new answer) (sym is) (finds_fault A c lost old new fault gathered loses solved)
+pub known_solving : {T : Type 0} (m : Meaning T) (tape : T) (lost : ℕ) (old new : List (List ℕ)) (r : Result Unread SegFault) →
+    ((cells : List SectorView) → length cells ≡ 32 → Gathered cells lost old → SolvesTable cells new r) → Tells m tape (λ c. Gathered (table_cells c) lost old) →
+    IfOk r (λ unread. Tells m tape (λ c. IsReadBut (table_cells c) unread new))
+known_solving m tape lost old new (Ok unread) solves told =
+    Tells-map m tape (λ c. Gathered (table_cells c) lost old) (λ c. IsReadBut (table_cells c) unread new)
+    (λ c gathered. (solves (table_cells c) (length-whole_cells c 2) gathered).known) told
+known_solving m tape lost old new (Err fault) solves told = tt
 
 -- .. or that more than three were lost
 pub finds_many : (c : Cartridge) (lost n : ℕ) (sectors : List (List ℕ)) → Gathered (table_cells c) lost sectors → LosesData lost →
@@ -118,19 +132,30 @@ finds_many c lost n sectors gathered loses count many =
     let few : length (table_cells c) ≤ 32 = omega (arith, length-whole_cells c 2) in
     (collected_loses (table_cells c) lost sectors gathered loses, says_lost (table_cells c) lost n few gathered.unreadable count many)
 
--- what can be read stands in its place after the solving too
-pub gathered_solved : (c : Cartridge) (lost : ℕ) (old new : List (List ℕ)) → Gathered (table_cells c) lost old → HasSolved (table_cells c) new →
-    Gathered (table_cells c) lost new
-gathered_solved c lost old new gathered solved = record {
-  unreadable = gathered.unreadable;
-  readable = λ i bytes at.
-      let within : i < length (table_cells c) = slice_get_within (table_cells c) i (Holds bytes) at in
-      sym (get-take (length (table_cells c)) new i within) ∙ solved.agrees.each i bytes at;
-}
-
 -- a whole segment carries data
 pub carries_whole : Carries 4294967295
 carries_whole = subst (λ (n : ℕ). 4 ≤ n) (sym count_of_whole) (omega arith)
 
 pub whole_count : (c : Cartridge) → length (table_cells c) ≡ usable_count 4294967295
 whole_count c = count_of_cells c 2 4294967295
+
+-- a slot at fault in the data is one in the table's
+pub finds_bad : (c : Cartridge) (last n : ℕ) (sectors area : List (List ℕ)) (entries : List Entry) (fault : StoreFault) (r : Result Unread StoreFault) → r ≡ Err fault → n ≡ last → area ≡ take 29 sectors →
+    TableIs c (take 29 sectors) → DecodesTable area n entries (Err fault) → FindsVolumes c last sectors entries r
+finds_bad c last n sectors area entries fault r is same here table decodes =
+    subst (λ (answer : Result Unread StoreFault). FindsVolumes c last sectors entries answer) (sym is)
+    (by_fault fault (subst (λ (k : ℕ). DecodesTable (take 29 sectors) k entries (Err fault)) same (subst (λ (a : List (List ℕ)). DecodesTable a n entries (Err fault)) here decodes)))
+  where
+    by_fault : (f : StoreFault) → DecodesTable (take 29 sectors) last entries (Err f) → FindsVolumes c last sectors entries (Err f)
+    by_fault (store.Foreign field value) bad = record { area = take 29 sectors; table = table; bad = bad }
+    by_fault store.NotFormatted bad = absurd bad
+    by_fault (store.Lost segment lost) bad = absurd bad
+    by_fault store.TableMismatch bad = absurd bad
+    by_fault (store.Full need have) bad = absurd bad
+    by_fault (store.NoVolume number count) bad = absurd bad
+    by_fault (store.Mismatch segment) bad = absurd bad
+    by_fault store.Protected bad = absurd bad
+    by_fault (store.Short promised read) bad = absurd bad
+    by_fault store.Source bad = absurd bad
+    by_fault store.Sink bad = absurd bad
+    by_fault store.Tape bad = absurd bad

@@ -10,22 +10,23 @@ use Rattle.cartridge_spec.specs.Slots.{slot_bytes, slot_sector, with_slot}
 use Rattle.cartridge_spec.specs.Table.{Entry, Shows}
 use Rattle.append_plan.specs.Between.{table_writes}
 use Rattle.mount_laws.specs.Settling.{settling_steps}
-use Rattle.segment_io.specs.Gathered.{Gathered}
 use Rattle.volume_store.specs.Mounting.{HasList}
+use Rattle.volume_store.specs.Reading.{IsReadBut}
 use Rattle.volume_store.specs.declared.fault.StoreFault.{StoreFault}
 use Rattle.volume_store.specs.declared.fault.StoreFault.TheVariants.{Lost, TableMismatch, Tape}
+use Rattle.volume_store.specs.declared.table_reader.Unread.{Unread}
 
 -- ---- read again
 
--- the first 29 sectors are the table's data; these sectors of its segment can't be read, and the others stand in their places
-pub record HasTable (c : Cartridge) (sectors : List (List ℕ)) (lost : ℕ) : Type 0 where
+-- the first 29 sectors are the table's data; all but these sectors of its segment stand as the tape holds them
+pub record HasTable (c : Cartridge) (sectors : List (List ℕ)) (unread : Unread) : Type 0 where
   pub table : TableIs c (take 29 sectors)
-  pub gathered : Gathered (table_cells c) lost sectors
+  pub known : IsReadBut (table_cells c) unread sectors
 
 -- What the table's segment is, where a list is known: its data; or that more than three sectors are lost; no code block that
 -- agrees, or another list, only where the segment doesn't show the list.
-abbrev pub FindsList : Cartridge → (sectors : List (List ℕ)) → (entries : List Entry) → Result ℕ StoreFault → Type 0
-FindsList c sectors entries (Ok lost) = HasTable c sectors lost
+abbrev pub FindsList : Cartridge → (sectors : List (List ℕ)) → (entries : List Entry) → Result Unread StoreFault → Type 0
+FindsList c sectors entries (Ok unread) = HasTable c sectors unread
 FindsList c sectors entries (Err (Lost segment lost)) = TableSays (table_cells c) (ByCode (LostSectors lost))
 FindsList c sectors entries (Err TableMismatch) = HasList c entries → ⊥
 FindsList c sectors entries (Err fault) = ⊥

@@ -16,10 +16,11 @@ use Rattle.cartridge_spec.specs.Mounting.{RefusesHeader}
 use Rattle.header_segments.specs.declared.header.Header.{Header}
 use Rattle.header_segments.specs.Header.{header_of}
 use Rattle.header_segments.specs.Laws.{AreTaken}
-use Rattle.segment_io.specs.Gathered.{Gathered}
 use Rattle.segment_io.specs.declared.fault.SegFault.{SegFault}
 use Rattle.segment_io.specs.declared.fault.SegFault.TheVariants as seg
 use Rattle.volume_store.specs.declared.fault.StoreFault.{StoreFault}
+use Rattle.volume_store.specs.declared.table_reader.Unread.{Unread}
+use Rattle.volume_store.specs.Reading.{IsReadBut}
 use Rattle.volume_store.specs.declared.fault.StoreFault.TheVariants.{Foreign, NotFormatted, Lost, TableMismatch, Tape}
 
 -- ---- the tape
@@ -162,11 +163,11 @@ DecodesTable area last entries (Ok done) = ShowsVolumes area last entries
 DecodesTable area last entries (Err (Foreign field value)) = HasBadSlot area last (fault_as field value)
 DecodesTable area last entries (Err fault) = ⊥
 
--- the first 29 sectors are the table's data, these sectors of segment 2 can't be read and the others stand in their
--- places, and the data show these volumes
-pub record HasVolumes (c : Cartridge) (last : ℕ) (sectors : List (List ℕ)) (entries : List Entry) (lost : ℕ) : Type 0 where
+-- the first 29 sectors are the table's data, all but these sectors of segment 2 stand as the tape holds them, and the data
+-- show these volumes
+pub record HasVolumes (c : Cartridge) (last : ℕ) (sectors : List (List ℕ)) (entries : List Entry) (unread : Unread) : Type 0 where
   pub table : TableIs c (take 29 sectors)
-  pub gathered : Gathered (table_cells c) lost sectors
+  pub known : IsReadBut (table_cells c) unread sectors
   pub volumes : ShowsVolumes (take 29 sectors) last entries
 
 -- the table's data have a slot at fault
@@ -176,8 +177,8 @@ pub record HasBadTable (c : Cartridge) (last : ℕ) (fault : HeaderFault) : Type
   pub bad : HasBadSlot area last fault
 
 -- what the volume table is
-abbrev pub FindsVolumes : Cartridge → (last : ℕ) (sectors : List (List ℕ)) (entries : List Entry) → Result ℕ StoreFault → Type 0
-FindsVolumes c last sectors entries (Ok lost) = HasVolumes c last sectors entries lost
+abbrev pub FindsVolumes : Cartridge → (last : ℕ) (sectors : List (List ℕ)) (entries : List Entry) → Result Unread StoreFault → Type 0
+FindsVolumes c last sectors entries (Ok unread) = HasVolumes c last sectors entries unread
 FindsVolumes c last sectors entries (Err (Lost segment lost)) = (segment ≡ 2) × TableSays (table_cells c) (says.ByCode (says.LostSectors lost))
 FindsVolumes c last sectors entries (Err TableMismatch) = TableSays (table_cells c) (says.ByCode says.Mismatch)
 FindsVolumes c last sectors entries (Err (Foreign field value)) = HasBadTable c last (fault_as field value)

@@ -17,10 +17,10 @@ use Rattle.drive_states.specs.Unit.{UnitView}
 use Rattle.host_driver.specs.declared.host.Host.{Host}
 use Rattle.host_driver.specs.Fits.{Fits, IsAtRest, AgreesWithTape, segments_of}
 use Rattle.header_segments.specs.Header.{header_of}
-use Rattle.segment_io.specs.Gathered.{Gathered}
 use Rattle.volume_store.specs.declared.fault.StoreFault.{StoreFault}
 use Rattle.volume_store.specs.declared.fault.StoreFault.TheVariants.{NotFormatted, Foreign, Lost, TableMismatch, Tape}
 use Rattle.volume_store.specs.declared.learning.Learnt.{Learnt}
+use Rattle.volume_store.specs.Reading.{IsReadBut}
 use Rattle.mount_laws.specs.Settling.{settling_steps}
 
 -- ---- refusals
@@ -35,11 +35,11 @@ MountRefuses c fault = ⊥
 
 -- ---- what was learnt
 
--- the cartridge mounts with this header, these words and these entries, and the sectors of its segment 2 that can be
--- read stand in their places
+-- the cartridge mounts with this header, these words and these entries, and the sectors of its segment 2 stand as the tape
+-- holds them, but for these
 pub record HasLearnt (c : Cartridge) (words : List ℕ) (sectors : List (List ℕ)) (entries : List Entry) (learnt : Learnt) : Type 0 where
   pub mounts : Mounts c (mounting.Mounted (header_of learnt.header) words (take 29 sectors) entries)
-  pub gathered : Gathered (table_cells c) learnt.lost sectors
+  pub known : IsReadBut (table_cells c) learnt.unread sectors
 
 abbrev pub Learns : Cartridge → (words : List ℕ) (sectors : List (List ℕ)) (entries : List Entry) → Result Learnt StoreFault → Type 0
 Learns c words sectors entries (Ok learnt) = HasLearnt c words sectors entries learnt

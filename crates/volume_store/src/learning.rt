@@ -11,21 +11,22 @@ ghost use Rattle.volume_store.specs.Mounting.{Learns};
 
 use crate::fault::StoreFault;
 use crate::header_reader::read_header;
+use crate::table_reader::Unread;
 use crate::volume_reader::read_volumes;
 use bad_sector_map::BadMap;
 use drive_states::Unit;
 use header_segments::Header;
 use host_driver::Host;
-use qic_base::{LostSet, Tape};
+use qic_base::Tape;
 use qic117_commands::Mode;
 use segment_io::Workspace;
 use volume_table::Table;
 
-/// The header in force, and the sectors of the volume table's segment that can't be read.
+/// The header in force, and the sectors of the volume table's segment that the tape may hold otherwise.
 #[derive(Clone, Copy)]
 pub(crate) struct Learnt {
     pub header: Header,
-    pub lost: LostSet,
+    pub unread: Unread,
 }
 
 // Has the drive stop the tape and enter Primary mode.
@@ -70,6 +71,6 @@ pub(crate) fn learn<T: Tape>(
 {
     enter_primary(host, unit)?;
     let header = read_header(host, unit, work, map)?;
-    let lost = read_volumes(host, unit, work, table)?;
-    Ok(Learnt { header, lost })
+    let unread = read_volumes(host, unit, work, table)?;
+    Ok(Learnt { header, unread })
 }

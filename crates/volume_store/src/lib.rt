@@ -18,4 +18,4 @@ pub use appended::Appended;
 pub use fault::StoreFault;
 pub use segment_mending::ScrubReport;
 pub use store::Store;
-pub use table_reader::read_table;
+pub use table_reader::{Unread, read_table};

@@ -13,22 +13,22 @@ ghost use Rattle.volume_table.specs.Entry.{entry_of};
 
 use crate::fault::StoreFault;
 use crate::settling::settle;
-use crate::table_reader::{data_sectors, read_table};
+use crate::table_reader::{Unread, data_sectors, read_table};
 use crate::table_writer::write_entry;
 use crate::volume_reader::table_fault;
 use drive_states::Unit;
 use host_driver::Host;
-use qic_base::{LostSet, Tape};
+use qic_base::Tape;
 use segment_io::Workspace;
 use volume_table::{Entry, Table};
 
-// Reads the table's segment, whose data have to show the list. The answer is the places of the sectors that can't be read.
+// Reads the table's segment, whose data have to show the list. The answer is the sectors that the tape may hold otherwise.
 fn read_list<T: Tape>(
     host: &mut Host,
     unit: &mut Unit<T>,
     work: &mut Workspace,
     table: &Table,
-) -> Result<LostSet, StoreFault>
+) -> Result<Unread, StoreFault>
     requires ready { IsReady T.means host.old unit.old }
     requires mode { reads_in unit.old.drive.deck.mode ≡ true }
     requires referenced { is_referenced unit.old.drive.deck ≡ true }
@@ -41,9 +41,9 @@ fn read_list<T: Tape>(
     ensures keeps { Keeps T.means host.new unit.old unit.new }
 {
     match read_table(host, unit, work) {
-        Ok(lost) => {
+        Ok(unread) => {
             if table.is_shown_by(data_sectors(work)) {
-                Ok(lost)
+                Ok(unread)
             } else {
                 Err(StoreFault::TableMismatch)
             }
@@ -67,8 +67,8 @@ pub(crate) fn settle_again<T: Tape>(
     ensures kind { IsOfReading result }
     ensures keeps { Keeps T.means host.new unit.old unit.new }
 {
-    let lost = read_list(host, unit, work, table)?;
-    settle(host, unit, lost, work)
+    let unread = read_list(host, unit, work, table)?;
+    settle(host, unit, unread, work)
 }
 
 /// Reads the table's segment again, whose data have to show the list, and writes it with the entry in the next slot, which

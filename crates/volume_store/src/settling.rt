@@ -8,15 +8,18 @@ ghost use Rattle.qic117_commands.specs.Views.{is_primary};
 ghost use Rattle.gf256_qic.specs.Code.{parity_sectors};
 ghost use Rattle.erasure_solve.specs.Lost.{is_lost};
 ghost use Rattle.drive_states.specs.Deck.{is_protected, is_referenced};
-ghost use Rattle.host_driver.specs.Calls.{IsReady, Keeps};
+ghost use Rattle.cartridge_spec.specs.Shape.{sectors_of};
+ghost use Rattle.mount_laws.specs.Settling.{block_writes};
+ghost use Rattle.host_driver.specs.Calls.{IsReady, MayWrite, Keeps};
 ghost use Rattle.volume_store.specs.Settling.{collected_block, is_stale, mending_steps};
 
 use crate::fault::StoreFault;
-use crate::table_reader::{DATA_SECTORS, TABLE_SEGMENT, WHOLE, data_sectors};
+use crate::table_reader::{DATA_SECTORS, Unread, data_sectors};
+use crate::table_writer::write_places;
 use drive_states::Unit;
 use host_driver::Host;
 use qic_base::{LostSet, Tape};
-use segment_io::{Workspace, write_sectors};
+use segment_io::Workspace;
 use segment_parity::parity_of;
 
 /// The places of a whole segment's parity.
@@ -62,12 +65,35 @@ fn renew_parity(lost: LostSet, work: &mut Workspace) -> LostSet
     LostSet::from_mask(stale)
 }
 
-/// Settles the volume table's segment, whose sectors were read and solved, all but the lost ones. Nothing is written on a
-/// protected cartridge. Where nothing is to be written the tape stays where it is.
+// Writes the sectors of the table's segment at these places, ascending, where there are any.
+fn write_some<T: Tape>(
+    host: &mut Host,
+    unit: &mut Unit<T>,
+    places: LostSet,
+    work: &Workspace,
+) -> Result<(), StoreFault>
+    requires ready { IsReady T.means host.old unit.old }
+    requires referenced { is_referenced unit.old.drive.deck ≡ true }
+    requires writable { MayWrite unit.old.drive.deck }
+    requires within { places < 2 ^ 32 }
+    ensures did { Does T.means unit.old.tape unit.new.tape
+        (block_writes work.now (sectors_of places)) result }
+    ensures fault { IsOkUnless result StoreFault.Tape }
+    ensures keeps { Keeps T.means host.new unit.old unit.new }
+{
+    if places.mask() == 0 {
+        return Ok(());
+    }
+    write_places(host, unit, places, work)
+}
+
+/// Settles the volume table's segment, whose sectors were read and solved: first the sector that was left out is written,
+/// and then the others that the tape doesn't hold so, ascending. Nothing is written on a protected cartridge. Where nothing
+/// is to be written the tape stays where it is.
 pub(crate) fn settle<T: Tape>(
     host: &mut Host,
     unit: &mut Unit<T>,
-    lost: LostSet,
+    unread: Unread,
     work: &mut Workspace,
 ) -> Result<(), StoreFault>
     requires ready { IsReady T.means host.old unit.old }
@@ -75,7 +101,7 @@ pub(crate) fn settle<T: Tape>(
     requires referenced { is_referenced unit.old.drive.deck ≡ true }
     requires room { length work.old ≡ 32 }
     ensures did { Does T.means unit.old.tape unit.new.tape
-        (mending_steps (is_protected unit.old.drive.deck) lost work.old) result }
+        (mending_steps (is_protected unit.old.drive.deck) unread work.old) result }
     ensures data { take 29 work.new ≡ take 29 work.old }
     ensures fault { IsOkUnless result StoreFault.Tape }
     ensures keeps { Keeps T.means host.new unit.old unit.new }
@@ -83,12 +109,7 @@ pub(crate) fn settle<T: Tape>(
     if host.protected() {
         return Ok(());
     }
-    let stale = renew_parity(lost, work);
-    if stale.mask() == 0 {
-        return Ok(());
-    }
-    match write_sectors(host, unit, TABLE_SEGMENT, WHOLE, stale, work) {
-        Ok(()) => Ok(()),
-        Err(_) => Err(StoreFault::Tape),
-    }
+    let stale = renew_parity(unread.lost, work);
+    write_some(host, unit, unread.left_out, work)?;
+    write_some(host, unit, stale, work)
 }

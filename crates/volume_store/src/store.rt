@@ -107,7 +107,7 @@ impl Store {
         ensures size { T.means.size unit.new.tape ≡ T.means.size unit.old.tape }
     {
         let learnt = learn(&mut host, unit, &mut work, &mut map, &mut table)?;
-        settle(&mut host, unit, learnt.lost, &mut work)?;
+        settle(&mut host, unit, learnt.unread, &mut work)?;
         Ok(Store {
             host,
             work,

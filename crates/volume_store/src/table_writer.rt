@@ -75,7 +75,7 @@ fn put_entry(entry: &Entry, work: &mut Workspace, table: &mut Table) -> u8
 }
 
 // Writes the sectors of the table's segment at these places, ascending.
-fn write_places<T: Tape>(
+pub(crate) fn write_places<T: Tape>(
     host: &mut Host,
     unit: &mut Unit<T>,
     places: LostSet,

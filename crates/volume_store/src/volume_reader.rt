@@ -9,10 +9,10 @@ ghost use Rattle.host_driver.specs.Fits.{segments_of};
 ghost use Rattle.volume_store.specs.Finding.{Leaves, NamesCause, RefusesMounting, FindsVolumes, ShowsVolumes, DecodesTable, refusal_of};
 
 use crate::fault::StoreFault;
-use crate::table_reader::{data_sectors, read_table};
+use crate::table_reader::{Unread, data_sectors, read_table};
 use drive_states::Unit;
 use host_driver::Host;
-use qic_base::{ForeignField, LostSet, Tape};
+use qic_base::{ForeignField, Tape};
 use segment_io::{SegFault, Workspace};
 use volume_table::{Table, TableFault};
 
@@ -48,14 +48,14 @@ fn decode_table(table: &mut Table, area: &[[u8; 1024]], last: u32) -> Result<(),
     }
 }
 
-/// Reads the volume table's segment and the list of volumes in its data. The answer is the places of the sectors that
-/// can't be read.
+/// Reads the volume table's segment and the list of volumes in its data. The answer is the sectors that the tape may hold
+/// otherwise.
 pub(crate) fn read_volumes<T: Tape>(
     host: &mut Host,
     unit: &mut Unit<T>,
     work: &mut Workspace,
     table: &mut Table,
-) -> Result<LostSet, StoreFault>
+) -> Result<Unread, StoreFault>
     requires ready { IsReady T.means host.old unit.old }
     requires mode { reads_in unit.old.drive.deck.mode ≡ true }
     requires referenced { is_referenced unit.old.drive.deck ≡ true }
@@ -71,9 +71,9 @@ pub(crate) fn read_volumes<T: Tape>(
 {
     let last = 28 * u32::from(host.geometry().segments_per_track()) - 1;
     match read_table(host, unit, work) {
-        Ok(lost) => {
+        Ok(unread) => {
             decode_table(table, data_sectors(work), last)?;
-            Ok(lost)
+            Ok(unread)
         }
         Err(fault) => Err(table_fault(fault)),
     }

@@ -20,24 +20,24 @@ pub returns-clause-did : goal.returns-clause-did
 returns-clause-did g c =
     let first : Done g.T.Tape.means c.args.unit.now.tape c.read_header.new.unit.tape [] =
     subst (λ tape. Done g.T.Tape.means tape c.read_header.new.unit.tape []) c.in_ok-enter_primary.ensures.tape c.in_ok-header.ensures.did in
-    Done-after_reads first c.in_ok-lost.ensures.did
+    Done-after_reads first c.in_ok-unread.ensures.did
 
-pub returns-in_err-lost-clause-did : goal.returns-in_err-lost-clause-did
-returns-in_err-lost-clause-did g c =
-    let fault : StoreFault = c.in_err-lost.field-0.0 in
-    let is : c.from_residual-in_err-lost.result ≡ Err fault =
-    grind (arith, common_steps, c.from_residual-in_err-lost.ensures) in
+pub returns-in_err-unread-clause-did : goal.returns-in_err-unread-clause-did
+returns-in_err-unread-clause-did g c =
+    let fault : StoreFault = c.in_err-unread.field-0.0 in
+    let is : c.from_residual-in_err-unread.result ≡ Err fault =
+    grind (arith, common_steps, c.from_residual-in_err-unread.ensures) in
     let first : Done g.T.Tape.means c.args.unit.now.tape c.read_header.new.unit.tape [] =
     subst (λ tape. Done g.T.Tape.means tape c.read_header.new.unit.tape []) c.in_ok-enter_primary.ensures.tape c.in_ok-header.ensures.did in
-    leaves_after g.T.Tape.means c.args.unit.now.tape c.read_header.new.unit.tape c.read_volumes.new.unit.tape [] c.from_residual-in_err-lost.result first
-    (leaves_on g.T.Tape.means c.read_header.new.unit.tape c.read_volumes.new.unit.tape [] fault c.from_residual-in_err-lost.result is c.in_err-lost.ensures.did)
+    leaves_after g.T.Tape.means c.args.unit.now.tape c.read_header.new.unit.tape c.read_volumes.new.unit.tape [] c.from_residual-in_err-unread.result first
+    (leaves_on g.T.Tape.means c.read_header.new.unit.tape c.read_volumes.new.unit.tape [] fault c.from_residual-in_err-unread.result is c.in_err-unread.ensures.did)
 
-pub returns-in_err-lost-clause-found : goal.returns-in_err-lost-clause-found
-returns-in_err-lost-clause-found g c = λ sound.
+pub returns-in_err-unread-clause-found : goal.returns-in_err-unread-clause-found
+returns-in_err-unread-clause-found g c = λ sound.
     let m = g.T.Tape.means in
-    let fault : StoreFault = c.in_err-lost.field-0.0 in
-    let is : c.from_residual-in_err-lost.result ≡ Err fault =
-    grind (arith, common_steps, c.from_residual-in_err-lost.ensures) in
+    let fault : StoreFault = c.in_err-unread.field-0.0 in
+    let is : c.from_residual-in_err-unread.result ≡ Err fault =
+    grind (arith, common_steps, c.from_residual-in_err-unread.ensures) in
     let apart : fault ≢ Tape = λ same. sound (is ∙ ap Err same) in
     let host : Host = c.read_header.new.host in
     let header : Header = c.in_ok-header.header in
@@ -55,8 +55,8 @@ returns-in_err-lost-clause-found g c = λ sound.
     let both : Tells m c.args.unit.now.tape (λ c'. IsLearnt host c' × HasFormat c' words header) =
     tells_two m c.args.unit.now.tape (IsLearnt host) (λ c'. HasFormat c' words header) (λ c'. IsLearnt host c' × HasFormat c' words header) (λ c' one two. (one, two)) learnt format in
     let table : Tells m c.args.unit.now.tape (λ c'. FindsVolumes c' last sectors entries (Err fault)) =
-    Tells-read (λ c'. FindsVolumes c' last sectors entries (Err fault)) first (c.in_err-lost.ensures.found (λ same. apart (cc))) in
+    Tells-read (λ c'. FindsVolumes c' last sectors entries (Err fault)) first (c.in_err-unread.ensures.found (λ same. apart (cc))) in
     tells_two m c.args.unit.now.tape (λ c'. IsLearnt host c' × HasFormat c' words header) (λ c'. FindsVolumes c' last sectors entries (Err fault))
-    (λ c'. Learns c' words sectors entries c.from_residual-in_err-lost.result)
+    (λ c'. Learns c' words sectors entries c.from_residual-in_err-unread.result)
     (λ c' known found. subst (λ (answer : Result Learnt StoreFault). Learns c' words sectors entries answer) (sym is)
     (refuses_table host c' words header sectors entries fault known.0 known.1 found)) both table

@@ -2,7 +2,7 @@ use Rattle.std.proofs.Common.{◌≡◌, ◌++◌, ◌∷◌, [], ℕ, List, tak
 use Rattle.std.proofs.lemmas.Grind.{common_steps}
 use Rattle.std.proofs.lemmas.List.{length-take-le}
 use Rattle.qic_base.specs.Tape.{Tells}
-use Rattle.qic_base.specs.declared.lost_set.LostSet.{LostSet}
+use Rattle.volume_store.specs.declared.table_reader.Unread.{Unread}
 use Rattle.qic_base.proofs.Steps.{Tells-map}
 use Rattle.cartridge_spec.specs.HeaderAndTable.{TableIs}
 use Rattle.cartridge_spec.specs.Table.{Entry, Shows}
@@ -48,7 +48,7 @@ pub returns-in_err-read_list-clause-kind : goal.returns-in_err-read_list-clause-
 returns-in_err-read_list-clause-kind g c =
     let fault : StoreFault = c.in_err-read_list.field-0.0 in
     let is : c.from_residual.result ≡ Err fault = grind (arith, common_steps, c.from_residual.ensures) in
-    reads_on LostSet fault c.from_residual.result is c.in_err-read_list.ensures.kind
+    reads_on Unread fault c.from_residual.result is c.in_err-read_list.ensures.kind
 
 pub returns-clause-either : goal.returns-clause-either
 returns-clause-either g c = inr c.write_entry.ensures.list

@@ -6,6 +6,7 @@ use Rattle.cartridge_spec.specs.Table.{Entry, Shows}
 use Rattle.segment_io.specs.declared.fault.SegFault.{SegFault}
 use Rattle.segment_io.specs.declared.fault.SegFault.TheVariants as seg
 use Rattle.volume_store.specs.declared.fault.StoreFault.{StoreFault}
+use Rattle.volume_store.specs.declared.table_reader.Unread.{Unread}
 use Rattle.volume_store.specs.Again.{FindsList}
 use Rattle.volume_store.specs.Finding.{FindsTable, refusal_of}
 use Rattle.volume_store.specs.Mounting.{HasList}
@@ -29,5 +30,5 @@ returns-in-Err-clause-found g c = λ sound.
     let fault : SegFault = c.in-Err.fault in
     let apart : fault ≢ seg.Tape = λ same. sound (ap Err (c.table_fault.ensures ∙ ap refusal_of same)) in
     subst (λ (f : StoreFault). Tells m c.args.unit.now.tape (λ c'. FindsList c' sectors entries (Err f))) (sym c.table_fault.ensures)
-    (Tells-map m c.args.unit.now.tape (λ c'. FindsTable {A = ℕ} c' sectors (Err fault)) (λ c'. FindsList c' sectors entries (Err (refusal_of fault)))
+    (Tells-map m c.args.unit.now.tape (λ c'. FindsTable {A = Unread} c' sectors (Err fault)) (λ c'. FindsList c' sectors entries (Err (refusal_of fault)))
     (λ c' found. finds_fault c' sectors entries fault found) (c.in-Err.ensures.found (λ same. apart (cc))))

@@ -1,6 +1,6 @@
 use Rattle.std.proofs.Common.{◌≡◌, ℕ, List, take, Err, arith}
 use Rattle.std.proofs.lemmas.Grind.{common_steps}
-use Rattle.qic_base.specs.declared.lost_set.LostSet.{LostSet}
+use Rattle.volume_store.specs.declared.table_reader.Unread.{Unread}
 use Rattle.drive_states.specs.Deck.{is_protected}
 use Rattle.volume_store.specs.declared.fault.StoreFault.{StoreFault}
 use Rattle.volume_store.specs.Settling.{mending_steps}
@@ -12,23 +12,23 @@ returns-clause-did g c =
     let m = g.T.Tape.means in
     let sectors : List (List ℕ) = c.read_list.new.work in
     settled_by m c.args.unit.now.tape c.read_list.new.unit.tape c.settle.new.unit.tape c.args.table.now (take 29 sectors) c.settle.new.work
-    (mending_steps (is_protected c.read_list.new.unit.drive.deck) c.in_ok-lost.lost sectors) c.settle.result
-    c.in_ok-lost.ensures.did c.settle.ensures.did c.settle.ensures.fault c.in_ok-lost.ensures.shown c.settle.ensures.data
-    (told_mending m c.read_list.new.host c.args.unit.now.tape c.read_list.new.unit sectors c.in_ok-lost.lost c.in_ok-lost.ensures.keeps.ready.fits
-    (c.in_ok-lost.ensures.keeps.agrees c.requires.agrees) c.in_ok-lost.ensures.did c.in_ok-lost.ensures.room (c.in_ok-lost.ensures.found (λ same. cc)))
+    (mending_steps (is_protected c.read_list.new.unit.drive.deck) c.in_ok-unread.unread sectors) c.settle.result
+    c.in_ok-unread.ensures.did c.settle.ensures.did c.settle.ensures.fault c.in_ok-unread.ensures.shown c.settle.ensures.data
+    (told_mending m c.read_list.new.host c.args.unit.now.tape c.read_list.new.unit sectors c.in_ok-unread.unread c.in_ok-unread.ensures.keeps.ready.fits
+    (c.in_ok-unread.ensures.keeps.agrees c.requires.agrees) c.in_ok-unread.ensures.did c.in_ok-unread.ensures.room (c.in_ok-unread.ensures.found (λ same. cc)))
 
 pub returns-clause-kind : goal.returns-clause-kind
 returns-clause-kind g c = reads_unless c.settle.result c.settle.ensures.fault
 
-pub returns-in_err-lost-clause-did : goal.returns-in_err-lost-clause-did
-returns-in_err-lost-clause-did g c =
-    let fault : StoreFault = c.in_err-lost.field-0.0 in
+pub returns-in_err-unread-clause-did : goal.returns-in_err-unread-clause-did
+returns-in_err-unread-clause-did g c =
+    let fault : StoreFault = c.in_err-unread.field-0.0 in
     let is : c.from_residual.result ≡ Err fault = grind (arith, common_steps, c.from_residual.ensures) in
     settles_refused g.T.Tape.means c.args.unit.now.tape c.read_list.new.unit.tape c.args.table.now c.read_list.new.work c.read_list.new.work fault c.from_residual.result is
-    c.in_err-lost.ensures.did (λ apart. c.in_err-lost.ensures.found (λ same. apart (cc))) c.in_err-lost.ensures.kind
+    c.in_err-unread.ensures.did (λ apart. c.in_err-unread.ensures.found (λ same. apart (cc))) c.in_err-unread.ensures.kind
 
-pub returns-in_err-lost-clause-kind : goal.returns-in_err-lost-clause-kind
-returns-in_err-lost-clause-kind g c =
-    let fault : StoreFault = c.in_err-lost.field-0.0 in
+pub returns-in_err-unread-clause-kind : goal.returns-in_err-unread-clause-kind
+returns-in_err-unread-clause-kind g c =
+    let fault : StoreFault = c.in_err-unread.field-0.0 in
     let is : c.from_residual.result ≡ Err fault = grind (arith, common_steps, c.from_residual.ensures) in
-    reads_on LostSet fault c.from_residual.result is c.in_err-lost.ensures.kind
+    reads_on Unread fault c.from_residual.result is c.in_err-unread.ensures.kind

@@ -1,20 +1,18 @@
-use Rattle.std.proofs.Common.{◌≡◌, ◌<◌, ℕ, take, refl, sym, subst, arith, Err}
-use Rattle.std.proofs.lemmas.Grind.{common_steps}
+use Rattle.std.proofs.Common.{◌≡◌, ◌<◌, ℕ, take, refl, sym, subst, arith}
 use Rattle.qic_base.proofs.Steps.{Tells-map}
 use Rattle.cartridge_spec.specs.Says.{LosesData, LostSectors, ByCode, TableSays}
 use Rattle.cartridge_spec.specs.HeaderAndTable.{table_cells, TableIs}
 use Rattle.segment_io.specs.Gathered.{Gathered}
 use Rattle.segment_io.proofs.Going.{front_segment}
-use Rattle.segment_io.specs.declared.fault.SegFault.{SegFault}
+use Rattle.volume_store.specs.declared.table_reader.Unread.{Unread}
 use Rattle.volume_store.specs.Finding.{FindsTable}
-use Rattle.volume_store.proofs.TableSegment.{finds_read, finds_solved, finds_answer, finds_many, gathered_solved, carries_whole, whole_count}
+use Rattle.volume_store.specs.Reading.{IsReadBut}
+use Rattle.cartridge_spec.proofs.Segments.{length-whole_cells}
+use Rattle.volume_store.proofs.TableSegment.{finds_read, finds_many, finds_solving, known_solving, read_known}
 use Rattle.volume_store.proofs.table_reader.read_table.Goals as goal
 
 pub collect-requires-clause-segment : goal.collect-requires-clause-segment
 collect-requires-clause-segment g c = front_segment 2 c.requires.ready.fits c.requires.referenced (omega arith)
-
-pub solve_collected-requires : goal.solve_collected-requires
-solve_collected-requires g c = carries_whole
 
 pub returns-in-AsRead-clause-found : goal.returns-in-AsRead-clause-found
 returns-in-AsRead-clause-found g c = λ sound.
@@ -22,21 +20,6 @@ returns-in-AsRead-clause-found g c = λ sound.
     let none : ¬ (LosesData lost) = (c.in-AsRead.ensures.as_read).0 refl in
     Tells-map g.T.Tape.means c.args.unit.now.tape (λ c'. Gathered (table_cells c') lost c.collect.new.work) (λ c'. TableIs c' (take 29 c.collect.new.work))
     (λ c' gathered. finds_read c' lost c.collect.new.work c.in_ok-lost.ensures.room gathered none) c.in_ok-lost.ensures.gathered
-
-pub returns-in_ok-solve_collected-in-Solve-clause-found : goal.returns-in_ok-solve_collected-in-Solve-clause-found
-returns-in_ok-solve_collected-in-Solve-clause-found g c = λ sound.
-    let lost : ℕ = c.in_ok-lost.lost in
-    let loses : LosesData lost = ((c.in-Solve.ensures.solve).0 refl).0 in
-    Tells-map g.T.Tape.means c.args.unit.now.tape (λ c'. Gathered (table_cells c') lost c.collect.new.work) (λ c'. TableIs c' (take 29 c.solve_collected.new.work))
-    (λ c' gathered. finds_solved c' lost c.collect.new.work c.solve_collected.new.work c.in_ok-solve_collected-in-Solve.ensures.room gathered loses
-    (c.in_ok-solve_collected-in-Solve.ensures.solves (table_cells c') (whole_count c') gathered)) c.in_ok-lost.ensures.gathered
-
-pub returns-in_ok-solve_collected-in-Solve-clause-gathered : goal.returns-in_ok-solve_collected-in-Solve-clause-gathered
-returns-in_ok-solve_collected-in-Solve-clause-gathered g c =
-    let lost : ℕ = c.in_ok-lost.lost in
-    Tells-map g.T.Tape.means c.args.unit.now.tape (λ c'. Gathered (table_cells c') lost c.collect.new.work) (λ c'. Gathered (table_cells c') lost c.solve_collected.new.work)
-    (λ c' gathered. gathered_solved c' lost c.collect.new.work c.solve_collected.new.work gathered
-    (c.in_ok-solve_collected-in-Solve.ensures.solves (table_cells c') (whole_count c') gathered)) c.in_ok-lost.ensures.gathered
 
 pub returns-in-TooMany-clause-found : goal.returns-in-TooMany-clause-found
 returns-in-TooMany-clause-found g c = λ sound.
@@ -52,22 +35,19 @@ returns-in-TooMany-clause-many g c = λ named n same.
     let count : c.in-TooMany.lost ≡ n = cc in
     (sym one, subst (λ (k : ℕ). 3 < k) count many.2)
 
-pub returns-in_err-solve_collected-in-Solve-clause-found : goal.returns-in_err-solve_collected-in-Solve-clause-found
-returns-in_err-solve_collected-in-Solve-clause-found g c = λ sound.
+pub returns-in-AsRead-clause-known : goal.returns-in-AsRead-clause-known
+returns-in-AsRead-clause-known g c =
     let lost : ℕ = c.in_ok-lost.lost in
-    let fault : SegFault = c.in_err-solve_collected-in-Solve.field-0.0 in
-    let is : c.from_residual-in_err-solve_collected-in-Solve.result ≡ Err fault =
-    grind (arith, common_steps, c.from_residual-in_err-solve_collected-in-Solve.ensures) in
-    let loses : LosesData lost = ((c.in-Solve.ensures.solve).0 refl).0 in
-    Tells-map g.T.Tape.means c.args.unit.now.tape (λ c'. Gathered (table_cells c') lost c.collect.new.work)
-    (λ c'. FindsTable c' c.solve_collected.new.work c.from_residual-in_err-solve_collected-in-Solve.result)
-    (λ c' gathered. finds_answer c' lost c.collect.new.work c.solve_collected.new.work fault c.from_residual-in_err-solve_collected-in-Solve.result is gathered loses
-    (c.in_err-solve_collected-in-Solve.ensures.solves (table_cells c') (whole_count c') gathered)) c.in_ok-lost.ensures.gathered
+    let unread : Unread = record { lost = c.in_ok-lost.lost; left_out = c.from_mask.result } in
+    Tells-map g.T.Tape.means c.args.unit.now.tape (λ c'. Gathered (table_cells c') lost c.collect.new.work) (λ c'. IsReadBut (table_cells c') unread c.collect.new.work)
+    (λ c' gathered. read_known (table_cells c') lost c.collect.new.work unread refl c.from_mask.ensures gathered) c.in_ok-lost.ensures.gathered
 
-pub returns-in_err-solve_collected-in-Solve-clause-many : goal.returns-in_err-solve_collected-in-Solve-clause-many
-returns-in_err-solve_collected-in-Solve-clause-many g c =
-    λ named n. grind (arith, common_steps, c.in_err-solve_collected-in-Solve.ensures.many named n, c.from_residual-in_err-solve_collected-in-Solve.ensures)
+pub returns-in-Solve-clause-found : goal.returns-in-Solve-clause-found
+returns-in-Solve-clause-found g c = λ sound.
+    let lost : ℕ = c.in_ok-lost.lost in
+    Tells-map g.T.Tape.means c.args.unit.now.tape (λ c'. Gathered (table_cells c') lost c.collect.new.work) (λ c'. FindsTable c' c.solve_table.new.work c.solve_table.result)
+    (λ c' gathered. finds_solving c' c.solve_table.new.work c.solve_table.result (c.solve_table.ensures.solves (table_cells c') (length-whole_cells c' 2) gathered)) c.in_ok-lost.ensures.gathered
 
-pub returns-in_err-solve_collected-in-Solve-clause-mismatch : goal.returns-in_err-solve_collected-in-Solve-clause-mismatch
-returns-in_err-solve_collected-in-Solve-clause-mismatch g c =
-    λ named. grind (arith, common_steps, c.in_err-solve_collected-in-Solve.ensures.mismatch named, c.from_residual-in_err-solve_collected-in-Solve.ensures)
+pub returns-in-Solve-clause-known : goal.returns-in-Solve-clause-known
+returns-in-Solve-clause-known g c =
+    known_solving g.T.Tape.means c.args.unit.now.tape c.in_ok-lost.lost c.collect.new.work c.solve_table.new.work c.solve_table.result c.solve_table.ensures.solves c.in_ok-lost.ensures.gathered

@@ -1,8 +1,11 @@
-use Rattle.std.proofs.Common.{◌≡◌, Err, subst, sym, arith}
+use Rattle.std.proofs.Common.{◌≡◌, ℕ, ◌-◌, ◌*◌, List, take, Err, subst, sym, ap, ◌∙◌, arith}
 use Rattle.std.proofs.lemmas.Grind.{common_steps}
 use Rattle.host_driver.specs.Fits.{segments_of}
 use Rattle.volume_store.specs.declared.fault.StoreFault.{StoreFault}
-use Rattle.volume_store.specs.Finding.{NamesCause}
+use Rattle.qic_base.proofs.Steps.{Tells-map}
+use Rattle.cartridge_spec.specs.HeaderAndTable.{TableIs}
+use Rattle.volume_store.specs.Finding.{NamesCause, FindsVolumes}
+use Rattle.volume_store.proofs.TableSegment.{finds_bad}
 use Rattle.volume_store.proofs.volume_reader.read_volumes.Goals as goal
 
 pub returns-in_err-decode_table-in-Ok-clause-cause : goal.returns-in_err-decode_table-in-Ok-clause-cause
@@ -12,3 +15,16 @@ returns-in_err-decode_table-in-Ok-clause-cause g c =
     grind (arith, common_steps, c.from_residual.ensures) in
     subst (λ r. NamesCause (segments_of c.args.host.now) r) (sym is)
     (c.in_err-decode_table-in-Ok.ensures.cause (segments_of c.args.host.now))
+
+pub returns-in_err-decode_table-in-Ok-clause-found : goal.returns-in_err-decode_table-in-Ok-clause-found
+returns-in_err-decode_table-in-Ok-clause-found g c = λ sound.
+    let fault : StoreFault = c.in_err-decode_table-in-Ok.field-0.0 in
+    let is : c.from_residual.result ≡ Err fault =
+    grind (arith, common_steps, c.from_residual.ensures) in
+    let sectors : List (List ℕ) = c.read_table.new.work in
+    let last : 28 * c.from.result - 1 ≡ 28 * segments_of c.args.host.now - 1 =
+    ap (λ (n : ℕ). 28 * n - 1) (c.from.ensures ∙ c.segments_per_track.ensures.value ∙ c.geometry.ensures) in
+    Tells-map g.T.Tape.means c.args.unit.now.tape (λ c'. TableIs c' (take 29 sectors))
+    (λ c'. FindsVolumes c' (28 * segments_of c.args.host.now - 1) sectors c.decode_table.new.table c.from_residual.result)
+    (λ c' table. finds_bad c' (28 * segments_of c.args.host.now - 1) (28 * c.from.result - 1) sectors c.data_sectors.result.now c.decode_table.new.table fault c.from_residual.result is last
+    c.data_sectors.ensures.value table c.in_err-decode_table-in-Ok.ensures.shown) (c.in-Ok.ensures.found (λ same. cc))

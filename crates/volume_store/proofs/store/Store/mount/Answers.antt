@@ -26,7 +26,7 @@ invariant_of-result g c =
 
 pub returns-clause-did : goal.returns-clause-did
 returns-clause-did g c = record {
-  steps = mending_steps (is_protected c.learn.new.unit.drive.deck) c.in_ok-learnt.learnt.lost c.learn.new.work;
+  steps = mending_steps (is_protected c.learn.new.unit.drive.deck) c.in_ok-learnt.learnt.unread c.learn.new.work;
   done = Done-after_reads c.in_ok-learnt.ensures.did c.in_ok-settle.ensures.did;
   told = told_settles g.T.Tape.means c.learn.new.host c.args.unit.now.tape c.learn.new.unit c.learn.new.map c.learn.new.work c.learn.new.table c.in_ok-learnt.learnt
       c.in_ok-learnt.ensures.ready.fits c.in_ok-learnt.ensures.agrees c.in_ok-learnt.ensures.did c.in_ok-learnt.ensures.room (c.in_ok-learnt.ensures.found (λ same. cc));
@@ -38,7 +38,7 @@ returns-clause-fits g c =
     let words = c.in_ok-learnt.ensures.words in
     let one : segments_of c.learn.new.host ≡ segments_of c.settle.new.host =
     one_length m c.learn.new.host c.settle.new.host c.learn.new.unit c.settle.new.unit c.in_ok-learnt.ensures.ready.fits c.in_ok-settle.ensures.keeps.ready.fits c.in_ok-settle.ensures.keeps.same.cartridge in
-    let steps : List Step = mending_steps (is_protected c.learn.new.unit.drive.deck) c.in_ok-learnt.learnt.lost c.learn.new.work in
+    let steps : List Step = mending_steps (is_protected c.learn.new.unit.drive.deck) c.in_ok-learnt.learnt.unread c.learn.new.work in
     record {
       host = c.in_ok-settle.ensures.keeps.ready.fits;
       rest = c.in_ok-settle.ensures.keeps.ready.rest;
@@ -50,7 +50,7 @@ returns-clause-fits g c =
       list = subst (λ (n : ℕ). IsSoundList (28 * n - 1) c.learn.new.table) one
           (sound_volumes (take 29 c.learn.new.work) (28 * segments_of c.learn.new.host - 1) c.learn.new.table c.in_ok-learnt.ensures.volumes);
       volumes = told_lists m c.args.unit.now.tape c.settle.new.unit.tape (header_of c.in_ok-learnt.learnt.header) c.learn.new.map c.learn.new.table steps
-          (g.met.T.Tape.told_right c.args.unit.now.tape) (none_mended (is_protected c.learn.new.unit.drive.deck) c.in_ok-learnt.learnt.lost c.learn.new.work)
+          (g.met.T.Tape.told_right c.args.unit.now.tape) (none_mended (is_protected c.learn.new.unit.drive.deck) c.in_ok-learnt.learnt.unread c.learn.new.work)
           (Done-after_reads c.in_ok-learnt.ensures.did c.in_ok-settle.ensures.did)
           (told_settles m c.learn.new.host c.args.unit.now.tape c.learn.new.unit c.learn.new.map c.learn.new.work c.learn.new.table c.in_ok-learnt.learnt
           c.in_ok-learnt.ensures.ready.fits c.in_ok-learnt.ensures.agrees c.in_ok-learnt.ensures.did c.in_ok-learnt.ensures.room (c.in_ok-learnt.ensures.found (λ same. cc)));
@@ -63,7 +63,7 @@ returns-in_err-settle-clause-did g c =
     let is : c.from_residual-in_err-settle.result ≡ Err fault =
     grind (arith, common_steps, c.from_residual-in_err-settle.ensures) in
     let tape : fault ≡ Tape = c.in_err-settle.ensures.fault in
-    let steps : List Step = mending_steps (is_protected c.learn.new.unit.drive.deck) c.in_ok-learnt.learnt.lost c.learn.new.work in
+    let steps : List Step = mending_steps (is_protected c.learn.new.unit.drive.deck) c.in_ok-learnt.learnt.unread c.learn.new.work in
     let broken : MountBreaks m c.args.unit.now.tape c.settle.new.unit.tape = record {
       steps = steps;
       broke = Broke-after_reads c.in_ok-learnt.ensures.did c.in_err-settle.ensures.did;
