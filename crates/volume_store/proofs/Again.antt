@@ -24,7 +24,7 @@ use Rattle.segment_io.proofs.Going.{tells_always}
 use Rattle.volume_store.specs.declared.fault.StoreFault.{StoreFault}
 use Rattle.volume_store.specs.declared.table_reader.Unread.{Unread}
 use Rattle.volume_store.specs.declared.fault.StoreFault.TheVariants as fault
-use Rattle.volume_store.specs.Again.{HasTable, FindsList, IsOfReading, IsSettledAgain, IsBrokenOff, SettlesAgain, AddsEntry, data_with, entry_writes}
+use Rattle.volume_store.specs.Again.{BrokeUnread, FaultUnread, HasTable, FindsList, IsOfReading, IsSettledAgain, IsBrokenOff, SettlesAgain, AddsEntry, data_with, entry_writes}
 use Rattle.volume_store.specs.Finding.{FindsTable, Leaves, refusal_of}
 use Rattle.volume_store.specs.Mounting.{HasList}
 use Rattle.volume_store.specs.Settling.{mending_steps}
@@ -210,3 +210,29 @@ reads_on {B} A f r is kind = subst (λ (answer : Result B StoreFault). IsOfReadi
     by_fault (fault.Short promised read) kind = kind
     by_fault fault.Source kind = kind
     by_fault fault.Sink kind = kind
+
+-- what is known of a fault of the tape is told of the answer that is one
+pub fault_unread : {T A : Type 0} (m : Meaning T) (old new : T) (r : Result A StoreFault) → (r ≡ Err fault.Tape → BrokeUnread m old new) → FaultUnread m old new r
+fault_unread m old new (Ok answer) broke = tt
+fault_unread {T} {A} m old new (Err f) broke = by_fault f (Err f) refl broke
+  where
+    by_fault : (f : StoreFault) (r : Result A StoreFault) → r ≡ Err f → (r ≡ Err fault.Tape → BrokeUnread m old new) → FaultUnread {A = A} m old new (Err f)
+    by_fault (fault.Lost segment lost) r is broke = tt
+    by_fault fault.TableMismatch r is broke = tt
+    by_fault fault.Tape r is broke = broke is
+    by_fault fault.NotFormatted r is broke = tt
+    by_fault (fault.Foreign field value) r is broke = tt
+    by_fault (fault.Full need have) r is broke = tt
+    by_fault (fault.NoVolume number count) r is broke = tt
+    by_fault (fault.Mismatch segment) r is broke = tt
+    by_fault fault.Protected r is broke = tt
+    by_fault (fault.Short promised read) r is broke = tt
+    by_fault fault.Source r is broke = tt
+    by_fault fault.Sink r is broke = tt
+
+-- a reading that failed did nothing
+pub broke_reading : {T : Type 0} (m : Meaning T) (old new : T) (f : StoreFault) (r : Result (Unit {0}) StoreFault) → r ≡ Err f → Leaves {A = ℕ} m old new [] (Err f) →
+    r ≡ Err fault.Tape → BrokeUnread m old new
+broke_reading m old new f r is left failed =
+    let tape : f ≡ fault.Tape = (let e : Err f ≡ Err fault.Tape = sym is ∙ failed in cc) in
+    inl (subst (λ (g : StoreFault). Leaves {A = ℕ} m old new [] (Err g)) tape left)

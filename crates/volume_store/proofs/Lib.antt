@@ -14,6 +14,7 @@ pub mod Stale
 pub mod Storing
 pub mod TableSegment
 pub mod Taking
+pub mod Unread
 pub mod Worn
 pub mod Tried
 pub mod Trials

@@ -1,6 +1,6 @@
 -- The volume table read again, settled again, and written with one entry more, by the answers of the calls (this project's
 -- own).
-use Rattle.std.specs.Prelude.{◌≡◌, ℕ, ◌<◌, ◌++◌, List, [], ◌∷◌, length, take, Result, Ok, Err}
+use Rattle.std.specs.Prelude.{◌≡◌, ◌⊎◌, ℕ, ◌<◌, ◌++◌, List, [], ◌∷◌, length, take, Result, Ok, Err}
 use Rattle.qic_base.specs.Cartridge.{Cartridge}
 use Rattle.qic_base.specs.Step.{Step}
 use Rattle.qic_base.specs.Tape.{Meaning, Done, Broke, Tells}
@@ -58,6 +58,14 @@ pub record IsBrokenOff {T : Type 0} (m : Meaning T) (old new : T) (wanted : (are
   pub steps : List Step
   pub broke : Broke m old new steps
   pub told : Tells m old (λ c. (area : List (List ℕ)) → TableIs c area → (rest : List Step) × (steps ++ rest ≡ wanted area c))
+
+-- A fault of the tape came before any write, or the table's segment says some data.
+abbrev pub BrokeUnread : {T : Type 0} (m : Meaning T) (old new : T) → Type 0
+BrokeUnread m old new = Broke m old new [] ⊎ Tells m old (λ c. (area : List (List ℕ)) × TableIs c area)
+
+abbrev pub FaultUnread : {T A : Type 0} (m : Meaning T) (old new : T) → Result A StoreFault → Type 0
+FaultUnread m old new (Err Tape) = BrokeUnread m old new
+FaultUnread m old new answer = Unit {0}
 
 -- what was done, by the answer, where the data are in the first 29 sectors
 abbrev pub SettlesAgain : {T A : Type 0} (m : Meaning T) (old new : T) (entries : List Entry) (sectors : List (List ℕ)) → Result A StoreFault → Type 0

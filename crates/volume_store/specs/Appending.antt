@@ -213,6 +213,16 @@ pub record AppendCut {T S : Type 0} (t : tapes.Meaning T) (s : sources.Meaning S
   pub cut : Cut t s no_sink old new acts failing
   pub tells : is_some (s.left new.source) ≡ is_some (s.left old.source)
 
+-- where the table's segment says no data, a fault of the outside came before anything was done
+abbrev pub CutUnread : {T S : Type 0} (t : tapes.Meaning T) (s : sources.Meaning S) (old new : Outside T S (Unit {0})) → Failing → Type 0
+CutUnread t s old new failing =
+    tapes.Tells t old.tape (λ c. ((table : List (List ℕ)) → TableIs c table → ⊥) → Cut t s no_sink old new [] failing)
+
+abbrev pub FaultsUnread : {T S : Type 0} (t : tapes.Meaning T) (s : sources.Meaning S) (old new : Outside T S (Unit {0})) → Result Appended StoreFault → Type 0
+FaultsUnread t s old new (Err fault.Source) = CutUnread t s old new SourceFails
+FaultsUnread t s old new (Err fault.Tape) = CutUnread t s old new TapeFails
+FaultsUnread t s old new answer = Unit {0}
+
 -- nothing was touched
 abbrev pub IsUntouched : {T S : Type 0} (old new : Outside T S (Unit {0})) → Type 0
 IsUntouched old new = (new.tape ≡ old.tape) × (new.source ≡ old.source)

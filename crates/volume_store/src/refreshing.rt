@@ -7,7 +7,7 @@ ghost use Rattle.drive_states.specs.Deck.{is_protected, is_referenced};
 ghost use Rattle.drive_states.specs.Reach.{reads_in};
 ghost use Rattle.host_driver.specs.Calls.{IsReady, MayWrite, Keeps};
 ghost use Rattle.host_driver.specs.Fits.{AgreesWithTape};
-ghost use Rattle.volume_store.specs.Again.{AddsEntry, FindsList, IsOfReading, SettlesAgain};
+ghost use Rattle.volume_store.specs.Again.{AddsEntry, FaultUnread, FindsList, IsOfReading, SettlesAgain};
 ghost use Rattle.volume_store.specs.Finding.{Leaves};
 ghost use Rattle.volume_table.specs.Entry.{entry_of};
 
@@ -64,6 +64,7 @@ pub(crate) fn settle_again<T: Tape>(
     requires referenced { is_referenced unit.old.drive.deck ≡ true }
     requires writable { MayWrite unit.old.drive.deck }
     ensures did { SettlesAgain T.means unit.old.tape unit.new.tape table.now work.new result }
+    ensures unread { FaultUnread T.means unit.old.tape unit.new.tape result }
     ensures kind { IsOfReading result }
     ensures keeps { Keeps T.means host.new unit.old unit.new }
 {

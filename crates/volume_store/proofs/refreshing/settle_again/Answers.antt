@@ -1,10 +1,13 @@
-use Rattle.std.proofs.Common.{◌≡◌, ℕ, List, take, Err, arith}
+use Rattle.std.proofs.Common.{◌≡◌, ℕ, List, take, Err, inr, arith}
 use Rattle.std.proofs.lemmas.Grind.{common_steps}
 use Rattle.volume_store.specs.declared.table_reader.Unread.{Unread}
+use Rattle.qic_base.proofs.Steps.{Tells-map}
+use Rattle.cartridge_spec.specs.HeaderAndTable.{TableIs}
+use Rattle.volume_store.specs.Again.{HasTable}
 use Rattle.drive_states.specs.Deck.{is_protected}
 use Rattle.volume_store.specs.declared.fault.StoreFault.{StoreFault}
 use Rattle.volume_store.specs.Settling.{mending_steps}
-use Rattle.volume_store.proofs.Again.{settled_by, settles_refused, told_mending, reads_unless, reads_on}
+use Rattle.volume_store.proofs.Again.{broke_reading, fault_unread, settled_by, settles_refused, told_mending, reads_unless, reads_on}
 use Rattle.volume_store.proofs.refreshing.settle_again.Goals as goal
 
 pub returns-clause-did : goal.returns-clause-did
@@ -32,3 +35,18 @@ returns-in_err-unread-clause-kind g c =
     let fault : StoreFault = c.in_err-unread.field-0.0 in
     let is : c.from_residual.result ≡ Err fault = grind (arith, common_steps, c.from_residual.ensures) in
     reads_on Unread fault c.from_residual.result is c.in_err-unread.ensures.kind
+
+pub returns-clause-unread : goal.returns-clause-unread
+returns-clause-unread g c =
+    let m = g.T.Tape.means in
+    let sectors : List (List ℕ) = c.read_list.new.work in
+    fault_unread m c.args.unit.now.tape c.settle.new.unit.tape c.settle.result
+    (λ failed. inr (Tells-map m c.args.unit.now.tape (λ c'. HasTable c' sectors c.in_ok-unread.unread) (λ c'. (area : List (List ℕ)) × TableIs c' area)
+    (λ c' has. (take 29 sectors, has.table)) (c.in_ok-unread.ensures.found (λ same. cc))))
+
+pub returns-in_err-unread-clause-unread : goal.returns-in_err-unread-clause-unread
+returns-in_err-unread-clause-unread g c =
+    let fault : StoreFault = c.in_err-unread.field-0.0 in
+    let is : c.from_residual.result ≡ Err fault = grind (arith, common_steps, c.from_residual.ensures) in
+    fault_unread g.T.Tape.means c.args.unit.now.tape c.read_list.new.unit.tape c.from_residual.result
+    (broke_reading g.T.Tape.means c.args.unit.now.tape c.read_list.new.unit.tape fault c.from_residual.result is c.in_err-unread.ensures.did)

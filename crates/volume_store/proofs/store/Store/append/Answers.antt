@@ -20,6 +20,7 @@ use Rattle.volume_store.specs.declared.fault.StoreFault.{StoreFault}
 use Rattle.volume_store.specs.declared.fault.StoreFault.TheVariants.{Tape}
 use Rattle.volume_store.proofs.Copies.{IsLearnt, told_learnt, tells_two}
 use Rattle.volume_store.proofs.Ending.{first_refused, input_refused, entry_refused, added, new_order, right_tells, made, answered, either_order}
+use Rattle.volume_store.proofs.Unread.{unread_first, unread_known}
 use Rattle.volume_store.proofs.store.Store.append.Goals as goal
 
 pub returns-in_err-settle_again-clause-ends : goal.returns-in_err-settle_again-clause-ends
@@ -293,3 +294,18 @@ returns-clause-fits g c =
     (subst (λ (es : List Entry). Tells m c.add_entry.new.unit.tape (Listed es)) (sym list)
     (lists_added m c.take_input.new.unit.tape c.add_entry.new.unit.tape c.self.inside.table new (take 29 c.settle_again.new.work) c.in_ok-add_entry.ensures.did c.is_label.ensures (omega arith) (omega arith)
     some2 known whole2 whole3))
+
+pub returns-in_err-settle_again-clause-unread : goal.returns-in_err-settle_again-clause-unread
+returns-in_err-settle_again-clause-unread g c =
+    let why : StoreFault = c.in_err-settle_again.field-0.0 in
+    let is : c.from_residual.result ≡ Err why = grind (arith, common_steps, c.from_residual.ensures) in
+    unread_first g.T.Tape.means g.S.Source.means c.args.unit.now.tape c.settle_again.new.unit.tape c.args.source.now why c.from_residual.result is
+    c.in_err-settle_again.ensures.unread c.in_err-settle_again.ensures.kind
+
+pub returns-in_err-written-clause-unread : goal.returns-in_err-written-clause-unread
+returns-in_err-written-clause-unread g c =
+    unread_known g.T.Tape.means g.S.Source.means _ _ _ _ c.from_residual-in_err-written.result c.in_ok-settle_again.ensures.did.told
+
+pub returns-in_err-add_entry-clause-unread : goal.returns-in_err-add_entry-clause-unread
+returns-in_err-add_entry-clause-unread g c =
+    unread_known g.T.Tape.means g.S.Source.means _ _ _ _ c.from_residual-in_err-add_entry.result c.in_ok-settle_again.ensures.did.told
