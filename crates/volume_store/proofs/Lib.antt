@@ -1,6 +1,8 @@
 pub mod Adding
 pub mod Again
 pub mod Behind
+pub mod BrokenUnread
+pub mod Collected
 pub mod Copies
 pub mod Ending
 pub mod Fitting
@@ -14,8 +16,6 @@ pub mod Stale
 pub mod Storing
 pub mod TableSegment
 pub mod Taking
-pub mod Unread
-pub mod Worn
-pub mod Tried
 pub mod Trials
-pub mod Collected
+pub mod Tried
+pub mod Worn

@@ -14,8 +14,8 @@ use Rattle.cartridge_spec.specs.Segment.{IsUnreadable, is_unreadable}
 use Rattle.cartridge_spec.specs.Says.{unreadable_count, unreadable_data, LosesData, ReadsAll, TableSays, ByCode, LostSectors, data_of}
 use Rattle.cartridge_spec.specs.HeaderAndTable.{table_cells, TableIs}
 use Rattle.cartridge_spec.proofs.Cells.{unreadable_count-first}
-use Rattle.cartridge_spec.specs.Shape.{Carries, usable_count}
-use Rattle.cartridge_spec.proofs.Segments.{length-whole_cells, count_of_whole, count_of_cells}
+use Rattle.cartridge_spec.specs.Shape.{Carries}
+use Rattle.cartridge_spec.proofs.Segments.{length-whole_cells, count_of_whole}
 use Rattle.segment_io.specs.Gathered.{Gathered, IsUnreadableAt, NamesUnreadable}
 use Rattle.segment_io.specs.declared.fault.SegFault.{SegFault}
 use Rattle.segment_io.specs.declared.fault.SegFault.TheVariants as seg
@@ -135,9 +135,6 @@ finds_many c lost n sectors gathered loses count many =
 -- a whole segment carries data
 pub carries_whole : Carries 4294967295
 carries_whole = subst (λ (n : ℕ). 4 ≤ n) (sym count_of_whole) (omega arith)
-
-pub whole_count : (c : Cartridge) → length (table_cells c) ≡ usable_count 4294967295
-whole_count c = count_of_cells c 2 4294967295
 
 -- a slot at fault in the data is one in the table's
 pub finds_bad : (c : Cartridge) (last n : ℕ) (sectors area : List (List ℕ)) (entries : List Entry) (fault : StoreFault) (r : Result Unread StoreFault) → r ≡ Err fault → n ≡ last → area ≡ take 29 sectors →

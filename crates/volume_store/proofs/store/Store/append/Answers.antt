@@ -20,7 +20,7 @@ use Rattle.volume_store.specs.declared.fault.StoreFault.{StoreFault}
 use Rattle.volume_store.specs.declared.fault.StoreFault.TheVariants.{Tape}
 use Rattle.volume_store.proofs.Copies.{IsLearnt, told_learnt, tells_two}
 use Rattle.volume_store.proofs.Ending.{first_refused, input_refused, entry_refused, added, new_order, right_tells, made, answered, either_order}
-use Rattle.volume_store.proofs.Unread.{unread_first, unread_known}
+use Rattle.volume_store.proofs.BrokenUnread.{unread_first, unread_known}
 use Rattle.volume_store.proofs.store.Store.append.Goals as goal
 
 pub returns-in_err-settle_again-clause-ends : goal.returns-in_err-settle_again-clause-ends
