@@ -2,7 +2,7 @@
 use Rattle.std.proofs.Common.{◌≡◌, ℕ, inl, inr, List, [], ◌++◌, refl, ◌∙◌, ap, Option, Some, None, IfSome, subst, Result, Ok, Err}
 use Rattle.qic_base.specs.Disk.{Meaning, DiskStep, Look, stored, Stored, Failed}
 use Rattle.std.specs.Option.{option_map}
-use Rattle.cart_image.specs.Run.{Looks, Looked, Ran, Halted, Runs, Carried}
+use Rattle.cart_image.specs.Run.{Looks, Looked, Ran, Halted, Runs, Went, Carried, CarriedBy}
 use Rattle.cart_image.proofs.Runs.{Looks-Looks, Ran-Ran, Ran-Halted}
 
 pub told-fact : {X : Type 0} (told : Option X) (P : X → Type 0) (x : X) → told ≡ Some x → IfSome told P → P x
@@ -74,3 +74,20 @@ told-look {m = m} {a = a} s = s.told ∙ same (m.told a)
     same : (told : Option (List ℕ)) → option_map (stored Look) told ≡ told
     same None = refl
     same (Some bytes) = refl
+
+-- after looks
+pub Carried-after : {D T E : Type 0} (m : Meaning D) (old mid new : D) (plan : List ℕ → List DiskStep) (r : Result T E) → Looks m old mid → Carried m mid new plan r → Carried m old new plan r
+Carried-after {D = D} {T = T} {E = E} m old mid new plan r looks carried = record {
+  steps = carried.steps;
+  planned = λ bytes told. carried.planned bytes (looks.told ∙ told);
+  went = by_result r carried.went;
+}
+  where
+    by_result : (r : Result T E) → Went m mid new carried.steps r → Went m old new carried.steps r
+    by_result (Ok x) went = (went.0, Looks-Looks looks went.1, went.2)
+    by_result (Err e) went = (went.0, Looks-Looks looks went.1, went.2)
+
+-- a look failed, whatever the plan
+pub CarriedBy-failed : {D E : Type 0} (T : Type 0) (m : Meaning D) (old new : D) (size : Option ℕ) (plan : ℕ → List ℕ → List DiskStep) (e : E) → ((mid : D) × Looks m old mid × Failed m mid new Look) → CarriedBy {T = T} {E = E} m old new size plan (Err e)
+CarriedBy-failed T m old new None plan e looked = tt
+CarriedBy-failed T m old new (Some n) plan e looked = Carried-failed m old looked.0 new (plan n) (Err e) e refl looked.1 looked.2

@@ -5,6 +5,7 @@ pub mod Exits
 pub mod Formats
 pub mod Heads
 pub mod Infos
+pub mod Known
 pub mod Loops
 pub mod Renews
 pub mod Runs

@@ -6,20 +6,9 @@ ghost use Rattle.cart_image.specs.Layout.{image_len as length_of, open_gate, for
 ghost use Rattle.cart_image.specs.Run.{Runs, Looked, Carried};
 
 use crate::layout::{CLOSED, FORMED, OPEN, formed_place, gate_place, sector_place};
+use crate::reading::read_plane;
 use crate::synced::put;
 use qic_base::{Disk, DiskFailed};
-
-/// 32 bytes of a plane.
-fn read_plane<D: Disk>(disk: &mut D, place: u64) -> Result<[u8; 32], DiskFailed>
-    ensures looked { Looked D.means disk.old disk.new result }
-    ensures bytes { IfOk result (λ part. IfSome (D.means.told disk.old) (λ bytes.
-        place + 32 ≤ length bytes → part ≡ slice_range bytes place (place + 32))) }
-    ensures seen { D.means.seen_len disk.new ≡ D.means.seen_len disk.old }
-{
-    let mut part = [0; 32];
-    disk.read_at(place, &mut part)?;
-    Ok(part)
-}
 
 /// Writes a run of at most 32 places.
 fn write_run<D: Disk>(disk: &mut D, place: u64, value: u8, count: usize) -> Result<(), DiskFailed>

@@ -6,6 +6,7 @@ mod formatting;
 mod layout;
 mod reading;
 mod renewing;
+mod segment;
 mod synced;
 mod tape;
 mod writing;

@@ -1,5 +1,6 @@
 //! What an image file tells: its head, and what its planes and sectors hold.
-ghost use Rattle.std.specs.Prelude.{◌≡◌, ◌≢◌, ℕ, ◌<◌, ◌≤◌, List, length, slice_index, IfOk, IfSome, OnErr};
+ghost use Rattle.std.specs.Prelude.{◌≡◌, ◌≢◌, ℕ, ◌+◌, ◌*◌, ◌<◌, ◌≤◌, List, length, slice_index, slice_index_or, slice_range, IfOk, IfSome, OnErr};
+ghost use Rattle.qic_base.specs.Cartridge.{place_of};
 ghost use Rattle.qic_base.specs.Tape.{Reads};
 ghost use Rattle.cart_image.specs.Image.{info_by, info_of, view_by, view_in, sector_bytes};
 ghost use Rattle.cart_image.specs.Layout.{sectors, image_len as length_of};
@@ -11,6 +12,7 @@ use crate::layout::{
     DEFECT, FORMED, MARK, OPEN, SIGNATURE, VERSION, defect_place, formed_place, gate_place,
     image_len, sector_place,
 };
+use crate::segment::SegmentStates;
 use qic_base::{Disk, DiskFailed, LONGEST, SectorRead, TapeInfo, read_u16};
 
 /// The fewest segments per track of a cartridge.
@@ -93,22 +95,52 @@ fn state_by(defect: u8, formed: u8, gate: u8) -> SectorState
     }
 }
 
-/// What the planes say of a sector.
-pub fn read_state<D: Disk>(
-    disk: &mut D,
-    segments_per_track: u16,
-    sector: u64,
-) -> Result<SectorState, DiskFailed>
-    requires { sector < sectors segments_per_track }
+/// 32 bytes of a plane.
+pub fn read_plane<D: Disk>(disk: &mut D, place: u64) -> Result<[u8; 32], DiskFailed>
     ensures looked { Looked D.means disk.old disk.new result }
-    ensures state { IfOk result (λ state. IfSome (D.means.told disk.old) (λ bytes.
-        state ≡ state_of (view_in segments_per_track bytes sector))) }
+    ensures bytes { IfOk result (λ part. IfSome (D.means.told disk.old) (λ bytes.
+        place + 32 ≤ length bytes → part ≡ slice_range bytes place (place + 32))) }
     ensures seen { D.means.seen_len disk.new ≡ D.means.seen_len disk.old }
 {
-    let defect = read_byte(disk, defect_place(segments_per_track, sector))?;
-    let formed = read_byte(disk, formed_place(segments_per_track, sector))?;
-    let gate = read_byte(disk, gate_place(sector))?;
-    Ok(state_by(defect, formed, gate))
+    let mut part = [0; 32];
+    disk.read_at(place, &mut part)?;
+    Ok(part)
+}
+
+/// What these bytes in the planes say of 32 sectors.
+fn states_by(defects: &[u8; 32], formed: &[u8; 32], gates: &[u8; 32]) -> [SectorState; 32]
+    ensures { (i : ℕ) (bytes : List ℕ) → i < 32 → slice_index_or result i SectorState.Blank
+        ≡ state_of (view_by (slice_index defects.now i) (slice_index formed.now i)
+        (slice_index gates.now i) bytes) }
+{
+    let mut states = [SectorState::Blank; 32];
+    for i in 0..32 {
+        states[i] = state_by(defects[i], formed[i], gates[i]);
+    }
+    states
+}
+
+/// What the planes say of the sectors of a segment.
+pub fn read_states<D: Disk>(
+    disk: &mut D,
+    segments_per_track: u16,
+    segment: u32,
+) -> Result<SegmentStates, DiskFailed>
+    requires { segment < 28 * segments_per_track }
+    ensures looked { Looked D.means disk.old disk.new result }
+    ensures segment { IfOk result (λ states. states.segment ≡ segment) }
+    ensures states { IfOk result (λ states. IfSome (D.means.told disk.old) (λ bytes.
+        length_of segments_per_track ≤ length bytes → (i : ℕ) → i < 32 →
+        slice_index_or states.states i SectorState.Blank
+        ≡ state_of (view_in segments_per_track bytes (place_of segment i)))) }
+    ensures seen { D.means.seen_len disk.new ≡ D.means.seen_len disk.old }
+{
+    let first = 32 * segment as u64;
+    let defects = read_plane(disk, defect_place(segments_per_track, first))?;
+    let formed = read_plane(disk, formed_place(segments_per_track, first))?;
+    let gates = read_plane(disk, gate_place(first))?;
+    let states = states_by(&defects, &formed, &gates);
+    Ok(SegmentStates { segment, states })
 }
 
 /// The bytes of a sector; None where the disk has fewer.
@@ -133,14 +165,17 @@ fn read_bytes<D: Disk>(
     })
 }
 
-/// Reads a sector. `into` is unchanged unless the answer is `Good`.
+/// Reads a sector of which the planes say this. `into` is unchanged unless the answer is `Good`.
 pub fn read_sector<D: Disk>(
     disk: &mut D,
     segments_per_track: u16,
     sector: u64,
+    state: SectorState,
     into: &mut [u8; 1024],
 ) -> Result<SectorRead, DiskFailed>
-    requires { sector < sectors segments_per_track }
+    requires place { sector < sectors segments_per_track }
+    requires state { IfSome (D.means.told disk.old) (λ bytes.
+        state ≡ state_of (view_in segments_per_track bytes sector)) }
     ensures looked { Looked D.means disk.old disk.new result }
     ensures view { IfOk result (λ answer. IfSome (D.means.told disk.old) (λ bytes.
         length_of segments_per_track ≤ length bytes →
@@ -148,7 +183,7 @@ pub fn read_sector<D: Disk>(
     ensures unchanged { result ≢ Ok SectorRead.Good → into.new ≡ into.old }
     ensures seen { D.means.seen_len disk.new ≡ D.means.seen_len disk.old }
 {
-    match read_state(disk, segments_per_track, sector)? {
+    match state {
         SectorState::Blank => Ok(SectorRead::Blank),
         SectorState::Defect | SectorState::Lost => Ok(SectorRead::Lost),
         SectorState::Readable => match read_bytes(disk, segments_per_track, sector)? {

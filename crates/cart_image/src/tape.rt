@@ -5,10 +5,13 @@ ghost use Rattle.qic_base.specs.Disk.{IsSettled};
 ghost use Rattle.qic_base.specs.Step.{WriteSector, FormatSegment, SetReferenced, SetProtected, Renew, Wear, Spoil};
 ghost use Rattle.qic_base.specs.Tape.{Does, Tells, IsPlaceOf, Reads, write_answer, spoil_answer};
 ghost use Rattle.qic_base.specs.declared.TheConstants.{LONGEST};
-ghost use Rattle.cart_image.specs.Image.{size_of, view_in};
+ghost use Rattle.cart_image.specs.Image.{cartridge_of, size_of, view_in};
 ghost use Rattle.cart_image.specs.Layout.{image_len};
+ghost use Rattle.cart_image.specs.State.{AreStates};
+ghost use Rattle.cart_image.specs.declared.segment.SegmentStates.{SegmentStates};
 
 use crate::layout::{PROTECTED_PLACE, REFERENCED_PLACE};
+use crate::segment::SegmentStates;
 use crate::{formatting, reading, renewing, writing};
 use qic_base::{Disk, DiskFailed, SectorRead, SectorWrite, Tape, TapeFailed, TapeInfo};
 
@@ -21,6 +24,8 @@ pub struct ImageTape<D: Disk> {
     /// after a `renew` that failed; an `info` that failed changes nothing. Where it is some, it is 3 to `LONGEST`, the
     /// disk was seen to be at least as long as an image of it, and bytes that the disk tells are an image of just it.
     segments_per_track: Option<u16>,
+    /// What the planes say of the segment that was looked at last; None where that is not known.
+    known: Option<SegmentStates>,
     ghost settled: { (bytes left : List ℕ) →
         D.means.told disk ≡ Some bytes → D.means.may_leave disk left → left ≡ bytes },
     ghost shortest: { (n : ℕ) → segments_per_track ≡ Some n → 3 ≤ n },
@@ -29,10 +34,13 @@ pub struct ImageTape<D: Disk> {
         segments_per_track ≡ Some n → image_len n ≤ D.means.seen_len disk },
     ghost sized: { (n : ℕ) (bytes : List ℕ) → segments_per_track ≡ Some n →
         D.means.told disk ≡ Some bytes → size_of bytes ≡ Some n },
+    ghost right: { (states : SegmentStates) (bytes : List ℕ) → known ≡ Some states →
+        D.means.told disk ≡ Some bytes → AreStates states (cartridge_of bytes) },
 }
 
 impl<D: Disk> ImageTape<D> {
     ghost use Rattle.cart_image.specs.ImageTape.{disk_of, image_means};
+    ghost use Rattle.cart_image.specs.Run.{Looked};
 
     /// A tape in this file, of which nothing is known yet. It makes no call of the disk.
     pub fn open(disk: D) -> ImageTape<D>
@@ -43,6 +51,7 @@ impl<D: Disk> ImageTape<D> {
         ImageTape {
             disk,
             segments_per_track: None,
+            known: None,
         }
     }
 
@@ -54,6 +63,7 @@ impl<D: Disk> ImageTape<D> {
         let ImageTape {
             disk,
             segments_per_track: _,
+            known: _,
         } = self;
         disk
     }
@@ -67,6 +77,28 @@ impl<D: Disk> ImageTape<D> {
             Some(size) => size,
             None => unreachable!(),
         }
+    }
+
+    /// What the planes say of the sectors of a segment. They are read where that is not known.
+    fn look(&mut self, segment: u32) -> Result<SegmentStates, DiskFailed>
+        requires { IsPlaceOf image_means self.old segment 0 }
+        ensures segment { IfOk result (λ states. states.segment ≡ segment) }
+        ensures states { IfOk result (λ states. (bytes : List ℕ) →
+            D.means.told (disk_of self.new) ≡ Some bytes →
+            AreStates states (cartridge_of bytes)) }
+        ensures looked { Looked D.means (disk_of self.old) (disk_of self.new) result }
+        ensures size { image_means.size self.new ≡ image_means.size self.old }
+    {
+        if let Some(states) = self.known {
+            if states.segment == segment {
+                return Ok(states);
+            }
+        }
+        self.known = None;
+        let size = self.size();
+        let states = reading::read_states(&mut self.disk, size, segment)?;
+        self.known = Some(states);
+        Ok(states)
     }
 }
 
@@ -94,6 +126,7 @@ impl<D: Disk> Tape for ImageTape<D> {
         // It only looks at the disk.
         ensures looked { Looked D.means (disk_of self.old) (disk_of self.new) result }
     {
+        self.known = None;
         match reading::read_info(&mut self.disk) {
             Ok(info) => {
                 self.segments_per_track = size_by(info);
@@ -120,9 +153,23 @@ impl<D: Disk> Tape for ImageTape<D> {
         ensures looked { Looked D.means (disk_of self.old) (disk_of self.new) result }
     {
         let size = self.size();
-        match reading::read_sector(&mut self.disk, size, sector_number(segment, sector), into) {
+        let states = match self.look(segment) {
+            Ok(states) => states,
+            Err(DiskFailed) => return Err(TapeFailed),
+        };
+        let state = states.of(sector);
+        match reading::read_sector(
+            &mut self.disk,
+            size,
+            sector_number(segment, sector),
+            state,
+            into,
+        ) {
             Ok(read) => Ok(read),
-            Err(DiskFailed) => Err(TapeFailed),
+            Err(DiskFailed) => {
+                self.known = None;
+                Err(TapeFailed)
+            }
         }
     }
 
@@ -145,9 +192,26 @@ impl<D: Disk> Tape for ImageTape<D> {
             from.now (view_in n bytes (place_of segment sector))) result }
     {
         let size = self.size();
-        match writing::write_sector(&mut self.disk, size, sector_number(segment, sector), from) {
-            Ok(write) => Ok(write),
-            Err(DiskFailed) => Err(TapeFailed),
+        let states = match self.look(segment) {
+            Ok(states) => states,
+            Err(DiskFailed) => return Err(TapeFailed),
+        };
+        let state = states.of(sector);
+        match writing::write_sector(
+            &mut self.disk,
+            size,
+            sector_number(segment, sector),
+            state,
+            from,
+        ) {
+            Ok(write) => {
+                self.known = Some(states.with(sector, state.written()));
+                Ok(write)
+            }
+            Err(DiskFailed) => {
+                self.known = None;
+                Err(TapeFailed)
+            }
         }
     }
 
@@ -160,6 +224,7 @@ impl<D: Disk> Tape for ImageTape<D> {
             (image_means.size self.old) (λ n bytes. format_plan n segment bytes) result }
     {
         let size = self.size();
+        self.known = None;
         match formatting::format_segment(&mut self.disk, size, segment) {
             Ok(()) => Ok(()),
             Err(DiskFailed) => Err(TapeFailed),
@@ -175,6 +240,7 @@ impl<D: Disk> Tape for ImageTape<D> {
             (λ bytes. mark_steps referenced_place true (slice_index bytes referenced_place))
             result }
     {
+        self.known = None;
         match writing::set_mark(&mut self.disk, REFERENCED_PLACE, true) {
             Ok(()) => Ok(()),
             Err(DiskFailed) => Err(TapeFailed),
@@ -189,6 +255,7 @@ impl<D: Disk> Tape for ImageTape<D> {
         ensures steps { Carried D.means (disk_of self.old) (disk_of self.new)
             (λ bytes. mark_steps protected_place on (slice_index bytes protected_place)) result }
     {
+        self.known = None;
         match writing::set_mark(&mut self.disk, PROTECTED_PLACE, on) {
             Ok(()) => Ok(()),
             Err(DiskFailed) => Err(TapeFailed),
@@ -204,6 +271,7 @@ impl<D: Disk> Tape for ImageTape<D> {
         ensures steps { Carried D.means (disk_of self.old) (disk_of self.new)
             (λ bytes. renew_steps segments_per_track (slice_index bytes 0)) result }
     {
+        self.known = None;
         self.segments_per_track = None;
         match renewing::renew(&mut self.disk, segments_per_track) {
             Ok(()) => {
@@ -224,9 +292,20 @@ impl<D: Disk> Tape for ImageTape<D> {
             (view_in n bytes (place_of segment sector))) result }
     {
         let size = self.size();
-        match writing::wear(&mut self.disk, size, sector_number(segment, sector)) {
-            Ok(()) => Ok(()),
-            Err(DiskFailed) => Err(TapeFailed),
+        let states = match self.look(segment) {
+            Ok(states) => states,
+            Err(DiskFailed) => return Err(TapeFailed),
+        };
+        let state = states.of(sector);
+        match writing::wear(&mut self.disk, size, sector_number(segment, sector), state) {
+            Ok(()) => {
+                self.known = Some(states.with(sector, state.worn()));
+                Ok(())
+            }
+            Err(DiskFailed) => {
+                self.known = None;
+                Err(TapeFailed)
+            }
         }
     }
 
@@ -242,9 +321,20 @@ impl<D: Disk> Tape for ImageTape<D> {
             (view_in n bytes (place_of segment sector))) result }
     {
         let size = self.size();
-        match writing::spoil(&mut self.disk, size, sector_number(segment, sector)) {
-            Ok(spoiled) => Ok(spoiled),
-            Err(DiskFailed) => Err(TapeFailed),
+        let states = match self.look(segment) {
+            Ok(states) => states,
+            Err(DiskFailed) => return Err(TapeFailed),
+        };
+        let state = states.of(sector);
+        match writing::spoil(&mut self.disk, size, sector_number(segment, sector), state) {
+            Ok(spoiled) => {
+                self.known = Some(states.with(sector, state.spoiled()));
+                Ok(spoiled)
+            }
+            Err(DiskFailed) => {
+                self.known = None;
+                Err(TapeFailed)
+            }
         }
     }
 }

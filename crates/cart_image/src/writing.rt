@@ -5,9 +5,10 @@ ghost use Rattle.qic_base.specs.Tape.{write_answer, spoil_answer};
 ghost use Rattle.cart_image.specs.Image.{view_in};
 ghost use Rattle.cart_image.specs.Layout.{sectors, gate_place as gate_at, sector_place as sector_at, image_len as length_of, overwrite_steps, write_sector_steps, wear_steps, spoil_steps, mark_steps, put as put_steps};
 ghost use Rattle.cart_image.specs.Run.{Runs, Carried};
+ghost use Rattle.cart_image.specs.State.{state_of};
 
 use crate::layout::{CLOSED, DEFECT, MARK, OPEN, defect_place, gate_place, sector_place};
-use crate::reading::{SectorState, read_byte, read_state};
+use crate::reading::{SectorState, read_byte};
 use crate::synced::put;
 use qic_base::{Disk, DiskFailed, SectorWrite};
 
@@ -75,16 +76,19 @@ fn overwrite_open<D: Disk>(
     overwrite_closed(disk, segments_per_track, sector, from)
 }
 
-/// Writes a sector.
+/// Writes a sector of which the planes say this.
 pub fn write_sector<D: Disk>(
     disk: &mut D,
     segments_per_track: u16,
     sector: u64,
+    state: SectorState,
     from: &[u8; 1024],
 ) -> Result<SectorWrite, DiskFailed>
     requires place { sector < sectors segments_per_track }
     requires covers { length_of segments_per_track ≤ D.means.seen_len disk.old }
     requires settled { IsSettled D.means disk.old }
+    requires state { IfSome (D.means.told disk.old) (λ bytes.
+        state ≡ state_of (view_in segments_per_track bytes sector)) }
     ensures carried { Carried D.means disk.old disk.new (λ bytes. write_sector_steps
         segments_per_track sector from.now (view_in segments_per_track bytes sector)) result }
     ensures answer { IfOk result (λ answer. IfSome (D.means.told disk.old) (λ bytes.
@@ -92,7 +96,7 @@ pub fn write_sector<D: Disk>(
     ensures settled { IsSettled D.means disk.new }
     ensures seen { D.means.seen_len disk.new ≡ D.means.seen_len disk.old }
 {
-    match read_state(disk, segments_per_track, sector)? {
+    match state {
         SectorState::Blank => return Ok(SectorWrite::Blank),
         SectorState::Defect => return Ok(SectorWrite::Taken),
         SectorState::Lost => overwrite_closed(disk, segments_per_track, sector, from)?,
@@ -101,31 +105,41 @@ pub fn write_sector<D: Disk>(
     Ok(SectorWrite::Taken)
 }
 
-/// Makes a readable sector unreadable.
-pub fn wear<D: Disk>(disk: &mut D, segments_per_track: u16, sector: u64) -> Result<(), DiskFailed>
+/// Makes a sector of which the planes say this unreadable, where it is readable.
+pub fn wear<D: Disk>(
+    disk: &mut D,
+    segments_per_track: u16,
+    sector: u64,
+    state: SectorState,
+) -> Result<(), DiskFailed>
     requires place { sector < sectors segments_per_track }
     requires covers { length_of segments_per_track ≤ D.means.seen_len disk.old }
     requires settled { IsSettled D.means disk.old }
+    requires state { IfSome (D.means.told disk.old) (λ bytes.
+        state ≡ state_of (view_in segments_per_track bytes sector)) }
     ensures carried { Carried D.means disk.old disk.new (λ bytes. wear_steps
         segments_per_track sector (view_in segments_per_track bytes sector)) result }
     ensures settled { IsSettled D.means disk.new }
     ensures seen { D.means.seen_len disk.new ≡ D.means.seen_len disk.old }
 {
-    match read_state(disk, segments_per_track, sector)? {
+    match state {
         SectorState::Readable => put_gate(disk, sector, CLOSED),
         SectorState::Blank | SectorState::Defect | SectorState::Lost => Ok(()),
     }
 }
 
-/// Makes a defect of a sector that was never formatted. Answers whether it is a defect now.
+/// Makes a defect of a sector of which the planes say this, where it was never formatted. Answers whether it is a defect now.
 pub fn spoil<D: Disk>(
     disk: &mut D,
     segments_per_track: u16,
     sector: u64,
+    state: SectorState,
 ) -> Result<bool, DiskFailed>
     requires place { sector < sectors segments_per_track }
     requires covers { length_of segments_per_track ≤ D.means.seen_len disk.old }
     requires settled { IsSettled D.means disk.old }
+    requires state { IfSome (D.means.told disk.old) (λ bytes.
+        state ≡ state_of (view_in segments_per_track bytes sector)) }
     ensures carried { Carried D.means disk.old disk.new (λ bytes. spoil_steps
         segments_per_track sector (view_in segments_per_track bytes sector)) result }
     ensures answer { IfOk result (λ answer. IfSome (D.means.told disk.old) (λ bytes.
@@ -133,7 +147,7 @@ pub fn spoil<D: Disk>(
     ensures settled { IsSettled D.means disk.new }
     ensures seen { D.means.seen_len disk.new ≡ D.means.seen_len disk.old }
 {
-    match read_state(disk, segments_per_track, sector)? {
+    match state {
         SectorState::Blank => {
             put(disk, defect_place(segments_per_track, sector), &[DEFECT])?;
             Ok(true)

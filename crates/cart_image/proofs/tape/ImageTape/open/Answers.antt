@@ -10,4 +10,5 @@ invariant_of-result g c =
       longest = λ n none. cc;
       covers = λ n none. cc;
       sized = λ n bytes none told. cc;
+      right = λ states bytes none told. cc;
     }

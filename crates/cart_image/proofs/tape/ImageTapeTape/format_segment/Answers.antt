@@ -14,6 +14,7 @@ invariant_of-self g c =
       longest = s.longest;
       covers = covers-after s _ c.format_segment.result c.format_segment.ensures.seen;
       sized = sized-after s _ c.format_segment.result (FormatSegment c.args.segment ∷ []) (keeps-format c.args.segment) (format-does s _ c.format_segment.result c.size-size.result c.args.segment c.size-size.ensures (on-segment c.args.self.now.segments_per_track c.size-size.result c.args.segment c.size-size.ensures c.requires) c.format_segment.ensures.carried);
+      right = λ states bytes none told. cc;
     }
 
 pub returns-in-Ok-clause-did : goal.returns-in-Ok-clause-did

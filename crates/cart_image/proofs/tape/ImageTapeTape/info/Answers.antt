@@ -14,6 +14,7 @@ invariant_of-self g c =
       longest = λ n same. (fits n same).1;
       covers = λ n same. (fits n same).2;
       sized = looked-sized g.D.Disk.means _ _ _ _ c.in-Ok.ensures.looked c.in-Ok.ensures.info c.size_by-self.ensures;
+      right = λ states bytes none told. cc;
     }
 
 pub invariant_of-self-in-Err : goal.invariant_of-self-in-Err
@@ -26,6 +27,7 @@ invariant_of-self-in-Err g c =
       longest = s.longest;
       covers = covers-after s _ c.read_info.result c.in-Err.ensures.failed;
       sized = sized-after s _ c.read_info.result [] keeps-nothing (rw c.in-Err.is (looks-broke g.D.Disk.means _ _ (tape-settled s) c.in-Err.ensures.looked));
+      right = λ states bytes none told. cc;
     }
 
 pub returns-in-Ok-clause-did : goal.returns-in-Ok-clause-did

@@ -12,6 +12,7 @@ invariant_of-self g c =
       longest = λ n same. (same-number c.args.segments_per_track n _ c.requires c.in-Ok.ensures.seen same).1;
       covers = λ n same. (same-number c.args.segments_per_track n _ c.requires c.in-Ok.ensures.seen same).2;
       sized = new-size g.D.Disk.means c.args.self.now.disk _ c.args.segments_per_track (renew-does c.args.self.now _ _ c.args.segments_per_track c.requires c.in-Ok.ensures.carried);
+      right = λ states bytes none told. cc;
     }
 
 pub invariant_of-self-in-Err : goal.invariant_of-self-in-Err
@@ -23,6 +24,7 @@ invariant_of-self-in-Err g c =
       longest = λ n none. cc;
       covers = λ n none. cc;
       sized = λ n bytes none told. cc;
+      right = λ states bytes none told. cc;
     }
 
 pub returns-in-Ok-clause-did : goal.returns-in-Ok-clause-did

@@ -14,6 +14,7 @@ invariant_of-self g c =
       longest = s.longest;
       covers = covers-after s _ c.set_mark.result c.set_mark.ensures.seen;
       sized = sized-after s _ c.set_mark.result (SetProtected c.args.on ∷ []) (keeps-protected c.args.on) (protected-does s _ c.set_mark.result c.requires c.args.on c.set_mark.ensures.carried);
+      right = λ states bytes none told. cc;
     }
 
 pub returns-in-Ok-clause-did : goal.returns-in-Ok-clause-did

@@ -1,35 +1,74 @@
-use Rattle.std.proofs.Common.{[], ◌∷◌}
-use Rattle.qic_base.specs.Step.{Spoil}
+use Rattle.std.proofs.Common.{[], ◌∷◌, refl, sym, ◌∙◌, arith}
+use Rattle.qic_base.specs.Step.{Spoil, spoiled_view}
 use Rattle.std.proofs.Common.{◌≡◌}
 use Rattle.qic_base.specs.Tape.{spoil_answer}
+use Rattle.cart_image.proofs.Carries.{Failed-Broke}
+use Rattle.cart_image.proofs.Exits.{Carried-after, CarriedBy-failed}
+use Rattle.cart_image.proofs.Known.{same-right, state-here, changed-right, told-same}
 use Rattle.cart_image.proofs.Sizes.{keeps-spoil}
-use Rattle.cart_image.proofs.Tapes.{Tape-done, Tape-broke, spoil-does, seen-fact, sized-after, covers-after}
+use Rattle.cart_image.proofs.Tapes.{Tape-done, Tape-broke, tape-settled, spoil-does, seen-fact, sized-after, covers-after}
 use Rattle.cart_image.proofs.tape.ImageTapeTape.spoil.Goals as goal
+
+pub returns-in-Err-clause-did : goal.returns-in-Err-clause-did
+returns-in-Err-clause-did g c =
+    let l = c.in-Err.ensures.looked in
+    Tape-broke _ _ (Spoil c.args.segment c.args.sector ∷ []) (Failed-Broke g.D.Disk.means _ (tape-settled c.args.self.now) l.0 _ (Spoil c.args.segment c.args.sector ∷ []) l.1 l.2)
+
+pub returns-in-Err-clause-steps : goal.returns-in-Err-clause-steps
+returns-in-Err-clause-steps g c = CarriedBy-failed _ g.D.Disk.means _ _ _ _ _ c.in-Err.ensures.looked
+
+pub spoil-requires-clause-state : goal.spoil-requires-clause-state
+spoil-requires-clause-state g c =
+    state-here c.args.self.now c.size-size.result c.args.segment c.args.sector c.size-size.ensures c.requires c.in-Ok.states c.in-Ok.ensures.segment (λ bytes told. c.in-Ok.ensures.states bytes (c.in-Ok.ensures.looked.told ∙ told))
+    c.of-state.result c.of-state.ensures _ c.in-Ok.ensures.looked.told c.sector_number.result c.sector_number.ensures
 
 pub invariant_of-self : goal.invariant_of-self
 invariant_of-self g c =
     let s = c.args.self.now in
+    let t = c.look.new.self in
     let settled = c.spoil.ensures.settled in
     record {
       settled = settled.only;
-      shortest = s.shortest;
-      longest = s.longest;
-      covers = covers-after s _ c.spoil.result c.spoil.ensures.seen;
-      sized = sized-after s _ c.spoil.result (Spoil c.args.segment c.args.sector ∷ []) (keeps-spoil c.args.segment c.args.sector)
-          (spoil-does s c.size-size.result c.args.segment c.args.sector c.size-size.ensures c.requires _ c.spoil.result c.sector_number.result c.sector_number.ensures c.spoil.ensures.carried);
+      shortest = t.shortest;
+      longest = t.longest;
+      covers = covers-after t _ c.spoil.result c.spoil.ensures.seen;
+      sized = λ n bytes size told. sized-after s _ c.spoil.result (Spoil c.args.segment c.args.sector ∷ []) (keeps-spoil c.args.segment c.args.sector)
+          (spoil-does s c.size-size.result c.args.segment c.args.sector c.size-size.ensures c.requires _ c.spoil.result c.sector_number.result c.sector_number.ensures (Carried-after g.D.Disk.means _ _ _ _ _ c.in-Ok.ensures.looked c.spoil.ensures.carried))
+          n bytes (sym c.in-Ok.ensures.size ∙ size) told;
+      right = λ states bytes is told. same-right _ _ _ is
+          (changed-right s c.size-size.result c.args.segment c.args.sector c.size-size.ensures c.requires c.in-Ok.states c.in-Ok.ensures.segment (λ b was. c.in-Ok.ensures.states b (c.in-Ok.ensures.looked.told ∙ was))
+          c.of-state.result c.of-state.ensures _ (Spoil c.args.segment c.args.sector) spoiled_view (λ d. refl)
+          (spoil-does s c.size-size.result c.args.segment c.args.sector c.size-size.ensures c.requires _ _ c.sector_number.result c.sector_number.ensures (Carried-after g.D.Disk.means _ _ _ _ _ c.in-Ok.ensures.looked c.in-Ok-spoil.ensures.carried))
+          c.spoiled.result c.spoiled.ensures c.with.result c.with.ensures.segment c.with.ensures.states (omega arith) bytes told);
     }
 
-pub returns-in-Ok-clause-did : goal.returns-in-Ok-clause-did
-returns-in-Ok-clause-did g c =
+pub invariant_of-self-in-Err-spoil : goal.invariant_of-self-in-Err-spoil
+invariant_of-self-in-Err-spoil g c =
     let s = c.args.self.now in
-    Tape-done _ _ (Spoil c.args.segment c.args.sector ∷ []) (spoil-does s c.size-size.result c.args.segment c.args.sector c.size-size.ensures c.requires _ _ c.sector_number.result c.sector_number.ensures c.in-Ok.ensures.carried)
+    let t = c.look.new.self in
+    let settled = c.spoil.ensures.settled in
+    record {
+      settled = settled.only;
+      shortest = t.shortest;
+      longest = t.longest;
+      covers = covers-after t _ c.spoil.result c.spoil.ensures.seen;
+      sized = λ n bytes size told. sized-after s _ c.spoil.result (Spoil c.args.segment c.args.sector ∷ []) (keeps-spoil c.args.segment c.args.sector)
+          (spoil-does s c.size-size.result c.args.segment c.args.sector c.size-size.ensures c.requires _ c.spoil.result c.sector_number.result c.sector_number.ensures (Carried-after g.D.Disk.means _ _ _ _ _ c.in-Ok.ensures.looked c.spoil.ensures.carried))
+          n bytes (sym c.in-Ok.ensures.size ∙ size) told;
+      right = λ states bytes none told. cc;
+    }
 
-pub returns-in-Ok-clause-answer : goal.returns-in-Ok-clause-answer
-returns-in-Ok-clause-answer g c =
+pub returns-in-Ok-spoil-clause-did : goal.returns-in-Ok-spoil-clause-did
+returns-in-Ok-spoil-clause-did g c =
+    let s = c.args.self.now in
+    Tape-done _ _ (Spoil c.args.segment c.args.sector ∷ []) (spoil-does s c.size-size.result c.args.segment c.args.sector c.size-size.ensures c.requires _ _ c.sector_number.result c.sector_number.ensures (Carried-after g.D.Disk.means _ _ _ _ _ c.in-Ok.ensures.looked c.in-Ok-spoil.ensures.carried))
+
+pub returns-in-Err-spoil-clause-did : goal.returns-in-Err-spoil-clause-did
+returns-in-Err-spoil-clause-did g c =
+    let s = c.args.self.now in
+    Tape-broke _ _ (Spoil c.args.segment c.args.sector ∷ []) (spoil-does s c.size-size.result c.args.segment c.args.sector c.size-size.ensures c.requires _ _ c.sector_number.result c.sector_number.ensures (Carried-after g.D.Disk.means _ _ _ _ _ c.in-Ok.ensures.looked c.in-Err-spoil.ensures.carried))
+
+pub returns-in-Ok-spoil-clause-answer : goal.returns-in-Ok-spoil-clause-answer
+returns-in-Ok-spoil-clause-answer g c =
     seen-fact c.args.self.now c.size-size.result c.args.segment c.args.sector c.size-size.ensures c.requires c.sector_number.result c.sector_number.ensures
-    (λ v. c.in-Ok.spoiled ≡ spoil_answer v) c.in-Ok.ensures.answer
-
-pub returns-in-Err-clause-did : goal.returns-in-Err-clause-did
-returns-in-Err-clause-did g c =
-    let s = c.args.self.now in
-    Tape-broke _ _ (Spoil c.args.segment c.args.sector ∷ []) (spoil-does s c.size-size.result c.args.segment c.args.sector c.size-size.ensures c.requires _ _ c.sector_number.result c.sector_number.ensures c.in-Err.ensures.carried)
+    (λ v. c.in-Ok-spoil.spoiled ≡ spoil_answer v) (told-same _ c.in-Ok.ensures.looked.told c.in-Ok-spoil.ensures.answer)
