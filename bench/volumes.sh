@@ -1,0 +1,175 @@
+#!/usr/bin/env bash
+# Times format, append and restore of one volume on a cartridge of 100 segments per track, a file on a disk and
+# one in memory: beside the bare writes and syncs of the same places in the same order, beside cp of the image,
+# and beside tar into a file with one sync. Restore also with three lost sectors in each segment of the volume.
+#
+#     bench/volumes.sh [RUNS [BYTES [FOLDER ..]]]
+#
+# RUNS is how often each is timed, in turn (5); BYTES is the volume's length (60000000); the FOLDERs are where the
+# files lie (the top of this repository, and /dev/shm). It prints the medians of the seconds on the wall and of those
+# of a processor, the most resident memory that a run took, and how many times the bare calls' seconds on the wall
+# the first is, or the bytes a second. The variable TAPE may name another build of the program than ./tape's.
+set -euo pipefail
+runs=${1:-5}
+bytes=${2:-60000000}
+folders=("${@:3}")
+top=$(cd "$(dirname "$0")/.." && pwd)
+[ ${#folders[@]} -gt 0 ] || folders=("$top" /dev/shm)
+
+# Whole segments of the volume, from segment 3 on; a cartridge of 2,800 has 2,797 of them.
+last=$((2 + (bytes + 29695) / 29696))
+[ "$last" -lt 2800 ] || { echo 'volumes.sh: the volume is longer than the cartridge' >&2; exit 2; }
+
+missing=''
+for tool in gcc strace tar awk sed sort cp cmp head sync mktemp; do
+    command -v "$tool" >/dev/null || missing="$missing $tool"
+done
+for folder in "${folders[@]}"; do
+    [ -w "$folder" ] || missing="$missing $folder"
+done
+[ -z "$missing" ] || { echo "volumes.sh: not to be had here:$missing" >&2; exit 1; }
+
+rooms=()
+trap 'rm -rf "${rooms[@]}"' EXIT
+make_room() {
+    made=$(mktemp -d "$1/volumes.XXXXXX")
+    rooms+=("$made")
+}
+
+# What is only made once lies in memory, where there is such a folder.
+if [ -w /dev/shm ]; then make_room /dev/shm; else make_room "${TMPDIR:-/tmp}"; fi
+base=$made
+
+if [ -n "${TAPE:-}" ]; then
+    program=$TAPE
+else
+    "$top/tape" </dev/null >/dev/null || [ $? = 2 ]
+    program=$top/crates/tape/out/tape
+fi
+gcc -O2 -o "$base/volumes" "$top/bench/volumes.c"
+
+# Runs the program under strace, and leaves its reads, writes and syncs in the file $base/calls.NAME.
+traced() {
+    strace -f -s 0 -e trace=read,write,pread64,pwrite64,ftruncate,fsync,fdatasync -o "$base/calls.$1" \
+        "$program" "${@:2}"
+}
+
+# The writes and syncs among them, or the reads of the image, for the helper.
+listed() {
+    sed -nE -e 's/^[0-9]+ +//' \
+        -e 's/^pwrite64\([0-9]+, "[^"]*"(\.\.\.)?, ([0-9]+), ([0-9]+)\).*/write \3 \2/p' \
+        -e 's/^ftruncate\([0-9]+, ([0-9]+)\).*/length \1/p' \
+        -e 's/^fsync\(.*/sync/p' -e 's/^fdatasync\(.*/datasync/p' "$base/calls.$1" > "$base/list.$1"
+}
+read_list() {
+    sed -nE -e 's/^[0-9]+ +//' \
+        -e 's/^pread64\([0-9]+, "[^"]*"(\.\.\.)?, ([0-9]+), ([0-9]+)\).*/read \3 \2/p' "$base/calls.$1" > "$base/list.$1"
+}
+
+counted() {
+    sed -E 's/^[0-9]+ +//' "$base/calls.$1" | awk -F'(' -v name="$1" '
+        /^[a-z]/ { count[$1]++ }
+        END {
+            line = name ":"
+            split("read pread64 write pwrite64 ftruncate fsync fdatasync", calls, " ")
+            for (i = 1; i <= 7; i++) if (count[calls[i]]) line = line " " calls[i] " " count[calls[i]]
+            print line
+        }'
+}
+
+echo 'making the images' >&2
+head -c "$bytes" /dev/urandom > "$base/input"
+"$program" "$base/blank.img" new 100 >/dev/null
+cp "$base/blank.img" "$base/formatted.img"
+traced format "$base/formatted.img" format L >/dev/null
+cp --sparse=never "$base/formatted.img" "$base/whole.img"
+traced append "$base/whole.img" append v < "$base/input" >/dev/null
+traced restore "$base/whole.img" restore 1 | cmp - "$base/input"
+cp --sparse=never "$base/whole.img" "$base/worn.img"
+for ((segment = 3; segment <= last; segment++)); do
+    for sector in 3 14 25; do
+        "$program" "$base/worn.img" lose $segment $sector
+    done
+done >/dev/null
+"$program" "$base/worn.img" restore 1 | cmp - "$base/input"
+listed format
+listed append
+read_list restore
+
+echo 'The calls of each command:'
+for name in format append restore; do counted $name; done
+for name in format append restore; do rm "$base/calls.$name"; done
+
+# A file as it was made, on the disk before the clock starts. A formatted image has no holes, where cp would make some.
+fresh() {
+    if [ "$1" = blank.img ]; then cp "$base/$1" "$room/image"; else cp --sparse=never "$base/$1" "$room/image"; fi
+    sync "$room/image"
+}
+
+# Runs a command, and puts down its seconds and its memory under a name.
+timed() {
+    "$base/volumes" run "${@:2}" 3>> "$room/figures.$1" >/dev/null
+}
+
+bare() {
+    "$base/volumes" replay "$base/list.$1" "$room/image" 3>> "$room/figures.bare_$1"
+}
+
+round() {
+    fresh blank.img; timed format "$program" "$room/image" format L
+    fresh blank.img; bare format
+    fresh formatted.img; timed append "$program" "$room/image" append v < "$room/input"
+    fresh formatted.img; bare append
+    fresh whole.img; timed restore "$program" "$room/image" restore 1
+    bare restore
+    fresh worn.img; timed restore_worn "$program" "$room/image" restore 1
+    timed cp cp --sparse=never "$room/image" "$room/copy"; rm "$room/copy"
+    timed tar sh -c 'tar -cf "$1/tar" -C "$1" input && sync "$1/tar"' sh "$room"; rm "$room/tar"
+    timed usage "$program" 2>/dev/null || [ $? = 2 ]
+}
+
+# The median of the seconds on the wall (1) or of a processor (2).
+median() {
+    sort -n -k "$2" "$room/figures.$1" | awk -v part="$2" '{ at[NR] = $part } END { printf "%.6f", at[int((NR + 1) / 2)] }'
+}
+
+memory() {
+    awk '$3 > most { most = $3 } END { print most }' "$room/figures.$1"
+}
+
+of_bare() {
+    awk -v ours="$(median "$1" 1)" -v used="$(median "$1" 2)" -v bare="$(median "bare_$1" 1)" -v memory="$(memory "$1")" \
+        -v name="$1" 'BEGIN {
+            printf "%-32s %9.3f s %9.3f s %6d kB   bare %9.3f s, ratio %.2f\n", name, ours, used, memory, bare, ours / bare
+        }'
+}
+
+of_bytes() {
+    awk -v ours="$(median "$1" 1)" -v used="$(median "$1" 2)" -v bytes="$2" -v memory="$(memory "$1")" -v name="$3" \
+        'BEGIN {
+            printf "%-32s %9.3f s %9.3f s %6d kB   %.1f million bytes a second\n", name, ours, used, memory, bytes / ours / 1e6
+        }'
+}
+
+echo
+echo "$(sed -n 's/^model name[^:]*: //p' /proc/cpuinfo | head -n 1), $(nproc) processors, load $(cut -d ' ' -f 1-3 /proc/loadavg); a volume of $bytes bytes; medians of $runs"
+for folder in "${folders[@]}"; do
+    make_room "$folder"
+    room=$made
+    cp "$base/input" "$room/input"
+    for ((run = 1; run <= runs; run++)); do
+        echo "$folder, run $run of $runs" >&2
+        round
+    done
+    echo
+    echo "$folder:"
+    of_bare format
+    of_bare append
+    of_bytes restore "$bytes" restore
+    of_bytes bare_restore "$bytes" '  its reads alone'
+    of_bytes restore_worn "$bytes" 'restore, three lost a segment'
+    of_bytes cp "$(stat -c %s "$room/image")" 'cp of the image'
+    of_bytes tar "$bytes" 'tar and one sync'
+    echo "the usage line: $(memory usage) kB"
+    rm -rf "$room"
+done
