@@ -21,7 +21,7 @@ last=$((2 + (bytes + 29695) / 29696))
 [ "$last" -lt 2800 ] || { echo 'volumes.sh: the volume is longer than the cartridge' >&2; exit 2; }
 
 missing=''
-for tool in gcc strace tar awk sed sort cp cmp head sync mktemp; do
+for tool in gcc strace tar awk sed sort cp cmp cut head nproc stat sync mktemp; do
     command -v "$tool" >/dev/null || missing="$missing $tool"
 done
 for folder in "${folders[@]}"; do
@@ -54,13 +54,15 @@ traced() {
         "$program" "${@:2}"
 }
 
-# The writes and syncs among them, or the reads of the image, for the helper.
+# The writes and syncs among them, for the helper.
 listed() {
     sed -nE -e 's/^[0-9]+ +//' \
         -e 's/^pwrite64\([0-9]+, "[^"]*"(\.\.\.)?, ([0-9]+), ([0-9]+)\).*/write \3 \2/p' \
         -e 's/^ftruncate\([0-9]+, ([0-9]+)\).*/length \1/p' \
         -e 's/^fsync\(.*/sync/p' -e 's/^fdatasync\(.*/datasync/p' "$base/calls.$1" > "$base/list.$1"
 }
+
+# The reads of the image among them.
 read_list() {
     sed -nE -e 's/^[0-9]+ +//' \
         -e 's/^pread64\([0-9]+, "[^"]*"(\.\.\.)?, ([0-9]+), ([0-9]+)\).*/read \3 \2/p' "$base/calls.$1" > "$base/list.$1"
