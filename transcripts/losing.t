@@ -119,8 +119,9 @@ Parity that is not of the data
 ------------------------------
 
 When an append is stopped behind its first write to the table, the data are new and the parity is old. The data count,
-and the next look writes the parity, unless the cartridge is protected. Here a byte behind the signature of a free slot is changed, which means nothing, in
-the last data sector: the parity of a column of 29 bytes of which the last alone is 1 is C0 C0 01.
+and the next look writes the parity, unless the cartridge is protected. Here a byte behind the signature of a free slot
+is changed, which means nothing, in the last data sector: the parity of a column of 29 bytes of which the last alone is 1
+is C0 C0 01.
 
   $ cp whole.img cart.img
   $ put 2 28 127 '\x01'
@@ -160,9 +161,9 @@ Where the last two bytes are 1 and 0 it is 67 A6 C0.
    a6
    c0
 
-But where data are lost, too, the parity does not help to find them. Then other sectors are left out of account, one set
-of them after the other: with one data sector lost alone the last set leaves sectors 30 and 31 out, and there is always
-a code block for that, which may be a wrong one. With sector 1 changed:
+Where a sector of data is lost, too, the code may agree with no block. Then some sectors that can be read are left out of
+account as well, a set at a time, as an append that was stopped may have left them. Behind one lost sector of data the last
+set has it and 30 and 31, and three sectors can always be found. With byte 500 of sector 1 changed:
 
   $ changed() { cp whole.img cart.img; put 2 1 500 '\x07'; each lose 2 "$@" > done; tape cart.img list; }
   $ changed
@@ -177,18 +178,137 @@ a code block for that, which may be a wrong one. With sector 1 changed:
   $ changed 5
   1 3 3 10 1994-03-01T12:00:00 a
   volumes 1
+
+But no append did this. Sector 1 was wrong, none of the sets has it, and so sector 5 comes back with a wrong byte, too. Here
+nothing of the list stands at byte 500; but where a sector may hold wrong bytes without being lost, the table may be read
+wrongly.
+
+  $ look 2 1 500 1
+   07
+  $ look 2 5 500 1
+   3a
+
+With two sectors lost, one of them of data, a set is left only where the other is sector 29 or 30. Else the table is refused.
+
+  $ changed 5 30
+  1 3 3 10 1994-03-01T12:00:00 a
+  volumes 1
   $ changed 5 31
   tape: the volume table does not agree
   [8]
   $ changed 0 28
   tape: the volume table does not agree
   [8]
+
+So it is with more than three.
+
   $ changed 5 29 30 31
   tape: segment 2 lost 4 sectors
   [11]
   $ changed 0 1 2 3
   tape: segment 2 lost 4 sectors
   [11]
+
+A stopped append, and one sector more
+-------------------------------------
+
+An append writes the table's sector that has the new entry, and then the three of parity. Here is one before that and one
+behind it; the volume has no byte, so they differ in these four sectors alone.
+
+  $ cp whole.img cart.img
+  $ tape cart.img append b < /dev/null
+  appended 2 0 4 4
+  $ cp cart.img both.img
+  $ stopped() {
+  >     cp both.img cart.img
+  >     for sector; do
+  >         place=$((127 + 16 * (32 * 2 + sector)))
+  >         dd if=whole.img of=cart.img bs=64 skip=$place seek=$place count=16 conv=notrunc status=none
+  >     done
+  > }
+  $ stopped 0 29 30 31
+  $ cmp whole.img cart.img
+
+Stopped behind the first of the writes, with the parity still old, it shows the new list. With sector 5 lost behind that
+no block agrees, and of the sets that are tried the first that helps is sector 5 with the last sector that has an entry,
+sector 0: the list of before. The look settles the table: first sector 0 is written, and then sector 5.
+
+  $ stopped 29 30 31
+  $ tape cart.img list
+  1 3 3 10 1994-03-01T12:00:00 a
+  2 4 4 0 1970-01-01T00:00:00 b
+  volumes 2
+  $ cmp both.img cart.img
+  $ stopped 29 30 31
+  $ tape cart.img lose 2 5
+  lost 2 5
+  $ tape cart.img list
+  1 3 3 10 1994-03-01T12:00:00 a
+  volumes 1
+  $ cmp whole.img cart.img
+
+Stopped behind the second, with sector 29 new, it comes back as the list behind the append, by the sectors 5, 30 and 31.
+
+  $ stopped 30 31
+  $ tape cart.img lose 2 5
+  lost 2 5
+  $ tape cart.img list
+  1 3 3 10 1994-03-01T12:00:00 a
+  2 4 4 0 1970-01-01T00:00:00 b
+  volumes 2
+  $ cmp both.img cart.img
+
+If sector 0 itself is lost there, the list is that of before, by the sectors 0 and 29. Where the write of sector 29 or 30 was
+stopped, so that this one is lost as well, it is so:
+
+  $ stopped 30 31
+  $ tape cart.img lose 2 0
+  lost 2 0
+  $ tape cart.img list
+  1 3 3 10 1994-03-01T12:00:00 a
+  volumes 1
+  $ stopped 29 30 31
+  $ each lose 2 5 29
+  2 of 2 done
+  $ tape cart.img list | tail -n 1
+  volumes 1
+  $ stopped 30 31
+  $ each lose 2 5 30
+  2 of 2 done
+  $ tape cart.img list | tail -n 1
+  volumes 2
+
+Whichever sector is lost, the table comes back as one of the two, and the look leaves the one image or the other. Behind the
+first write that is the new list where the sector is of parity; behind the second it is the old one where the sector is 0;
+and from the third on it is the new one.
+
+  $ each_lost() {
+  >     for more in $(seq 0 31); do
+  >         stopped "$@"
+  >         tape cart.img lose 2 $more > done
+  >         tape cart.img list | tail -n 1
+  >         cmp -s whole.img cart.img || cmp both.img cart.img
+  >     done | sort | uniq -c | sed 's/^ *//'
+  > }
+  $ each_lost 29 30 31
+  29 volumes 1
+  3 volumes 2
+  $ each_lost 30 31
+  1 volumes 1
+  31 volumes 2
+  $ each_lost 31
+  32 volumes 2
+  $ each_lost
+  32 volumes 2
+
+A second one more may be too many.
+
+  $ stopped 29 30 31
+  $ each lose 2 1 5
+  2 of 2 done
+  $ tape cart.img list
+  tape: the volume table does not agree
+  [8]
 
 The header
 ----------

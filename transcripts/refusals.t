@@ -109,17 +109,17 @@ Another tool's header or volume table may be refused: by the name of the field, 
   $ told cart.img list
   7 tape: foreign slot 8
 
-The volume table may be beyond help: a lost sector that the parity, which was changed, does not agree with, or too many
+The volume table may be beyond help: two lost sectors, with which the parity, which was changed, does not agree, or too many
 that are lost.
 
   $ cp whole.img cart.img
   $ put 2 29 0 '\x01'
-  $ tape cart.img lose 2 5
-  lost 2 5
+  $ each lose 2 5 31
+  2 of 2 done
   $ told cart.img list
   8 tape: the volume table does not agree
-  $ each lose 2 0 1 2
-  3 of 3 done
+  $ each lose 2 0 1
+  2 of 2 done
   $ told cart.img info
   11 tape: segment 2 lost 4 sectors
 
