@@ -83,8 +83,9 @@ build() {
     at_once=$(awk -v most="$(nproc)" '/^MemAvailable:/ { n = int($2 / 3000000); print n < 1 ? 1 : n < most ? n : most }' \
         /proc/meminfo)
     (cd "$room" && rt all check --jobs "$at_once") 2>&1 | tee "$room/log" | tell || return
-    # The program was proved; a run without words links it, and ends with the usage line and status 2.
-    (cd "$room/crates/tape" && rt run < /dev/null) >> "$room/log" 2>&1 || true
+    # The program was proved; a run without words makes it for this machine's processor, and ends with the usage line and
+    # status 2.
+    (cd "$room/crates/tape" && rt run "--cpu=$("$top/bench/processor")" < /dev/null) >> "$room/log" 2>&1 || true
     mkdir -p "$(dirname "$program")"
     cp "$room/crates/tape/out/tape" "$program"
 }

@@ -2,11 +2,11 @@
 # Times crates/code_speed side by side with ISA-L's ec_encode_data (the Debian package libisal-dev), three
 # runs of each in turn, and prints ISA-L's time over ours, the median of the three, for encoding and for
 # solving: 1 is ISA-L's own speed. The words: how many segments a run goes through, and the processor that
-# both the program is built for and this machine has.
+# the program is built for: as ./tape builds it, where it is not given.
 set -eu
 times=${1:-100000}
-processor=${2:-x86-64-v3}
 top=$(cd "$(dirname "$0")/.." && pwd)
+processor=${2:-$("$top/bench/processor")}
 room=$(mktemp -d)
 trap 'rm -r "$room"' EXIT
 

@@ -25,7 +25,7 @@ const VOLUME: u64 = AGAIN + 32;
 /// Reads sector 0 of segment 2 once more.
 const BEHIND: u64 = VOLUME + 32;
 /// Writes the sector of segment 2 that has the new slot. The next three calls write its sectors 29, 30 and 31.
-const SLOT: u64 = BEHIND + 32;
+pub const SLOT: u64 = BEHIND + 32;
 /// All calls of an append.
 const CALLS: u64 = SLOT + 4;
 
@@ -33,7 +33,7 @@ const CALLS: u64 = SLOT + 4;
 const ONE: &[u8] = b"1 3 3 0 1970-01-01T00:00:00 e\nvolumes 1\n";
 
 /// What it prints of eight.
-const EIGHT: &[u8] = b"1 3 3 0 1970-01-01T00:00:00 e
+pub const EIGHT: &[u8] = b"1 3 3 0 1970-01-01T00:00:00 e
 2 4 4 0 1970-01-01T00:00:00 e
 3 5 5 0 1970-01-01T00:00:00 e
 4 6 6 0 1970-01-01T00:00:00 e
@@ -45,7 +45,7 @@ volumes 8
 ";
 
 /// What it prints of nine.
-const NINE: &[u8] = b"1 3 3 0 1970-01-01T00:00:00 e
+pub const NINE: &[u8] = b"1 3 3 0 1970-01-01T00:00:00 e
 2 4 4 0 1970-01-01T00:00:00 e
 3 5 5 0 1970-01-01T00:00:00 e
 4 6 6 0 1970-01-01T00:00:00 e
@@ -76,7 +76,7 @@ fn formatted_before(
 }
 
 /// The same with eight volumes, which fill sector 0 of the table.
-fn eight_before(
+pub fn eight_before(
     rt: &impl Abort,
     alloc: Global,
     call: u64,
@@ -95,7 +95,7 @@ fn eight_before(
 }
 
 /// Whether `list` prints this text, also a second time.
-fn lists(alloc: Global, unit: &mut Unit<MemTape>, text: &[u8]) -> bool {
+pub fn lists(alloc: Global, unit: &mut Unit<MemTape>, text: &[u8]) -> bool {
     let first = told(alloc, &["list"], unit, text);
     let second = told(alloc, &["list"], unit, text);
     first == (Status::Done, true) && second == first
