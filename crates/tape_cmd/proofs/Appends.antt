@@ -50,23 +50,23 @@ use Rattle.tape_cmd.specs.Outcome.{Outcome, refused}
 -- ---- what it comes to
 
 -- nothing is done, and this answered
-record WasRefused (outcome : Outcome) : Type 0 where
-  why : Status
-  acts : List Act
-  is : outcome ≡ record { acts = acts; taken = 0; status = why }
-  none : steps_of acts ≡ []
-  not_done : why ≢ status.Done
+pub record WasRefused (outcome : Outcome) : Type 0 where
+  pub why : Status
+  pub acts : List Act
+  pub is : outcome ≡ record { acts = acts; taken = 0; status = why }
+  pub none : steps_of acts ≡ []
+  pub not_done : why ≢ status.Done
 
 -- the table is settled, and the input appended
-record WasRun (name : List ℕ) (date : ℕ) (input : List ℕ) (c : Cartridge) (plain : Plain) (outcome : Outcome) : Type 0 where
-  unprotected : c.info.protected ≡ false
-  table : TableIs c plain.table_area
-  is : outcome ≡ appended name date input c plain.words plain.table_area (entries_of plain)
+pub record WasRun (name : List ℕ) (date : ℕ) (input : List ℕ) (c : Cartridge) (plain : Plain) (outcome : Outcome) : Type 0 where
+  pub unprotected : c.info.protected ≡ false
+  pub table : TableIs c plain.table_area
+  pub is : outcome ≡ appended name date input c plain.words plain.table_area (entries_of plain)
 
 refusal : (why : Status) (outcome : Outcome) → why ≢ status.Done → outcome ≡ refused why → WasRefused outcome
 refusal why outcome other is = record { why = why; acts = []; is = is; none = refl; not_done = other }
 
-course : (name : List ℕ) (date : ℕ) (input : List ℕ) (c : Cartridge) (plain : Plain) (outcome : Outcome) → Stands c plain →
+pub course : (name : List ℕ) (date : ℕ) (input : List ℕ) (c : Cartridge) (plain : Plain) (outcome : Outcome) → Stands c plain →
     AppendOutcome name date (Some c) input outcome → WasRefused outcome ⊎ WasRun name date input c plain outcome
 course name date input c plain outcome stood (inl (locked, is)) = inl (refusal status.Protected outcome (λ same. cc) is)
 course name date input c plain outcome stood (inr (free, (m, mounts, opened))) =
@@ -85,7 +85,7 @@ course name date input c plain outcome stood (inr (free, (m, mounts, opened))) =
 -- ---- behind the settling
 
 -- some steps behind those that settle the table, and those that would settle it again
-abbrev behind_settling : Cartridge → Plain → List Step → List Step
+abbrev pub behind_settling : Cartridge → Plain → List Step → List Step
 behind_settling c plain steps =
     settling_steps plain.table_area c ++ (settling_steps plain.table_area (settled plain.table_area c) ++ steps)
 
@@ -111,7 +111,7 @@ stopped_behind c plain steps left stood table torn =
       ]
     ]
 
-done_behind : (c : Cartridge) (plain : Plain) (steps : List Step) → TableIs c plain.table_area →
+pub done_behind : (c : Cartridge) (plain : Plain) (steps : List Step) → TableIs c plain.table_area →
     effects (behind_settling c plain steps) (Some c) ≡ Some (changed_by steps (settled plain.table_area c))
 done_behind c plain steps table =
     let area : List (List ℕ) = plain.table_area in
@@ -125,19 +125,19 @@ done_behind c plain steps table =
 
 -- ---- the segments' acts
 
-abbrev kept_of : Cartridge → Plain → Kept
+abbrev pub kept_of : Cartridge → Plain → Kept
 kept_of c plain = kept_on c plain.words plain.table_area (entries_of plain)
 
-abbrev segments_acts : Cartridge → Plain → (input : List ℕ) → List Act
+abbrev pub segments_acts : Cartridge → Plain → (input : List ℕ) → List Act
 segments_acts c plain input = input_writes (kept_of c plain) None input
 
 -- and the table's, where there is room
-abbrev table_acts : Cartridge → Plain → (name : List ℕ) → (date : ℕ) → (input : List ℕ) → List Act
+abbrev pub table_acts : Cartridge → Plain → (name : List ℕ) → (date : ℕ) → (input : List ℕ) → List Act
 table_acts c plain name date input =
     entry_acts (kept_of c plain) name date (reply_behind (length (entries_of plain))) (taking (room_in (kept_of c plain)) None input)
 
 -- there is room for all of the input
-abbrev fits : Cartridge → Plain → (input : List ℕ) → Bool
+abbrev pub fits : Cartridge → Plain → (input : List ℕ) → Bool
 fits c plain input = has_room plain.words (entries_of plain) (last_segment c) (length input)
 
 free_carry : (c : Cartridge) (plain : Plain) → All (λ s. Carries (mask_at plain.words s)) (free_in (kept_of c plain))
@@ -153,7 +153,7 @@ free_if : (before : ℕ) (some : Bool) (acts : List Act) → AreWrites (IsFree b
 free_if before true acts free = free
 free_if before false acts free = tt
 
-segments_are_free : (c : Cartridge) (plain : Plain) (input : List ℕ) →
+pub segments_are_free : (c : Cartridge) (plain : Plain) (input : List ℕ) →
     AreWrites (IsFree (last_end (entries_of plain))) (steps_of (segments_acts c plain input))
 segments_are_free c plain input =
     let have : ℕ = room_in (kept_of c plain) in
@@ -175,7 +175,7 @@ segments_stand c plain input left stood table torn =
 
 -- ---- where there is no room for all of the input
 
-no_table : (c : Cartridge) (plain : Plain) (name : List ℕ) (date : ℕ) (input : List ℕ) → fits c plain input ≡ false →
+pub no_table : (c : Cartridge) (plain : Plain) (name : List ℕ) (date : ℕ) (input : List ℕ) → fits c plain input ≡ false →
     segments_acts c plain input ++ table_acts c plain name date input ≡ segments_acts c plain input
 no_table c plain name date input small =
     let have : ℕ = room_in (kept_of c plain) in
@@ -208,13 +208,13 @@ table_writes_are c plain name date input enough =
 same_last : (c : Cartridge) (area : List (List ℕ)) → TableIs c area → last_segment (settled area c) ≡ last_segment c
 same_last c area table = ap (λ (i : TapeInfo). 28 * i.segments_per_track - 1) (settled_keeps_table c area table).info
 
-same_plain : (name : List ℕ) (date : ℕ) (input : List ℕ) (c : Cartridge) (plain : Plain) → TableIs c plain.table_area →
+pub same_plain : (name : List ℕ) (date : ℕ) (input : List ℕ) (c : Cartridge) (plain : Plain) → TableIs c plain.table_area →
     new_plain (settled plain.table_area c) plain name date input ≡ new_plain c plain name date input
 same_plain name date input c plain table =
     ap (λ (last : ℕ). with_volume plain (appended_volume plain last name date input)) (same_last c plain.table_area table)
 
 -- they are all the writes of an append to the settled cartridge
-steps_are : (name : List ℕ) (date : ℕ) (input : List ℕ) (c : Cartridge) (plain : Plain) → TableIs c plain.table_area → fits c plain input ≡ true →
+pub steps_are : (name : List ℕ) (date : ℕ) (input : List ℕ) (c : Cartridge) (plain : Plain) → TableIs c plain.table_area → fits c plain input ≡ true →
     steps_of (segments_acts c plain input ++ table_acts c plain name date input)
     ≡ appends.steps_of (settled plain.table_area c) plain name date input
 steps_are name date input c plain table enough =
@@ -272,7 +272,7 @@ append_stopped name date input c plain outcome left label word content whole sto
 
 -- ---- done
 
-done_fits : (b : Bool) (need have : ℕ) → cond b status.Done (status.Full need have) ≡ status.Done → b ≡ true
+pub done_fits : (b : Bool) (need have : ℕ) → cond b status.Done (status.Full need have) ≡ status.Done → b ≡ true
 done_fits true need have is = refl
 done_fits false need have is = absurd (cc)
 

@@ -88,16 +88,17 @@ some_text words.Pulses built = (_, (None, ([], refl)))
 some_text command built = absurd (cc)
 
 -- one that was refused may have printed nothing, ..
-pub none_printed : (command : Words) → RefusedPrints command []
-none_printed (words.Restore number) = tt
-none_printed words.Pulses = (None, ([], refl))
-none_printed command = refl
+pub none_printed : (command : Words) (answer : Status) → RefusedPrints command answer []
+none_printed (words.Restore number) (status.Lost segment lost) = tt
+none_printed (words.Restore number) (status.Mismatch segment) = tt
+none_printed words.Pulses answer = (None, ([], refl))
+none_printed command answer = refl
 
 -- .. and what it printed is a front of a text
-pub refused_front : (command : Words) (text : List ℕ) → (traits_of command).built ≡ true → RefusedPrints command text → (rest : List ℕ) × CommandPrints command (text ++ rest)
-refused_front (words.Restore number) text built prints = ([], tt)
-refused_front words.Pulses text built prints = ([], subst AreLevels (sym (append-nil text)) prints)
-refused_front command text built prints =
+pub refused_front : (command : Words) (answer : Status) (text : List ℕ) → (traits_of command).built ≡ true → RefusedPrints command answer text → (rest : List ℕ) × CommandPrints command (text ++ rest)
+refused_front (words.Restore number) answer text built prints = ([], tt)
+refused_front words.Pulses answer text built prints = ([], subst AreLevels (sym (append-nil text)) prints)
+refused_front command answer text built prints =
     let some = some_text command built in
     (some.0, subst (λ (front : List ℕ). CommandPrints command (front ++ some.0)) (sym prints) some.1)
 
@@ -168,7 +169,7 @@ module _ {T K : Type 0} (t : tapes.Meaning T) (k : sinks.Meaning K) where
     left = none_taken why 0;
     sound = sound;
     none_taken = λ blind. refl;
-    prints = ((λ is. absurd (other is)), (λ unlike. none_printed command));
+    prints = ((λ is. absurd (other is)), (λ unlike. none_printed command why));
     silent = λ still unlike. refl;
     fault = tt;
   })
@@ -185,7 +186,7 @@ module _ {T K : Type 0} (t : tapes.Meaning T) (k : sinks.Meaning K) where
     left = none_taken why 0;
     sound = sound;
     none_taken = λ blind. refl;
-    prints = ((λ is. absurd (other is)), (λ unlike. none_printed command));
+    prints = ((λ is. absurd (other is)), (λ unlike. none_printed command why));
     silent = λ still unlike. refl;
     fault = tt;
   })

@@ -294,7 +294,7 @@ module _ {T S K : Type 0} (t : tapes.Meaning T) (s : sources.Meaning S) (k : sin
         took = finished.went.wrote.took;
       }
       by_answer (inr other) =
-          let front = refused_front command (output_of finished.outcome) spelled.built (finished.prints.1 other) in record {
+          let front = refused_front command answer (output_of finished.outcome) spelled.built (finished.prints.1 other) in record {
             text = output_of finished.outcome;
             rest = front.0;
             is_front = front.1;

@@ -8,11 +8,13 @@ pub mod Hands
 pub mod Listings
 pub mod MachineLaws
 pub mod Mounted
+pub mod OneLoss
 pub mod Opened
 pub mod PlainLaws
 pub mod Promises
 pub mod Restored
 pub mod Scrubbed
+pub mod Survives
 pub mod Totals
 pub mod Trains
 pub mod Values

@@ -20,12 +20,13 @@ use Rattle.tape_cmd.specs.Laws.{MachineIsFunction, MachineAnswers}
 use Rattle.tape_cmd.specs.Machine.{HasValues, HasInputFault, Spells, SpellsNone}
 use Rattle.tape_cmd.specs.Runs.{InputLeft, is_fault, is_outcome, may_come_from, NamesFault, Finished, IsCutOff, Ends, EndsBlind}
 use Rattle.acts.specs.Around.{no_source, around}
-use Rattle.tape_cmd.specs.Headline.{Stepped, Answers, WordsLeave, EachLeft, SpellsOne, PrintsFront}
+use Rattle.tape_cmd.specs.Headline.{Stepped, Answers, WordsLeave, EachLeft, SpellsOne, PrintsRefused, PrintsFront}
 use Rattle.tape_cmd.specs.Promises.{Promises}
 use Rattle.tape_cmd.proofs.GivenBack.{gives_back}
-use Rattle.tape_cmd.proofs.Endings.{appends_none, any_input, some_text}
+use Rattle.tape_cmd.proofs.Endings.{appends_none, any_input, some_text, none_printed}
 use Rattle.tape_cmd.proofs.Ends.{Laws, is_a_fault, each_left, stops_go_on, ends_asked, ends_cause, ends_answers, ends_carried, ends_cut, ends_stops, ends_joins, ends_otherwise, ends_named, ends_finished, ends_begun, ends_silent}
 use Rattle.tape_cmd.proofs.MachineLaws.{machine_is_function_where, machine_answers_where}
+use Rattle.tape_cmd.proofs.Survives.{survives_one_loss, none_survives}
 use Rattle.tape_cmd.proofs.Volumes.{volumes_stay, list_stays, stops_format, stops_append, is_changed, may_change, none_changed}
 use Rattle.tape_cmd.proofs.Values.{has_values}
 
@@ -51,6 +52,11 @@ over_left : {A : Type 0} (held : Option A) (left : Option (List ℕ)) (P R : A �
 over_left None left P R known follows = tt
 over_left (Some a) left P R known follows = (input_of left, input_told left, follows a known.0 (input_of left) known.2)
 
+-- lines are read by no command that reads nothing
+lines_are_read : (command : Words) → (traits_of command).reads ≡ false → (traits_of command).lines ≡ false
+lines_are_read words.Pulses blind = absurd (cc)
+lines_are_read command blind = refl
+
 none_has : (command : Words) (input : List ℕ) (line place : ℕ) → (traits_of command).reads ≡ false → HasInputFault command input line place → ⊥
 none_has words.Pulses input line place blind fault = cc
 none_has command input line place blind fault = fault
@@ -59,7 +65,10 @@ no_fault_named : (command : Words) (answer : Status) (left : Option (List ℕ)) 
     IfSome left (λ input. NamesFault command input answer)
 no_fault_named command answer None blind sound = tt
 no_fault_named command answer (Some input) blind sound = record {
-  named = λ line place is. let no = ap (λ (a : Status). may_come_from a command) is in absurd (cc);
+  named = λ line place is.
+      let no = ap (λ (a : Status). may_come_from a command) is in
+      let lineless = lines_are_read command blind in
+      absurd (cc);
   none = λ done line place fault. none_has command input line place blind fault;
 }
 
@@ -69,7 +78,7 @@ all_left (Some bytes) = refl
 
 nothing_taken : (command : Words) (answer : Status) (taken : ℕ) (left : Option (List ℕ)) → (traits_of command).reads ≡ false → may_come_from answer command ≡ true → taken ≡ 0 →
     InputLeft answer taken left left
-nothing_taken command (status.ScriptFault line place) taken left blind sound none = absurd (cc)
+nothing_taken command (status.ScriptFault line place) taken left blind sound none = let lineless = lines_are_read command blind in absurd (cc)
 nothing_taken command answer taken left blind sound none = rw none (all_left left)
 
 never_rose : Rose 0 0 → ⊥
@@ -178,6 +187,7 @@ module _ {T S K : Type 0} (t : tapes.Meaning T) (s : sources.Meaning S) (k : sin
         formats = stops_format t (s.left old.source) words old.tape new.tape laws.right stops;
         appends = stops_append t (s.left old.source) words old.tape new.tape laws.right (λ other spells. has_values words other spells.spelled) stops;
         changed = is_changed t s k words command old new answer laws spelled values ends;
+        survives = survives_one_loss t s k words command old new answer laws spelled values (λ other spells. has_values words other spells.spelled) ends stops;
         restores =
             gives_back t s k words old new answer (ends_carried t s k words command old new answer laws spelled ends)
             (ends_cut t s k words command old new answer laws spelled values ends);
@@ -194,6 +204,10 @@ module _ {T S K : Type 0} (t : tapes.Meaning T) (s : sources.Meaning S) (k : sin
         printed = λ done.
             let f : Finished t s k command old new answer = finished (ap is_fault done) in
             record { command = command; spelled = spelled; text = output_of f.outcome; is_text = f.prints.0 done; took = f.went.wrote.took };
+        refused = λ other spells sound unlike.
+            let f : Finished t s k command old new answer = finished sound in
+            subst (λ (w : Words). PrintsRefused k w answer old.sink new.sink) (same_command spelled other spells)
+            (record { text = output_of f.outcome; is_text = f.prints.1 unlike; took = f.went.wrote.took });
         begun = λ other spells.
             subst (λ (w : Words). PrintsFront k w old.sink new.sink) (same_command spelled other spells)
             (ends_begun t s k words command old new answer laws spelled ends);
@@ -247,6 +261,7 @@ module _ {T S K : Type 0} (t : tapes.Meaning T) (s : sources.Meaning S) (k : sin
         formats = stops_format t (s.left old.source) words old.tape old.tape laws.right stops;
         appends = stops_append t (s.left old.source) words old.tape old.tape laws.right (λ other spells. has_values words other spells.spelled) stops;
         changed = none_changed t (s.left old.source) words old.tape answer laws.before nothing.0 nothing.1;
+        survives = none_survives t (s.left old.source) words old.tape answer laws.right nothing.0 nothing.1 (λ other spells. has_values words other spells.spelled) stops;
         restores = gives_back t s k words old old answer (λ sound. answers) (λ failing same. let fault = ap is_fault same ∙ is_a_fault failing in let no = nothing.0 in absurd (cc));
         joins = record {
           counts = record { tape = omega arith; source = omega arith; sink = omega arith };
@@ -261,6 +276,7 @@ module _ {T S K : Type 0} (t : tapes.Meaning T) (s : sources.Meaning S) (k : sin
         fault = λ line place same. let no = ap is_idle same in absurd (cc);
         no_fault = λ done. let no = ap is_idle done in absurd (cc);
         printed = λ done. let no = ap is_idle done in absurd (cc);
+        refused = λ command spells sound unlike. record { text = []; is_text = none_printed command answer; took = laws.nothing old.sink };
         begun = begun;
         silent = λ none done fault. refl;
         source = λ none. refl;

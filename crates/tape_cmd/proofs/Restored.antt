@@ -10,7 +10,7 @@ use Rattle.qic_base.specs.Sink as sinks
 use Rattle.qic_base.specs.Step.{Step as TapeStep}
 use Rattle.qic_base.specs.Tape as tapes
 use Rattle.qic_base.proofs.Writing.{TakesBoth}
-use Rattle.acts.specs.Acts.{Act, Failing, TapeFails, SourceFails, SinkFails, Cut}
+use Rattle.acts.specs.Acts.{Act, text_of, Failing, TapeFails, SourceFails, SinkFails, Cut}
 use Rattle.acts.specs.Around.{no_source, around}
 use Rattle.cartridge_spec.specs.Mounting as mounting
 use Rattle.cartridge_spec.specs.Mounting.{Mounting}
@@ -26,6 +26,7 @@ use Rattle.volume_store.specs.declared.fault.StoreFault.TheVariants as fault
 use Rattle.volume_store.specs.Restoring.{volume_at, RestoreEnds}
 use Rattle.tape_cmd.specs.declared.status.Status.{Status}
 use Rattle.tape_cmd.specs.declared.status.Status.TheVariants as status
+use Rattle.tape_cmd.specs.Machine.{RefusedPrints}
 use Rattle.tape_cmd.specs.Opening.{Opened, IsOpened, HasOpened, OpeningEnds, is_opening, store_status}
 use Rattle.tape_cmd.specs.Outcome.{Outcome, refused_behind, first_steps}
 use Rattle.tape_cmd.specs.Restore.{Gives, RestoreOutcome, ending_status}
@@ -79,6 +80,12 @@ ending_sound number needed done Restored at = refl
 ending_sound number needed done (LostIn segment lost) at = both_true (nat_lt 3 lost) true (lt-ltb 3 lost at.0) refl
 ending_sound number needed done (MismatchIn segment) at = refl
 
+-- some of the bytes, where a segment doesn't read
+refused_prints : (number : ℕ) (ending : Ending) (text : List ℕ) → ending_status ending ≢ status.Done → RefusedPrints (words.Restore number) (ending_status ending) text
+refused_prints number Restored text other = absurd (other refl)
+refused_prints number (LostIn segment lost) text other = tt
+refused_prints number (MismatchIn segment) text other = tt
+
 -- the outcome of these acts
 abbrev given : List Act → Status → Outcome
 given acts answer = record { acts = acts; taken = 0; status = answer }
@@ -128,7 +135,7 @@ module _ {T K : Type 0} (t : tapes.Meaning T) (k : sinks.Meaning K) (number : �
         left = none_taken (ending_status ending) 0;
         sound = ending_sound number (needed e) (length gave.acts) ending gave.ends;
         none_taken = λ blind. refl;
-        prints = ((λ done. tt), (λ other. tt));
+        prints = ((λ done. tt), (λ other. refused_prints number ending (text_of (quiet opening.steps ∷ gave.acts)) other));
         silent = λ still. absurd (cc);
         fault = tt;
       })

@@ -59,7 +59,7 @@ may_change answer = false
 -- ---- each that is left
 
 -- a fact of each cartridge that is left follows from another, over a whole cartridge or none
-each_weaker : {T : Type 0} {P Q : (held left : Option Cartridge) → Type 0} (t : tapes.Meaning T) (a b : T) → tapes.IsToldRight (t.told a) (t.size a) →
+pub each_weaker : {T : Type 0} {P Q : (held left : Option Cartridge) → Type 0} (t : tapes.Meaning T) (a b : T) → tapes.IsToldRight (t.told a) (t.size a) →
     ((held left : Option Cartridge) → IfSome held IsCartridge → P held left → Q held left) → EachLeft t a b P → EachLeft t a b Q
 each_weaker t a b right follows each = record {
   told = λ held told. told_weaker (t.told b) (λ left is. follows held left (told_whole held (t.told a) (t.size a) right told) is) (each.told held told);
@@ -256,7 +256,7 @@ left_by_format told words held left label date c spells is (inr (command, spelle
     let same : command ≡ commands.Format label date = one_command words command (commands.Format label date) spelled.spelled spells.spelled in
     inr (subst (λ (w : Words). CommandLeaves w (Some c) left) same (subst (λ (h : Option Cartridge). CommandLeaves command h left) is (by_command_left told command held left leaves)))
 
-whole_of : (held : Option Cartridge) (c : Cartridge) → IfSome held IsCartridge → held ≡ Some c → IsCartridge c
+pub whole_of : (held : Option Cartridge) (c : Cartridge) → IfSome held IsCartridge → held ≡ Some c → IsCartridge c
 whole_of held c whole is = subst (λ (h : Option Cartridge). IfSome h IsCartridge) is whole
 
 formats_or_not : (told : Option (List ℕ)) (words : List (List ℕ)) (held left : Option Cartridge) → IfSome held IsCartridge → WordsLeave told words held left → FormatsOrNot words held left
@@ -279,7 +279,7 @@ stops_format t told words a b right leaves = each_weaker t a b right (λ held le
 -- ---- appending
 
 -- an input is one of bytes, told or not
-of_bytes : (told : Option (List ℕ)) (input : List ℕ) → AreBytes told → IfSome told (λ bytes. input ≡ bytes) → IfNone told (All (λ b. b < 256) input) → All (λ b. b < 256) input
+pub of_bytes : (told : Option (List ℕ)) (input : List ℕ) → AreBytes told → IfSome told (λ bytes. input ≡ bytes) → IfNone told (All (λ b. b < 256) input) → All (λ b. b < 256) input
 of_bytes None input known is given = given
 of_bytes (Some bytes) input known is given = subst (λ (xs : List ℕ). All (λ b. b < 256) xs) (sym is) known
 
@@ -305,7 +305,7 @@ stops_append t told words a b right values leaves = each_weaker t a b right (λ 
 -- ---- when a run is over
 
 -- what stands behind steps that were done
-done_now : {T : Type 0} (t : tapes.Meaning T) (a b : T) (steps : List TapeStep) (held : Option Cartridge) → tapes.IsLeftNow t b → tapes.Done t a b steps → t.told a ≡ Some held →
+pub done_now : {T : Type 0} (t : tapes.Meaning T) (a b : T) (steps : List TapeStep) (held : Option Cartridge) → tapes.IsLeftNow t b → tapes.Done t a b steps → t.told a ≡ Some held →
     EachNow t a b (λ left. left ≡ effects steps held)
 done_now t a b steps held after did told =
     let is : t.told b ≡ Some (effects steps held) = after_steps t a b steps held did told in
@@ -317,21 +317,21 @@ done_now t a b steps held after did told =
           cc;
     }
 
-now_weaker : {T : Type 0} {P Q : (left : Option Cartridge) → Type 0} (t : tapes.Meaning T) (a b : T) → ((left : Option Cartridge) → P left → Q left) → EachNow t a b P → EachNow t a b Q
+pub now_weaker : {T : Type 0} {P Q : (left : Option Cartridge) → Type 0} (t : tapes.Meaning T) (a b : T) → ((left : Option Cartridge) → P left → Q left) → EachNow t a b P → EachNow t a b Q
 now_weaker t a b follows each = record {
   told = told_weaker (t.told b) follows each.told;
   now = λ left telling stops. follows left (each.now left telling stops);
 }
 
 -- over what was told, an outcome with this status was done
-record Did {T : Type 0} (t : tapes.Meaning T) (told : Option (List ℕ)) (command : Words) (a b : T) (held : Option Cartridge) (is : Status) : Type 0 where
-  input : List ℕ
-  is_told : IfSome told (λ bytes. input ≡ bytes)
-  bytes : IsOfBytes command told input
-  outcome : Outcome
-  sound : outcome.status ≡ is
-  plain : Yields command held input outcome
-  did : tapes.Done t a b (steps_of outcome.acts)
+pub record Did {T : Type 0} (t : tapes.Meaning T) (told : Option (List ℕ)) (command : Words) (a b : T) (held : Option Cartridge) (is : Status) : Type 0 where
+  pub input : List ℕ
+  pub is_told : IfSome told (λ bytes. input ≡ bytes)
+  pub bytes : IsOfBytes command told input
+  pub outcome : Outcome
+  pub sound : outcome.status ≡ is
+  pub plain : Yields command held input outcome
+  pub did : tapes.Done t a b (steps_of outcome.acts)
 
 module _ {T S K : Type 0} (t : tapes.Meaning T) (s : sources.Meaning S) (k : sinks.Meaning K) (command : Words) (old new : Outside T S K) (answer : Status) where
   finished_did : (held : Option Cartridge) (is : Status) → t.told old.tape ≡ Some held → Finished t s k command old new answer → answer ≡ is →
@@ -355,7 +355,7 @@ module _ {T S K : Type 0} (t : tapes.Meaning T) (s : sources.Meaning S) (k : sin
   not_otherwise SinkFails which is = refl
 
   -- it was carried out, though its output may be cut off
-  carried_out_did : (held : Option Cartridge) → IfSome held IsCartridge → (traits_of command).built ≡ true → HasValues command → (traits_of command).goes ≡ false →
+  pub carried_out_did : (held : Option Cartridge) → IfSome held IsCartridge → (traits_of command).built ≡ true → HasValues command → (traits_of command).goes ≡ false →
       t.told old.tape ≡ Some held →
       IsCarriedOut answer → Ends t s k command old new answer → Did t (s.left old.source) command old.tape new.tape held status.Done
   carried_out_did held whole built values still told (inl done) (inl finished) = finished_did held status.Done told finished done

@@ -13,7 +13,7 @@ use Rattle.tape_cmd.specs.declared.status.Status.{Status}
 use Rattle.tape_cmd.specs.declared.status.Status.TheVariants as status
 use Rattle.tape_cmd.specs.Outcome.{Outcome}
 use Rattle.tape_cmd.specs.Traits.{Traits, traits_of}
-use Rattle.tape_cmd.specs.Machine.{Yields, CommandPrints, HasInputFault, Spells, Step}
+use Rattle.tape_cmd.specs.Machine.{Yields, CommandPrints, RefusedPrints, HasInputFault, Spells, Step}
 use Rattle.tape_cmd.specs.Runs.{OverTold, InputLeft, IsOfBytes, IsCutOff}
 
 -- ---- a step of the plain machine
@@ -113,10 +113,10 @@ SpellsOne words trait = (command : Words) × Spells words command × (trait (tra
 abbrev pub SpellsNoneThat : (words : List (List ℕ)) → (Traits → Bool) → Type 0
 SpellsNoneThat words trait = (command : Words) → Spells words command → trait (traits_of command) ≡ false
 
--- a fault of the input comes from a command that reads it, and is where it is named
+-- a fault of the input comes from a command that reads lines of it, and is where it is named
 abbrev pub HasNamedFault : (told : Option (List ℕ)) (words : List (List ℕ)) (line place : ℕ) → Type 0
 HasNamedFault told words line place =
-    (command : Words) × Spells words command × ((traits_of command).reads ≡ true)
+    (command : Words) × Spells words command × ((traits_of command).lines ≡ true)
     × IfSome told (λ input. HasInputFault command input line place)
 
 -- the input has none
@@ -132,7 +132,13 @@ pub record PrintsText {K : Type 0} (k : sinks.Meaning K) (words : List (List ℕ
   pub is_text : CommandPrints command text
   pub took : k.took old text new
 
--- it took a front of such a text
+-- it took what a command prints that was refused with this answer
+pub record PrintsRefused {K : Type 0} (k : sinks.Meaning K) (command : Words) (answer : Status) (old new : K) : Type 0 where
+  pub text : List ℕ
+  pub is_text : RefusedPrints command answer text
+  pub took : k.took old text new
+
+-- it took a front of the text of a command that was carried out
 pub record PrintsFront {K : Type 0} (k : sinks.Meaning K) (command : Words) (old new : K) : Type 0 where
   pub text : List ℕ
   pub rest : List ℕ

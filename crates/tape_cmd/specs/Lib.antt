@@ -9,6 +9,7 @@ pub mod List
 pub mod Lose
 pub mod Machine
 pub mod New
+pub mod OneLoss
 pub mod Opening
 pub mod Outcome
 pub mod Place

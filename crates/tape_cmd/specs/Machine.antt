@@ -71,12 +71,13 @@ CommandPrints words.Scrub text =
 CommandPrints words.Pulses text = AreLevels text
 CommandPrints command text = ⊥
 
--- what a command has printed that was refused: most of them nothing; the levels of the trains before a fault of the input,
--- and the bytes of a volume before a segment that doesn't read
-abbrev pub RefusedPrints : Words → List ℕ → Type 0
-RefusedPrints (words.Restore number) text = Unit {0}
-RefusedPrints words.Pulses text = AreLevels text
-RefusedPrints command text = text ≡ []
+-- what a command has printed that was refused with this answer: most of them nothing; the levels of the trains before a fault
+-- of the input, and the bytes of a volume before a segment that doesn't read
+abbrev pub RefusedPrints : Words → Status → List ℕ → Type 0
+RefusedPrints (words.Restore number) (status.Lost segment lost) text = Unit {0}
+RefusedPrints (words.Restore number) (status.Mismatch segment) text = Unit {0}
+RefusedPrints words.Pulses answer text = AreLevels text
+RefusedPrints command answer text = text ≡ []
 
 -- the fault of the input of a command: the number of the line, counted from 1, and how many bytes stand before it
 abbrev pub HasInputFault : Words → (input : List ℕ) → (line place : ℕ) → Type 0

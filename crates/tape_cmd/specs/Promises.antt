@@ -9,7 +9,8 @@ use Rattle.tape_cmd.specs.declared.status.Status.{Status}
 use Rattle.tape_cmd.specs.declared.status.Status.TheVariants as status
 use Rattle.tape_cmd.specs.Machine.{Spells, SpellsNone}
 use Rattle.tape_cmd.specs.Runs.{is_fault, fault_of, is_outcome, may_come_from}
-use Rattle.tape_cmd.specs.Headline.{Answers, NoneRose, IsCut, EachLeft, WordsLeave, Joins, SpellsOne, SpellsNoneThat, HasNamedFault, HasNoFault, PrintsText, PrintsFront}
+use Rattle.tape_cmd.specs.Headline.{Answers, NoneRose, IsCut, EachLeft, WordsLeave, Joins, SpellsOne, SpellsNoneThat, HasNamedFault, HasNoFault, PrintsText, PrintsRefused, PrintsFront}
+use Rattle.tape_cmd.specs.OneLoss.{SurvivesOneLoss}
 use Rattle.tape_cmd.specs.Volumes.{VolumesStay, ListStays, StopsFormat, StopsAppend, IsChanged, GivesBack}
 
 -- What a run of words promises, by the objects of the outside before it and after it, and by its answer.
@@ -36,6 +37,9 @@ pub record Promises {T S K : Type 0} (t : tapes.Meaning T) (s : sources.Meaning 
   -- After Done or a fault of the sink the cartridge of `new`, the empty one of `format`, or the one with the volume of
   -- `append` stands; after a defect in front a bare one; after a refused append, or a fault of its input, what stood.
   pub changed : IsChanged t (s.left old.source) words old.tape new.tape answer
+  -- Where then one sector more of the table's segment is lost, what appending left comes back as what stood, or as that with the
+  -- volume; and once it was carried out, as that.
+  pub survives : SurvivesOneLoss t (s.left old.source) words old.tape new.tape answer
   -- Of a cartridge that stands for a plain one a volume is given back byte for byte.
   pub restores : GivesBack t k words old.tape new.tape old.sink new.sink answer
   -- Two runs can be joined.
@@ -46,8 +50,11 @@ pub record Promises {T S K : Type 0} (t : tapes.Meaning T) (s : sources.Meaning 
   pub named : is_outcome answer ≡ true → (command : Words) × Spells words command × (may_come_from answer command ≡ true)
   pub fault : (line place : ℕ) → answer ≡ status.ScriptFault line place → HasNamedFault (s.left old.source) words line place
   pub no_fault : answer ≡ status.Done → HasNoFault (s.left old.source) words
-  -- What is printed at Done is the command's text, and a front of it whatever is answered, ..
+  -- What is printed at Done is the command's text, at another answer but a fault what the command prints with that, and a front of
+  -- the command's text whatever is answered, ..
   pub printed : answer ≡ status.Done → PrintsText k words old.sink new.sink
+  pub refused : (command : Words) → Spells words command → is_fault answer ≡ false → answer ≢ status.Done →
+      PrintsRefused k command answer old.sink new.sink
   pub begun : (command : Words) → Spells words command → PrintsFront k command old.sink new.sink
   -- .. and but for commands that print as they go, an answer other than Done and a fault of the sink leaves the sink alone.
   pub silent : SpellsNoneThat words (λ traits. traits.goes) → answer ≢ status.Done → answer ≢ status.SinkFault → new.sink ≡ old.sink

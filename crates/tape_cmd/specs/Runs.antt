@@ -66,7 +66,7 @@ is_no_volume command number count = false
 -- beyond the room was asked for
 abbrev pub may_come_from : Status → Words → Bool
 may_come_from status.Done command = true
-may_come_from (status.ScriptFault line place) command = (traits_of command).reads
+may_come_from (status.ScriptFault line place) command = (traits_of command).lines
 may_come_from status.NoCartridge command = (traits_of command).cartridge
 may_come_from status.NotFormatted command = (traits_of command).mounts
 may_come_from status.Protected command = (traits_of command).writable
@@ -91,7 +91,7 @@ IsOfBytes command told input = (traits_of command).appends ≡ true → IfNone t
 -- the texts behind an answer: those of a command that was carried out, or that was refused
 abbrev pub Prints : Words → Status → List ℕ → Type 0
 Prints command answer text =
-    (answer ≡ status.Done → CommandPrints command text) × (answer ≢ status.Done → RefusedPrints command text)
+    (answer ≡ status.Done → CommandPrints command text) × (answer ≢ status.Done → RefusedPrints command answer text)
 
 -- the input's fault is named, where one is answered, and Done comes only over an input without one
 pub record NamesFault (command : Words) (input : List ℕ) (answer : Status) : Type 0 where

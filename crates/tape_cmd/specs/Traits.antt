@@ -8,6 +8,8 @@ pub record Traits : Type 0 where
   pub built : Bool
   -- it reads the input
   pub reads : Bool
+  -- the input is one of lines, one of which may be at fault
+  pub lines : Bool
   -- it prints as it goes; the others print once all else is done
   pub goes : Bool
   -- it takes memory
@@ -34,6 +36,7 @@ abbrev pub unbuilt : Traits
 unbuilt = record {
   built = false;
   reads = false;
+  lines = false;
   goes = false;
   memory = false;
   cartridge = false;
@@ -66,6 +69,6 @@ traits_of (words.Append name date) = record unbuilt {
 traits_of words.List = record unbuilt { built = true; memory = true; cartridge = true; mounts = true }
 traits_of (words.Restore number) = record unbuilt { built = true; goes = true; memory = true; cartridge = true; mounts = true; restores = true }
 traits_of words.Scrub = record unbuilt { built = true; goes = true; memory = true; cartridge = true; writable = true; mounts = true }
-traits_of words.Pulses = record unbuilt { built = true; reads = true; goes = true }
+traits_of words.Pulses = record unbuilt { built = true; reads = true; lines = true; goes = true }
 traits_of words.Script = unbuilt
 traits_of (words.Make seed count) = unbuilt
