@@ -1,0 +1,277 @@
+-- How the append of a made volume ended, as a step of a run.
+use Rattle.std.proofs.Common.{◌≡◌, ◌↔◌, inl, inr, ℕ, Bool, true, false, cond, List, [], ◌∷◌, ◌++◌, length, take, Option, Some, Result, Ok, Err, refl, sym, ap, ◌∙◌, subst, arith, nat_lt}
+use Rattle.std.proofs.lemmas.Bool.{le-ltb}
+use Rattle.std.proofs.lemmas.List.{take_all}
+use Rattle.qic_base.specs.Cartridge.{Cartridge}
+use Rattle.qic_base.specs.Step.{Step}
+use Rattle.qic_base.specs.Tape as tapes
+use Rattle.qic_base.proofs.Steps.{Tells-map, Done-nothing}
+use Rattle.acts.specs.Acts.{Act, text_of, TapeFails, Went, Cut}
+use Rattle.acts.specs.Around.{no_source, no_sink, around, reading}
+use Rattle.cartridge_spec.specs.HeaderAndTable.{table_cells, TableIs}
+use Rattle.cartridge_spec.specs.Says.{LostSectors, ByCode, TableSays}
+use Rattle.cartridge_spec.specs.Table.{Entry}
+use Rattle.drive_states.specs.Deck.{is_protected}
+use Rattle.drive_states.specs.Unit.{UnitView}
+use Rattle.mount_laws.specs.Settling.{settling_steps}
+use Rattle.tape_script.specs.Generator.{made_length, made_bytes, made_means}
+use Rattle.volume_store.specs.declared.appended.Appended.{Appended}
+use Rattle.volume_store.specs.declared.fault.StoreFault.{StoreFault}
+use Rattle.volume_store.specs.declared.fault.StoreFault.TheVariants as store
+use Rattle.volume_store.specs.Appending.{Taking, Fits, TooLong, TooShort, taking, room_in, kept_in, kept_by, entry_for, has_promised_room, append_acts, silently, AppendRan, AppendCut, TableRefused, AppendEnds}
+use Rattle.volume_store.specs.Mounting.{StoreView, StoreFits}
+use Rattle.volume_store.proofs.Copies.{IsLearnt, told_learnt, tells_two}
+use Rattle.made_volumes.specs.declared.fault.MakeFault.{MakeFault}
+use Rattle.made_volumes.specs.declared.fault.MakeFault.TheVariants as fault
+use Rattle.made_volumes.specs.Faults.{is_of_step, fault_of}
+use Rattle.made_volumes.specs.Items.{AppendMade, made_name, made_entry}
+use Rattle.made_volumes.specs.Machine.{Answer, Done, Protected, TableMismatch, Full, Lost, Does, Runs, IsTableLost, made_acts, made_answer}
+use Rattle.made_volumes.specs.May.{MayAppend}
+use Rattle.made_volumes.specs.Runs.{HasRun, RunCut, RunEnds, TableHolds}
+use Rattle.made_volumes.proofs.MachineLaws.{run_of, done_of}
+use Rattle.made_volumes.proofs.MadeBytes.{length-made_bytes}
+use Rattle.made_volumes.proofs.MayLaws.{may_of}
+
+-- ---- the mark
+
+-- the cartridge's mark is that which the drive knows
+pub told_mark : {T : Type 0} (t : tapes.Meaning T) (held : StoreView) (u : UnitView T) → StoreFits t held u → (mark : Bool) → is_protected u.drive.deck ≡ mark →
+    tapes.Tells t u.tape (λ c. c.info.protected ≡ mark)
+told_mark t held u fits mark is =
+    Tells-map t u.tape (IsLearnt held.host) (λ c. c.info.protected ≡ mark)
+    (λ c known. known.protected ∙ sym (ap is_protected fits.host.deck) ∙ is)
+    (told_learnt t held.host u fits.host fits.agrees)
+
+-- a mark that would mean something which is not so is not set
+pub not_marked : (P : Type 0) (mark : Bool) → (mark ≡ true → P) → (P → ⊥) → mark ≡ false
+not_marked P true means never = absurd (never (means refl))
+not_marked P false means never = refl
+
+-- ---- what becomes of the bytes
+
+abbrev by_room : (have n : ℕ) (bytes : List ℕ) → Bool → Taking
+by_room have n bytes room = cond room (cond (nat_lt (length bytes) n) (TooShort n (length bytes)) (Fits (take n bytes))) (TooLong n have)
+
+abbrev by_promise : ℕ → ℕ → Bool → Answer
+by_promise have n room = cond room Done (Full n have)
+
+-- where there are as many as promised
+answer_fits : (have n : ℕ) (bytes some : List ℕ) (room : Bool) → by_room have n bytes room ≡ Fits some → by_promise have n room ≡ Done
+answer_fits have n bytes some true is = refl
+answer_fits have n bytes some false is = absurd (cc)
+
+answer_long : (have n : ℕ) (bytes : List ℕ) (need there : ℕ) (room : Bool) → length bytes ≡ n → by_room have n bytes room ≡ TooLong need there →
+    by_promise have n room ≡ Full need there
+answer_long have n bytes need there true long is = absurd (by_length (nat_lt (length bytes) n) is)
+  where
+    by_length : (less : Bool) → cond less (TooShort n (length bytes)) (Fits (take n bytes)) ≡ TooLong need there → ⊥
+    by_length true is = cc
+    by_length false is = cc
+answer_long have n bytes need there false long is = let same : TooLong n have ≡ TooLong need there = is in cc
+
+never_short : (have n : ℕ) (bytes : List ℕ) (asked read : ℕ) (room : Bool) → length bytes ≡ n → by_room have n bytes room ≡ TooShort asked read → ⊥
+never_short have n bytes asked read true long is =
+    let all : nat_lt (length bytes) n ≡ false = ltb_same (length bytes) n long in
+    let same : Fits (take n bytes) ≡ TooShort asked read =
+    sym (ap (λ (b : Bool). cond b (TooShort n (length bytes)) (Fits (take n bytes))) all) ∙ is in
+    cc
+  where
+    ltb_same : (x y : ℕ) → x ≡ y → nat_lt x y ≡ false
+    ltb_same x y same = le-ltb x y (omega arith)
+never_short have n bytes asked read false long is = cc
+
+-- where all are there that were promised, all of them are the volume's
+fits_all : (have n : ℕ) (bytes some : List ℕ) (room : Bool) → length bytes ≡ n → by_room have n bytes room ≡ Fits some → some ≡ bytes
+fits_all have n bytes some true long is = by_length (nat_lt (length bytes) n) is
+  where
+    by_length : (less : Bool) → cond less (TooShort n (length bytes)) (Fits (take n bytes)) ≡ Fits some → some ≡ bytes
+    by_length true is = absurd (cc)
+    by_length false is =
+        let same : take n bytes ≡ some = cc in
+        sym same ∙ take_all n bytes (omega arith)
+fits_all have n bytes some false long is = absurd (cc)
+
+module _ {T : Type 0} (t : tapes.Meaning T) (seed volume : ℕ) (before : StoreView) (u : UnitView T) (fits : StoreFits t before u) (b : T) (rest : List ℕ) (after : StoreView) where
+  abbrev words : List ℕ
+  words = before.words
+
+  abbrev entries : List Entry
+  entries = before.entries
+
+  abbrev bytes : List ℕ
+  bytes = made_bytes seed volume
+
+  abbrev promise : Option ℕ
+  promise = Some (made_length seed volume)
+
+  abbrev have : ℕ
+  have = room_in (kept_in words entries)
+
+  abbrev a : T
+  a = u.tape
+
+  abbrev Ends : Result Appended StoreFault → Type 0
+  Ends result =
+      AppendEnds t made_means (reading a bytes) (reading b rest) before after (made_name volume) 0 promise result
+
+  abbrev Result' : Result (Unit {0}) MakeFault → Type 0
+  Result' r = RunEnds t no_sink seed words entries (AppendMade volume ∷ []) (around a tt) (around b tt) r
+
+  abbrev Acts : List Act → Type 0
+  Acts acts = Went t made_means no_sink (reading a bytes) (reading b rest) acts
+
+  around_went : (acts : List Act) → Acts acts → Went t no_source no_sink (around a tt) (around b tt) acts
+  around_went acts went = record { did = went.did; wrote = went.wrote; source_later = omega arith }
+
+  -- the acts went up to this answer
+  went_so : (acts : List Act) (answer : Answer) → Acts acts → MayAppend seed words entries volume answer →
+      tapes.Tells t a (λ c. Does seed c words entries (AppendMade volume) acts answer) →
+      HasRun t no_sink seed words entries (AppendMade volume ∷ []) (around a tt) (around b tt) answer
+  went_so acts answer went may told = record {
+    acts = acts;
+    went = around_went acts went;
+    told = Tells-map t a (λ c. Does seed c words entries (AppendMade volume) acts answer) (λ c. Runs seed c words entries (AppendMade volume ∷ []) acts answer)
+        (λ c does. run_of seed c words entries (AppendMade volume) acts answer does) told;
+    may = may_of seed words entries (AppendMade volume) (text_of acts) answer (went.wrote.took, may);
+  }
+
+  -- the acts of an append that ran are the plain machine's
+  same_acts : (c : Cartridge) (table : List (List ℕ)) (settling : List Step) (input : List ℕ) → settling ≡ settling_steps table c → input ≡ bytes →
+      append_acts (kept_by before table settling) (made_name volume) 0 promise silently input ≡ made_acts seed c words entries table volume
+  same_acts c table settling input settles is =
+      ap (λ (steps : List Step). append_acts (kept_by before table steps) (made_name volume) 0 promise silently input) settles
+      ∙ ap (λ (xs : List ℕ). append_acts (kept_by before table (settling_steps table c)) (made_name volume) 0 promise silently xs) is
+
+  ran_so : (became : Taking) (answer : Answer) → is_protected u.drive.deck ≡ false →
+      AppendRan t made_means (reading a bytes) (reading b rest) before (made_name volume) 0 promise became →
+      made_answer seed words entries volume ≡ answer → MayAppend seed words entries volume answer →
+      HasRun t no_sink seed words entries (AppendMade volume ∷ []) (around a tt) (around b tt) answer
+  ran_so became answer free ran answered may =
+      let acts : List Act = append_acts (kept_by before ran.table ran.settling) (made_name volume) 0 promise silently ran.input in
+      went_so acts answer ran.went may
+      (tells_two t a (λ c. c.info.protected ≡ false) (λ c. TableIs c ran.table × (ran.settling ≡ settling_steps ran.table c))
+      (λ c. Does seed c words entries (AppendMade volume) acts answer)
+      (λ c mark known. inr (
+        mark,
+        inl (record {
+          table = ran.table;
+          reads = known.0;
+          does = same_acts c ran.table ran.settling ran.input known.1 ran.is_told;
+          answered = sym answered;
+        }),
+      )) (told_mark t before u fits false free) ran.known)
+
+  -- what became of the input that the source told
+  became_is : (became : Taking) → AppendRan t made_means (reading a bytes) (reading b rest) before (made_name volume) 0 promise became →
+      by_room have (made_length seed volume) bytes (has_promised_room have promise) ≡ became
+  became_is became ran = ap (λ (xs : List ℕ). taking have promise xs) (sym ran.is_told) ∙ ran.took
+
+  refused_so : (Says : Cartridge → Type 0) (answer : Answer) → is_protected u.drive.deck ≡ false →
+      TableRefused t made_means (reading a bytes) (reading b rest) Says → MayAppend seed words entries volume answer →
+      ((c : Cartridge) (acts : List Act) → acts ≡ [] → Says c → IsTableLost c acts answer) →
+      HasRun t no_sink seed words entries (AppendMade volume ∷ []) (around a tt) (around b tt) answer
+  refused_so Says answer free refused may means =
+      went_so refused.acts answer refused.went may
+      (tells_two t a (λ c. c.info.protected ≡ false) (λ c. (refused.acts ≡ []) × (rest ≡ bytes) × Says c)
+      (λ c. Does seed c words entries (AppendMade volume) refused.acts answer)
+      (λ c mark known. inr (mark, inr (means c refused.acts known.0 known.2))) (told_mark t before u fits false free) refused.told)
+
+  around_cut : (acts : List Act) → Cut t made_means no_sink (reading a bytes) (reading b rest) acts TapeFails → Cut t no_source no_sink (around a tt) (around b tt) acts TapeFails
+  around_cut acts cut = record {
+    front = cut.front;
+    rest = cut.rest;
+    parts = cut.parts;
+    broke = cut.broke;
+    here = cut.here;
+    wrote = cut.wrote;
+    source_later = omega arith;
+  }
+
+  cut_so : is_protected u.drive.deck ≡ false → AppendCut t made_means (reading a bytes) (reading b rest) before (made_name volume) 0 promise TapeFails →
+      RunCut t no_sink seed words entries (AppendMade volume ∷ []) (around a tt) (around b tt) TapeFails
+  cut_so free cut = record {
+    told = tells_two t a (λ c. c.info.protected ≡ false)
+        (λ c. (table : List (List ℕ)) → TableIs c table → (reply : Entry → List ℕ) →
+        Cut t made_means no_sink (reading a bytes) (reading b rest) (append_acts (kept_by before table (settling_steps table c)) (made_name volume) 0 promise reply cut.input) TapeFails)
+        (λ c. (acts : List Act) (answer : Answer) → TableHolds answer → Runs seed c words entries (AppendMade volume ∷ []) acts answer →
+        Cut t no_source no_sink (around a tt) (around b tt) acts TapeFails)
+        (λ c mark known acts answer holds runs. by_does c mark known acts answer holds (done_of seed c words entries (AppendMade volume) acts answer runs))
+        (told_mark t before u fits false free) cut.told;
+    acts = cut.acts;
+    cut = around_cut cut.acts cut.cut;
+  }
+    where
+      by_does : (c : Cartridge) → c.info.protected ≡ false →
+          ((table : List (List ℕ)) → TableIs c table → (reply : Entry → List ℕ) →
+          Cut t made_means no_sink (reading a bytes) (reading b rest) (append_acts (kept_by before table (settling_steps table c)) (made_name volume) 0 promise reply cut.input) TapeFails) →
+          (acts : List Act) (answer : Answer) → TableHolds answer → Does seed c words entries (AppendMade volume) acts answer → Cut t no_source no_sink (around a tt) (around b tt) acts TapeFails
+      by_does c mark known acts answer holds (inl refused) = absurd (let same : true ≡ false = sym refused.mark ∙ mark in cc)
+      by_does c mark known acts answer holds (inr (free', inl appended)) =
+          subst (λ (zs : List Act). Cut t no_source no_sink (around a tt) (around b tt) zs TapeFails)
+          (same_acts c appended.table (settling_steps appended.table c) cut.input refl cut.is_told ∙ sym appended.does)
+          (around_cut (append_acts (kept_by before appended.table (settling_steps appended.table c)) (made_name volume) 0 promise silently cut.input) (known appended.table appended.reads silently))
+      by_does c mark known acts answer holds (inr (free', inr lost)) = absurd (holds lost.lost lost.answered)
+
+  -- ---- by the answer
+
+  appended_so : (appended : Appended) → is_protected u.drive.deck ≡ false → Ends (Ok appended) → Result' (Ok tt)
+  appended_so appended free ends =
+      let is : made_answer seed words entries volume ≡ Done =
+      answer_fits have (made_length seed volume) bytes ends.bytes (has_promised_room have promise) (became_is (Fits ends.bytes) ends.ran) in
+      ran_so (Fits ends.bytes) Done free ends.ran is is
+
+  locked_so : is_protected u.drive.deck ≡ true → Ends (Err store.Protected) → Result' (Err fault.Protected)
+  locked_so locked ends = subst (λ (end : T). RunEnds t no_sink seed words entries (AppendMade volume ∷ []) (around a tt) (around end tt) (Err fault.Protected)) (sym ends.0) (record {
+    acts = [];
+    went = record { did = Done-nothing t a; wrote = record { took = refl; later = omega arith }; source_later = omega arith };
+    told = Tells-map t a (λ c. c.info.protected ≡ true) (λ c. Runs seed c words entries (AppendMade volume ∷ []) [] Protected)
+        (λ c mark. run_of seed c words entries (AppendMade volume) [] Protected (inl (record { mark = mark; does = refl; answered = refl })))
+        (told_mark t before u fits true locked);
+    may = may_of seed words entries (AppendMade volume) [] Protected (refl, tt);
+  })
+
+  -- the answers of a call that a run makes
+  pub append_so : (f : StoreFault) → (f ≡ store.Protected) ↔ (is_protected u.drive.deck ≡ true) → Ends (Err f) → (is_of_step f ≡ true) × Result' (Err (fault_of f))
+  append_so store.Protected mark ends = (refl, locked_so (mark.0 refl) ends)
+  append_so (store.Lost segment lost) mark ends =
+      let free : is_protected u.drive.deck ≡ false = not_marked (store.Lost segment lost ≡ store.Protected) (is_protected u.drive.deck) mark.1 (λ is. cc) in (
+        refl,
+        refused_so (λ c. TableSays (table_cells c) (ByCode (LostSectors lost))) (Lost segment lost) free ends.2 (ends.0, ends.1)
+            (λ c acts none says. record { lost = lost; says = says; does = none; answered = ap (λ (s : ℕ). Lost s lost) ends.0 }),
+      )
+  append_so store.TableMismatch mark ends =
+      let free : is_protected u.drive.deck ≡ false = not_marked (store.TableMismatch ≡ store.Protected) (is_protected u.drive.deck) mark.1 (λ is. cc) in
+      (refl, refused_so (λ c. ⊥) TableMismatch free ends tt (λ c acts none never. absurd never))
+  append_so (store.Full need there) mark ends =
+      let free : is_protected u.drive.deck ≡ false = not_marked (store.Full need there ≡ store.Protected) (is_protected u.drive.deck) mark.1 (λ is. cc) in
+      let is : made_answer seed words entries volume ≡ Full need there =
+      answer_long have (made_length seed volume) bytes need there (has_promised_room have promise) (length-made_bytes seed volume) (became_is (TooLong need there) ends) in
+      (refl, ran_so (TooLong need there) (Full need there) free ends is is)
+  append_so (store.Short asked read) mark ends =
+      absurd (never_short have (made_length seed volume) bytes asked read (has_promised_room have promise) (length-made_bytes seed volume) (became_is (TooShort asked read) ends))
+  append_so store.Source mark ends = absurd (let rose = ends.cut.cause in omega arith)
+  append_so store.Tape mark ends =
+      let free : is_protected u.drive.deck ≡ false = not_marked (store.Tape ≡ store.Protected) (is_protected u.drive.deck) mark.1 (λ is. cc) in
+      (refl, cut_so free ends)
+  append_so f mark ends = absurd ends
+
+  pub append_done : (appended : Appended) → is_protected u.drive.deck ≡ false → Ends (Ok appended) → Result' (Ok tt)
+  append_done appended free ends = appended_so appended free ends
+
+  -- .. and the entry that was added is the made volume's
+  pub appended_entry : (appended : Appended) → Ends (Ok appended) → after.entries ≡ entries ++ made_entry seed words entries volume ∷ []
+  appended_entry appended ends =
+      let is : by_room have (made_length seed volume) bytes (has_promised_room have promise) ≡ Fits ends.bytes = became_is (Fits ends.bytes) ends.ran in
+      let all : ends.bytes ≡ bytes = fits_all have (made_length seed volume) bytes ends.bytes (has_promised_room have promise) (length-made_bytes seed volume) is in
+      ends.added ∙ ap (λ (e : Entry). entries ++ e ∷ []) (ends.is_entry
+      ∙ ap (λ (xs : List ℕ). entry_for (kept_by before ends.ran.table ends.ran.settling) (made_name volume) 0 xs) all)
+
+  -- the same of a call with this name, this promise and this source
+  pub append_so_at : (name source : List ℕ) (promised : ℕ) → name ≡ made_name volume → source ≡ bytes → promised ≡ made_length seed volume →
+      (f : StoreFault) → (f ≡ store.Protected) ↔ (is_protected u.drive.deck ≡ true) →
+      AppendEnds t made_means (reading a source) (reading b rest) before after name 0 (Some promised) (Err f) → (is_of_step f ≡ true) × Result' (Err (fault_of f))
+  append_so_at name source promised named from long f mark ends =
+      append_so f mark
+      (subst (λ (n : ℕ). AppendEnds t made_means (reading a bytes) (reading b rest) before after (made_name volume) 0 (Some n) (Err f)) long
+      (subst (λ (xs : List ℕ). AppendEnds t made_means (reading a xs) (reading b rest) before after (made_name volume) 0 (Some promised) (Err f)) from
+      (subst (λ (xs : List ℕ). AppendEnds t made_means (reading a source) (reading b rest) before after xs 0 (Some promised) (Err f)) named ends)))

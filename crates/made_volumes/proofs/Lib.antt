@@ -1,0 +1,15 @@
+pub mod MachineLaws
+pub mod MayLaws
+pub mod MadeBytes
+pub mod Telling
+pub mod Segments
+pub mod Loops
+pub mod Joining
+pub mod Appends
+pub mod Sums
+pub mod Others
+pub mod Stores
+pub mod Going
+pub mod Listing
+pub mod Standing
+pub mod Stops

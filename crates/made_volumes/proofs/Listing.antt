@@ -1,0 +1,60 @@
+-- The list behind a run that was refused.
+use Rattle.std.proofs.Common.{◌≡◌, ℕ, ◌+◌, ◌-◌, ◌<◌, ◌≤◌, List, [], ◌∷◌, Err, ap, ◌∙◌, subst, arith}
+use Rattle.qic_base.specs.Tape as tapes
+use Rattle.acts.specs.Acts.{Outside, text_of}
+use Rattle.acts.specs.Around.{no_sink}
+use Rattle.cartridge_spec.specs.Table.{Entry}
+use Rattle.volume_store.specs.Mounting.{StoreView}
+use Rattle.made_volumes.specs.declared.fault.MakeFault.{MakeFault}
+use Rattle.made_volumes.specs.declared.fault.MakeFault.TheVariants as fault
+use Rattle.made_volumes.specs.Items.{AppendMade, made_list}
+use Rattle.made_volumes.specs.Machine.{Full, Lost, Mismatch, made_answer}
+use Rattle.made_volumes.specs.Runs.{RunEnds, IsListed, HoldsAll, HoldsSome, AreListed, NeverFull}
+use Rattle.made_volumes.proofs.MayLaws.{may_done}
+
+-- an append was refused behind so many
+module _ {T : Type 0} (t : tapes.Meaning T) (seed count n : ℕ) (few : n < count) (before : StoreView) (es : List Entry) (after : StoreView) (is : es ≡ made_list seed n before.words before.entries) (a b : Outside T (Unit {0}) (Unit {0})) where
+  some_held : after.entries ≡ es → HoldsSome seed count before after
+  some_held kept = record { appended = n; within = omega arith; list = kept ∙ is }
+
+  pub listed_refused : (f : MakeFault) (e : Entry) → RunEnds t no_sink seed before.words es (AppendMade (1 + n) ∷ []) a b (Err f) →
+      IsListed (Err f) es after.entries e → AreListed (Err f) seed count before after
+  listed_refused fault.Protected e run kept = some_held kept
+  listed_refused fault.TableMismatch e run kept = some_held kept
+  listed_refused (fault.Full need have) e run kept =
+      let may = may_done seed before.words es (AppendMade (1 + n)) (text_of run.acts) (Full need have) run.may in
+      record {
+        appended = n;
+        within = few;
+        list = kept ∙ is;
+        full = ap (λ (now : List Entry). made_answer seed before.words now (1 + n)) kept ∙ may.1;
+      }
+  listed_refused (fault.Lost segment lost) e run kept =
+      let may = may_done seed before.words es (AppendMade (1 + n)) (text_of run.acts) (Lost segment lost) run.may in
+      (some_held kept, λ other. absurd (other may.1.0))
+  listed_refused (fault.Mismatch segment) e run kept =
+      let may = may_done seed before.words es (AppendMade (1 + n)) (text_of run.acts) (Mismatch segment) run.may in
+      absurd may.1
+  listed_refused fault.Sink e cut kept = absurd (let rose = cut.cut.broke.cause in omega arith)
+  listed_refused fault.Tape e cut kept = tt
+
+-- a step behind the appends was refused
+pub listed_behind : (seed count : ℕ) (before after : StoreView) → HoldsAll seed count before after → (f : MakeFault) → NeverFull (Err f) →
+    AreListed (Err f) seed count before after
+listed_behind seed count before after all fault.Protected room = record { appended = count; within = omega arith; list = all }
+listed_behind seed count before after all fault.TableMismatch room = record { appended = count; within = omega arith; list = all }
+listed_behind seed count before after all (fault.Full need have) room = absurd room
+listed_behind seed count before after all (fault.Lost segment lost) room = (record { appended = count; within = omega arith; list = all }, λ other. all)
+listed_behind seed count before after all (fault.Mismatch segment) room = all
+listed_behind seed count before after all fault.Sink room = all
+listed_behind seed count before after all fault.Tape room = tt
+
+-- the append of the present volume of a loop was refused
+pub listed_loop : {T : Type 0} (t : tapes.Meaning T) (seed count v : ℕ) → 1 ≤ v → v ≤ count → (before : StoreView) (words : List ℕ) (es : List Entry) (after : StoreView) →
+    words ≡ before.words → es ≡ made_list seed (v - 1) before.words before.entries → (a b : Outside T (Unit {0}) (Unit {0})) → (f : MakeFault) (e : Entry) →
+    RunEnds t no_sink seed words es (AppendMade v ∷ []) a b (Err f) → IsListed (Err f) es after.entries e → AreListed (Err f) seed count before after
+listed_loop t seed count v some few before words es after same is a b f e ends kept =
+    let number : v ≡ 1 + (v - 1) = omega arith in
+    listed_refused t seed count (v - 1) (omega arith) before es after is a b f e
+    (subst (λ (n : ℕ). RunEnds t no_sink seed before.words es (AppendMade n ∷ []) a b (Err f)) number
+    (subst (λ (ws : List ℕ). RunEnds t no_sink seed ws es (AppendMade v ∷ []) a b (Err f)) same ends)) kept

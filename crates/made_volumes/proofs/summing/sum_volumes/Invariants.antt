@@ -1,0 +1,17 @@
+-- The volumes before the present one were summed.
+use Rattle.std.proofs.Common.{ℕ, ◌+◌, ◌-◌, ◌≤◌}
+use Rattle.acts.specs.Around.{around}
+use Rattle.volume_store.specs.Mounting.{StoreFits, KeepsStore}
+use Rattle.made_volumes.specs.Items.{summing}
+use Rattle.made_volumes.specs.Machine.{Done}
+use Rattle.made_volumes.specs.Runs.{HasRun}
+use Rattle.made_volumes.proofs.summing.sum_volumes.Given as goal
+
+abbrev pub invariant-loop-number : goal.invariant-loop-number
+invariant-loop-number g l = record {
+  from : l.first + 1 ≤ l.number;
+  ran : (seed : ℕ) → HasRun g.T.Tape.means g.K.Sink.means seed l.fn.store.words l.fn.store.entries (summing (l.first + 1) (l.number - (l.first + 1)))
+      (around l.fn.unit.tape l.fn.sink) (around l.unit.tape l.sink) Done;
+  store : KeepsStore l.fn.store l.store;
+  fits : StoreFits g.T.Tape.means l.store l.unit;
+}

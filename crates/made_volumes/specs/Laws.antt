@@ -1,0 +1,82 @@
+-- What a run of `make` comes to, and what a stop in it leaves, as facts.
+use Rattle.std.specs.Prelude.{◌≡◌, ◌⊎◌, ℕ, zero, suc, ◌+◌, ◌-◌, ◌≤◌, false, List, [], ◌∷◌, ◌++◌, length, Option, Some, IsSomeAnd}
+use Rattle.qic_base.specs.Cartridge.{Cartridge, IsCartridge}
+use Rattle.qic_base.specs.Stop.{Torn}
+use Rattle.acts.specs.Acts.{Act, steps_of}
+use Rattle.append_plan.specs.Appending.{appended_volume, with_volume}
+use Rattle.cartridge_spec.specs.HeaderAndTable.{TableIs, last_segment}
+use Rattle.cartridge_spec.specs.Table.{Entry}
+use Rattle.cartridge_spec.specs.Volumes.{Plain, Volume, Stands, entries_of}
+use Rattle.cartridge_spec.specs.Writes.{changed_by}
+use Rattle.mount_laws.specs.Laws.{IsTableLive}
+use Rattle.tape_script.specs.Generator.{made_bytes}
+use Rattle.made_volumes.specs.Items.{Item, made_name, after_items}
+use Rattle.made_volumes.specs.Machine.{Answer, Done, Does, Runs, Makes}
+
+-- ---- any cartridge
+
+-- a run does one thing
+abbrev pub MakesOneThing : Type 0
+MakesOneThing =
+    (seed count : ℕ) (c : Cartridge) (words : List ℕ) (entries : List Entry) (a b : List Act) (x y : Answer) →
+    Makes seed count c words entries a x → Makes seed count c words entries b y → (a ≡ b) × (x ≡ y)
+
+-- a stop inside one of the steps, with all of those before it carried out
+pub record StopsInStep (seed : ℕ) (c : Cartridge) (words : List ℕ) (entries : List Entry) (items : List Item) (left : Option Cartridge) : Type 0 where
+  pub front : List Item
+  pub item : Item
+  pub rest : List Item
+  pub parts : front ++ item ∷ rest ≡ items
+  pub done : List Act
+  pub ran : Runs seed c words entries front done Done
+  pub acts : List Act
+  pub answer : Answer
+  pub does : Does seed (changed_by (steps_of done) c) words (after_items seed words entries front) item acts answer
+  pub torn : Torn (steps_of acts) (Some (changed_by (steps_of done) c)) left
+
+-- a stop among all acts of some steps is one inside a step; where there is no step, nothing was changed
+abbrev pub StopsAreInSteps : Type 0
+StopsAreInSteps =
+    (seed : ℕ) (c : Cartridge) (words : List ℕ) (entries : List Entry) (items : List Item) (acts : List Act) (answer : Answer)
+    (left : Option Cartridge) → Runs seed c words entries items acts answer → Torn (steps_of acts) (Some c) left →
+    ((items ≡ []) × (left ≡ Some c)) ⊎ StopsInStep seed c words entries items left
+
+-- ---- a cartridge that stands for a plain one
+
+-- its table reads, each sector of the table's segment takes what is written to it, and it is not protected
+pub record IsKept (c : Cartridge) (plain : Plain) : Type 0 where
+  pub cartridge : IsCartridge c
+  pub stands : Stands c plain
+  pub table : TableIs c plain.table_area
+  pub live : IsTableLive c
+  pub unprotected : c.info.protected ≡ false
+  pub last : length plain.words - 1 ≡ last_segment c
+
+-- the made volume behind those of a plain cartridge
+abbrev pub made_volume : (seed : ℕ) → Plain → (volume : ℕ) → Volume
+made_volume seed plain volume = appended_volume plain (length plain.words - 1) (made_name volume) 0 (made_bytes seed volume)
+
+-- the plain cartridge with so many made volumes, from this one on
+abbrev pub with_made : (seed : ℕ) → Plain → (volume count : ℕ) → Plain
+with_made seed plain volume zero = plain
+with_made seed plain volume (suc count) = with_made seed (with_volume plain (made_volume seed plain volume)) (volume + 1) count
+
+-- what stands is the plain cartridge with some of the made volumes, up to so many
+pub record StandsWithMade (seed count : ℕ) (plain : Plain) (left : Option Cartridge) : Type 0 where
+  pub appended : ℕ
+  pub within : appended ≤ count
+  pub stands : IsSomeAnd left (λ d. Stands d (with_made seed plain 1 appended))
+
+-- a stop among the steps of a run leaves the made volumes of some front of its steps; it may come behind the last
+abbrev pub StoppedMakeStands : Type 0
+StoppedMakeStands =
+    (seed count : ℕ) (c : Cartridge) (plain : Plain) (acts : List Act) (answer : Answer) (left : Option Cartridge) → count ≤ 200 →
+    IsKept c plain → Makes seed count c plain.words (entries_of plain) acts answer → Torn (steps_of acts) (Some c) left →
+    StandsWithMade seed count plain left
+
+-- where all was carried out, all of them stand
+abbrev pub DoneMakeStands : Type 0
+DoneMakeStands =
+    (seed count : ℕ) (c : Cartridge) (plain : Plain) (acts : List Act) → count ≤ 200 → IsKept c plain →
+    Makes seed count c plain.words (entries_of plain) acts Done →
+    Stands (changed_by (steps_of acts) c) (with_made seed plain 1 count)

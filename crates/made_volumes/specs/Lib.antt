@@ -1,0 +1,6 @@
+pub mod Faults
+pub mod Items
+pub mod Laws
+pub mod Machine
+pub mod May
+pub mod Runs

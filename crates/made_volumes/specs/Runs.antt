@@ -1,0 +1,93 @@
+-- How a run of `make` ended, by the answer of the call (this project's own).
+use Rattle.std.specs.Prelude.{◌≡◌, ◌≢◌, ℕ, ◌+◌, ◌<◌, ◌≤◌, List, [], ◌∷◌, ◌++◌, Result, Ok, Err}
+use Rattle.qic_base.specs.Sink as sinks
+use Rattle.qic_base.specs.Tape as tapes
+use Rattle.acts.specs.Acts.{Act, text_of, Outside, Failing, TapeFails, SinkFails, Went, Cut}
+use Rattle.acts.specs.Around.{no_source}
+use Rattle.cartridge_spec.specs.Table.{Entry}
+use Rattle.volume_store.specs.Mounting.{StoreView}
+use Rattle.made_volumes.specs.declared.fault.MakeFault.{MakeFault}
+use Rattle.made_volumes.specs.declared.fault.MakeFault.TheVariants as fault
+use Rattle.made_volumes.specs.Items.{Item, made_list, making}
+use Rattle.made_volumes.specs.Machine.{Answer, Done, Protected, TableMismatch, Full, Lost, Mismatch, Runs, made_answer}
+use Rattle.made_volumes.specs.May.{MayRun}
+
+-- All acts of some steps went, up to this answer: over a cartridge that is told those of the plain machine.
+pub record HasRun {T K : Type 0} (t : tapes.Meaning T) (k : sinks.Meaning K) (seed : ℕ) (words : List ℕ) (entries : List Entry) (items : List Item) (old new : Outside T (Unit {0}) K) (answer : Answer) : Type 0 where
+  pub acts : List Act
+  pub went : Went t no_source k old new acts
+  pub told : tapes.Tells t old.tape (λ c. Runs seed c words entries items acts answer)
+  -- and over any tape
+  pub may : MayRun seed words entries items (text_of acts) answer
+
+-- the volume table is not what ends a run
+abbrev pub TableHolds : Answer → Type 0
+TableHolds answer = (lost : ℕ) → answer ≢ Lost 2 lost
+
+-- A fault of the tape or of the sink cut them off: over a cartridge that is told in the acts of the plain machine, where
+-- these don't end with a volume table that has lost too much.
+pub record RunCut {T K : Type 0} (t : tapes.Meaning T) (k : sinks.Meaning K) (seed : ℕ) (words : List ℕ) (entries : List Entry) (items : List Item) (old new : Outside T (Unit {0}) K) (failing : Failing) : Type 0 where
+  pub told : tapes.Tells t old.tape (λ c. (acts : List Act) (answer : Answer) → TableHolds answer → Runs seed c words entries items acts answer →
+      Cut t no_source k old new acts failing)
+  -- and over any tape
+  pub acts : List Act
+  pub cut : Cut t no_source k old new acts failing
+
+-- how some steps ended
+abbrev pub RunEnds : {T K : Type 0} (t : tapes.Meaning T) (k : sinks.Meaning K) (seed : ℕ) (words : List ℕ) (entries : List Entry) (items : List Item) (old new : Outside T (Unit {0}) K) → Result (Unit {0}) MakeFault → Type 0
+RunEnds t k seed words entries items old new (Ok done) = HasRun t k seed words entries items old new Done
+RunEnds t k seed words entries items old new (Err fault.Protected) = HasRun t k seed words entries items old new Protected
+RunEnds t k seed words entries items old new (Err fault.TableMismatch) = HasRun t k seed words entries items old new TableMismatch
+RunEnds t k seed words entries items old new (Err (fault.Full need have)) = HasRun t k seed words entries items old new (Full need have)
+RunEnds t k seed words entries items old new (Err (fault.Lost segment lost)) = HasRun t k seed words entries items old new (Lost segment lost)
+RunEnds t k seed words entries items old new (Err (fault.Mismatch segment)) = HasRun t k seed words entries items old new (Mismatch segment)
+RunEnds t k seed words entries items old new (Err fault.Sink) = RunCut t k seed words entries items old new SinkFails
+RunEnds t k seed words entries items old new (Err fault.Tape) = RunCut t k seed words entries items old new TapeFails
+
+-- how a run of `make` on the cartridge of a store ended
+abbrev pub MakeEnds : {T K : Type 0} (t : tapes.Meaning T) (k : sinks.Meaning K) (store : StoreView) (seed count : ℕ) (old new : Outside T (Unit {0}) K) → Result (Unit {0}) MakeFault → Type 0
+MakeEnds t k store seed count old new result =
+    RunEnds t k seed store.words store.entries (making seed count store.words store.entries) old new result
+
+-- ---- the list
+
+-- one volume was added to a list; a refusal leaves it
+abbrev pub IsListed : Result (Unit {0}) MakeFault → (before after : List Entry) → Entry → Type 0
+IsListed (Ok done) before after e = after ≡ before ++ e ∷ []
+IsListed (Err fault.Tape) before after e = Unit {0}
+IsListed (Err fault) before after e = after ≡ before
+
+-- the list of a store with all of so many made volumes
+abbrev pub HoldsAll : (seed count : ℕ) → (store after : StoreView) → Type 0
+HoldsAll seed count store after = after.entries ≡ made_list seed count store.words store.entries
+
+-- .. with some of them
+pub record HoldsSome (seed count : ℕ) (store after : StoreView) : Type 0 where
+  pub appended : ℕ
+  pub within : appended ≤ count
+  pub list : HoldsAll seed appended store after
+
+-- .. with those before the one that has no room
+pub record HoldsBeforeFull (seed count need have : ℕ) (store after : StoreView) : Type 0 where
+  pub appended : ℕ
+  pub within : appended < count
+  pub list : HoldsAll seed appended store after
+  pub full : made_answer seed store.words after.entries (1 + appended) ≡ Full need have
+
+-- All made volumes were added to the list of a store, or those that were appended before a refusal. The sink, and segments
+-- other than the table's, are asked for behind the appends.
+abbrev pub AreListed : Result (Unit {0}) MakeFault → (seed count : ℕ) → (store after : StoreView) → Type 0
+AreListed (Ok done) seed count store after = HoldsAll seed count store after
+AreListed (Err fault.Protected) seed count store after = HoldsSome seed count store after
+AreListed (Err fault.TableMismatch) seed count store after = HoldsSome seed count store after
+AreListed (Err (fault.Full need have)) seed count store after = HoldsBeforeFull seed count need have store after
+AreListed (Err (fault.Lost segment lost)) seed count store after =
+    HoldsSome seed count store after × (segment ≢ 2 → HoldsAll seed count store after)
+AreListed (Err (fault.Mismatch segment)) seed count store after = HoldsAll seed count store after
+AreListed (Err fault.Sink) seed count store after = HoldsAll seed count store after
+AreListed (Err fault.Tape) seed count store after = Unit {0}
+
+-- no refusal for want of room
+abbrev pub NeverFull : Result (Unit {0}) MakeFault → Type 0
+NeverFull (Err (fault.Full need have)) = ⊥
+NeverFull result = Unit {0}

@@ -1,0 +1,21 @@
+//! What a run of `make` comes to. Each law is the contract of a function that does nothing, so that other crates can
+//! rest on it; their proofs import the lemmas of this crate's `proofs`.
+
+ghost use Rattle.made_volumes.specs.Laws.{MakesOneThing, StopsAreInSteps, StoppedMakeStands, DoneMakeStands};
+
+/// A run does one thing on a cartridge.
+pub fn a_run_is_one()
+    ensures { MakesOneThing }
+{}
+
+/// A stop among the steps of a run is a stop inside one of its steps, with those before it carried out.
+pub fn a_stop_is_in_one_step()
+    ensures { StopsAreInSteps }
+{}
+
+/// On a cartridge that stands for a plain one a run leaves it with all made volumes, and a stop in it with some of
+/// them: the worn sectors lie behind the table, and each append leaves the old volumes or the new ones.
+pub fn a_run_keeps_what_stands()
+    ensures done { DoneMakeStands }
+    ensures stopped { StoppedMakeStands }
+{}

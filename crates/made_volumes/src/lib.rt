@@ -1,0 +1,13 @@
+//! The command `make`: volumes of made bytes are appended to a mounted cartridge, some of their sectors worn, all
+//! scrubbed, and each volume restored and summed. No call takes memory.
+#![tactic(auto)]
+
+mod appending;
+mod fault;
+pub mod laws;
+mod run;
+mod summing;
+mod wearing;
+
+pub use fault::MakeFault;
+pub use run::make_volumes;

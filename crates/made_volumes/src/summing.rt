@@ -1,0 +1,80 @@
+//! Volumes restored and summed.
+
+ghost use Rattle.std.specs.Prelude.{◌≡◌, ◌≢◌, ◌-◌, ◌+◌, ◌≤◌, ℕ, [], ◌∷◌, length, Err};
+ghost use Rattle.acts.specs.Around.{around};
+ghost use Rattle.volume_store.specs.Mounting.{StoreFits, KeepsStore};
+ghost use Rattle.made_volumes.specs.Items.{SumVolume, summing};
+ghost use Rattle.made_volumes.specs.Machine.{sum_line};
+ghost use Rattle.made_volumes.specs.Runs.{RunEnds, NeverFull};
+ghost use Rattle.made_volumes.specs.declared.fault.MakeFault.TheVariants.{Tape as tape_fault};
+
+use crate::fault::{MakeFault, step_fault};
+use drive_states::Unit;
+use qic_base::{Sink, SinkFailed, Tape};
+use tape_script::{Summed, TextLine, write_text};
+use volume_store::Store;
+
+#[tactic(auto, unfolding(crate::specs::Machine::sum_line))]
+fn sum_text(number: u32, bytes: u64, total: u32) -> TextLine
+    ensures { result ≡ sum_line number bytes total }
+{
+    let mut line = TextLine::new();
+    line.push_text(b"volume ");
+    line.push_number(u64::from(number));
+    line.push_text(b" ");
+    line.push_number(bytes);
+    line.push_text(b" ");
+    line.push_number(u64::from(total));
+    line.push_text(b"\n");
+    line
+}
+
+// Restores a volume, counted from 1, and prints the line of its sum.
+fn sum_volume<T: Tape, K: Sink>(
+    store: &mut Store,
+    unit: &mut Unit<T>,
+    number: u32,
+    sink: &mut K,
+) -> Result<(), MakeFault>
+    requires fits { StoreFits T.means store.old unit.old }
+    requires some { 1 ≤ number }
+    requires within { number ≤ length store.old.entries }
+    ensures ends { (seed : ℕ) → RunEnds T.means K.means seed store.old.words store.old.entries
+        (SumVolume number ∷ []) (around unit.old.tape sink.old) (around unit.new.tape sink.new) result }
+    ensures store { KeepsStore store.old store.new }
+    ensures room { NeverFull result }
+    ensures fits { result ≢ Err tape_fault → StoreFits T.means store.new unit.new }
+{
+    let mut summed = Summed::new();
+    let bytes = match store.restore(unit, number, false, &mut summed) {
+        Ok(bytes) => bytes,
+        Err(fault) => return Err(step_fault(fault)),
+    };
+    match write_text(sum_text(number, bytes, summed.sum()).bytes(), sink) {
+        Ok(()) => Ok(()),
+        Err(SinkFailed) => Err(MakeFault::Sink),
+    }
+}
+
+/// Restores the volumes behind the first ones, and prints the line of each one's sum.
+pub(crate) fn sum_volumes<T: Tape, K: Sink>(
+    store: &mut Store,
+    unit: &mut Unit<T>,
+    first: u32,
+    sink: &mut K,
+) -> Result<(), MakeFault>
+    requires fits { StoreFits T.means store.old unit.old }
+    requires first { first ≤ length store.old.entries }
+    ensures ends { (seed : ℕ) → RunEnds T.means K.means seed store.old.words store.old.entries
+        (summing (first + 1) (length store.old.entries - first))
+        (around unit.old.tape sink.old) (around unit.new.tape sink.new) result }
+    ensures store { KeepsStore store.old store.new }
+    ensures room { NeverFull result }
+    ensures fits { result ≢ Err tape_fault → StoreFits T.means store.new unit.new }
+{
+    let end = store.count() + 1;
+    for number in first + 1..end {
+        sum_volume(store, unit, number, sink)?;
+    }
+    Ok(())
+}
