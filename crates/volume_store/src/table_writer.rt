@@ -74,7 +74,7 @@ fn put_entry(entry: &Entry, work: &mut Workspace, table: &mut Table) -> u8
     changed
 }
 
-// Writes the sectors of the table's segment at these places, ascending.
+/// Writes the sectors of the table's segment at these places, ascending.
 pub(crate) fn write_places<T: Tape>(
     host: &mut Host,
     unit: &mut Unit<T>,
