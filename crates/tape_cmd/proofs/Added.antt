@@ -41,8 +41,8 @@ use Rattle.volume_store.specs.declared.fault.StoreFault.{StoreFault}
 use Rattle.volume_store.specs.declared.fault.StoreFault.TheVariants as fault
 use Rattle.tape_cmd.specs.declared.status.Status.{Status}
 use Rattle.tape_cmd.specs.declared.status.Status.TheVariants as status
-use Rattle.tape_cmd.specs.Append.{Appends, AppendOutcome, append_status, kept_on, reply_behind}
-use Rattle.tape_cmd.specs.Lines.{appended_line}
+use Rattle.tape_cmd.specs.Append.{Appends, AppendOutcome, append_status, kept_on}
+use Rattle.tape_cmd.specs.Lines.{appended_line, reply_behind}
 use Rattle.tape_cmd.specs.Opening.{IsOpened, HasOpened, IsUnlocked, WritableEnds, is_opening, store_status}
 use Rattle.tape_cmd.specs.Outcome.{Outcome, refused, refused_behind, first_steps}
 use Rattle.tape_cmd.specs.Runs.{Ends, InputLeft, IsOfBytes, IsCutOff, NamesFault, may_come_from}

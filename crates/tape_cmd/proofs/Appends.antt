@@ -42,8 +42,8 @@ use Rattle.volume_input.proofs.ActLaws.{volume_is_writes, volume_is_free}
 use Rattle.volume_store.specs.Appending.{Kept, Fits, TooLong, entry_acts, entry_for, free_in, input_writes, room_in, taking}
 use Rattle.tape_cmd.specs.declared.status.Status.{Status}
 use Rattle.tape_cmd.specs.declared.status.Status.TheVariants as status
-use Rattle.tape_cmd.specs.Append.{kept_on, reply_behind, appended, Appends, AppendOutcome}
-use Rattle.tape_cmd.specs.Lines.{appended_line}
+use Rattle.tape_cmd.specs.Append.{kept_on, appended, Appends, AppendOutcome}
+use Rattle.tape_cmd.specs.Lines.{appended_line, reply_behind}
 use Rattle.tape_cmd.specs.Opening.{Opened, settling_act}
 use Rattle.tape_cmd.specs.Outcome.{Outcome, refused}
 

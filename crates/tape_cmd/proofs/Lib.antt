@@ -5,7 +5,6 @@ pub mod Ends
 pub mod Formats
 pub mod GivenBack
 pub mod Hands
-pub mod Listings
 pub mod MachineLaws
 pub mod Mounted
 pub mod OneLoss

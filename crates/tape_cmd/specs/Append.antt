@@ -8,7 +8,7 @@ use Rattle.mount_laws.specs.Settling.{settling_steps}
 use Rattle.volume_store.specs.Appending.{Kept, append_acts, bytes_taken, room_in, taking}
 use Rattle.tape_cmd.specs.declared.status.Status.{Status}
 use Rattle.tape_cmd.specs.declared.status.Status.TheVariants as status
-use Rattle.tape_cmd.specs.Lines.{appended_line}
+use Rattle.tape_cmd.specs.Lines.{reply_behind}
 use Rattle.tape_cmd.specs.Opening.{Going, WritableOutcome, settling_act}
 use Rattle.tape_cmd.specs.Outcome.{Outcome}
 
@@ -21,10 +21,6 @@ kept_on c words table entries = record {
   table = table;
   settling = settling_steps table (settled table c);
 }
-
--- the reply, behind so many volumes
-abbrev pub reply_behind : (count : ℕ) → Entry → List ℕ
-reply_behind count e = appended_line (count + 1) e.size e.start e.end
 
 -- the answer, with room for so many bytes: full where there is none for all of the input, or for no byte
 abbrev pub append_status : (have : ℕ) → (input : List ℕ) → Status

@@ -1,39 +1,23 @@
 -- The lines that the commands print, and those that a status prints (this project's own).
-use Rattle.std.specs.Prelude.{ℕ, ◌+◌, ◌*◌, Bool, true, false, List, [], ◌∷◌, ◌++◌, length, codes, decimal}
+use Rattle.std.specs.Prelude.{ℕ, ◌*◌, Bool, true, false, List, [], ◌++◌, codes, decimal}
 use Rattle.qic_base.specs.declared.foreign.ForeignField.{ForeignField}
 use Rattle.qic_base.specs.declared.foreign.ForeignField.TheVariants.{FormatCode, FirstHeader, SecondHeader, FirstData, LastData, SegmentsPerTrack, Tracks, TrackMaximum, SectorMaximum, Map, Slot, Range}
 use Rattle.cartridge_spec.specs.Shape.{marked_sectors}
 use Rattle.cartridge_spec.specs.Header.{Header}
-use Rattle.cartridge_spec.specs.Table.{Entry}
-use Rattle.cartridge_spec.specs.Volumes.{volume_length}
 use Rattle.tape_script.specs.Text.{date_text, name_text}
+-- those that scripts print, too
+unfoldable pub use Rattle.volume_lines.specs.Lines.{number_line, place_line, appended_line, list_text}
+pub use Rattle.volume_lines.specs.Lines.{lost_line, reply_behind, count_line}
 use Rattle.tape_cmd.specs.declared.status.Status.{Status}
 use Rattle.tape_cmd.specs.declared.status.Status.TheVariants as status
 
 -- ---- commands
-
--- a number behind a word
-unfoldable pub number_line : List ℕ → ℕ → List ℕ
-number_line word n = word ++ codes " " ++ decimal n ++ codes "\n"
-
--- two numbers behind a word
-unfoldable pub place_line : List ℕ → (segment sector : ℕ) → List ℕ
-place_line word segment sector = word ++ codes " " ++ decimal segment ++ codes " " ++ decimal sector ++ codes "\n"
 
 abbrev pub blank_line : ℕ → List ℕ
 blank_line segments = number_line (codes "blank") segments
 
 abbrev pub defect_line : (segment sector : ℕ) → List ℕ
 defect_line segment sector = place_line (codes "defect") segment sector
-
-abbrev pub lost_line : (segment sector : ℕ) → List ℕ
-lost_line segment sector = place_line (codes "lost") segment sector
-
--- a volume that was appended: its number, its length in bytes, and its first and its last segment
-unfoldable pub appended_line : (number bytes start end : ℕ) → List ℕ
-appended_line number bytes start end =
-    codes "appended " ++ decimal number ++ codes " " ++ decimal bytes ++ codes " " ++ decimal start ++ codes " " ++ decimal end
-    ++ codes "\n"
 
 -- how many segments were formatted, and how many sectors are bad
 abbrev pub formatted_line : (segments bad : ℕ) → List ℕ
@@ -42,25 +26,6 @@ formatted_line segments bad = place_line (codes "formatted") segments bad
 abbrev pub protected_line : Bool → List ℕ
 protected_line true = codes "protected on\n"
 protected_line false = codes "protected off\n"
-
--- a volume's line: its number, first and last segment, length in bytes, date and name
-unfoldable pub volume_line : (number : ℕ) → Entry → (bytes : ℕ) → List ℕ
-volume_line number e bytes =
-    decimal number ++ codes " " ++ decimal e.start ++ codes " " ++ decimal e.end ++ codes " " ++ decimal bytes ++ codes " "
-    ++ date_text e.date ++ codes " " ++ name_text e.name ++ codes "\n"
-
--- the lines of volumes, from this number on, each with its length by the map
-unfoldable pub volume_lines : (words : List ℕ) → (number : ℕ) → List Entry → List ℕ
-volume_lines words number [] = []
-volume_lines words number (e ∷ es) = volume_line number e (volume_length words e) ++ volume_lines words (number + 1) es
-
--- the last line: how many volumes there are
-abbrev pub count_line : ℕ → List ℕ
-count_line count = number_line (codes "volumes") count
-
--- what `list` prints, by the words of the map and the volumes
-unfoldable pub list_text : (words : List ℕ) → List Entry → List ℕ
-list_text words entries = volume_lines words 1 entries ++ count_line (length entries)
 
 -- the first lines of `info`: the label, and when the cartridge was formatted
 unfoldable pub label_lines : Header → List ℕ

@@ -3,7 +3,6 @@
 ghost use Rattle.std.specs.Prelude.{◌≡◌, ◌<◌, ◌^◌};
 ghost use Rattle.format_plan.specs.Fresh.{IsLabel};
 ghost use Rattle.tape_script.specs.declared.words.Words.TheVariants.{Append};
-ghost use Rattle.tape_cmd.specs.Lines.{appended_line};
 ghost use Rattle.tape_cmd.specs.Runs.{Ends};
 
 use crate::Status;
@@ -12,8 +11,8 @@ use crate::opening::{open_writable, store_status};
 use crate::room::Room;
 use drive_states::Unit;
 use qic_base::{Name, Sink, Source, Tape};
-use tape_script::{TextLine, write_text};
-use volume_store::Appended;
+use tape_script::write_text;
+use volume_lines::appended_text;
 
 /// Opens the cartridge, where it isn't protected, and appends the whole input as a volume. Prints its number, its length in bytes, and its first and
 /// its last segment.
@@ -40,22 +39,4 @@ pub fn append<T: Tape, S: Source, K: Sink>(
         Ok(appended) => printed(write_text(appended_text(&appended).bytes(), sink)),
         Err(fault) => store_status(fault),
     }
-}
-
-#[tactic(auto, unfolding(crate::specs::Lines::appended_line))]
-fn appended_text(appended: &Appended) -> TextLine
-    ensures { result ≡ appended_line appended.now.number appended.now.bytes
-        appended.now.start appended.now.end }
-{
-    let mut line = TextLine::new();
-    line.push_text(b"appended ");
-    line.push_number(u64::from(appended.number));
-    line.push_text(b" ");
-    line.push_number(appended.bytes);
-    line.push_text(b" ");
-    line.push_number(u64::from(appended.start));
-    line.push_text(b" ");
-    line.push_number(u64::from(appended.end));
-    line.push_text(b"\n");
-    line
 }

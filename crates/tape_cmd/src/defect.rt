@@ -4,10 +4,11 @@ ghost use Rattle.tape_script.specs.declared.words.Words.TheVariants.{Defect};
 ghost use Rattle.tape_cmd.specs.Runs.{EndsBlind};
 
 use crate::Status;
-use crate::lines::{place_text, printed};
+use crate::lines::printed;
 use drive_states::{HandFault, Unit};
 use qic_base::{Sink, Tape, TapeFailed};
 use tape_script::write_text;
+use volume_lines::place_text;
 
 /// Makes a defect of a sector that was never formatted.
 pub fn spoil<T: Tape, K: Sink>(
@@ -23,7 +24,10 @@ pub fn spoil<T: Tape, K: Sink>(
         return Status::TapeFault;
     }
     match unit.spoil(segment, sector) {
-        Ok(()) => printed(write_text(place_text(b"defect", segment, sector).bytes(), sink)),
+        Ok(()) => printed(write_text(
+            place_text(b"defect", u64::from(segment), u64::from(sector)).bytes(),
+            sink,
+        )),
         Err(HandFault::NoCartridge) => Status::NoCartridge,
         Err(HandFault::BadPlace) => Status::BadPlace,
         Err(HandFault::NotBlank) => Status::NotBlank,

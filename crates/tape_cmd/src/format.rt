@@ -6,13 +6,14 @@ ghost use Rattle.tape_cmd.specs.Format.{format_status};
 ghost use Rattle.tape_cmd.specs.Runs.{EndsBlind};
 
 use crate::Status;
-use crate::lines::{place_text, printed};
+use crate::lines::printed;
 use crate::opening::start;
 use crate::room::Room;
 use drive_states::Unit;
 use formatter::{FormatFault, format};
 use qic_base::{Name, Sink, Tape};
 use tape_script::write_text;
+use volume_lines::place_text;
 
 /// Formats the cartridge, and prints how many segments and how many bad sectors it has.
 pub fn format_cartridge<T: Tape, K: Sink>(
@@ -31,7 +32,11 @@ pub fn format_cartridge<T: Tape, K: Sink>(
     };
     match format(&mut host, unit, &mut room.work, &mut room.map, label, date) {
         Ok(report) => {
-            let line = place_text(b"formatted", report.segments, report.bad);
+            let line = place_text(
+                b"formatted",
+                u64::from(report.segments),
+                u64::from(report.bad),
+            );
             printed(write_text(line.bytes(), sink))
         }
         Err(fault) => status_of_format(fault),

@@ -4,10 +4,11 @@ ghost use Rattle.tape_script.specs.declared.words.Words.TheVariants.{Lose};
 ghost use Rattle.tape_cmd.specs.Runs.{EndsBlind};
 
 use crate::Status;
-use crate::lines::{place_text, printed};
+use crate::lines::printed;
 use drive_states::{HandFault, Unit};
 use qic_base::{Sink, Tape, TapeFailed};
 use tape_script::write_text;
+use volume_lines::place_text;
 
 /// Makes a readable sector unreadable, until it is written again.
 pub fn lose<T: Tape, K: Sink>(unit: &mut Unit<T>, segment: u32, sector: u32, sink: &mut K) -> Status
@@ -18,7 +19,10 @@ pub fn lose<T: Tape, K: Sink>(unit: &mut Unit<T>, segment: u32, sector: u32, sin
         return Status::TapeFault;
     }
     match unit.wear(segment, sector) {
-        Ok(()) => printed(write_text(place_text(b"lost", segment, sector).bytes(), sink)),
+        Ok(()) => printed(write_text(
+            place_text(b"lost", u64::from(segment), u64::from(sector)).bytes(),
+            sink,
+        )),
         Err(HandFault::NoCartridge) => Status::NoCartridge,
         Err(HandFault::BadPlace) => Status::BadPlace,
         Err(HandFault::Tape) => Status::TapeFault,

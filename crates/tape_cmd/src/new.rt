@@ -6,10 +6,11 @@ ghost use Rattle.tape_script.specs.declared.words.Words.TheVariants.{New};
 ghost use Rattle.tape_cmd.specs.Runs.{EndsBlind};
 
 use crate::Status;
-use crate::lines::{number_text, printed};
+use crate::lines::printed;
 use drive_states::{HandFault, Unit};
 use qic_base::{Sink, Tape};
 use tape_script::write_text;
+use volume_lines::number_text;
 
 /// Puts in a new cartridge, never formatted.
 pub fn put_in_new<T: Tape, K: Sink>(unit: &mut Unit<T>, segments: u16, sink: &mut K) -> Status

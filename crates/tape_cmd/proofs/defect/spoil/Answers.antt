@@ -28,7 +28,7 @@ returns-in-Ok g c =
     (carried_out (Spoil c.args.segment c.args.sector) (defect_line c.args.segment c.args.sector)) c.write_text.result refl refl refl
     (told_known_beside _ _ (λ k. spoil_answer (view_at k c.args.segment c.args.sector) ≡ true) (λ h. Rules (Defect c.args.segment c.args.sector) h (carried_out (Spoil c.args.segment c.args.sector) (defect_line c.args.segment c.args.sector))) before (beside (λ k. spoil_answer (view_at k c.args.segment c.args.sector) ≡ true) (rw c.in-Ok.is at came.fact).1) (λ held known spoiled. λ input. defect_placed c.args.segment c.args.sector came.info held (sym came.known ∙ known) came.place spoiled))
     (Done-after_reads c.in_default.ensures.did (rw c.in-Ok.is at came.fact).0)
-    (rw (c.bytes.ensures, c.place_text.ensures) at c.write_text.ensures))
+    (rw (c.bytes.ensures, c.place_text.ensures, c.from.ensures, c.from-in-Ok.ensures) at c.write_text.ensures))
 
 pub returns-in-Err-NoCartridge : goal.returns-in-Err-NoCartridge
 returns-in-Err-NoCartridge g c =

@@ -19,7 +19,7 @@ returns-in-Ok-format g c =
     rw c.printed.ensures (format_printed g.T.Tape.means g.K.Sink.means c.args.label.now c.args.date c.args.unit.now.tape c.start.new.unit.tape c.format.new.unit.tape c.args.sink.now c.write_text.new.sink
     there.info c.format.new.map c.in-Ok-format.report c.write_text.result (present c.in-Ok.ensures) unlocked
     (subst (λ n. HasFormatted g.T.Tape.means n c.args.label.now c.args.date c.start.new.unit.tape c.format.new.unit.tape c.format.new.map c.in-Ok-format.report) long c.in-Ok-format.ensures.did)
-    (rw (c.bytes.ensures, c.place_text-line.ensures) at c.write_text.ensures))
+    (rw (c.bytes.ensures, c.place_text-line.ensures, c.from.ensures, c.from-in-Ok-format.ensures) at c.write_text.ensures))
 
 pub returns-in-Err-format : goal.returns-in-Err-format
 returns-in-Err-format g c =

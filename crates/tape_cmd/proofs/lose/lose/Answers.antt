@@ -25,7 +25,7 @@ returns-in-Ok g c =
     (carried_out (Wear c.args.segment c.args.sector) (lost_line c.args.segment c.args.sector)) c.write_text.result refl refl refl
     (told_known _ _ (λ h. Rules (Lose c.args.segment c.args.sector) h (carried_out (Wear c.args.segment c.args.sector) (lost_line c.args.segment c.args.sector))) before (λ held known. λ input. lose_placed c.args.segment c.args.sector came.info held (sym came.known ∙ known) came.place))
     (Done-after_reads c.in_default.ensures.did (rw c.in-Ok.is at came.fact))
-    (rw (c.bytes.ensures, c.place_text.ensures) at c.write_text.ensures))
+    (rw (c.bytes.ensures, c.place_text.ensures, c.from.ensures, c.from-in-Ok.ensures) at c.write_text.ensures))
 
 pub returns-in-Err-NoCartridge : goal.returns-in-Err-NoCartridge
 returns-in-Err-NoCartridge g c =

@@ -1,4 +1,4 @@
--- The lines of `list`.
+-- The lines of a list.
 use Rattle.std.proofs.Common.{◌≡◌, ℕ, ◌+◌, List, [], ◌∷◌, ◌++◌, length, take, drop, slice_get, Option, Some, IfSome, subst, Result, Ok, Err, refl, sym, ap, ◌∙◌, arith, append_assoc, append-nil}
 use Rattle.std.proofs.lemmas.List.{take_more, take-append-drop, length-take-le}
 use Rattle.std.proofs.lemmas.Option.{slice_get_within, get_or_from_slice_get}
@@ -6,7 +6,7 @@ use Rattle.qic_base.specs.Sink.{Meaning, Wrote, Writes}
 use Rattle.qic_base.proofs.Writing.{TakesBoth, Wrote-Wrote, Wrote-BrokeOff}
 use Rattle.cartridge_spec.specs.Table.{Entry}
 use Rattle.cartridge_spec.specs.Volumes.{volume_length}
-use Rattle.tape_cmd.specs.Lines.{volume_line, volume_lines, count_line, list_text}
+use Rattle.volume_lines.specs.Lines.{volume_line, volume_lines, count_line, list_text}
 
 -- a text written behind another
 pub Writes-after : {K T E : Type 0} {m : Meaning K} {a b : K} {xs : List ℕ} (c : K) (ys : List ℕ) (r : Result T E) → TakesBoth m →

@@ -1,0 +1,579 @@
+-- An append of a script, by what the store's append answered.
+use Rattle.std.proofs.Common.{◌≡◌, ◌≢◌, ℕ, ◌+◌, ◌≤◌, true, false, List, [], ◌∷◌, ◌++◌, length, take, drop, Option, Some, None, Result, Ok, Err, IfSome, refl, sym, ap, ◌∙◌, subst, arith, inl, inr, append-nil}
+use Rattle.std.specs.Option.{option_map}
+use Rattle.std.specs.Prelude.{◌↔◌}
+use Rattle.std.proofs.lemmas.List.{length-append, length-take-le}
+use Rattle.std.proofs.Math.Seq.{take-append_seam}
+use Rattle.qic_base.specs.Cartridge.{Cartridge}
+use Rattle.qic_base.specs.declared.sink.SinkFailed.{SinkFailed}
+use Rattle.qic_base.specs.Sink as sinks
+use Rattle.qic_base.specs.Source as sources
+use Rattle.qic_base.specs.Step.{Step}
+use Rattle.qic_base.specs.Tape as tapes
+use Rattle.qic_base.proofs.Steps.{Tells-map}
+use Rattle.qic_base.proofs.Writing.{TakesBoth}
+use Rattle.acts.specs.Acts.{Act, Failing, TapeFails, SourceFails, SinkFails, Went, Cut}
+use Rattle.acts.specs.Around.{no_sink, reading}
+use Rattle.append_plan.specs.Between.{table_writes}
+use Rattle.cartridge_spec.specs.Slots.{slot_sector}
+use Rattle.acts.proofs.Joins.{cut_is_longer}
+use Rattle.cartridge_spec.specs.HeaderAndTable.{table_cells, TableIs}
+use Rattle.cartridge_spec.specs.Says.{ByCode, LostSectors, TableSays}
+use Rattle.cartridge_spec.specs.Table.{Entry}
+use Rattle.mount_laws.specs.Settling.{settling_steps}
+use Rattle.tape_script.specs.declared.line.Line.{Line}
+use Rattle.tape_script.specs.declared.line.Line.TheVariants as line
+use Rattle.tape_script.specs.Input.{promised as promised_by}
+use Rattle.tape_script.specs.Reading.{Gave}
+use Rattle.tape_script.proofs.Giving.{Gave-Gave}
+use Rattle.tape_script.proofs.Rests.{any_rest, whole_told}
+use Rattle.volume_lines.specs.Lines.{appended_line, reply_behind}
+use Rattle.volume_store.specs.declared.appended.Appended.{Appended}
+use Rattle.volume_store.specs.declared.fault.StoreFault.{StoreFault}
+use Rattle.volume_store.specs.declared.fault.StoreFault.TheVariants as store_fault
+use Rattle.volume_store.specs.Appending.{Kept, Taking, Fits, TooLong, TooShort, taking, room_in, entry_for, append_acts, silently, table_with, kept_by, AppendRan, HasAppended, TableRefused, AppendCut, CutUnread, KeepsList}
+use Rattle.volume_store.specs.Mounting.{StoreView, StoreFits}
+use Rattle.drive_states.specs.Deck.{is_protected}
+use Rattle.drive_states.specs.Unit.{UnitView}
+use Rattle.volume_store.proofs.Copies.{tells_two}
+use Rattle.volume_script.specs.declared.fault.ItemFault.{ItemFault}
+use Rattle.volume_script.specs.declared.fault.ItemFault.TheVariants as fault
+use Rattle.volume_script.specs.declared.limited.Limited.{Limited}
+use Rattle.volume_script.specs.declared.refusal.Refusal.{Refusal}
+use Rattle.volume_script.specs.declared.refusal.Refusal.TheVariants as why
+use Rattle.volume_script.specs.Items.{EarlyDoes, ItemDone, ItemShort, ItemCut, ItemMismatched, ItemEnds, WouldDo}
+use Rattle.volume_script.specs.Limited.{limited_means}
+use Rattle.volume_script.specs.Lines.{refusal_line}
+use Rattle.volume_script.specs.Promised.{RanPromised, Refuses, replied_so}
+use Rattle.volume_script.specs.Script.{Did, LineDoes, Meeting, Finds, Meets, acts_on, kept_on, refused, reply, taken_as}
+use Rattle.volume_script.specs.Script as script
+use Rattle.volume_script.proofs.Acts.{quietly, same_acts, same_taking, took_enough, took_too_long, took_short, full_acts, full_taking, short_acts, fits_acts, front_acts, front_and_last, replied_steps, replied_text, input_texts}
+use Rattle.volume_script.proofs.Given.{gave_all, gave_few, Behind, behind}
+use Rattle.volume_script.proofs.Lifting.{out, TakesNone, read_went, read_cut, replied_went, replied_cut, rested}
+use Rattle.volume_script.proofs.Quiet.{mark_told, unmarked}
+use Rattle.volume_script.proofs.Plain.{line_one, meets_one, not_lost}
+
+pub flip : (o : Option (List ℕ)) (all : List ℕ) → IfSome o (λ bytes. all ≡ bytes) → IfSome o (λ bytes. bytes ≡ all)
+flip None all told = tt
+flip (Some bytes) all told = sym told
+
+-- a front of so many bytes
+first_of : (bytes rest : List ℕ) (n : ℕ) → length bytes ≡ n → take n (bytes ++ rest) ≡ bytes
+first_of bytes rest n long = ap (λ (m : ℕ). take m (bytes ++ rest)) (sym long) ∙ take-append_seam bytes rest
+
+same_first : (bytes rest other more : List ℕ) (n : ℕ) → bytes ++ rest ≡ other ++ more → length bytes ≡ n → length other ≡ n → other ≡ bytes
+same_first bytes rest other more n is long too = sym (first_of other more n too) ∙ ap (take n) (sym is) ∙ first_of bytes rest n long
+
+-- what would be done with the first of some bytes is what was done with them
+would_be : (c : Cartridge) (words : List ℕ) (entries : List Entry) (asked : Line) (bytes rest : List ℕ) → length bytes ≡ promised_by asked → (did : Did) → LineDoes c words entries asked bytes did →
+    (acts : List Act) → WouldDo c words entries asked (bytes ++ rest) acts → did.acts ≡ acts
+would_be c words entries asked bytes rest long did does acts (inl (other, (more, (parts, too, (did', same, does'))))) =
+    let first : other ≡ bytes = same_first bytes rest other more (promised_by asked) parts long too in
+    let again : LineDoes c words entries asked bytes did' = subst (λ (bs : List ℕ). LineDoes c words entries asked bs did') first does' in
+    ap (λ (d : Did). d.acts) (sym (line_one c words entries asked bytes did did' does again)) ∙ same
+would_be c words entries asked bytes rest long did does acts (inr (short, early)) = absurd (let l = length-append bytes rest in omega arith)
+
+-- what a cartridge without a mark meets where it says these data
+abbrev Known : (store : StoreView) (table : List (List ℕ)) (settling : List Step) → Cartridge → Type 0
+Known store table settling c = (TableIs c table × (settling ≡ settling_steps table c)) × (c.info.protected ≡ false)
+
+module _ {T S K : Type 0} (t : tapes.Meaning T) (s : sources.Meaning S) (k : sinks.Meaning K) (store after : StoreView) (name : List ℕ) (promised date : ℕ) (both : TakesBoth k) (none : TakesNone k) (a b : T) (i j : S) (x : K) where
+  abbrev asked : Line
+  asked = line.Append name promised date
+
+  abbrev reply_of : Entry → List ℕ
+  reply_of = reply_behind (length store.entries)
+
+  -- ---- an append that ran
+
+  module _ (left : ℕ) (answer : Result Appended StoreFault) (ran : RanPromised t s a b i j store after name date promised left answer) where
+    begins : s.faults ran.before.source.now ≡ s.faults i
+    begins = ap s.faults ran.starts
+
+    stands : s.faults ran.behind.source.now ≡ s.faults j
+    stands = ap s.faults ran.stops
+
+    -- how many of the promised bytes were taken
+    abbrev taken_count : ℕ
+    taken_count = ran.lends.count
+
+    counted : promised ≡ left + ran.lends.count
+    counted = sym ran.promises ∙ ran.lends.counted ∙ ap (λ (n : ℕ). n + ran.lends.count) ran.leaves
+
+    given : List ℕ
+    given = ran.lends.gave.0
+
+    pub given_long : length ran.lends.gave.0 ≡ ran.lends.count
+    given_long = ran.lends.gave.1
+
+    pub was_given : Gave s i j ran.lends.gave.0
+    was_given = subst (λ (p : S). Gave s p j ran.lends.gave.0) ran.starts (subst (λ (q : S). Gave s ran.before.source.now q ran.lends.gave.0) ran.stops ran.lends.gave.2)
+
+    -- what the limited source tells
+    limit_told : (input : List ℕ) → IfSome (option_map (take ran.before.left) (s.left ran.before.source.now)) (λ bytes. input ≡ bytes) →
+        IfSome (option_map (take promised) (s.left i)) (λ bytes. input ≡ bytes)
+    limit_told input told =
+        subst (λ (p : S). IfSome (option_map (take promised) (s.left p)) (λ bytes. input ≡ bytes)) ran.starts
+        (subst (λ (n : ℕ). IfSome (option_map (take n) (s.left ran.before.source.now)) (λ bytes. input ≡ bytes)) ran.promises told)
+
+    limit_left : (n : ℕ) → option_map (take ran.behind.left) (s.left ran.behind.source.now) ≡ option_map (drop n) (option_map (take ran.before.left) (s.left ran.before.source.now)) →
+        option_map (take left) (s.left j) ≡ option_map (drop n) (option_map (take promised) (s.left i))
+    limit_left n told =
+        sym (ap (λ (q : S). option_map (take left) (s.left q)) ran.stops) ∙ sym (ap (λ (m : ℕ). option_map (take m) (s.left ran.behind.source.now)) ran.leaves) ∙ told
+        ∙ ap (λ (m : ℕ). option_map (drop n) (option_map (take m) (s.left ran.before.source.now))) ran.promises
+        ∙ ap (λ (q : S). option_map (drop n) (option_map (take promised) (s.left q))) ran.starts
+
+    lift : (acts : List Act) → Went t (limited_means s) no_sink (reading a ran.before) (reading b ran.behind) acts → Went t s k (out a i x) (out b j x) acts
+    lift acts went = read_went t s k (limited_means s) ran.before ran.behind i j begins stands none a b x acts went
+
+    lift_cut : (acts : List Act) (failing : Failing) → failing ≢ SinkFails → Cut t (limited_means s) no_sink (reading a ran.before) (reading b ran.behind) acts failing →
+        Cut t s k (out a i x) (out b j x) acts failing
+    lift_cut acts failing other cut = read_cut t s k (limited_means s) ran.before ran.behind i j begins stands none a b x acts failing other cut
+
+    -- what is known of the cartridge, by the data that the append found
+    known_so : tapes.Tells t a (λ c. c.info.protected ≡ false) → (table : List (List ℕ)) (settling : List Step) →
+        tapes.Tells t a (λ c. TableIs c table × (settling ≡ settling_steps table c)) → tapes.Tells t a (Known store table settling)
+    known_so free table settling told =
+        tells_two t a (λ c. TableIs c table × (settling ≡ settling_steps table c)) (λ c. c.info.protected ≡ false) (Known store table settling) (λ c is off. (is, off)) told free
+
+    -- ---- all bytes came
+
+    module _ (y : K) (answered : Appended) (has : HasAppended t (limited_means s) (reading a ran.before) (reading b ran.behind) store after name date (Some promised) answered) (free : tapes.Tells t a (λ c. c.info.protected ≡ false)) where
+      abbrev r : AppendRan t (limited_means s) (reading a ran.before) (reading b ran.behind) store name date (Some promised) (Fits has.bytes)
+      r = has.ran
+
+      abbrev kept : Kept
+      kept = kept_by store has.ran.table has.ran.settling
+
+      took_all : (promised ≤ length has.ran.input) × (has.bytes ≡ take promised has.ran.input)
+      took_all = took_enough (room_in (kept_by store has.ran.table has.ran.settling)) promised has.ran.input has.bytes has.ran.took
+
+      bytes_long : length has.bytes ≡ promised
+      bytes_long = ap length took_all.1 ∙ length-take-le promised has.ran.input took_all.0
+
+      gave_bytes : Gave s i j has.bytes
+      gave_bytes =
+          subst (Gave s i j) (sym took_all.1)
+          (gave_all (s.left i) (s.left j) ran.lends.gave.0 has.ran.input promised ran.lends.count left was_given given_long counted (limit_told has.ran.input has.ran.is_told) took_all.0
+          (limit_left promised (has.ran.left ∙ ap (λ (n : ℕ). option_map (drop n) (option_map (take ran.before.left) (s.left ran.before.source.now))) bytes_long)))
+
+      -- the acts, with the reply
+      abbrev whole : List Act
+      whole = append_acts kept name date (Some promised) reply_of has.ran.input
+
+      same_bytes : append_acts kept name date (Some promised) reply_of has.ran.input ≡ append_acts kept name date (Some promised) reply_of has.bytes
+      same_bytes =
+          same_acts kept name date promised has.ran.input took_all.0 reply_of ∙ ap (λ (bs : List ℕ). append_acts kept name date (Some promised) reply_of bs) (sym took_all.1)
+
+      fits_bytes : taking (room_in kept) (Some promised) has.bytes ≡ Fits has.bytes
+      fits_bytes =
+          ap (λ (bs : List ℕ). taking (room_in kept) (Some promised) bs) took_all.1 ∙ sym (same_taking kept name date promised has.ran.input took_all.0) ∙ has.ran.took
+
+      does : (entries : List Entry) → entries ≡ store.entries ++ has.entry ∷ [] →
+          tapes.Tells t a (λ c. LineDoes c store.words store.entries asked has.bytes (record { acts = whole; entries = entries }))
+      does entries added =
+          Tells-map t a (Known store has.ran.table has.ran.settling) (λ c. LineDoes c store.words store.entries asked has.bytes (record { acts = whole; entries = entries }))
+          (λ c known.
+          let settles : kept ≡ kept_on c store.words store.entries has.ran.table = ap (λ (ss : List Step). kept_by store has.ran.table ss) known.0.1 in
+          let entry : entries ≡ store.entries ++ entry_for kept name date has.bytes ∷ [] = added ∙ ap (λ (e : Entry). store.entries ++ e ∷ []) has.is_entry in (
+            Finds has.ran.table,
+            (known.1, known.0.0),
+            ap (λ (es : List Entry). record { acts = whole; entries = es }) entry
+                ∙ ap (λ (acts : List Act). record { acts = acts; entries = store.entries ++ entry_for kept name date has.bytes ∷ [] }) same_bytes
+                ∙ sym (ap (λ (became : Taking). taken_as kept name date (append_acts kept name date (Some promised) reply_of has.bytes) became) fits_bytes)
+                ∙ ap (λ (by : Kept). taken_as by name date (append_acts by name date (Some promised) reply_of has.bytes) (taking (room_in by) (Some promised) has.bytes)) settles,
+          )) (known_so free has.ran.table has.ran.settling has.ran.known)
+
+      silent : Went t s k (out a i x) (out b j x) (append_acts kept name date (Some promised) silently has.ran.input)
+      silent = lift (append_acts kept name date (Some promised) silently has.ran.input) has.ran.went
+
+      abbrev text : List ℕ
+      text = reply_of (entry_for kept name date has.bytes)
+
+      pub appended_done : sinks.Wrote k x y text → ItemDone t s k store after (out a i x) (out b j y) asked
+      appended_done wrote = record {
+        bytes = has.bytes;
+        kept = bytes_long;
+        gave = gave_bytes;
+        acts = whole;
+        went = record {
+          did = subst (tapes.Done t a b) (replied_steps kept name date promised has.ran.input has.bytes has.ran.took reply_of) silent.did;
+          wrote = subst (sinks.Wrote k x y) (sym (replied_text kept name date promised has.ran.input has.bytes has.ran.took reply_of)) wrote;
+          source_later = silent.source_later;
+        };
+        told = does after.entries has.added;
+      }
+
+      abbrev last : Act
+      last = record {
+        steps = table_writes (slot_sector (length store.entries)) (table_with kept (entry_for kept name date has.bytes));
+        text = text;
+      }
+
+      unreplied : sinks.BrokeOff k x y text → Cut t s k (out a i x) (out b j y) whole SinkFails
+      unreplied broke = record {
+        at = record {
+          front = front_acts kept promised has.ran.input;
+          act = last;
+          rest = [];
+          parts = sym (fits_acts kept name date promised has.ran.input has.bytes has.ran.took reply_of);
+        };
+        did = subst (tapes.Done t a b) (sym (front_and_last kept name date promised has.ran.input has.bytes has.ran.took reply_of last refl)) silent.did;
+        broke = record {
+          part = broke.front;
+          rest = broke.rest;
+          parts = broke.parts;
+          took = subst (λ (l : List ℕ). k.took x (l ++ broke.front) y) (sym (input_texts kept (Some promised) has.ran.input)) broke.took;
+          cause = broke.cause;
+          later = broke.later;
+        };
+        source_later = silent.source_later;
+      }
+
+      pub appended_cut : sinks.BrokeOff k x y text → ItemCut t s k store (out a i x) (out b j y) asked SinkFails
+      appended_cut broke =
+          let rest = any_rest (s.left j) in record {
+            rest = has.bytes ++ rest.rest;
+            is_told = flip (s.left i) (has.bytes ++ rest.rest) (whole_told (s.left i) (s.left j) has.bytes rest.rest gave_bytes rest.told);
+            told = Tells-map t a (λ c. LineDoes c store.words store.entries asked has.bytes (record { acts = whole; entries = store.entries ++ has.entry ∷ [] }))
+                (λ c. (acts : List Act) → WouldDo c store.words store.entries asked (has.bytes ++ rest.rest) acts → Cut t s k (out a i x) (out b j y) acts SinkFails)
+                (λ c does acts would. subst (λ (zs : List Act). Cut t s k (out a i x) (out b j y) zs SinkFails)
+                (would_be c store.words store.entries asked has.bytes rest.rest bytes_long (record { acts = whole; entries = store.entries ++ has.entry ∷ [] }) does acts would) (unreplied broke))
+                (does (store.entries ++ has.entry ∷ []) refl);
+            acts = whole;
+            cut = unreplied broke;
+          }
+
+      text_is : appended_line answered.number answered.bytes answered.start answered.end ≡ text
+      text_is =
+          ap (λ (n : ℕ). appended_line n answered.bytes answered.start answered.end) has.number
+          ∙ ap (λ (n : ℕ). appended_line (length store.entries + 1) n answered.start answered.end) has.count
+          ∙ ap (λ (n : ℕ). appended_line (length store.entries + 1) (length has.bytes) n answered.end) has.start
+          ∙ ap (λ (n : ℕ). appended_line (length store.entries + 1) (length has.bytes) has.entry.start n) has.end
+          ∙ ap (λ (e : Entry). appended_line (length store.entries + 1) (length has.bytes) e.start e.end) has.is_entry
+
+      pub appended_ends : (r : Result (Unit {0}) SinkFailed) → sinks.Writes k x y (appended_line answered.number answered.bytes answered.start answered.end) r →
+          ItemEnds t s k store after (out a i x) (out b j y) asked (replied_so r)
+      appended_ends (Ok done) wrote = appended_done (subst (sinks.Wrote k x y) text_is wrote)
+      appended_ends (Err failed) broke = appended_cut (subst (sinks.BrokeOff k x y) text_is broke)
+
+    -- ---- fewer bytes came
+
+    pub came_short : (asked_for got : ℕ) (short : AppendRan t (limited_means s) (reading a ran.before) (reading b ran.behind) store name date (Some promised) (TooShort asked_for got)) →
+        tapes.Tells t a (λ c. c.info.protected ≡ false) → ItemShort t s k store (out a i x) (out b j x) asked
+    came_short asked_for got short free =
+        let kept : Kept = kept_by store short.table short.settling in
+        let few = took_short (room_in kept) promised short.input asked_for got short.took in
+        let gave = gave_few (s.left i) (s.left j) ran.lends.gave.0 short.input promised ran.lends.count left was_given given_long counted (limit_told short.input short.is_told) few.0
+        (limit_left (length short.input) (short.left ∙ ap (λ (n : ℕ). option_map (drop n) (option_map (take ran.before.left) (s.left ran.before.source.now))) few.1)) in
+        let acts : List Act = append_acts kept name date (Some promised) silently short.input in
+        record {
+          bytes = short.input;
+          short = few.0;
+          gave = gave.gave;
+          ended = gave.ended;
+          acts = acts;
+          went = lift acts short.went;
+          told = Tells-map t a (Known store short.table short.settling) (λ c. EarlyDoes c store.words store.entries asked short.input acts)
+              (λ c known. (
+                Finds short.table,
+                (known.1, known.0.0),
+                short_acts kept name date promised silently reply_of short.input asked_for got short.took
+                    ∙ ap (λ (ss : List Step). append_acts (kept_by store short.table ss) name date (Some promised) reply_of short.input) known.0.1,
+              )) (known_so free short.table short.settling short.known);
+        }
+
+    -- ---- a fault of the outside
+
+    -- acts that an append would do are cut off as its own are
+    longer_taken : (kept : Kept) (acts : List Act) (became : Taking) (failing : Failing) → Cut t s k (out a i x) (out b j x) acts failing →
+        Cut t s k (out a i x) (out b j x) (taken_as kept name date acts became).acts failing
+    longer_taken kept acts (Fits bytes) failing cut = cut
+    longer_taken kept acts (TooLong need have) failing cut =
+        cut_is_longer t s k (out a i x) (out b j x) acts (reply (refusal_line (why.Full need have)) ∷ []) failing cut
+    longer_taken kept acts (TooShort n read) failing cut = cut
+
+    pub failed : (failing : Failing) → failing ≢ SinkFails → AppendCut t (limited_means s) (reading a ran.before) (reading b ran.behind) store name date (Some promised) failing →
+        CutUnread t (limited_means s) (reading a ran.before) (reading b ran.behind) failing → tapes.Tells t a (λ c. c.info.protected ≡ false) → ItemCut t s k store (out a i x) (out b j x) asked failing
+    failed failing other cut unread free =
+        let at : Behind (s.left i) promised cut.input = behind (s.left i) promised cut.input (limit_told cut.input cut.is_told) in record {
+          rest = at.rest;
+          is_told = at.told;
+          told = tells_two t a
+              (λ c. ((table : List (List ℕ)) → TableIs c table → (reply : Entry → List ℕ) →
+              Cut t (limited_means s) no_sink (reading a ran.before) (reading b ran.behind) (append_acts (kept_by store table (settling_steps table c)) name date (Some promised) reply cut.input) failing)
+              × (((table : List (List ℕ)) → TableIs c table → ⊥) → Cut t (limited_means s) no_sink (reading a ran.before) (reading b ran.behind) [] failing))
+              (λ c. c.info.protected ≡ false)
+              (λ c. (acts : List Act) → WouldDo c store.words store.entries asked at.rest acts → Cut t s k (out a i x) (out b j x) acts failing)
+              (λ c each off acts would. by_cases at c each.0 each.1 off acts would)
+              (tells_two t a
+              (λ c. (table : List (List ℕ)) → TableIs c table → (reply : Entry → List ℕ) →
+              Cut t (limited_means s) no_sink (reading a ran.before) (reading b ran.behind) (append_acts (kept_by store table (settling_steps table c)) name date (Some promised) reply cut.input) failing)
+              (λ c. ((table : List (List ℕ)) → TableIs c table → ⊥) → Cut t (limited_means s) no_sink (reading a ran.before) (reading b ran.behind) [] failing)
+              (λ c. ((table : List (List ℕ)) → TableIs c table → (reply : Entry → List ℕ) →
+              Cut t (limited_means s) no_sink (reading a ran.before) (reading b ran.behind) (append_acts (kept_by store table (settling_steps table c)) name date (Some promised) reply cut.input) failing)
+              × (((table : List (List ℕ)) → TableIs c table → ⊥) → Cut t (limited_means s) no_sink (reading a ran.before) (reading b ran.behind) [] failing))
+              (λ c each lost. (each, lost)) cut.told unread)
+              free;
+          acts = cut.acts;
+          cut = lift_cut cut.acts failing other cut.cut;
+        }
+      where
+        -- refused before anything
+        unbegun : (c : Cartridge) → c.info.protected ≡ false → (meeting : Refusal) → Meets c (script.Refuses meeting) → (table : List (List ℕ)) → TableIs c table → ⊥
+        unbegun c off why.Protected meets table is = absurd (cc)
+        unbegun c off (why.Lost segment lost) meets table is = not_lost c table lost is meets.2
+        unbegun c off (why.Full need have) meets table is = meets
+        unbegun c off (why.NoVolume number count) meets table is = meets
+        unbegun c off (why.Mismatch segment) meets table is = meets
+        unbegun c off (why.Place segment sector) meets table is = meets
+
+        by_cases : (at : Behind (s.left i) promised cut.input) (c : Cartridge) →
+            ((table : List (List ℕ)) → TableIs c table → (reply : Entry → List ℕ) →
+            Cut t (limited_means s) no_sink (reading a ran.before) (reading b ran.behind) (append_acts (kept_by store table (settling_steps table c)) name date (Some promised) reply cut.input) failing) →
+            (((table : List (List ℕ)) → TableIs c table → ⊥) → Cut t (limited_means s) no_sink (reading a ran.before) (reading b ran.behind) [] failing) → c.info.protected ≡ false →
+            (acts : List Act) → WouldDo c store.words store.entries asked at.rest acts → Cut t s k (out a i x) (out b j x) acts failing
+        by_cases at c each lost off acts (inl (bytes, (more, (parts, long, (did, same, (script.Refuses meeting, meets, is)))))) =
+            cut_is_longer t s k (out a i x) (out b j x) [] acts failing (lift_cut [] failing other (lost (unbegun c off meeting meets)))
+        by_cases at c each lost off acts (inl (bytes, (more, (parts, long, (did, same, (Finds table, meets, is)))))) =
+            let kept : Kept = kept_on c store.words store.entries table in
+            let enough : promised ≤ length cut.input = at.enough (let l = ap length parts in let m = length-append bytes more in omega arith) in
+            let first : take promised cut.input ≡ bytes = sym at.front ∙ ap (take promised) parts ∙ first_of bytes more promised long in
+            let whole : append_acts kept name date (Some promised) reply_of cut.input ≡ append_acts kept name date (Some promised) reply_of bytes =
+            same_acts kept name date promised cut.input enough reply_of ∙ ap (λ (bs : List ℕ). append_acts kept name date (Some promised) reply_of bs) first in
+            let own : Cut t s k (out a i x) (out b j x) (append_acts kept name date (Some promised) reply_of bytes) failing =
+            subst (λ (zs : List Act). Cut t s k (out a i x) (out b j x) zs failing) whole
+            (lift_cut (append_acts kept name date (Some promised) reply_of cut.input) failing other (each table meets.1 reply_of)) in
+            subst (λ (zs : List Act). Cut t s k (out a i x) (out b j x) zs failing) (ap (λ (d : Did). d.acts) (sym is) ∙ same)
+            (longer_taken kept (append_acts kept name date (Some promised) reply_of bytes) (taking (room_in kept) (Some promised) bytes) failing own)
+        by_cases at c each lost off acts (inr (short, (script.Refuses meeting, meets, is))) =
+            cut_is_longer t s k (out a i x) (out b j x) [] acts failing (lift_cut [] failing other (lost (unbegun c off meeting meets)))
+        by_cases at c each lost off acts (inr (short, (Finds table, meets, is))) =
+            let kept : Kept = kept_on c store.words store.entries table in
+            let input : cut.input ≡ at.rest = at.few short in
+            subst (λ (zs : List Act). Cut t s k (out a i x) (out b j x) zs failing) (ap (λ (bs : List ℕ). append_acts kept name date (Some promised) reply_of bs) input ∙ sym is)
+            (lift_cut (append_acts kept name date (Some promised) reply_of cut.input) failing other (each table meets.1 reply_of))
+
+    -- ---- refused
+
+    -- it was refused behind these acts, whatever the bytes are
+    pub record Refusing (acts : List Act) (refusal : Refusal) : Type 0 where
+      pub went : Went t s k (out a i x) (out b j x) acts
+      pub told : tapes.Tells t a (λ c. (meeting : Meeting) × Meets c meeting × (((bytes : List ℕ) → acts_on c store.words store.entries name promised date bytes meeting ≡ acts)
+          × ((bytes : List ℕ) → script.appended c store.words store.entries name promised date bytes meeting ≡ refused acts store.entries refusal)))
+
+    pub refusing_full : (need have : ℕ) → tapes.Tells t a (λ c. c.info.protected ≡ false) →
+        (full : AppendRan t (limited_means s) (reading a ran.before) (reading b ran.behind) store name date (Some promised) (TooLong need have)) → Refusing (quietly full.settling ∷ []) (why.Full need have)
+    refusing_full need have free full =
+        let kept : Kept = kept_by store full.table full.settling in
+        let small = took_too_long (room_in kept) promised full.input need have full.took in
+        record {
+          went = lift (quietly full.settling ∷ []) (subst (λ (zs : List Act). Went t (limited_means s) no_sink (reading a ran.before) (reading b ran.behind) zs) (full_acts kept name date promised small.0 silently full.input) full.went);
+          told = Tells-map t a (Known store full.table full.settling) _
+              (λ c known.
+              let by : Kept = kept_on c store.words store.entries full.table in
+              let settles : kept ≡ by = ap (λ (ss : List Step). kept_by store full.table ss) known.0.1 in
+              let alone : (bytes : List ℕ) → append_acts by name date (Some promised) reply_of bytes ≡ quietly full.settling ∷ [] =
+              λ bytes. full_acts by name date promised small.0 reply_of bytes ∙ ap (λ (ss : List Step). quietly ss ∷ []) (sym known.0.1) in (
+                Finds full.table,
+                (known.1, known.0.0),
+                (
+                  alone,
+                  λ bytes.
+                      ap (λ (became : Taking). taken_as by name date (append_acts by name date (Some promised) reply_of bytes) became) (full_taking by name date promised small.0 bytes)
+                      ∙ ap (λ (acts : List Act). refused acts store.entries (why.Full promised (room_in by))) (alone bytes)
+                      ∙ ap (λ (n : ℕ). refused (quietly full.settling ∷ []) store.entries (why.Full n (room_in by))) (sym small.1)
+                      ∙ ap (λ (n : ℕ). refused (quietly full.settling ∷ []) store.entries (why.Full need n)) (sym small.2),
+                ),
+              )) (known_so free full.table full.settling full.known);
+        }
+
+    pub refusing_lost : (segment lost : ℕ) → segment ≡ 2 → tapes.Tells t a (λ c. c.info.protected ≡ false) →
+        (refusal : TableRefused t (limited_means s) (reading a ran.before) (reading b ran.behind) (λ c. TableSays (table_cells c) (ByCode (LostSectors lost)))) → Refusing refusal.acts (why.Lost segment lost)
+    refusing_lost segment lost is free refusal = record {
+      went = lift refusal.acts refusal.went;
+      told = tells_two t a (λ c. c.info.protected ≡ false) (λ c. (refusal.acts ≡ []) × (ran.behind ≡ ran.before) × TableSays (table_cells c) (ByCode (LostSectors lost))) _
+          (λ c off says. (
+            script.Refuses (why.Lost segment lost),
+            (off, is, says.2),
+            (
+              (λ bytes. sym says.0),
+              λ bytes. ap (λ (acts : List Act). refused acts store.entries (why.Lost segment lost)) (sym says.0),
+            ),
+          )) free refusal.told;
+    }
+
+    pub refusing_protected : tapes.Tells t a (λ c. c.info.protected ≡ true) → (ran.behind ≡ ran.before) → b ≡ a → Refusing [] why.Protected
+    refusing_protected mark source tape =
+        let faults : s.faults i ≡ s.faults j = sym begins ∙ ap (λ (l : Limited S). s.faults l.source.now) (sym source) ∙ stands in
+        record {
+          went = subst (λ (w : T). Went t s k (out a i x) (out w j x) []) (sym tape) (rested t s k none a i j x (omega arith));
+          told = Tells-map t a (λ c. c.info.protected ≡ true) _ (λ c is. (script.Refuses why.Protected, is, ((λ bytes. refl), (λ bytes. refl)))) mark;
+        }
+
+    module _ (same : after.entries ≡ store.entries) (acts : List Act) (refusal : Refusal) (refusing : Refusing acts refusal) (j2 : S) (y : K) where
+      does_so : (bytes : List ℕ) (entries : List Entry) → entries ≡ store.entries →
+          tapes.Tells t a (λ c. LineDoes c store.words store.entries asked bytes (record { acts = acts ++ reply (refusal_line refusal) ∷ []; entries = entries }))
+      does_so bytes entries is =
+          Tells-map t a _ (λ c. LineDoes c store.words store.entries asked bytes (record { acts = acts ++ reply (refusal_line refusal) ∷ []; entries = entries }))
+          (λ c known. (known.0, known.1, ap (λ (es : List Entry). record { acts = acts ++ reply (refusal_line refusal) ∷ []; entries = es }) is ∙ sym (known.2.1 bytes))) refusing.told
+
+      later_went : s.faults j ≤ s.faults j2 → Went t s k (out a i x) (out b j2 x) acts
+      later_went later = record {
+        did = refusing.went.did;
+        wrote = refusing.went.wrote;
+        source_later = let e = refusing.went.source_later in omega arith;
+      }
+
+      all_given : (bytes : List ℕ) → Gave s j j2 bytes → Gave s i j2 (ran.lends.gave.0 ++ bytes)
+      all_given bytes gave = Gave-Gave s i j j2 ran.lends.gave.0 bytes was_given gave
+
+      all_long : (bytes : List ℕ) → length bytes ≡ left → length (ran.lends.gave.0 ++ bytes) ≡ promised
+      all_long bytes long = (let l = length-append ran.lends.gave.0 bytes in let g = given_long in let c = counted in omega arith)
+
+      pub refused_ends : (r : Result (Unit {0}) ItemFault) → Refuses s k j j2 x y left refusal r → ItemEnds t s k store after (out a i x) (out b j2 y) asked r
+      refused_ends (Ok done) (all, wrote) = record {
+        bytes = ran.lends.gave.0 ++ all.bytes;
+        kept = all_long all.bytes all.all;
+        gave = all_given all.bytes all.gave;
+        acts = acts ++ reply (refusal_line refusal) ∷ [];
+        went = replied_went t s k both (out a i x) b j2 x y acts (refusal_line refusal) (later_went all.later) wrote;
+        told = does_so (ran.lends.gave.0 ++ all.bytes) after.entries same;
+      }
+      refused_ends (Err fault.Short) (short, sink) = subst (λ (z : K). ItemShort t s k store (out a i x) (out b j2 z) asked) (sym sink) (record {
+        bytes = ran.lends.gave.0 ++ short.bytes;
+        short = (let l = length-append ran.lends.gave.0 short.bytes in let g = given_long in let c = counted in let f = short.short in omega arith);
+        gave = all_given short.bytes short.gave;
+        ended = short.ended;
+        acts = acts;
+        went = later_went short.later;
+        told = Tells-map t a _ (λ c. EarlyDoes c store.words store.entries asked (ran.lends.gave.0 ++ short.bytes) acts)
+            (λ c known. (known.0, known.1, sym (known.2.0 (ran.lends.gave.0 ++ short.bytes)))) refusing.told;
+      })
+      refused_ends (Err fault.Sink) (all, broke) =
+          let bytes : List ℕ = ran.lends.gave.0 ++ all.bytes in
+          let rest = any_rest (s.left j2) in
+          let cut = replied_cut t s k both none (out a i x) b j2 x y acts (refusal_line refusal) (later_went all.later) broke in
+          record {
+            rest = bytes ++ rest.rest;
+            is_told = flip (s.left i) (bytes ++ rest.rest) (whole_told (s.left i) (s.left j2) bytes rest.rest (all_given all.bytes all.gave) rest.told);
+            told = Tells-map t a (λ c. LineDoes c store.words store.entries asked bytes (record { acts = acts ++ reply (refusal_line refusal) ∷ []; entries = store.entries }))
+                (λ c. (zs : List Act) → WouldDo c store.words store.entries asked (bytes ++ rest.rest) zs → Cut t s k (out a i x) (out b j2 y) zs SinkFails)
+                (λ c does zs would. subst (λ (ws : List Act). Cut t s k (out a i x) (out b j2 y) ws SinkFails)
+                (would_be c store.words store.entries asked bytes rest.rest (all_long all.bytes all.all) (record { acts = acts ++ reply (refusal_line refusal) ∷ []; entries = store.entries }) does zs would) cut)
+                (does_so bytes store.entries refl);
+            acts = acts ++ reply (refusal_line refusal) ∷ [];
+            cut = cut;
+          }
+      refused_ends (Err fault.Source) (failed, sink) =
+          let went = later_went failed.later in
+          let rest = any_rest (s.left i) in
+          let cut : Cut t s k (out a i x) (out b j2 x) acts SourceFails = record {
+            front = acts;
+            rest = [];
+            parts = append-nil acts;
+            did = went.did;
+            wrote = went.wrote;
+            cause = (let e = refusing.went.source_later in let f = failed.cause in omega arith);
+            source_later = went.source_later;
+          } in
+          subst (λ (z : K). ItemCut t s k store (out a i x) (out b j2 z) asked SourceFails) (sym sink) (record {
+            rest = rest.rest;
+            is_told = rest.told;
+            told = Tells-map t a _ (λ c. (zs : List Act) → WouldDo c store.words store.entries asked rest.rest zs → Cut t s k (out a i x) (out b j2 x) zs SourceFails)
+                (λ c known zs would. by_would c known.0 known.1 known.2.0 known.2.1 rest.rest zs would cut) refusing.told;
+            acts = acts;
+            cut = cut;
+          })
+        where
+          by_would : (c : Cartridge) (meeting : Meeting) → Meets c meeting → ((bytes : List ℕ) → acts_on c store.words store.entries name promised date bytes meeting ≡ acts) →
+              ((bytes : List ℕ) → script.appended c store.words store.entries name promised date bytes meeting ≡ refused acts store.entries refusal) → (rest : List ℕ) (zs : List Act) →
+              WouldDo c store.words store.entries asked rest zs → Cut t s k (out a i x) (out b j2 x) acts SourceFails → Cut t s k (out a i x) (out b j2 x) zs SourceFails
+          by_would c meeting meets alone whole rest zs (inl (bytes, (more, (parts, long, (did, is, (other, again, too)))))) cut =
+              let one : other ≡ meeting = meets_one c meeting other meets again in
+              let acts_are : acts ++ reply (refusal_line refusal) ∷ [] ≡ zs =
+              ap (λ (d : Did). d.acts) (sym (whole bytes) ∙ ap (λ (m : Meeting). script.appended c store.words store.entries name promised date bytes m) (sym one) ∙ sym too) ∙ is in
+              subst (λ (ws : List Act). Cut t s k (out a i x) (out b j2 x) ws SourceFails) acts_are
+              (cut_is_longer t s k (out a i x) (out b j2 x) acts (reply (refusal_line refusal) ∷ []) SourceFails cut)
+          by_would c meeting meets alone whole rest zs (inr (short, (other, again, too))) cut =
+              let one : other ≡ meeting = meets_one c meeting other meets again in
+              let acts_are : acts ≡ zs = sym (alone rest) ∙ ap (λ (m : Meeting). acts_on c store.words store.entries name promised date rest m) (sym one) ∙ sym too in
+              subst (λ (ws : List Act). Cut t s k (out a i x) (out b j2 x) ws SourceFails) acts_are cut
+      refused_ends (Err fault.TableMismatch) never = absurd never
+      refused_ends (Err fault.Tape) never = absurd never
+
+    -- ---- the table did not show the volumes
+
+    pub mismatched : TableRefused t (limited_means s) (reading a ran.before) (reading b ran.behind) (λ c. ⊥) → ItemMismatched t s k (out a i x) (out b j x)
+    mismatched refusal = record {
+      acts = refusal.acts;
+      went = lift refusal.acts refusal.went;
+      told = Tells-map t a (λ c. (refusal.acts ≡ []) × (ran.behind ≡ ran.before) × ⊥) (λ c. ⊥) (λ c says. says.2) refusal.told;
+      bytes = ran.lends.gave.0;
+      gave = was_given;
+    }
+
+-- ---- by the answer
+
+module _ {T S K : Type 0} (t : tapes.Meaning T) (s : sources.Meaning S) (k : sinks.Meaning K) (store after : StoreView) (name : List ℕ) (promised date : ℕ) (both : TakesBoth k) (none : TakesNone k) (u : UnitView T) (b : T) (i j : S) (x : K)
+    (left : ℕ) (answer : Result Appended StoreFault) (ran : RanPromised t s u.tape b i j store after name date promised left answer) (fits : StoreFits t store u)
+    (mark : (answer ≡ Err store_fault.Protected) ↔ (is_protected u.drive.deck ≡ true)) (list : KeepsList answer store after) where
+  ran_as : (r : Result Appended StoreFault) → answer ≡ r → RanPromised t s u.tape b i j store after name date promised left r
+  ran_as r is = subst (λ (r : Result Appended StoreFault). RanPromised t s u.tape b i j store after name date promised left r) is ran
+
+  list_as : (r : Result Appended StoreFault) → answer ≡ r → KeepsList r store after
+  list_as r is = subst (λ (r : Result Appended StoreFault). KeepsList r store after) is list
+
+  free : ¬ (answer ≡ Err store_fault.Protected) → tapes.Tells t u.tape (λ c. c.info.protected ≡ false)
+  free other = mark_told t store u fits false (unmarked (is_protected u.drive.deck) (answer ≡ Err store_fault.Protected) mark other)
+
+  pub by_ok : (y : K) (answered : Appended) → answer ≡ Ok answered → (r : Result (Unit {0}) SinkFailed) →
+      sinks.Writes k x y (appended_line answered.number answered.bytes answered.start answered.end) r → ItemEnds t s k store after (out u.tape i x) (out b j y) (line.Append name promised date) (replied_so r)
+  by_ok y answered is r wrote =
+      let as_ok = ran_as (Ok answered) is in
+      appended_ends t s k store after name promised date both none u.tape b i j x left (Ok answered) as_ok y answered as_ok.ends (free (λ e. let no = sym is ∙ e in cc)) r wrote
+
+  pub by_full : (need have : ℕ) → answer ≡ Err (store_fault.Full need have) → (j2 : S) (y : K) (r : Result (Unit {0}) ItemFault) → Refuses s k j j2 x y left (why.Full need have) r →
+      ItemEnds t s k store after (out u.tape i x) (out b j2 y) (line.Append name promised date) r
+  by_full need have is j2 y r refuses =
+      let as_full = ran_as (Err (store_fault.Full need have)) is in
+      refused_ends t s k store after name promised date both none u.tape b i j x left (Err (store_fault.Full need have)) as_full (list_as (Err (store_fault.Full need have)) is) (quietly as_full.ends.settling ∷ []) (why.Full need have)
+      (refusing_full t s k store after name promised date both none u.tape b i j x left (Err (store_fault.Full need have)) as_full need have (free (λ e. let no = sym is ∙ e in cc)) as_full.ends) j2 y r refuses
+
+  pub by_lost : (segment lost : ℕ) → answer ≡ Err (store_fault.Lost segment lost) → (j2 : S) (y : K) (r : Result (Unit {0}) ItemFault) → Refuses s k j j2 x y left (why.Lost segment lost) r →
+      ItemEnds t s k store after (out u.tape i x) (out b j2 y) (line.Append name promised date) r
+  by_lost segment lost is j2 y r refuses =
+      let as_lost = ran_as (Err (store_fault.Lost segment lost)) is in
+      refused_ends t s k store after name promised date both none u.tape b i j x left (Err (store_fault.Lost segment lost)) as_lost (list_as (Err (store_fault.Lost segment lost)) is) as_lost.ends.2.acts (why.Lost segment lost)
+      (refusing_lost t s k store after name promised date both none u.tape b i j x left (Err (store_fault.Lost segment lost)) as_lost segment lost as_lost.ends.0 (free (λ e. let no = sym is ∙ e in cc)) as_lost.ends.2) j2 y r refuses
+
+  pub by_protected : answer ≡ Err store_fault.Protected → (j2 : S) (y : K) (r : Result (Unit {0}) ItemFault) → Refuses s k j j2 x y left why.Protected r →
+      ItemEnds t s k store after (out u.tape i x) (out b j2 y) (line.Append name promised date) r
+  by_protected is j2 y r refuses =
+      let as_refused = ran_as (Err store_fault.Protected) is in
+      refused_ends t s k store after name promised date both none u.tape b i j x left (Err store_fault.Protected) as_refused (list_as (Err store_fault.Protected) is) [] why.Protected
+      (refusing_protected t s k store after name promised date both none u.tape b i j x left (Err store_fault.Protected) as_refused (mark_told t store u fits true (mark.0 is)) as_refused.ends.1 as_refused.ends.0) j2 y r refuses
+
+  pub by_short : (asked_for got : ℕ) → answer ≡ Err (store_fault.Short asked_for got) → ItemShort t s k store (out u.tape i x) (out b j x) (line.Append name promised date)
+  by_short asked_for got is =
+      let as_short = ran_as (Err (store_fault.Short asked_for got)) is in
+      came_short t s k store after name promised date both none u.tape b i j x left (Err (store_fault.Short asked_for got)) as_short asked_for got as_short.ends (free (λ e. let no = sym is ∙ e in cc))
+
+  pub by_mismatch : answer ≡ Err store_fault.TableMismatch → ItemMismatched t s k (out u.tape i x) (out b j x)
+  by_mismatch is =
+      let as_mismatch = ran_as (Err store_fault.TableMismatch) is in
+      mismatched t s k store after name promised date both none u.tape b i j x left (Err store_fault.TableMismatch) as_mismatch as_mismatch.ends
+
+  pub by_source : answer ≡ Err store_fault.Source → ItemCut t s k store (out u.tape i x) (out b j x) (line.Append name promised date) SourceFails
+  by_source is =
+      let as_cut = ran_as (Err store_fault.Source) is in
+      failed t s k store after name promised date both none u.tape b i j x left (Err store_fault.Source) as_cut SourceFails (λ e. cc) as_cut.ends as_cut.unread (free (λ e. let no = sym is ∙ e in cc))
+
+  pub by_tape : answer ≡ Err store_fault.Tape → ItemCut t s k store (out u.tape i x) (out b j x) (line.Append name promised date) TapeFails
+  by_tape is =
+      let as_cut = ran_as (Err store_fault.Tape) is in
+      failed t s k store after name promised date both none u.tape b i j x left (Err store_fault.Tape) as_cut TapeFails (λ e. cc) as_cut.ends as_cut.unread (free (λ e. let no = sym is ∙ e in cc))
+
+-- an answer that is a fault, and the fault
+pub is_err : (r : Result Appended StoreFault) (f g : StoreFault) → r ≡ Err f → f ≡ g → r ≡ Err g
+is_err r f g is same = is ∙ ap (λ (h : StoreFault). Err h) same

@@ -1,0 +1,177 @@
+-- The lines of a script, and what is no item.
+use Rattle.std.proofs.Common.{◌≡◌, ◌≢◌, ℕ, ◌<◌, ◌≤◌, List, [], ◌∷◌, ◌++◌, length, get_or, Option, Some, None, IfSome, codes, refl, sym, ap, ◌∙◌, subst, arith, inl, inr, append_assoc}
+use Rattle.std.specs.Option.{option_map}
+use Rattle.std.specs.List.{join_with_byte}
+use Rattle.std.proofs.lemmas.List.{length-append, append_cancel_left}
+use Rattle.std.proofs.lemmas.List.Splits.{join_with_byte-slice_split}
+use Rattle.tape_script.specs.declared.line.Line.{Line}
+use Rattle.tape_script.specs.declared.line.Line.TheVariants as line
+use Rattle.tape_script.specs.Input.{Item, IsItem, IsLine, HasStop, IsFault, words_of, promised, most_items}
+use Rattle.tape_script.specs.Forms.{SpellsAll, Word}
+use Rattle.tape_script.specs.Reading.{IsLineText}
+use Rattle.tape_script.proofs.Lined.{one_before, end_no_newline}
+use Rattle.tape_script.proofs.Lines.{one_line}
+use Rattle.tape_script.proofs.Rests.{Rest}
+use Rattle.volume_script.specs.Script.{EndsEarly}
+
+-- ---- the line `end`
+
+pub end_text : (text : List ℕ) → IsLineText text line.End → text ≡ codes "end\n"
+end_text text is = elim is.has [
+  | inl words ↦
+      let before : is.before ≡ codes "end" = sym (join_with_byte-slice_split 0x20 is.before) ∙ ap (join_with_byte 0x20) (one_word (words_of is.before) words) in
+      is.whole ∙ ap (λ (bs : List ℕ). bs ++ 0x0A ∷ []) before
+  | inr never ↦ absurd never
+] where
+  one_word : (words : List (List ℕ)) → SpellsAll words (Word (codes "end") ∷ []) → words ≡ codes "end" ∷ []
+  one_word [] spells = absurd spells
+  one_word (word ∷ []) spells = ap (λ (w : List ℕ). w ∷ []) spells.0
+  one_word (word ∷ other ∷ words) spells = absurd spells.1
+
+pub end_is_line : IsLineText (codes "end\n") line.End
+end_is_line = record { before = codes "end"; short = omega arith; one_line = end_no_newline; whole = refl; has = inl (refl, tt) }
+
+-- ---- one line begins the input
+
+pub record SameLine (a b r q : List ℕ) (x y : Line) : Type 0 where
+  pub texts : a ≡ b
+  pub rests : r ≡ q
+  pub lines : x ≡ y
+
+pub same_line : (a b r q : List ℕ) (x y : Line) → IsLineText a x → IsLineText b y → a ++ r ≡ b ++ q → SameLine a b r q x y
+same_line a b r q x y first second e =
+    let before : first.before ≡ second.before =
+    one_before first.before second.before r q first.one_line second.one_line
+    (sym (ap (λ t. t ++ r) first.whole ∙ append_assoc first.before (0x0A ∷ []) r) ∙ e ∙ ap (λ t. t ++ q) second.whole ∙ append_assoc second.before (0x0A ∷ []) q) in
+    let same : a ≡ b = first.whole ∙ ap (λ t. t ++ 0x0A ∷ []) before ∙ sym second.whole in
+    let P : List ℕ → Type 0 = λ t. IsLine t y in
+    let here : IsLine first.before y = subst P (sym before) second.has in
+    record {
+      texts = same;
+      rests = append_cancel_left a r q (e ∙ ap (λ t. t ++ q) (sym same));
+      lines = one_line (words_of first.before) x y first.has here;
+    }
+
+pub some_text : (text : List ℕ) (asked : Line) → IsLineText text asked → 0 < length text
+some_text text asked is = let l = ap length is.whole in let m = length-append is.before (0x0A ∷ []) in omega arith
+
+pub line_short : (text : List ℕ) (asked : Line) → IsLineText text asked → length text ≤ 128
+line_short text asked is = let l = ap length is.whole in let m = length-append is.before (0x0A ∷ []) in let s = is.short in omega arith
+
+-- a line with the bytes that it promises is an item
+pub item_of : (text bytes : List ℕ) (asked : Line) → IsLineText text asked → asked ≢ line.End → length bytes ≡ promised asked →
+    IsItem (text ++ bytes) (record { line = asked; bytes = bytes })
+item_of text bytes asked is other long = record { front = text; lined = is; not_end = other; whole = refl; kept = long }
+
+-- the line of an item, where another line begins the input
+pub line_of_item : (text rest front behind : List ℕ) (asked : Line) (item : Item) → IsLineText text asked → (is : IsItem front item) → text ++ rest ≡ front ++ behind →
+    SameLine is.front text (item.bytes ++ behind) rest item.line asked
+line_of_item text rest front behind asked item lined is e =
+    same_line is.front text (item.bytes ++ behind) rest item.line asked is.lined lined
+    (sym (append_assoc is.front item.bytes behind) ∙ ap (λ t. t ++ behind) (sym is.whole) ∙ sym e)
+
+-- ---- faults
+
+-- no line begins these bytes
+pub record NoLine (rest : List ℕ) : Type 0 where
+  pub some : rest ≢ []
+  pub no_line : (asked : Line) (text behind : List ℕ) → IsLineText text asked → rest ≡ text ++ behind → ⊥
+
+pub no_line_fault : (number : ℕ) (rest : List ℕ) → NoLine rest → IsFault IsItem number rest
+no_line_fault number rest none = record {
+  some = none.some;
+  no_stop = λ stop. none.no_line line.End (codes "end\n") stop.0 end_is_line stop.1;
+  no_item = λ within item.
+      let is = item.1.1.1.1 in
+      none.no_line item.0.line is.front (item.0.bytes ++ item.1.1.0) is.lined
+      (item.1.1.1.0 ∙ ap (λ t. t ++ item.1.1.0) is.whole ∙ append_assoc is.front item.0.bytes item.1.1.0);
+}
+
+pub no_line_early : (rest : List ℕ) → NoLine rest → ¬ (EndsEarly rest)
+no_line_early rest none early = none.no_line (line.Append early.name early.promised early.date) early.text early.bytes early.lined early.parts
+
+-- bytes that an append's line begins, and that end before what it promises
+pub early_fault : (number : ℕ) (rest : List ℕ) → (early : EndsEarly rest) → IsFault IsItem number rest
+early_fault number rest early =
+    let asked : Line = line.Append early.name early.promised early.date in
+    record {
+      some = λ e. (let l = ap length (sym e ∙ early.parts) in let m = length-append early.text early.bytes in let n = some_text early.text asked early.lined in omega arith);
+      no_stop = λ stop.
+          let same = same_line early.text (codes "end\n") early.bytes stop.0 asked line.End early.lined end_is_line (sym early.parts ∙ stop.1) in
+          let lines : line.Append early.name early.promised early.date ≡ line.End = same.lines in cc;
+      no_item = λ within item.
+          let is = item.1.1.1.1 in
+          let same = line_of_item early.text early.bytes item.1.0 item.1.1.0 asked item.0 early.lined is (sym early.parts ∙ item.1.1.1.0) in
+          let long = is.kept in let n = ap promised same.lines in let r = ap length same.rests in let l = length-append item.0.bytes item.1.1.0 in let s = early.short in
+          omega arith;
+    }
+
+-- how an append's line begins them is one thing
+pub early_lines : (rest : List ℕ) (x y : EndsEarly rest) →
+    SameLine x.text y.text x.bytes y.bytes (line.Append x.name x.promised x.date) (line.Append y.name y.promised y.date)
+early_lines rest x y = same_line x.text y.text x.bytes y.bytes (line.Append x.name x.promised x.date) (line.Append y.name y.promised y.date) x.lined y.lined (sym x.parts ∙ y.parts)
+
+-- ---- what a source gave that begins with no line
+
+-- a byte that begins no line
+zero_line : NoLine (0 ∷ [])
+zero_line = record {
+  some = λ e. cc;
+  no_line = λ asked text behind is e. without is.before behind (e ∙ ap (λ t. t ++ behind) is.whole ∙ append_assoc is.before (0x0A ∷ []) behind);
+} where
+  nothing : (before rest : List ℕ) → [] ≡ before ++ 0x0A ∷ rest → ⊥
+  nothing [] rest e = cc
+  nothing (b ∷ before) rest e = cc
+
+  other : (n : ℕ) → n ≡ 0x0A → n ≡ 0 → ⊥
+  other n p q = omega arith
+
+  without : (before rest : List ℕ) → 0 ∷ [] ≡ before ++ 0x0A ∷ rest → ⊥
+  without [] rest e = other 0 (ap (λ t. get_or t 0 0) e) refl
+  without (b ∷ before) rest e = nothing before rest (cc)
+
+some_given : (all bytes : List ℕ) (p : Option (List ℕ)) (n : ℕ) → 0 < n → length bytes ≡ n → Some all ≡ option_map (λ rest. bytes ++ rest) p → all ≢ []
+some_given all bytes None n some long gave e = absurd (cc)
+some_given all bytes (Some rest) n some long gave e =
+    let same : all ≡ bytes ++ rest = cc in
+    let l = ap length (sym e ∙ same) in let m = length-append bytes rest in omega arith
+
+pub none_rest : (o p : Option (List ℕ)) (n : ℕ) (bytes : List ℕ) → 0 < n → length bytes ≡ n → o ≡ option_map (λ rest. bytes ++ rest) p →
+    ((asked : Line) → IfSome o (λ all. (text rest : List ℕ) → all ≡ text ++ rest → ¬ (IsLineText text asked))) → Rest o NoLine
+none_rest None p n bytes some long gave no_line = record { rest = 0 ∷ []; told = tt; has = zero_line }
+none_rest (Some all) p n bytes some long gave no_line = record {
+  rest = all;
+  told = refl;
+  has = record {
+    some = some_given all bytes p n some long gave;
+    no_line = λ asked text behind is e. no_line asked text behind e is;
+  };
+}
+
+-- the same, where no item may come any more
+pub on_rest : (number : ℕ) (o p : Option (List ℕ)) (n : ℕ) (bytes : List ℕ) → most_items < number → 0 < n → length bytes ≡ n → o ≡ option_map (λ rest. bytes ++ rest) p →
+    IfSome o (λ all. (text rest : List ℕ) → all ≡ text ++ rest → ¬ (text ≡ codes "end\n")) → Rest o (IsFault IsItem number)
+on_rest number None p n bytes beyond some long gave no_stop = record { rest = 0 ∷ []; told = tt; has = no_line_fault number (0 ∷ []) zero_line }
+on_rest number (Some all) p n bytes beyond some long gave no_stop = record {
+  rest = all;
+  told = refl;
+  has = record {
+    some = some_given all bytes p n some long gave;
+    no_stop = λ stop. no_stop (codes "end\n") stop.0 stop.1 refl;
+    no_item = λ within item. absurd (omega arith);
+  };
+}
+
+-- ---- what is left where the line `end` was given
+
+stop_told : (o : Option (List ℕ)) (rest : List ℕ) → o ≡ Some (codes "end\n" ++ rest) → IfSome o (λ bytes. bytes ≡ codes "end\n" ++ rest)
+stop_told None rest e = tt
+stop_told (Some bytes) rest e = cc
+
+none_told : (o : Option (List ℕ)) (rest : List ℕ) → o ≡ None → IfSome o (λ bytes. bytes ≡ rest)
+none_told None rest e = tt
+none_told (Some bytes) rest e = absurd (cc)
+
+pub stop_rest : (o p : Option (List ℕ)) → o ≡ option_map (λ rest. codes "end\n" ++ rest) p → Rest o HasStop
+stop_rest o None gave = record { rest = codes "end\n" ++ []; told = none_told o (codes "end\n" ++ []) gave; has = ([], refl) }
+stop_rest o (Some rest) gave = record { rest = codes "end\n" ++ rest; told = stop_told o rest gave; has = (rest, refl) }

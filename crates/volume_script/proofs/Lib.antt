@@ -1,0 +1,12 @@
+pub mod Acts
+pub mod Appended
+pub mod Given
+pub mod Hearing
+pub mod Input
+pub mod Lifting
+pub mod MachineLaws
+pub mod OneItem
+pub mod Plain
+pub mod Quiet
+pub mod Reading
+pub mod Running

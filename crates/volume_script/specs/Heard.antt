@@ -1,0 +1,93 @@
+-- What one line of the input did to the outside, with what follows it (this project's own).
+use Rattle.std.specs.Prelude.{◌≡◌, ◌⊎◌, ℕ, ◌<◌, ◌≤◌, List, [], ◌++◌, length, Option, Some, None, IfSome, Result, Ok, Err, codes}
+use Rattle.qic_base.specs.Cartridge.{Cartridge}
+use Rattle.qic_base.specs.Sink as sinks
+use Rattle.qic_base.specs.Source as sources
+use Rattle.qic_base.specs.Tape as tapes
+use Rattle.acts.specs.Acts.{Act, Outside, Failing, TapeFails, SourceFails, SinkFails, Went, Cut}
+use Rattle.cartridge_spec.specs.Table.{Entry}
+use Rattle.tape_script.specs.declared.line.Line.{Line}
+use Rattle.tape_script.specs.Input.{Item, IsItem, Ending, Ends, most_items, promised}
+use Rattle.tape_script.specs.Reading.{Gave, GaveSome, HasEnded, BeginsWithNo, IsLineText}
+use Rattle.volume_store.specs.Mounting.{StoreView}
+use Rattle.volume_script.specs.declared.fault.ScriptFault.{ScriptFault}
+use Rattle.volume_script.specs.declared.fault.ScriptFault.TheVariants as fault
+use Rattle.volume_script.specs.Items.{EarlyDoes}
+use Rattle.volume_script.specs.Script.{Did, ItemDoes, EndDoes}
+
+-- no item has more bytes: its line has a u8 of them, and it promises a u32
+abbrev pub longest : ℕ
+longest = 4294967550
+
+-- an item was read and carried out, of so many bytes
+pub record HeardItem {T S K : Type 0} (t : tapes.Meaning T) (s : sources.Meaning S) (k : sinks.Meaning K) (store after : StoreView) (old new : Outside T S K) (n : ℕ) : Type 0 where
+  pub item : Item
+  pub text : List ℕ
+  pub is : IsItem text item
+  pub long : n ≡ length text
+  pub gave : Gave s old.source new.source text
+  pub acts : List Act
+  pub went : Went t s k old new acts
+  pub told : tapes.Tells t old.tape (λ c. ItemDoes c store.words store.entries item (record { acts = acts; entries = after.entries }))
+
+-- the source had ended, or it gave the line `end`
+abbrev pub GaveEnd : {S : Type 0} (s : sources.Meaning S) (old new : S) → Type 0
+GaveEnd s old new = (HasEnded s old × Gave s old new []) ⊎ Gave s old new (codes "end\n")
+
+-- bytes were taken that begin with no line
+pub record HeardNone {T S K : Type 0} (t : tapes.Meaning T) (s : sources.Meaning S) (k : sinks.Meaning K) (old new : Outside T S K) : Type 0 where
+  pub n : ℕ
+  pub some : 0 < n
+  pub gave : GaveSome s old.source new.source n
+  pub no_line : (asked : Line) → BeginsWithNo s old.source (λ text. IsLineText text asked)
+  pub went : Went t s k old new []
+
+-- a line was read, and the source ended before the bytes that it promises
+pub record HeardShort {T S K : Type 0} (t : tapes.Meaning T) (s : sources.Meaning S) (k : sinks.Meaning K) (store : StoreView) (old new : Outside T S K) : Type 0 where
+  pub asked : Line
+  pub text : List ℕ
+  pub is : IsLineText text asked
+  pub bytes : List ℕ
+  pub short : length bytes < promised asked
+  pub gave : Gave s old.source new.source (text ++ bytes)
+  pub ended : HasEnded s new.source
+  pub acts : List Act
+  pub went : Went t s k old new acts
+  pub told : tapes.Tells t old.tape (λ c. EarlyDoes c store.words store.entries asked bytes acts)
+
+-- what the plain machine does next, where these bytes are left: an item, or the last acts
+abbrev pub NextDoes : Cartridge → (words : List ℕ) → List Entry → (number place : ℕ) → (rest : List ℕ) → List Act → Type 0
+NextDoes c words entries number place rest acts =
+    ((number ≤ most_items) × ((item : Item) × ((text : List ℕ) × ((behind : List ℕ) × ((rest ≡ text ++ behind) × IsItem text item
+    × ((did : Did) × (did.acts ≡ acts) × ItemDoes c words entries item did))))))
+    ⊎ ((ending : Ending) × Ends IsItem number place rest ending × EndDoes c words entries rest ending acts)
+
+-- a fault of the outside cut that off, whatever is left
+pub record HeardCut {T S K : Type 0} (t : tapes.Meaning T) (s : sources.Meaning S) (k : sinks.Meaning K) (store : StoreView) (old new : Outside T S K) (number place : ℕ) (failing : Failing) : Type 0 where
+  pub rest : List ℕ
+  pub is_told : IfSome (s.left old.source) (λ bytes. bytes ≡ rest)
+  pub told : tapes.Tells t old.tape (λ c. (acts : List Act) → NextDoes c store.words store.entries number place rest acts → Cut t s k old new acts failing)
+  -- and over any tape
+  pub acts : List Act
+  pub cut : Cut t s k old new acts failing
+
+-- the volume table did not show the volumes
+pub record HeardMismatch {T S K : Type 0} (t : tapes.Meaning T) (s : sources.Meaning S) (k : sinks.Meaning K) (old new : Outside T S K) : Type 0 where
+  pub acts : List Act
+  pub went : Went t s k old new acts
+  pub told : tapes.Tells t old.tape (λ c. ⊥)
+  pub bytes : List ℕ
+  pub gave : Gave s old.source new.source bytes
+
+-- What a line did that may be an item, with this number and so many bytes before it: it was carried out; the input is
+-- over; it is at fault; or a fault of the outside cut it off.
+abbrev pub Hears : {T S K : Type 0} (t : tapes.Meaning T) (s : sources.Meaning S) (k : sinks.Meaning K) (store after : StoreView) (old new : Outside T S K) (number place : ℕ) → Result (Option ℕ) ScriptFault → Type 0
+Hears t s k store after old new number place (Ok (Some n)) = HeardItem t s k store after old new n
+Hears t s k store after old new number place (Ok None) =
+    Went t s k old new [] × (after ≡ store) × GaveEnd s old.source new.source
+Hears t s k store after old new number place (Err (fault.Input line at)) =
+    (line ≡ number) × (at ≡ place) × (HeardNone t s k old new ⊎ HeardShort t s k store old new)
+Hears t s k store after old new number place (Err fault.TableMismatch) = HeardMismatch t s k old new
+Hears t s k store after old new number place (Err fault.Source) = HeardCut t s k store old new number place SourceFails
+Hears t s k store after old new number place (Err fault.Sink) = HeardCut t s k store old new number place SinkFails
+Hears t s k store after old new number place (Err fault.Tape) = HeardCut t s k store old new number place TapeFails

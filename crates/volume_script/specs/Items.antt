@@ -1,0 +1,74 @@
+-- What one line of a script did to the outside, with what follows it (this project's own).
+use Rattle.std.specs.Prelude.{◌≡◌, ◌⊎◌, ℕ, ◌<◌, List, ◌++◌, length, IfSome, Result, Ok, Err}
+use Rattle.qic_base.specs.Cartridge.{Cartridge}
+use Rattle.qic_base.specs.Sink as sinks
+use Rattle.qic_base.specs.Source as sources
+use Rattle.qic_base.specs.Tape as tapes
+use Rattle.acts.specs.Acts.{Act, Outside, Failing, TapeFails, SourceFails, SinkFails, Went, Cut}
+use Rattle.cartridge_spec.specs.Table.{Entry}
+use Rattle.tape_script.specs.declared.line.Line.{Line}
+use Rattle.tape_script.specs.declared.line.Line.TheVariants as line
+use Rattle.tape_script.specs.Input.{promised}
+use Rattle.tape_script.specs.Reading.{Gave, HasEnded}
+use Rattle.volume_store.specs.Mounting.{StoreView}
+use Rattle.volume_script.specs.declared.fault.ItemFault.{ItemFault}
+use Rattle.volume_script.specs.declared.fault.ItemFault.TheVariants as fault
+use Rattle.volume_script.specs.Script.{Did, LineDoes, Meeting, Meets, acts_on}
+
+-- the acts of a line whose bytes end early: only an append promises bytes
+abbrev pub EarlyDoes : Cartridge → (words : List ℕ) → List Entry → Line → (bytes : List ℕ) → List Act → Type 0
+EarlyDoes c words entries (line.Append name promised date) bytes acts =
+    (meeting : Meeting) × Meets c meeting × (acts ≡ acts_on c words entries name promised date bytes meeting)
+EarlyDoes c words entries other bytes acts = ⊥
+
+-- The line was carried out, with all the bytes that it promises.
+pub record ItemDone {T S K : Type 0} (t : tapes.Meaning T) (s : sources.Meaning S) (k : sinks.Meaning K) (store after : StoreView) (old new : Outside T S K) (asked : Line) : Type 0 where
+  pub bytes : List ℕ
+  pub kept : length bytes ≡ promised asked
+  pub gave : Gave s old.source new.source bytes
+  pub acts : List Act
+  pub went : Went t s k old new acts
+  pub told : tapes.Tells t old.tape (λ c. LineDoes c store.words store.entries asked bytes (record { acts = acts; entries = after.entries }))
+
+-- The source ended before them.
+pub record ItemShort {T S K : Type 0} (t : tapes.Meaning T) (s : sources.Meaning S) (k : sinks.Meaning K) (store : StoreView) (old new : Outside T S K) (asked : Line) : Type 0 where
+  pub bytes : List ℕ
+  pub short : length bytes < promised asked
+  pub gave : Gave s old.source new.source bytes
+  pub ended : HasEnded s new.source
+  pub acts : List Act
+  pub went : Went t s k old new acts
+  pub told : tapes.Tells t old.tape (λ c. EarlyDoes c store.words store.entries asked bytes acts)
+
+-- what a line does with the first of some bytes, where these are all that is left: as many as it promises, or fewer
+abbrev pub WouldDo : Cartridge → (words : List ℕ) → List Entry → Line → (rest : List ℕ) → List Act → Type 0
+WouldDo c words entries asked rest acts =
+    ((bytes : List ℕ) × ((behind : List ℕ) × ((rest ≡ bytes ++ behind) × (length bytes ≡ promised asked)
+    × ((did : Did) × (did.acts ≡ acts) × LineDoes c words entries asked bytes did))))
+    ⊎ ((length rest < promised asked) × EarlyDoes c words entries asked rest acts)
+
+-- A fault of the outside cut it off, whatever is left of the source.
+pub record ItemCut {T S K : Type 0} (t : tapes.Meaning T) (s : sources.Meaning S) (k : sinks.Meaning K) (store : StoreView) (old new : Outside T S K) (asked : Line) (failing : Failing) : Type 0 where
+  pub rest : List ℕ
+  pub is_told : IfSome (s.left old.source) (λ bytes. bytes ≡ rest)
+  pub told : tapes.Tells t old.tape (λ c. (acts : List Act) → WouldDo c store.words store.entries asked rest acts → Cut t s k old new acts failing)
+  -- and over any tape
+  pub acts : List Act
+  pub cut : Cut t s k old new acts failing
+
+-- the volume table did not show the volumes
+pub record ItemMismatched {T S K : Type 0} (t : tapes.Meaning T) (s : sources.Meaning S) (k : sinks.Meaning K) (old new : Outside T S K) : Type 0 where
+  pub acts : List Act
+  pub went : Went t s k old new acts
+  pub told : tapes.Tells t old.tape (λ c. ⊥)
+  pub bytes : List ℕ
+  pub gave : Gave s old.source new.source bytes
+
+-- how a line ended
+abbrev pub ItemEnds : {T S K : Type 0} (t : tapes.Meaning T) (s : sources.Meaning S) (k : sinks.Meaning K) (store after : StoreView) (old new : Outside T S K) → Line → Result (Unit {0}) ItemFault → Type 0
+ItemEnds t s k store after old new asked (Ok done) = ItemDone t s k store after old new asked
+ItemEnds t s k store after old new asked (Err fault.Short) = ItemShort t s k store old new asked
+ItemEnds t s k store after old new asked (Err fault.TableMismatch) = ItemMismatched t s k old new
+ItemEnds t s k store after old new asked (Err fault.Source) = ItemCut t s k store old new asked SourceFails
+ItemEnds t s k store after old new asked (Err fault.Sink) = ItemCut t s k store old new asked SinkFails
+ItemEnds t s k store after old new asked (Err fault.Tape) = ItemCut t s k store old new asked TapeFails

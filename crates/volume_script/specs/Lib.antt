@@ -1,0 +1,9 @@
+pub mod Ending
+pub mod Heard
+pub mod Items
+pub mod Laws
+pub mod Limited
+pub mod Lines
+pub mod Promised
+pub mod Runs
+pub mod Script

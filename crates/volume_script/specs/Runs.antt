@@ -1,0 +1,61 @@
+-- How a run of a script ended (this project's own).
+use Rattle.std.specs.Prelude.{◌≡◌, ℕ, ◌+◌, List, drop, IfSome, Result, Ok, Err}
+use Rattle.std.specs.Option.{option_map}
+use Rattle.qic_base.specs.Sink as sinks
+use Rattle.qic_base.specs.Source as sources
+use Rattle.qic_base.specs.Tape as tapes
+use Rattle.acts.specs.Acts.{Act, Outside, Failing, TapeFails, SourceFails, SinkFails, Went, Cut}
+use Rattle.tape_script.specs.Input.{Item, Ending, IsScript}
+use Rattle.volume_store.specs.Mounting.{StoreView}
+use Rattle.volume_script.specs.declared.fault.ScriptFault.{ScriptFault}
+use Rattle.volume_script.specs.declared.fault.ScriptFault.TheVariants as fault
+use Rattle.volume_script.specs.Script.{Answer, AllDone, FaultIn, Outcome, ScriptDoes, answer_by}
+
+-- What is left of the source: the bytes behind those taken; or, after a fault of the input, an end of the bytes from its
+-- place on.
+abbrev pub Leaves : {S : Type 0} (s : sources.Meaning S) (old new : S) (taken : ℕ) → Answer → Type 0
+Leaves s old new taken AllDone = s.left new ≡ option_map (drop taken) (s.left old)
+Leaves s old new taken (FaultIn number place) = (more : ℕ) × (s.left new ≡ option_map (drop (place + more)) (s.left old))
+
+-- It came to its end, with this answer: all acts of the plain machine's outcome went, over the input that the source told,
+-- or some input where it tells none.
+pub record Ended {T S K : Type 0} (t : tapes.Meaning T) (s : sources.Meaning S) (k : sinks.Meaning K) (store : StoreView) (old new : Outside T S K) (answer : Answer) : Type 0 where
+  pub input : List ℕ
+  pub is_told : IfSome (s.left old.source) (λ bytes. input ≡ bytes)
+  pub outcome : Outcome
+  pub told : tapes.Tells t old.tape (λ c. ScriptDoes c store.words store.entries input outcome)
+  pub answered : outcome.answer ≡ answer
+  pub went : Went t s k old new outcome.acts
+  pub left : Leaves s old.source new.source outcome.taken answer
+  -- and over any tape
+  pub items : List Item
+  pub ending : Ending
+  pub read : IsScript input items ending
+  pub by_ending : answer ≡ answer_by ending
+
+-- The volume table did not show the volumes that were mounted: never where the tape tells its cartridge.
+pub record Mismatched {T S K : Type 0} (t : tapes.Meaning T) (s : sources.Meaning S) (k : sinks.Meaning K) (old new : Outside T S K) : Type 0 where
+  pub acts : List Act
+  pub went : Went t s k old new acts
+  pub told : tapes.Tells t old.tape (λ c. ⊥)
+  pub taken : ℕ
+  pub left : s.left new.source ≡ option_map (drop taken) (s.left old.source)
+
+-- A fault of this object of the outside cut it off, in the midst of the acts of the plain machine's outcome.
+pub record CutOff {T S K : Type 0} (t : tapes.Meaning T) (s : sources.Meaning S) (k : sinks.Meaning K) (store : StoreView) (old new : Outside T S K) (failing : Failing) : Type 0 where
+  pub input : List ℕ
+  pub is_told : IfSome (s.left old.source) (λ bytes. input ≡ bytes)
+  pub told : tapes.Tells t old.tape (λ c. (outcome : Outcome) → ScriptDoes c store.words store.entries input outcome →
+      Cut t s k old new outcome.acts failing)
+  -- and over any tape
+  pub acts : List Act
+  pub cut : Cut t s k old new acts failing
+
+-- how a run ended
+abbrev pub Ends : {T S K : Type 0} (t : tapes.Meaning T) (s : sources.Meaning S) (k : sinks.Meaning K) (store : StoreView) (old new : Outside T S K) → Result (Unit {0}) ScriptFault → Type 0
+Ends t s k store old new (Ok done) = Ended t s k store old new AllDone
+Ends t s k store old new (Err (fault.Input line place)) = Ended t s k store old new (FaultIn line place)
+Ends t s k store old new (Err fault.TableMismatch) = Mismatched t s k old new
+Ends t s k store old new (Err fault.Source) = CutOff t s k store old new SourceFails
+Ends t s k store old new (Err fault.Sink) = CutOff t s k store old new SinkFails
+Ends t s k store old new (Err fault.Tape) = CutOff t s k store old new TapeFails

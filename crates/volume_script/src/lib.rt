@@ -1,0 +1,19 @@
+//! The command `script`: lines carried out one after the other over one mounted cartridge. No call takes memory.
+#![tactic(auto)]
+
+mod append;
+mod ending;
+mod fault;
+mod item;
+pub mod laws;
+mod limited;
+mod line;
+mod lose;
+mod refusal;
+mod replies;
+mod restore;
+mod run;
+mod scrub;
+
+pub use fault::ScriptFault;
+pub use run::run_script;

@@ -1,0 +1,69 @@
+//! A line that may be an item.
+
+ghost use Rattle.std.specs.Prelude.{◌≡◌, ◌≢◌, ◌≤◌, Err, IfOk, IfSome};
+ghost use Rattle.tape_script.specs.Input.{most_items, promised};
+ghost use Rattle.volume_store.specs.Appending.{KeepsFormat};
+ghost use Rattle.volume_store.specs.Mounting.{StoreFits};
+ghost use Rattle.volume_script.specs.Heard.{Hears, longest};
+
+use crate::fault::{ItemFault, ScriptFault};
+use crate::item::carry_out;
+use drive_states::Unit;
+use qic_base::{Sink, Source, SourceFailed, Tape};
+use tape_script::{Line, LineRead};
+use volume_store::Store;
+
+/// The number of bytes that follow a line at once.
+fn promised(line: &Line) -> u32
+    ensures bytes { result ≡ promised line.now }
+    ensures few { result ≤ 4294967295 }
+{
+    match line {
+        Line::Append { length, .. } => *length,
+        Line::List | Line::Restore { .. } | Line::Scrub | Line::Lose { .. } | Line::End => 0,
+    }
+}
+
+/// Reads a line and carries it out with what follows it: the number of its bytes and of those, or none where the input is
+/// over. `line` is the line's number and `place` the number of bytes before it.
+pub fn carry_out_line<T: Tape, S: Source, K: Sink>(
+    store: &mut Store,
+    unit: &mut Unit<T>,
+    source: &mut S,
+    sink: &mut K,
+    buffer: &mut [u8; 128],
+    line: u32,
+    place: u64,
+) -> Result<Option<u64>, ScriptFault>
+    requires fits { StoreFits T.means store.old unit.old }
+    requires within { line ≤ most_items }
+    ensures hears { Hears T.means S.means K.means store.old store.new
+        record { tape = unit.old.tape; source = source.old; sink = sink.old }
+        record { tape = unit.new.tape; source = source.new; sink = sink.new } line place result }
+    ensures few { IfOk result (λ read. IfSome read (λ n. n ≤ longest)) }
+    ensures fits { result ≢ Err ScriptFault.Tape → StoreFits T.means store.new unit.new }
+    ensures format { KeepsFormat store.old store.new }
+    ensures kept { S.means.keeps source.old source.new }
+{
+    match Line::read(source, buffer) {
+        Ok(LineRead::End) => Ok(None),
+        Ok(
+            LineRead::Line {
+                line: Line::End,
+                ..
+            },
+        ) => Ok(None),
+        Ok(LineRead::Line { line: asked, read }) => {
+            match carry_out(store, unit, &asked, source, sink) {
+                Ok(()) => Ok(Some(u64::from(read) + u64::from(promised(&asked)))),
+                Err(ItemFault::Short) => Err(ScriptFault::Input { line, place }),
+                Err(ItemFault::TableMismatch) => Err(ScriptFault::TableMismatch),
+                Err(ItemFault::Source) => Err(ScriptFault::Source),
+                Err(ItemFault::Sink) => Err(ScriptFault::Sink),
+                Err(ItemFault::Tape) => Err(ScriptFault::Tape),
+            }
+        }
+        Ok(LineRead::Bad { .. }) => Err(ScriptFault::Input { line, place }),
+        Err(SourceFailed) => Err(ScriptFault::Source),
+    }
+}

@@ -1,0 +1,48 @@
+//! A sector lost by a script.
+
+ghost use Rattle.std.specs.Prelude.{◌≡◌, ◌≢◌, Err};
+ghost use Rattle.tape_script.specs.declared.line.Line.TheVariants.{Lose};
+ghost use Rattle.volume_store.specs.Mounting.{StoreFits};
+ghost use Rattle.volume_script.specs.Items.{ItemEnds};
+
+use crate::fault::ItemFault;
+use crate::refusal::Refusal;
+use crate::replies::{replied, write_refusal};
+use drive_states::{HandFault, Unit};
+use qic_base::{Sink, Source, Tape};
+use tape_script::write_text;
+use volume_lines::place_text;
+use volume_store::Store;
+
+/// Makes a readable sector unreadable, until it is written again.
+pub fn lose<T: Tape, S: Source, K: Sink>(
+    store: &mut Store,
+    unit: &mut Unit<T>,
+    segment: u32,
+    sector: u32,
+    source: &mut S,
+    sink: &mut K,
+) -> Result<(), ItemFault>
+    requires fits { StoreFits T.means store.old unit.old }
+    ensures ends { ItemEnds T.means S.means K.means store.old store.new
+        record { tape = unit.old.tape; source = source.old; sink = sink.old }
+        record { tape = unit.new.tape; source = source.new; sink = sink.new }
+        (Lose segment sector) result }
+    ensures fits { result ≢ Err ItemFault.Tape → StoreFits T.means store.new unit.new }
+    ensures store { store.new ≡ store.old }
+    ensures source { source.new ≡ source.old }
+{
+    match store.wear(unit, segment, sector) {
+        Ok(()) => {
+            let text = place_text(b"lost", u64::from(segment), u64::from(sector));
+            replied(write_text(text.bytes(), sink))
+        }
+        Err(HandFault::BadPlace) => {
+            replied(write_refusal(Refusal::Place { segment, sector }, sink))
+        }
+        Err(HandFault::Tape) => Err(ItemFault::Tape),
+        Err(HandFault::NoCartridge | HandFault::NotBlank) => {
+            unreachable!("the cartridge is there, and a sector is worn whatever it holds")
+        }
+    }
+}

@@ -1,0 +1,74 @@
+//! The replies that only a script has.
+
+ghost use Rattle.std.specs.Prelude.{◌≡◌};
+ghost use Rattle.qic_base.specs.Sink.{Writes};
+ghost use Rattle.volume_script.specs.Lines.{no_volume_line, refusal_line, restored_line};
+ghost use Rattle.volume_script.specs.Promised.{replied_so};
+
+use crate::fault::ItemFault;
+use crate::refusal::Refusal;
+use qic_base::{Sink, SinkFailed};
+use tape_script::{TextLine, write_text};
+use volume_lines::{number_text, place_text};
+
+#[tactic(auto, unfolding(crate::specs::Lines::no_volume_line))]
+fn no_volume_text(number: u32, count: u32) -> TextLine
+    ensures { result ≡ no_volume_line number count }
+{
+    let mut line = TextLine::new();
+    line.push_text(b"refused no volume ");
+    line.push_number(u64::from(number));
+    line.push_text(b" of ");
+    line.push_number(u64::from(count));
+    line.push_text(b"\n");
+    line
+}
+
+/// Writes the reply to a line that is refused.
+pub fn write_refusal<K: Sink>(refusal: Refusal, sink: &mut K) -> Result<(), SinkFailed>
+    ensures { Writes K.means sink.old sink.new (refusal_line refusal) result }
+{
+    match refusal {
+        Refusal::Protected => write_text(b"refused protected\n", sink),
+        Refusal::Full { need, have } => write_text(
+            place_text(b"refused full", need, have).bytes(),
+            sink,
+        ),
+        Refusal::NoVolume { number, count } => write_text(
+            no_volume_text(number, count).bytes(),
+            sink,
+        ),
+        Refusal::Lost { segment, lost } => write_text(
+            place_text(b"refused lost", u64::from(segment), u64::from(lost)).bytes(),
+            sink,
+        ),
+        Refusal::Mismatch { segment } => write_text(
+            number_text(b"refused mismatch", u64::from(segment)).bytes(),
+            sink,
+        ),
+        Refusal::Place { segment, sector } => write_text(
+            place_text(b"refused place", u64::from(segment), u64::from(sector)).bytes(),
+            sink,
+        ),
+    }
+}
+
+/// Writes the reply to a volume that was given back.
+pub fn write_restored<K: Sink>(number: u32, bytes: u64, sink: &mut K) -> Result<(), SinkFailed>
+    ensures { Writes K.means sink.old sink.new (restored_line number bytes) result }
+{
+    write_text(
+        place_text(b"restored", u64::from(number), bytes).bytes(),
+        sink,
+    )
+}
+
+/// What a reply that was written, or wasn't, makes of a line.
+pub fn replied(written: Result<(), SinkFailed>) -> Result<(), ItemFault>
+    ensures { result ≡ replied_so written }
+{
+    match written {
+        Ok(()) => Ok(()),
+        Err(SinkFailed) => Err(ItemFault::Sink),
+    }
+}
