@@ -51,7 +51,7 @@ fn held(alloc: Global, call: u16) -> Result<ImageTape<MemDisk>, Fail>
     tape_of_three(written(alloc, fails)?)
 }
 
-/// The same, with the sector lost. Five more calls looked at its three bytes and closed its gate.
+/// The same, with the sector lost. Five more calls looked at the segment's bytes in the planes and closed the gate.
 fn worn(alloc: Global, call: u16) -> Result<ImageTape<MemDisk>, Fail>
     ensures { IfOk result (λ tape. image_means.size tape ≡ Some 3) }
 {
@@ -115,7 +115,7 @@ fn is_worn_written(alloc: Global, call: u16) -> Result<bool, Fail> {
     Ok(is_written(worn(alloc, call)?))
 }
 
-// Three calls look at the sector's bytes in the planes. Then come the writes, each with its sync. Of a write that fails
+// Three calls look at the segment's bytes in the planes. Then come the writes, each with its sync. Of a write that fails
 // the first half stands: nothing of a gate, and 512 bytes of a sector.
 #[test]
 fn a_gate_is_closed_and_the_bytes_written_and_it_is_opened(rt: HostRuntime) -> Result<(), Fail> {
@@ -137,12 +137,10 @@ fn a_gate_is_closed_and_the_bytes_written_and_it_is_opened(rt: HostRuntime) -> R
     Ok(())
 }
 
+// What the planes say is known since the sector was made unreadable, so no call looks at them.
 #[test]
 fn a_lost_sector_is_written_and_its_gate_opened(rt: HostRuntime) -> Result<(), Fail> {
     let left = [
-        [CLOSED, OLD, OLD],
-        [CLOSED, OLD, OLD],
-        [CLOSED, OLD, OLD],
         [CLOSED, NEW, OLD],
         [CLOSED, NEW, NEW],
         [CLOSED, NEW, NEW],
@@ -151,7 +149,7 @@ fn a_lost_sector_is_written_and_its_gate_opened(rt: HostRuntime) -> Result<(), F
     for (call, bytes) in (0..).zip(left) {
         assert_eq!(rt; left_of_worn(rt.alloc(), call)?, bytes, "call {call}");
     }
-    assert!(rt; is_worn_written(rt.alloc(), 7)?);
+    assert!(rt; is_worn_written(rt.alloc(), 4)?);
     Ok(())
 }
 
@@ -210,7 +208,7 @@ fn a_write_that_breaks_off_leaves_the_old_bytes_none_or_the_new(
         );
     }
     assert_eq!(rt; taken_held(rt.alloc())?, [old, new, old]);
-    for (call, middle) in (0..).zip([None, None, None, None, None, None, new]) {
+    for (call, middle) in (0..).zip([None, None, None, new]) {
         assert_eq!(rt;
             broken_worn(rt.alloc(), call)?,
             [old, middle, old],
