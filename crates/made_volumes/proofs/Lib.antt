@@ -11,5 +11,4 @@ pub mod Others
 pub mod Stores
 pub mod Going
 pub mod Listing
-pub mod Standing
 pub mod Stops

@@ -15,6 +15,7 @@ use Rattle.mount_laws.proofs.Mounting.{one_table}
 use Rattle.restore_plan.specs.Restoring.{Ending, Restores, pieces}
 use Rattle.restore_plan.proofs.Endings.{restores_is_function}
 use Rattle.scrub_plan.proofs.Turns.{scrubs_is_function}
+use Rattle.store_laws.proofs.Keeping.{changed_by_acts}
 use Rattle.made_volumes.specs.Items.{Item, AppendMade, WearSector, ScrubAll, SumVolume, after_item, after_items}
 use Rattle.made_volumes.specs.Machine.{Answer, Done, Protected, TableMismatch, Full, Lost, Mismatch, Does, Runs, IsAppended, IsTableLost, IsSummed, made_acts, made_answer, sum_acts, ending_answer}
 
@@ -85,10 +86,6 @@ does_one seed c words es ScrubAll a b x y (inr (free, one)) (inr (again, other))
 does_one seed c words es (SumVolume number) a b x y one other = one_sum c words es number a b x y one other
 
 -- ---- steps one after the other
-
-pub changed_by_acts : (xs ys : List Act) (c : Cartridge) → changed_by (steps_of (xs ++ ys)) c ≡ changed_by (steps_of ys) (changed_by (steps_of xs) c)
-changed_by_acts xs ys c =
-    ap (λ (steps : List Step). changed_by steps c) (steps_of-append xs ys) ∙ changed_by-append (steps_of xs) (steps_of ys) c
 
 pub after_items-append : (seed : ℕ) (words : List ℕ) (es : List Entry) (xs ys : List Item) →
     after_items seed words es (xs ++ ys) ≡ after_items seed words (after_items seed words es xs) ys

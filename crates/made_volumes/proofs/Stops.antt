@@ -45,14 +45,16 @@ use Rattle.scrub_plan.specs.Mended.{IsBeingMended}
 use Rattle.scrub_plan.proofs.Done.{done_being_mended}
 use Rattle.scrub_plan.proofs.Mending.{done_scrub_is_cartridge}
 use Rattle.scrub_plan.proofs.Mounted.{done_scrub_stands, stopped_scrub_stands, done_scrub_table}
+use Rattle.store_laws.specs.Kept.{IsKept}
+use Rattle.store_laws.proofs.Keeping.{acts_stopped, changed_by_acts, scrubbed_kept, worn_kept}
+use Rattle.store_laws.proofs.Standing.{kept_appended, stopped_appended, all_writes, no_writes, same_last}
 use Rattle.tape_script.specs.Generator.{made_length, made_byte, made_bytes}
 use Rattle.volume_store.specs.Appending.{Kept, append_acts, silently, room_in, kept_in, has_promised_room}
 use Rattle.made_volumes.specs.Items.{Item, AppendMade, WearSector, ScrubAll, SumVolume, made_name, made_entry, after_item, after_items, appending, wearing, first_two, wearing_in, wearing_volumes, summing, made_list, making}
-use Rattle.made_volumes.specs.Laws.{MakesOneThing, StopsInStep, StopsAreInSteps, IsKept, made_volume, with_made, StoppedMakeStands, DoneMakeStands}
+use Rattle.made_volumes.specs.Laws.{MakesOneThing, StopsInStep, StopsAreInSteps, made_volume, with_made, StoppedMakeStands, DoneMakeStands}
 use Rattle.made_volumes.specs.Machine.{Answer, Done, Full, Does, Runs, IsAppended, made_acts, made_answer, sum_acts}
-use Rattle.made_volumes.proofs.MachineLaws.{changed_by_acts, never_lost, never_unlocked, runs_one}
+use Rattle.made_volumes.proofs.MachineLaws.{never_lost, never_unlocked, runs_one}
 use Rattle.made_volumes.proofs.MadeBytes.{length-made_bytes}
-use Rattle.made_volumes.proofs.Standing.{kept_appended, stopped_appended, all_writes, no_writes, same_last}
 
 -- a fact of two or of one, of what a stop left
 some_split : (P Q : Cartridge → Type 0) (left : Option Cartridge) → IsSomeAnd left (λ d. P d ⊎ Q d) → IsSomeAnd left P ⊎ IsSomeAnd left Q
@@ -213,38 +215,6 @@ still_after seed words es (WearSector segment sector) still = refl
 still_after seed words es ScrubAll still = refl
 still_after seed words es (SumVolume number) still = refl
 
-worn_kept : (c : Cartridge) (plain : Plain) (segment sector : ℕ) → IsKept c plain → 3 ≤ segment → sector < 32 → IsKept (worn segment sector c) plain
-worn_kept c plain segment sector held behind small = record {
-  cartridge = with_view_whole c segment sector (worn_view (view_at c segment sector)) held.cartridge
-      (worn_is_view (view_at c segment sector) (view_of_cartridge c segment sector held.cartridge));
-  stands = worn_stands c plain segment sector small held.stands (inl behind);
-  table = subst (λ (cells : List SectorView). TableSays cells (AsRead plain.table_area) ⊎ TableSays cells (ByCode (Data plain.table_area)))
-      (sym (other_cells c segment sector 2 small (λ is. let low : segment ≡ 2 = sym is in omega arith))) held.table;
-  live = λ i h. subst IsLive (sym (view_of_other c segment sector 2 i (worn_view (view_at c segment sector)) small h (λ is. let low : segment ≡ 2 = sym is in omega arith))) (held.live i h);
-  unprotected = held.unprotected;
-  last = held.last;
-}
-
--- a scrub leaves live sectors live
-mended_live : (c d : Cartridge) (plain : Plain) → IsBeingMended (looked_at plain.words (entries_of plain)) c d → IsTableLive c → IsTableLive d
-mended_live c d plain mended live i h = elim (mended.each 2 i h) [
-  | inl same ↦ subst IsLive (sym same) (live i h)
-  | inr (block, is, was, now) ↦ subst IsLive (sym now) tt
-]
-
-scrubbed_kept : (c : Cartridge) (plain : Plain) (acts : List Act) → IsKept c plain → Scrubs c plain.words (entries_of plain) acts → IsKept (changed_by (steps_of acts) c) plain
-scrubbed_kept c plain acts held scrubs =
-    let order : IsSoundList (last_segment c) (entries_of plain) = old_order c plain held.stands in
-    let mended = done_being_mended c plain.words (entries_of plain) (last_segment c) acts order scrubs in
-    record {
-      cartridge = done_scrub_is_cartridge c plain.words (entries_of plain) acts held.cartridge scrubs;
-      stands = done_scrub_stands c plain acts held.stands scrubs;
-      table = done_scrub_table c plain.words (entries_of plain) (last_segment c) acts plain.table_area order scrubs held.table;
-      live = mended_live c (changed_by (steps_of acts) c) plain mended held.live;
-      unprotected = ap (λ (i : TapeInfo). i.protected) mended.info ∙ held.unprotected;
-      last = held.last ∙ sym (ap (λ (i : TapeInfo). 28 * i.segments_per_track - 1) mended.info);
-    }
-
 -- the acts of a sum take no step
 sum_in_no_step : (number size : ℕ) (given : List ℕ) (ending : Ending) → steps_of (sum_acts number size given ending) ≡ []
 sum_in_no_step number size given Restored = refl
@@ -285,16 +255,6 @@ still_stopped seed c plain (SumVolume number) acts answer left still held does t
     (ap steps_of does.does ∙ sum_in_no_step number (volume_length plain.words does.entry) (text_of does.given) does.ending) torn)
 
 -- ---- several steps
-
--- a stop among the steps of two lists of acts
-acts_stopped : (first rest acts : List Act) (c : Cartridge) (left : Option Cartridge) → first ++ rest ≡ acts → Torn (steps_of acts) (Some c) left →
-    Torn (steps_of first) (Some c) left ⊎ Torn (steps_of rest) (Some (changed_by (steps_of first) c)) left
-acts_stopped first rest acts c left parts torn =
-    elim (Torn-append (steps_of first) (steps_of rest) (Some c) left
-    (subst (λ (steps : List Step). Torn steps (Some c) left) (sym (ap steps_of parts) ∙ steps_of-append first rest) torn)) [
-      | inl front ↦ inl front
-      | inr behind ↦ inr (subst (λ (held : Option Cartridge). Torn (steps_of rest) held left) (effects-some (steps_of first) c) behind)
-    ]
 
 stills_stopped : (seed : ℕ) (items : List Item) (c : Cartridge) (plain : Plain) (acts : List Act) (answer : Answer) (left : Option Cartridge) → AreStill items → IsKept c plain →
     Runs seed c plain.words (entries_of plain) items acts answer → Torn (steps_of acts) (Some c) left → IsSomeAnd left (λ d. Stands d plain)

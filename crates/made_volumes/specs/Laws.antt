@@ -9,6 +9,7 @@ use Rattle.cartridge_spec.specs.Table.{Entry}
 use Rattle.cartridge_spec.specs.Volumes.{Plain, Volume, Stands, entries_of}
 use Rattle.cartridge_spec.specs.Writes.{changed_by}
 use Rattle.mount_laws.specs.Laws.{IsTableLive}
+use Rattle.store_laws.specs.Kept.{IsKept}
 use Rattle.tape_script.specs.Generator.{made_bytes}
 use Rattle.made_volumes.specs.Items.{Item, made_name, after_items}
 use Rattle.made_volumes.specs.Machine.{Answer, Done, Does, Runs, Makes}
@@ -42,15 +43,6 @@ StopsAreInSteps =
     ((items ≡ []) × (left ≡ Some c)) ⊎ StopsInStep seed c words entries items left
 
 -- ---- a cartridge that stands for a plain one
-
--- its table reads, each sector of the table's segment takes what is written to it, and it is not protected
-pub record IsKept (c : Cartridge) (plain : Plain) : Type 0 where
-  pub cartridge : IsCartridge c
-  pub stands : Stands c plain
-  pub table : TableIs c plain.table_area
-  pub live : IsTableLive c
-  pub unprotected : c.info.protected ≡ false
-  pub last : length plain.words - 1 ≡ last_segment c
 
 -- the made volume behind those of a plain cartridge
 abbrev pub made_volume : (seed : ℕ) → Plain → (volume : ℕ) → Volume

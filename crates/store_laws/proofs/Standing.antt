@@ -1,4 +1,4 @@
--- What a run of `make` leaves of a cartridge that stands for a plain one, done or stopped.
+-- An append of promised bytes to a cartridge that stands for a plain one, done or stopped.
 use Rattle.std.proofs.Common.{◌≡◌, ◌⊎◌, inl, ℕ, ◌+◌, ◌-◌, ◌*◌, ◌^◌, ◌<◌, Bool, true, false, cond, List, [], ◌++◌, length, take, All, Option, Some, IsSomeAnd, sym, ap, ◌∙◌, subst, arith, nat_lt, append-nil}
 use Rattle.std.proofs.lemmas.Bool.{le-ltb}
 use Rattle.std.proofs.lemmas.List.{length-map, take_all}
@@ -37,7 +37,7 @@ use Rattle.append_plan.proofs.Whole.{appended_is_cartridge}
 use Rattle.volume_input.specs.Input.{volume_acts, filled_acts, input_acts}
 use Rattle.volume_input.proofs.ActLaws.{volume_is_writes}
 use Rattle.volume_store.specs.Appending.{Kept, Fits, TooLong, TooShort, entry_acts, entry_for, free_in, input_writes, room_in, silently, taking}
-use Rattle.made_volumes.specs.Laws.{IsKept}
+use Rattle.store_laws.specs.Kept.{IsKept}
 
 -- ---- an append of promised bytes
 

@@ -1,0 +1,81 @@
+-- What worn sectors and scrubs leave of a cartridge that stands for a plain one, and a stop between acts.
+use Rattle.std.proofs.Common.{◌≡◌, ◌⊎◌, inl, inr, ℕ, ◌-◌, ◌*◌, ◌<◌, ◌≤◌, List, ◌++◌, length, Option, Some, IsSomeAnd, sym, ap, ◌∙◌, subst, arith}
+use Rattle.qic_base.specs.declared.tape.TapeInfo.{TapeInfo}
+use Rattle.qic_base.specs.declared.tape.SectorView.{SectorView}
+use Rattle.qic_base.specs.Cartridge.{Cartridge, view_at}
+use Rattle.qic_base.specs.Step.{Step, worn_view}
+use Rattle.qic_base.specs.Stop.{Torn}
+use Rattle.qic_base.proofs.Steps.{Torn-append}
+use Rattle.acts.specs.Acts.{Act, steps_of}
+use Rattle.acts.proofs.Joins.{steps_of-append}
+use Rattle.cartridge_spec.specs.HeaderAndTable.{last_segment}
+use Rattle.cartridge_spec.specs.Says.{Data, AsRead, ByCode, TableSays}
+use Rattle.cartridge_spec.specs.Segment.{IsLive}
+use Rattle.cartridge_spec.specs.Table.{IsSoundList}
+use Rattle.cartridge_spec.specs.Volumes.{Plain, entries_of}
+use Rattle.cartridge_spec.specs.Writes.{changed_by}
+use Rattle.cartridge_spec.proofs.Segments.{view_of_cartridge}
+use Rattle.cartridge_spec.proofs.Whole.{with_view_whole, worn_is_view}
+use Rattle.change_laws.specs.Wear.{worn}
+use Rattle.change_laws.proofs.Changes.{view_of_other}
+use Rattle.change_laws.proofs.Standing.{other_cells, worn_stands}
+use Rattle.format_plan.proofs.Writing.{changed_by-append, effects-some}
+use Rattle.mount_laws.specs.Laws.{IsTableLive}
+use Rattle.append_plan.proofs.Volume.{old_order}
+use Rattle.scrub_plan.specs.Scrubbing.{Scrubs, looked_at}
+use Rattle.scrub_plan.specs.Mended.{IsBeingMended}
+use Rattle.scrub_plan.proofs.Done.{done_being_mended}
+use Rattle.scrub_plan.proofs.Mending.{done_scrub_is_cartridge}
+use Rattle.scrub_plan.proofs.Mounted.{done_scrub_stands, done_scrub_table}
+use Rattle.store_laws.specs.Kept.{IsKept}
+
+-- ---- acts one after the other
+
+pub changed_by_acts : (xs ys : List Act) (c : Cartridge) → changed_by (steps_of (xs ++ ys)) c ≡ changed_by (steps_of ys) (changed_by (steps_of xs) c)
+changed_by_acts xs ys c =
+    ap (λ (steps : List Step). changed_by steps c) (steps_of-append xs ys) ∙ changed_by-append (steps_of xs) (steps_of ys) c
+
+-- a stop among the steps of two lists of acts
+pub acts_stopped : (first rest acts : List Act) (c : Cartridge) (left : Option Cartridge) → first ++ rest ≡ acts → Torn (steps_of acts) (Some c) left →
+    Torn (steps_of first) (Some c) left ⊎ Torn (steps_of rest) (Some (changed_by (steps_of first) c)) left
+acts_stopped first rest acts c left parts torn =
+    elim (Torn-append (steps_of first) (steps_of rest) (Some c) left
+    (subst (λ (steps : List Step). Torn steps (Some c) left) (sym (ap steps_of parts) ∙ steps_of-append first rest) torn)) [
+      | inl front ↦ inl front
+      | inr behind ↦ inr (subst (λ (held : Option Cartridge). Torn (steps_of rest) held left) (effects-some (steps_of first) c) behind)
+    ]
+
+-- ---- what is kept
+
+pub worn_kept : (c : Cartridge) (plain : Plain) (segment sector : ℕ) → IsKept c plain → 3 ≤ segment → sector < 32 → IsKept (worn segment sector c) plain
+worn_kept c plain segment sector held behind small = record {
+  cartridge = with_view_whole c segment sector (worn_view (view_at c segment sector)) held.cartridge
+      (worn_is_view (view_at c segment sector) (view_of_cartridge c segment sector held.cartridge));
+  stands = worn_stands c plain segment sector small held.stands (inl behind);
+  table = subst (λ (cells : List SectorView). TableSays cells (AsRead plain.table_area) ⊎ TableSays cells (ByCode (Data plain.table_area)))
+      (sym (other_cells c segment sector 2 small (λ is. let low : segment ≡ 2 = sym is in omega arith))) held.table;
+  live = λ i h. subst IsLive (sym (view_of_other c segment sector 2 i (worn_view (view_at c segment sector)) small h (λ is. let low : segment ≡ 2 = sym is in omega arith))) (held.live i h);
+  unprotected = held.unprotected;
+  last = held.last;
+}
+
+-- a scrub leaves live sectors live
+mended_live : (c d : Cartridge) (plain : Plain) → IsBeingMended (looked_at plain.words (entries_of plain)) c d → IsTableLive c → IsTableLive d
+mended_live c d plain mended live i h = elim (mended.each 2 i h) [
+  | inl same ↦ subst IsLive (sym same) (live i h)
+  | inr (block, is, was, now) ↦ subst IsLive (sym now) tt
+]
+
+pub scrubbed_kept : (c : Cartridge) (plain : Plain) (acts : List Act) → IsKept c plain → Scrubs c plain.words (entries_of plain) acts → IsKept (changed_by (steps_of acts) c) plain
+scrubbed_kept c plain acts held scrubs =
+    let order : IsSoundList (last_segment c) (entries_of plain) = old_order c plain held.stands in
+    let mended = done_being_mended c plain.words (entries_of plain) (last_segment c) acts order scrubs in
+    record {
+      cartridge = done_scrub_is_cartridge c plain.words (entries_of plain) acts held.cartridge scrubs;
+      stands = done_scrub_stands c plain acts held.stands scrubs;
+      table = done_scrub_table c plain.words (entries_of plain) (last_segment c) acts plain.table_area order scrubs held.table;
+      live = mended_live c (changed_by (steps_of acts) c) plain mended held.live;
+      unprotected = ap (λ (i : TapeInfo). i.protected) mended.info ∙ held.unprotected;
+      last = held.last ∙ sym (ap (λ (i : TapeInfo). 28 * i.segments_per_track - 1) mended.info);
+    }
+

@@ -1,0 +1,62 @@
+-- A mounted cartridge that takes volumes, and what appends, worn sectors and scrubs leave of it, as facts (this project's own).
+use Rattle.std.specs.Prelude.{◌≡◌, ◌⊎◌, ℕ, ◌-◌, ◌^◌, ◌<◌, ◌≤◌, true, false, List, ◌++◌, length, All, Option, Some, IsSomeAnd}
+use Rattle.qic_base.specs.Cartridge.{Cartridge, IsCartridge}
+use Rattle.qic_base.specs.Stop.{Torn}
+use Rattle.acts.specs.Acts.{Act, steps_of}
+use Rattle.append_plan.specs.Appending.{appended_volume, with_volume}
+use Rattle.append_plan.specs.Laws as appends
+use Rattle.append_plan.specs.Room.{has_room}
+use Rattle.cartridge_spec.specs.HeaderAndTable.{TableIs, last_segment}
+use Rattle.cartridge_spec.specs.Mounting.{settled}
+use Rattle.cartridge_spec.specs.Volumes.{Plain, Stands, entries_of}
+use Rattle.cartridge_spec.specs.Writes.{changed_by}
+use Rattle.change_laws.specs.Wear.{worn}
+use Rattle.format_plan.specs.Fresh.{IsLabel}
+use Rattle.mount_laws.specs.Laws.{IsTableLive}
+use Rattle.mount_laws.specs.Settling.{settling_steps}
+use Rattle.scrub_plan.specs.Scrubbing.{Scrubs}
+
+-- its table reads, each sector of the table's segment takes what is written to it, and it is not protected
+pub record IsKept (c : Cartridge) (plain : Plain) : Type 0 where
+  pub cartridge : IsCartridge c
+  pub stands : Stands c plain
+  pub table : TableIs c plain.table_area
+  pub live : IsTableLive c
+  pub unprotected : c.info.protected ≡ false
+  pub last : length plain.words - 1 ≡ last_segment c
+
+-- ---- an append
+
+-- the plain cartridge with a volume of these bytes
+abbrev pub with_bytes : Plain → (name : List ℕ) → (date : ℕ) → (bytes : List ℕ) → Plain
+with_bytes plain name date bytes = with_volume plain (appended_volume plain (length plain.words - 1) name date bytes)
+
+-- a name of 44 bytes, a date word, and bytes
+pub record IsAppendable (name : List ℕ) (date : ℕ) (bytes : List ℕ) : Type 0 where
+  pub label : IsLabel name
+  pub word : date < 2 ^ 32
+  pub content : All (λ b. b < 256) bytes
+
+-- all of its acts done, the plain cartridge with the volume stands, and may be appended to again; a stop in them leaves that, or
+-- what stood
+pub record AppendKeeps (c : Cartridge) (plain : Plain) (name : List ℕ) (date : ℕ) (bytes : List ℕ) : Type 0 where
+  pub done : IsKept (changed_by (settling_steps plain.table_area c ++ appends.steps_of (settled plain.table_area c) plain name date bytes) c) (with_bytes plain name date bytes)
+  pub stopped : (left : Option Cartridge) → Torn (settling_steps plain.table_area c ++ appends.steps_of (settled plain.table_area c) plain name date bytes) (Some c) left →
+      IsSomeAnd left (λ d. Stands d plain ⊎ Stands d (with_bytes plain name date bytes))
+
+abbrev pub AppendsKeep : Type 0
+AppendsKeep =
+    (c : Cartridge) (plain : Plain) (name : List ℕ) (date : ℕ) (bytes : List ℕ) → IsKept c plain → IsAppendable name date bytes →
+    has_room plain.words (entries_of plain) (last_segment c) (length bytes) ≡ true → AppendKeeps c plain name date bytes
+
+-- ---- a worn sector, and a scrub
+
+-- one behind the table
+abbrev pub WearsKeep : Type 0
+WearsKeep =
+    (c : Cartridge) (plain : Plain) (segment sector : ℕ) → IsKept c plain → 3 ≤ segment → sector < 32 → IsKept (worn segment sector c) plain
+
+abbrev pub ScrubsKeep : Type 0
+ScrubsKeep =
+    (c : Cartridge) (plain : Plain) (acts : List Act) → IsKept c plain → Scrubs c plain.words (entries_of plain) acts →
+    IsKept (changed_by (steps_of acts) c) plain
