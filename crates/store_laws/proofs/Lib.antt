@@ -1,2 +1,4 @@
 pub mod Keeping
+pub mod Listed
+pub mod Saying
 pub mod Standing

@@ -1,7 +1,8 @@
-//! What becomes of a mounted cartridge that stands for a plain one. Each law is the contract of a function that does nothing, so
-//! that other crates can rest on it; their proofs import the lemmas of this crate's `proofs`.
+//! What becomes of a mounted cartridge. Each law is the contract of a function that does nothing, so that other crates can rest
+//! on it; their proofs import the lemmas of this crate's `proofs`.
 
 ghost use Rattle.store_laws.specs.Kept.{AppendsKeep, WearsKeep, ScrubsKeep};
+ghost use Rattle.store_laws.specs.Listed.{MountedListed, ListedReads, AppendListed, WearListed, ScrubListed, RestoresAnyway, ScrubsAnyway};
 
 /// An append of as many bytes as are promised, with room for them, leaves the plain cartridge with that volume; a stop in it that
 /// or the one before it.
@@ -13,4 +14,23 @@ pub fn an_append_keeps_what_stands()
 pub fn wears_and_scrubs_keep_what_stands()
     ensures wears { WearsKeep }
     ensures scrubs { ScrubsKeep }
+{}
+
+/// A mounted cartridge has the list that it was mounted with; its table shows that list, or has lost more than three sectors.
+pub fn a_mounted_cartridge_has_its_list()
+    ensures mounted { MountedListed }
+    ensures reads { ListedReads }
+{}
+
+/// An append leaves the list, or that with its entry; a worn sector in any place, and a scrub, leave the list.
+pub fn appends_wears_and_scrubs_leave_a_list()
+    ensures appends { AppendListed }
+    ensures wears { WearListed }
+    ensures scrubs { ScrubListed }
+{}
+
+/// Restores and scrubs come to something, whatever the sectors hold.
+pub fn restores_and_scrubs_come_to_something()
+    ensures restores { RestoresAnyway }
+    ensures scrubs { ScrubsAnyway }
 {}

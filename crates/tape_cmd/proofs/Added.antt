@@ -46,12 +46,12 @@ use Rattle.tape_cmd.specs.Lines.{appended_line, reply_behind}
 use Rattle.tape_cmd.specs.Opening.{IsOpened, HasOpened, IsUnlocked, WritableEnds, is_opening, store_status}
 use Rattle.tape_cmd.specs.Outcome.{Outcome, refused, refused_behind, first_steps}
 use Rattle.tape_cmd.specs.Runs.{Ends, InputLeft, IsOfBytes, IsCutOff, NamesFault, may_come_from}
-use Rattle.tape_cmd.specs.Machine.{CommandPrints}
+use Rattle.tape_cmd.specs.Machine.{CommandPrints, FrontPrints}
 use Rattle.append_plan.specs.Between.{table_writes}
 use Rattle.cartridge_spec.specs.Slots.{slot_sector}
 use Rattle.tape_cmd.specs.Writing.{printed_status}
 use Rattle.tape_cmd.proofs.PlainLaws.{plain_is_function}
-use Rattle.tape_cmd.proofs.Endings.{told_map, some_text}
+use Rattle.tape_cmd.proofs.Endings.{told_map, nothing_front}
 use Rattle.tape_cmd.proofs.Ends.{is_some-map}
 use Rattle.tape_cmd.proofs.Mounted.{Settles, told_both, locked_is, unlocked_refused_is, writable_begins}
 use Rattle.tape_cmd.proofs.Opened.{IsKnown, quiet, outside, went_behind, settled_told, opened_known, known_before, found_locked, never_both, unlocked}
@@ -278,7 +278,7 @@ module _ {T S K : Type 0} (t : tapes.Meaning T) (s : sources.Meaning S) (k : sin
           ));
           acts = quiet cut.steps ∷ [];
           cut = opening_cut b.tape cut.steps (quiet cut.steps ∷ []) nothing [] (append-nil cut.steps) cut.broke;
-          front = some_text (words.Append name date) refl;
+          front = nothing_front (words.Append name date);
           silent = λ still unlike. refl;
           reads = λ same. absurd (cc);
           source_tells = refl;
@@ -585,10 +585,8 @@ module _ {T S K : Type 0} (t : tapes.Meaning T) (s : sources.Meaning S) (k : sin
           },
         )
       where
-        unsaid : {text : List ℕ} → text ≡ [] → (rest : List ℕ) × CommandPrints (words.Append name date) (text ++ rest)
-        unsaid none =
-            let some = some_text (words.Append name date) refl in
-            (some.0, subst (λ (front : List ℕ). CommandPrints (words.Append name date) (front ++ some.0)) (sym none) some.1)
+        unsaid : {text : List ℕ} → text ≡ [] → FrontPrints (words.Append name date) text
+        unsaid none = subst (FrontPrints (words.Append name date)) (sym none) (nothing_front (words.Append name date))
 
     pub append_source : (c : T) (j : S) → ((z : K) → k.took z [] z) → is_protected b.drive.deck ≡ false → AppendCut t s (reading b.tape i) (reading c j) store name date None SourceFails →
         Ends t s k (words.Append name date) (outside a i x) (outside c j x) status.SourceFault
@@ -626,10 +624,8 @@ module _ {T S K : Type 0} (t : tapes.Meaning T) (s : sources.Meaning S) (k : sin
           },
         )
       where
-        unsaid : {text : List ℕ} → text ≡ [] → (rest : List ℕ) × CommandPrints (words.Append name date) (text ++ rest)
-        unsaid none =
-            let some = some_text (words.Append name date) refl in
-            (some.0, subst (λ (front : List ℕ). CommandPrints (words.Append name date) (front ++ some.0)) (sym none) some.1)
+        unsaid : {text : List ℕ} → text ≡ [] → FrontPrints (words.Append name date) text
+        unsaid none = subst (FrontPrints (words.Append name date)) (sym none) (nothing_front (words.Append name date))
 
     -- ---- the table refused, which a told cartridge never is
 

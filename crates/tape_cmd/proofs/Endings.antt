@@ -1,5 +1,5 @@
 -- The ways in which a command ends that reads no input: refused, cut off, or with one text printed once all is done.
-use Rattle.std.proofs.Common.{◌≡◌, ◌≢◌, ℕ, Bool, true, false, List, [], ◌∷◌, ◌++◌, Option, Some, None, IfSome, Result, Ok, Err, refl, sym, ap, ◌∙◌, subst, inl, inr, arith, append-nil}
+use Rattle.std.proofs.Common.{◌≡◌, ◌≢◌, ℕ, Bool, true, false, List, [], ◌∷◌, ◌++◌, Option, Some, None, IfSome, Result, Ok, Err, refl, sym, ap, ◌∙◌, subst, inl, inr, arith, append_assoc, append-nil}
 use Rattle.std.specs.Option.{option_map}
 use Rattle.qic_base.specs.Cartridge.{Cartridge, IsPlace, view_at}
 use Rattle.qic_base.specs.declared.tape.TapeInfo.{TapeInfo}
@@ -21,7 +21,8 @@ use Rattle.tape_cmd.specs.Traits.{traits_of}
 use Rattle.tape_cmd.specs.Defect.{DefectOutcome}
 use Rattle.tape_cmd.specs.Lose.{LoseOutcome}
 use Rattle.tape_cmd.specs.Protect.{ProtectOutcome}
-use Rattle.tape_cmd.specs.Machine.{Yields, CommandPrints, RefusedPrints}
+use Rattle.tape_cmd.specs.Machine.{Yields, CommandPrints, FrontPrints, RefusedPrints}
+use Rattle.volume_script.specs.Lines.{end_line}
 use Rattle.tape_cmd.specs.Pulses.{AreLevels}
 use Rattle.tape_cmd.specs.Writing.{printed_status}
 use Rattle.acts.specs.Around.{no_source, around}
@@ -31,7 +32,6 @@ use Rattle.tape_cmd.proofs.PlainLaws.{plain_is_function}
 -- ---- commands that read no input
 
 pub record IsBlind (command : Words) : Type 0 where
-  pub built : (traits_of command).built ≡ true
   pub reads : (traits_of command).reads ≡ false
 
 -- what such a command does over what the drive holds, whatever the input
@@ -43,6 +43,7 @@ pub any_input : (command : Words) (held : Option Cartridge) (input : List ℕ) (
     Yields command held input outcome → Rules command held outcome
 any_input words.Pulses held input outcome blind plain other = absurd (cc)
 any_input (words.Append name date) held input outcome blind plain other = absurd (cc)
+any_input words.Script held input outcome blind plain other = absurd (cc)
 any_input (words.New segments) held input outcome blind plain other = plain
 any_input (words.Defect segment sector) held input outcome blind plain other = plain
 any_input (words.Lose segment sector) held input outcome blind plain other = plain
@@ -52,20 +53,20 @@ any_input words.Info held input outcome blind plain other = plain
 any_input words.List held input outcome blind plain other = plain
 any_input (words.Restore number) held input outcome blind plain other = plain
 any_input words.Scrub held input outcome blind plain other = plain
-any_input command held input outcome blind plain other = absurd plain
+any_input (words.Make seed count) held input outcome blind plain other = plain
 
--- each command that is built prints something
-pub some_text : (command : Words) → (traits_of command).built ≡ true → (text : List ℕ) × CommandPrints command text
-some_text (words.New segments) built = (_, refl)
-some_text (words.Defect segment sector) built = (_, refl)
-some_text (words.Lose segment sector) built = (_, refl)
-some_text (words.Protect on) built = (_, refl)
-some_text (words.Format label date) built = (_, (0, (0, refl)))
-some_text words.Info built = (_, (record { format_date = 0; write_date = 0; segments_per_track = 0; label = []; label_date = 0 }, ([], (0, refl))))
-some_text words.List built = (_, ([], ([], refl)))
-some_text (words.Append name date) built = (_, (0, (0, (0, (0, refl)))))
-some_text (words.Restore number) built = ([], tt)
-some_text words.Scrub built = (
+-- nothing is a front of what each command prints, ..
+pub nothing_front : (command : Words) → FrontPrints command []
+nothing_front (words.New segments) = (_, refl)
+nothing_front (words.Defect segment sector) = (_, refl)
+nothing_front (words.Lose segment sector) = (_, refl)
+nothing_front (words.Protect on) = (_, refl)
+nothing_front (words.Format label date) = (_, (0, (0, refl)))
+nothing_front words.Info = (_, (record { format_date = 0; write_date = 0; segments_per_track = 0; label = []; label_date = 0 }, ([], (0, refl))))
+nothing_front words.List = (_, ([], ([], refl)))
+nothing_front (words.Append name date) = (_, (0, (0, (0, (0, refl)))))
+nothing_front (words.Restore number) = ([], tt)
+nothing_front words.Scrub = (
   _,
   (
     [],
@@ -84,23 +85,40 @@ some_text words.Scrub built = (
     ),
   ),
 )
-some_text words.Pulses built = (_, (None, ([], refl)))
-some_text command built = absurd (cc)
+nothing_front words.Pulses = (_, (None, ([], refl)))
+nothing_front words.Script = (end_line, ([], refl))
+nothing_front (words.Make seed count) = tt
+
+-- .. so is all of it, ..
+pub text_front : (command : Words) (text : List ℕ) → CommandPrints command text → FrontPrints command text
+text_front (words.Make seed count) text prints = tt
+text_front command text prints = ([], subst (CommandPrints command) (sym (append-nil text)) prints)
+
+-- .. and a front of a front
+pub shorter_front : (command : Words) (front rest text : List ℕ) → front ++ rest ≡ text → FrontPrints command text → FrontPrints command front
+shorter_front (words.Make seed count) front rest text parts prints = tt
+shorter_front command front rest text parts prints = (
+  rest ++ prints.0,
+  subst (CommandPrints command) (ap (λ (whole : List ℕ). whole ++ prints.0) (sym parts) ∙ append_assoc front rest prints.0) prints.1,
+)
 
 -- one that was refused may have printed nothing, ..
 pub none_printed : (command : Words) (answer : Status) → RefusedPrints command answer []
 none_printed (words.Restore number) (status.Lost segment lost) = tt
 none_printed (words.Restore number) (status.Mismatch segment) = tt
 none_printed words.Pulses answer = (None, ([], refl))
+none_printed words.Script (status.ScriptFault line place) = tt
+none_printed words.Script status.TableMismatch = tt
+none_printed (words.Make seed count) answer = inl refl
 none_printed command answer = refl
 
 -- .. and what it printed is a front of a text
-pub refused_front : (command : Words) (answer : Status) (text : List ℕ) → (traits_of command).built ≡ true → RefusedPrints command answer text → (rest : List ℕ) × CommandPrints command (text ++ rest)
-refused_front (words.Restore number) answer text built prints = ([], tt)
-refused_front words.Pulses answer text built prints = ([], subst AreLevels (sym (append-nil text)) prints)
-refused_front command answer text built prints =
-    let some = some_text command built in
-    (some.0, subst (λ (front : List ℕ). CommandPrints command (front ++ some.0)) (sym prints) some.1)
+pub refused_front : (command : Words) (answer : Status) (text : List ℕ) → RefusedPrints command answer text → FrontPrints command text
+refused_front (words.Restore number) answer text prints = ([], tt)
+refused_front words.Pulses answer text prints = ([], subst AreLevels (sym (append-nil text)) prints)
+refused_front words.Script answer text prints = (end_line, (text, refl))
+refused_front (words.Make seed count) answer text prints = tt
+refused_front command answer text prints = subst (FrontPrints command) (sym prints) (nothing_front command)
 
 -- the first act of an outcome
 abbrev first_of : List Act → Act
@@ -221,7 +239,7 @@ module _ {T K : Type 0} (t : tapes.Meaning T) (k : sinks.Meaning K) where
           told = by_told (t.told a) told off;
           acts = act ∷ [];
           cut = cut;
-          front = ([], subst (CommandPrints command) (sym (append-nil (act.text ++ []) ∙ append-nil act.text)) prints);
+          front = text_front command (act.text ++ []) (subst (CommandPrints command) (sym (append-nil act.text)) prints);
           silent = λ still other. absurd (other refl);
           reads = λ same. absurd (cc);
           source_tells = refl;
@@ -276,7 +294,7 @@ module _ {T K : Type 0} (t : tapes.Meaning T) (k : sinks.Meaning K) where
           told = by_told (t.told a) front;
           acts = record { steps = steps; text = [] } ∷ [];
           cut = tape_cut_first a b x (record { steps = steps; text = [] } ∷ []) nothing broke;
-          front = some_text command blind.built;
+          front = nothing_front command;
           silent = λ still other. refl;
           reads = λ same. absurd (cc);
           source_tells = refl;

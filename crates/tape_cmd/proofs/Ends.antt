@@ -9,7 +9,7 @@ use Rattle.qic_base.specs.Step.{Step as TapeStep, effects}
 use Rattle.qic_base.specs.Stop.{Torn}
 use Rattle.qic_base.specs.Tape as tapes
 use Rattle.qic_base.proofs.Steps.{Torn-all, Stops-left}
-use Rattle.acts.specs.Acts.{Act, steps_of, Outside, Failing, TapeFails, SourceFails, SinkFails, Cut, FailingRose}
+use Rattle.acts.specs.Acts.{Act, steps_of, text_of, Outside, Failing, TapeFails, SourceFails, SinkFails, Cut, FailingRose}
 use Rattle.acts.proofs.Outcomes.{cut_is_torn, cut_stops, cut_took_front, cut_fell_none, cut_rose}
 use Rattle.tape_script.specs.declared.words.Words.{Words}
 use Rattle.tape_cmd.specs.declared.status.Status.{Status}
@@ -19,7 +19,7 @@ use Rattle.tape_cmd.specs.Traits.{traits_of}
 use Rattle.tape_cmd.specs.Machine.{HasValues, Yields, CommandPrints, Spells}
 use Rattle.tape_cmd.specs.Runs.{InputLeft, is_fault, fault_of, is_outcome, may_come_from, Finished, Ends}
 use Rattle.tape_cmd.specs.Headline.{Stepped, Answers, NoneRose, WasCut, IsCut, EachLeft, WordsLeave, StopsGoOn, Joins, PrintsFront}
-use Rattle.tape_cmd.proofs.Endings.{refused_front}
+use Rattle.tape_cmd.proofs.Endings.{refused_front, shorter_front, text_front}
 use Rattle.tape_cmd.proofs.Totals.{plain_answers}
 
 -- ---- answers
@@ -189,7 +189,7 @@ module _ {T S K : Type 0} (t : tapes.Meaning T) (s : sources.Meaning S) (k : sin
   has_outcome : Laws t s k old new → Spells words command → HasValues command → (held : Option Cartridge) (input : List ℕ) → t.told old.tape ≡ Some held →
       (outcome : Outcome) × Yields command held input outcome
   has_outcome laws spelled values held input told =
-      plain_answers command held input values spelled.built (told_whole held (t.told old.tape) (t.size old.tape) laws.right told)
+      plain_answers command held input values (told_whole held (t.told old.tape) (t.size old.tape) laws.right told)
 
   pub ends_cut : Laws t s k old new → Spells words command → HasValues command → Ends t s k command old new answer → (failing : Failing) → answer ≡ fault_of failing →
       IsCut t s k words old new failing
@@ -289,23 +289,18 @@ module _ {T S K : Type 0} (t : tapes.Meaning T) (s : sources.Meaning S) (k : sin
       by_answer : (answer ≡ status.Done) ⊎ (answer ≢ status.Done) → PrintsFront k command old.sink new.sink
       by_answer (inl is) = record {
         text = output_of finished.outcome;
-        rest = [];
-        is_front = subst (CommandPrints command) (sym (append-nil (output_of finished.outcome))) (finished.prints.0 is);
+        is_front = text_front command (output_of finished.outcome) (finished.prints.0 is);
         took = finished.went.wrote.took;
       }
-      by_answer (inr other) =
-          let front = refused_front command answer (output_of finished.outcome) spelled.built (finished.prints.1 other) in record {
-            text = output_of finished.outcome;
-            rest = front.0;
-            is_front = front.1;
-            took = finished.went.wrote.took;
-          }
+      by_answer (inr other) = record {
+        text = output_of finished.outcome;
+        is_front = refused_front command answer (output_of finished.outcome) (finished.prints.1 other);
+        took = finished.went.wrote.took;
+      }
   ends_begun laws spelled (inr (failing, is, stopped)) =
       let took = cut_took_front t s k old new stopped.acts failing stopped.cut in record {
         text = took.front;
-        rest = took.rest ++ stopped.front.0;
-        is_front = subst (CommandPrints command)
-            (ap (λ (text : List ℕ). text ++ stopped.front.0) (sym took.parts) ∙ append_assoc took.front took.rest stopped.front.0) stopped.front.1;
+        is_front = shorter_front command took.front took.rest (text_of stopped.acts) took.parts stopped.front;
         took = took.took;
       }
 

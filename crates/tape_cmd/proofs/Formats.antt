@@ -134,7 +134,7 @@ formatting_begins label date info words area (Some c) outcome mark fresh known m
 -- ---- how it ends
 
 is_blind : {label : List ℕ} {date : ℕ} → IsBlind (Format label date)
-is_blind = record { built = refl; reads = refl }
+is_blind = record { reads = refl }
 
 no_cartridge : (label : List ℕ) (date : ℕ) (o : Option (Option Cartridge)) → IfSome o (λ held. held ≡ None) →
     IfSome o (λ held. Rules (Format label date) held (refused status.NoCartridge))

@@ -234,7 +234,7 @@ module _ {T S K : Type 0} (t : tapes.Meaning T) (s : sources.Meaning S) (k : sin
       by_step : (input : List ℕ) → (stepped : Stepped t s k words (Some c) input old new answer) → Step words (Some c) input stepped.held' stepped.output stepped.taken answer → WasStepped
       by_step input stepped (inl none) = absurd (none.0 (commands.Restore number) spells)
       by_step input stepped (inr (command, spelled, (outcome, yields, left, output, taken, answered))) =
-          let same : command ≡ commands.Restore number = one_command words command (commands.Restore number) spelled.spelled spells.spelled in
+          let same : command ≡ commands.Restore number = one_command words command (commands.Restore number) spelled spells in
           record {
             outcome = outcome;
             plain = subst (λ (w : Words). Yields w (Some c) input outcome) same yields;
@@ -245,7 +245,7 @@ module _ {T S K : Type 0} (t : tapes.Meaning T) (s : sources.Meaning S) (k : sin
   was_cut : (failing : Failing) (plain : Plain) (volume : Volume) → HasNumber c plain number volume → Spells words (commands.Restore number) → t.told old.tape ≡ Some (Some c) → IsCut t s k words old new failing →
       TookFront k old.sink new.sink (volume_bytes plain.words volume)
   was_cut failing plain volume has spells told (command, spelled, over) =
-      let same : command ≡ commands.Restore number = one_command words command (commands.Restore number) spelled.spelled spells.spelled in
+      let same : command ≡ commands.Restore number = one_command words command (commands.Restore number) spelled spells in
       let here = subst (λ (o : Option (Option Cartridge)). IfSome o (λ held. (input : List ℕ) × IfSome (s.left old.source) (λ bytes. input ≡ bytes)
       × WasCut t s k command held input old new failing)) told over in
       let cut : WasCut t s k command (Some c) here.0 old new failing = here.2 in

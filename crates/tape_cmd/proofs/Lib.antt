@@ -6,13 +6,16 @@ pub mod Formats
 pub mod GivenBack
 pub mod Hands
 pub mod MachineLaws
+pub mod Made
 pub mod Mounted
 pub mod OneLoss
 pub mod Opened
 pub mod PlainLaws
 pub mod Promises
 pub mod Restored
+pub mod Scripted
 pub mod Scrubbed
+pub mod Several
 pub mod Survives
 pub mod Totals
 pub mod Trains

@@ -8,7 +8,6 @@ use Rattle.tape_cmd.specs.declared.status.Status.{Status}
 use Rattle.tape_cmd.specs.declared.status.Status.TheVariants as status
 use Rattle.acts.specs.Acts.{steps_of}
 use Rattle.tape_cmd.specs.Outcome.{Outcome, output_of}
-use Rattle.tape_cmd.specs.Traits.{traits_of}
 use Rattle.tape_cmd.specs.Machine.{Yields, SpellsNone, Step}
 use Rattle.tape_cmd.specs.Laws.{IsSameOutcome, MachineIsFunction, MachineAnswers}
 use Rattle.tape_cmd.proofs.PlainLaws.{plain_is_function}
@@ -47,7 +46,7 @@ machine_is_function_where unique words held input held' other output printed tak
 machine_is_function_where unique words held input held' other output printed taken read one two (inr (command, spelled, step)) (inl b) =
     absurd (b.0 command spelled)
 machine_is_function_where unique words held input held' other output printed taken read one two (inr (command, spelled, (outcome, plain, after, shown, took, answered))) (inr (again, spells, (result, rule, then, text, bytes, ended))) =
-    let same = unique words again command spells.spelled spelled.spelled in
+    let same = unique words again command spells spelled in
     same_outcome command held input held' other output printed taken read one two
     (record { outcome = outcome; plain = plain; after = after; printed = shown; took = took; answered = answered })
     (record { outcome = result; plain = subst (λ (w : Words). Yields w held input result) same rule; after = then; printed = text; took = bytes; answered = ended })
@@ -63,22 +62,16 @@ no_step : (words : List (List ℕ)) (held : Option Cartridge) (input : List ℕ)
 unfolding AnyStep
 no_step words held input none = (held, ([], (0, (status.Usage, inl (none, refl, refl, refl, refl)))))
 
-command_step : OneCommand → (words : List (List ℕ)) (held : Option Cartridge) (input : List ℕ) (command : Words) → IsCommand words command → IfSome held IsCartridge →
-    (built : Bool) → (traits_of command).built ≡ built → AnyStep words held input
+command_step : (words : List (List ℕ)) (held : Option Cartridge) (input : List ℕ) (command : Words) → IsCommand words command → IfSome held IsCartridge → AnyStep words held input
 unfolding AnyStep
-command_step unique words held input command spelled whole true is =
-    let some = plain_answers command held input (has_values words command spelled) is whole in
-    (effects (steps_of some.0.acts) held, (output_of some.0, (some.0.taken, (some.0.status, inr (command, record { spelled = spelled; built = is }, (some.0, some.1, refl, refl, refl, refl))))))
-command_step unique words held input command spelled whole false is =
-    no_step words held input (λ other spells.
-    let same : other ≡ command = unique words other command spells.spelled spelled in
-    let built : (traits_of command).built ≡ true = ap (λ (w : Words). (traits_of w).built) (sym same) ∙ spells.built in
-    cc)
+command_step words held input command spelled whole =
+    let some = plain_answers command held input (has_values words command spelled) whole in
+    (effects (steps_of some.0.acts) held, (output_of some.0, (some.0.taken, (some.0.status, inr (command, spelled, (some.0, some.1, refl, refl, refl, refl))))))
 
 pub machine_answers_where : OneCommand → EachWords → MachineAnswers
 unfolding AnyStep
 machine_answers_where unique each words held input whole = by_words (each words)
   where
     by_words : ((command : Words) × IsCommand words command) ⊎ IsNoCommand words → AnyStep words held input
-    by_words (inl (command, spelled)) = command_step unique words held input command spelled whole ((traits_of command).built) refl
-    by_words (inr none) = no_step words held input (λ command spells. none command spells.spelled)
+    by_words (inl (command, spelled)) = command_step words held input command spelled whole
+    by_words (inr none) = no_step words held input none

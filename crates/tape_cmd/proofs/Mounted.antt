@@ -256,7 +256,7 @@ shows_first prints c header ws table entries outcome is = ap (λ (o : Outcome). 
 
 list_follows : Follows words.List (Shows listing)
 list_follows = record {
-  blind = record { built = refl; reads = refl };
+  blind = record { reads = refl };
   rules = λ held outcome plain input. plain;
   plain = λ held outcome rules. rules [];
   first = shows_first listing;
@@ -265,7 +265,7 @@ list_follows = record {
 
 info_follows : Follows words.Info (Shows telling)
 info_follows = record {
-  blind = record { built = refl; reads = refl };
+  blind = record { reads = refl };
   rules = λ held outcome plain input. plain;
   plain = λ held outcome rules. rules [];
   first = shows_first telling;

@@ -36,7 +36,11 @@ use Rattle.tape_cmd.specs.Lose.{LoseOutcome}
 use Rattle.tape_cmd.specs.Protect.{ProtectOutcome}
 use Rattle.tape_cmd.specs.Format.{FormatOutcome, cleared, formatted}
 use Rattle.tape_cmd.specs.Opening.{Going, Opened, OpenOutcome, WritableOutcome, Printing, Shows, settling_act}
-use Rattle.tape_cmd.specs.Append.{Appends, AppendOutcome}
+use Rattle.tape_cmd.specs.Append.{Appends}
+use Rattle.tape_cmd.specs.Make.{Making, made_on}
+use Rattle.tape_cmd.specs.Script.{Scripting, scripted_on}
+use Rattle.made_volumes.proofs.Stops.{makes_one_thing}
+use Rattle.volume_script.proofs.MachineLaws.{one_outcome as one_script}
 use Rattle.tape_cmd.specs.Restore.{Gives, RestoreOutcome, ending_status}
 use Rattle.tape_cmd.specs.Scrub.{Mends, ScrubOutcome}
 use Rattle.tape_cmd.specs.declared.status.Status.{Status}
@@ -74,7 +78,7 @@ FormatLeaves label date (Some c) left =
     × ((words : List ℕ) × ((area : List (List ℕ)) × IsFreshWith c label date words area
     × Torn (format_steps c.info.segments_per_track area) (Some c) left)))
 
--- a protected cartridge is left as it was by an append
+-- a protected cartridge is left as it was by a command that writes on it
 abbrev pub AppendingLeaves : (held left : Option Cartridge) → Type 0
 AppendingLeaves None left = left ≡ None
 AppendingLeaves (Some c) left = c.info.protected ≡ true → left ≡ Some c
@@ -103,7 +107,8 @@ CommandLeaves words.Pulses held left = (left ≡ held) ⊎ (left ≡ effect SetR
 CommandLeaves (words.Append name date) held left = AppendingLeaves held left
 CommandLeaves (words.Restore number) held left = OpeningLeaves held left
 CommandLeaves words.Scrub held left = ScrubbingLeaves held left
-CommandLeaves command held left = ⊥
+CommandLeaves words.Script held left = Unit {0}
+CommandLeaves (words.Make seed count) held left = AppendingLeaves held left
 
 -- ---- the machine is a function
 
@@ -217,11 +222,10 @@ scrubbing_leaves (Some c) left outcome (inr (free, (mounting.Mounted header word
       ),
     )
 
-appending_leaves : (name : List ℕ) (date : ℕ) (held left : Option Cartridge) (input : List ℕ) (outcome : Outcome) → AppendOutcome name date held input outcome →
-    Torn (steps_of outcome.acts) held left → AppendingLeaves held left
-appending_leaves name date None left input outcome plain torn = stays None left outcome _ plain refl torn
-appending_leaves name date (Some c) left input outcome (inl (locked, is)) torn = λ mark. stays (Some c) left outcome _ is refl torn
-appending_leaves name date (Some c) left input outcome (inr (free, opened)) torn = λ mark. absurd (cc)
+appending_leaves : (goes : Going) (held left : Option Cartridge) (outcome : Outcome) → WritableOutcome goes held outcome → Torn (steps_of outcome.acts) held left → AppendingLeaves held left
+appending_leaves goes None left outcome plain torn = stays None left outcome _ plain refl torn
+appending_leaves goes (Some c) left outcome (inl (locked, is)) torn = λ mark. stays (Some c) left outcome _ is refl torn
+appending_leaves goes (Some c) left outcome (inr (free, opened)) torn = λ mark. absurd (cc)
 
 sent_leaves : (held left : Option Cartridge) (input : List ℕ) (outcome : Outcome) → SentOutcome held input outcome → Torn (steps_of outcome.acts) held left → (left ≡ held) ⊎ (left ≡ effect SetReferenced held)
 sent_leaves held left input outcome (came, plain, is) torn =
@@ -263,10 +267,11 @@ plain_leaves words.List held left input outcome plain torn = opening_leaves list
 plain_leaves (words.Format label date) held left input outcome plain torn = format_leaves label date held left outcome plain torn
 plain_leaves words.Info held left input outcome plain torn = opening_leaves telling held left outcome plain torn
 plain_leaves words.Pulses held left input outcome plain torn = sent_leaves held left input outcome plain torn
-plain_leaves (words.Append name date) held left input outcome plain torn = appending_leaves name date held left input outcome plain torn
+plain_leaves (words.Append name date) held left input outcome plain torn = appending_leaves (Appends name date input) held left outcome plain torn
 plain_leaves (words.Restore number) held left input outcome plain torn = restoring_leaves number held left outcome plain torn
 plain_leaves words.Scrub held left input outcome plain torn = scrubbing_leaves held left outcome plain torn
-plain_leaves command held left input outcome plain torn = absurd plain
+plain_leaves words.Script held left input outcome plain torn = tt
+plain_leaves (words.Make seed count) held left input outcome plain torn = appending_leaves (Making seed count) held left outcome plain torn
 
 -- ---- mounting is a function
 
@@ -322,6 +327,15 @@ mends_one c header ws table entries a b is was =
     is.is ∙ ap (λ (xs : List Act). given table c xs status.Done)
     (scrubs_is_function (settled table c) ws entries is.acts was.acts is.scrubs was.scrubs) ∙ sym was.is
 
+scripting_one : (input : List ℕ) → IsOne (Scripting input)
+scripting_one input c header ws table entries a b is was =
+    is.is ∙ ap (scripted_on table c) (one_script (settled table c) ws entries input is.came was.came is.does was.does) ∙ sym was.is
+
+making_one : (seed count : ℕ) → IsOne (Making seed count)
+making_one seed count c header ws table entries a b is was =
+    let both = makes_one_thing seed count (settled table c) ws entries is.acts was.acts is.answer was.answer is.makes was.makes in
+    is.is ∙ ap (λ (xs : List Act). made_on table c xs is.answer) both.0 ∙ ap (made_on table c was.acts) both.1 ∙ sym was.is
+
 -- ---- formatting is a function
 
 format_is_function : (label : List ℕ) (date : ℕ) (held : Option Cartridge) (a b : Outcome) → FormatOutcome label date held a → FormatOutcome label date held b → a ≡ b
@@ -361,4 +375,5 @@ plain_is_function (words.Append name date) held input a b one other = writable_i
 plain_is_function (words.Restore number) held input a b one other = open_is_function (Gives number) (gives_one number) held a b one other
 plain_is_function words.Scrub held input a b one other = writable_is_function Mends mends_one held a b one other
 plain_is_function words.Pulses held input a b one other = sent_is_function held input a b one other
-plain_is_function command held input a b one other = absurd one
+plain_is_function words.Script held input a b one other = open_is_function (Scripting input) (scripting_one input) held a b one other
+plain_is_function (words.Make seed count) held input a b one other = writable_is_function (Making seed count) (making_one seed count) held a b one other

@@ -23,9 +23,10 @@ use Rattle.acts.specs.Around.{no_source, around}
 use Rattle.tape_cmd.specs.Headline.{Stepped, Answers, WordsLeave, EachLeft, SpellsOne, PrintsRefused, PrintsFront}
 use Rattle.tape_cmd.specs.Promises.{Promises}
 use Rattle.tape_cmd.proofs.GivenBack.{gives_back}
-use Rattle.tape_cmd.proofs.Endings.{appends_none, any_input, some_text, none_printed}
+use Rattle.tape_cmd.proofs.Endings.{appends_none, any_input, nothing_front, none_printed}
 use Rattle.tape_cmd.proofs.Ends.{Laws, is_a_fault, each_left, stops_go_on, ends_asked, ends_cause, ends_answers, ends_carried, ends_cut, ends_stops, ends_joins, ends_otherwise, ends_named, ends_finished, ends_begun, ends_silent}
 use Rattle.tape_cmd.proofs.MachineLaws.{machine_is_function_where, machine_answers_where}
+use Rattle.tape_cmd.proofs.Several.{makes_volumes, carries_out_lines, none_made, none_scripted}
 use Rattle.tape_cmd.proofs.Survives.{survives_one_loss, none_survives}
 use Rattle.tape_cmd.proofs.Volumes.{volumes_stay, list_stays, stops_format, stops_append, is_changed, may_change, none_changed}
 use Rattle.tape_cmd.proofs.Values.{has_values}
@@ -144,16 +145,7 @@ module _ {T S K : Type 0} (t : tapes.Meaning T) (s : sources.Meaning S) (k : sin
     },
   )
 
--- ---- words
-
--- those of a command that isn't built are those of none that is
-pub unbuilt_none : (words : List (List ℕ)) (command : Words) → IsCommand words command → (traits_of command).built ≡ false → SpellsNone words
-unbuilt_none words command spelled unbuilt other spells =
-    let same : other ≡ command = one_command words other command spells.spelled spelled in
-    let built : (traits_of command).built ≡ true = ap (λ (w : Words). (traits_of w).built) (sym same) ∙ spells.built in
-    cc
-
--- ---- a run whose words are those of a command that is built
+-- ---- a run whose words are those of a command
 
 named_at : (command : Words) (answer : Status) (left : Option (List ℕ)) (line place : ℕ) → answer ≡ status.ScriptFault line place →
     IfSome left (λ input. NamesFault command input answer) → IfSome left (λ input. HasInputFault command input line place)
@@ -168,7 +160,7 @@ none_at command answer (Some input) is fault = fault.none is
 module _ {T S K : Type 0} (t : tapes.Meaning T) (s : sources.Meaning S) (k : sinks.Meaning K) (words : List (List ℕ)) (command : Words) (old new : Outside T S K) (answer : Status) where
   -- the words are those of no other command
   same_command : Spells words command → (other : Words) → Spells words other → command ≡ other
-  same_command spelled other spells = one_command words command other spelled.spelled spells.spelled
+  same_command spelled other spells = one_command words command other spelled spells
 
   pub promises : Laws t s k old new → Spells words command → HasValues command → ((traits_of command).reads ≡ false → new.source ≡ old.source) → s.keeps old.source new.source →
       Ends t s k command old new answer → Promises t s k words old new answer
@@ -185,9 +177,11 @@ module _ {T S K : Type 0} (t : tapes.Meaning T) (s : sources.Meaning S) (k : sin
         volumes = volumes_stay t (s.left old.source) words old.tape new.tape laws.right stops;
         lists = list_stays t (s.left old.source) words old.tape new.tape laws.right stops;
         formats = stops_format t (s.left old.source) words old.tape new.tape laws.right stops;
-        appends = stops_append t (s.left old.source) words old.tape new.tape laws.right (λ other spells. has_values words other spells.spelled) stops;
+        appends = stops_append t (s.left old.source) words old.tape new.tape laws.right (λ other spells. has_values words other spells) stops;
         changed = is_changed t s k words command old new answer laws spelled values ends;
-        survives = survives_one_loss t s k words command old new answer laws spelled values (λ other spells. has_values words other spells.spelled) ends stops;
+        survives = survives_one_loss t s k words command old new answer laws spelled values (λ other spells. has_values words other spells) ends stops;
+        makes = makes_volumes t s k words command old new answer laws spelled (λ other spells. has_values words other spells) ends stops;
+        scripts = carries_out_lines t s k words command old new answer laws spelled ends stops;
         restores =
             gives_back t s k words old new answer (ends_carried t s k words command old new answer laws spelled ends)
             (ends_cut t s k words command old new answer laws spelled values ends);
@@ -259,9 +253,12 @@ module _ {T S K : Type 0} (t : tapes.Meaning T) (s : sources.Meaning S) (k : sin
         volumes = volumes_stay t (s.left old.source) words old.tape old.tape laws.right stops;
         lists = list_stays t (s.left old.source) words old.tape old.tape laws.right stops;
         formats = stops_format t (s.left old.source) words old.tape old.tape laws.right stops;
-        appends = stops_append t (s.left old.source) words old.tape old.tape laws.right (λ other spells. has_values words other spells.spelled) stops;
+        appends = stops_append t (s.left old.source) words old.tape old.tape laws.right (λ other spells. has_values words other spells) stops;
         changed = none_changed t (s.left old.source) words old.tape answer laws.before nothing.0 nothing.1;
-        survives = none_survives t (s.left old.source) words old.tape answer laws.right nothing.0 nothing.1 (λ other spells. has_values words other spells.spelled) stops;
+        survives = none_survives t (s.left old.source) words old.tape answer laws.right nothing.0 nothing.1 (λ other spells. has_values words other spells) stops;
+        makes = none_made t k (s.left old.source) words old.tape old.sink answer laws.right laws.before (laws.nothing old.sink)
+            (λ done. let no = nothing.1 in let may : may_change answer ≡ true = ap may_change done in cc) (λ other spells. has_values words other spells) stops;
+        scripts = none_scripted t k (s.left old.source) words old.tape old.sink laws.right laws.before (laws.nothing old.sink) stops;
         restores = gives_back t s k words old old answer (λ sound. answers) (λ failing same. let fault = ap is_fault same ∙ is_a_fault failing in let no = nothing.0 in absurd (cc));
         joins = record {
           counts = record { tape = omega arith; source = omega arith; sink = omega arith };
@@ -309,4 +306,4 @@ module _ {T S K : Type 0} (t : tapes.Meaning T) (s : sources.Meaning S) (k : sin
       idle status.NoMemory laws refl kept
       (over_any (t.told old.tape) (s.left old.source) _ (λ held input told. inl refl))
       ((λ is. absurd (cc)), (λ none. absurd (none command spelled))) (λ is. (command, spelled, takes))
-      (λ other spells. let some = some_text other spells.built in record { text = []; rest = some.0; is_front = some.1; took = laws.nothing old.sink })
+      (λ other spells. record { text = []; is_front = nothing_front other; took = laws.nothing old.sink })

@@ -64,7 +64,7 @@ found_by_restore number why sound = cc
 
 restore_follows : (number : ℕ) → Follows (words.Restore number) (Gives number)
 restore_follows number = record {
-  blind = record { built = refl; reads = refl };
+  blind = record { reads = refl };
   rules = λ held outcome plain input. plain;
   plain = λ held outcome rules. rules [];
   first = gives_first number;

@@ -45,7 +45,7 @@ found_by_scrub status.TableMismatch sound = refl
 found_by_scrub why sound = cc
 
 scrub_blind : IsBlind words.Scrub
-scrub_blind = record { built = refl; reads = refl }
+scrub_blind = record { reads = refl }
 
 pub scrub_refused : {T K : Type 0} (t : tapes.Meaning T) (k : sinks.Meaning K) (a : T) (b : UnitView T) (x : K) (why : Status) → ((z : K) → k.took z [] z) →
     WritableEnds t a b (Err why) → EndsBlind t k words.Scrub a b.tape x x why

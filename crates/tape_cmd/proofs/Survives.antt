@@ -32,7 +32,7 @@ stopped_comes_back told words held left values whole (inl same) name date c plai
     inl (nothing_torn c (settling_steps plain.table_area c) left (same ∙ is))
 stopped_comes_back told words held left values whole (inr (command, spelled, leaves)) name date c plain spells is bytes stood live =
     let other : Words = commands.Append name date in
-    let same : command ≡ other = one_command words command other spelled.spelled spells.spelled in
+    let same : command ≡ other = one_command words command other spelled spells in
     let known : HasValues other = values other spells in
     let l : StopLeaves told other (Some c) left =
     subst (λ (w : Words). StopLeaves told w (Some c) left) same (subst (λ (h : Option Cartridge). StopLeaves told command h left) is leaves) in
@@ -54,7 +54,7 @@ survives_one_loss t s k words command old new answer laws spelled values all end
   stopped = all_come_back t (s.left old.source) words old.tape new.tape laws.right all leaves;
   done = λ name date c plain which spells told bytes stood live.
       let other : Words = commands.Append name date in
-      let same : command ≡ other = one_command words command other spelled.spelled spells.spelled in
+      let same : command ≡ other = one_command words command other spelled spells in
       let whole : IsCartridge c = told_whole (Some c) (t.told old.tape) (t.size old.tape) laws.right told in
       let known : HasValues other = subst HasValues same values in
       let d : Did t (s.left old.source) other old.tape new.tape (Some c) status.Done =

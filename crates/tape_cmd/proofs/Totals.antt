@@ -1,5 +1,5 @@
--- Each command that is built has an outcome over what a drive can hold.
-use Rattle.std.proofs.Common.{◌≡◌, ◌⊎◌, ℕ, ◌<◌, ◌*◌, ◌^◌, Bool, true, false, List, Option, Some, None, IfSome, refl, inl, inr, nat_lt, ltb-true, ltb-false, arith}
+-- Each command has an outcome over what a drive can hold.
+use Rattle.std.proofs.Common.{◌≡◌, ◌⊎◌, ℕ, ◌<◌, ◌≤◌, ◌*◌, ◌^◌, Bool, true, false, List, Option, Some, None, IfSome, refl, inl, inr, nat_lt, ltb-true, ltb-false, arith}
 use Rattle.qic_base.specs.Cartridge.{Cartridge, IsCartridge, view_at}
 use Rattle.qic_base.specs.Tape.{spoil_answer}
 use Rattle.tape_script.specs.declared.words.Words.{Words}
@@ -11,6 +11,9 @@ use Rattle.format_plan.specs.Fresh.{IsLabel}
 use Rattle.fresh_header.proofs.Front.{first_defect_or_none}
 use Rattle.fresh_header.proofs.Fresh.{fresh_area_exists}
 use Rattle.tape_pulses.proofs.MachineLaws.{each_outcome}
+use Rattle.store_laws.proofs.Listed.{mounted_listed}
+use Rattle.volume_script.proofs.Totals.{each_outcome as each_outcome_of_script}
+use Rattle.made_volumes.proofs.Totals.{makes_always}
 use Rattle.tape_cmd.specs.Outcome.{Outcome}
 use Rattle.tape_cmd.specs.Place.{HasPlace}
 use Rattle.tape_cmd.specs.Defect.{DefectOutcome}
@@ -23,7 +26,6 @@ use Rattle.tape_cmd.specs.Restore.{Gives}
 use Rattle.volume_store.specs.Restoring.{volume_at}
 use Rattle.tape_cmd.specs.Scrub.{Mends}
 use Rattle.cartridge_spec.specs.Header.{Header}
-use Rattle.cartridge_spec.specs.HeaderAndTable.{TableIs}
 use Rattle.cartridge_spec.specs.Mounting.{Mounting, Mounts, settled}
 use Rattle.cartridge_spec.specs.Mounting as mounting
 use Rattle.cartridge_spec.specs.Table.{Entry}
@@ -34,7 +36,8 @@ use Rattle.scrub_plan.proofs.Turns.{scrubs_always}
 use Rattle.tape_cmd.specs.Info.{telling}
 use Rattle.tape_cmd.specs.List.{listing}
 use Rattle.tape_cmd.specs.Pulses.{sent, info_of, SentOutcome}
-use Rattle.tape_cmd.specs.Traits.{traits_of}
+use Rattle.tape_cmd.specs.Make.{Making}
+use Rattle.tape_cmd.specs.Script.{Scripting}
 use Rattle.tape_cmd.specs.Machine.{HasValues, Yields}
 
 -- a cartridge has a sector, or not
@@ -76,7 +79,7 @@ protect_answers on (Some c) = (_, refl)
 -- each cartridge that is mounted has one
 abbrev Answers : Going → Type 0
 Answers goes =
-    (c : Cartridge) (header : Header) (ws : List ℕ) (table : List (List ℕ)) (entries : List Entry) → IsCartridge c → TableIs c table →
+    (c : Cartridge) (header : Header) (ws : List ℕ) (table : List (List ℕ)) (entries : List Entry) → IsCartridge c → Mounts c (mounting.Mounted header ws table entries) →
     (outcome : Outcome) × goes c header ws table entries outcome
 
 opened_answers : (goes : Going) → Answers goes → (c : Cartridge) (m : Mounting) → IsCartridge c → Mounts c m → (outcome : Outcome) × Opened goes c m outcome
@@ -84,7 +87,7 @@ opened_answers goes each c mounting.NotFormatted whole mounts = (_, refl)
 opened_answers goes each c (mounting.Foreign fault) whole mounts = (_, refl)
 opened_answers goes each c (mounting.TableLost lost) whole mounts = (_, refl)
 opened_answers goes each c mounting.TableMismatch whole mounts = (_, refl)
-opened_answers goes each c (mounting.Mounted header ws table entries) whole mounts = each c header ws table entries whole mounts.reads
+opened_answers goes each c (mounting.Mounted header ws table entries) whole mounts = each c header ws table entries whole mounts
 
 open_answers : (goes : Going) → Answers goes → (held : Option Cartridge) → IfSome held IsCartridge → (outcome : Outcome) × OpenOutcome goes held outcome
 open_answers goes each None whole = (_, refl)
@@ -108,18 +111,28 @@ appends_answers : (name : List ℕ) (date : ℕ) (input : List ℕ) → Answers 
 appends_answers name date input c header ws table entries whole reads = (_, refl)
 
 gives_answers : (number : ℕ) → Answers (Gives number)
-gives_answers number c header ws table entries whole reads = by_volume (volume_at entries number) refl
+gives_answers number c header ws table entries whole mounts = by_volume (volume_at entries number) refl
   where
     by_volume : (found : Option Entry) → volume_at entries number ≡ found → (outcome : Outcome) × Gives number c header ws table entries outcome
     by_volume None is = (_, inl (is, refl))
     by_volume (Some e) is =
-        let some = restores_always (settled table c) ws (pieces ws e) (settled_is_cartridge c table whole reads) in
+        let some = restores_always (settled table c) ws (pieces ws e) (settled_is_cartridge c table whole mounts.reads) in
         (_, inr (record { entry = e; numbered = is; acts = some.0; ending = some.1; restores = some.2; is = refl }))
 
 mends_answers : Answers Mends
-mends_answers c header ws table entries whole reads =
-    let some = scrubs_always (settled table c) ws entries (settled_is_cartridge c table whole reads) in
+mends_answers c header ws table entries whole mounts =
+    let some = scrubs_always (settled table c) ws entries (settled_is_cartridge c table whole mounts.reads) in
     (_, record { acts = some.0; scrubs = some.1; is = refl })
+
+scripting_answers : (input : List ℕ) → Answers (Scripting input)
+scripting_answers input c header ws table entries whole mounts =
+    let some = each_outcome_of_script (settled table c) ws entries input (mounted_listed c header ws table entries whole mounts) in
+    (_, record { came = some.0; does = some.1; is = refl })
+
+making_answers : (seed count : ℕ) → count ≤ 200 → Answers (Making seed count)
+making_answers seed count few c header ws table entries whole mounts =
+    let some = makes_always seed count (settled table c) ws entries (mounted_listed c header ws table entries whole mounts) few in
+    (_, record { acts = some.0; answer = some.1; makes = some.2; is = refl })
 
 format_answers : (label : List ℕ) (date : ℕ) (held : Option Cartridge) → IsLabel label → date < 2 ^ 32 → IfSome held IsCartridge → (outcome : Outcome) × FormatOutcome label date held outcome
 format_answers label date None is few whole = (_, refl)
@@ -138,16 +151,17 @@ format_answers label date (Some c) is few whole = by_mark c.info.protected refl
 sent_answers : (held : Option Cartridge) (input : List ℕ) → (outcome : Outcome) × SentOutcome held input outcome
 sent_answers held input = let came = each_outcome (info_of held) input in (sent came.0, (came.0, came.1, refl))
 
-pub plain_answers : (command : Words) (held : Option Cartridge) (input : List ℕ) → HasValues command → (traits_of command).built ≡ true → IfSome held IsCartridge → (outcome : Outcome) × Yields command held input outcome
-plain_answers (words.New segments) held input values built whole = (_, refl)
-plain_answers (words.Defect segment sector) held input values built whole = defect_answers segment sector held
-plain_answers (words.Lose segment sector) held input values built whole = lose_answers segment sector held
-plain_answers (words.Protect on) held input values built whole = protect_answers on held
-plain_answers (words.Format label date) held input values built whole = format_answers label date held values.0 values.1 whole
-plain_answers words.Info held input values built whole = open_answers (Shows telling) (shows_answers telling) held whole
-plain_answers words.List held input values built whole = open_answers (Shows listing) (shows_answers listing) held whole
-plain_answers (words.Append name date) held input values built whole = writable_answers (Appends name date input) (appends_answers name date input) held whole
-plain_answers (words.Restore number) held input values built whole = open_answers (Gives number) (gives_answers number) held whole
-plain_answers words.Scrub held input values built whole = writable_answers Mends mends_answers held whole
-plain_answers words.Pulses held input values built whole = sent_answers held input
-plain_answers command held input values built whole = absurd (cc)
+pub plain_answers : (command : Words) (held : Option Cartridge) (input : List ℕ) → HasValues command → IfSome held IsCartridge → (outcome : Outcome) × Yields command held input outcome
+plain_answers (words.New segments) held input values whole = (_, refl)
+plain_answers (words.Defect segment sector) held input values whole = defect_answers segment sector held
+plain_answers (words.Lose segment sector) held input values whole = lose_answers segment sector held
+plain_answers (words.Protect on) held input values whole = protect_answers on held
+plain_answers (words.Format label date) held input values whole = format_answers label date held values.0 values.1 whole
+plain_answers words.Info held input values whole = open_answers (Shows telling) (shows_answers telling) held whole
+plain_answers words.List held input values whole = open_answers (Shows listing) (shows_answers listing) held whole
+plain_answers (words.Append name date) held input values whole = writable_answers (Appends name date input) (appends_answers name date input) held whole
+plain_answers (words.Restore number) held input values whole = open_answers (Gives number) (gives_answers number) held whole
+plain_answers words.Scrub held input values whole = writable_answers Mends mends_answers held whole
+plain_answers words.Pulses held input values whole = sent_answers held input
+plain_answers words.Script held input values whole = open_answers (Scripting input) (scripting_answers input) held whole
+plain_answers (words.Make seed count) held input values whole = writable_answers (Making seed count) (making_answers seed count values) held whole

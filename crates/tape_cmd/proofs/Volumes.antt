@@ -129,7 +129,8 @@ command_stands commands.Pulses c plain left stood keeps leaves = pulses_stand c 
 command_stands (commands.Append name date) c plain left stood keeps leaves = same_stands c plain left stood (leaves keeps)
 command_stands (commands.Restore number) c plain left stood keeps leaves = open_stands c plain left stood leaves
 command_stands commands.Scrub c plain left stood keeps leaves = scrub_stands c plain left stood leaves
-command_stands command c plain left stood keeps leaves = absurd leaves
+command_stands commands.Script c plain left stood keeps leaves = absurd keeps
+command_stands (commands.Make seed count) c plain left stood keeps leaves = same_stands c plain left stood (leaves keeps)
 
 -- what a command leaves, by the command
 by_command_left : (told : Option (List ℕ)) (command : Words) (held left : Option Cartridge) → StopLeaves told command held left → CommandLeaves command held left
@@ -198,7 +199,8 @@ command_mounts command c header words table entries left mounts keeps leaves = b
     by_command (commands.Append name date) locked is = some_and P c left mounts (is locked)
     by_command (commands.Restore number) none is = open_mounts c (Mounted header words table entries) left mounts is
     by_command commands.Scrub none is = scrub_mounts c (Mounted header words table entries) left mounts is
-    by_command w none is = absurd is
+    by_command commands.Script none is = absurd none
+    by_command (commands.Make seed count) locked is = some_and P c left mounts (is locked)
 
 still_mounts : (told : Option (List ℕ)) (words : List (List ℕ)) (held left : Option Cartridge) → WordsLeave told words held left → StillMounts words held left
 still_mounts told words held left (inl same) c header map_words table entries is mounts keep =
@@ -253,7 +255,7 @@ left_by_format : (told : Option (List ℕ)) (words : List (List ℕ)) (held left
     WordsLeave told words held left → (left ≡ Some c) ⊎ FormatLeaves label date (Some c) left
 left_by_format told words held left label date c spells is (inl same) = inl (same ∙ is)
 left_by_format told words held left label date c spells is (inr (command, spelled, leaves)) =
-    let same : command ≡ commands.Format label date = one_command words command (commands.Format label date) spelled.spelled spells.spelled in
+    let same : command ≡ commands.Format label date = one_command words command (commands.Format label date) spelled spells in
     inr (subst (λ (w : Words). CommandLeaves w (Some c) left) same (subst (λ (h : Option Cartridge). CommandLeaves command h left) is (by_command_left told command held left leaves)))
 
 pub whole_of : (held : Option Cartridge) (c : Cartridge) → IfSome held IsCartridge → held ≡ Some c → IsCartridge c
@@ -290,7 +292,7 @@ appended_or_not told words held left values whole (inl same) name date c plain s
     some_and (λ d. Stands d plain ⊎ StandsAppended told name date c plain d) c left (inl stood) (same ∙ is)
 appended_or_not told words held left values whole (inr (command, spelled, leaves)) name date c plain spells is bytes stood live =
     let other : Words = commands.Append name date in
-    let same : command ≡ other = one_command words command other spelled.spelled spells.spelled in
+    let same : command ≡ other = one_command words command other spelled spells in
     let known : HasValues other = values other spells in
     let l : StopLeaves told other (Some c) left =
     subst (λ (w : Words). StopLeaves told w (Some c) left) same (subst (λ (h : Option Cartridge). StopLeaves told command h left) is leaves) in
@@ -355,16 +357,16 @@ module _ {T S K : Type 0} (t : tapes.Meaning T) (s : sources.Meaning S) (k : sin
   not_otherwise SinkFails which is = refl
 
   -- it was carried out, though its output may be cut off
-  pub carried_out_did : (held : Option Cartridge) → IfSome held IsCartridge → (traits_of command).built ≡ true → HasValues command → (traits_of command).goes ≡ false →
+  pub carried_out_did : (held : Option Cartridge) → IfSome held IsCartridge → HasValues command → (traits_of command).goes ≡ false →
       t.told old.tape ≡ Some held →
       IsCarriedOut answer → Ends t s k command old new answer → Did t (s.left old.source) command old.tape new.tape held status.Done
-  carried_out_did held whole built values still told (inl done) (inl finished) = finished_did held status.Done told finished done
-  carried_out_did held whole built values still told (inr fault) (inl finished) =
+  carried_out_did held whole values still told (inl done) (inl finished) = finished_did held status.Done told finished done
+  carried_out_did held whole values still told (inr fault) (inl finished) =
       let no = ap (λ (a : Status). may_come_from a command) fault in let sound = finished.sound in absurd (cc)
-  carried_out_did held whole built values still told which (inr (failing, is, stopped)) =
+  carried_out_did held whole values still told which (inr (failing, is, stopped)) =
       let sink : failing ≡ SinkFails = not_otherwise failing which is in
       let over = over_at (t.told old.tape) _ held stopped.told told in
-      let some = plain_answers command held over.0 values built whole in
+      let some = plain_answers command held over.0 values whole in
       let off : IsCutOff t s k command old new SinkFails some.0 = subst (λ (f : Failing). IsCutOff t s k command old new f some.0) sink (over.2.1 some.0 some.1) in
       let all = off.done refl still in record {
         input = over.0;
@@ -430,7 +432,7 @@ append_unchanged t s k name date old new answer c plain laws values whole stood 
 append_unchanged t s k name date old new answer c plain laws values whole stood told not (inr (SourceFails, is, stopped)) =
     let command : Words = commands.Append name date in
     let over = over_at (t.told old.tape) _ (Some c) stopped.told told in
-    let some = plain_answers command (Some c) over.0 values refl whole in
+    let some = plain_answers command (Some c) over.0 values whole in
     let off : IsCutOff t s k command old new SourceFails some.0 = over.2.1 some.0 some.1 in
     let cut = off.cut in
     now_weaker t old.tape new.tape
@@ -443,19 +445,19 @@ pub is_changed : {T S K : Type 0} (t : tapes.Meaning T) (s : sources.Meaning S) 
 is_changed t s k words command old new answer laws spelled values ends = record {
   renewed = λ segments held which spells told.
       let other : Words = commands.New segments in
-      let same : command ≡ other = one_command words command other spelled.spelled spells.spelled in
+      let same : command ≡ other = one_command words command other spelled spells in
       let d : Did t (s.left old.source) other old.tape new.tape held status.Done =
-      carried_out_did t s k other old new answer held (told_whole held (t.told old.tape) (t.size old.tape) laws.right told) refl
+      carried_out_did t s k other old new answer held (told_whole held (t.told old.tape) (t.size old.tape) laws.right told)
       (subst HasValues same values) refl told which (subst (λ (w : Words). Ends t s k w old new answer) same ends) in
       now_weaker t old.tape new.tape
       (λ left is. is ∙ ap (λ (o : Outcome). effects (steps_of o.acts) held) d.plain ∙ renewed_effect segments held)
       (done_now t old.tape new.tape (steps_of d.outcome.acts) held laws.after d.did told);
   formatted = λ label date c which spells told.
       let other : Words = commands.Format label date in
-      let same : command ≡ other = one_command words command other spelled.spelled spells.spelled in
+      let same : command ≡ other = one_command words command other spelled spells in
       let whole : IsCartridge c = told_whole (Some c) (t.told old.tape) (t.size old.tape) laws.right told in
       let d : Did t (s.left old.source) other old.tape new.tape (Some c) status.Done =
-      carried_out_did t s k other old new answer (Some c) whole refl
+      carried_out_did t s k other old new answer (Some c) whole
       (subst HasValues same values) refl told which (subst (λ (w : Words). Ends t s k w old new answer) same ends) in
       let fresh : IsSomeAnd (effects (steps_of d.outcome.acts) (Some c)) (StandsFresh c label date) =
       formatted_fresh label date c d.outcome whole d.plain d.sound in
@@ -464,7 +466,7 @@ is_changed t s k words command old new answer laws spelled values ends = record 
       (done_now t old.tape new.tape (steps_of d.outcome.acts) (Some c) laws.after d.did told);
   cleared = λ label date segment c front spells told.
       let other : Words = commands.Format label date in
-      let same : command ≡ other = one_command words command other spelled.spelled spells.spelled in
+      let same : command ≡ other = one_command words command other spelled spells in
       let whole : IsCartridge c = told_whole (Some c) (t.told old.tape) (t.size old.tape) laws.right told in
       let finished : Finished t s k other old new answer =
       ends_finished t s k words other old new answer (subst (λ (w : Words). Ends t s k w old new answer) same ends) (ap is_fault front) in
@@ -476,11 +478,11 @@ is_changed t s k words command old new answer laws spelled values ends = record 
       (done_now t old.tape new.tape (steps_of d.outcome.acts) (Some c) laws.after d.did told);
   appended = λ name date c plain which spells told bytes stood.
       let other : Words = commands.Append name date in
-      let same : command ≡ other = one_command words command other spelled.spelled spells.spelled in
+      let same : command ≡ other = one_command words command other spelled spells in
       let whole : IsCartridge c = told_whole (Some c) (t.told old.tape) (t.size old.tape) laws.right told in
       let known : HasValues other = subst HasValues same values in
       let d : Did t (s.left old.source) other old.tape new.tape (Some c) status.Done =
-      carried_out_did t s k other old new answer (Some c) whole refl known refl told which (subst (λ (w : Words). Ends t s k w old new answer) same ends) in
+      carried_out_did t s k other old new answer (Some c) whole known refl told which (subst (λ (w : Words). Ends t s k w old new answer) same ends) in
       let left : IsSomeAnd (effects (steps_of d.outcome.acts) (Some c)) (λ e. Stands e (new_plain c plain name date d.input)) =
       append_done name date d.input c plain d.outcome known.0 known.1 (of_bytes (s.left old.source) d.input bytes d.is_told (d.bytes refl)) whole stood d.plain d.sound in
       now_weaker t old.tape new.tape
@@ -489,7 +491,7 @@ is_changed t s k words command old new answer laws spelled values ends = record 
       (done_now t old.tape new.tape (steps_of d.outcome.acts) (Some c) laws.after d.did told);
   unchanged = λ name date c plain not spells told stood.
       let other : Words = commands.Append name date in
-      let same : command ≡ other = one_command words command other spelled.spelled spells.spelled in
+      let same : command ≡ other = one_command words command other spelled spells in
       let whole : IsCartridge c = told_whole (Some c) (t.told old.tape) (t.size old.tape) laws.right told in
       append_unchanged t s k name date old new answer c plain laws (subst HasValues same values) whole stood told not (subst (λ (w : Words). Ends t s k w old new answer) same ends);
 }

@@ -13,7 +13,7 @@ use Rattle.tape_cmd.specs.declared.status.Status.{Status}
 use Rattle.tape_cmd.specs.declared.status.Status.TheVariants as status
 use Rattle.tape_cmd.specs.Outcome.{Outcome}
 use Rattle.tape_cmd.specs.Traits.{Traits, traits_of}
-use Rattle.tape_cmd.specs.Machine.{Yields, CommandPrints, RefusedPrints, HasInputFault, Spells, Step}
+use Rattle.tape_cmd.specs.Machine.{Yields, CommandPrints, FrontPrints, RefusedPrints, HasInputFault, Spells, Step}
 use Rattle.tape_cmd.specs.Runs.{OverTold, InputLeft, IsOfBytes, IsCutOff}
 
 -- ---- a step of the plain machine
@@ -141,6 +141,5 @@ pub record PrintsRefused {K : Type 0} (k : sinks.Meaning K) (command : Words) (a
 -- it took a front of the text of a command that was carried out
 pub record PrintsFront {K : Type 0} (k : sinks.Meaning K) (command : Words) (old new : K) : Type 0 where
   pub text : List ℕ
-  pub rest : List ℕ
-  pub is_front : CommandPrints command (text ++ rest)
+  pub is_front : FrontPrints command text
   pub took : k.took old text new

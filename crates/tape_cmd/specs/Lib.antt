@@ -8,6 +8,7 @@ pub mod Lines
 pub mod List
 pub mod Lose
 pub mod Machine
+pub mod Make
 pub mod New
 pub mod OneLoss
 pub mod Opening
@@ -18,7 +19,9 @@ pub mod Protect
 pub mod Pulses
 pub mod Restore
 pub mod Runs
+pub mod Script
 pub mod Scrub
+pub mod Several
 pub mod Traits
 pub mod Volumes
 pub mod Writing

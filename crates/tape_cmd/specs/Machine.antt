@@ -1,5 +1,5 @@
 -- The plain machine over words (this project's own).
-use Rattle.std.specs.Prelude.{◌≡◌, ◌⊎◌, ℕ, ◌^◌, ◌<◌, true, List, [], Option, Some, None}
+use Rattle.std.specs.Prelude.{◌≡◌, ◌⊎◌, ℕ, ◌++◌, ◌^◌, ◌<◌, ◌≤◌, List, [], Option, Some, None}
 use Rattle.qic_base.specs.Cartridge.{Cartridge, IsLength}
 use Rattle.qic_base.specs.Step.{effects}
 use Rattle.cartridge_spec.specs.Header.{Header}
@@ -8,15 +8,19 @@ use Rattle.format_plan.specs.Fresh.{IsLabel}
 use Rattle.acts.specs.Acts.{steps_of}
 use Rattle.scrub_plan.specs.Scrubbing.{Counts, looked_at}
 use Rattle.segment_mending.specs.Mending.{IsScrubText}
+use Rattle.made_volumes.specs.Items.{making}
+use Rattle.made_volumes.specs.Machine.{Answer}
+use Rattle.made_volumes.specs.Machine as made
+use Rattle.made_volumes.specs.May.{MayRun}
+use Rattle.volume_script.specs.Lines.{end_line}
 use Rattle.tape_script.specs.declared.words.Words.{Words}
 use Rattle.tape_script.specs.declared.words.Words.TheVariants as words
-use Rattle.tape_script.specs.Input.{AtFault, IsPulses}
+use Rattle.tape_script.specs.Input.{Item, AtFault, IsPulses, IsScript}
 use Rattle.tape_script.specs.Words.{IsCommand}
 use Rattle.tape_cmd.specs.declared.status.Status.{Status}
 use Rattle.tape_cmd.specs.declared.status.Status.TheVariants as status
 use Rattle.tape_cmd.specs.Lines.{blank_line, defect_line, lost_line, protected_line, formatted_line, appended_line, list_text, info_text}
 use Rattle.tape_cmd.specs.Outcome.{Outcome, output_of}
-use Rattle.tape_cmd.specs.Traits.{traits_of}
 use Rattle.tape_cmd.specs.New.{NewOutcome}
 use Rattle.tape_cmd.specs.Defect.{DefectOutcome}
 use Rattle.tape_cmd.specs.Lose.{LoseOutcome}
@@ -28,14 +32,18 @@ use Rattle.tape_cmd.specs.Append.{AppendOutcome}
 use Rattle.tape_cmd.specs.Restore.{RestoreOutcome}
 use Rattle.tape_cmd.specs.Scrub.{ScrubOutcome}
 use Rattle.tape_cmd.specs.Pulses.{SentOutcome, AreLevels}
+use Rattle.tape_cmd.specs.Script.{ScriptOutcome}
+use Rattle.tape_cmd.specs.Make.{MakeOutcome, make_status}
 
 -- ---- commands
 
--- the bounds of a command's values: a cartridge's length; a label or a name of 44 bytes, and a date word
+-- the bounds of a command's values: a cartridge's length; a label or a name of 44 bytes, and a date word; and how many volumes
+-- may be made
 abbrev pub HasValues : Words → Type 0
 HasValues (words.New segments) = IsLength segments
 HasValues (words.Format label date) = IsLabel label × (date < 2 ^ 32)
 HasValues (words.Append name date) = IsLabel name × (date < 2 ^ 32)
+HasValues (words.Make seed count) = count ≤ 200
 HasValues command = Unit {0}
 
 -- a command over what the drive holds and an input
@@ -51,7 +59,8 @@ Yields (words.Append name date) held input outcome = AppendOutcome name date hel
 Yields (words.Restore number) held input outcome = RestoreOutcome number held outcome
 Yields words.Scrub held input outcome = ScrubOutcome held outcome
 Yields words.Pulses held input outcome = SentOutcome held input outcome
-Yields command held input outcome = ⊥
+Yields words.Script held input outcome = ScriptOutcome held input outcome
+Yields (words.Make seed count) held input outcome = MakeOutcome seed count held outcome
 
 -- what a command that was carried out prints, whatever it is that the drive holds
 abbrev pub CommandPrints : Words → List ℕ → Type 0
@@ -69,33 +78,53 @@ CommandPrints (words.Restore number) text = Unit {0}
 CommandPrints words.Scrub text =
     (words : List ℕ) × ((entries : List Entry) × ((counts : Counts) × IsScrubText (looked_at words entries) counts text))
 CommandPrints words.Pulses text = AreLevels text
-CommandPrints command text = ⊥
+-- the replies to a script's lines may be any
+CommandPrints words.Script text = (replies : List ℕ) × (text ≡ replies ++ end_line)
+CommandPrints (words.Make seed count) text =
+    (words : List ℕ) × ((entries : List Entry) × MayRun seed words entries (making seed count words entries) text made.Done)
 
--- what a command has printed that was refused with this answer: most of them nothing; the levels of the trains before a fault
--- of the input, and the bytes of a volume before a segment that doesn't read
+-- a front of that; of the lines of a generated run any
+abbrev pub FrontPrints : Words → List ℕ → Type 0
+FrontPrints (words.Make seed count) text = Unit {0}
+FrontPrints command text = (rest : List ℕ) × CommandPrints command (text ++ rest)
+
+-- what steps of a generated run may print that are answered so
+pub record MakesText (seed count : ℕ) (answer : Status) (text : List ℕ) : Type 0 where
+  pub words : List ℕ
+  pub entries : List Entry
+  pub why : Answer
+  pub answered : answer ≡ make_status why
+  pub may : MayRun seed words entries (making seed count words entries) text why
+
+-- what a command has printed that was refused with this answer: most of them nothing; the levels of the trains, or the replies to
+-- the lines, before a fault of the input, or before a volume table that doesn't show the list; the bytes of a volume before a
+-- segment that doesn't read; and the lines of a generated run before the step that was refused
 abbrev pub RefusedPrints : Words → Status → List ℕ → Type 0
 RefusedPrints (words.Restore number) (status.Lost segment lost) text = Unit {0}
 RefusedPrints (words.Restore number) (status.Mismatch segment) text = Unit {0}
 RefusedPrints words.Pulses answer text = AreLevels text
+RefusedPrints words.Script (status.ScriptFault line place) text = Unit {0}
+RefusedPrints words.Script status.TableMismatch text = Unit {0}
+RefusedPrints (words.Make seed count) answer text = (text ≡ []) ⊎ MakesText seed count answer text
 RefusedPrints command answer text = text ≡ []
 
 -- the fault of the input of a command: the number of the line, counted from 1, and how many bytes stand before it
 abbrev pub HasInputFault : Words → (input : List ℕ) → (line place : ℕ) → Type 0
 HasInputFault words.Pulses input line place = (trains : List ℕ) × IsPulses input trains (AtFault line place)
+HasInputFault words.Script input line place = (items : List Item) × IsScript input items (AtFault line place)
 HasInputFault command input line place = ⊥
 
 -- ---- words
 
--- the words are those of a command that is built
-pub record Spells (words : List (List ℕ)) (command : Words) : Type 0 where
-  pub spelled : IsCommand words command
-  pub built : (traits_of command).built ≡ true
+-- the words are those of a command
+abbrev pub Spells : (words : List (List ℕ)) → Words → Type 0
+Spells words command = IsCommand words command
 
 -- they are those of none
 abbrev pub SpellsNone : List (List ℕ) → Type 0
 SpellsNone words = (command : Words) → ¬ (Spells words command)
 
--- the reading of words: a command that is built, with its values; or they are those of none
+-- the reading of words: a command, with its values; or they are those of none
 abbrev pub ReadsCommand : List (List ℕ) → Option Words → Type 0
 ReadsCommand words None = SpellsNone words
 ReadsCommand words (Some command) = Spells words command × HasValues command

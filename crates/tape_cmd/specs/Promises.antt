@@ -11,6 +11,7 @@ use Rattle.tape_cmd.specs.Machine.{Spells, SpellsNone}
 use Rattle.tape_cmd.specs.Runs.{is_fault, fault_of, is_outcome, may_come_from}
 use Rattle.tape_cmd.specs.Headline.{Answers, NoneRose, IsCut, EachLeft, WordsLeave, Joins, SpellsOne, SpellsNoneThat, HasNamedFault, HasNoFault, PrintsText, PrintsRefused, PrintsFront}
 use Rattle.tape_cmd.specs.OneLoss.{SurvivesOneLoss}
+use Rattle.tape_cmd.specs.Several.{MakesVolumes, CarriesOutLines}
 use Rattle.tape_cmd.specs.Volumes.{VolumesStay, ListStays, StopsFormat, StopsAppend, IsChanged, GivesBack}
 
 -- What a run of words promises, by the objects of the outside before it and after it, and by its answer.
@@ -26,9 +27,9 @@ pub record Promises {T S K : Type 0} (t : tapes.Meaning T) (s : sources.Meaning 
   pub asked : answer ≡ status.SourceFault → SpellsOne words (λ traits. traits.reads)
   -- Where the tape tells, the run, a stop at any moment since it began, and one now leave what the command may leave.
   pub stops : EachLeft t old.tape new.tape (WordsLeave (s.left old.source) words)
-  -- The volumes: each cartridge so left stands for what the old one stood for, but for `new`, `format` and `append` of a
-  -- cartridge that is not protected, and a `lose` that doesn't spare header and table; and likewise it has the old one's
-  -- list. Formatting a cartridge with clean header copies leaves that, or an unformatted one, or the empty one; appending
+  -- The volumes: each cartridge so left stands for what the old one stood for, but for `new` and `script`, for `format`, `append`
+  -- and `make` of a cartridge that is not protected, and a `lose` that doesn't spare header and table; and likewise it has the old
+  -- one's list. Formatting a cartridge with clean header copies leaves that, or an unformatted one, or the empty one; appending
   -- leaves what stood, or that with the volume of the input.
   pub volumes : VolumesStay t words old.tape new.tape
   pub lists : ListStays t words old.tape new.tape
@@ -40,6 +41,11 @@ pub record Promises {T S K : Type 0} (t : tapes.Meaning T) (s : sources.Meaning 
   -- Where then one sector more of the table's segment is lost, what appending left comes back as what stood, or as that with the
   -- volume; and once it was carried out, as that.
   pub survives : SurvivesOneLoss t (s.left old.source) words old.tape new.tape answer
+  -- A generated run leaves what stood with the first ones of its volumes, and with all of them once it has printed anything or was
+  -- carried out; a script leaves what stood with the appends of its first lines, among them all whose reply was written whole, and at
+  -- most one line more.
+  pub makes : MakesVolumes t k words old.tape new.tape old.sink new.sink answer
+  pub scripts : CarriesOutLines t k (s.left old.source) words old.tape new.tape old.sink new.sink
   -- Of a cartridge that stands for a plain one a volume is given back byte for byte.
   pub restores : GivesBack t k words old.tape new.tape old.sink new.sink answer
   -- Two runs can be joined.

@@ -13,7 +13,7 @@ use Rattle.tape_cmd.specs.declared.status.Status.{Status}
 use Rattle.tape_cmd.specs.declared.status.Status.TheVariants as status
 use Rattle.tape_cmd.specs.Outcome.{Outcome, output_of}
 use Rattle.tape_cmd.specs.Traits.{traits_of}
-use Rattle.tape_cmd.specs.Machine.{Yields, CommandPrints, RefusedPrints, HasInputFault}
+use Rattle.tape_cmd.specs.Machine.{Yields, CommandPrints, FrontPrints, RefusedPrints, HasInputFault}
 
 -- where the tape tells, a fact of what it told and of the input: that which the source told, or some input where it
 -- tells none
@@ -61,9 +61,15 @@ abbrev pub is_no_volume : Words → (number count : ℕ) → Bool
 is_no_volume (words.Restore asked) number count = (number == asked) && is_past asked count
 is_no_volume command number count = false
 
+-- there is no room for so many bytes: an append of the whole input asks for at most one byte beyond it, and a generated volume
+-- for more than there is
+abbrev pub is_full : Words → (need have : ℕ) → Bool
+is_full (words.Append name date) need have = nat_le need (have + 1)
+is_full (words.Make seed count) need have = nat_lt have need
+is_full command need have = false
+
 -- the commands that such an answer may come from, and with which numbers, whatever the tape and the source tell: a segment
--- that doesn't read lost more than three sectors, and is that of the volume table but for a restore; and at most one byte
--- beyond the room was asked for
+-- that doesn't read lost more than three sectors, and is that of the volume table but for commands that give volumes back
 abbrev pub may_come_from : Status → Words → Bool
 may_come_from status.Done command = true
 may_come_from (status.ScriptFault line place) command = (traits_of command).lines
@@ -77,7 +83,7 @@ may_come_from (status.Lost segment lost) command =
     (traits_of command).mounts && (nat_lt 3 lost && ((traits_of command).restores || segment == 2))
 may_come_from (status.DefectInFront segment) command = (traits_of command).formats
 may_come_from status.TableMismatch command = (traits_of command).mounts
-may_come_from (status.Full need have) command = (traits_of command).appends && nat_le need (have + 1)
+may_come_from (status.Full need have) command = is_full command need have
 may_come_from (status.NoVolume number count) command = is_no_volume command number count
 may_come_from (status.Mismatch segment) command = (traits_of command).restores
 may_come_from answer command = false
@@ -136,7 +142,7 @@ pub record Stopped {T S K : Type 0} (t : tapes.Meaning T) (s : sources.Meaning S
   -- and over any tape and source in some that print a front of the command's text
   pub acts : List Act
   pub cut : Cut t s k old new acts failing
-  pub front : (rest : List ℕ) × CommandPrints command (text_of acts ++ rest)
+  pub front : FrontPrints command (text_of acts)
   pub silent : (traits_of command).goes ≡ false → failing ≢ SinkFails → new.sink ≡ old.sink
   -- a fault of the source comes to a command that reads it
   pub reads : failing ≡ SourceFails → (traits_of command).reads ≡ true

@@ -4,8 +4,6 @@ use Rattle.tape_script.specs.declared.words.Words.{Words}
 use Rattle.tape_script.specs.declared.words.Words.TheVariants as words
 
 pub record Traits : Type 0 where
-  -- It is built. The others are answered as words of no command are, until they are.
-  pub built : Bool
   -- it reads the input
   pub reads : Bool
   -- the input is one of lines, one of which may be at fault
@@ -26,15 +24,14 @@ pub record Traits : Type 0 where
   pub formats : Bool
   -- it mounts the cartridge
   pub mounts : Bool
-  -- it adds a volume, for which there has to be room
+  -- it appends its whole input as a volume
   pub appends : Bool
-  -- it names a volume, and reads its segments
+  -- it gives volumes back, so it reads their segments
   pub restores : Bool
 
--- one that is not built
-abbrev pub unbuilt : Traits
-unbuilt = record {
-  built = false;
+-- one with none of them
+abbrev pub none_of_them : Traits
+none_of_them = record {
   reads = false;
   lines = false;
   goes = false;
@@ -51,14 +48,13 @@ unbuilt = record {
 
 -- A new cartridge needs none before it, and the drive shows its levels without one.
 abbrev pub traits_of : Words → Traits
-traits_of (words.New segments) = record unbuilt { built = true }
-traits_of (words.Defect segment sector) = record unbuilt { built = true; cartridge = true; sector = true; blank = true }
-traits_of (words.Lose segment sector) = record unbuilt { built = true; cartridge = true; sector = true }
-traits_of (words.Protect on) = record unbuilt { built = true; cartridge = true }
-traits_of (words.Format label date) = record unbuilt { built = true; memory = true; cartridge = true; writable = true; formats = true }
-traits_of words.Info = record unbuilt { built = true; memory = true; cartridge = true; mounts = true }
-traits_of (words.Append name date) = record unbuilt {
-  built = true;
+traits_of (words.New segments) = none_of_them
+traits_of (words.Defect segment sector) = record none_of_them { cartridge = true; sector = true; blank = true }
+traits_of (words.Lose segment sector) = record none_of_them { cartridge = true; sector = true }
+traits_of (words.Protect on) = record none_of_them { cartridge = true }
+traits_of (words.Format label date) = record none_of_them { memory = true; cartridge = true; writable = true; formats = true }
+traits_of words.Info = record none_of_them { memory = true; cartridge = true; mounts = true }
+traits_of (words.Append name date) = record none_of_them {
   reads = true;
   memory = true;
   cartridge = true;
@@ -66,9 +62,16 @@ traits_of (words.Append name date) = record unbuilt {
   mounts = true;
   appends = true;
 }
-traits_of words.List = record unbuilt { built = true; memory = true; cartridge = true; mounts = true }
-traits_of (words.Restore number) = record unbuilt { built = true; goes = true; memory = true; cartridge = true; mounts = true; restores = true }
-traits_of words.Scrub = record unbuilt { built = true; goes = true; memory = true; cartridge = true; writable = true; mounts = true }
-traits_of words.Pulses = record unbuilt { built = true; reads = true; lines = true; goes = true }
-traits_of words.Script = unbuilt
-traits_of (words.Make seed count) = unbuilt
+traits_of words.List = record none_of_them { memory = true; cartridge = true; mounts = true }
+traits_of (words.Restore number) = record none_of_them { goes = true; memory = true; cartridge = true; mounts = true; restores = true }
+traits_of words.Scrub = record none_of_them { goes = true; memory = true; cartridge = true; writable = true; mounts = true }
+traits_of words.Pulses = record none_of_them { reads = true; lines = true; goes = true }
+traits_of words.Script = record none_of_them { reads = true; lines = true; goes = true; memory = true; cartridge = true; mounts = true }
+traits_of (words.Make seed count) = record none_of_them {
+  goes = true;
+  memory = true;
+  cartridge = true;
+  writable = true;
+  mounts = true;
+  restores = true;
+}

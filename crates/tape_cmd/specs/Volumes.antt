@@ -30,13 +30,16 @@ use Rattle.tape_cmd.specs.Headline.{EachLeft, EachNow}
 
 -- ---- commands that keep the volumes
 
--- The command keeps what a cartridge stands for. A new cartridge takes its place, formatting empties it, and an append adds a
--- volume, but for a protected one; a sector that is worn has to spare the header and the table.
+-- The command keeps what a cartridge stands for. A new cartridge takes its place, formatting empties it, and an append and a
+-- generated run add volumes, but for a protected one; so may the lines of a script. A sector that is worn has to spare the header
+-- and the table.
 abbrev pub KeepsVolumes : Words → Cartridge → Plain → Type 0
 KeepsVolumes (commands.New segments) c plain = ⊥
 KeepsVolumes (commands.Append name date) c plain = c.info.protected ≡ true
 KeepsVolumes (commands.Format label date) c plain = c.info.protected ≡ true
 KeepsVolumes (commands.Lose segment sector) c plain = HasPlace c segment sector → WearSpares c plain segment sector
+KeepsVolumes commands.Script c plain = ⊥
+KeepsVolumes (commands.Make seed count) c plain = c.info.protected ≡ true
 KeepsVolumes command c plain = Unit {0}
 
 abbrev pub WordsKeep : List (List ℕ) → Cartridge → Plain → Type 0
@@ -60,6 +63,8 @@ KeepsList (commands.New segments) c = ⊥
 KeepsList (commands.Append name date) c = c.info.protected ≡ true
 KeepsList (commands.Format label date) c = c.info.protected ≡ true
 KeepsList (commands.Lose segment sector) c = HasPlace c segment sector → 3 ≤ segment
+KeepsList commands.Script c = ⊥
+KeepsList (commands.Make seed count) c = c.info.protected ≡ true
 KeepsList command c = Unit {0}
 
 abbrev pub WordsKeepList : List (List ℕ) → Cartridge → Type 0

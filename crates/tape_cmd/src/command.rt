@@ -11,11 +11,13 @@ use crate::format::format_cartridge;
 use crate::info::info;
 use crate::list::list;
 use crate::lose::lose;
+use crate::make::make;
 use crate::new::put_in_new;
 use crate::protect::protect;
 use crate::pulses::pulses;
 use crate::restore::restore;
 use crate::room::Room;
+use crate::script::script;
 use crate::scrub::scrub;
 use bad_sector_map::BadMap;
 use drive_states::Unit;
@@ -24,12 +26,6 @@ use segment_io::Workspace;
 use std::alloc::Global;
 use tape_script::{BadWords, Words};
 use volume_table::Table;
-
-fn is_built(command: &Words) -> bool
-    ensures { result ≡ (traits_of command.now).built }
-{
-    !matches!(command, Words::Script | Words::Make { .. })
-}
 
 fn takes_memory(command: &Words) -> bool
     ensures { result ≡ (traits_of command.now).memory }
@@ -42,13 +38,18 @@ fn takes_memory(command: &Words) -> bool
             | Words::List
             | Words::Restore { .. }
             | Words::Scrub
+            | Words::Script
+            | Words::Make { .. }
     )
 }
 
 fn reads_input(command: &Words) -> bool
     ensures { result ≡ (traits_of command.now).reads }
 {
-    matches!(command, Words::Append { .. } | Words::Pulses)
+    matches!(
+        command,
+        Words::Append { .. } | Words::Pulses | Words::Script
+    )
 }
 
 /// Carries out a command that takes memory and reads no input, in what it has taken.
@@ -58,7 +59,7 @@ fn carry_out_blind<T: Tape, K: Sink>(
     unit: &mut Unit<T>,
     sink: &mut K,
 ) -> Status
-    requires built { (traits_of command.now).built ≡ true }
+    requires values { HasValues command.now }
     requires memory { (traits_of command.now).memory ≡ true }
     requires reads { (traits_of command.now).reads ≡ false }
     ensures { EndsBlind T.means K.means command.now
@@ -70,6 +71,7 @@ fn carry_out_blind<T: Tape, K: Sink>(
         Words::List => list(unit, room, sink),
         Words::Restore { number } => restore(unit, room, number, sink),
         Words::Scrub => scrub(unit, room, sink),
+        Words::Make { seed, count } => make(unit, room, seed, count, sink),
         _ => unreachable!("the other commands take no memory, or read the input"),
     }
 }
@@ -83,7 +85,6 @@ fn carry_out_in<T: Tape, S: Source, K: Sink>(
     sink: &mut K,
 ) -> Status
     requires values { HasValues command.now }
-    requires built { (traits_of command.now).built ≡ true }
     requires memory { (traits_of command.now).memory ≡ true }
     ensures ends { Ends T.means S.means K.means command.now
         record { tape = unit.old.tape; source = source.old; sink = sink.old }
@@ -96,6 +97,7 @@ fn carry_out_in<T: Tape, S: Source, K: Sink>(
     }
     match *command {
         Words::Append { ref name, date } => append(unit, room, name, date, source, sink),
+        Words::Script => script(unit, room, source, sink),
         _ => unreachable!("no other command that takes memory reads the input"),
     }
 }
@@ -108,7 +110,6 @@ fn carry_out<T: Tape, S: Source, K: Sink>(
     sink: &mut K,
 ) -> Status
     requires values { HasValues command.now }
-    requires built { (traits_of command.now).built ≡ true }
     requires memory { (traits_of command.now).memory ≡ false }
     ensures ends { Ends T.means S.means K.means command.now
         record { tape = unit.old.tape; source = source.old; sink = sink.old }
@@ -126,18 +127,12 @@ fn carry_out<T: Tape, S: Source, K: Sink>(
     }
 }
 
-/// The command of the words, where it is built.
+/// The command of the words.
 fn read_command(words: &Vec<String>) -> Option<Words>
     ensures { ReadsCommand (map string_bytes words.now.items) result }
 {
     match Words::read(words) {
-        Ok(command) => {
-            if is_built(&command) {
-                Some(command)
-            } else {
-                None
-            }
-        }
+        Ok(command) => Some(command),
         Err(BadWords) => None,
     }
 }
@@ -154,7 +149,6 @@ pub fn run_ready<T: Tape, S: Source, K: Sink>(
     sink: &mut K,
 ) -> Status
     requires values { HasValues words.now }
-    requires built { (traits_of words.now).built ≡ true }
     ensures ends { Ends T.means S.means K.means words.now
         record { tape = unit.old.tape; source = source.old; sink = sink.old }
         record { tape = unit.new.tape; source = source.new; sink = sink.new } result }

@@ -11,12 +11,14 @@ pub mod laws;
 mod lines;
 mod list;
 mod lose;
+mod make;
 mod new;
 mod opening;
 mod protect;
 mod pulses;
 mod restore;
 mod room;
+mod script;
 mod scrub;
 mod status;
 

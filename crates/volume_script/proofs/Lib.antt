@@ -10,3 +10,4 @@ pub mod Plain
 pub mod Quiet
 pub mod Reading
 pub mod Running
+pub mod Telling

@@ -9,8 +9,8 @@ use Rattle.qic_base.specs.Source as sources
 use Rattle.qic_base.specs.Tape as tapes
 use Rattle.qic_base.proofs.Steps.{Done-nothing, Tells-map}
 use Rattle.qic_base.proofs.Writing.{TakesBoth}
-use Rattle.acts.specs.Acts.{Act, Outside, Failing, TapeFails, SourceFails, SinkFails, Went, Cut, steps_of}
-use Rattle.acts.proofs.Joins.{went_both, went_then_cut, cut_is_longer}
+use Rattle.acts.specs.Acts.{Act, Outside, Failing, TapeFails, SourceFails, SinkFails, Went, Cut, steps_of, text_of}
+use Rattle.acts.proofs.Joins.{text_of-append, went_both, went_then_cut, cut_is_longer}
 use Rattle.cartridge_spec.specs.Table.{Entry}
 use Rattle.cartridge_spec.specs.Writes.{changed_by}
 use Rattle.segment_io.proofs.Going.{tells_always}
@@ -128,9 +128,10 @@ module _ {T S K : Type 0} {t : tapes.Meaning T} {s : sources.Meaning S} {k : sin
     -- how the input ends behind the items is how it ends
     ended_so : (rest : List ℕ) (ending : Ending) (answer : Answer) (last : List Act) → lines ≤ most_items → Went t s k now new last → IfSome (s.left now.source) (λ bytes. bytes ≡ rest) →
         Ends IsItem (lines + 1) place rest ending → answer_by ending ≡ answer → tapes.Tells t now.tape (λ c. EndDoes c store.words store.entries rest ending last) →
+        (answer ≡ AllDone → last ≡ reply end_line ∷ []) →
         ((read : IsScript (far.texts ++ rest) far.items ending) → Leaves s start.source new.source (taken_by (far.texts ++ rest) far.items ending read) answer) →
         Ended t s k first start new answer
-    ended_so rest ending answer last few went told ends answered does left =
+    ended_so rest ending answer last few went told ends answered does only left =
         let input : List ℕ = far.texts ++ rest in
         let read : IsScript input far.items ending =
         read_end far.items far.texts rest 1 0 (lines + 1) place ending far.reads (let n = far.number in omega arith) (let n = far.number in omega arith) (let b = far.bytes in omega arith) ends in
@@ -164,6 +165,10 @@ module _ {T S K : Type 0} {t : tapes.Meaning T} {s : sources.Meaning S} {k : sin
           ending = ending;
           read = read;
           by_ending = sym answered;
+          replied = λ done. (
+            text_of far.acts,
+            text_of-append far.acts last ∙ ap (λ (acts : List Act). text_of far.acts ++ text_of acts) (only done) ∙ ap (λ (text : List ℕ). text_of far.acts ++ text) (append-nil end_line),
+          );
         }
 
     -- a fault of the outside cut off what comes next
@@ -257,7 +262,7 @@ module _ {T S K : Type 0} {t : tapes.Meaning T} {s : sources.Meaning S} {k : sin
       replied_end wrote answered left =
           ended_so both first store store start now (out tape source y) lines place far rest ending AllDone (reply end_line ∷ []) few
           (replied_went t s k both now tape source sink y [] end_line went wrote) told ends answered
-          (tells_always t now.tape (λ c. EndDoes c store.words store.entries rest ending (reply end_line ∷ [])) does) left
+          (tells_always t now.tape (λ c. EndDoes c store.words store.entries rest ending (reply end_line ∷ [])) does) (λ done. refl) left
 
       unreplied_end : sinks.BrokeOff k sink y end_line → CutOff t s k first start (out tape source y) SinkFails
       unreplied_end broke =
@@ -316,7 +321,7 @@ module _ {T S K : Type 0} {t : tapes.Meaning T} {s : sources.Meaning S} {k : sin
         IsFault IsItem (lines + 1) rest → Went t s k now new last → Gave s now.source new.source bytes → tapes.Tells t now.tape (λ c. FaultDoes c store.words store.entries number rest last) →
         Ended t s k first start new (FaultIn number at)
     faulty new rest bytes number at last same equal told is went gave does =
-        ended_so both first store store start now new lines place far rest (AtFault number at) (FaultIn number at) last few went told (is, same, equal) refl does
+        ended_so both first store store start now new lines place far rest (AtFault number at) (FaultIn number at) last few went told (is, same, equal) refl does (λ done. cc)
         (λ read. behind_fault new.source bytes at equal gave)
 
     at_none : (new : Outside T S K) (number at : ℕ) → number ≡ lines + 1 → at ≡ place → HeardNone t s k now new → Ended t s k first start new (FaultIn number at)

@@ -1,14 +1,15 @@
 -- How a run of a script ended (this project's own).
-use Rattle.std.specs.Prelude.{◌≡◌, ℕ, ◌+◌, List, drop, IfSome, Result, Ok, Err}
+use Rattle.std.specs.Prelude.{◌≡◌, ℕ, ◌+◌, ◌++◌, List, drop, IfSome, Result, Ok, Err}
 use Rattle.std.specs.Option.{option_map}
 use Rattle.qic_base.specs.Sink as sinks
 use Rattle.qic_base.specs.Source as sources
 use Rattle.qic_base.specs.Tape as tapes
-use Rattle.acts.specs.Acts.{Act, Outside, Failing, TapeFails, SourceFails, SinkFails, Went, Cut}
+use Rattle.acts.specs.Acts.{Act, text_of, Outside, Failing, TapeFails, SourceFails, SinkFails, Went, Cut}
 use Rattle.tape_script.specs.Input.{Item, Ending, IsScript}
 use Rattle.volume_store.specs.Mounting.{StoreView}
 use Rattle.volume_script.specs.declared.fault.ScriptFault.{ScriptFault}
 use Rattle.volume_script.specs.declared.fault.ScriptFault.TheVariants as fault
+use Rattle.volume_script.specs.Lines.{end_line}
 use Rattle.volume_script.specs.Script.{Answer, AllDone, FaultIn, Outcome, ScriptDoes, answer_by}
 
 -- What is left of the source: the bytes behind those taken; or, after a fault of the input, an end of the bytes from its
@@ -32,6 +33,8 @@ pub record Ended {T S K : Type 0} (t : tapes.Meaning T) (s : sources.Meaning S) 
   pub ending : Ending
   pub read : IsScript input items ending
   pub by_ending : answer ≡ answer_by ending
+  -- where all was carried out, the reply `end` is the last
+  pub replied : answer ≡ AllDone → (replies : List ℕ) × (text_of outcome.acts ≡ replies ++ end_line)
 
 -- The volume table did not show the volumes that were mounted: never where the tape tells its cartridge.
 pub record Mismatched {T S K : Type 0} (t : tapes.Meaning T) (s : sources.Meaning S) (k : sinks.Meaning K) (old new : Outside T S K) : Type 0 where

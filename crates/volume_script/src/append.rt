@@ -1,6 +1,6 @@
 //! A volume of a script appended.
 
-ghost use Rattle.std.specs.Prelude.{◌≡◌, ◌≢◌, ◌↔◌, true, Err};
+ghost use Rattle.std.specs.Prelude.{◌≡◌, ◌≢◌, ◌↔◌, true, Err, is_some};
 ghost use Rattle.drive_states.specs.Deck.{is_protected};
 ghost use Rattle.tape_script.specs.declared.line.Line.TheVariants.{Append};
 ghost use Rattle.volume_store.specs.Appending.{KeepsFormat, KeepsList};
@@ -43,6 +43,7 @@ pub fn take_promised<T: Tape, S: Source>(
     ensures format { KeepsFormat store.old store.new }
     ensures fits { result.answer ≢ Err StoreFault.Tape → StoreFits T.means store.new unit.new }
     ensures kept { S.means.keeps source.old source.new }
+    ensures tells { is_some (S.means.left source.new) ≡ is_some (S.means.left source.old) }
 {
     let mut bytes = Limited {
         source,
@@ -64,6 +65,7 @@ pub fn refuse<S: Source, K: Sink>(
 ) -> Result<(), ItemFault>
     ensures refused { Refuses S.means K.means source.old source.new sink.old sink.new left refusal result }
     ensures kept { S.means.keeps source.old source.new }
+    ensures tells { is_some (S.means.left source.new) ≡ is_some (S.means.left source.old) }
 {
     match skip(source, left) {
         Ok(skipped) if skipped < left => Err(ItemFault::Short),
@@ -91,6 +93,7 @@ pub fn append<T: Tape, S: Source, K: Sink>(
     ensures fits { result ≢ Err ItemFault.Tape → StoreFits T.means store.new unit.new }
     ensures format { KeepsFormat store.old store.new }
     ensures kept { S.means.keeps source.old source.new }
+    ensures tells { is_some (S.means.left source.new) ≡ is_some (S.means.left source.old) }
 {
     let Promised { answer, left } = take_promised(store, unit, name, promised, date, source);
     match answer {

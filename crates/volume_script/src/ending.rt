@@ -1,6 +1,6 @@
 //! The line behind the last that may be an item, and the last reply.
 
-ghost use Rattle.std.specs.Prelude.{◌≡◌, ◌≢◌, ◌≤◌};
+ghost use Rattle.std.specs.Prelude.{◌≡◌, ◌≢◌, ◌≤◌, is_some};
 ghost use Rattle.tape_script.specs.declared.line.Line.TheVariants.{End as end_line};
 ghost use Rattle.volume_script.specs.Ending.{HearsEnd, RepliesEnd};
 
@@ -23,6 +23,7 @@ pub fn end_input<S: Source>(
 ) -> Result<(), ScriptFault>
     ensures hears { HearsEnd S.means source.old source.new line place result }
     ensures kept { S.means.keeps source.old source.new }
+    ensures tells { is_some (S.means.left source.new) ≡ is_some (S.means.left source.old) }
     ensures later { S.means.faults source.old ≤ S.means.faults source.new }
 {
     match Line::read(source, buffer) {

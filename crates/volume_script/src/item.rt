@@ -1,6 +1,6 @@
 //! One line of a script carried out, with what follows it.
 
-ghost use Rattle.std.specs.Prelude.{◌≡◌, ◌≢◌, Err};
+ghost use Rattle.std.specs.Prelude.{◌≡◌, ◌≢◌, Err, is_some};
 ghost use Rattle.tape_script.specs.declared.line.Line.TheVariants.{List as list_line, End as end_line};
 ghost use Rattle.volume_store.specs.Appending.{KeepsFormat};
 ghost use Rattle.volume_store.specs.Mounting.{StoreFits};
@@ -52,6 +52,7 @@ pub fn carry_out<T: Tape, S: Source, K: Sink>(
     ensures fits { result ≢ Err ItemFault.Tape → StoreFits T.means store.new unit.new }
     ensures format { KeepsFormat store.old store.new }
     ensures kept { S.means.keeps source.old source.new }
+    ensures tells { is_some (S.means.left source.new) ≡ is_some (S.means.left source.old) }
 {
     match line {
         Line::Append { name, length, date } => {

@@ -1,6 +1,6 @@
 //! A line that may be an item.
 
-ghost use Rattle.std.specs.Prelude.{◌≡◌, ◌≢◌, ◌≤◌, Err, IfOk, IfSome};
+ghost use Rattle.std.specs.Prelude.{◌≡◌, ◌≢◌, ◌≤◌, Err, IfOk, IfSome, is_some};
 ghost use Rattle.tape_script.specs.Input.{most_items, promised};
 ghost use Rattle.volume_store.specs.Appending.{KeepsFormat};
 ghost use Rattle.volume_store.specs.Mounting.{StoreFits};
@@ -44,6 +44,7 @@ pub fn carry_out_line<T: Tape, S: Source, K: Sink>(
     ensures fits { result ≢ Err ScriptFault.Tape → StoreFits T.means store.new unit.new }
     ensures format { KeepsFormat store.old store.new }
     ensures kept { S.means.keeps source.old source.new }
+    ensures tells { is_some (S.means.left source.new) ≡ is_some (S.means.left source.old) }
 {
     match Line::read(source, buffer) {
         Ok(LineRead::End) => Ok(None),

@@ -49,6 +49,8 @@ pub fn run_script<T: Tape, S: Source, K: Sink>(
     ensures sink_later { K.means.faults sink.old ≤ K.means.faults sink.new }
 
     ensures kept { S.means.keeps source.old source.new }
+    // The source tells its bytes just where it did.
+    ensures tells { is_some (S.means.left source.new) ≡ is_some (S.means.left source.old) }
 {
     let mut buffer = [0; 128];
     let mut place: u64 = 0;

@@ -16,7 +16,7 @@ use Rattle.tape_cmd.proofs.Hands.{told_at_start, known_before, told_known, told_
 use Rattle.tape_cmd.proofs.defect.spoil.Goals as goal
 
 is_blind : {segment sector : _} → IsBlind (Defect segment sector)
-is_blind = record { built = refl; reads = refl }
+is_blind = record { reads = refl }
 
 pub returns-in-Ok : goal.returns-in-Ok
 returns-in-Ok g c =

@@ -14,7 +14,7 @@ use Rattle.tape_cmd.proofs.Hands.{known_before, told_known, reached, unknown, no
 use Rattle.tape_cmd.proofs.lose.lose.Goals as goal
 
 is_blind : {segment sector : _} → IsBlind (Lose segment sector)
-is_blind = record { built = refl; reads = refl }
+is_blind = record { reads = refl }
 
 pub returns-in-Ok : goal.returns-in-Ok
 returns-in-Ok g c =

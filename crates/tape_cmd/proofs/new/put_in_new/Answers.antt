@@ -8,7 +8,7 @@ use Rattle.tape_cmd.proofs.Endings.{IsBlind, Rules, printed, cut_off}
 use Rattle.tape_cmd.proofs.new.put_in_new.Goals as goal
 
 is_blind : {segments : _} → IsBlind (New segments)
-is_blind = record { built = refl; reads = refl }
+is_blind = record { reads = refl }
 
 -- a new cartridge is put in whatever is told
 always : (segments : _) (held : Option (Option Cartridge)) → IfSome held (λ h. Rules (New segments) h (carried_out (Renew segments) (blank_line segments)))

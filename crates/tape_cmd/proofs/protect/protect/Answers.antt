@@ -14,7 +14,7 @@ use Rattle.tape_cmd.proofs.Hands.{known_before, told_known, switched, no_switch}
 use Rattle.tape_cmd.proofs.protect.protect.Goals as goal
 
 is_blind : {on : _} → IsBlind (Protect on)
-is_blind = record { built = refl; reads = refl }
+is_blind = record { reads = refl }
 
 pub returns-in-Ok : goal.returns-in-Ok
 returns-in-Ok g c =

@@ -8,6 +8,7 @@ loop-line-init g c = record {
   fits = c.requires.fits;
   format = record { header = refl; words = refl };
   kept = g.met.S.Source.keeps_itself c.args.source.now;
+  tells = refl;
 }
 
 pub returns-in-Ok-None-clause-ends : goal.returns-in-Ok-None-clause-ends
@@ -42,6 +43,7 @@ loop-line-preserved g c = record {
     words = c.in-Ok-Some.ensures.format.words ∙ c.loop-line.invariant.format.words;
   };
   kept = g.met.S.Source.keeps_on c.args.source.now c.loop-line.source c.carry_out_line.new.source c.loop-line.invariant.kept c.in-Ok-Some.ensures.kept;
+  tells = c.in-Ok-Some.ensures.tells ∙ c.loop-line.invariant.tells;
 }
 
 pub returns-in-Ok-clause-ends : goal.returns-in-Ok-clause-ends

@@ -1,4 +1,5 @@
 -- The items so far were carried out, and their acts went.
+use Rattle.std.specs.Prelude.{◌≡◌, is_some}
 use Rattle.volume_store.specs.Appending.{KeepsFormat}
 use Rattle.volume_store.specs.Mounting.{StoreFits}
 use Rattle.volume_script.proofs.Running.{SoFar}
@@ -12,4 +13,5 @@ invariant-loop-line g l = record {
   fits : StoreFits g.T.Tape.means l.store l.unit;
   format : KeepsFormat l.fn.store l.store;
   kept : g.S.Source.means.keeps l.fn.source l.source;
+  tells : is_some (g.S.Source.means.left l.source) ≡ is_some (g.S.Source.means.left l.fn.source);
 }

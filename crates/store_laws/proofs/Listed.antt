@@ -1,0 +1,290 @@
+-- A cartridge whose volume table holds a list, behind its mounting, an append, a worn sector or a scrub.
+use Rattle.std.proofs.Common.{◌≡◌, inl, inr, ℕ, ◌+◌, ◌-◌, ◌*◌, ◌/◌, ◌^◌, ◌<◌, ◌≤◌, true, false, List, [], ◌∷◌, ◌++◌, length, map, nat_le, Option, None, refl, sym, ap, ◌∙◌, subst, arith, append-nil}
+use Rattle.std.specs.Prelude.{slice_index}
+use Rattle.std.specs.Option.{option_map}
+use Rattle.std.proofs.lemmas.Bool.{cases_lt, le-leb}
+use Rattle.std.proofs.lemmas.List.{length-take-le}
+use Rattle.std.proofs.lemmas.List.Elements.{All-take}
+use Rattle.qic_base.specs.declared.tape.TapeInfo.{TapeInfo}
+use Rattle.qic_base.specs.Cartridge.{Cartridge, IsLength}
+use Rattle.qic_base.specs.Step.{Step, Wear, changed}
+use Rattle.acts.specs.Acts.{Act, steps_of}
+use Rattle.gf256_qic.specs.Code.{IsSector}
+use Rattle.cartridge_spec.specs.Header.{Header, HeaderFault, has_signature, number, number_in}
+use Rattle.cartridge_spec.specs.HeaderAndTable.{IsArea, IsFormatted, IsInForce, TableIs, last_segment, table_cells}
+use Rattle.cartridge_spec.specs.Mounting.{settled}
+use Rattle.cartridge_spec.specs.Segment.{sector_at}
+use Rattle.cartridge_spec.specs.Says.{Agrees, Written, data_of, unreadable_count, unreadable_data, with_parity}
+use Rattle.cartridge_spec.specs.Slots.{FitsSlot, slot_bytes, slot_sector, with_slot}
+use Rattle.cartridge_spec.specs.Table.{Entry, IsSoundList, Shows}
+use Rattle.cartridge_spec.specs.Volumes.{capacity_between}
+use Rattle.cartridge_spec.specs.Writes.{changed_by}
+use Rattle.cartridge_spec.proofs.Sayings.{block_from_data, cartridge_sectors, data_of-parity}
+use Rattle.cartridge_spec.proofs.Segments.{length-whole_cells}
+use Rattle.cartridge_spec.proofs.SlotBytes.{length-slot_bytes, slot_are_bytes}
+use Rattle.cartridge_spec.proofs.Slots.{slot_area}
+use Rattle.change_laws.specs.Wear.{worn}
+use Rattle.change_laws.proofs.Changes.{worn_reads_no_more}
+use Rattle.format_plan.specs.Fresh.{IsLabel}
+use Rattle.format_plan.proofs.Copies.{held_view, view_held}
+use Rattle.format_plan.proofs.Writing.{changed_by-append}
+use Rattle.header_segments.specs.Refusal.{foreign, refusal}
+use Rattle.header_segments.proofs.Refusals.{length-words_in, refusal-segments, refusal-signed}
+use Rattle.mount_laws.specs.Settling.{settling_steps}
+use Rattle.mount_laws.proofs.Parts.{code_block}
+use Rattle.mount_laws.proofs.Settled.{settled_keeps_table}
+use Rattle.mount_laws.proofs.Standing.{can_be_read, written_table}
+use Rattle.volume_table.proofs.Orders.{faultless_is_sound}
+use Rattle.volume_table.proofs.Putting.{put_entry_is_shown}
+use Rattle.append_plan.specs.Between.{table_places, table_writes}
+use Rattle.append_plan.specs.Room.{free_segments, last_end, room, taken_by}
+use Rattle.append_plan.specs.Settled.{IsSettledFor}
+use Rattle.append_plan.proofs.Dead.{live_written, settled_is_settled_for, table_settled}
+use Rattle.append_plan.proofs.Keeping.{steps_kept}
+use Rattle.append_plan.proofs.Orders.{end_least}
+use Rattle.append_plan.proofs.Segments.{AreTaken, HasRoom, room_is, room_most, segments_taken}
+use Rattle.append_plan.proofs.Table.{slot_differs}
+use Rattle.scrub_plan.specs.Mended.{IsBeingMended}
+use Rattle.scrub_plan.specs.Scrubbing.{looked_at, whole_segment}
+use Rattle.scrub_plan.proofs.Apart.{looked_rise}
+use Rattle.scrub_plan.proofs.Done.{done_being_mended}
+use Rattle.scrub_plan.proofs.Standing.{looks_in_front, written_kept}
+use Rattle.volume_store.specs.Appending.{Kept, Taking, Fits, TooLong, TooShort, append_acts, entry_acts, entry_for, input_writes, room_in, taking}
+use Rattle.volume_store.specs.Mounting.{HasList}
+use Rattle.volume_store.proofs.Again.{list_shown, table_one}
+use Rattle.volume_store.proofs.Behind.{AreBehind, input_behind, settled_behind}
+use Rattle.volume_store.proofs.Ending.{list_more, took_fits}
+use Rattle.volume_store.proofs.Settled.{settled_list, steps_settle, writes_info}
+use Rattle.volume_store.proofs.Taking.{both_true}
+use Rattle.store_laws.specs.Listed.{IsListed, MountedListed, ListedReads, AppendListed, WearListed, ScrubListed, kept_of, listed_behind}
+use Rattle.store_laws.proofs.Keeping.{changed_by_acts}
+
+-- ---- the block of a list
+
+listed_area : (c : Cartridge) (entries : List Entry) (has : HasList c entries) → IsArea (data_of has.block)
+listed_area c entries has =
+    let long : length has.block ≡ 32 = has.agrees.size ∙ length-whole_cells c 2 in
+    let size : length (data_of has.block) ≡ length has.block - 3 = length-take-le (length has.block - 3) has.block (omega arith) in
+    record {
+      size = omega arith;
+      sectors = cartridge_sectors (data_of has.block) (All-take IsSector (length has.block - 3) has.block has.code.sectors);
+    }
+
+listed_written : (c : Cartridge) (entries : List Entry) (has : HasList c entries) → Written (table_cells c) (data_of has.block)
+listed_written c entries has = subst (Agrees (table_cells c)) (sym (block_from_data has.block has.code)) has.agrees
+
+pub listed_reads : ListedReads
+listed_reads c words entries listed mark =
+    let has : HasList c entries = listed.list mark in
+    let area : IsArea (data_of has.block) = listed_area c entries has in
+    let written : Written (table_cells c) (data_of has.block) = listed_written c entries has in
+    elim (cases_lt 0 (unreadable_data (table_cells c))) [
+      | inl some ↦ elim (cases_lt 3 (unreadable_count (table_cells c))) [
+        | inl many ↦ inr (unreadable_count (table_cells c), (some, (refl, many)))
+        | inr few ↦ inl (data_of has.block, written_table c (data_of has.block) area written (inr few), has.shown)
+      ]
+      | inr none ↦ inl (data_of has.block, written_table c (data_of has.block) area written (inl (omega arith)), has.shown)
+    ]
+
+-- a table of which each sector that takes a write holds its part shows its list
+settled_shows : (c : Cartridge) (area : List (List ℕ)) (entries : List Entry) → IsArea area → IsSettledFor c area → Shows area entries → HasList c entries
+settled_shows c area entries is known shown = record {
+  block = with_parity area;
+  code = code_block area is;
+  agrees = live_written c area is known.live;
+  shown = subst (λ (d : List (List ℕ)). Shows d entries) (sym (data_of-parity area)) shown;
+}
+
+-- ---- mounting
+
+forced : (c : Cartridge) (area : List (List ℕ)) → IsInForce c area → has_signature area ≡ true
+forced c area (inl first) = first.signature
+forced c area (inr second) = second.1.signature
+
+-- a map has a word for each segment
+mounted_last : (c : Cartridge) (area : List (List ℕ)) (header : Header) (words : List ℕ) → IsFormatted c area header words → length words - 1 ≡ last_segment c
+mounted_last c area header words formatted =
+    let n : ℕ = c.info.segments_per_track in
+    let none : refusal area n ≡ None =
+    refusal-signed area n (forced c area formatted.has_header.in_force) ∙ ap (λ (fault : Option HeaderFault). option_map foreign fault) formatted.sound in
+    let there : number_in area 24 2 ≡ header.segments_per_track = formatted.shown.header 2 (number 24 2 0) (omega arith) in
+    let told : header.segments_per_track ≡ n = sym there ∙ refusal-segments area n none in
+    ap (λ (k : ℕ). k - 1) (length-words_in area words (28 * header.segments_per_track) formatted.shown.map)
+    ∙ ap (λ (k : ℕ). 28 * k - 1) told
+
+pub mounted_listed : MountedListed
+mounted_listed c header words table entries whole mounts =
+    let info : (settled table c).info ≡ c.info = (settled_keeps_table c table mounts.reads).info in
+    let same : last_segment c ≡ last_segment (settled table c) = sym (ap (λ (i : TapeInfo). 28 * i.segments_per_track - 1) info) in
+    record {
+      long = subst (λ (i : TapeInfo). IsLength i.segments_per_track) (sym info) whole.long;
+      last = mounted_last c mounts.area header words mounts.formatted ∙ same;
+      order = subst (λ (last : ℕ). IsSoundList last entries) same (faultless_is_sound table (last_segment c) entries mounts.sound mounts.shown);
+      list = λ mark. settled_list c table entries whole mounts.reads mounts.shown (sym (ap (λ (i : TapeInfo). i.protected) info) ∙ mark);
+    }
+
+-- ---- an append
+
+module _ (c : Cartridge) (words : List ℕ) (entries : List Entry) (table : List (List ℕ)) (name : List ℕ) (date : ℕ) (promised : Option ℕ) (reply : Entry → List ℕ) (input : List ℕ) (listed : IsListed c words entries) (mark : c.info.protected ≡ false) (reads : TableIs c table) (label : IsLabel name) (word : date < 2 ^ 32) where
+  abbrev kept : Kept
+  kept = kept_of c words entries table
+
+  abbrev last : ℕ
+  last = length words - 1
+
+  abbrev ins : List Act
+  ins = input_writes kept promised input
+
+  -- the settled cartridge, and the one with the volume's segments written
+  abbrev still : Cartridge
+  still = changed_by (settling_steps table c) c
+
+  abbrev filled : Cartridge
+  filled = changed_by (steps_of ins) still
+
+  order : IsSoundList last entries
+  order = subst (λ (n : ℕ). IsSoundList n entries) (sym listed.last) listed.order
+
+  area : IsArea table
+  area =
+      let has : HasList c entries = listed.list mark in
+      subst IsArea (table_one c (data_of has.block) table
+      (written_table c (data_of has.block) (listed_area c entries has) (listed_written c entries has) (can_be_read c table reads)) reads)
+      (listed_area c entries has)
+
+  shown : Shows table entries
+  shown = list_shown c table entries (listed.list mark) reads
+
+  behind : AreBehind ins
+  behind = input_behind kept promised input (end_least 2 last entries order)
+
+  filled_settled : IsSettledFor filled table
+  filled_settled =
+      settled_behind still table (steps_of ins) behind
+      (subst (λ (d : Cartridge). IsSettledFor d table) (sym (steps_settle c table reads)) (settled_is_settled_for c table reads mark))
+
+  filled_info : filled.info ≡ c.info
+  filled_info =
+      (steps_kept (λ s i. 2 < s) (steps_of ins) still behind).info
+      ∙ ap (λ (d : Cartridge). d.info) (steps_settle c table reads) ∙ (settled_keeps_table c table reads).info
+
+  -- another list on a cartridge with these marks
+  listed_as : (d : Cartridge) (es : List Entry) → d.info ≡ c.info → IsSoundList last es → HasList d es → IsListed d words es
+  listed_as d es info sound has =
+      let same : last ≡ last_segment d = listed.last ∙ sym (ap (λ (i : TapeInfo). 28 * i.segments_per_track - 1) info) in
+      record {
+        long = subst (λ (i : TapeInfo). IsLength i.segments_per_track) (sym info) listed.long;
+        last = same;
+        order = subst (λ (n : ℕ). IsSoundList n es) same sound;
+        list = λ free. has;
+      }
+
+  -- the entry of a volume that has room fits its slot
+  entry_fits : (bytes : List ℕ) → HasRoom words entries last (length bytes) → FitsSlot (entry_for kept name date bytes)
+  entry_fits bytes has =
+      let segments : List ℕ = taken_by words (length bytes) (free_segments words entries last) in
+      let taken : AreTaken words (last_end entries) last segments = segments_taken words entries last (length bytes) has in
+      let long : c.info.segments_per_track ≤ 246 = listed.long.longest in
+      let ends_at : last ≡ 28 * c.info.segments_per_track - 1 = listed.last in
+      let starts : slice_index segments 0 ≡ taken.start = taken.starts in
+      let ends : slice_index segments (length segments - 1) ≡ taken.end = taken.ends in
+      let forwards : taken.start ≤ taken.end = taken.forwards in
+      let within : taken.end ≤ last = taken.within in
+      let enough : length bytes ≤ capacity_between words (last_end entries + 1) last = has.enough in
+      record {
+        start = omega arith;
+        end = omega arith;
+        name = label.size;
+        date = omega arith;
+        directory = omega arith;
+        size = omega (arith, room_most words entries last);
+      }
+
+  with_entry : (bytes : List ℕ) → taking (room_in kept) promised input ≡ Fits bytes →
+      IsListed (changed_by (steps_of (entry_acts kept name date reply (Fits bytes))) filled) words (entries ++ entry_for kept name date bytes ∷ [])
+  with_entry bytes took =
+      let e : Entry = entry_for kept name date bytes in
+      let n : ℕ = length entries in
+      let fit = took_fits (room_in kept) promised input bytes took in
+      let has : HasRoom words entries last (length bytes) =
+      room_is words entries last (length bytes) (both_true (nat_le 1 (room words entries last)) (nat_le (length bytes) (room words entries last))
+      (le-leb 1 (room words entries last) fit.0) (le-leb (length bytes) (room words entries last) fit.1)) in
+      let within : n < 232 = has.free_slot in
+      let small : n / 8 < 29 = omega arith in
+      let slot : List ℕ = slot_bytes e in
+      let new : List (List ℕ) = with_slot table n slot in
+      let new_area : IsArea new = slot_area table n slot area within (length-slot_bytes e label.size) (slot_are_bytes e label.bytes (omega arith) (omega arith)) in
+      let places : List ℕ = table_places (slot_sector n) in
+      let writes : List Step = table_writes (slot_sector n) new in
+      let d : Cartridge = changed_by writes filled in
+      let now : IsSettledFor d new = table_settled filled table new (slot_sector n) small (slot_differs table n slot area) new_area filled_settled in
+      subst (λ (steps : List Step). IsListed (changed_by steps filled) words (entries ++ e ∷ [])) (sym (append-nil writes))
+      (listed_as d (entries ++ e ∷ []) (writes_info places (map (sector_at (with_parity new)) places) filled 2 ∙ filled_info)
+      (list_more words entries last name date (length bytes) order fit.0 fit.1)
+      (settled_shows d new (entries ++ e ∷ []) new_area now (put_entry_is_shown table entries e area shown within (entry_fits bytes has))))
+
+  by_taking : (became : Taking) → taking (room_in kept) promised input ≡ became →
+      IsListed (changed_by (steps_of (entry_acts kept name date reply became)) filled) words (listed_behind kept name date became)
+  by_taking (Fits bytes) took = with_entry bytes took
+  by_taking (TooLong need have) took = listed_as filled entries filled_info order (settled_shows filled table entries area filled_settled shown)
+  by_taking (TooShort asked read) took = listed_as filled entries filled_info order (settled_shows filled table entries area filled_settled shown)
+
+  pub append_leaves : IsListed (changed_by (steps_of (append_acts kept name date promised reply input)) c) words
+      (listed_behind kept name date (taking (room_in kept) promised input))
+  append_leaves =
+      let became : Taking = taking (room_in kept) promised input in
+      let first : Act = record { steps = settling_steps table c; text = [] } in
+      let parts : changed_by (steps_of (append_acts kept name date promised reply input)) c ≡ changed_by (steps_of (entry_acts kept name date reply became)) filled =
+      changed_by_acts (first ∷ ins) (entry_acts kept name date reply became) c
+      ∙ ap (changed_by (steps_of (entry_acts kept name date reply became))) (changed_by-append (settling_steps table c) (steps_of ins) c) in
+      subst (λ (d : Cartridge). IsListed d words (listed_behind kept name date became)) (sym parts) (by_taking became refl)
+
+pub append_listed : AppendListed
+append_listed = append_leaves
+
+-- ---- a worn sector, and a scrub
+
+worn_list : (c : Cartridge) (segment sector : ℕ) (entries : List Entry) → HasList c entries → HasList (worn segment sector c) entries
+worn_list c segment sector entries has =
+    let d : Cartridge = changed (Wear segment sector) c in
+    record {
+      block = has.block;
+      code = has.code;
+      agrees = record {
+        size = has.agrees.size ∙ length-whole_cells c 2 ∙ sym (length-whole_cells d 2);
+        each = λ i bytes at.
+            let held = held_view d 2 i bytes at in
+            has.agrees.each i bytes (view_held c 2 i bytes held.within (worn_reads_no_more c segment sector 2 i bytes held.view));
+      };
+      shown = has.shown;
+    }
+
+pub wear_listed : WearListed
+wear_listed c words entries segment sector listed = record {
+  long = listed.long;
+  last = listed.last;
+  order = listed.order;
+  list = λ mark. worn_list c segment sector entries (listed.list mark);
+}
+
+pub scrub_listed : ScrubListed
+scrub_listed c words entries acts listed mark scrubs =
+    let d : Cartridge = changed_by (steps_of acts) c in
+    let mended : IsBeingMended (looked_at words entries) c d = done_being_mended c words entries (last_segment c) acts listed.order scrubs in
+    let rise = looked_rise words (last_segment c) entries listed.order in
+    let has : HasList c entries = listed.list mark in
+    let written : Written (table_cells d) (data_of has.block) =
+    written_kept (looked_at words entries) c d (whole_segment 2) (data_of has.block) rise (looks_in_front words entries rise).table
+    (listed_area c entries has).sectors mended (listed_written c entries has) in
+    let same : last_segment c ≡ last_segment d = sym (ap (λ (i : TapeInfo). 28 * i.segments_per_track - 1) mended.info) in
+    record {
+      long = subst (λ (i : TapeInfo). IsLength i.segments_per_track) (sym mended.info) listed.long;
+      last = listed.last ∙ same;
+      order = subst (λ (last : ℕ). IsSoundList last entries) same listed.order;
+      list = λ free. record {
+        block = has.block;
+        code = has.code;
+        agrees = subst (Agrees (table_cells d)) (block_from_data has.block has.code) written;
+        shown = has.shown;
+      };
+    }

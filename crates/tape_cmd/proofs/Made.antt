@@ -1,0 +1,240 @@
+-- How a generated run ends.
+use Rattle.std.proofs.Common.{◌≡◌, ◌≢◌, ℕ, ◌+◌, ◌*◌, ◌%◌, ◌<◌, ◌≤◌, ◌&&◌, nat_le, nat_lt, Bool, true, false, cond, List, [], ◌∷◌, Option, Some, None, IfSome, Result, Ok, Err, refl, sym, ap, ◌∙◌, subst, inl, inr, arith}
+use Rattle.std.proofs.lemmas.Bool.{cases_Bool, leb-false, lt-ltb}
+use Rattle.qic_base.specs.Cartridge.{Cartridge}
+use Rattle.qic_base.specs.Sink as sinks
+use Rattle.qic_base.specs.Step.{Step as TapeStep}
+use Rattle.qic_base.specs.Tape as tapes
+use Rattle.qic_base.proofs.Writing.{TakesBoth}
+use Rattle.acts.specs.Acts.{Act, text_of, Failing, TapeFails, SourceFails, SinkFails, Cut}
+use Rattle.acts.specs.Around.{no_source, around}
+use Rattle.cartridge_spec.specs.Mounting as mounting
+use Rattle.cartridge_spec.specs.Mounting.{Mounting}
+use Rattle.cartridge_spec.specs.Table.{Entry}
+use Rattle.drive_states.specs.Unit.{UnitView}
+use Rattle.mount_laws.proofs.Mounting.{mounts_is_function}
+use Rattle.tape_script.specs.Generator.{made_length}
+use Rattle.tape_script.specs.declared.words.Words.TheVariants as words
+use Rattle.volume_store.specs.Appending.{has_promised_room, kept_in, room_in}
+use Rattle.volume_store.specs.Mounting.{StoreView}
+use Rattle.volume_store.proofs.Taking.{both_true}
+use Rattle.made_volumes.specs.declared.fault.MakeFault.{MakeFault}
+use Rattle.made_volumes.specs.declared.fault.MakeFault.TheVariants as fault
+use Rattle.made_volumes.specs.Items.{Item, AppendMade, WearSector, ScrubAll, SumVolume, after_item, making}
+use Rattle.made_volumes.specs.Machine as made
+use Rattle.made_volumes.specs.Machine.{Answer, Makes, made_answer}
+use Rattle.made_volumes.specs.May.{MayAppend, MayDo, MayRun, MayScrub, MaySum}
+use Rattle.made_volumes.specs.Runs.{HasRun, MakeEnds, RunCut}
+use Rattle.tape_cmd.specs.declared.status.Status.{Status}
+use Rattle.tape_cmd.specs.declared.status.Status.TheVariants as status
+use Rattle.tape_cmd.specs.Make.{Making, MakeOutcome, made_on, make_status, run_status}
+use Rattle.tape_cmd.specs.Machine.{RefusedPrints}
+use Rattle.tape_cmd.specs.Opening.{Going, Opened, OpenOutcome, WritableOutcome, IsOpened, HasOpened, IsUnlocked, WritableEnds, is_opening}
+use Rattle.tape_cmd.specs.Outcome.{Outcome, first_steps}
+use Rattle.tape_cmd.specs.Runs.{EndsBlind, IsCutOff, Prints, fault_of, may_come_from}
+use Rattle.tape_cmd.proofs.Endings.{IsBlind, none_taken, turned_down, cut_off, told_map}
+use Rattle.tape_cmd.proofs.Mounted.{Settles, no_outcome, told_both, locked_is, unlocked_refused_is, writable_begins}
+use Rattle.tape_cmd.proofs.Opened.{quiet, went_behind, cut_behind, settled_told}
+
+-- ---- the answers of a run
+
+-- a volume has more bytes than there is room for
+full_more : (have n : ℕ) → 1 ≤ n → (nat_le 1 have && nat_le n have) ≡ false → nat_lt have n ≡ true
+full_more have n some small =
+    elim (cases_Bool (nat_le 1 have)) [
+      | inl one ↦ by_enough (nat_le n have) refl one
+      | inr none ↦ lt-ltb have n (let zero = leb-false 1 have none in omega arith)
+    ]
+  where
+    by_enough : (b : Bool) → nat_le n have ≡ b → nat_le 1 have ≡ true → nat_lt have n ≡ true
+    by_enough true enough one = let both = both_true (nat_le 1 have) (nat_le n have) one enough in absurd (cc)
+    by_enough false few one = lt-ltb have n (leb-false n have few)
+
+full_sound : (seed count : ℕ) (ws : List ℕ) (es : List Entry) (volume need have : ℕ) → made_answer seed ws es volume ≡ made.Full need have →
+    may_come_from (status.Full need have) (words.Make seed count) ≡ true
+full_sound seed count ws es volume need have is = by_room (has_promised_room (room_in (kept_in ws es)) (Some (made_length seed volume))) refl is
+  where
+    by_room : (b : Bool) → has_promised_room (room_in (kept_in ws es)) (Some (made_length seed volume)) ≡ b →
+        cond b made.Done (made.Full (made_length seed volume) (room_in (kept_in ws es))) ≡ made.Full need have → nat_lt have need ≡ true
+    by_room true there same = absurd (cc)
+    by_room false none same =
+        let n : made_length seed volume ≡ need = cc in
+        let h : room_in (kept_in ws es) ≡ have = cc in
+        let more : nat_lt (room_in (kept_in ws es)) (made_length seed volume) ≡ true =
+        full_more (room_in (kept_in ws es)) (made_length seed volume) (some_bytes seed volume) none in
+        subst (λ (x : ℕ). nat_lt x need ≡ true) h (subst (λ (x : ℕ). nat_lt (room_in (kept_in ws es)) x ≡ true) n more)
+
+    some_bytes : (s v : ℕ) → 1 ≤ made_length s v
+    unfolding made_length
+    some_bytes s v = omega arith
+
+lost_sound : (seed count segment lost : ℕ) → 3 < lost → may_come_from (status.Lost segment lost) (words.Make seed count) ≡ true
+lost_sound seed count segment lost many = both_true (nat_lt 3 lost) true (lt-ltb 3 lost many) refl
+
+do_sound : (seed count : ℕ) (ws : List ℕ) (es : List Entry) (item : Item) (text : List ℕ) (answer : Answer) → MayDo seed ws es item text answer →
+    may_come_from (make_status answer) (words.Make seed count) ≡ true
+do_sound seed count ws es item text made.Done may = refl
+do_sound seed count ws es item text made.Protected may = refl
+do_sound seed count ws es item text made.TableMismatch may = refl
+do_sound seed count ws es (AppendMade volume) text (made.Full need have) may = full_sound seed count ws es volume need have may.1
+do_sound seed count ws es (WearSector segment sector) text (made.Full need have) may = let same = may.1 in absurd (cc)
+do_sound seed count ws es ScrubAll text (made.Full need have) may = absurd may
+do_sound seed count ws es (SumVolume number) text (made.Full need have) may = absurd may.2
+do_sound seed count ws es (AppendMade volume) text (made.Lost segment lost) may = lost_sound seed count segment lost may.1.1
+do_sound seed count ws es (WearSector at sector) text (made.Lost segment lost) may = let same = may.1 in absurd (cc)
+do_sound seed count ws es ScrubAll text (made.Lost segment lost) may = absurd may
+do_sound seed count ws es (SumVolume number) text (made.Lost segment lost) may = let at = may.2.1.1 in lost_sound seed count segment lost at.0
+do_sound seed count ws es item text (made.Mismatch segment) may = refl
+
+run_sound : (seed count : ℕ) (ws : List ℕ) (items : List Item) (es : List Entry) (text : List ℕ) (answer : Answer) → MayRun seed ws es items text answer →
+    may_come_from (make_status answer) (words.Make seed count) ≡ true
+run_sound seed count ws [] es text answer (none, done) = subst (λ (a : Answer). may_come_from (make_status a) (words.Make seed count) ≡ true) (sym done) refl
+run_sound seed count ws (item ∷ items) es text answer (inl (other, may)) = do_sound seed count ws es item text answer may
+run_sound seed count ws (item ∷ items) es text answer (inr (first, rest, parts, may, more)) =
+    run_sound seed count ws items (after_item seed ws es item) rest answer more
+
+-- it printed what such a run may print
+run_prints : (seed count : ℕ) (ws : List ℕ) (es : List Entry) (text : List ℕ) (answer : Answer) → MayRun seed ws es (making seed count ws es) text answer →
+    Prints (words.Make seed count) (make_status answer) text
+run_prints seed count ws es text answer may = by_answer answer refl
+  where
+    turned : (why : Answer) → answer ≡ why → RefusedPrints (words.Make seed count) (make_status why) text
+    turned why same = inr (record { words = ws; entries = es; why = answer; answered = ap make_status (sym same); may = may })
+
+    by_answer : (why : Answer) → answer ≡ why → Prints (words.Make seed count) (make_status why) text
+    by_answer made.Done same = ((λ is. (ws, (es, subst (MayRun seed ws es (making seed count ws es) text) same may))), (λ other. absurd (other refl)))
+    by_answer made.Protected same = ((λ is. absurd (cc)), (λ other. turned made.Protected same))
+    by_answer made.TableMismatch same = ((λ is. absurd (cc)), (λ other. turned made.TableMismatch same))
+    by_answer (made.Full need have) same = ((λ is. absurd (cc)), (λ other. turned (made.Full need have) same))
+    by_answer (made.Lost segment lost) same = ((λ is. absurd (cc)), (λ other. turned (made.Lost segment lost) same))
+    by_answer (made.Mismatch segment) same = ((λ is. absurd (cc)), (λ other. turned (made.Mismatch segment) same))
+
+-- ---- a cartridge that is not protected
+
+pub unlocked_does : (goes : Going) (held : Option Cartridge) (outcome : Outcome) → IfSome held (λ c. c.info.protected ≡ false) → OpenOutcome goes held outcome → WritableOutcome goes held outcome
+unlocked_does goes None outcome free plain = plain
+unlocked_does goes (Some c) outcome free plain = inr (free, plain)
+
+pub does_unlocked : (goes : Going) (held : Option Cartridge) (outcome : Outcome) → IfSome held (λ c. c.info.protected ≡ false) → WritableOutcome goes held outcome → OpenOutcome goes held outcome
+does_unlocked goes None outcome free plain = plain
+does_unlocked goes (Some c) outcome free (inl locked) = let is = locked.0 in absurd (cc)
+does_unlocked goes (Some c) outcome free (inr plain) = plain.1
+
+-- ---- the opening
+
+making_first : (seed count : ℕ) → Settles (Making seed count)
+making_first seed count c header ws table entries outcome found = ap (λ (o : Outcome). first_steps o) found.is
+
+found_by_make : (seed count : ℕ) (why : Status) → is_opening why ≡ true → may_come_from why (words.Make seed count) ≡ true
+found_by_make seed count status.NoCartridge sound = refl
+found_by_make seed count status.NotFormatted sound = refl
+found_by_make seed count (status.Foreign field value) sound = refl
+found_by_make seed count (status.Lost segment lost) sound = many_lost (nat_lt 3 lost) _ sound
+  where
+    many_lost : (a b : Bool) → (a && b) ≡ true → (a && true) ≡ true
+    many_lost true b is = refl
+    many_lost false b is = is
+found_by_make seed count status.TableMismatch sound = refl
+found_by_make seed count why sound = cc
+
+module _ {T K : Type 0} (t : tapes.Meaning T) (k : sinks.Meaning K) (seed count : ℕ) (a : T) where
+  blind : IsBlind (words.Make seed count)
+  blind = record { reads = refl }
+
+  pub make_refused : (b : UnitView T) (x : K) (why : Status) → ((z : K) → k.took z [] z) → WritableEnds t a b (Err why) → EndsBlind t k (words.Make seed count) a b.tape x x why
+  make_refused b x why nothing (inl locked) =
+      rw locked.answered (turned_down t k (words.Make seed count) blind a b.tape x status.Protected nothing refl (λ is. cc)
+      (told_map (t.told a) _ _ locked.told (λ held is input. locked_is (Making seed count) held is)) locked.did)
+  make_refused b x why nothing (inr (inl (free, turned))) =
+      turned_down t k (words.Make seed count) blind a b.tape x why nothing (found_by_make seed count why turned.sound) (no_outcome why turned.sound)
+      (told_map (t.told a) _ _ (told_both (t.told a) _ _ free turned.told) (λ held is input. unlocked_refused_is (Making seed count) why held is.0 is.1)) turned.did
+  make_refused b x why nothing (inr (inr cut)) =
+      rw cut.answered (cut_off t k (words.Make seed count) blind a b.tape x cut.steps nothing
+      (told_map (t.told a) _ _ cut.front (λ held front outcome rules. writable_begins (Making seed count) (making_first seed count) cut.steps held front outcome (rules []))) cut.broke)
+
+  module _ (b : UnitView T) (store : StoreView) (opening : HasOpened t a b store) (free : IsUnlocked t a) where
+    -- it came to its end, or to a refusal
+    ran : (c : T) (x y : K) (answer : Answer) → TakesBoth k → ((z : K) → k.took z [] z) →
+        HasRun t k seed store.words store.entries (making seed count store.words store.entries) (around b.tape x) (around c y) answer →
+        EndsBlind t k (words.Make seed count) a c x y (make_status answer)
+    ran c x y answer both nothing run =
+        let outcome : Outcome = record { acts = quiet opening.steps ∷ run.acts; taken = 0; status = make_status answer } in
+        inl (record {
+          outcome = outcome;
+          answered = refl;
+          told = told_map (t.told a) _ _ (told_both (t.told a) _ _ free
+              (settled_told t a b store opening (λ d. Makes seed count d store.words store.entries run.acts answer) (λ held. OpenOutcome (Making seed count) held outcome) run.told
+              (λ d is makes. (
+                mounting.Mounted store.header store.words is.table store.entries,
+                is.mounts,
+                record {
+                  acts = run.acts;
+                  answer = answer;
+                  makes = makes;
+                  is = ap (λ (ss : List TapeStep). record { acts = quiet ss ∷ run.acts; taken = 0; status = make_status answer }) is.settles;
+                },
+              ))))
+              (λ held is. ([], tt, ((λ no. absurd (cc)), unlocked_does (Making seed count) held outcome is.0 is.1)));
+          went = went_behind t no_source k both nothing a b.tape tt x (around c y) opening.steps run.acts opening.did run.went;
+          left = none_taken (make_status answer) 0;
+          sound = run_sound seed count store.words (making seed count store.words store.entries) store.entries (text_of run.acts) answer run.may;
+          none_taken = λ no. refl;
+          prints = run_prints seed count store.words store.entries (text_of run.acts) answer run.may;
+          silent = λ still. absurd (cc);
+          fault = tt;
+        })
+
+    -- over a mounted cartridge the acts of the outcome were cut off
+    making_cut : (c : T) (x y : K) (failing : Failing) → TakesBoth k → ((z : K) → k.took z [] z) → (d : Cartridge) → (is : IsOpened d store opening.steps) →
+        ((acts : List Act) (answer : Answer) → Makes seed count (mounting.settled is.table d) store.words store.entries acts answer → Cut t no_source k (around b.tape x) (around c y) acts failing) →
+        (outcome : Outcome) → OpenOutcome (Making seed count) (Some d) outcome → IsCutOff t no_source k (words.Make seed count) (around a x) (around c y) failing outcome
+    making_cut c x y failing both nothing d is each outcome (m, mounts, does) =
+        let same : m ≡ mounting.Mounted store.header store.words is.table store.entries = mounts_is_function d m _ mounts is.mounts in
+        by_acts (subst (λ (n : Mounting). Opened (Making seed count) d n outcome) same does)
+      where
+        by_acts : Making seed count d store.header store.words is.table store.entries outcome → IsCutOff t no_source k (words.Make seed count) (around a x) (around c y) failing outcome
+        by_acts found =
+            let all : quiet opening.steps ∷ found.acts ≡ outcome.acts =
+            ap (λ (ss : List TapeStep). quiet ss ∷ found.acts) is.settles ∙ sym (ap (λ (o : Outcome). o.acts) found.is) in record {
+              cut = subst (λ (acts : List Act). Cut t no_source k (around a x) (around c y) acts failing) all
+                  (cut_behind t no_source k both nothing a b.tape tt x (around c y) opening.steps found.acts failing opening.did (each found.acts found.answer found.makes));
+              done = λ sink still. absurd (cc);
+              silent = λ still. absurd (cc);
+            }
+
+    -- a fault cut that off
+    ran_cut : (c : T) (x y : K) (failing : Failing) → failing ≢ SourceFails → TakesBoth k → ((z : K) → k.took z [] z) →
+        RunCut t k seed store.words store.entries (making seed count store.words store.entries) (around b.tape x) (around c y) failing →
+        EndsBlind t k (words.Make seed count) a c x y (fault_of failing)
+    ran_cut c x y failing other both nothing cut =
+        let Cuts : Option Cartridge → Type 0 = λ held. (outcome : Outcome) → OpenOutcome (Making seed count) held outcome →
+            IsCutOff t no_source k (words.Make seed count) (around a x) (around c y) failing outcome in
+        inr (
+          failing,
+          refl,
+          record {
+            told = told_map (t.told a) _ _ (told_both (t.told a) _ Cuts free
+                (settled_told t a b store opening
+                (λ d. (acts : List Act) (answer : Answer) → Makes seed count d store.words store.entries acts answer → Cut t no_source k (around b.tape x) (around c y) acts failing)
+                Cuts cut.told (λ d is each outcome plain. making_cut c x y failing both nothing d is each outcome plain)))
+                (λ held is. ([], tt, ((λ no. absurd (cc)), λ outcome plain. is.1 outcome (does_unlocked (Making seed count) held outcome is.0 plain))));
+            acts = quiet opening.steps ∷ cut.acts;
+            cut = cut_behind t no_source k both nothing a b.tape tt x (around c y) opening.steps cut.acts failing opening.did cut.cut;
+            front = tt;
+            silent = λ still. absurd (cc);
+            reads = λ same. absurd (other same);
+            source_tells = refl;
+          },
+        )
+
+    -- by the answer of the call
+    pub make_ended : (c : T) (x y : K) (result : Result (Unit {0}) MakeFault) → TakesBoth k → ((z : K) → k.took z [] z) →
+        MakeEnds t k store seed count (around b.tape x) (around c y) result → EndsBlind t k (words.Make seed count) a c x y (run_status result)
+    make_ended c x y (Ok done) both nothing run = ran c x y made.Done both nothing run
+    make_ended c x y (Err fault.Protected) both nothing run = ran c x y made.Protected both nothing run
+    make_ended c x y (Err fault.TableMismatch) both nothing run = ran c x y made.TableMismatch both nothing run
+    make_ended c x y (Err (fault.Full need have)) both nothing run = ran c x y (made.Full need have) both nothing run
+    make_ended c x y (Err (fault.Lost segment lost)) both nothing run = ran c x y (made.Lost segment lost) both nothing run
+    make_ended c x y (Err (fault.Mismatch segment)) both nothing run = ran c x y (made.Mismatch segment) both nothing run
+    make_ended c x y (Err fault.Sink) both nothing run = ran_cut c x y SinkFails (λ same. cc) both nothing run
+    make_ended c x y (Err fault.Tape) both nothing run = ran_cut c x y TapeFails (λ same. cc) both nothing run

@@ -1,0 +1,278 @@
+-- How a script ends.
+use Rattle.std.proofs.Common.{◌≡◌, ◌≢◌, ℕ, true, List, [], ◌∷◌, ◌++◌, drop, Option, Some, None, IfSome, Result, Ok, Err, refl, sym, ap, ◌∙◌, subst, inl, inr, append-nil, arith}
+use Rattle.std.specs.Option.{option_map}
+use Rattle.std.specs.Prelude.{is_some}
+use Rattle.qic_base.specs.Cartridge.{Cartridge}
+use Rattle.qic_base.specs.Sink as sinks
+use Rattle.qic_base.specs.Source as sources
+use Rattle.qic_base.specs.Step.{Step as TapeStep}
+use Rattle.qic_base.specs.Tape as tapes
+use Rattle.qic_base.proofs.Steps.{Broke-front}
+use Rattle.qic_base.proofs.Writing.{TakesBoth}
+use Rattle.acts.specs.Acts.{Act, next_steps, text_of, Failing, TapeFails, SourceFails, SinkFails, Went, Cut, TapeCut}
+use Rattle.cartridge_spec.specs.Mounting as mounting
+use Rattle.cartridge_spec.specs.Mounting.{Mounting}
+use Rattle.drive_states.specs.Unit.{UnitView}
+use Rattle.mount_laws.proofs.Mounting.{mounts_is_function}
+use Rattle.tape_script.specs.declared.words.Words.TheVariants as words
+use Rattle.tape_script.specs.Input.{Item, IsItem, Ending, AtEnd, AtStop, AtFault, IsScript}
+use Rattle.tape_script.proofs.Inputs as inputs
+use Rattle.volume_script.specs.declared.fault.ScriptFault.{ScriptFault}
+use Rattle.volume_script.specs.declared.fault.ScriptFault.TheVariants as fault
+use Rattle.volume_script.specs.Lines.{end_line}
+use Rattle.volume_script.specs.Runs as runs
+use Rattle.volume_script.specs.Script as scripts
+use Rattle.volume_script.specs.Script.{Answer, AllDone, FaultIn, ScriptDoes, answer_by}
+use Rattle.volume_store.specs.Mounting.{StoreView}
+use Rattle.tape_cmd.specs.declared.status.Status.{Status}
+use Rattle.tape_cmd.specs.declared.status.Status.TheVariants as status
+use Rattle.tape_cmd.specs.Opening.{Opened, OpenOutcome, IsOpened, HasOpened, OpeningEnds, is_opening}
+use Rattle.tape_cmd.specs.Outcome.{Outcome, refused, first_steps}
+use Rattle.tape_cmd.specs.Runs.{Ends, InputLeft, IsCutOff, NamesFault, Prints, fault_of, may_come_from}
+use Rattle.tape_cmd.specs.Script.{Scripting, ScriptOutcome, script_status, scripted_on, run_status}
+use Rattle.tape_cmd.proofs.Endings.{told_map}
+use Rattle.tape_cmd.proofs.Mounted.{Settles, no_outcome, begins_is, refused_is}
+use Rattle.tape_cmd.proofs.Opened.{outside, quiet, went_behind, cut_behind, settled_told}
+
+-- ---- the fault of an input
+
+fault_ended : (ending : Ending) (line place : ℕ) → answer_by ending ≡ FaultIn line place → ending ≡ AtFault line place
+fault_ended AtEnd line place is = cc
+fault_ended AtStop line place is = cc
+fault_ended (AtFault number before) line place is = cc
+
+answer_named : (answer : Answer) (line place : ℕ) → script_status answer ≡ status.ScriptFault line place → answer ≡ FaultIn line place
+answer_named AllDone line place is = cc
+answer_named (FaultIn number before) line place is = cc
+
+answer_done : (answer : Answer) → script_status answer ≡ status.Done → answer ≡ AllDone
+answer_done AllDone is = refl
+answer_done (FaultIn number before) is = cc
+
+names_fault : (input : List ℕ) (items : List Item) (ending : Ending) (answer : Answer) → IsScript input items ending → answer ≡ answer_by ending → NamesFault words.Script input (script_status answer)
+names_fault input items ending answer read is = record {
+  named = λ line place same. (items, subst (IsScript input items) (fault_ended ending line place (sym is ∙ answer_named answer line place same)) read);
+  none = λ done line place fault.
+      let same = inputs.one_reading IsItem inputs.items 1 0 input items fault.0 ending (AtFault line place) read fault.1 in
+      let other : answer_by ending ≡ FaultIn line place = ap answer_by same.1 in
+      let all : answer ≡ AllDone = answer_done answer done in
+      cc;
+}
+
+-- an answer that names no fault of the input, and is not that all was done
+names_none : (answer : Status) (left : Option (List ℕ)) → ((line place : ℕ) → answer ≢ status.ScriptFault line place) → answer ≢ status.Done → IfSome left (λ input. NamesFault words.Script input answer)
+names_none answer None none other = tt
+names_none answer (Some input) none other = record { named = λ line place is. absurd (none line place is); none = λ done. absurd (other done) }
+
+told_input : (left : Option (List ℕ)) (input : List ℕ) (P : List ℕ → Type 0) → IfSome left (λ bytes. input ≡ bytes) → P input → IfSome left P
+told_input None input P told is = tt
+told_input (Some bytes) input P told is = subst P told is
+
+-- ---- the opening
+
+found_by_script : (why : Status) → is_opening why ≡ true → may_come_from why words.Script ≡ true
+found_by_script status.NoCartridge sound = refl
+found_by_script status.NotFormatted sound = refl
+found_by_script (status.Foreign field value) sound = refl
+found_by_script (status.Lost segment lost) sound = sound
+found_by_script status.TableMismatch sound = refl
+found_by_script why sound = cc
+
+no_fault : (why : Status) → is_opening why ≡ true → (line place : ℕ) → why ≢ status.ScriptFault line place
+no_fault why sound line place is = let no = ap is_opening is in cc
+
+scripting_first : (input : List ℕ) → Settles (Scripting input)
+scripting_first input c header ws table entries outcome found = ap (λ (o : Outcome). first_steps o) found.is
+
+-- nothing was printed
+none_said : (why : Status) → is_opening why ≡ true → Prints words.Script why []
+none_said status.NoCartridge sound = ((λ is. absurd (cc)), (λ other. refl))
+none_said status.NotFormatted sound = ((λ is. absurd (cc)), (λ other. refl))
+none_said (status.Foreign field value) sound = ((λ is. absurd (cc)), (λ other. refl))
+none_said (status.Lost segment lost) sound = ((λ is. absurd (cc)), (λ other. refl))
+none_said status.TableMismatch sound = ((λ is. absurd (cc)), (λ other. tt))
+none_said why sound = absurd (cc)
+
+left_as : (why : Status) (taken : ℕ) (before after : Option (List ℕ)) → ((line place : ℕ) → why ≢ status.ScriptFault line place) → after ≡ option_map (drop taken) before → InputLeft why taken before after
+left_as (status.ScriptFault line place) taken before after none left = absurd (none line place refl)
+left_as why taken before after none left = left
+
+all_left : (told : Option (List ℕ)) → told ≡ option_map (drop 0) told
+all_left None = refl
+all_left (Some bytes) = refl
+
+abbrev input_of : Option (List ℕ) → List ℕ
+input_of None = []
+input_of (Some bytes) = bytes
+
+input_told : (told : Option (List ℕ)) → IfSome told (λ bytes. input_of told ≡ bytes)
+input_told None = tt
+input_told (Some bytes) = refl
+
+-- a front of a script's text is anything
+said : (text : List ℕ) → (rest : List ℕ) × ((replies : List ℕ) × (text ++ rest ≡ replies ++ end_line))
+said text = (end_line, (text, refl))
+
+module _ {T S K : Type 0} (t : tapes.Meaning T) (s : sources.Meaning S) (k : sinks.Meaning K) (a : T) (i : S) (x : K) where
+  -- a fault of the tape in a front of the settling
+  abbrev opening_cut : (b : T) (steps : List TapeStep) (acts : List Act) → ((z : K) → k.took z [] z) → (rest : List TapeStep) → steps ++ rest ≡ next_steps acts → tapes.Broke t a b steps →
+      TapeCut t s k (outside a i x) (outside b i x) acts
+  opening_cut b steps acts nothing rest is broke =
+      let longer : tapes.Broke t a b (next_steps acts) = subst (tapes.Broke t a b) is (Broke-front rest broke) in record {
+        front = [];
+        rest = acts;
+        parts = refl;
+        broke = longer;
+        here = λ held left told now. longer.torn held left told now;
+        wrote = record { took = nothing x; later = omega arith };
+        source_later = omega arith;
+      }
+
+  -- the opening was refused, or cut off
+  pub script_unopened : (b : UnitView T) (why : Status) → ((z : K) → k.took z [] z) → OpeningEnds t a b (Err why) → Ends t s k words.Script (outside a i x) (outside b.tape i x) why
+  script_unopened b why nothing (inl turned) = inl (record {
+    outcome = refused why;
+    answered = refl;
+    told = told_map (t.told a) _ _ turned.told
+        (λ held is. (input_of (s.left i), input_told (s.left i), ((λ no. absurd (cc)), refused_is (Scripting (input_of (s.left i))) why held is)));
+    went = record { did = turned.did; wrote = record { took = nothing x; later = omega arith }; source_later = omega arith };
+    left = left_as why 0 (s.left i) (s.left i) (no_fault why turned.sound) (all_left (s.left i));
+    sound = found_by_script why turned.sound;
+    none_taken = λ blind. refl;
+    prints = none_said why turned.sound;
+    silent = λ still other. refl;
+    fault = names_none why (s.left i) (no_fault why turned.sound) (no_outcome why turned.sound);
+  })
+  script_unopened b why nothing (inr cut) =
+      rw cut.answered (inr (
+        TapeFails,
+        refl,
+        record {
+          told = told_map (t.told a) _ _ cut.front (λ held front. (
+            input_of (s.left i),
+            input_told (s.left i),
+            (
+              (λ no. absurd (cc)),
+              λ outcome plain.
+                  let begins = begins_is (Scripting (input_of (s.left i))) (scripting_first (input_of (s.left i))) cut.steps held front outcome plain in record {
+                    cut = opening_cut b.tape cut.steps outcome.acts nothing begins.0 begins.1 cut.broke;
+                    done = λ sink still. absurd (cc);
+                    silent = λ still. absurd (cc);
+                  },
+            ),
+          ));
+          acts = quiet cut.steps ∷ [];
+          cut = opening_cut b.tape cut.steps (quiet cut.steps ∷ []) nothing [] (append-nil cut.steps) cut.broke;
+          front = said [];
+          silent = λ still unlike. refl;
+          reads = λ same. refl;
+          source_tells = refl;
+        },
+      ))
+
+  module _ (b : UnitView T) (store : StoreView) (opening : HasOpened t a b store) (c : T) (j : S) (y : K) (both : TakesBoth k) (nothing : (z : K) → k.took z [] z) where
+    -- the machine's outcome over the cartridge that was opened
+    is_plain : (input : List ℕ) (came : scripts.Outcome) (d : Cartridge) (is : IsOpened d store opening.steps) → ScriptDoes (mounting.settled is.table d) store.words store.entries input came →
+        ScriptOutcome (Some d) input (record { acts = quiet opening.steps ∷ came.acts; taken = came.taken; status = script_status came.answer })
+    is_plain input came d is does = (
+      mounting.Mounted store.header store.words is.table store.entries,
+      is.mounts,
+      record {
+        came = came;
+        does = does;
+        is = ap (λ (ss : List TapeStep). record { acts = quiet ss ∷ came.acts; taken = came.taken; status = script_status came.answer }) is.settles;
+      },
+    )
+
+    left_so : (taken : ℕ) (answer : Answer) → runs.Leaves s i j taken answer → InputLeft (script_status answer) taken (s.left i) (s.left j)
+    left_so taken AllDone left = left
+    left_so taken (FaultIn line place) left = left
+
+    sound_so : (answer : Answer) → may_come_from (script_status answer) words.Script ≡ true
+    sound_so AllDone = refl
+    sound_so (FaultIn line place) = refl
+
+    prints_so : (answer : Answer) (text : List ℕ) → (answer ≡ AllDone → (replies : List ℕ) × (text ≡ replies ++ end_line)) → Prints words.Script (script_status answer) text
+    prints_so AllDone text replied = ((λ is. replied refl), (λ other. absurd (other refl)))
+    prints_so (FaultIn line place) text replied = ((λ is. absurd (cc)), (λ other. tt))
+
+    ended : (answer : Answer) → runs.Ended t s k store (outside b.tape i x) (outside c j y) answer → Ends t s k words.Script (outside a i x) (outside c j y) (script_status answer)
+    ended answer run =
+        let came : scripts.Outcome = run.outcome in
+        inl (record {
+          outcome = record { acts = quiet opening.steps ∷ came.acts; taken = came.taken; status = script_status came.answer };
+          answered = sym (ap script_status run.answered);
+          told = settled_told t a b store opening (λ d. ScriptDoes d store.words store.entries run.input came) _ run.told
+              (λ d is does. (run.input, run.is_told, ((λ no. absurd (cc)), is_plain run.input came d is does)));
+          went = went_behind t s k both nothing a b.tape i x (outside c j y) opening.steps came.acts opening.did run.went;
+          left = left_so came.taken answer run.left;
+          sound = sound_so answer;
+          none_taken = λ blind. absurd (cc);
+          prints = prints_so answer (text_of came.acts) run.replied;
+          silent = λ still. absurd (cc);
+          fault = told_input (s.left i) run.input (λ input. NamesFault words.Script input (script_status answer)) run.is_told
+              (names_fault run.input run.items run.ending answer run.read run.by_ending);
+        })
+
+    -- the table did not show the list: over no cartridge that is told
+    mismatched : runs.Mismatched t s k (outside b.tape i x) (outside c j y) → Ends t s k words.Script (outside a i x) (outside c j y) status.TableMismatch
+    mismatched run = inl (record {
+      outcome = record { acts = quiet opening.steps ∷ run.acts; taken = run.taken; status = status.TableMismatch };
+      answered = refl;
+      told = settled_told t a b store opening (λ d. ⊥) _ run.told (λ d is none. absurd none);
+      went = went_behind t s k both nothing a b.tape i x (outside c j y) opening.steps run.acts opening.did run.went;
+      left = run.left;
+      sound = refl;
+      none_taken = λ blind. absurd (cc);
+      prints = ((λ is. absurd (cc)), (λ other. tt));
+      silent = λ still. absurd (cc);
+      fault = names_none status.TableMismatch (s.left i) (λ line place is. cc) (λ is. cc);
+    })
+
+    -- over a mounted cartridge the acts of the outcome were cut off
+    scripting_cut : (failing : Failing) (input : List ℕ) (d : Cartridge) → (is : IsOpened d store opening.steps) →
+        ((came : scripts.Outcome) → ScriptDoes (mounting.settled is.table d) store.words store.entries input came → Cut t s k (outside b.tape i x) (outside c j y) came.acts failing) →
+        (outcome : Outcome) → ScriptOutcome (Some d) input outcome → IsCutOff t s k words.Script (outside a i x) (outside c j y) failing outcome
+    scripting_cut failing input d is each outcome (m, mounts, does) =
+        let same : m ≡ mounting.Mounted store.header store.words is.table store.entries = mounts_is_function d m _ mounts is.mounts in
+        by_acts (subst (λ (n : Mounting). Opened (Scripting input) d n outcome) same does)
+      where
+        by_acts : Scripting input d store.header store.words is.table store.entries outcome → IsCutOff t s k words.Script (outside a i x) (outside c j y) failing outcome
+        by_acts found =
+            let came : scripts.Outcome = found.came in
+            let all : quiet opening.steps ∷ came.acts ≡ outcome.acts =
+            ap (λ (ss : List TapeStep). quiet ss ∷ came.acts) is.settles ∙ sym (ap (λ (o : Outcome). o.acts) found.is) in record {
+              cut = subst (λ (acts : List Act). Cut t s k (outside a i x) (outside c j y) acts failing) all
+                  (cut_behind t s k both nothing a b.tape i x (outside c j y) opening.steps came.acts failing opening.did (each came found.does));
+              done = λ sink still. absurd (cc);
+              silent = λ still. absurd (cc);
+            }
+
+    -- a fault cut that off
+    cut_so : (failing : Failing) → is_some (s.left j) ≡ is_some (s.left i) → runs.CutOff t s k store (outside b.tape i x) (outside c j y) failing →
+        Ends t s k words.Script (outside a i x) (outside c j y) (fault_of failing)
+    cut_so failing tells run = inr (
+      failing,
+      refl,
+      record {
+        told = settled_told t a b store opening
+            (λ d. (came : scripts.Outcome) → ScriptDoes d store.words store.entries run.input came → Cut t s k (outside b.tape i x) (outside c j y) came.acts failing) _ run.told
+            (λ d is each. (run.input, run.is_told, ((λ no. absurd (cc)), λ outcome plain. scripting_cut failing run.input d is each outcome plain)));
+        acts = quiet opening.steps ∷ run.acts;
+        cut = cut_behind t s k both nothing a b.tape i x (outside c j y) opening.steps run.acts failing opening.did run.cut;
+        front = said (text_of run.acts);
+        silent = λ still. absurd (cc);
+        reads = λ same. refl;
+        source_tells = tells;
+      },
+    )
+
+    -- by the answer of the call
+    pub script_ended : (result : Result (Unit {0}) ScriptFault) → is_some (s.left j) ≡ is_some (s.left i) → runs.Ends t s k store (outside b.tape i x) (outside c j y) result →
+        Ends t s k words.Script (outside a i x) (outside c j y) (run_status result)
+    script_ended (Ok done) tells run = ended AllDone run
+    script_ended (Err (fault.Input line place)) tells run = ended (FaultIn line place) run
+    script_ended (Err fault.TableMismatch) tells run = mismatched run
+    script_ended (Err fault.Source) tells run = cut_so SourceFails tells run
+    script_ended (Err fault.Sink) tells run = cut_so SinkFails tells run
+    script_ended (Err fault.Tape) tells run = cut_so TapeFails tells run

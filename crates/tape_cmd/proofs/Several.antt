@@ -1,0 +1,615 @@
+-- What runs of several items leave of the plain cartridge that a cartridge stands for: generated runs, and scripts.
+use Rattle.std.proofs.Common.{◌≡◌, ◌≢◌, ◌⊎◌, inl, inr, ℕ, ◌+◌, ◌<◌, ◌≤◌, Bool, true, false, cond, List, [], ◌∷◌, ◌++◌, length, take, All, is_some, append_assoc, Option, Some, None, IfSome, IsSomeAnd, refl, sym, ap, ◌∙◌, subst, arith, append-nil}
+use Rattle.std.proofs.lemmas.List.{length-append}
+use Rattle.qic_base.specs.declared.tape.TapeInfo.{TapeInfo}
+use Rattle.qic_base.specs.Cartridge.{Cartridge, IsCartridge}
+use Rattle.qic_base.specs.Sink as sinks
+use Rattle.qic_base.specs.Source as sources
+use Rattle.qic_base.specs.Step.{Step as TapeStep, effects}
+use Rattle.qic_base.specs.Stop.{Torn}
+use Rattle.qic_base.specs.Tape as tapes
+use Rattle.qic_base.proofs.Steps.{Torn-append, effects-append}
+use Rattle.acts.specs.Acts.{Act, steps_of, text_of, next_steps, Outside, Failing, TapeFails, SourceFails, SinkFails, Went, Cut}
+use Rattle.acts.proofs.Joins.{steps_of-append, text_of-append}
+use Rattle.cartridge_spec.specs.HeaderAndTable.{TableIs, last_segment}
+use Rattle.cartridge_spec.specs.Mounting.{Mounting, Mounts, settled}
+use Rattle.cartridge_spec.specs.Says.{with_parity}
+use Rattle.cartridge_spec.specs.Segment.{IsLive}
+use Rattle.cartridge_spec.specs.Shape.{usable_places, whole_mask}
+use Rattle.cartridge_spec.specs.Volumes.{Plain, Stands, entries_of}
+use Rattle.cartridge_spec.specs.Writes.{changed_by, writes_of}
+use Rattle.format_plan.proofs.Writing.{effects-some, some_and, some_weaker}
+use Rattle.mount_laws.specs.Laws.{IsTableLive, mounted_as}
+use Rattle.mount_laws.specs.Settling.{settling_steps}
+use Rattle.mount_laws.proofs.Keeping.{stopped_stands}
+use Rattle.mount_laws.proofs.Settled.{settled_is_whole, settled_keeps_table, settled_stands}
+use Rattle.mount_laws.proofs.Standing.{standing_mounts_only_so}
+use Rattle.mount_laws.proofs.Whole.{settled_is_cartridge, settling_effects}
+use Rattle.made_volumes.specs.Laws.{with_made}
+use Rattle.made_volumes.specs.Machine as made
+use Rattle.made_volumes.specs.Machine.{Makes}
+use Rattle.made_volumes.proofs.Answered.{made_are_answered}
+use Rattle.made_volumes.proofs.Stops.{done_make_stands, stopped_make_stands}
+use Rattle.store_laws.specs.Held.{IsHeld}
+use Rattle.store_laws.specs.Kept.{IsKept}
+use Rattle.store_laws.proofs.Listed.{mounted_listed}
+use Rattle.tape_script.specs.declared.words.Words.{Words}
+use Rattle.tape_script.specs.declared.words.Words.TheVariants as commands
+use Rattle.tape_script.specs.Input.{Item}
+use Rattle.tape_script.proofs.Commands.{one_command}
+use Rattle.volume_script.specs.Script as scripts
+use Rattle.volume_script.specs.Script.{ScriptDoes, acts_of}
+use Rattle.volume_script.specs.Standing.{StandsAnswered, plain_behind}
+use Rattle.volume_script.proofs.MachineLaws.{one_outcome as one_script}
+use Rattle.volume_script.proofs.Standing.{answered_behind, answered_between, none_answered, stopped_script_stands}
+use Rattle.tape_cmd.specs.declared.status.Status.{Status}
+use Rattle.tape_cmd.specs.declared.status.Status.TheVariants as status
+use Rattle.tape_cmd.specs.Machine.{HasValues, Spells, Yields}
+use Rattle.tape_cmd.specs.Make.{Making, MakeOutcome, make_status}
+use Rattle.tape_cmd.specs.Opening.{Going, Opened, OpenOutcome}
+use Rattle.tape_cmd.specs.Outcome.{Outcome, refused}
+use Rattle.tape_cmd.specs.Runs.{is_fault, Ends}
+use Rattle.tape_cmd.specs.Script.{Scripting, ScriptOutcome}
+use Rattle.tape_cmd.specs.Headline.{EachLeft, EachNow, StopLeaves, WordsLeave}
+use Rattle.tape_cmd.specs.Several.{SomeMade, MakesVolumes, Scripted, SomeScripted, CarriesOutLines}
+use Rattle.tape_cmd.proofs.Ends.{Laws, after_steps, over_at, told_whole, is_a_fault}
+use Rattle.tape_cmd.proofs.Opened.{quiet}
+use Rattle.tape_cmd.proofs.Totals.{plain_answers}
+use Rattle.tape_cmd.proofs.Volumes.{done_now, each_weaker, now_weaker, whole_of}
+
+-- ---- a cartridge that stands for a plain one, mounted
+
+-- what is mounted as the plain cartridge, or refused
+pub record WasMounted (goes : Going) (c : Cartridge) (plain : Plain) (outcome : Outcome) : Type 0 where
+  pub mounts : Mounts c (mounted_as plain)
+  pub did : goes c plain.header plain.words plain.table_area (entries_of plain) outcome
+
+pub record WasTurned (outcome : Outcome) : Type 0 where
+  pub why : Status
+  pub is : outcome ≡ refused why
+  pub not_done : why ≢ status.Done
+
+mounted_or_turned : (goes : Going) (c : Cartridge) (plain : Plain) (outcome : Outcome) → Stands c plain → OpenOutcome goes (Some c) outcome →
+    WasTurned outcome ⊎ WasMounted goes c plain outcome
+mounted_or_turned goes c plain outcome stood (m, mounts, opened) =
+    elim (standing_mounts_only_so c plain m stood mounts) [
+      | inl same ↦ inr (record { mounts = subst (Mounts c) same mounts; did = subst (λ (a : Mounting). Opened goes c a outcome) same opened })
+      | inr (n, same) ↦ inl (record { why = status.Lost 2 n; is = subst (λ (a : Mounting). Opened goes c a outcome) same opened; not_done = λ is. cc })
+    ]
+
+-- settling leaves each sector of the table's segment live
+settled_live : (c : Cartridge) (area : List (List ℕ)) → IsTableLive c → TableIs c area → IsTableLive (settled area c)
+settled_live c area live reads = by_mark c.info.protected refl
+  where
+    by_mark : (b : Bool) → c.info.protected ≡ b → IsTableLive (settled area c)
+    by_mark true locked =
+        subst IsTableLive (sym (ap (λ (b : Bool). cond b c (changed_by (writes_of 2 (usable_places whole_mask) (with_parity area)) c)) locked)) live
+    by_mark false free = λ i h. subst IsLive (sym (settled_is_whole c area i reads free live h)) tt
+
+-- the settled cartridge is held as the plain one
+settled_held : (c : Cartridge) (plain : Plain) → IsCartridge c → Stands c plain → IsTableLive c → Mounts c (mounted_as plain) → IsHeld (settled plain.table_area c) plain
+settled_held c plain whole stood live mounts = record {
+  cartridge = settled_is_cartridge c plain.table_area whole mounts.reads;
+  stands = settled_stands c plain plain.table_area stood mounts.reads;
+  live = settled_live c plain.table_area live mounts.reads;
+  last = (mounted_listed c plain.header plain.words plain.table_area (entries_of plain) whole mounts).last;
+}
+
+-- what is left of some acts, the first of which settles the table
+module _ (c : Cartridge) (plain : Plain) (whole : IsCartridge c) (stood : Stands c plain) (live : IsTableLive c) (mounts : Mounts c (mounted_as plain)) where
+  abbrev still : Cartridge
+  still = settled plain.table_area c
+
+  abbrev settling : Act
+  settling = quiet (settling_steps plain.table_area c)
+
+  settled_now : effects (settling_steps plain.table_area c) (Some c) ≡ Some still
+  settled_now = settling_effects c plain.table_area mounts.reads
+
+  -- a stop came in the settling, or behind it
+  stopped_first : (acts : List Act) (left : Option Cartridge) → Torn (steps_of (settling ∷ acts)) (Some c) left →
+      IsSomeAnd left (λ d. Stands d plain) ⊎ Torn (steps_of acts) (Some still) left
+  stopped_first acts left torn =
+      elim (Torn-append (settling_steps plain.table_area c) (steps_of acts) (Some c) left torn) [
+        | inl front ↦ inl (stopped_stands c plain plain.table_area left stood mounts.reads front)
+        | inr behind ↦ inr (subst (λ (held : Option Cartridge). Torn (steps_of acts) held left) settled_now behind)
+      ]
+
+  -- a front of the acts is none, or the settling and a front of those behind it
+  begun : (front rest acts : List Act) → front ++ rest ≡ settling ∷ acts → ((front ≡ []) × (rest ≡ settling ∷ acts)) ⊎ ((more : List Act) × (front ≡ settling ∷ more) × (more ++ rest ≡ acts))
+  begun [] rest acts parts = inl (refl, parts)
+  begun (x ∷ more) rest acts parts = let same : x ≡ settling = cc in let behind : more ++ rest ≡ acts = cc in inr (more, ap (λ (a : Act). a ∷ more) same, behind)
+
+  -- what stands behind the settling and a front
+  behind_front : (more : List Act) → effects (steps_of (settling ∷ more)) (Some c) ≡ Some (changed_by (steps_of more) still)
+  behind_front more =
+      effects-append (settling_steps plain.table_area c) (steps_of more) (Some c) ∙ ap (effects (steps_of more)) settled_now ∙ effects-some (steps_of more) still
+
+-- ---- what is told when a run is over
+
+told_now : {T : Type 0} (t : tapes.Meaning T) (a b : T) (P : Option Cartridge → Type 0) → tapes.IsLeftNow t b → t.tells_stops b ≡ t.tells_stops a →
+    IsSomeAnd (t.told b) P → EachNow t a b P
+told_now t a b P after telling holds = record {
+  told = holds;
+  now = λ left tells is. at (t.told b) left holds (after.only left (telling ∙ tells) is);
+}
+  where
+    at : (o : Option (Option Cartridge)) (left : Option Cartridge) → IsSomeAnd o P → o ≡ Some left → P left
+    at None left none is = absurd none
+    at (Some other) left holds is = let same : other ≡ left = cc in subst P same holds
+
+-- something is told of what a told cartridge became
+still_told : (o : Option (Option Cartridge)) (P : Option Cartridge → Type 0) → is_some o ≡ true → ((left : Option Cartridge) → o ≡ Some left → P left) → IsSomeAnd o P
+still_told None P some each = cc
+still_told (Some left) P some each = each left refl
+
+-- ---- what is left of acts, and printed
+
+-- a front of them was done and written, and a stop came among the steps of the next one
+pub record Between (c : Cartridge) (acts : List Act) (text : List ℕ) (left : Option Cartridge) : Type 0 where
+  pub front : List Act
+  pub rest : List Act
+  pub parts : front ++ rest ≡ acts
+  pub torn : Torn (next_steps rest) (effects (steps_of front) (Some c)) left
+  pub is_text : text ≡ text_of front
+
+-- all steps of the next one were done, and some of its text written
+pub record Behind (c : Cartridge) (acts : List Act) (text : List ℕ) (left : Option Cartridge) : Type 0 where
+  pub front : List Act
+  pub act : Act
+  pub rest : List Act
+  pub parts : front ++ act ∷ rest ≡ acts
+  pub is : left ≡ effects (steps_of front ++ act.steps) (Some c)
+  pub some : List ℕ
+  pub more : List ℕ
+  pub written : some ++ more ≡ act.text
+  pub is_text : text ≡ text_of front ++ some
+
+abbrev pub IsLeftBy : Cartridge → List Act → (text : List ℕ) → (left : Option Cartridge) → Type 0
+IsLeftBy c acts text left = Between c acts text left ⊎ Behind c acts text left
+
+none_torn : (steps : List TapeStep) (held : Option Cartridge) → Torn steps held held
+none_torn [] held = refl
+none_torn (x ∷ xs) held = inl refl
+
+module _ {T S K : Type 0} (t : tapes.Meaning T) (s : sources.Meaning S) (k : sinks.Meaning K) (old new : Outside T S K) (c : Cartridge) (told : t.told old.tape ≡ Some (Some c)) (after : tapes.IsLeftNow t new.tape) where
+  -- how acts ended
+  pub record WasLeft (acts : List Act) : Type 0 where
+    pub text : List ℕ
+    pub took : k.took old.sink text new.sink
+    pub each : EachNow t old.tape new.tape (IsLeftBy c acts text)
+
+  done_steps : (steps : List TapeStep) → tapes.Done t old.tape new.tape steps → t.told new.tape ≡ Some (effects steps (Some c))
+  done_steps steps did = after_steps t old.tape new.tape steps (Some c) did told
+
+  left_done : (acts : List Act) (text : List ℕ) (steps : List TapeStep) → tapes.Done t old.tape new.tape steps → IsLeftBy c acts text (effects steps (Some c)) → EachNow t old.tape new.tape (IsLeftBy c acts text)
+  left_done acts text steps did is =
+      told_now t old.tape new.tape (IsLeftBy c acts text) after did.stops.telling
+      (subst (λ (o : Option (Option Cartridge)). IsSomeAnd o (IsLeftBy c acts text)) (sym (done_steps steps did)) is)
+
+  pub went_left : (acts : List Act) → Went t s k old new acts → WasLeft acts
+  went_left acts went = record {
+    text = text_of acts;
+    took = went.wrote.took;
+    each = left_done acts (text_of acts) (steps_of acts) went.did (inl (record { front = acts; rest = []; parts = append-nil acts; torn = refl; is_text = refl }));
+  }
+
+  pub cut_left : (acts : List Act) (failing : Failing) → Cut t s k old new acts failing → WasLeft acts
+  cut_left acts TapeFails cut = record {
+    text = text_of cut.front;
+    took = cut.wrote.took;
+    each = told_now t old.tape new.tape (IsLeftBy c acts (text_of cut.front)) after cut.broke.stops.telling
+        (still_told (t.told new.tape) (IsLeftBy c acts (text_of cut.front)) (cut.broke.tells ∙ ap is_some told)
+        (λ left is. inl (record { front = cut.front; rest = cut.rest; parts = cut.parts; torn = cut.here (Some c) left told is; is_text = refl })));
+  }
+  cut_left acts SourceFails cut = record {
+    text = text_of cut.front;
+    took = cut.wrote.took;
+    each = left_done acts (text_of cut.front) (steps_of cut.front) cut.did (inl (record {
+      front = cut.front;
+      rest = cut.rest;
+      parts = cut.parts;
+      torn = none_torn (next_steps cut.rest) (effects (steps_of cut.front) (Some c));
+      is_text = refl;
+    }));
+  }
+  cut_left acts SinkFails cut =
+      let at = cut.at in
+      let broke = cut.broke in
+      let text : List ℕ = text_of at.front ++ broke.part in record {
+        text = text;
+        took = broke.took;
+        each = left_done acts text (steps_of at.front ++ at.act.steps) cut.did (inr (record {
+          front = at.front;
+          act = at.act;
+          rest = at.rest;
+          parts = at.parts;
+          is = refl;
+          some = broke.part;
+          more = broke.rest;
+          written = broke.parts;
+          is_text = refl;
+        }));
+      }
+
+-- over what is told of a command: some input and its outcome, and how the acts of this ended
+pub record Ran {T S K : Type 0} (t : tapes.Meaning T) (s : sources.Meaning S) (k : sinks.Meaning K) (command : Words) (old new : Outside T S K) (answer : Status) (c : Cartridge) (told : t.told old.tape ≡ Some (Some c)) (after : tapes.IsLeftNow t new.tape) : Type 0 where
+  pub input : List ℕ
+  pub is_told : IfSome (s.left old.source) (λ bytes. input ≡ bytes)
+  pub outcome : Outcome
+  pub plain : Yields command (Some c) input outcome
+  pub was : WasLeft t s k old new c told after outcome.acts
+  pub done : answer ≡ status.Done → (outcome.status ≡ status.Done) × tapes.Done t old.tape new.tape (steps_of outcome.acts)
+
+pub ends_ran : {T S K : Type 0} (t : tapes.Meaning T) (s : sources.Meaning S) (k : sinks.Meaning K) (command : Words) (old new : Outside T S K) (answer : Status) → Laws t s k old new → HasValues command →
+    Ends t s k command old new answer → (c : Cartridge) (told : t.told old.tape ≡ Some (Some c)) (after : tapes.IsLeftNow t new.tape) → Ran t s k command old new answer c told after
+ends_ran t s k command old new answer laws values (inl finished) c told after =
+    let over = over_at (t.told old.tape) _ (Some c) finished.told told in record {
+      input = over.0;
+      is_told = over.1;
+      outcome = finished.outcome;
+      plain = over.2.1;
+      was = went_left t s k old new c told after finished.outcome.acts finished.went;
+      done = λ is. (sym finished.answered ∙ is, finished.went.did);
+    }
+ends_ran t s k command old new answer laws values (inr (failing, is, stopped)) c told after =
+    let over = over_at (t.told old.tape) _ (Some c) stopped.told told in
+    let some = plain_answers command (Some c) over.0 values (told_whole (Some c) (t.told old.tape) (t.size old.tape) laws.right told) in
+    let off = over.2.1 some.0 some.1 in record {
+      input = over.0;
+      is_told = over.1;
+      outcome = some.0;
+      plain = some.1;
+      was = cut_left t s k old new c told after some.0.acts failing off.cut;
+      done = λ done. let fault : is_fault answer ≡ true = ap is_fault is ∙ is_a_fault failing in absurd (cc);
+    }
+
+-- ---- a generated run
+
+module _ (seed count : ℕ) (few : count ≤ 200) (c : Cartridge) (plain : Plain) (whole : IsCartridge c) (stood : Stands c plain) (live : IsTableLive c) where
+  -- its steps were carried out on a settled cartridge that may be written
+  pub record MakeRan (outcome : Outcome) : Type 0 where
+    pub mounts : Mounts c (mounted_as plain)
+    pub kept : IsKept (settled plain.table_area c) plain
+    pub acts : List Act
+    pub answer : made.Answer
+    pub makes : Makes seed count (settled plain.table_area c) plain.words (entries_of plain) acts answer
+    pub is : outcome ≡ record { acts = quiet (settling_steps plain.table_area c) ∷ acts; taken = 0; status = make_status answer }
+
+  make_course : (outcome : Outcome) → MakeOutcome seed count (Some c) outcome → WasTurned outcome ⊎ MakeRan outcome
+  make_course outcome (inl (locked, is)) = inl (record { why = status.Protected; is = is; not_done = λ same. cc })
+  make_course outcome (inr (free, opened)) =
+      elim (mounted_or_turned (Making seed count) c plain outcome stood opened) [
+        | inl turned ↦ inl turned
+        | inr was ↦
+            let held : IsHeld (settled plain.table_area c) plain = settled_held c plain whole stood live was.mounts in
+            let keeps = settled_keeps_table c plain.table_area was.mounts.reads in
+            let did = was.did in inr (record {
+              mounts = was.mounts;
+              kept = record {
+                cartridge = held.cartridge;
+                stands = held.stands;
+                table = keeps.table;
+                live = held.live;
+                unprotected = ap (λ (i : TapeInfo). i.protected) keeps.info ∙ free;
+                last = held.last;
+              };
+              acts = did.acts;
+              answer = did.answer;
+              makes = did.makes;
+              is = did.is;
+            })
+      ]
+
+  abbrev HasMade : (n : ℕ) → Option Cartridge → Type 0
+  HasMade n left = IsSomeAnd left (λ d. Stands d (with_made seed plain 1 n))
+
+  -- a stop leaves some of the volumes
+  make_stopped : (outcome : Outcome) (left : Option Cartridge) → MakeOutcome seed count (Some c) outcome → Torn (steps_of outcome.acts) (Some c) left →
+      (n : ℕ) × (n ≤ count) × HasMade n left
+  make_stopped outcome left does torn =
+      elim (make_course outcome does) [
+        | inl turned ↦
+            (0, omega arith, some_and (λ d. Stands d plain) c left stood (subst (λ (o : Outcome). Torn (steps_of o.acts) (Some c) left) turned.is torn))
+        | inr run ↦ elim (stopped_first c plain whole stood live run.mounts run.acts left (subst (λ (o : Outcome). Torn (steps_of o.acts) (Some c) left) run.is torn)) [
+          | inl stands ↦ (0, omega arith, stands)
+          | inr behind ↦
+              let some = stopped_make_stands seed count (settled plain.table_area c) plain run.acts run.answer left few run.kept run.makes behind in
+              (some.appended, some.within, some.stands)
+        ]
+      ]
+
+  -- nothing of a text was written
+  no_text : (some more : List ℕ) → some ++ more ≡ [] → some ≡ []
+  no_text [] more is = refl
+  no_text (x ∷ xs) more is = cc
+
+  printed_run : (run_acts : List Act) (answer : made.Answer) (text : List ℕ) (left : Option Cartridge) → Mounts c (mounted_as plain) → IsKept (settled plain.table_area c) plain →
+      Makes seed count (settled plain.table_area c) plain.words (entries_of plain) run_acts answer → text ≢ [] → IsLeftBy c (quiet (settling_steps plain.table_area c) ∷ run_acts) text left → HasMade count left
+  printed_run run_acts answer text left mounts kept makes some (inl at) =
+      elim (begun c plain whole stood live mounts at.front at.rest run_acts at.parts) [
+        | inl (none, all) ↦ absurd (some (at.is_text ∙ ap text_of none))
+        | inr (more, is, parts) ↦
+            made_are_answered seed count (settled plain.table_area c) plain run_acts more at.rest answer left few kept makes parts
+            (λ none. some (at.is_text ∙ ap text_of is ∙ none))
+            (subst (λ (held : Option Cartridge). Torn (next_steps at.rest) held left)
+            (ap (λ (acts : List Act). effects (steps_of acts) (Some c)) is ∙ behind_front c plain whole stood live mounts more) at.torn)
+      ]
+  printed_run run_acts answer text left mounts kept makes some (inr at) =
+      elim (begun c plain whole stood live mounts at.front (at.act ∷ at.rest) run_acts at.parts) [
+        | inl (none, all) ↦
+            let first : at.act ≡ quiet (settling_steps plain.table_area c) = cc in
+            let unsaid : at.some ≡ [] = no_text at.some at.more (at.written ∙ ap (λ (a : Act). a.text) first) in
+            absurd (some (at.is_text ∙ ap (λ (acts : List Act). text_of acts ++ at.some) none ∙ unsaid))
+        | inr (more, is, parts) ↦
+            let next : List Act = more ++ at.act ∷ [] in
+            let whole_front : steps_of (quiet (settling_steps plain.table_area c) ∷ next) ≡ steps_of at.front ++ at.act.steps =
+            ap (λ (ss : List TapeStep). settling_steps plain.table_area c ++ ss) (steps_of-append more (at.act ∷ []) ∙ ap (λ (ss : List TapeStep). steps_of more ++ ss) (append-nil at.act.steps))
+            ∙ sym (append_assoc (settling_steps plain.table_area c) (steps_of more) at.act.steps) ∙ ap (λ (acts : List Act). steps_of acts ++ at.act.steps) (sym is) in
+            made_are_answered seed count (settled plain.table_area c) plain run_acts next at.rest answer left few kept makes
+            (append_assoc more (at.act ∷ []) at.rest ∙ parts)
+            (λ none. some (said at.front more at.act at.some at.more text at.is_text at.written is none))
+            (subst (λ (held : Option Cartridge). Torn (next_steps at.rest) held left)
+            (at.is ∙ ap (λ (ss : List TapeStep). effects ss (Some c)) (sym whole_front) ∙ behind_front c plain whole stood live mounts next) (none_torn (next_steps at.rest) left))
+      ]
+    where
+      -- where nothing was to be said up to an act and by it, nothing was said
+      said : (front more : List Act) (act : Act) (said rest text : List ℕ) → text ≡ text_of front ++ said → said ++ rest ≡ act.text → front ≡ quiet (settling_steps plain.table_area c) ∷ more →
+          text_of (more ++ act ∷ []) ≡ [] → text ≡ []
+      said front more act said rest text is written same none =
+          let whole_text : text_of more ++ (said ++ rest) ≡ [] =
+          ap (λ (w : List ℕ). text_of more ++ w) (written ∙ sym (append-nil act.text)) ∙ sym (text_of-append more (act ∷ [])) ∙ none in
+          is ∙ ap (λ (acts : List Act). text_of acts ++ said) same
+          ∙ no_text (text_of more ++ said) rest (append_assoc (text_of more) said rest ∙ whole_text)
+
+  -- once it has printed anything all of them are there
+  make_printed : (outcome : Outcome) (text : List ℕ) (left : Option Cartridge) → MakeOutcome seed count (Some c) outcome → text ≢ [] → IsLeftBy c outcome.acts text left → HasMade count left
+  make_printed outcome text left does some so =
+      elim (make_course outcome does) [
+        | inl turned ↦ absurd (some (nothing_left text left (subst (λ (o : Outcome). IsLeftBy c o.acts text left) turned.is so)))
+        | inr run ↦ printed_run run.acts run.answer text left run.mounts run.kept run.makes some (subst (λ (o : Outcome). IsLeftBy c o.acts text left) run.is so)
+      ]
+    where
+      nothing_left : (text : List ℕ) (left : Option Cartridge) → IsLeftBy c [] text left → text ≡ []
+      nothing_left text left (inl at) = by_front at.front at.rest at.parts at.is_text
+        where
+          by_front : (front rest : List Act) → front ++ rest ≡ [] → text ≡ text_of front → text ≡ []
+          by_front [] rest none is = is
+          by_front (x ∷ xs) rest none is = cc
+      nothing_left text left (inr at) = by_front at.front at.act at.rest at.parts
+        where
+          by_front : (front : List Act) (act : Act) (rest : List Act) → front ++ act ∷ rest ≡ [] → text ≡ []
+          by_front [] act rest none = cc
+          by_front (x ∷ xs) act rest none = cc
+
+  -- and once it was carried out
+  make_done : (outcome : Outcome) → MakeOutcome seed count (Some c) outcome → outcome.status ≡ status.Done → HasMade count (effects (steps_of outcome.acts) (Some c))
+  make_done outcome does is_done =
+      elim (make_course outcome does) [
+        | inl turned ↦ absurd (turned.not_done (sym (ap (λ (o : Outcome). o.status) turned.is) ∙ is_done))
+        | inr run ↦
+            let answered : run.answer ≡ made.Done = all_done run.answer (sym (ap (λ (o : Outcome). o.status) run.is) ∙ is_done) in
+            some_and (λ d. Stands d (with_made seed plain 1 count)) (changed_by (steps_of run.acts) (settled plain.table_area c)) (effects (steps_of outcome.acts) (Some c))
+            (done_make_stands seed count (settled plain.table_area c) plain run.acts few run.kept
+            (subst (λ (a : made.Answer). Makes seed count (settled plain.table_area c) plain.words (entries_of plain) run.acts a) answered run.makes))
+            (ap (λ (o : Outcome). effects (steps_of o.acts) (Some c)) run.is ∙ behind_front c plain whole stood live run.mounts run.acts)
+      ]
+    where
+      all_done : (answer : made.Answer) → make_status answer ≡ status.Done → answer ≡ made.Done
+      all_done made.Done is = refl
+      all_done made.Protected is = cc
+      all_done made.TableMismatch is = cc
+      all_done (made.Full need have) is = cc
+      all_done (made.Lost segment lost) is = cc
+      all_done (made.Mismatch segment) is = cc
+
+-- what is left by words of a generated run
+some_made : (told : Option (List ℕ)) (words : List (List ℕ)) (held left : Option Cartridge) → ((command : Words) → Spells words command → HasValues command) → IfSome held IsCartridge →
+    WordsLeave told words held left → SomeMade words held left
+some_made told words held left values whole (inl same) seed count c plain is run =
+    (0, omega arith, some_and (λ d. Stands d plain) c left run.stands (same ∙ is))
+some_made told words held left values whole (inr (command, spelled, leaves)) seed count c plain is run =
+    let other : Words = commands.Make seed count in
+    let same : command ≡ other = one_command words command other spelled run.spelled in
+    let l : StopLeaves told other (Some c) left =
+    subst (λ (w : Words). StopLeaves told w (Some c) left) same (subst (λ (h : Option Cartridge). StopLeaves told command h left) is leaves) in
+    make_stopped seed count (values other run.spelled) c plain (whole_of held c whole is) run.stands run.live l.outcome left l.plain l.torn
+
+pub makes_volumes : {T S K : Type 0} (t : tapes.Meaning T) (s : sources.Meaning S) (k : sinks.Meaning K) (words : List (List ℕ)) (command : Words) (old new : Outside T S K) (answer : Status) →
+    Laws t s k old new → Spells words command → ((other : Words) → Spells words other → HasValues other) → Ends t s k command old new answer →
+    EachLeft t old.tape new.tape (WordsLeave (s.left old.source) words) → MakesVolumes t k words old.tape new.tape old.sink new.sink answer
+makes_volumes t s k words command old new answer laws spelled values ends leaves = record {
+  stopped = each_weaker t old.tape new.tape laws.right (λ held left whole is. some_made (s.left old.source) words held left values whole is) leaves;
+  over = λ seed count c plain told run.
+      let other : Words = commands.Make seed count in
+      let same : command ≡ other = one_command words command other spelled run.spelled in
+      let few : count ≤ 200 = values other run.spelled in
+      let whole : IsCartridge c = told_whole (Some c) (t.told old.tape) (t.size old.tape) laws.right told in
+      let ran = ends_ran t s k other old new answer laws few (subst (λ (w : Words). Ends t s k w old new answer) same ends) c told laws.after in
+      let was = ran.was in record {
+        text = was.text;
+        took = was.took;
+        all = λ which. elim which [
+          | inl some ↦ now_weaker t old.tape new.tape
+              (λ left is. make_printed seed count few c plain whole run.stands run.live ran.outcome was.text left ran.plain some is) was.each
+          | inr done ↦
+              let all = ran.done done in
+              now_weaker t old.tape new.tape
+              (λ left is. subst (λ (o : Option Cartridge). IsSomeAnd o (λ d. Stands d (with_made seed plain 1 count))) (sym is)
+              (make_done seed count few c plain whole run.stands run.live ran.outcome ran.plain all.0))
+              (done_now t old.tape new.tape (steps_of ran.outcome.acts) (Some c) laws.after all.1 told)
+        ];
+      };
+}
+
+-- ---- a script
+
+same_input : (told : Option (List ℕ)) (input other : List ℕ) → told ≡ Some input → IfSome told (λ bytes. other ≡ bytes) → other ≡ input
+same_input told input other is known = subst (λ (o : Option (List ℕ)). IfSome o (λ bytes. other ≡ bytes)) is known
+
+module _ (told : Option (List ℕ)) (words : List (List ℕ)) (c : Cartridge) (plain : Plain) (whole : IsCartridge c) (script : Scripted told words c plain) where
+  abbrev items : List Item
+  items = script.does.items
+
+  abbrev dids : List scripts.Did
+  dids = script.does.dids
+
+  -- its lines were carried out on the settled cartridge
+  pub record ScriptRan (outcome : Outcome) : Type 0 where
+    pub mounts : Mounts c (mounted_as plain)
+    pub held : IsHeld (settled plain.table_area c) plain
+    pub acts : outcome.acts ≡ quiet (settling_steps plain.table_area c) ∷ script.outcome.acts
+
+  script_course : (input : List ℕ) (outcome : Outcome) → input ≡ script.input → ScriptOutcome (Some c) input outcome → WasTurned outcome ⊎ ScriptRan outcome
+  script_course input outcome same opened =
+      elim (mounted_or_turned (Scripting input) c plain outcome script.stands opened) [
+        | inl turned ↦ inl turned
+        | inr was ↦
+            let did = was.did in
+            let one : did.came ≡ script.outcome =
+            one_script (settled plain.table_area c) plain.words (entries_of plain) script.input did.came script.outcome
+            (subst (λ (i : List ℕ). ScriptDoes (settled plain.table_area c) plain.words (entries_of plain) i did.came) same did.does) script.does in
+            inr (record {
+              mounts = was.mounts;
+              held = settled_held c plain whole script.stands script.live was.mounts;
+              acts = ap (λ (o : Outcome). o.acts) did.is ∙ ap (λ (o : scripts.Outcome). quiet (settling_steps plain.table_area c) ∷ o.acts) one;
+            })
+      ]
+
+  abbrev BehindSome : Option Cartridge → Type 0
+  BehindSome left = (n : ℕ) × (n ≤ length items) × IsSomeAnd left (λ d. Stands d (plain_behind plain (take n items) (take n dids)))
+
+  -- a stop leaves the plain cartridge behind some of the lines
+  script_stopped : (input : List ℕ) (outcome : Outcome) (left : Option Cartridge) → input ≡ script.input → ScriptOutcome (Some c) input outcome → Torn (steps_of outcome.acts) (Some c) left → BehindSome left
+  script_stopped input outcome left same does torn =
+      elim (script_course input outcome same does) [
+        | inl turned ↦
+            (0, omega arith, some_and (λ d. Stands d plain) c left script.stands (subst (λ (o : Outcome). Torn (steps_of o.acts) (Some c) left) turned.is torn))
+        | inr run ↦
+            elim (stopped_first c plain whole script.stands script.live run.mounts script.outcome.acts left (subst (λ (acts : List Act). Torn (steps_of acts) (Some c) left) run.acts torn)) [
+              | inl stands ↦ (0, omega arith, stands)
+              | inr behind ↦ stopped_script_stands (settled plain.table_area c) plain script.input script.outcome left run.held script.does script.bytes script.spares behind
+            ]
+      ]
+
+  abbrev Answered : (text : List ℕ) → Option Cartridge → Type 0
+  Answered text left = StandsAnswered plain items dids (length text) left
+
+  -- nothing was printed yet
+  nothing_answered : (text : List ℕ) (left : Option Cartridge) → text ≡ [] → IsSomeAnd left (λ d. Stands d plain) → Answered text left
+  nothing_answered text left none stands =
+      subst (λ (xs : List ℕ). Answered xs left) (sym none)
+      (none_answered (settled plain.table_area c) plain items dids left script.does.did stands)
+
+  script_answered : (input : List ℕ) (outcome : Outcome) (text : List ℕ) (left : Option Cartridge) → input ≡ script.input → ScriptOutcome (Some c) input outcome → IsLeftBy c outcome.acts text left → Answered text left
+  script_answered input outcome text left same does so =
+      elim (script_course input outcome same does) [
+        | inl turned ↦ turned_down text left (subst (λ (o : Outcome). IsLeftBy c o.acts text left) turned.is so)
+        | inr run ↦ ran run (subst (λ (acts : List Act). IsLeftBy c acts text left) run.acts so)
+      ]
+    where
+      turned_down : (text : List ℕ) (left : Option Cartridge) → IsLeftBy c [] text left → Answered text left
+      turned_down text left (inl at) = by_front at.front at.rest at.parts at.is_text at.torn
+        where
+          by_front : (front rest : List Act) → front ++ rest ≡ [] → text ≡ text_of front → Torn (next_steps rest) (effects (steps_of front) (Some c)) left → Answered text left
+          by_front [] [] none is torn = nothing_answered text left is (some_and (λ d. Stands d plain) c left script.stands torn)
+          by_front [] (x ∷ xs) none is torn = cc
+          by_front (x ∷ xs) rest none is torn = cc
+      turned_down text left (inr at) = by_front at.front at.act at.rest at.parts
+        where
+          by_front : (front : List Act) (act : Act) (rest : List Act) → front ++ act ∷ rest ≡ [] → Answered text left
+          by_front [] act rest none = cc
+          by_front (x ∷ xs) act rest none = cc
+
+      ran : ScriptRan outcome → IsLeftBy c (quiet (settling_steps plain.table_area c) ∷ script.outcome.acts) text left → Answered text left
+      ran run (inl at) =
+          elim (begun c plain whole script.stands script.live run.mounts at.front at.rest script.outcome.acts at.parts) [
+            | inl (none, all) ↦
+                nothing_answered text left (at.is_text ∙ ap text_of none)
+                (stopped_stands c plain plain.table_area left script.stands run.mounts.reads
+                (subst (λ (rest : List Act). Torn (next_steps rest) (Some c) left) all (subst (λ (front : List Act). Torn (next_steps at.rest) (effects (steps_of front) (Some c)) left) none at.torn)))
+            | inr (more, is, parts) ↦
+                subst (λ (xs : List ℕ). Answered xs left) (sym (at.is_text ∙ ap text_of is))
+                (answered_between (settled plain.table_area c) plain script.input script.outcome more at.rest left run.held script.does script.bytes script.spares parts
+                (subst (λ (held : Option Cartridge). Torn (next_steps at.rest) held left)
+                (ap (λ (acts : List Act). effects (steps_of acts) (Some c)) is ∙ behind_front c plain whole script.stands script.live run.mounts more) at.torn))
+          ]
+      ran run (inr at) =
+          elim (begun c plain whole script.stands script.live run.mounts at.front (at.act ∷ at.rest) script.outcome.acts at.parts) [
+            | inl (none, all) ↦
+                let first : at.act ≡ quiet (settling_steps plain.table_area c) = cc in
+                let unsaid : at.some ≡ [] = no_text_of at.some at.more (at.written ∙ ap (λ (a : Act). a.text) first) in
+                nothing_answered text left (at.is_text ∙ ap (λ (acts : List Act). text_of acts ++ at.some) none ∙ unsaid)
+                (some_and (λ d. Stands d plain) (settled plain.table_area c) left run.held.stands
+                (at.is ∙ ap (λ (acts : List Act). effects (steps_of acts ++ at.act.steps) (Some c)) none ∙ ap (λ (a : Act). effects a.steps (Some c)) first ∙ settling_effects c plain.table_area run.mounts.reads))
+            | inr (more, is, parts) ↦
+                let texts : length text ≡ length (text_of more) + length at.some = ap length (at.is_text ∙ ap (λ (acts : List Act). text_of acts ++ at.some) is) ∙ length-append (text_of more) at.some in
+                let act_text : length at.act.text ≡ length at.some + length at.more = ap length (sym at.written) ∙ length-append at.some at.more in
+                answered_behind (settled plain.table_area c) plain script.input script.outcome more at.act at.rest left (length text) run.held script.does script.bytes script.spares parts
+                (at.is ∙ ap (λ (acts : List Act). effects (steps_of acts ++ at.act.steps) (Some c)) is
+                ∙ ap (λ (ss : List TapeStep). effects ss (Some c)) (append_assoc (settling_steps plain.table_area c) (steps_of more) at.act.steps)
+                ∙ effects-append (settling_steps plain.table_area c) (steps_of more ++ at.act.steps) (Some c)
+                ∙ ap (effects (steps_of more ++ at.act.steps)) (settling_effects c plain.table_area run.mounts.reads)
+                ∙ effects-some (steps_of more ++ at.act.steps) (settled plain.table_area c))
+                (omega arith) (omega arith)
+          ]
+
+      no_text_of : (some more : List ℕ) → some ++ more ≡ [] → some ≡ []
+      no_text_of [] more is = refl
+      no_text_of (x ∷ xs) more is = cc
+
+-- what is left by words of a script
+some_scripted : (told : Option (List ℕ)) (words : List (List ℕ)) (held left : Option Cartridge) → IfSome held IsCartridge → WordsLeave told words held left → SomeScripted told words held left
+some_scripted told words held left whole (inl same) c plain is script =
+    (0, omega arith, some_and (λ d. Stands d plain) c left script.stands (same ∙ is))
+some_scripted told words held left whole (inr (command, spelled, leaves)) c plain is script =
+    let same : command ≡ commands.Script = one_command words command commands.Script spelled script.spelled in
+    let l : StopLeaves told commands.Script (Some c) left =
+    subst (λ (w : Words). StopLeaves told w (Some c) left) same (subst (λ (h : Option Cartridge). StopLeaves told command h left) is leaves) in
+    script_stopped told words c plain (whole_of held c whole is) script l.input l.outcome left (same_input told script.input l.input script.is_told l.is_told) l.plain l.torn
+
+pub carries_out_lines : {T S K : Type 0} (t : tapes.Meaning T) (s : sources.Meaning S) (k : sinks.Meaning K) (words : List (List ℕ)) (command : Words) (old new : Outside T S K) (answer : Status) →
+    Laws t s k old new → Spells words command → Ends t s k command old new answer →
+    EachLeft t old.tape new.tape (WordsLeave (s.left old.source) words) → CarriesOutLines t k (s.left old.source) words old.tape new.tape old.sink new.sink
+carries_out_lines t s k words command old new answer laws spelled ends leaves = record {
+  stopped = each_weaker t old.tape new.tape laws.right (λ held left whole is. some_scripted (s.left old.source) words held left whole is) leaves;
+  over = λ c plain told script.
+      let same : command ≡ commands.Script = one_command words command commands.Script spelled script.spelled in
+      let whole : IsCartridge c = told_whole (Some c) (t.told old.tape) (t.size old.tape) laws.right told in
+      let ran = ends_ran t s k commands.Script old new answer laws tt (subst (λ (w : Words). Ends t s k w old new answer) same ends) c told laws.after in
+      let was = ran.was in record {
+        text = was.text;
+        took = was.took;
+        answered = now_weaker t old.tape new.tape
+            (λ left is. script_answered (s.left old.source) words c plain whole script ran.input ran.outcome was.text left
+            (same_input (s.left old.source) script.input ran.input script.is_told ran.is_told) ran.plain is) was.each;
+      };
+}
+
+-- ---- a run that touched nothing
+
+untouched_now : {T : Type 0} (t : tapes.Meaning T) (a : T) (c : Cartridge) (P : Option Cartridge → Type 0) → tapes.IsLeftNow t a → t.told a ≡ Some (Some c) → P (Some c) → EachNow t a a P
+untouched_now t a c P after told holds = told_now t a a P after refl (subst (λ (o : Option (Option Cartridge)). IsSomeAnd o P) (sym told) holds)
+
+pub none_made : {T K : Type 0} (t : tapes.Meaning T) (k : sinks.Meaning K) (told : Option (List ℕ)) (words : List (List ℕ)) (a : T) (x : K) (answer : Status) → tapes.IsToldRight (t.told a) (t.size a) → tapes.IsLeftNow t a →
+    k.took x [] x → answer ≢ status.Done → ((other : Words) → Spells words other → HasValues other) → EachLeft t a a (WordsLeave told words) → MakesVolumes t k words a a x x answer
+none_made t k told words a x answer right after nothing other values leaves = record {
+  stopped = each_weaker t a a right (λ held left whole is. some_made told words held left values whole is) leaves;
+  over = λ seed count c plain is run. record {
+    text = [];
+    took = nothing;
+    all = λ which. elim which [ | inl some ↦ absurd (some refl) | inr done ↦ absurd (other done) ];
+  };
+}
+
+pub none_scripted : {T K : Type 0} (t : tapes.Meaning T) (k : sinks.Meaning K) (told : Option (List ℕ)) (words : List (List ℕ)) (a : T) (x : K) → tapes.IsToldRight (t.told a) (t.size a) → tapes.IsLeftNow t a →
+    k.took x [] x → EachLeft t a a (WordsLeave told words) → CarriesOutLines t k told words a a x x
+none_scripted t k told words a x right after nothing leaves = record {
+  stopped = each_weaker t a a right (λ held left whole is. some_scripted told words held left whole is) leaves;
+  over = λ c plain is script. record {
+    text = [];
+    took = nothing;
+    answered = untouched_now t a c (StandsAnswered plain script.does.items script.does.dids 0) after is
+        (none_answered (settled plain.table_area c) plain script.does.items script.does.dids (Some c) script.does.did script.stands);
+  };
+}
