@@ -12,3 +12,5 @@ pub mod Stores
 pub mod Going
 pub mod Listing
 pub mod Stops
+pub mod Answered
+pub mod Outcomes

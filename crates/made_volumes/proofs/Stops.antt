@@ -1,35 +1,25 @@
 -- A run of `make` on a cartridge that stands for a plain one, step by step.
-use Rattle.std.proofs.Common.{◌≡◌, ◌⊎◌, inl, inr, ℕ, zero, suc, ◌+◌, ◌-◌, ◌*◌, ◌%◌, ◌^◌, ◌<◌, ◌≤◌, ◌==◌, Bool, true, false, cond, List, [], ◌∷◌, ◌++◌, length, drop, All, Option, Some, None, IsSomeAnd, refl, sym, ap, ◌∙◌, subst, arith, append-nil, codes, decimal, replicate}
+use Rattle.std.proofs.Common.{◌≡◌, ◌⊎◌, inl, inr, ℕ, zero, suc, ◌+◌, ◌-◌, ◌%◌, ◌^◌, ◌<◌, ◌≤◌, ◌==◌, Bool, true, false, cond, List, [], ◌∷◌, ◌++◌, length, drop, All, Option, Some, None, IsSomeAnd, refl, sym, ap, ◌∙◌, subst, arith, append-nil, codes, decimal, replicate}
 use Rattle.std.proofs.lemmas.Bool.{cases_Bool}
 use Rattle.std.proofs.lemmas.Fmt.{length-decimal-le, decimal_by_steps}
 use Rattle.std.proofs.lemmas.List.{length-append, length-replicate, map-append, get_or_default}
 use Rattle.std.proofs.lemmas.List.Elements.{All-head, All-tail, All-append, All-push, All-map, All-replicate, All-take, All-weaker, All-from_recursion}
 use Rattle.std.specs.List.{range_with_len}
-use Rattle.qic_base.specs.declared.tape.TapeInfo.{TapeInfo}
-use Rattle.qic_base.specs.declared.tape.SectorView.{SectorView}
-use Rattle.qic_base.specs.Cartridge.{Cartridge, view_at}
+use Rattle.qic_base.specs.Cartridge.{Cartridge}
 use Rattle.qic_base.specs.Name.{filled}
-use Rattle.qic_base.specs.Step.{Step, Wear, worn_view}
+use Rattle.qic_base.specs.Step.{Step, Wear}
 use Rattle.qic_base.specs.Stop.{Torn}
-use Rattle.qic_base.proofs.Steps.{Torn-append, Torn-all}
+use Rattle.qic_base.proofs.Steps.{Torn-all}
 use Rattle.acts.specs.Acts.{Act, steps_of, text_of}
-use Rattle.acts.proofs.Joins.{steps_of-append}
 use Rattle.cartridge_spec.specs.HeaderAndTable.{TableIs, last_segment}
-use Rattle.cartridge_spec.specs.Says.{Data, AsRead, ByCode, TableSays}
-use Rattle.cartridge_spec.specs.Segment.{IsLive}
 use Rattle.cartridge_spec.specs.Shape.{mask_at, usable_places}
-use Rattle.cartridge_spec.specs.Table.{Entry, LieBehind, IsSoundList}
+use Rattle.cartridge_spec.specs.Table.{Entry, LieBehind}
 use Rattle.cartridge_spec.specs.Volumes.{Plain, Volume, Stands, entries_of, carrying_segments, volume_length}
 use Rattle.cartridge_spec.specs.Writes.{changed_by}
 use Rattle.cartridge_spec.proofs.Places.{usable_small}
-use Rattle.cartridge_spec.proofs.Segments.{view_of_cartridge}
-use Rattle.cartridge_spec.proofs.Whole.{with_view_whole, worn_is_view}
 use Rattle.change_laws.specs.Wear.{worn}
-use Rattle.change_laws.proofs.Changes.{view_of_other}
-use Rattle.change_laws.proofs.Standing.{other_cells, worn_stands}
 use Rattle.format_plan.specs.Fresh.{IsLabel}
 use Rattle.format_plan.proofs.Writing.{effects-some, some_and, some_weaker}
-use Rattle.mount_laws.specs.Laws.{IsTableLive}
 use Rattle.mount_laws.specs.Settling.{settling_steps}
 use Rattle.mount_laws.proofs.Keeping.{stopped_stands}
 use Rattle.mount_laws.proofs.Standing.{standing_data}
@@ -40,11 +30,7 @@ use Rattle.append_plan.proofs.Segments.{carrying_from}
 use Rattle.append_plan.proofs.Volume.{old_order}
 use Rattle.cartridge_spec.specs.Mounting.{settled}
 use Rattle.restore_plan.specs.Restoring.{Ending, Restored, LostIn, MismatchIn}
-use Rattle.scrub_plan.specs.Scrubbing.{Scrubs, looked_at}
-use Rattle.scrub_plan.specs.Mended.{IsBeingMended}
-use Rattle.scrub_plan.proofs.Done.{done_being_mended}
-use Rattle.scrub_plan.proofs.Mending.{done_scrub_is_cartridge}
-use Rattle.scrub_plan.proofs.Mounted.{done_scrub_stands, stopped_scrub_stands, done_scrub_table}
+use Rattle.scrub_plan.proofs.Mounted.{stopped_scrub_stands}
 use Rattle.store_laws.specs.Kept.{IsKept}
 use Rattle.store_laws.proofs.Keeping.{acts_stopped, changed_by_acts, scrubbed_kept, worn_kept}
 use Rattle.store_laws.proofs.Standing.{kept_appended, stopped_appended, all_writes, no_writes, same_last}
@@ -216,7 +202,7 @@ still_after seed words es ScrubAll still = refl
 still_after seed words es (SumVolume number) still = refl
 
 -- the acts of a sum take no step
-sum_in_no_step : (number size : ℕ) (given : List ℕ) (ending : Ending) → steps_of (sum_acts number size given ending) ≡ []
+pub sum_in_no_step : (number size : ℕ) (given : List ℕ) (ending : Ending) → steps_of (sum_acts number size given ending) ≡ []
 sum_in_no_step number size given Restored = refl
 sum_in_no_step number size given (LostIn segment lost) = refl
 sum_in_no_step number size given (MismatchIn segment) = refl
@@ -256,7 +242,7 @@ still_stopped seed c plain (SumVolume number) acts answer left still held does t
 
 -- ---- several steps
 
-stills_stopped : (seed : ℕ) (items : List Item) (c : Cartridge) (plain : Plain) (acts : List Act) (answer : Answer) (left : Option Cartridge) → AreStill items → IsKept c plain →
+pub stills_stopped : (seed : ℕ) (items : List Item) (c : Cartridge) (plain : Plain) (acts : List Act) (answer : Answer) (left : Option Cartridge) → AreStill items → IsKept c plain →
     Runs seed c plain.words (entries_of plain) items acts answer → Torn (steps_of acts) (Some c) left → IsSomeAnd left (λ d. Stands d plain)
 stills_stopped seed [] c plain acts answer left still held (none, done) torn =
     stands_there c plain left held (subst (λ (zs : List Act). Torn (steps_of zs) (Some c) left) none torn)
@@ -330,18 +316,18 @@ still_summing number (suc count) = (tt, still_summing (number + 1) count)
 -- ---- the appends, and what comes behind them
 
 -- the entries of the plain cartridge with a made volume
-entries_more : (seed : ℕ) (plain : Plain) (volume : ℕ) →
+pub entries_more : (seed : ℕ) (plain : Plain) (volume : ℕ) →
     entries_of (with_volume plain (made_volume seed plain volume)) ≡ entries_of plain ++ made_entry seed plain.words (entries_of plain) volume ∷ []
 entries_more seed plain volume = map-append (λ (v : Volume). v.entry) plain.volumes (made_volume seed plain volume ∷ [])
 
 -- what comes behind the appends is still where they all stand
-abbrev StillBehind : (seed : ℕ) (words : List ℕ) (es : List Entry) (volume n : ℕ) (rest : List Item) → Type 0
+abbrev pub StillBehind : (seed : ℕ) (words : List ℕ) (es : List Entry) (volume n : ℕ) (rest : List Item) → Type 0
 StillBehind seed words es volume n rest =
     (d : Cartridge) (p : Plain) → IsKept d p → p.words ≡ words → entries_of p ≡ after_items seed words es (appending volume n) → AreStill rest
 
 module _ (seed : ℕ) (rest : List Item) where
   -- with one volume more the same comes behind
-  behind_next : (plain : Plain) (volume n : ℕ) → StillBehind seed plain.words (entries_of plain) volume (suc n) rest →
+  pub behind_next : (plain : Plain) (volume n : ℕ) → StillBehind seed plain.words (entries_of plain) volume (suc n) rest →
       StillBehind seed plain.words (entries_of (with_volume plain (made_volume seed plain volume))) (volume + 1) n rest
   behind_next plain volume n still d p held words es =
       still d p held words (es ∙ ap (λ (now : List Entry). after_items seed plain.words now (appending (volume + 1) n)) (entries_more seed plain volume))
@@ -405,7 +391,7 @@ module _ (seed : ℕ) (rest : List Item) where
 
 -- ---- a run
 
-behind_is_still : (seed count : ℕ) (words : List ℕ) (es : List Entry) →
+pub behind_is_still : (seed count : ℕ) (words : List ℕ) (es : List Entry) →
     StillBehind seed words es 1 count (wearing_volumes words (drop (length es) (made_list seed count words es)) ++ ScrubAll ∷ summing (length es + 1) count)
 behind_is_still seed count words es d p held same list =
     let order : LieBehind 2 (last_segment d) (made_list seed count words es) =

@@ -1,8 +1,8 @@
 -- What a run of `make` comes to, and what a stop in it leaves, as facts.
-use Rattle.std.specs.Prelude.{◌≡◌, ◌⊎◌, ℕ, zero, suc, ◌+◌, ◌-◌, ◌≤◌, false, List, [], ◌∷◌, ◌++◌, length, Option, Some, IsSomeAnd}
+use Rattle.std.specs.Prelude.{◌≡◌, ◌≢◌, ◌⊎◌, ℕ, zero, suc, ◌+◌, ◌-◌, ◌≤◌, false, List, [], ◌∷◌, ◌++◌, length, Option, Some, IsSomeAnd}
 use Rattle.qic_base.specs.Cartridge.{Cartridge, IsCartridge}
 use Rattle.qic_base.specs.Stop.{Torn}
-use Rattle.acts.specs.Acts.{Act, steps_of}
+use Rattle.acts.specs.Acts.{Act, steps_of, text_of, next_steps}
 use Rattle.append_plan.specs.Appending.{appended_volume, with_volume}
 use Rattle.cartridge_spec.specs.HeaderAndTable.{TableIs, last_segment}
 use Rattle.cartridge_spec.specs.Table.{Entry}
@@ -10,6 +10,7 @@ use Rattle.cartridge_spec.specs.Volumes.{Plain, Volume, Stands, entries_of}
 use Rattle.cartridge_spec.specs.Writes.{changed_by}
 use Rattle.mount_laws.specs.Laws.{IsTableLive}
 use Rattle.store_laws.specs.Kept.{IsKept}
+use Rattle.store_laws.specs.Listed.{IsListed}
 use Rattle.tape_script.specs.Generator.{made_bytes}
 use Rattle.made_volumes.specs.Items.{Item, made_name, after_items}
 use Rattle.made_volumes.specs.Machine.{Answer, Done, Does, Runs, Makes}
@@ -21,6 +22,12 @@ abbrev pub MakesOneThing : Type 0
 MakesOneThing =
     (seed count : ℕ) (c : Cartridge) (words : List ℕ) (entries : List Entry) (a b : List Act) (x y : Answer) →
     Makes seed count c words entries a x → Makes seed count c words entries b y → (a ≡ b) × (x ≡ y)
+
+-- and it does something, whatever the sectors of the cartridge hold
+abbrev pub MakesSomething : Type 0
+MakesSomething =
+    (seed count : ℕ) (c : Cartridge) (words : List ℕ) (entries : List Entry) → IsListed c words entries → count ≤ 200 →
+    (acts : List Act) × (answer : Answer) × Makes seed count c words entries acts answer
 
 -- a stop inside one of the steps, with all of those before it carried out
 pub record StopsInStep (seed : ℕ) (c : Cartridge) (words : List ℕ) (entries : List Entry) (items : List Item) (left : Option Cartridge) : Type 0 where
@@ -72,3 +79,11 @@ DoneMakeStands =
     (seed count : ℕ) (c : Cartridge) (plain : Plain) (acts : List Act) → count ≤ 200 → IsKept c plain →
     Makes seed count c plain.words (entries_of plain) acts Done →
     Stands (changed_by (steps_of acts) c) (with_made seed plain 1 count)
+
+-- .. and so they do where something was printed before a stop, which may come inside the steps of the next act
+abbrev pub MadeAreAnswered : Type 0
+MadeAreAnswered =
+    (seed count : ℕ) (c : Cartridge) (plain : Plain) (acts front rest : List Act) (answer : Answer) (left : Option Cartridge) →
+    count ≤ 200 → IsKept c plain → Makes seed count c plain.words (entries_of plain) acts answer → front ++ rest ≡ acts →
+    text_of front ≢ [] → Torn (next_steps rest) (Some (changed_by (steps_of front) c)) left →
+    IsSomeAnd left (λ d. Stands d (with_made seed plain 1 count))

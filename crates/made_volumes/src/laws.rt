@@ -1,11 +1,16 @@
 //! What a run of `make` comes to. Each law is the contract of a function that does nothing, so that other crates can
 //! rest on it; their proofs import the lemmas of this crate's `proofs`.
 
-ghost use Rattle.made_volumes.specs.Laws.{MakesOneThing, StopsAreInSteps, StoppedMakeStands, DoneMakeStands};
+ghost use Rattle.made_volumes.specs.Laws.{MakesOneThing, MakesSomething, StopsAreInSteps, StoppedMakeStands, DoneMakeStands, MadeAreAnswered};
 
 /// A run does one thing on a cartridge.
 pub fn a_run_is_one()
     ensures { MakesOneThing }
+{}
+
+/// A run does something on a mounted cartridge, whatever its sectors hold.
+pub fn a_run_has_an_outcome()
+    ensures { MakesSomething }
 {}
 
 /// A stop among the steps of a run is a stop inside one of its steps, with those before it carried out.
@@ -18,4 +23,9 @@ pub fn a_stop_is_in_one_step()
 pub fn a_run_keeps_what_stands()
     ensures done { DoneMakeStands }
     ensures stopped { StoppedMakeStands }
+{}
+
+/// A run prints nothing before all volumes were appended: where something was printed, all of them stand.
+pub fn made_volumes_are_answered()
+    ensures { MadeAreAnswered }
 {}
