@@ -1,16 +1,13 @@
 -- The plain machine of `make`: it does one thing, and how its steps join.
 use Rattle.std.proofs.Common.{◌≡◌, ◌≢◌, ◌⊎◌, inl, inr, ℕ, true, false, List, [], ◌∷◌, ◌++◌, Some, refl, sym, ap, ◌∙◌, subst, append_assoc, append-nil}
 use Rattle.qic_base.specs.Cartridge.{Cartridge}
-use Rattle.qic_base.specs.Step.{Step}
 use Rattle.acts.specs.Acts.{Act, steps_of, text_of}
-use Rattle.acts.proofs.Joins.{steps_of-append}
 use Rattle.cartridge_spec.specs.HeaderAndTable.{table_cells, TableIs}
 use Rattle.cartridge_spec.specs.Says.{AsRead, ByCode, Data, LostSectors, TableSays}
 use Rattle.cartridge_spec.proofs.TableSayings.{table_says_is_function}
 use Rattle.cartridge_spec.specs.Table.{Entry}
 use Rattle.cartridge_spec.specs.Volumes.{volume_length}
 use Rattle.cartridge_spec.specs.Writes.{changed_by}
-use Rattle.format_plan.proofs.Writing.{changed_by-append}
 use Rattle.mount_laws.proofs.Mounting.{one_table}
 use Rattle.restore_plan.specs.Restoring.{Ending, Restores, pieces}
 use Rattle.restore_plan.proofs.Endings.{restores_is_function}
