@@ -103,13 +103,13 @@ module _ (seed : ℕ) (rest : List Item) where
       elim (two_fronts front rear first behind (parts ∙ sym joined)) [
         | inl (some, is) ↦ absurd (printed (quiet_front front some first is quiet))
         | inr (later, is, parted) ↦
-          appends_answered n (changed_by (steps_of first) c) next (volume + 1) behind later rear answer left (omega arith)
-          (done_append_kept seed c plain held volume (omega arith) first does) (behind_next seed rest plain volume n still)
-          (subst (λ (es : List Entry). Runs seed (changed_by (steps_of first) c) plain.words es (appending (volume + 1) n ++ rest) behind answer)
-          (sym (entries_more seed plain volume)) more) parted
-          (λ none. printed (ap text_of (sym is) ∙ text_of-append first later ∙ ap (λ (text : List ℕ). text ++ text_of later) quiet ∙ none))
-          (subst (λ (d : Cartridge). Torn (next_steps rear) (Some d) left)
-          (ap (λ (zs : List Act). changed_by (steps_of zs) c) (sym is) ∙ changed_by_acts first later c) torn)
+            appends_answered n (changed_by (steps_of first) c) next (volume + 1) behind later rear answer left (omega arith)
+            (done_append_kept seed c plain held volume (omega arith) first does) (behind_next seed rest plain volume n still)
+            (subst (λ (es : List Entry). Runs seed (changed_by (steps_of first) c) plain.words es (appending (volume + 1) n ++ rest) behind answer)
+            (sym (entries_more seed plain volume)) more) parted
+            (λ none. printed (ap text_of (sym is) ∙ text_of-append first later ∙ ap (λ (text : List ℕ). text ++ text_of later) quiet ∙ none))
+            (subst (λ (d : Cartridge). Torn (next_steps rear) (Some d) left)
+            (ap (λ (zs : List Act). changed_by (steps_of zs) c) (sym is) ∙ changed_by_acts first later c) torn)
       ]
 
 -- ---- a run

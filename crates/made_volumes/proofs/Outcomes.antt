@@ -125,13 +125,13 @@ module _ (seed : ℕ) (c : Cartridge) (words : List ℕ) (entries : List Entry) 
           next = λ is. absurd (cc);
         }
         | inr free ↦
-          let scrub = scrubs_anyway c words entries in
-          record {
-            acts = scrub.0;
-            answer = Done;
-            does = inr (free, record { does = scrub.1; answered = refl });
-            next = λ is. scrub_listed c words entries scrub.0 listed free scrub.1;
-          }
+            let scrub = scrubs_anyway c words entries in
+            record {
+              acts = scrub.0;
+              answer = Done;
+              does = inr (free, record { does = scrub.1; answered = refl });
+              next = λ is. scrub_listed c words entries scrub.0 listed free scrub.1;
+            }
       ]
 
   sum_does : (number : ℕ) (e : Entry) → volume_at entries number ≡ Some e → DoesSomething seed c words entries (SumVolume number)
@@ -165,11 +165,11 @@ runs_somehow seed words (item ∷ items) c entries listed can =
     let some : DoesSomething seed c words entries item = does_something seed c words entries listed item can.0 in
     elim (done_or_not some.answer) [
       | inl done ↦
-        let rest = runs_somehow seed words items (changed_by (steps_of some.acts) c) (after_item seed words entries item) (some.next done) can.1 in (
-          some.acts ++ rest.0,
-          rest.1,
-          inr (some.acts, rest.0, refl, subst (Does seed c words entries item some.acts) done some.does, rest.2),
-        )
+          let rest = runs_somehow seed words items (changed_by (steps_of some.acts) c) (after_item seed words entries item) (some.next done) can.1 in (
+            some.acts ++ rest.0,
+            rest.1,
+            inr (some.acts, rest.0, refl, subst (Does seed c words entries item some.acts) done some.does, rest.2),
+          )
       | inr other ↦ (some.acts, some.answer, inl (other, some.does))
     ]
 

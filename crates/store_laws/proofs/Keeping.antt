@@ -78,4 +78,3 @@ scrubbed_kept c plain acts held scrubs =
       unprotected = ap (λ (i : TapeInfo). i.protected) mended.info ∙ held.unprotected;
       last = held.last ∙ sym (ap (λ (i : TapeInfo). 28 * i.segments_per_track - 1) mended.info);
     }
-

@@ -40,7 +40,7 @@ ReadsList c entries = (table : List (List ℕ)) × TableIs c table × Shows tabl
 abbrev pub LosesTable : Cartridge → Type 0
 LosesTable c = (lost : ℕ) × TableSays (table_cells c) (ByCode (LostSectors lost))
 
--- no code block disagrees: there is one
+-- it is one of the two: a code block agrees with the sectors that can be read
 abbrev pub ListedReads : Type 0
 ListedReads =
     (c : Cartridge) (words : List ℕ) (entries : List Entry) → IsListed c words entries → c.info.protected ≡ false →
