@@ -1,3 +1,4 @@
+pub mod Held
 pub mod Keeping
 pub mod Listed
 pub mod Saying

@@ -12,8 +12,8 @@ use Rattle.fresh_header.proofs.Front.{first_defect_or_none}
 use Rattle.fresh_header.proofs.Fresh.{fresh_area_exists}
 use Rattle.tape_pulses.proofs.MachineLaws.{each_outcome}
 use Rattle.store_laws.proofs.Listed.{mounted_listed}
-use Rattle.volume_script.proofs.Totals.{each_outcome as each_outcome_of_script}
-use Rattle.made_volumes.proofs.Totals.{makes_always}
+use Rattle.volume_script.proofs.Outcomes.{each_outcome as each_script}
+use Rattle.made_volumes.proofs.Outcomes.{makes_something}
 use Rattle.tape_cmd.specs.Outcome.{Outcome}
 use Rattle.tape_cmd.specs.Place.{HasPlace}
 use Rattle.tape_cmd.specs.Defect.{DefectOutcome}
@@ -126,12 +126,12 @@ mends_answers c header ws table entries whole mounts =
 
 scripting_answers : (input : List ℕ) → Answers (Scripting input)
 scripting_answers input c header ws table entries whole mounts =
-    let some = each_outcome_of_script (settled table c) ws entries input (mounted_listed c header ws table entries whole mounts) in
+    let some = each_script (settled table c) ws entries input (mounted_listed c header ws table entries whole mounts) in
     (_, record { came = some.0; does = some.1; is = refl })
 
 making_answers : (seed count : ℕ) → count ≤ 200 → Answers (Making seed count)
 making_answers seed count few c header ws table entries whole mounts =
-    let some = makes_always seed count (settled table c) ws entries (mounted_listed c header ws table entries whole mounts) few in
+    let some = makes_something seed count (settled table c) ws entries (mounted_listed c header ws table entries whole mounts) few in
     (_, record { acts = some.0; answer = some.1; makes = some.2; is = refl })
 
 format_answers : (label : List ℕ) (date : ℕ) (held : Option Cartridge) → IsLabel label → date < 2 ^ 32 → IfSome held IsCartridge → (outcome : Outcome) × FormatOutcome label date held outcome

@@ -78,8 +78,8 @@ Shows prints c header words table entries outcome = outcome ≡ acted (settling_
 
 -- ---- how the call ended
 
--- the answer that a refusal of a store makes, or its fault; a source that ends early has none yet, since no command
--- promises bytes
+-- the answer that a refusal of a store makes, or its fault; a source that ends early has none, since a command that appends its
+-- whole input promises no bytes
 abbrev pub store_status : StoreFault → Status
 store_status fault.NotFormatted = status.NotFormatted
 store_status (fault.Foreign field value) = status.Foreign field value

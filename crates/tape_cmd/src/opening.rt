@@ -71,6 +71,6 @@ pub fn store_status(fault: StoreFault) -> Status
         StoreFault::Source => Status::SourceFault,
         StoreFault::Sink => Status::SinkFault,
         StoreFault::Tape => Status::TapeFault,
-        StoreFault::Short { .. } => unreachable!("only a script promises bytes"),
+        StoreFault::Short { .. } => unreachable!("an append of the whole input promises no bytes"),
     }
 }

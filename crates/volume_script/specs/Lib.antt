@@ -7,3 +7,4 @@ pub mod Lines
 pub mod Promised
 pub mod Runs
 pub mod Script
+pub mod Standing

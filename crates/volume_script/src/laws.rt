@@ -1,14 +1,42 @@
 //! Laws of the plain machine of `script`. Each is the contract of a function that does nothing.
 
-ghost use Rattle.volume_script.specs.Laws.{OneOutcome, StopsInOne};
+ghost use Rattle.volume_script.specs.Laws.{OneOutcome, EachOutcome, StopsInOne};
+ghost use Rattle.volume_script.specs.Standing.{ItemsHaveBytes, ItemsStand, StoppedItemStands, FaultStands};
+ghost use Rattle.volume_script.specs.Standing.{StoppedScriptStands, AnsweredBetween, AnsweredBehind};
 
-/// An input has one outcome over a mounted cartridge.
+/// An input has at most one outcome over a mounted cartridge.
 pub fn an_input_has_one_outcome()
     ensures { OneOutcome }
+{}
+
+/// An input has an outcome over a mounted cartridge, any list of numbers as the input, and whatever its sectors hold behind the
+/// table.
+pub fn an_input_has_an_outcome()
+    ensures { EachOutcome }
 {}
 
 /// A stop in the steps of all items is a stop in one of them, with those before it done; or in an append behind them whose
 /// bytes end early.
 pub fn a_stop_is_in_one_item()
     ensures { StopsInOne }
+{}
+
+/// Items leave what stands, with the volumes that were appended; a stop in one of them leaves what stood before it or
+/// behind it, and one in an append whose bytes end early leaves what stood. An input of bytes has such items.
+pub fn items_keep_what_stands()
+    ensures bytes { ItemsHaveBytes }
+    ensures done { ItemsStand }
+    ensures stopped { StoppedItemStands }
+    ensures early { FaultStands }
+{}
+
+/// A stop in a script leaves what stands behind some of its items.
+pub fn a_stopped_script_stands()
+    ensures { StoppedScriptStands }
+{}
+
+/// Those whose reply was written whole are among them, and at most one more.
+pub fn answered_items_stand()
+    ensures between { AnsweredBetween }
+    ensures behind { AnsweredBehind }
 {}

@@ -1,0 +1,115 @@
+-- What settling, worn sectors and scrubs leave of a mounted cartridge that stands for a plain one.
+use Rattle.std.proofs.Common.{◌≡◌, inl, inr, ℕ, ◌-◌, ◌*◌, ◌<◌, List, length, get_or, slice_get, slice_set, false, sym, ap, ◌∙◌, subst}
+use Rattle.std.specs.Prelude.{unwrap_or}
+use Rattle.std.proofs.lemmas.Bool.{cases_lt, cases_eq}
+use Rattle.std.proofs.lemmas.List.{get_or-set_same, set_past}
+use Rattle.std.proofs.lemmas.Option.{unwrap_or-slice_get}
+use Rattle.qic_base.specs.declared.tape.TapeInfo.{TapeInfo}
+use Rattle.qic_base.specs.declared.tape.SectorView.{SectorView}
+use Rattle.qic_base.specs.declared.tape.SectorView.TheVariants.{Blank, Defect, Lost, Holds}
+use Rattle.qic_base.specs.Cartridge.{Cartridge, view_at, place_of}
+use Rattle.qic_base.specs.Step.{worn_view}
+use Rattle.acts.specs.Acts.{Act, steps_of}
+use Rattle.cartridge_spec.specs.HeaderAndTable.{TableIs, last_segment}
+use Rattle.cartridge_spec.specs.Segment.{IsLive}
+use Rattle.cartridge_spec.specs.Table.{IsSoundList}
+use Rattle.cartridge_spec.specs.Volumes.{Plain, entries_of}
+use Rattle.cartridge_spec.specs.Writes.{changed_by}
+use Rattle.cartridge_spec.proofs.Segments.{view_of_cartridge}
+use Rattle.cartridge_spec.proofs.Whole.{with_view_whole, worn_is_view}
+use Rattle.change_laws.specs.Wear.{worn, WearSpares}
+use Rattle.change_laws.proofs.Changes.{view_elsewhere}
+use Rattle.change_laws.proofs.Standing.{worn_stands}
+use Rattle.mount_laws.specs.Laws.{IsTableLive}
+use Rattle.mount_laws.specs.Settling.{settling_steps}
+use Rattle.mount_laws.proofs.Settled.{settled_keeps_table, settled_stands, settled_is_whole}
+use Rattle.mount_laws.proofs.Settles.{settling_settles}
+use Rattle.mount_laws.proofs.Standing.{standing_data}
+use Rattle.mount_laws.proofs.Whole.{settled_is_cartridge}
+use Rattle.append_plan.proofs.Volume.{old_order}
+use Rattle.scrub_plan.specs.Scrubbing.{Scrubs, looked_at}
+use Rattle.scrub_plan.specs.Mended.{IsBeingMended}
+use Rattle.scrub_plan.proofs.Done.{done_being_mended}
+use Rattle.scrub_plan.proofs.Mending.{done_scrub_is_cartridge}
+use Rattle.scrub_plan.proofs.Mounted.{done_scrub_stands}
+use Rattle.store_laws.specs.Held.{IsHeld}
+use Rattle.store_laws.specs.Kept.{IsKept}
+
+-- ---- where the table reads
+
+pub held_kept : (c : Cartridge) (plain : Plain) (table : List (List ℕ)) → IsHeld c plain → TableIs c table → c.info.protected ≡ false → IsKept c plain
+held_kept c plain table held reads free = record {
+  cartridge = held.cartridge;
+  stands = held.stands;
+  table = subst (TableIs c) (standing_data c plain table held.stands reads) reads;
+  live = held.live;
+  unprotected = free;
+  last = held.last;
+}
+
+pub kept_held : (c : Cartridge) (plain : Plain) → IsKept c plain → IsHeld c plain
+kept_held c plain kept = record { cartridge = kept.cartridge; stands = kept.stands; live = kept.live; last = kept.last }
+
+-- it is settled
+pub settled_held : (c : Cartridge) (plain : Plain) → IsKept c plain → IsHeld (changed_by (settling_steps plain.table_area c) c) plain
+settled_held c plain kept =
+    subst (λ (d : Cartridge). IsHeld d plain) (sym (settling_settles c plain.table_area kept.table)) (record {
+      cartridge = settled_is_cartridge c plain.table_area kept.cartridge kept.table;
+      stands = settled_stands c plain plain.table_area kept.stands kept.table;
+      live = λ i h. subst IsLive (sym (settled_is_whole c plain.table_area i kept.table kept.unprotected kept.live h)) tt;
+      last = kept.last ∙ sym (ap (λ (i : TapeInfo). 28 * i.segments_per_track - 1) (settled_keeps_table c plain.table_area kept.table).info);
+    })
+
+-- ---- a worn sector
+
+-- it takes what is written to it, if it did before
+worn_live : (view : SectorView) → IsLive view → IsLive (worn_view view)
+worn_live Blank live = absurd live
+worn_live Defect live = absurd live
+worn_live Lost live = tt
+worn_live (Holds bytes) live = tt
+
+live_still : (c : Cartridge) (segment sector s i : ℕ) → IsLive (view_at c s i) → IsLive (view_at (worn segment sector c) s i)
+live_still c segment sector s i live =
+    let view : SectorView = worn_view (view_at c segment sector) in
+    let p : ℕ = place_of segment sector in
+    let q : ℕ = place_of s i in
+    elim (cases_eq q p) [
+      | inl same ↦ elim (cases_lt p (length c.views)) [
+        | inl within ↦ subst IsLive
+            (sym (unwrap_or-slice_get (slice_set c.views p view) q Blank
+            ∙ ap (λ (r : ℕ). get_or (slice_set c.views p view) r Blank) same
+            ∙ get_or-set_same c.views p view Blank within))
+            (worn_live (view_at c segment sector) (subst (λ (r : ℕ). IsLive (unwrap_or (slice_get c.views r) Blank)) same live))
+        | inr past ↦ subst (λ (vs : List SectorView). IsLive (unwrap_or (slice_get vs q) Blank)) (sym (set_past c.views p view past)) live
+      ]
+      | inr apart ↦ subst IsLive (sym (view_elsewhere c segment sector s i view apart)) live
+    ]
+
+pub worn_held : (c : Cartridge) (plain : Plain) (segment sector : ℕ) → IsHeld c plain → sector < 32 → WearSpares c plain segment sector → IsHeld (worn segment sector c) plain
+worn_held c plain segment sector held small spares = record {
+  cartridge = with_view_whole c segment sector (worn_view (view_at c segment sector)) held.cartridge
+      (worn_is_view (view_at c segment sector) (view_of_cartridge c segment sector held.cartridge));
+  stands = worn_stands c plain segment sector small held.stands spares;
+  live = λ i h. live_still c segment sector 2 i (held.live i h);
+  last = held.last;
+}
+
+-- ---- a scrub
+
+live_mended : (c d : Cartridge) (plain : Plain) → IsBeingMended (looked_at plain.words (entries_of plain)) c d → IsTableLive c → IsTableLive d
+live_mended c d plain mended live i h = elim (mended.each 2 i h) [
+  | inl same ↦ subst IsLive (sym same) (live i h)
+  | inr (block, is, was, now) ↦ subst IsLive (sym now) tt
+]
+
+pub scrubbed_held : (c : Cartridge) (plain : Plain) (acts : List Act) → IsHeld c plain → Scrubs c plain.words (entries_of plain) acts → IsHeld (changed_by (steps_of acts) c) plain
+scrubbed_held c plain acts held scrubs =
+    let order : IsSoundList (last_segment c) (entries_of plain) = old_order c plain held.stands in
+    let mended = done_being_mended c plain.words (entries_of plain) (last_segment c) acts order scrubs in
+    record {
+      cartridge = done_scrub_is_cartridge c plain.words (entries_of plain) acts held.cartridge scrubs;
+      stands = done_scrub_stands c plain acts held.stands scrubs;
+      live = live_mended c (changed_by (steps_of acts) c) plain mended held.live;
+      last = held.last ∙ sym (ap (λ (i : TapeInfo). 28 * i.segments_per_track - 1) mended.info);
+    }
