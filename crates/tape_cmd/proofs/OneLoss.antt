@@ -143,6 +143,13 @@ module _ (name : List ℕ) (date : ℕ) (input : List ℕ) (c : Cartridge) (plai
       (done_append_comes_back s (changed_by (appends.steps_of s plain name date input) s) plain name date input (ready enough)
       (changed_by-append (appends.volume_steps s plain name date input) (appends.list_steps s plain name date input) s) f lost loses)
 
+-- so does the settled cartridge itself
+pub settled_comes_back : (c : Cartridge) (plain : Plain) → IsCartridge c → Stands c plain → IsTableLive c → c.info.protected ≡ false → TableIs c plain.table_area →
+    (f : Cartridge) (lost : ℕ) → LosesOneAlone (settled plain.table_area c) f lost → ComesBackAs f plain
+settled_comes_back c plain cartridge stood live unprotected table f lost loses =
+    whole_comes_back (settled plain.table_area c) plain (settled_stands c plain plain.table_area stood table)
+    (λ i h. settled_is_whole c plain.table_area i table unprotected live h) (table_is_area c plain.table_area cartridge table) f lost loses
+
 -- ---- the plain machine
 
 pub nothing_torn : (c : Cartridge) (steps : List Step) (left : Option Cartridge) → left ≡ Some c → Torn steps (Some c) left

@@ -41,7 +41,7 @@ use Rattle.volume_script.specs.Script as scripts
 use Rattle.volume_script.specs.Script.{ScriptDoes, acts_of}
 use Rattle.volume_script.specs.Standing.{StandsAnswered, plain_behind}
 use Rattle.volume_script.proofs.MachineLaws.{one_outcome as one_script}
-use Rattle.volume_script.proofs.Standing.{answered_behind, answered_between, none_answered, stopped_script_stands}
+use Rattle.volume_script.proofs.Answered.{answered_behind, answered_between, none_answered, stopped_script_stands}
 use Rattle.tape_cmd.specs.declared.status.Status.{Status}
 use Rattle.tape_cmd.specs.declared.status.Status.TheVariants as status
 use Rattle.tape_cmd.specs.Machine.{HasValues, Spells, Yields}
@@ -499,7 +499,7 @@ module _ (told : Option (List ℕ)) (words : List (List ℕ)) (c : Cartridge) (p
   nothing_answered : (text : List ℕ) (left : Option Cartridge) → text ≡ [] → IsSomeAnd left (λ d. Stands d plain) → Answered text left
   nothing_answered text left none stands =
       subst (λ (xs : List ℕ). Answered xs left) (sym none)
-      (none_answered (settled plain.table_area c) plain items dids left script.does.did stands)
+      (none_answered (settled plain.table_area c) plain script.input script.outcome left script.does script.bytes stands)
 
   script_answered : (input : List ℕ) (outcome : Outcome) (text : List ℕ) (left : Option Cartridge) → input ≡ script.input → ScriptOutcome (Some c) input outcome → IsLeftBy c outcome.acts text left → Answered text left
   script_answered input outcome text left same does so =
@@ -610,6 +610,6 @@ none_scripted t k told words a x right after nothing leaves = record {
     text = [];
     took = nothing;
     answered = untouched_now t a c (StandsAnswered plain script.does.items script.does.dids 0) after is
-        (none_answered (settled plain.table_area c) plain script.does.items script.does.dids (Some c) script.does.did script.stands);
+        (none_answered (settled plain.table_area c) plain script.input script.outcome (Some c) script.does script.bytes script.stands);
   };
 }

@@ -1,12 +1,13 @@
 -- What a run of appending leaves comes back where one sector more of its table's segment is lost.
-use Rattle.std.proofs.Common.{◌≡◌, ℕ, List, Option, Some, IfSome, IsSomeAnd, refl, sym, ap, ◌∙◌, subst, inl, inr, false}
+use Rattle.std.proofs.Common.{◌≡◌, ℕ, List, [], Option, Some, None, IfSome, IsSomeAnd, refl, sym, ap, ◌∙◌, subst, inl, inr, false}
 use Rattle.qic_base.specs.Cartridge.{Cartridge, IsCartridge}
 use Rattle.qic_base.specs.Step.{effects}
 use Rattle.qic_base.specs.Sink as sinks
 use Rattle.qic_base.specs.Source as sources
 use Rattle.qic_base.specs.Tape as tapes
 use Rattle.acts.specs.Acts.{steps_of, Outside}
-use Rattle.format_plan.proofs.Writing.{some_weaker}
+use Rattle.cartridge_spec.specs.Mounting.{settled}
+use Rattle.format_plan.proofs.Writing.{some_and, some_weaker}
 use Rattle.mount_laws.specs.Settling.{settling_steps}
 use Rattle.append_plan.specs.Laws.{new_plain}
 use Rattle.table_reading.specs.Laws.{ComesBackAs}
@@ -19,10 +20,10 @@ use Rattle.tape_cmd.specs.declared.status.Status.TheVariants as status
 use Rattle.tape_cmd.specs.Machine.{HasValues, Spells}
 use Rattle.tape_cmd.specs.Runs.{is_fault, Ends}
 use Rattle.tape_cmd.specs.Headline.{EachLeft, StopLeaves, WordsLeave}
-use Rattle.tape_cmd.specs.OneLoss.{ComesBackNew, StoppedComesBack, SurvivesOneLoss}
+use Rattle.tape_cmd.specs.OneLoss.{ComesBackEither, ComesBackNew, SettledComesBack, StoppedComesBack, SurvivesOneLoss}
 use Rattle.tape_cmd.specs.Volumes.{IsCarriedOut}
 use Rattle.tape_cmd.proofs.Ends.{Laws, told_whole}
-use Rattle.tape_cmd.proofs.OneLoss.{append_comes_back, done_comes_back, nothing_torn}
+use Rattle.tape_cmd.proofs.OneLoss.{append_comes_back, done_comes_back, nothing_torn, settled_comes_back}
 use Rattle.tape_cmd.proofs.Volumes.{may_change, each_weaker, whole_of, of_bytes, done_now, now_weaker, Did, carried_out_did}
 
 -- what is left by words of appending
@@ -42,6 +43,23 @@ stopped_comes_back told words held left values whole (inr (command, spelled, lea
       | inr back ↦ inr (some_weaker left (λ d comes. record { input = l.input; is_told = l.is_told; comes = comes }) back)
     ]
 
+settled_back : (told : Option (List ℕ)) (words : List (List ℕ)) (held left : Option Cartridge) → IfSome held IsCartridge → SettledComesBack told words held left
+settled_back told words held left whole name date c plain spells is stood live table unprotected same =
+    some_and (ComesBackEither told name date c plain) (settled plain.table_area c) left
+    (record {
+      input = some_input told;
+      is_told = is_some_input told;
+      comes = λ f lost loses. inl (settled_comes_back c plain (whole_of held c whole is) stood live unprotected table f lost loses);
+    }) same
+  where
+    some_input : Option (List ℕ) → List ℕ
+    some_input None = []
+    some_input (Some bytes) = bytes
+
+    is_some_input : (o : Option (List ℕ)) → IfSome o (λ bytes. some_input o ≡ bytes)
+    is_some_input None = tt
+    is_some_input (Some bytes) = refl
+
 all_come_back : {T : Type 0} (t : tapes.Meaning T) (told : Option (List ℕ)) (words : List (List ℕ)) (a b : T) → tapes.IsToldRight (t.told a) (t.size a) →
     ((command : Words) → Spells words command → HasValues command) → EachLeft t a b (WordsLeave told words) → EachLeft t a b (StoppedComesBack told words)
 all_come_back t told words a b right values leaves = each_weaker t a b right (λ held left whole is. stopped_comes_back told words held left values whole is) leaves
@@ -52,13 +70,14 @@ pub survives_one_loss : {T S K : Type 0} (t : tapes.Meaning T) (s : sources.Mean
     SurvivesOneLoss t (s.left old.source) words old.tape new.tape answer
 survives_one_loss t s k words command old new answer laws spelled values all ends leaves = record {
   stopped = all_come_back t (s.left old.source) words old.tape new.tape laws.right all leaves;
+  settled = each_weaker t old.tape new.tape laws.right (λ held left whole is. settled_back (s.left old.source) words held left whole) leaves;
   done = λ name date c plain which spells told bytes stood live.
       let other : Words = commands.Append name date in
       let same : command ≡ other = one_command words command other spelled spells in
       let whole : IsCartridge c = told_whole (Some c) (t.told old.tape) (t.size old.tape) laws.right told in
       let known : HasValues other = subst HasValues same values in
       let d : Did t (s.left old.source) other old.tape new.tape (Some c) status.Done =
-      carried_out_did t s k other old new answer (Some c) whole refl known refl told which (subst (λ (w : Words). Ends t s k w old new answer) same ends) in
+      carried_out_did t s k other old new answer (Some c) whole known refl told which (subst (λ (w : Words). Ends t s k w old new answer) same ends) in
       let back : IsSomeAnd (effects (steps_of d.outcome.acts) (Some c))
       (λ e. (f : Cartridge) (lost : ℕ) → LosesOneAlone e f lost → ComesBackAs f (new_plain c plain name date d.input)) =
       done_comes_back name date d.input c plain d.outcome known.0 known.1 (of_bytes (s.left old.source) d.input bytes d.is_told (d.bytes refl))
@@ -75,6 +94,7 @@ pub none_survives : {T : Type 0} (t : tapes.Meaning T) (told : Option (List ℕ)
     ((command : Words) → Spells words command → HasValues command) → EachLeft t a a (WordsLeave told words) → SurvivesOneLoss t told words a a answer
 none_survives t told words a answer right no_fault none values leaves = record {
   stopped = all_come_back t told words a a right values leaves;
+  settled = each_weaker t a a right (λ held left whole is. settled_back told words held left whole) leaves;
   done = λ name date c plain which spells holds bytes stood live. absurd (never which);
 } where
   never : IsCarriedOut answer → ⊥

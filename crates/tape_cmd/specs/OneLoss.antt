@@ -1,9 +1,11 @@
 -- What becomes of a cartridge that an append left, done or stopped, where then one sector more of its table's segment is lost
 -- (this project's own).
-use Rattle.std.specs.Prelude.{◌≡◌, ◌⊎◌, ℕ, List, Option, Some, IsSomeAnd}
+use Rattle.std.specs.Prelude.{◌≡◌, ◌⊎◌, ℕ, false, List, Option, Some, IsSomeAnd}
 use Rattle.qic_base.specs.Cartridge.{Cartridge}
 use Rattle.qic_base.specs.Stop.{Torn}
 use Rattle.qic_base.specs.Tape as tapes
+use Rattle.cartridge_spec.specs.HeaderAndTable.{TableIs}
+use Rattle.cartridge_spec.specs.Mounting.{settled}
 use Rattle.cartridge_spec.specs.Volumes.{Plain, Stands}
 use Rattle.mount_laws.specs.Laws.{IsTableLive}
 use Rattle.mount_laws.specs.Settling.{settling_steps}
@@ -37,10 +39,18 @@ StoppedComesBack told words held left =
     AreBytes told → Stands c plain → IsTableLive c →
     Torn (settling_steps plain.table_area c) (Some c) left ⊎ IsSomeAnd left (ComesBackEither told name date c plain)
 
+-- The cartridge with its table settled, too, comes back: an append that was stopped between the settling and its first change.
+abbrev pub SettledComesBack : (told : Option (List ℕ)) → (words : List (List ℕ)) → (held left : Option Cartridge) → Type 0
+SettledComesBack told words held left =
+    (name : List ℕ) (date : ℕ) (c : Cartridge) (plain : Plain) → Spells words (commands.Append name date) → held ≡ Some c →
+    Stands c plain → IsTableLive c → TableIs c plain.table_area → c.info.protected ≡ false → left ≡ Some (settled plain.table_area c) →
+    IsSomeAnd left (ComesBackEither told name date c plain)
+
 -- A sector of the table's segment may be lost behind an append: each cartridge that a run leaves from the settling on comes back,
 -- and that of an append that was carried out comes back with the volume.
 pub record SurvivesOneLoss {T : Type 0} (t : tapes.Meaning T) (told : Option (List ℕ)) (words : List (List ℕ)) (old new : T) (answer : Status) : Type 0 where
   pub stopped : EachLeft t old new (StoppedComesBack told words)
+  pub settled : EachLeft t old new (SettledComesBack told words)
   pub done : (name : List ℕ) (date : ℕ) (c : Cartridge) (plain : Plain) → IsCarriedOut answer → Spells words (commands.Append name date) →
       t.told old ≡ Some (Some c) → AreBytes told → Stands c plain → IsTableLive c →
       EachNow t old new (λ left. IsSomeAnd left (ComesBackNew told name date c plain))

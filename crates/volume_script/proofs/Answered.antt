@@ -15,7 +15,8 @@ use Rattle.store_laws.specs.Held.{IsHeld}
 use Rattle.store_laws.proofs.Keeping.{acts_stopped, changed_by_acts}
 use Rattle.tape_script.specs.Input.{Item, Ending, AtEnd, AtStop, AtFault}
 use Rattle.volume_script.specs.Script.{Did, EndDoes, ItemsDo, Outcome, ScriptDoes, acts_of, cartridge_behind, entries_behind, place_behind}
-use Rattle.volume_script.specs.Standing.{AnsweredBehind, AnsweredBetween, HaveBytes, ItemsSpare, StandsAnswered, StoppedScriptStands, plain_after, plain_behind}
+use Rattle.volume_script.specs.Standing.{AnsweredBehind, AnsweredBetween, DoneScriptStands, HaveBytes, ItemsSpare, StandsAnswered, StoppedScriptStands, plain_after, plain_behind}
+use Rattle.volume_script.proofs.Reading.{cartridge_is}
 use Rattle.volume_script.proofs.Speaking.{Speaks, front_prints_less, prints_some, speaks_line}
 use Rattle.volume_script.proofs.Standing.{ItemLeaves, fault_stands, item_leaves, items_have_bytes, items_stand, next_do}
 
@@ -158,6 +159,19 @@ stopped_script_stands c plain input outcome left held does content spares torn =
     does.did spares (ends_of c plain input outcome held does content spares)
     (subst (λ (o : Outcome). Torn (steps_of o.acts) (Some c) left) does.is torn) in
     (r.count, r.within, r.stands)
+
+-- ---- a script that was done
+
+pub done_script_stands : DoneScriptStands
+done_script_stands c plain input outcome held does content spares =
+    let d : Cartridge = cartridge_behind c does.dids in
+    let p : Plain = plain_behind plain does.items does.dids in
+    let behind : changed_by (steps_of outcome.acts) c ≡ changed_by (steps_of does.last) d =
+    ap (λ (o : Outcome). changed_by (steps_of o.acts) c) does.is ∙ changed_by_acts (acts_of does.dids) does.last c
+    ∙ ap (λ (e : Cartridge). changed_by (steps_of does.last) e) (sym (cartridge_is c does.dids)) in
+    subst (λ (e : Cartridge). Stands e p) (sym behind)
+    (ends_of c plain input outcome held does content spares (Some (changed_by (steps_of does.last) d))
+    (subst (λ (o : Option Cartridge). Torn (steps_of does.last) (Some d) o) (effects-some (steps_of does.last) d) (Torn-all (steps_of does.last) (Some d))))
 
 -- ---- by what was printed
 
@@ -350,3 +364,21 @@ pub answered_behind : AnsweredBehind
 answered_behind c plain input outcome front act rest left printed held does content spares parts is above below =
     behind does.items does.dids c plain does.last front act rest left printed held (items_have_bytes input does.items does.ending does.read content) does.did spares
     (ends_of c plain input outcome held does content spares) (parts ∙ ap (λ (o : Outcome). o.acts) does.is) is above below
+
+-- where nothing was printed no item was answered
+pub none_answered : (c : Cartridge) (plain : Plain) (input : List ℕ) (outcome : Outcome) (left : Option Cartridge) → (does : ScriptDoes c plain.words (entries_of plain) input outcome) →
+    All (λ b. b < 256) input → IsSomeAnd left (λ d. Stands d plain) → StandsAnswered plain does.items does.dids 0 left
+none_answered c plain input outcome left does content stands = record {
+  count = 0;
+  within = omega arith;
+  stands = stands;
+  answered = answered;
+  most = λ n small. absurd (omega arith);
+}
+  where
+    answered : (n : ℕ) → n ≤ length does.items → length (text_of (acts_of (take n does.dids))) ≤ 0 → n ≤ 0
+    answered zero within text = omega arith
+    answered (suc n) within text =
+        absurd (let some : 0 < length (text_of (acts_of (take (suc n) does.dids))) =
+        first_prints does.items does.dids c plain.words (entries_of plain) (items_have_bytes input does.items does.ending does.read content) does.did (omega arith) n in
+        omega arith)

@@ -89,6 +89,14 @@ FaultStands =
 
 -- ---- a script
 
+-- all of it done, the cartridge stands for the plain one behind all items
+abbrev pub DoneScriptStands : Type 0
+DoneScriptStands =
+    (c : Cartridge) (plain : Plain) (input : List ℕ) (outcome : Outcome) → IsHeld c plain →
+    (does : ScriptDoes c plain.words (entries_of plain) input outcome) → All (λ b. b < 256) input →
+    ItemsSpare c plain does.items does.dids →
+    Stands (changed_by (steps_of outcome.acts) c) (plain_behind plain does.items does.dids)
+
 -- a stop in a script leaves the plain cartridge behind some of its items
 abbrev pub StoppedScriptStands : Type 0
 StoppedScriptStands =

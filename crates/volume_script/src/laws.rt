@@ -2,7 +2,7 @@
 
 ghost use Rattle.volume_script.specs.Laws.{OneOutcome, EachOutcome, StopsInOne};
 ghost use Rattle.volume_script.specs.Standing.{ItemsHaveBytes, ItemsStand, StoppedItemStands, FaultStands};
-ghost use Rattle.volume_script.specs.Standing.{StoppedScriptStands, AnsweredBetween, AnsweredBehind};
+ghost use Rattle.volume_script.specs.Standing.{DoneScriptStands, StoppedScriptStands, AnsweredBetween, AnsweredBehind};
 
 /// An input has at most one outcome over a mounted cartridge.
 pub fn an_input_has_one_outcome()
@@ -30,12 +30,13 @@ pub fn items_keep_what_stands()
     ensures early { FaultStands }
 {}
 
-/// A stop in a script leaves what stands behind some of its items.
-pub fn a_stopped_script_stands()
-    ensures { StoppedScriptStands }
+/// A script leaves what stands behind its items; a stop in it what stands behind some of them.
+pub fn a_script_keeps_what_stands()
+    ensures done { DoneScriptStands }
+    ensures stopped { StoppedScriptStands }
 {}
 
-/// Those whose reply was written whole are among them, and at most one more.
+/// Items whose reply was written whole are among those, and at most one more.
 pub fn answered_items_stand()
     ensures between { AnsweredBetween }
     ensures behind { AnsweredBehind }
