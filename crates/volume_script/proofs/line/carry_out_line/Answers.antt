@@ -4,7 +4,7 @@ use Rattle.tape_script.specs.Reading.{Gave}
 use Rattle.volume_script.proofs.Hearing.{heard_item, heard_mismatch, heard_cut, unheard}
 use Rattle.volume_script.proofs.Input.{end_text, line_short}
 use Rattle.volume_script.proofs.Lifting.{rested}
-use Rattle.volume_script.proofs.Telling.{line_tells}
+use Rattle.volume_script.proofs.Telling.{gave_tells}
 use Rattle.volume_script.proofs.line.carry_out_line.Goals as goal
 
 pub returns-in-Ok-Line-End-default-clause-hears : goal.returns-in-Ok-Line-End-default-clause-hears
@@ -27,7 +27,7 @@ returns-in-Ok g c =
       fits = λ other. c.in-Ok.ensures.fits (λ e. cc);
       format = c.in-Ok.ensures.format;
       kept = g.met.S.Source.keeps_on c.args.source.now c.read.new.source c.carry_out.new.source c.in-Ok-Line.ensures.kept c.in-Ok.ensures.kept;
-      tells = c.in-Ok.ensures.tells ∙ line_tells g.S.Source.means c.args.source.now c.read.new.source _ c.in-Ok-Line.ensures.read;
+      tells = c.in-Ok.ensures.tells ∙ gave_tells g.S.Source.means c.args.source.now c.read.new.source read.0 read.3;
     }
 
 pub returns-in-Err-TableMismatch : goal.returns-in-Err-TableMismatch
@@ -41,7 +41,7 @@ returns-in-Err-TableMismatch g c =
       fits = λ other. c.in-Err-TableMismatch.ensures.fits (λ e. let is = c.in-Err-TableMismatch.field-0-is in cc);
       format = c.in-Err-TableMismatch.ensures.format;
       kept = g.met.S.Source.keeps_on c.args.source.now c.read.new.source c.carry_out.new.source c.in-Ok-Line.ensures.kept c.in-Err-TableMismatch.ensures.kept;
-      tells = c.in-Err-TableMismatch.ensures.tells ∙ line_tells g.S.Source.means c.args.source.now c.read.new.source _ c.in-Ok-Line.ensures.read;
+      tells = c.in-Err-TableMismatch.ensures.tells ∙ gave_tells g.S.Source.means c.args.source.now c.read.new.source read.0 read.3;
     }
 
 pub returns-in-Err-Source : goal.returns-in-Err-Source
@@ -55,7 +55,7 @@ returns-in-Err-Source g c =
       fits = λ other. c.in-Err-Source.ensures.fits (λ e. let is = c.in-Err-Source.field-0-is in cc);
       format = c.in-Err-Source.ensures.format;
       kept = g.met.S.Source.keeps_on c.args.source.now c.read.new.source c.carry_out.new.source c.in-Ok-Line.ensures.kept c.in-Err-Source.ensures.kept;
-      tells = c.in-Err-Source.ensures.tells ∙ line_tells g.S.Source.means c.args.source.now c.read.new.source _ c.in-Ok-Line.ensures.read;
+      tells = c.in-Err-Source.ensures.tells ∙ gave_tells g.S.Source.means c.args.source.now c.read.new.source read.0 read.3;
     }
 
 pub returns-in-Err-Sink : goal.returns-in-Err-Sink
@@ -69,7 +69,7 @@ returns-in-Err-Sink g c =
       fits = λ other. c.in-Err-Sink.ensures.fits (λ e. let is = c.in-Err-Sink.field-0-is in cc);
       format = c.in-Err-Sink.ensures.format;
       kept = g.met.S.Source.keeps_on c.args.source.now c.read.new.source c.carry_out.new.source c.in-Ok-Line.ensures.kept c.in-Err-Sink.ensures.kept;
-      tells = c.in-Err-Sink.ensures.tells ∙ line_tells g.S.Source.means c.args.source.now c.read.new.source _ c.in-Ok-Line.ensures.read;
+      tells = c.in-Err-Sink.ensures.tells ∙ gave_tells g.S.Source.means c.args.source.now c.read.new.source read.0 read.3;
     }
 
 pub returns-in-Err-Tape : goal.returns-in-Err-Tape
@@ -83,7 +83,7 @@ returns-in-Err-Tape g c =
       fits = λ other. absurd (other refl);
       format = c.in-Err-Tape.ensures.format;
       kept = g.met.S.Source.keeps_on c.args.source.now c.read.new.source c.carry_out.new.source c.in-Ok-Line.ensures.kept c.in-Err-Tape.ensures.kept;
-      tells = c.in-Err-Tape.ensures.tells ∙ line_tells g.S.Source.means c.args.source.now c.read.new.source _ c.in-Ok-Line.ensures.read;
+      tells = c.in-Err-Tape.ensures.tells ∙ gave_tells g.S.Source.means c.args.source.now c.read.new.source read.0 read.3;
     }
 
 pub returns-in-Err-clause-hears : goal.returns-in-Err-clause-hears
