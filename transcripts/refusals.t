@@ -8,7 +8,7 @@ nothing.
 
   $ told() { tape "$@" 2> line; status=$?; [ $(wc -l < line) = 1 ] && echo "$status $(cat line)"; }
 
-Words that are no command end with 2, and a line of `pulses` that is none with 3.
+Words that are no command end with 2, and a line of `pulses` or of `script` that is none with 3.
 
   $ told cart.img rewind
   2 usage: tape IMAGE COMMAND
@@ -38,6 +38,10 @@ needs one.
   4 tape: no cartridge
   $ told cart.img scrub
   4 tape: no cartridge
+  $ echo fast | told cart.img script
+  4 tape: no cartridge
+  $ told cart.img make 150 3
+  4 tape: no cartridge
   $ wc -c < cart.img
   0
 
@@ -55,13 +59,17 @@ A protected cartridge is not formatted, and a new one is no formatted one.
   6 tape: the cartridge is not formatted
   $ told cart.img restore 1
   6 tape: the cartridge is not formatted
+  $ echo fast | told cart.img script
+  6 tape: the cartridge is not formatted
 
-A protected cartridge is not appended to and not scrubbed. That is told before it is mounted, so also where it is not
-formatted.
+A protected cartridge is not appended to and not scrubbed, nor is it one for `make`. That is told before it is mounted, so
+also where it is not formatted.
 
   $ told cart.img append a < /dev/null
   5 tape: the cartridge is protected
   $ told cart.img scrub
+  5 tape: the cartridge is protected
+  $ told cart.img make 150 3
   5 tape: the cartridge is protected
 
 The protect mark stops nothing that a person's hand does: neither a defect, nor a lost sector, nor another cartridge.
@@ -74,6 +82,11 @@ The protect mark stops nothing that a person's hand does: neither a defect, nor 
   blank 3
   $ tape cart.img format L
   formatted 84 0
+
+On a formatted cartridge the lines of `script` are read.
+
+  $ echo fast | told cart.img script
+  3 tape: input fault in line 1 at byte 0
 
 Of three segments per track there are 84, numbered from 0, and a segment has the sectors 0 to 31. There is no place
 beyond, formatted or not, and the last one is there.
@@ -171,9 +184,3 @@ A path that can be neither opened nor made is no image.
 
   $ told no/such/folder.img list
   20 tape: cannot open the image
-
-`script` and `make` are not built yet: they are answered as words that are no command.
-
-  $ for command in script 'make 150 3'; do told cart.img $command; done
-  2 usage: tape IMAGE COMMAND
-  2 usage: tape IMAGE COMMAND

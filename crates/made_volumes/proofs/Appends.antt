@@ -18,7 +18,7 @@ use Rattle.tape_script.specs.Generator.{made_length, made_bytes, made_means}
 use Rattle.volume_store.specs.declared.appended.Appended.{Appended}
 use Rattle.volume_store.specs.declared.fault.StoreFault.{StoreFault}
 use Rattle.volume_store.specs.declared.fault.StoreFault.TheVariants as store
-use Rattle.volume_store.specs.Appending.{Taking, Fits, TooLong, TooShort, taking, room_in, kept_in, kept_by, entry_for, has_promised_room, append_acts, silently, AppendRan, AppendCut, TableRefused, AppendEnds}
+use Rattle.volume_store.specs.Appending.{Taking, Fits, TooLong, TooShort, taking, room_in, kept_in, kept_by, entry_for, has_promised_room, append_acts, silently, AppendRan, AppendCut, TableRefused, AppendEnds, CutUnread, FaultsUnread}
 use Rattle.volume_store.specs.Mounting.{StoreView, StoreFits}
 use Rattle.volume_store.proofs.Copies.{IsLearnt, told_learnt, tells_two}
 use Rattle.made_volumes.specs.declared.fault.MakeFault.{MakeFault}
@@ -27,8 +27,8 @@ use Rattle.made_volumes.specs.Faults.{is_of_step, fault_of}
 use Rattle.made_volumes.specs.Items.{AppendMade, made_name, made_entry}
 use Rattle.made_volumes.specs.Machine.{Answer, Done, Protected, TableMismatch, Full, Lost, Does, Runs, IsTableLost, made_acts, made_answer}
 use Rattle.made_volumes.specs.May.{MayAppend}
-use Rattle.made_volumes.specs.Runs.{HasRun, RunCut, RunEnds, TableHolds}
-use Rattle.made_volumes.proofs.MachineLaws.{run_of, done_of}
+use Rattle.made_volumes.specs.Runs.{HasRun, RunCut, RunEnds}
+use Rattle.made_volumes.proofs.MachineLaws.{run_of, done_of, never_lost}
 use Rattle.made_volumes.proofs.MadeBytes.{length-made_bytes}
 use Rattle.made_volumes.proofs.MayLaws.{may_of}
 
@@ -187,30 +187,39 @@ module _ {T : Type 0} (t : tapes.Meaning T) (seed volume : ℕ) (before : StoreV
     source_later = omega arith;
   }
 
+  -- what a fault of the tape tells where the table reads, and where it doesn't
+  abbrev CutReading : (input : List ℕ) → Cartridge → Type 0
+  CutReading input c =
+      (table : List (List ℕ)) → TableIs c table → (reply : Entry → List ℕ) →
+      Cut t made_means no_sink (reading a bytes) (reading b rest) (append_acts (kept_by before table (settling_steps table c)) (made_name volume) 0 promise reply input) TapeFails
+
+  abbrev CutBefore : Cartridge → Type 0
+  CutBefore c = ((table : List (List ℕ)) → TableIs c table → ⊥) → Cut t made_means no_sink (reading a bytes) (reading b rest) [] TapeFails
+
   cut_so : is_protected u.drive.deck ≡ false → AppendCut t made_means (reading a bytes) (reading b rest) before (made_name volume) 0 promise TapeFails →
+      CutUnread t made_means (reading a bytes) (reading b rest) TapeFails →
       RunCut t no_sink seed words entries (AppendMade volume ∷ []) (around a tt) (around b tt) TapeFails
-  cut_so free cut = record {
-    told = tells_two t a (λ c. c.info.protected ≡ false)
-        (λ c. (table : List (List ℕ)) → TableIs c table → (reply : Entry → List ℕ) →
-        Cut t made_means no_sink (reading a bytes) (reading b rest) (append_acts (kept_by before table (settling_steps table c)) (made_name volume) 0 promise reply cut.input) TapeFails)
-        (λ c. (acts : List Act) (answer : Answer) → TableHolds answer → Runs seed c words entries (AppendMade volume ∷ []) acts answer →
+  cut_so free cut unread = record {
+    told = tells_two t a (λ c. (c.info.protected ≡ false) × CutReading cut.input c) CutBefore
+        (λ c. (acts : List Act) (answer : Answer) → Runs seed c words entries (AppendMade volume ∷ []) acts answer →
         Cut t no_source no_sink (around a tt) (around b tt) acts TapeFails)
-        (λ c mark known acts answer holds runs. by_does c mark known acts answer holds (done_of seed c words entries (AppendMade volume) acts answer runs))
-        (told_mark t before u fits false free) cut.told;
+        (λ c known none acts answer runs. by_does c known none acts answer (done_of seed c words entries (AppendMade volume) acts answer runs))
+        (tells_two t a (λ c. c.info.protected ≡ false) (CutReading cut.input) (λ c. (c.info.protected ≡ false) × CutReading cut.input c) (λ c mark known. (mark, known))
+        (told_mark t before u fits false free) cut.told) unread;
     acts = cut.acts;
     cut = around_cut cut.acts cut.cut;
   }
     where
-      by_does : (c : Cartridge) → c.info.protected ≡ false →
-          ((table : List (List ℕ)) → TableIs c table → (reply : Entry → List ℕ) →
-          Cut t made_means no_sink (reading a bytes) (reading b rest) (append_acts (kept_by before table (settling_steps table c)) (made_name volume) 0 promise reply cut.input) TapeFails) →
-          (acts : List Act) (answer : Answer) → TableHolds answer → Does seed c words entries (AppendMade volume) acts answer → Cut t no_source no_sink (around a tt) (around b tt) acts TapeFails
-      by_does c mark known acts answer holds (inl refused) = absurd (let same : true ≡ false = sym refused.mark ∙ mark in cc)
-      by_does c mark known acts answer holds (inr (free', inl appended)) =
+      by_does : (c : Cartridge) → (c.info.protected ≡ false) × CutReading cut.input c → CutBefore c → (acts : List Act) (answer : Answer) → Does seed c words entries (AppendMade volume) acts answer →
+          Cut t no_source no_sink (around a tt) (around b tt) acts TapeFails
+      by_does c (mark, known) none acts answer (inl refused) = absurd (let same : true ≡ false = sym refused.mark ∙ mark in cc)
+      by_does c (mark, known) none acts answer (inr (free', inl appended)) =
           subst (λ (zs : List Act). Cut t no_source no_sink (around a tt) (around b tt) zs TapeFails)
           (same_acts c appended.table (settling_steps appended.table c) cut.input refl cut.is_told ∙ sym appended.does)
           (around_cut (append_acts (kept_by before appended.table (settling_steps appended.table c)) (made_name volume) 0 promise silently cut.input) (known appended.table appended.reads silently))
-      by_does c mark known acts answer holds (inr (free', inr lost)) = absurd (holds lost.lost lost.answered)
+      by_does c (mark, known) none acts answer (inr (free', inr lost)) =
+          subst (λ (zs : List Act). Cut t no_source no_sink (around a tt) (around b tt) zs TapeFails) (sym lost.does)
+          (around_cut [] (none (λ table reads. never_lost c table lost.lost reads lost.says)))
 
   -- ---- by the answer
 
@@ -231,29 +240,30 @@ module _ {T : Type 0} (t : tapes.Meaning T) (seed volume : ℕ) (before : StoreV
   })
 
   -- the answers of a call that a run makes
-  pub append_so : (f : StoreFault) → (f ≡ store.Protected) ↔ (is_protected u.drive.deck ≡ true) → Ends (Err f) → (is_of_step f ≡ true) × Result' (Err (fault_of f))
-  append_so store.Protected mark ends = (refl, locked_so (mark.0 refl) ends)
-  append_so (store.Lost segment lost) mark ends =
+  pub append_so : (f : StoreFault) → (f ≡ store.Protected) ↔ (is_protected u.drive.deck ≡ true) → Ends (Err f) →
+      FaultsUnread t made_means (reading a bytes) (reading b rest) (Err f) → (is_of_step f ≡ true) × Result' (Err (fault_of f))
+  append_so store.Protected mark ends unread = (refl, locked_so (mark.0 refl) ends)
+  append_so (store.Lost segment lost) mark ends unread =
       let free : is_protected u.drive.deck ≡ false = not_marked (store.Lost segment lost ≡ store.Protected) (is_protected u.drive.deck) mark.1 (λ is. cc) in (
         refl,
         refused_so (λ c. TableSays (table_cells c) (ByCode (LostSectors lost))) (Lost segment lost) free ends.2 (ends.0, ends.1)
             (λ c acts none says. record { lost = lost; says = says; does = none; answered = ap (λ (s : ℕ). Lost s lost) ends.0 }),
       )
-  append_so store.TableMismatch mark ends =
+  append_so store.TableMismatch mark ends unread =
       let free : is_protected u.drive.deck ≡ false = not_marked (store.TableMismatch ≡ store.Protected) (is_protected u.drive.deck) mark.1 (λ is. cc) in
       (refl, refused_so (λ c. ⊥) TableMismatch free ends tt (λ c acts none never. absurd never))
-  append_so (store.Full need there) mark ends =
+  append_so (store.Full need there) mark ends unread =
       let free : is_protected u.drive.deck ≡ false = not_marked (store.Full need there ≡ store.Protected) (is_protected u.drive.deck) mark.1 (λ is. cc) in
       let is : made_answer seed words entries volume ≡ Full need there =
       answer_long have (made_length seed volume) bytes need there (has_promised_room have promise) (length-made_bytes seed volume) (became_is (TooLong need there) ends) in
       (refl, ran_so (TooLong need there) (Full need there) free ends is is)
-  append_so (store.Short asked read) mark ends =
+  append_so (store.Short asked read) mark ends unread =
       absurd (never_short have (made_length seed volume) bytes asked read (has_promised_room have promise) (length-made_bytes seed volume) (became_is (TooShort asked read) ends))
-  append_so store.Source mark ends = absurd (let rose = ends.cut.cause in omega arith)
-  append_so store.Tape mark ends =
+  append_so store.Source mark ends unread = absurd (let rose = ends.cut.cause in omega arith)
+  append_so store.Tape mark ends unread =
       let free : is_protected u.drive.deck ≡ false = not_marked (store.Tape ≡ store.Protected) (is_protected u.drive.deck) mark.1 (λ is. cc) in
-      (refl, cut_so free ends)
-  append_so f mark ends = absurd ends
+      (refl, cut_so free ends unread)
+  append_so f mark ends unread = absurd ends
 
   pub append_done : (appended : Appended) → is_protected u.drive.deck ≡ false → Ends (Ok appended) → Result' (Ok tt)
   append_done appended free ends = appended_so appended free ends
@@ -269,9 +279,11 @@ module _ {T : Type 0} (t : tapes.Meaning T) (seed volume : ℕ) (before : StoreV
   -- the same of a call with this name, this promise and this source
   pub append_so_at : (name source : List ℕ) (promised : ℕ) → name ≡ made_name volume → source ≡ bytes → promised ≡ made_length seed volume →
       (f : StoreFault) → (f ≡ store.Protected) ↔ (is_protected u.drive.deck ≡ true) →
-      AppendEnds t made_means (reading a source) (reading b rest) before after name 0 (Some promised) (Err f) → (is_of_step f ≡ true) × Result' (Err (fault_of f))
-  append_so_at name source promised named from long f mark ends =
+      AppendEnds t made_means (reading a source) (reading b rest) before after name 0 (Some promised) (Err f) →
+      FaultsUnread t made_means (reading a source) (reading b rest) (Err f) → (is_of_step f ≡ true) × Result' (Err (fault_of f))
+  append_so_at name source promised named from long f mark ends unread =
       append_so f mark
       (subst (λ (n : ℕ). AppendEnds t made_means (reading a bytes) (reading b rest) before after (made_name volume) 0 (Some n) (Err f)) long
       (subst (λ (xs : List ℕ). AppendEnds t made_means (reading a xs) (reading b rest) before after (made_name volume) 0 (Some promised) (Err f)) from
       (subst (λ (xs : List ℕ). AppendEnds t made_means (reading a source) (reading b rest) before after xs 0 (Some promised) (Err f)) named ends)))
+      (subst (λ (xs : List ℕ). FaultsUnread t made_means (reading a xs) (reading b rest) (Err f)) from unread)

@@ -1,5 +1,5 @@
 -- How steps of `make` that ran one after the other join.
-use Rattle.std.proofs.Common.{◌≡◌, ◌≢◌, inl, inr, ℕ, List, [], ◌++◌, Result, Ok, Err, refl, sym, ◌∙◌, subst, arith}
+use Rattle.std.proofs.Common.{◌≢◌, ℕ, List, [], ◌++◌, Result, Ok, Err, refl, sym, subst, arith}
 use Rattle.qic_base.specs.Cartridge.{Cartridge}
 use Rattle.qic_base.specs.Sink as sinks
 use Rattle.qic_base.specs.Tape as tapes
@@ -18,7 +18,7 @@ use Rattle.made_volumes.specs.declared.fault.MakeFault.TheVariants as fault
 use Rattle.made_volumes.specs.Items.{Item, after_items}
 use Rattle.made_volumes.specs.Machine.{Answer, Done, Protected, TableMismatch, Full, Lost, Mismatch, Runs}
 use Rattle.made_volumes.specs.May.{MayRun}
-use Rattle.made_volumes.specs.Runs.{HasRun, RunCut, RunEnds, TableHolds}
+use Rattle.made_volumes.specs.Runs.{HasRun, RunCut, RunEnds}
 use Rattle.made_volumes.proofs.MachineLaws.{runs_both, runs_longer, runs_behind, runs_front}
 use Rattle.made_volumes.proofs.MayLaws.{may_both, may_longer}
 
@@ -60,7 +60,7 @@ module _ {T K : Type 0} (t : tapes.Meaning T) (k : sinks.Meaning K) (seed : ℕ)
   -- what a cut in these steps tells of a cartridge
   abbrev CutOver : List Entry → List Item → (a b : Outside T (Unit {0}) K) → Failing → Cartridge → Type 0
   CutOver es items a b failing d =
-      (acts : List Act) (answer : Answer) → TableHolds answer → Runs seed d words es items acts answer → Cut t no_source k a b acts failing
+      (acts : List Act) (answer : Answer) → Runs seed d words es items acts answer → Cut t no_source k a b acts failing
 
   pub cut_behind : TakesBoth k → (es : List Entry) (xs ys : List Item) (a b c : Outside T (Unit {0}) K) (failing : Failing) →
       HasRun t k seed words es xs a b Done → RunCut t k seed words (after_items seed words es xs) ys b c failing →
@@ -70,10 +70,10 @@ module _ {T K : Type 0} (t : tapes.Meaning T) (k : sinks.Meaning K) (seed : ℕ)
       record {
         told = tells_two t a.tape (λ d. Runs seed d words es xs first.acts Done)
             (λ d. CutOver after ys b c failing (changed_by (steps_of first.acts) d)) (CutOver es (xs ++ ys) a c failing)
-            (λ d one other acts answer holds all.
+            (λ d one other acts answer all.
             let behind = runs_behind seed d words es xs ys first.acts acts answer one all in
             subst (λ (zs : List Act). Cut t no_source k a c zs failing) behind.parts
-            (went_then_cut t no_source k both a b c first.acts behind.rest failing first.went (other behind.rest answer holds behind.runs)))
+            (went_then_cut t no_source k both a b c first.acts behind.rest failing first.went (other behind.rest answer behind.runs)))
             first.told (tells_before t a.tape b.tape (steps_of first.acts) (CutOver after ys b c failing) first.went.did next.told);
         acts = first.acts ++ next.acts;
         cut = went_then_cut t no_source k both a b c first.acts next.acts failing first.went next.cut;
@@ -83,16 +83,11 @@ module _ {T K : Type 0} (t : tapes.Meaning T) (k : sinks.Meaning K) (seed : ℕ)
       RunCut t k seed words es xs a b failing → RunCut t k seed words es (xs ++ ys) a b failing
   cut_longer es xs ys a b failing cut = record {
     told = Tells-map t a.tape (CutOver es xs a b failing) (CutOver es (xs ++ ys) a b failing)
-        (λ d here acts answer holds all.
+        (λ d here acts answer all.
         let front = runs_front seed d words es xs ys acts answer all in
         subst (λ (zs : List Act). Cut t no_source k a b zs failing) front.parts
         (cut_is_longer t no_source k a b front.acts front.rest failing
-        (here front.acts front.answer
-        (elim front.either [
-          | inl done ↦ (λ lost is. let same : Done ≡ Lost 2 lost = sym done ∙ is in cc)
-          | inr same ↦ (λ lost is. holds lost (sym same ∙ is))
-        ])
-        front.runs))) cut.told;
+        (here front.acts front.answer front.runs))) cut.told;
     acts = cut.acts;
     cut = cut.cut;
   }
@@ -167,7 +162,7 @@ module _ {T K : Type 0} (t : tapes.Meaning T) (k : sinks.Meaning K) (seed : ℕ)
   broke_quietly : (failing : Failing) → RunCut t no_sink seed words es items (around a tt) (around b tt) failing → RunCut t k seed words es items (around a x) (around b x) failing
   broke_quietly failing cut = record {
     told = Tells-map t a (CutOver t no_sink seed words es items (around a tt) (around b tt) failing) (CutOver t k seed words es items (around a x) (around b x) failing)
-        (λ d here acts answer holds runs. cut_quietly t k a b x none acts failing (here acts answer holds runs)) cut.told;
+        (λ d here acts answer runs. cut_quietly t k a b x none acts failing (here acts answer runs)) cut.told;
     acts = cut.acts;
     cut = cut_quietly t k a b x none cut.acts failing cut.cut;
   }

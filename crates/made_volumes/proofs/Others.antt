@@ -22,7 +22,7 @@ use Rattle.made_volumes.specs.declared.fault.MakeFault.TheVariants as fault
 use Rattle.made_volumes.specs.Faults.{is_of_step, fault_of}
 use Rattle.made_volumes.specs.Items.{WearSector, ScrubAll}
 use Rattle.made_volumes.specs.Machine.{Answer, Done, Protected, Runs}
-use Rattle.made_volumes.specs.Runs.{RunEnds, TableHolds, NeverFull}
+use Rattle.made_volumes.specs.Runs.{RunEnds, NeverFull}
 use Rattle.made_volumes.proofs.MachineLaws.{run_of, done_of}
 use Rattle.made_volumes.proofs.MayLaws.{may_of}
 use Rattle.made_volumes.proofs.Appends.{told_mark, not_marked}
@@ -58,9 +58,9 @@ module _ {T : Type 0} (t : tapes.Meaning T) (seed : ℕ) (words : List ℕ) (ent
       RunEnds t no_sink seed words entries (WearSector segment sector ∷ []) (around a tt) (around b tt) (Err fault.Tape)
   wear_broke broke = record {
     told = tells_always t a
-        (λ c. (acts : List Act) (answer : Answer) → TableHolds answer → Runs seed c words entries (WearSector segment sector ∷ []) acts answer →
+        (λ c. (acts : List Act) (answer : Answer) → Runs seed c words entries (WearSector segment sector ∷ []) acts answer →
         Cut t no_source no_sink (around a tt) (around b tt) acts TapeFails)
-        (λ c acts answer holds runs.
+        (λ c acts answer runs.
         let does = done_of seed c words entries (WearSector segment sector) acts answer runs in
         subst (λ (zs : List Act). Cut t no_source no_sink (around a tt) (around b tt) zs TapeFails) (sym does.does) (wear_cut broke));
     acts = worn;
@@ -97,14 +97,14 @@ module _ {T K : Type 0} (t : tapes.Meaning T) (k : sinks.Meaning K) (seed : ℕ)
       }
 
   scrub_cut : (failing : Failing) → is_protected u.drive.deck ≡ false → ScrubCut t k words entries (around a x) (around b y) failing →
-      tapes.Tells t a (λ c. (acts : List Act) (answer : Answer) → TableHolds answer → Runs seed c words entries (ScrubAll ∷ []) acts answer →
+      tapes.Tells t a (λ c. (acts : List Act) (answer : Answer) → Runs seed c words entries (ScrubAll ∷ []) acts answer →
       Cut t no_source k (around a x) (around b y) acts failing)
   scrub_cut failing free cut =
       tells_two t a (λ c. c.info.protected ≡ false)
       (λ c. (acts : List Act) → Scrubs c words entries acts → Cut t no_source k (around a x) (around b y) acts failing)
-      (λ c. (acts : List Act) (answer : Answer) → TableHolds answer → Runs seed c words entries (ScrubAll ∷ []) acts answer →
+      (λ c. (acts : List Act) (answer : Answer) → Runs seed c words entries (ScrubAll ∷ []) acts answer →
       Cut t no_source k (around a x) (around b y) acts failing)
-      (λ c unlocked known acts answer holds runs. elim (done_of seed c words entries ScrubAll acts answer runs) [
+      (λ c unlocked known acts answer runs. elim (done_of seed c words entries ScrubAll acts answer runs) [
         | inl refused ↦ absurd (let same : true ≡ false = sym refused.mark ∙ unlocked in cc)
         | inr done ↦ known acts done.1.does
       ]) (told_mark t before u fits false free) cut.told

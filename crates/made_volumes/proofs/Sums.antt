@@ -25,7 +25,7 @@ use Rattle.made_volumes.specs.Faults.{is_of_step, fault_of, printed}
 use Rattle.made_volumes.specs.Items.{SumVolume}
 use Rattle.made_volumes.specs.Machine.{Answer, Done, Does, Runs, IsSummed, sum_line, sum_acts, ending_answer}
 use Rattle.made_volumes.specs.May.{MaySum}
-use Rattle.made_volumes.specs.Runs.{HasRun, RunEnds, TableHolds, NeverFull}
+use Rattle.made_volumes.specs.Runs.{HasRun, RunEnds, NeverFull}
 use Rattle.made_volumes.proofs.MachineLaws.{run_of, done_of, does_one}
 use Rattle.made_volumes.proofs.MayLaws.{may_of}
 
@@ -146,9 +146,9 @@ module _ {T K : Type 0} (t : tapes.Meaning T) (k : sinks.Meaning K) (seed : ℕ)
       RunEnds t k seed words entries (SumVolume number ∷ []) (around a x) (around b y) (Err fault.Sink)
   line_broke y e gave small numbered broke = record {
     told = Tells-map t a (λ c. Does seed c words entries (SumVolume number) (line_act e ∷ []) Done)
-        (λ c. (acts : List Act) (answer : Answer) → TableHolds answer → Runs seed c words entries (SumVolume number ∷ []) acts answer →
+        (λ c. (acts : List Act) (answer : Answer) → Runs seed c words entries (SumVolume number ∷ []) acts answer →
         Cut t no_source k (around a x) (around b y) acts SinkFails)
-        (λ c does acts answer holds runs.
+        (λ c does acts answer runs.
         let same : line_act e ∷ [] ≡ acts =
         (does_one seed c words entries (SumVolume number) (line_act e ∷ []) acts Done answer does (done_of seed c words entries (SumVolume number) acts answer runs)).0 in
         subst (λ (zs : List Act). Cut t no_source k (around a x) (around b y) zs SinkFails) same (line_cut y e gave broke)) (line_told e gave small numbered);
@@ -213,9 +213,9 @@ module _ {T K : Type 0} (t : tapes.Meaning T) (k : sinks.Meaning K) (seed : ℕ)
     told = Tells-map t a
         (λ c. (given : List Act) (ending : Ending) → Restores c words (pieces words e) given ending →
         Cut t no_source sum_means (around a 0) (around b total) given TapeFails)
-        (λ c. (acts : List Act) (answer : Answer) → TableHolds answer → Runs seed c words entries (SumVolume number ∷ []) acts answer →
+        (λ c. (acts : List Act) (answer : Answer) → Runs seed c words entries (SumVolume number ∷ []) acts answer →
         Cut t no_source k (around a x) (around b x) acts TapeFails)
-        (λ c known acts answer holds runs. by_does c known acts answer (done_of seed c words entries (SumVolume number) acts answer runs)) cut.told;
+        (λ c known acts answer runs. by_does c known acts answer (done_of seed c words entries (SumVolume number) acts answer runs)) cut.told;
     acts = [];
     cut = no_step_cut cut.acts [] (of_no_step (pieces words e) cut.acts cut.are) refl cut.cut;
   }

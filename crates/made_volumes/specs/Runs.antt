@@ -20,14 +20,9 @@ pub record HasRun {T K : Type 0} (t : tapes.Meaning T) (k : sinks.Meaning K) (se
   -- and over any tape
   pub may : MayRun seed words entries items (text_of acts) answer
 
--- the volume table is not what ends a run
-abbrev pub TableHolds : Answer → Type 0
-TableHolds answer = (lost : ℕ) → answer ≢ Lost 2 lost
-
--- A fault of the tape or of the sink cut them off: over a cartridge that is told in the acts of the plain machine, where
--- these don't end with a volume table that has lost too much.
+-- A fault of the tape or of the sink cut them off: over a cartridge that is told in the acts of the plain machine.
 pub record RunCut {T K : Type 0} (t : tapes.Meaning T) (k : sinks.Meaning K) (seed : ℕ) (words : List ℕ) (entries : List Entry) (items : List Item) (old new : Outside T (Unit {0}) K) (failing : Failing) : Type 0 where
-  pub told : tapes.Tells t old.tape (λ c. (acts : List Act) (answer : Answer) → TableHolds answer → Runs seed c words entries items acts answer →
+  pub told : tapes.Tells t old.tape (λ c. (acts : List Act) (answer : Answer) → Runs seed c words entries items acts answer →
       Cut t no_source k old new acts failing)
   -- and over any tape
   pub acts : List Act

@@ -50,6 +50,10 @@ full_more have n some small =
     by_enough true enough one = let both = both_true (nat_le 1 have) (nat_le n have) one enough in absurd (cc)
     by_enough false few one = lt-ltb have n (leb-false n have few)
 
+-- a volume has some bytes
+some_bytes : (seed volume : ℕ) → 1 ≤ made_length seed volume
+some_bytes seed volume = omega arith
+
 full_sound : (seed count : ℕ) (ws : List ℕ) (es : List Entry) (volume need have : ℕ) → made_answer seed ws es volume ≡ made.Full need have →
     may_come_from (status.Full need have) (words.Make seed count) ≡ true
 full_sound seed count ws es volume need have is = by_room (has_promised_room (room_in (kept_in ws es)) (Some (made_length seed volume))) refl is
@@ -63,10 +67,6 @@ full_sound seed count ws es volume need have is = by_room (has_promised_room (ro
         let more : nat_lt (room_in (kept_in ws es)) (made_length seed volume) ≡ true =
         full_more (room_in (kept_in ws es)) (made_length seed volume) (some_bytes seed volume) none in
         subst (λ (x : ℕ). nat_lt x need ≡ true) h (subst (λ (x : ℕ). nat_lt (room_in (kept_in ws es)) x ≡ true) n more)
-
-    some_bytes : (s v : ℕ) → 1 ≤ made_length s v
-    unfolding made_length
-    some_bytes s v = omega arith
 
 lost_sound : (seed count segment lost : ℕ) → 3 < lost → may_come_from (status.Lost segment lost) (words.Make seed count) ≡ true
 lost_sound seed count segment lost many = both_true (nat_lt 3 lost) true (lt-ltb 3 lost many) refl

@@ -56,10 +56,12 @@ over_left (Some a) left P R known follows = (input_of left, input_told left, fol
 -- lines are read by no command that reads nothing
 lines_are_read : (command : Words) → (traits_of command).reads ≡ false → (traits_of command).lines ≡ false
 lines_are_read words.Pulses blind = absurd (cc)
+lines_are_read words.Script blind = absurd (cc)
 lines_are_read command blind = refl
 
 none_has : (command : Words) (input : List ℕ) (line place : ℕ) → (traits_of command).reads ≡ false → HasInputFault command input line place → ⊥
 none_has words.Pulses input line place blind fault = cc
+none_has words.Script input line place blind fault = cc
 none_has command input line place blind fault = fault
 
 no_fault_named : (command : Words) (answer : Status) (left : Option (List ℕ)) → (traits_of command).reads ≡ false → may_come_from answer command ≡ true →

@@ -13,9 +13,9 @@ use Rattle.acts.specs.Acts.{Act, steps_of, text_of, next_steps, Outside, Failing
 use Rattle.acts.proofs.Joins.{steps_of-append, text_of-append}
 use Rattle.cartridge_spec.specs.HeaderAndTable.{TableIs, last_segment}
 use Rattle.cartridge_spec.specs.Mounting.{Mounting, Mounts, settled}
-use Rattle.cartridge_spec.specs.Says.{with_parity}
+use Rattle.cartridge_spec.specs.Says.{whole_mask, with_parity}
 use Rattle.cartridge_spec.specs.Segment.{IsLive}
-use Rattle.cartridge_spec.specs.Shape.{usable_places, whole_mask}
+use Rattle.cartridge_spec.specs.Shape.{usable_places}
 use Rattle.cartridge_spec.specs.Volumes.{Plain, Stands, entries_of}
 use Rattle.cartridge_spec.specs.Writes.{changed_by, writes_of}
 use Rattle.format_plan.proofs.Writing.{effects-some, some_and, some_weaker}
@@ -168,6 +168,11 @@ pub record Behind (c : Cartridge) (acts : List Act) (text : List ℕ) (left : Op
 abbrev pub IsLeftBy : Cartridge → List Act → (text : List ℕ) → (left : Option Cartridge) → Type 0
 IsLeftBy c acts text left = Between c acts text left ⊎ Behind c acts text left
 
+-- of a text that is empty nothing is written
+no_text : (some more : List ℕ) → some ++ more ≡ [] → some ≡ []
+no_text [] more is = refl
+no_text (x ∷ xs) more is = cc
+
 none_torn : (steps : List TapeStep) (held : Option Cartridge) → Torn steps held held
 none_torn [] held = refl
 none_torn (x ∷ xs) held = inl refl
@@ -319,11 +324,6 @@ module _ (seed count : ℕ) (few : count ≤ 200) (c : Cartridge) (plain : Plain
         ]
       ]
 
-  -- nothing of a text was written
-  no_text : (some more : List ℕ) → some ++ more ≡ [] → some ≡ []
-  no_text [] more is = refl
-  no_text (x ∷ xs) more is = cc
-
   printed_run : (run_acts : List Act) (answer : made.Answer) (text : List ℕ) (left : Option Cartridge) → Mounts c (mounted_as plain) → IsKept (settled plain.table_area c) plain →
       Makes seed count (settled plain.table_area c) plain.words (entries_of plain) run_acts answer → text ≢ [] → IsLeftBy c (quiet (settling_steps plain.table_area c) ∷ run_acts) text left → HasMade count left
   printed_run run_acts answer text left mounts kept makes some (inl at) =
@@ -348,15 +348,15 @@ module _ (seed count : ℕ) (few : count ≤ 200) (c : Cartridge) (plain : Plain
             ∙ sym (append_assoc (settling_steps plain.table_area c) (steps_of more) at.act.steps) ∙ ap (λ (acts : List Act). steps_of acts ++ at.act.steps) (sym is) in
             made_are_answered seed count (settled plain.table_area c) plain run_acts next at.rest answer left few kept makes
             (append_assoc more (at.act ∷ []) at.rest ∙ parts)
-            (λ none. some (said at.front more at.act at.some at.more text at.is_text at.written is none))
+            (λ none. some (unsaid_so at.front more at.act at.some at.more text at.is_text at.written is none))
             (subst (λ (held : Option Cartridge). Torn (next_steps at.rest) held left)
             (at.is ∙ ap (λ (ss : List TapeStep). effects ss (Some c)) (sym whole_front) ∙ behind_front c plain whole stood live mounts next) (none_torn (next_steps at.rest) left))
       ]
     where
       -- where nothing was to be said up to an act and by it, nothing was said
-      said : (front more : List Act) (act : Act) (said rest text : List ℕ) → text ≡ text_of front ++ said → said ++ rest ≡ act.text → front ≡ quiet (settling_steps plain.table_area c) ∷ more →
+      unsaid_so : (front more : List Act) (act : Act) (said rest text : List ℕ) → text ≡ text_of front ++ said → said ++ rest ≡ act.text → front ≡ quiet (settling_steps plain.table_area c) ∷ more →
           text_of (more ++ act ∷ []) ≡ [] → text ≡ []
-      said front more act said rest text is written same none =
+      unsaid_so front more act said rest text is written same none =
           let whole_text : text_of more ++ (said ++ rest) ≡ [] =
           ap (λ (w : List ℕ). text_of more ++ w) (written ∙ sym (append-nil act.text)) ∙ sym (text_of-append more (act ∷ [])) ∙ none in
           is ∙ ap (λ (acts : List Act). text_of acts ++ said) same
@@ -538,7 +538,7 @@ module _ (told : Option (List ℕ)) (words : List (List ℕ)) (c : Cartridge) (p
           elim (begun c plain whole script.stands script.live run.mounts at.front (at.act ∷ at.rest) script.outcome.acts at.parts) [
             | inl (none, all) ↦
                 let first : at.act ≡ quiet (settling_steps plain.table_area c) = cc in
-                let unsaid : at.some ≡ [] = no_text_of at.some at.more (at.written ∙ ap (λ (a : Act). a.text) first) in
+                let unsaid : at.some ≡ [] = no_text at.some at.more (at.written ∙ ap (λ (a : Act). a.text) first) in
                 nothing_answered text left (at.is_text ∙ ap (λ (acts : List Act). text_of acts ++ at.some) none ∙ unsaid)
                 (some_and (λ d. Stands d plain) (settled plain.table_area c) left run.held.stands
                 (at.is ∙ ap (λ (acts : List Act). effects (steps_of acts ++ at.act.steps) (Some c)) none ∙ ap (λ (a : Act). effects a.steps (Some c)) first ∙ settling_effects c plain.table_area run.mounts.reads))
@@ -553,10 +553,6 @@ module _ (told : Option (List ℕ)) (words : List (List ℕ)) (c : Cartridge) (p
                 ∙ effects-some (steps_of more ++ at.act.steps) (settled plain.table_area c))
                 (omega arith) (omega arith)
           ]
-
-      no_text_of : (some more : List ℕ) → some ++ more ≡ [] → some ≡ []
-      no_text_of [] more is = refl
-      no_text_of (x ∷ xs) more is = cc
 
 -- what is left by words of a script
 some_scripted : (told : Option (List ℕ)) (words : List (List ℕ)) (held left : Option Cartridge) → IfSome held IsCartridge → WordsLeave told words held left → SomeScripted told words held left

@@ -8,7 +8,7 @@ step_fault-requires g c =
     let mark = c.in-Err.ensures.protected in
     (append_so_at g.T.Tape.means c.args.seed c.args.volume c.args.store.now c.args.unit.now c.requires.fits c.append.new.unit.tape c.append.new.source c.append.new.self
     c.made_name-name.result c.new-bytes.result c.made_length-promised.result c.made_name-name.ensures c.new-bytes.ensures c.made_length-promised.ensures
-    c.in-Err.fault ((λ same. mark.0 (ap Err same)), (λ locked. let is = mark.1 locked in cc)) c.in-Err.ensures.ends).0
+    c.in-Err.fault ((λ same. mark.0 (ap Err same)), (λ locked. let is = mark.1 locked in cc)) c.in-Err.ensures.ends c.in-Err.ensures.unread).0
 
 pub returns-in-Ok-clause-ends : goal.returns-in-Ok-clause-ends
 returns-in-Ok-clause-ends g c =
@@ -26,4 +26,4 @@ returns-in-Err-clause-ends g c =
     let mark = c.in-Err.ensures.protected in
     rw c.step_fault.ensures (append_so_at g.T.Tape.means c.args.seed c.args.volume c.args.store.now c.args.unit.now c.requires.fits c.append.new.unit.tape c.append.new.source c.append.new.self
     c.made_name-name.result c.new-bytes.result c.made_length-promised.result c.made_name-name.ensures c.new-bytes.ensures c.made_length-promised.ensures
-    c.in-Err.fault ((λ same. mark.0 (ap Err same)), (λ locked. let is = mark.1 locked in cc)) c.in-Err.ensures.ends).1
+    c.in-Err.fault ((λ same. mark.0 (ap Err same)), (λ locked. let is = mark.1 locked in cc)) c.in-Err.ensures.ends c.in-Err.ensures.unread).1
