@@ -56,6 +56,32 @@ The drive's status is 0x75, its least bit first, between two ones.
   $ (echo 6; yes 2 | head -n 9) | tape evening.img pulses | xargs
   1 1 0 1 0 1 1 1 0 1
 
+A script, which leaves the cartridge with a second volume.
+
+  $ tape evening.img script << END
+  > append a 3
+  > abclist
+  > restore 2
+  > END
+  appended 2 3 5 5
+  1 3 4 48894 1994-03-01T20:15:00 numbers
+  2 5 5 3 1970-01-01T00:00:00 a
+  volumes 2
+  part 3
+  abcrestored 2 3
+  end
+
+A small evening: five segments and nine, beside the three in front.
+
+  $ tape made.img new 3
+  blank 3
+  $ tape made.img format made
+  formatted 84 0
+  $ tape made.img make 1 2
+  scrub 17 0 0
+  volume 1 139000 17375985
+  volume 2 240000 29998218
+
 A look that writes nothing but the mark.
 
   $ tape evening.img protect on
@@ -65,7 +91,7 @@ A look that writes nothing but the mark.
   formatted 1994-03-01T12:00:00
   segments 84
   bad sectors 0
-  volumes 1
+  volumes 2
 
 pulse_trace
 -----------
