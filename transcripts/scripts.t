@@ -396,8 +396,7 @@ were replied to are done, and the append is not.
   $ read reply <&9 && echo $reply
   appended 2 3 4 4
   $ { echo 'append c 100000'; cat volume; } >&8
-  $ kill -KILL $script
-  $ wait $script 2> killed
+  $ { kill -KILL $script; wait $script; } 2> killed
   [137]
   $ exec 8>&- 9<&-
   $ tape cart.img list
