@@ -2,6 +2,7 @@
 #![tactic(auto)]
 
 mod filling;
+mod flat;
 #[cfg(test)]
 mod tests;
 
