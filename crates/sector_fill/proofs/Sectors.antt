@@ -1,15 +1,15 @@
 -- Sectors filled one after the other.
-use Rattle.std.proofs.Common.{◌≡◌, ℕ, zero, suc, ◌+◌, ◌-◌, ◌*◌, ◌≤◌, ◌<◌, min, inl, inr, List, [], ◌∷◌, ◌++◌, length, take, drop, Option, Some, None, IfSome, sym, ap, ◌∙◌, subst, arith}
+use Rattle.std.proofs.Common.{◌≡◌, ℕ, zero, suc, ◌+◌, ◌-◌, ◌*◌, ◌≤◌, ◌<◌, min, inl, inr, List, [], ◌∷◌, ◌++◌, length, take, drop, replicate, Option, Some, None, IfSome, refl, sym, append_assoc, ap, ◌∙◌, subst, arith}
 use Rattle.std.specs.Option.{option_map}
 use Rattle.std.proofs.lemmas.Bool.{cases_lt}
-use Rattle.std.proofs.lemmas.List.{take_all, take_at, take-append-le, length-take-le, length-drop, drop-append-le}
+use Rattle.std.proofs.lemmas.List.{take_all, drop_all, take_at, take-append-le, take-append-drop, length-take-le, length-drop, length-replicate, replicate-append-replicate, append-nil}
+use Rattle.std.specs.Simd.{first_chunks}
 use Rattle.std.proofs.lemmas.List as lists
 use Rattle.std.proofs.Math.Seq.{take-append-add}
 use borrow.Rule.Slice.PartMut.{put_mid}
 use Rattle.qic_base.specs.Source.{Meaning}
-use Rattle.tape_script.proofs.Giving.{Gave-Gave, Gave-end, HasEnded-Gave}
 use Rattle.append_plan.specs.NewVolume.{filled_up, in_sectors}
-use Rattle.sector_fill.specs.Filling.{GaveUpTo, GaveWithin, IsFilled, AreFilled, IsFrontOf}
+use Rattle.sector_fill.specs.Filling.{GaveUpTo, IsFilled, AreFilled, IsFrontOf}
 
 -- ---- a slice whose rear was written
 
@@ -28,104 +28,64 @@ take-put_rear a k n xs ys here few =
     ∙ take-append-add (take a xs) rest n
     ∙ ap (λ (zs : List ℕ). take a xs ++ zs) (take-append-le n ys (drop k (drop a xs)) few)
 
--- ---- bytes in one sector more
+-- ---- bytes with zero bytes behind them, cut into sectors
 
--- bytes behind those that fill the sectors
-more_full : (i : ℕ) (bytes next : List ℕ) → length bytes ≡ 1024 * i → length next ≤ 1024 →
-    in_sectors (i + 1) (bytes ++ next) ≡ in_sectors i bytes ++ filled_up next ∷ []
-more_full zero [] next long few = ap (λ (front : List ℕ). filled_up front ∷ []) (take_all 1024 next few)
-more_full zero (b ∷ bs) next long few = absurd (omega arith)
-more_full (suc i) bytes next long few =
-    let whole : 1024 ≤ length bytes = omega arith in
-    let rest : length (drop 1024 bytes) ≡ 1024 * i = omega (arith, length-drop 1024 bytes) in
-    let more : suc i + 1 ≡ suc (i + 1) = omega arith in
-    ap (λ (k : ℕ). in_sectors k (bytes ++ next)) more
-    ∙ ap (λ (front : List ℕ). filled_up front ∷ in_sectors (i + 1) (drop 1024 (bytes ++ next))) (take-append-le 1024 bytes next whole)
-    ∙ ap (λ (rear : List ℕ). filled_up (take 1024 bytes) ∷ in_sectors (i + 1) rear) (drop-append-le 1024 bytes next whole)
-    ∙ ap (λ (sectors : List (List ℕ)). filled_up (take 1024 bytes) ∷ sectors) (more_full i (drop 1024 bytes) next rest few)
+-- the first of the sectors
+cut_next : (count : ℕ) (sector rest : List ℕ) → length sector ≡ 1024 →
+    first_chunks 1024 (suc count) (sector ++ rest) ≡ sector ∷ first_chunks 1024 count rest
+cut_next count sector rest long =
+    ap (λ (front : List ℕ). front ∷ first_chunks 1024 count (drop 1024 (sector ++ rest))) (take_at sector rest 1024 long)
+    ∙ ap (λ (bytes : List ℕ). sector ∷ first_chunks 1024 count bytes) (lists.drop_at sector rest 1024 long)
 
--- no bytes behind those for which there was room
-more_empty : (i : ℕ) (bytes : List ℕ) → length bytes ≤ 1024 * i →
-    in_sectors (i + 1) bytes ≡ in_sectors i bytes ++ filled_up [] ∷ []
-more_empty zero [] few = ap (λ (front : List ℕ). filled_up front ∷ []) (take_all 1024 [] (omega arith))
-more_empty zero (b ∷ bs) few = absurd (omega arith)
-more_empty (suc i) bytes few =
-    let rest : length (drop 1024 bytes) ≤ 1024 * i = omega (arith, length-drop 1024 bytes) in
-    let more : suc i + 1 ≡ suc (i + 1) = omega arith in
-    ap (λ (k : ℕ). in_sectors k bytes) more
-    ∙ ap (λ (sectors : List (List ℕ)). filled_up (take 1024 bytes) ∷ sectors) (more_empty i (drop 1024 bytes) rest)
+length-filled_up : (bytes : List ℕ) → length bytes ≤ 1024 → length (filled_up bytes) ≡ 1024
+length-filled_up bytes few =
+    let room : ℕ = 1024 - length bytes in
+    omega (arith, lists.length-append bytes (replicate room 0), length-replicate {A = ℕ} room 0)
 
--- ---- one sector more
+filled_up-full : (sector : List ℕ) → length sector ≡ 1024 → filled_up sector ≡ sector
+filled_up-full sector long =
+    let none : 1024 - length sector ≡ 0 = omega arith in
+    ap (λ (padding : ℕ). sector ++ replicate padding 0) none ∙ append-nil sector
 
--- behind full sectors
-pub filled-full : {S : Type 0} (m : Meaning S) (a b c : S) (i most read left len : ℕ) (sectors : List (List ℕ)) (sector : List ℕ) →
-    AreFilled m a b i most sectors read → IsFilled m b c left sector len → read ≡ 1024 * i → left + read ≡ most →
-    AreFilled m a c (i + 1) most (sectors ++ sector ∷ []) (read + len)
-filled-full m a b c i most read left len sectors sector first next full rest =
-    let both = lists.length-append first.0 next.0 in (
-      first.0 ++ next.0,
-      omega (arith, both, first.1, next.1),
-      record {
-        gave = Gave-Gave m a b c first.0 next.0 first.2.gave next.2.gave;
-        fits = omega (arith, both, first.1, next.2.fits);
-        within = omega (arith, both, first.1, next.2.within);
-        ended = λ few less. next.2.ended (omega (arith, both, first.1)) (omega (arith, both, first.1));
-      },
-      ap (λ (front : List (List ℕ)). front ++ sector ∷ []) first.3
-          ∙ ap (λ (last : List ℕ). in_sectors i first.0 ++ last ∷ []) next.3
-          ∙ sym (more_full i first.0 next.0 (first.1 ∙ full) next.2.fits),
-    )
+padding_apart : (count : ℕ) (bytes : List ℕ) (padding : ℕ) → length bytes ≤ 1024 → length bytes + padding ≡ 1024 * suc count →
+    bytes ++ replicate padding 0 ≡ filled_up bytes ++ replicate (1024 * count) 0
+padding_apart count bytes padding few all =
+    let room : ℕ = 1024 - length bytes in
+    let apart : padding ≡ room + 1024 * count = omega arith in
+    ap (λ (k : ℕ). bytes ++ replicate k 0) apart
+    ∙ ap (λ (rest : List ℕ). bytes ++ rest) (sym (replicate-append-replicate room (1024 * count) 0))
+    ∙ sym (append_assoc bytes (replicate room 0) (replicate (1024 * count) 0))
 
--- an empty one behind a sector that is not full
-filled-empty : {S : Type 0} (m : Meaning S) (a b c : S) (i most read len : ℕ) (sectors : List (List ℕ)) (sector bytes : List ℕ) →
-    AreFilled m a b i most sectors read → length bytes ≡ len → GaveUpTo m b c 1024 0 bytes →
-    sector ≡ filled_up bytes → read < 1024 * i →
-    AreFilled m a c (i + 1) most (sectors ++ sector ∷ []) (read + len)
-filled-empty m a b c i most read len sectors sector [] first is gave last short = (
-  first.0,
-  omega (arith, first.1, is),
-  record {
-    gave = Gave-end m a b c first.0 first.2.gave gave.gave;
-    fits = omega (arith, first.1);
-    within = first.2.within;
-    ended = λ few less. HasEnded-Gave m b c (first.2.ended (omega (arith, first.1)) less) gave.gave;
-  },
-  ap (λ (front : List (List ℕ)). front ++ sector ∷ []) first.3
-      ∙ ap (λ (rear : List ℕ). in_sectors i first.0 ++ rear ∷ []) last
-      ∙ sym (more_empty i first.0 first.2.fits),
-)
-filled-empty m a b c i most read len sectors sector (x ∷ xs) first is gave last short = absurd (omega (arith, gave.within))
-
-pub filled-short : {S : Type 0} (m : Meaning S) (a b c : S) (i most read len : ℕ) (sectors : List (List ℕ)) (sector : List ℕ) →
-    AreFilled m a b i most sectors read → IsFilled m b c 0 sector len → read < 1024 * i →
-    AreFilled m a c (i + 1) most (sectors ++ sector ∷ []) (read + len)
-filled-short m a b c i most read len sectors sector first next short =
-    filled-empty m a b c i most read len sectors sector next.0 first next.1 next.2 next.3 short
-
-pub filled-more : {S : Type 0} (m : Meaning S) (a b c : S) (i most read left len : ℕ) (sectors : List (List ℕ)) (sector : List ℕ) →
-    AreFilled m a b i most sectors read → IsFilled m b c left sector len →
-    (read < 1024 * i → left ≡ 0) → (read ≡ 1024 * i → left + read ≡ most) →
-    AreFilled m a c (i + 1) most (sectors ++ sector ∷ []) (read + len)
-filled-more m a b c i most read left len sectors sector first next short full =
-    elim (cases_lt read (1024 * i)) [
-      | inl less ↦ filled-short m a b c i most read len sectors sector first
-          (subst (λ (k : ℕ). IsFilled m b c k sector len) (short less) next) less
-      | inr more ↦
-          let is : read ≡ 1024 * i = omega (arith, first.1, first.2.fits) in
-          filled-full m a b c i most read left len sectors sector first next is (full is)
+pub cut_filled : (count : ℕ) (bytes : List ℕ) (padding : ℕ) → length bytes + padding ≡ 1024 * count →
+    first_chunks 1024 count (bytes ++ replicate padding 0) ≡ in_sectors count bytes
+cut_filled zero bytes padding all = refl
+cut_filled (suc count) bytes padding all =
+    elim (cases_lt 1024 (length bytes)) [
+      | inl many ↦
+          let front = length-take-le 1024 bytes (omega arith) in
+          let behind : length (drop 1024 bytes) + padding ≡ 1024 * count = omega (arith, length-drop 1024 bytes) in
+          ap (λ (xs : List ℕ). first_chunks 1024 (suc count) (xs ++ replicate padding 0)) (sym (take-append-drop 1024 bytes))
+          ∙ ap (first_chunks 1024 (suc count)) (append_assoc (take 1024 bytes) (drop 1024 bytes) (replicate padding 0))
+          ∙ cut_next count (take 1024 bytes) (drop 1024 bytes ++ replicate padding 0) front
+          ∙ ap (λ (sectors : List (List ℕ)). take 1024 bytes ∷ sectors) (cut_filled count (drop 1024 bytes) padding behind)
+          ∙ ap (λ (sector : List ℕ). sector ∷ in_sectors count (drop 1024 bytes)) (sym (filled_up-full (take 1024 bytes) front))
+      | inr few ↦
+          ap (first_chunks 1024 (suc count)) (padding_apart count bytes padding few all)
+          ∙ cut_next count (filled_up bytes) (replicate (1024 * count) 0) (length-filled_up bytes few)
+          ∙ ap (λ (sectors : List (List ℕ)). filled_up bytes ∷ sectors) (cut_filled count [] (1024 * count) (omega arith))
+          ∙ ap (λ (xs : List ℕ). filled_up bytes ∷ in_sectors count xs) (sym (drop_all 1024 bytes few))
+          ∙ ap (λ (xs : List ℕ). filled_up xs ∷ in_sectors count (drop 1024 bytes)) (sym (take_all 1024 bytes few))
     ]
 
--- a read that failed in it
-pub within-more : {S : Type 0} (m : Meaning S) (a b c : S) (i count most read left : ℕ) (sectors : List (List ℕ)) →
-    AreFilled m a b i most sectors read → GaveWithin m b c 1024 left → left + read ≤ most → i < count →
-    GaveWithin m a c (1024 * count) most
-within-more m a b c i count most read left sectors first next limit here =
-    let both = lists.length-append first.0 next.0 in (
-      first.0 ++ next.0,
-      omega (arith, both, first.1, first.2.fits, next.1),
-      omega (arith, both, first.1, next.2),
-      Gave-Gave m a b c first.0 next.0 first.2.gave next.3,
-    )
+pub are_filled : {S : Type 0} (m : Meaning S) (old new : S) (count most n : ℕ) (into : List ℕ) → length into ≡ 1024 * count →
+    IsFilled m old new most into n → AreFilled m old new count most (first_chunks 1024 count into) n
+are_filled m old new count most n into size filled = (
+  filled.0,
+  filled.1,
+  subst (λ (room : ℕ). GaveUpTo m old new room most filled.0) size filled.2,
+  ap (first_chunks 1024 count) filled.3
+      ∙ cut_filled count filled.0 (length into - n) (omega (arith, filled.1, filled.2.fits)),
+)
 
 -- ---- a source that tells its bytes
 

@@ -1,8 +1,8 @@
 -- Sectors filled from a source: which bytes were read, and where they are (this project's own).
-use Rattle.std.specs.Prelude.{◌≡◌, ℕ, ◌*◌, ◌≤◌, ◌<◌, min, List, length, take, drop, Some, IfSome, Result, Ok, Err}
+use Rattle.std.specs.Prelude.{◌≡◌, ℕ, ◌-◌, ◌*◌, ◌≤◌, ◌<◌, min, List, ◌++◌, length, take, drop, replicate, Some, IfSome, Result, Ok, Err}
 use Rattle.qic_base.specs.Source.{Meaning}
 use Rattle.tape_script.specs.Reading.{Gave, HasEnded}
-use Rattle.append_plan.specs.NewVolume.{filled_up, in_sectors}
+use Rattle.append_plan.specs.NewVolume.{in_sectors}
 
 -- From old to new the source gave these bytes, no more than there is room for and no more than were asked for; fewer than
 -- both only where it has ended.
@@ -21,14 +21,15 @@ abbrev pub FillsFront : {S E : Type 0} → Meaning S → (old new : S) → (into
 FillsFront m old new into (Ok n) = (n ≤ length into) × Gave m old new (take n into) × (n < length into → HasEnded m new)
 FillsFront m old new into (Err e) = (bytes : List ℕ) × (length bytes ≤ length into) × Gave m old new bytes
 
--- a sector has what was read, and zero bytes behind it
-abbrev pub IsFilled : {S : Type 0} → Meaning S → (old new : S) → (most : ℕ) → (sector : List ℕ) → ℕ → Type 0
-IsFilled m old new most sector n =
-    (bytes : List ℕ) × (length bytes ≡ n) × GaveUpTo m old new 1024 most bytes × (sector ≡ filled_up bytes)
+-- a slice has what was read, and zero bytes behind it
+abbrev pub IsFilled : {S : Type 0} → Meaning S → (old new : S) → (most : ℕ) → (into : List ℕ) → ℕ → Type 0
+IsFilled m old new most into n =
+    (bytes : List ℕ) × (length bytes ≡ n) × GaveUpTo m old new (length into) most bytes
+    × (into ≡ bytes ++ replicate (length into - n) 0)
 
-abbrev pub FillsSector : {S E : Type 0} → Meaning S → (old new : S) → (most : ℕ) → (sector : List ℕ) → Result ℕ E → Type 0
-FillsSector m old new most sector (Ok n) = IsFilled m old new most sector n
-FillsSector m old new most sector (Err e) = GaveWithin m old new 1024 most
+abbrev pub FillsBytes : {S E : Type 0} → Meaning S → (old new : S) → (most : ℕ) → (into : List ℕ) → Result ℕ E → Type 0
+FillsBytes m old new most into (Ok n) = IsFilled m old new most into n
+FillsBytes m old new most into (Err e) = GaveWithin m old new (length into) most
 
 -- so many sectors have what was read, one behind the other, and zero bytes behind it
 abbrev pub AreFilled : {S : Type 0} → Meaning S → (old new : S) → (count most : ℕ) → (sectors : List (List ℕ)) → ℕ → Type 0

@@ -1,12 +1,14 @@
 ghost use Rattle.std.specs.Prelude.{◌≡◌, ◌≤◌, length, take, drop, IfOk};
 ghost use Rattle.qic_base.specs.Cause.{HasCause};
-ghost use Rattle.sector_fill.specs.Filling.{FillsFront, FillsSector, FillsSectors, IsFrontOf};
+ghost use Rattle.sector_fill.specs.Filling.{FillsFront, FillsBytes, FillsSectors, IsFrontOf};
 
+use crate::flat::split_bytes;
 use qic_base::{Source, SourceFailed};
 
 /// Reads until the slice is full or the source has ended, and answers how many bytes were read.
 fn read_full<S: Source>(source: &mut S, into: &mut [u8]) -> Result<usize, SourceFailed>
     ensures filled { FillsFront S.means source.old source.new into.new result }
+    ensures size { length into.new ≡ length into.old }
     ensures kept { S.means.keeps source.old source.new }
     ensures cause { HasCause (S.means.faults source.old) (S.means.faults source.new) result }
 {
@@ -21,19 +23,16 @@ fn read_full<S: Source>(source: &mut S, into: &mut [u8]) -> Result<usize, Source
     Ok(len)
 }
 
-/// Reads up to `most` bytes into a sector, which becomes zero behind them, and answers how many were read.
-fn fill_sector<S: Source>(
-    source: &mut S,
-    sector: &mut [u8; 1024],
-    most: u32,
-) -> Result<u32, SourceFailed>
-    ensures filled { FillsSector S.means source.old source.new most sector.new result }
+/// Reads up to `most` bytes into the slice, which becomes zero behind them, and answers how many were read.
+fn fill_bytes<S: Source>(source: &mut S, into: &mut [u8], most: u32) -> Result<u32, SourceFailed>
+    ensures filled { FillsBytes S.means source.old source.new most into.new result }
+    ensures size { length into.new ≡ length into.old }
     ensures kept { S.means.keeps source.old source.new }
     ensures cause { HasCause (S.means.faults source.old) (S.means.faults source.new) result }
 {
-    let limit = most.min(1024) as usize;
-    let len = read_full(source, &mut sector[..limit])?;
-    sector[len..].fill(0);
+    let limit = into.len().min(most as usize);
+    let len = read_full(source, &mut into[..limit])?;
+    into[len..].fill(0);
     Ok(len as u32)
 }
 
@@ -54,13 +53,6 @@ pub fn fill_sectors<S: Source>(
     ensures kept { S.means.keeps source.old source.new }
     ensures cause { HasCause (S.means.faults source.old) (S.means.faults source.new) result }
 {
-    let mut read = 0;
-    let mut left = most;
-    for sector in sectors[..usize::from(count)].iter_mut() {
-        let len = fill_sector(source, sector, left)?;
-        read += len;
-        // A sector that isn't full is the last one that the source is asked for.
-        left = if len < 1024 { 0 } else { left - len };
-    }
-    Ok(read)
+    let (bytes, _) = split_bytes(sectors, usize::from(count));
+    fill_bytes(source, bytes, most)
 }

@@ -1,16 +1,25 @@
-ghost use Rattle.std.specs.Prelude.{◌≡◌, ◌*◌, length};
+ghost use Rattle.std.specs.Prelude.{◌≡◌, ◌*◌, ◌≤◌, length, take, drop};
 ghost use Rattle.std.specs.Borrow.{sem};
 ghost use Rattle.append_plan.specs.NewVolume.{bytes_in};
 ghost use Rattle.sector_fill.specs.Flat.{LendsBytes};
 
 use std::slice::from_raw_parts_mut;
 
-/// The bytes of the sectors, one sector behind the other. What they are left as, the sectors have.
-pub fn flattened(sectors: &mut [[u8; 1024]]) -> &mut [u8]
-    ensures* writes_back { sem 𝓛 (LendsBytes sectors.entry result) }
-    ensures value { result.now ≡ bytes_in sectors.old }
-    ensures len { length result.now ≡ 1024 * length sectors.old }
+/// The bytes of the first `count` sectors, one sector behind the other, and the other sectors.
+pub fn split_bytes(sectors: &mut [[u8; 1024]], count: usize) -> (&mut [u8], &mut [[u8; 1024]])
+    requires { count ≤ length sectors.old }
+    ensures* writes_back { sem 𝓛 (LendsBytes sectors.entry count result) }
+    ensures bytes { result.0.now ≡ bytes_in (take count sectors.old) }
+    ensures size { length result.0.now ≡ 1024 * count }
+    ensures rest { result.1.now ≡ drop count sectors.old }
 {
-    let len = sectors.len() * 1024;
-    unsafe { from_raw_parts_mut(sectors.as_mut_ptr() as *mut u8, len) }
+    let len = count * 1024;
+    let rest = sectors.len() - count;
+    let start = sectors.as_mut_ptr();
+    unsafe {
+        (
+            from_raw_parts_mut(start as *mut u8, len),
+            from_raw_parts_mut(start.add(count), rest),
+        )
+    }
 }
