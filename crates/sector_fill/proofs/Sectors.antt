@@ -1,5 +1,6 @@
--- Sectors filled one after the other.
+-- Sectors filled as one slice of bytes.
 use Rattle.std.proofs.Common.{◌≡◌, ℕ, zero, suc, ◌+◌, ◌-◌, ◌*◌, ◌≤◌, ◌<◌, min, inl, inr, List, [], ◌∷◌, ◌++◌, length, take, drop, replicate, Option, Some, None, IfSome, refl, sym, append_assoc, ap, ◌∙◌, subst, arith}
+use Rattle.std.specs.Prelude.{Result, Ok, Err, IfOk}
 use Rattle.std.specs.Option.{option_map}
 use Rattle.std.proofs.lemmas.Bool.{cases_lt}
 use Rattle.std.proofs.lemmas.List.{take_all, drop_all, take_at, take-append-le, take-append-drop, length-take-le, length-drop, length-replicate, replicate-append-replicate, append-nil}
@@ -7,9 +8,10 @@ use Rattle.std.specs.Simd.{first_chunks}
 use Rattle.std.proofs.lemmas.List as lists
 use Rattle.std.proofs.Math.Seq.{take-append-add}
 use borrow.Rule.Slice.PartMut.{put_mid}
+use Rattle.core.proofs.slice.Relends.{length-first_chunks}
 use Rattle.qic_base.specs.Source.{Meaning}
 use Rattle.append_plan.specs.NewVolume.{filled_up, in_sectors}
-use Rattle.sector_fill.specs.Filling.{GaveUpTo, IsFilled, AreFilled, IsFrontOf}
+use Rattle.sector_fill.specs.Filling.{GaveUpTo, GaveWithin, IsFilled, FillsBytes, AreFilled, FillsSectors, IsFrontOf}
 
 -- ---- a slice whose rear was written
 
@@ -87,6 +89,16 @@ are_filled m old new count most n into size filled = (
       ∙ cut_filled count filled.0 (length into - n) (omega (arith, filled.1, filled.2.fits)),
 )
 
+-- the first sectors, cut from the slice that was filled
+pub fills_sectors : {S E : Type 0} (m : Meaning S) (old new : S) (count most : ℕ) (into : List ℕ) (behind : List (List ℕ)) (result : Result ℕ E) →
+    length into ≡ 1024 * count → FillsBytes m old new most into result →
+    FillsSectors m old new count most (take count (first_chunks 1024 count into ++ behind)) result
+fills_sectors m old new count most into behind (Ok n) size filled =
+    let front = take_at (first_chunks 1024 count into) behind count (length-first_chunks 1024 count into) in
+    rw front (are_filled m old new count most n into size filled)
+fills_sectors m old new count most into behind (Err e) size gave =
+    subst (λ (room : ℕ). GaveWithin m old new room most) size gave
+
 -- ---- a source that tells its bytes
 
 few_rest : (bytes rest : List ℕ) (n room most : ℕ) → length bytes ≡ n → n ≤ room → n ≤ most →
@@ -118,7 +130,12 @@ front_option (Some left) (Some rest) bytes sectors n count most is gave fits wit
       ap (λ (xs : List ℕ). Some xs) (sym (lists.drop_at bytes rest n is)),
     )
 
-pub front_of : {S : Type 0} (m : Meaning S) (old new : S) (count most n : ℕ) (sectors : List (List ℕ)) →
+front_of : {S : Type 0} (m : Meaning S) (old new : S) (count most n : ℕ) (sectors : List (List ℕ)) →
     AreFilled m old new count most sectors n → IsFrontOf m old new count most sectors n
 front_of m old new count most n sectors are =
     front_option (m.left old) (m.left new) are.0 sectors n count most are.1 are.2.gave are.2.fits are.2.within are.2.ended are.3
+
+pub fills_front : {S E : Type 0} (m : Meaning S) (old new : S) (count most : ℕ) (sectors : List (List ℕ)) (result : Result ℕ E) →
+    FillsSectors m old new count most sectors result → IfOk result (λ n. IsFrontOf m old new count most sectors n)
+fills_front m old new count most sectors (Ok n) are = front_of m old new count most n sectors are
+fills_front m old new count most sectors (Err e) gave = tt
