@@ -12,7 +12,7 @@ use base.Stored.{coded_list}
 use base.Fml.{Lft, GName, Share, flft, fobs, fbor}
 use types.Logic.{Logic, sem}
 use types.Kit.{Item, ‵, ◌⊛◌, raw, given, some, later, ◌$◌, ◌∵◌, !, qed, move, keep, drop, use1, use2, split, split3, pick, learn, check, group, rewrite, fsplit, fsplit3, fjoin, feq_l, feq_i, show, await, updating, now, done}
-use types.SemTy.{SemTy, cells, Arr, Body}
+use types.SemTy.{cells, Arr, Body}
 use types.Mut.{open_ref}
 use types.Follow.{after₂, takes_two}
 use denote.RattleType.{RattleType}

@@ -1,6 +1,6 @@
 -- `split_bytes` lends the bytes of the first sectors, and the other sectors: a walk of its code by hand, since it goes
 -- through a raw pointer.
-use Rattle.std.proofs.Common.{◌≡◌, ℕ, ◌+◌, ◌-◌, ◌*◌, ◌^◌, ◌<◌, ◌≤◌, List, [], ◌∷◌, ◌++◌, length, take, drop as rest_of, sym, refl, ap, ◌∙◌, arith, MutBor}
+use Rattle.std.proofs.Common.{◌≡◌, ℕ, ◌+◌, ◌-◌, ◌*◌, ◌^◌, ◌<◌, ◌≤◌, List, [], ◌∷◌, ◌++◌, length, take, drop as rest_of, sym, refl, ap, arith, MutBor}
 use Rattle.std.specs.Prelude.{flat_map}
 use Rattle.std.proofs.lemmas.List.{take-append-drop, length-take-le, length-drop}
 use seplogic.Ra.Ura.{Ura}
@@ -15,7 +15,7 @@ use types.Logic.{Logic}
 use contract.Monad.{Fun}
 use contract.Running.{tables, tables_of}
 use sound.WpLaws.{WpFn-mono}
-use types.Kit.{Item, ‵, ◌⊛◌, raw, given, some, later, at_ret, ◌$◌, ◌∵◌, !, qed, by, move, keep, drop, split, split3, join, learn, fsplit, fjoin, fpack, feq_i, use2, await, pick, suffices, frame, done}
+use types.Kit.{Item, ‵, ◌⊛◌, some, later, at_ret, ◌$◌, ◌∵◌, !, qed, move, keep, split, split3, join, learn, fsplit, fjoin, fpack, feq_i, use2, await, pick, suffices, frame, done}
 use types.Part.{whole, sub, agg}
 use types.Run.{Opd, stop, fld, hop, from, addr, bin, and_then, no_more, of_opd, first, blocks, exec, returns, enter}
 use types.ByLocal.{alloc_all, pass_all, free_all, look_at, look_in_at, get, get_in, sets, sets_last, env}
