@@ -23,7 +23,7 @@ use Rattle.cartridge_spec.specs.HeaderAndTable.{TableIs, table_cells, last_segme
 use Rattle.cartridge_spec.specs.Says.{Data, LostSectors, AsRead, ByCode, TableSays}
 use Rattle.cartridge_spec.proofs.TableSayings.{table_says_is_function}
 use Rattle.cartridge_spec.specs.Mounting as mounting
-use Rattle.cartridge_spec.specs.Mounting.{Mounting, settled}
+use Rattle.cartridge_spec.specs.Mounting.{settled}
 use Rattle.cartridge_spec.specs.Table.{Entry}
 use Rattle.drive_states.specs.Deck.{is_protected}
 use Rattle.drive_states.specs.Unit.{UnitView}

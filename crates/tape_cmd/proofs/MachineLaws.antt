@@ -1,5 +1,5 @@
 -- The plain machine is a function, and it answers.
-use Rattle.std.proofs.Common.{◌≡◌, ◌⊎◌, ℕ, List, [], Option, IfSome, refl, sym, ap, ◌∙◌, subst, inl, inr, Bool, true, false}
+use Rattle.std.proofs.Common.{◌≡◌, ◌⊎◌, ℕ, List, [], Option, IfSome, refl, sym, ap, ◌∙◌, subst, inl, inr}
 use Rattle.qic_base.specs.Cartridge.{Cartridge, IsCartridge}
 use Rattle.qic_base.specs.Step.{effects}
 use Rattle.tape_script.specs.declared.words.Words.{Words}

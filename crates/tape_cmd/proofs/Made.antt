@@ -1,5 +1,5 @@
 -- How a generated run ends.
-use Rattle.std.proofs.Common.{◌≡◌, ◌≢◌, ℕ, ◌+◌, ◌*◌, ◌%◌, ◌<◌, ◌≤◌, ◌&&◌, nat_le, nat_lt, Bool, true, false, cond, List, [], ◌∷◌, Option, Some, None, IfSome, Result, Ok, Err, refl, sym, ap, ◌∙◌, subst, inl, inr, arith}
+use Rattle.std.proofs.Common.{◌≡◌, ◌≢◌, ℕ, ◌<◌, ◌≤◌, ◌&&◌, nat_le, nat_lt, Bool, true, false, cond, List, [], ◌∷◌, Option, Some, None, IfSome, Result, Ok, Err, refl, sym, ap, ◌∙◌, subst, inl, inr, arith}
 use Rattle.std.proofs.lemmas.Bool.{cases_Bool, leb-false, lt-ltb}
 use Rattle.qic_base.specs.Cartridge.{Cartridge}
 use Rattle.qic_base.specs.Sink as sinks
@@ -23,11 +23,11 @@ use Rattle.made_volumes.specs.declared.fault.MakeFault.TheVariants as fault
 use Rattle.made_volumes.specs.Items.{Item, AppendMade, WearSector, ScrubAll, SumVolume, after_item, making}
 use Rattle.made_volumes.specs.Machine as made
 use Rattle.made_volumes.specs.Machine.{Answer, Makes, made_answer}
-use Rattle.made_volumes.specs.May.{MayAppend, MayDo, MayRun, MayScrub, MaySum}
+use Rattle.made_volumes.specs.May.{MayDo, MayRun}
 use Rattle.made_volumes.specs.Runs.{HasRun, MakeEnds, RunCut}
 use Rattle.tape_cmd.specs.declared.status.Status.{Status}
 use Rattle.tape_cmd.specs.declared.status.Status.TheVariants as status
-use Rattle.tape_cmd.specs.Make.{Making, MakeOutcome, made_on, make_status, run_status}
+use Rattle.tape_cmd.specs.Make.{Making, make_status, run_status}
 use Rattle.tape_cmd.specs.Machine.{RefusedPrints}
 use Rattle.tape_cmd.specs.Opening.{Going, Opened, OpenOutcome, WritableOutcome, IsOpened, HasOpened, IsUnlocked, WritableEnds, is_opening}
 use Rattle.tape_cmd.specs.Outcome.{Outcome, first_steps}
@@ -208,7 +208,7 @@ module _ {T K : Type 0} (t : tapes.Meaning T) (k : sinks.Meaning K) (seed count 
         EndsBlind t k (words.Make seed count) a c x y (fault_of failing)
     ran_cut c x y failing other both nothing cut =
         let Cuts : Option Cartridge → Type 0 = λ held. (outcome : Outcome) → OpenOutcome (Making seed count) held outcome →
-            IsCutOff t no_source k (words.Make seed count) (around a x) (around c y) failing outcome in
+        IsCutOff t no_source k (words.Make seed count) (around a x) (around c y) failing outcome in
         inr (
           failing,
           refl,

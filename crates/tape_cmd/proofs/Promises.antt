@@ -9,7 +9,6 @@ use Rattle.qic_base.proofs.Steps.{Stops-nothing}
 use Rattle.acts.specs.Acts.{Act, Outside, Failing, TapeFails, SourceFails, SinkFails, Went, Cut}
 use Rattle.tape_script.specs.declared.words.Words.{Words}
 use Rattle.tape_script.specs.declared.words.Words.TheVariants as words
-use Rattle.tape_script.specs.Words.{IsCommand}
 use Rattle.tape_script.proofs.Commands.{one_command}
 use Rattle.tape_script.proofs.Deciding.{each_words}
 use Rattle.tape_cmd.specs.declared.status.Status.{Status}

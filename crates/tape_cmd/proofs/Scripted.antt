@@ -9,7 +9,7 @@ use Rattle.qic_base.specs.Step.{Step as TapeStep}
 use Rattle.qic_base.specs.Tape as tapes
 use Rattle.qic_base.proofs.Steps.{Broke-front}
 use Rattle.qic_base.proofs.Writing.{TakesBoth}
-use Rattle.acts.specs.Acts.{Act, next_steps, text_of, Failing, TapeFails, SourceFails, SinkFails, Went, Cut, TapeCut}
+use Rattle.acts.specs.Acts.{Act, next_steps, text_of, Failing, TapeFails, SourceFails, SinkFails, Cut, TapeCut}
 use Rattle.cartridge_spec.specs.Mounting as mounting
 use Rattle.cartridge_spec.specs.Mounting.{Mounting}
 use Rattle.drive_states.specs.Unit.{UnitView}
@@ -26,10 +26,10 @@ use Rattle.volume_script.specs.Script.{Answer, AllDone, FaultIn, ScriptDoes, ans
 use Rattle.volume_store.specs.Mounting.{StoreView}
 use Rattle.tape_cmd.specs.declared.status.Status.{Status}
 use Rattle.tape_cmd.specs.declared.status.Status.TheVariants as status
-use Rattle.tape_cmd.specs.Opening.{Opened, OpenOutcome, IsOpened, HasOpened, OpeningEnds, is_opening}
+use Rattle.tape_cmd.specs.Opening.{Opened, IsOpened, HasOpened, OpeningEnds, is_opening}
 use Rattle.tape_cmd.specs.Outcome.{Outcome, refused, first_steps}
 use Rattle.tape_cmd.specs.Runs.{Ends, InputLeft, IsCutOff, NamesFault, Prints, fault_of, may_come_from}
-use Rattle.tape_cmd.specs.Script.{Scripting, ScriptOutcome, script_status, scripted_on, run_status}
+use Rattle.tape_cmd.specs.Script.{Scripting, ScriptOutcome, script_status, run_status}
 use Rattle.tape_cmd.proofs.Endings.{told_map}
 use Rattle.tape_cmd.proofs.Mounted.{Settles, no_outcome, begins_is, refused_is}
 use Rattle.tape_cmd.proofs.Opened.{outside, quiet, went_behind, cut_behind, settled_told}

@@ -1,5 +1,5 @@
 -- What runs of several items leave of the plain cartridge that a cartridge stands for: generated runs, and scripts.
-use Rattle.std.proofs.Common.{◌≡◌, ◌≢◌, ◌⊎◌, inl, inr, ℕ, ◌+◌, ◌<◌, ◌≤◌, Bool, true, false, cond, List, [], ◌∷◌, ◌++◌, length, take, All, is_some, append_assoc, Option, Some, None, IfSome, IsSomeAnd, refl, sym, ap, ◌∙◌, subst, arith, append-nil}
+use Rattle.std.proofs.Common.{◌≡◌, ◌≢◌, ◌⊎◌, inl, inr, ℕ, ◌+◌, ◌≤◌, Bool, true, false, cond, List, [], ◌∷◌, ◌++◌, length, take, is_some, append_assoc, Option, Some, None, IfSome, IsSomeAnd, refl, sym, ap, ◌∙◌, subst, arith, append-nil}
 use Rattle.std.proofs.lemmas.List.{length-append}
 use Rattle.qic_base.specs.declared.tape.TapeInfo.{TapeInfo}
 use Rattle.qic_base.specs.Cartridge.{Cartridge, IsCartridge}
@@ -11,14 +11,14 @@ use Rattle.qic_base.specs.Tape as tapes
 use Rattle.qic_base.proofs.Steps.{Torn-append, effects-append}
 use Rattle.acts.specs.Acts.{Act, steps_of, text_of, next_steps, Outside, Failing, TapeFails, SourceFails, SinkFails, Went, Cut}
 use Rattle.acts.proofs.Joins.{steps_of-append, text_of-append}
-use Rattle.cartridge_spec.specs.HeaderAndTable.{TableIs, last_segment}
+use Rattle.cartridge_spec.specs.HeaderAndTable.{TableIs}
 use Rattle.cartridge_spec.specs.Mounting.{Mounting, Mounts, settled}
 use Rattle.cartridge_spec.specs.Says.{whole_mask, with_parity}
 use Rattle.cartridge_spec.specs.Segment.{IsLive}
 use Rattle.cartridge_spec.specs.Shape.{usable_places}
 use Rattle.cartridge_spec.specs.Volumes.{Plain, Stands, entries_of}
 use Rattle.cartridge_spec.specs.Writes.{changed_by, writes_of}
-use Rattle.format_plan.proofs.Writing.{effects-some, some_and, some_weaker}
+use Rattle.format_plan.proofs.Writing.{effects-some, some_and}
 use Rattle.mount_laws.specs.Laws.{IsTableLive, mounted_as}
 use Rattle.mount_laws.specs.Settling.{settling_steps}
 use Rattle.mount_laws.proofs.Keeping.{stopped_stands}
@@ -38,7 +38,7 @@ use Rattle.tape_script.specs.declared.words.Words.TheVariants as commands
 use Rattle.tape_script.specs.Input.{Item}
 use Rattle.tape_script.proofs.Commands.{one_command}
 use Rattle.volume_script.specs.Script as scripts
-use Rattle.volume_script.specs.Script.{ScriptDoes, acts_of}
+use Rattle.volume_script.specs.Script.{ScriptDoes}
 use Rattle.volume_script.specs.Standing.{StandsAnswered, plain_behind}
 use Rattle.volume_script.proofs.MachineLaws.{one_outcome as one_script}
 use Rattle.volume_script.proofs.Answered.{answered_behind, answered_between, none_answered, stopped_script_stands}
@@ -594,7 +594,7 @@ none_made t k told words a x answer right after nothing other values leaves = re
   over = λ seed count c plain is run. record {
     text = [];
     took = nothing;
-    all = λ which. elim which [ | inl some ↦ absurd (some refl) | inr done ↦ absurd (other done) ];
+    all = λ which. elim which [ inl some ↦ absurd (some refl) | inr done ↦ absurd (other done) ];
   };
 }
 

@@ -1,5 +1,5 @@
 -- How a command ended: all acts of its outcome went, or a fault of the outside cut them off (this project's own).
-use Rattle.std.specs.Prelude.{◌≡◌, ◌≢◌, ◌⊎◌, ℕ, ◌+◌, ◌<◌, Bool, true, false, List, [], ◌++◌, drop, All, Option, IfSome, IfNone, is_some, ◌&&◌, ◌||◌, ◌==◌, zero, suc, nat_lt, nat_le}
+use Rattle.std.specs.Prelude.{◌≡◌, ◌≢◌, ◌⊎◌, ℕ, ◌+◌, ◌<◌, Bool, true, false, List, [], drop, All, Option, IfSome, IfNone, is_some, ◌&&◌, ◌||◌, ◌==◌, zero, suc, nat_lt, nat_le}
 use Rattle.std.specs.Option.{option_map}
 use Rattle.qic_base.specs.Cartridge.{Cartridge}
 use Rattle.qic_base.specs.Sink as sinks

@@ -1,5 +1,5 @@
 -- Each input has an outcome over a cartridge whose volume table is known.
-use Rattle.std.proofs.Common.{◌≡◌, ◌≢◌, ◌⊎◌, ℕ, ◌+◌, ◌*◌, ◌<◌, ◌≤◌, ◌^◌, Bool, true, false, List, [], ◌∷◌, ◌++◌, length, drop, Option, Some, None, nat_lt, ltb-true, ltb-false, refl, sym, ap, ◌∙◌, subst, arith, inl, inr, append-nil}
+use Rattle.std.proofs.Common.{◌≡◌, ◌≢◌, ◌⊎◌, ℕ, ◌+◌, ◌*◌, ◌<◌, ◌≤◌, ◌^◌, Bool, true, false, List, [], ◌∷◌, ◌++◌, length, drop, Option, Some, None, nat_lt, ltb-true, ltb-false, refl, sym, ◌∙◌, subst, arith, inl, inr, append-nil}
 use Rattle.qic_base.specs.Cartridge.{Cartridge, IsPlace}
 use Rattle.qic_base.specs.Step.{Step, Wear}
 use Rattle.acts.specs.Acts.{Act, steps_of}

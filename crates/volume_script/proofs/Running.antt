@@ -31,7 +31,7 @@ use Rattle.volume_script.specs.Ending.{HearsEnd, RepliesEnd}
 use Rattle.volume_script.specs.Heard.{longest, GaveEnd, HeardItem, HeardNone, HeardShort, HeardCut, Hears, NextDoes}
 use Rattle.volume_script.specs.Items.{EarlyDoes}
 use Rattle.volume_script.specs.Lines.{end_line}
-use Rattle.volume_script.specs.Runs.{Leaves, Ended, Mismatched, CutOff}
+use Rattle.volume_script.specs.Runs.{Leaves, Ended, CutOff}
 use Rattle.volume_script.specs.Runs as runs
 use Rattle.volume_script.specs.Script.{Answer, AllDone, FaultIn, Did, EndDoes, EndsEarly, FaultDoes, ItemDoes, ItemsDo, Outcome, ScriptDoes, acts_of, answer_by, cartridge_behind, entries_behind, place_behind, reply, taken_by}
 use Rattle.volume_script.proofs.Appended.{flip}
