@@ -14,3 +14,4 @@ pub mod Listing
 pub mod Stops
 pub mod Answered
 pub mod Outcomes
+pub mod Complete

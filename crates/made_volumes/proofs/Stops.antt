@@ -195,7 +195,7 @@ abbrev pub AreStill : List Item → Type 0
 AreStill [] = Unit {0}
 AreStill (item ∷ items) = IsStill item × AreStill items
 
-still_after : (seed : ℕ) (words : List ℕ) (es : List Entry) (item : Item) → IsStill item → after_item seed words es item ≡ es
+pub still_after : (seed : ℕ) (words : List ℕ) (es : List Entry) (item : Item) → IsStill item → after_item seed words es item ≡ es
 still_after seed words es (AppendMade volume) still = absurd still
 still_after seed words es (WearSector segment sector) still = refl
 still_after seed words es ScrubAll still = refl
@@ -210,7 +210,7 @@ sum_in_no_step number size given (MismatchIn segment) = refl
 nothing_changed : (c : Cartridge) (plain : Plain) (acts : List Act) → steps_of acts ≡ [] → IsKept c plain → IsKept (changed_by (steps_of acts) c) plain
 nothing_changed c plain acts none held = subst (λ (steps : List Step). IsKept (changed_by steps c) plain) (sym none) held
 
-still_done : (seed : ℕ) (c : Cartridge) (plain : Plain) (item : Item) (acts : List Act) → IsStill item → IsKept c plain →
+pub still_done : (seed : ℕ) (c : Cartridge) (plain : Plain) (item : Item) (acts : List Act) → IsStill item → IsKept c plain →
     Does seed c plain.words (entries_of plain) item acts Done → IsKept (changed_by (steps_of acts) c) plain
 still_done seed c plain (AppendMade volume) acts still held does = absurd still
 still_done seed c plain (WearSector segment sector) acts still held does =

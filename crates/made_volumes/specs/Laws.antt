@@ -1,5 +1,5 @@
 -- What a run of `make` comes to, and what a stop in it leaves, as facts.
-use Rattle.std.specs.Prelude.{◌≡◌, ◌≢◌, ◌⊎◌, ℕ, zero, suc, ◌+◌, ◌-◌, ◌≤◌, List, [], ◌∷◌, ◌++◌, length, Option, Some, IsSomeAnd}
+use Rattle.std.specs.Prelude.{◌≡◌, ◌≢◌, ◌⊎◌, ℕ, zero, suc, ◌+◌, ◌-◌, ◌<◌, ◌≤◌, List, [], ◌∷◌, ◌++◌, length, drop, All, Option, Some, IsSomeAnd}
 use Rattle.qic_base.specs.Cartridge.{Cartridge}
 use Rattle.qic_base.specs.Stop.{Torn}
 use Rattle.acts.specs.Acts.{Act, steps_of, text_of, next_steps}
@@ -7,11 +7,13 @@ use Rattle.append_plan.specs.Appending.{appended_volume, with_volume}
 use Rattle.cartridge_spec.specs.Table.{Entry}
 use Rattle.cartridge_spec.specs.Volumes.{Plain, Volume, Stands, entries_of}
 use Rattle.cartridge_spec.specs.Writes.{changed_by}
+use Rattle.restore_plan.specs.Restoring.{LosesFew, pieces}
 use Rattle.store_laws.specs.Kept.{IsKept}
 use Rattle.store_laws.specs.Listed.{IsListed}
 use Rattle.tape_script.specs.Generator.{made_bytes}
-use Rattle.made_volumes.specs.Items.{Item, made_name, after_items}
-use Rattle.made_volumes.specs.Machine.{Answer, Done, Does, Runs, Makes}
+use Rattle.volume_store.specs.Restoring.{volume_at}
+use Rattle.made_volumes.specs.Items.{Item, ScrubAll, made_name, after_items, appending, made_list, wearing_volumes}
+use Rattle.made_volumes.specs.Machine.{Answer, Done, Does, Runs, Makes, made_answer}
 
 -- ---- any cartridge
 
@@ -85,3 +87,30 @@ MadeAreAnswered =
     count ≤ 200 → IsKept c plain → Makes seed count c plain.words (entries_of plain) acts answer → front ++ rest ≡ acts →
     text_of front ≢ [] → Torn (next_steps rest) (Some (changed_by (steps_of front) c)) left →
     IsSomeAnd left (λ d. Stands d (with_made seed plain 1 count))
+
+-- ---- a run that is carried out
+
+-- each of the made volumes has room when its turn comes
+abbrev pub HaveRoom : (seed count : ℕ) → Plain → Type 0
+HaveRoom seed count plain =
+    (n : ℕ) → n < count → made_answer seed plain.words (made_list seed n plain.words (entries_of plain)) (1 + n) ≡ Done
+
+-- the steps in front of the sums: the appends, the worn sectors and the scrub
+abbrev pub before_sums : (seed count : ℕ) → Plain → List Item
+before_sums seed count plain =
+    appending 1 count
+    ++ (wearing_volumes plain.words (drop (length (entries_of plain)) (made_list seed count plain.words (entries_of plain))) ++ ScrubAll ∷ [])
+
+-- behind them no segment that holds some of a made volume has more than three unreadable sectors
+abbrev pub LoseFewBehind : (seed count : ℕ) → Cartridge → Plain → Type 0
+LoseFewBehind seed count c plain =
+    (acts : List Act) (number : ℕ) (e : Entry) → Runs seed c plain.words (entries_of plain) (before_sums seed count plain) acts Done →
+    length (entries_of plain) < number → volume_at (made_list seed count plain.words (entries_of plain)) number ≡ Some e →
+    All (LosesFew (changed_by (steps_of acts) c) plain.words) (pieces plain.words e)
+
+-- then all steps are carried out
+abbrev pub MadeWhereThereIsRoom : Type 0
+MadeWhereThereIsRoom =
+    (seed count : ℕ) (c : Cartridge) (plain : Plain) (acts : List Act) (answer : Answer) → count ≤ 200 → IsKept c plain →
+    HaveRoom seed count plain → LoseFewBehind seed count c plain → Makes seed count c plain.words (entries_of plain) acts answer →
+    answer ≡ Done

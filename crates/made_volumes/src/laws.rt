@@ -1,7 +1,7 @@
 //! What a run of `make` comes to. Each law is the contract of a function that does nothing, so that other crates can
 //! rest on it; their proofs import the lemmas of this crate's `proofs`.
 
-ghost use Rattle.made_volumes.specs.Laws.{MakesOneThing, MakesSomething, StopsAreInSteps, StoppedMakeStands, DoneMakeStands, MadeAreAnswered};
+ghost use Rattle.made_volumes.specs.Laws.{MakesOneThing, MakesSomething, StopsAreInSteps, StoppedMakeStands, DoneMakeStands, MadeAreAnswered, MadeWhereThereIsRoom};
 
 /// A run does one thing on a cartridge.
 pub fn a_run_is_one()
@@ -28,4 +28,10 @@ pub fn a_run_keeps_what_stands()
 /// A run prints nothing before all volumes were appended: where something was printed, all of them stand.
 pub fn made_volumes_are_answered()
     ensures { MadeAreAnswered }
+{}
+
+/// On a cartridge that stands for a plain one a run is carried out where each made volume has room, and where behind the
+/// scrub no segment of one has more than three unreadable sectors.
+pub fn a_run_with_room_is_carried_out()
+    ensures { MadeWhereThereIsRoom }
 {}
