@@ -120,7 +120,7 @@ replied_steps kept name date reply input =
     ∙ sym (steps_of-append ws (entry_acts kept name date reply became)))
 
 -- and is the whole text
-replied_text : (kept : Kept) (name : List ℕ) (date : ℕ) (reply : Entry → List ℕ) (input bytes : List ℕ) → taking (room_in kept) None input ≡ Fits bytes →
+pub replied_text : (kept : Kept) (name : List ℕ) (date : ℕ) (reply : Entry → List ℕ) (input bytes : List ℕ) → taking (room_in kept) None input ≡ Fits bytes →
     text_of (append_acts kept name date None reply input) ≡ reply (entry_for kept name date bytes)
 replied_text kept name date reply input bytes took =
     let ws : List Act = input_writes kept None input in
@@ -144,7 +144,7 @@ status_by : (flag : Bool) (have : ℕ) (input : List ℕ) (became : Taking) → 
 status_by true have input became is = ((λ bytes fits. refl), (λ need most long. cc))
 status_by false have input became is = ((λ bytes fits. cc), (λ need most long. cc))
 
-status_fits : (have : ℕ) (input bytes : List ℕ) → taking have None input ≡ Fits bytes → append_status have input ≡ status.Done
+pub status_fits : (have : ℕ) (input bytes : List ℕ) → taking have None input ≡ Fits bytes → append_status have input ≡ status.Done
 status_fits have input bytes took = (status_by (nat_le 1 have && nat_le (length input) have) have input (taking have None input) refl).0 bytes took
 
 status_full : (have : ℕ) (input : List ℕ) (need most : ℕ) → taking have None input ≡ TooLong need most → append_status have input ≡ status.Full need most

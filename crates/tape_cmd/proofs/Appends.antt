@@ -333,7 +333,7 @@ append_refused name date input c plain outcome whole stood machine other =
 
 -- ---- before the reply
 
-appended_line_is_some : (number bytes start end : ℕ) → appended_line number bytes start end ≢ []
+pub appended_line_is_some : (number bytes start end : ℕ) → appended_line number bytes start end ≢ []
 unfolding appended_line
 appended_line_is_some number bytes start end is = cc
 

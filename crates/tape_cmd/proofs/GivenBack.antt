@@ -120,14 +120,14 @@ lost_alike c d words needed first alike =
 
 -- ---- what the machine gives of it
 
-record IsGiven (number : ℕ) (c : Cartridge) (plain : Plain) (volume : Volume) (outcome : Outcome) : Type 0 where
-  table : TableIs c plain.table_area
-  acts : List Act
-  ending : Ending
-  restores : Restores (settled plain.table_area c) plain.words (pieces_in plain volume) acts ending
-  is : outcome ≡ record { acts = settling_act plain.table_area c ∷ acts; taken = 0; status = ending_status ending }
+pub record IsGiven (number : ℕ) (c : Cartridge) (plain : Plain) (volume : Volume) (outcome : Outcome) : Type 0 where
+  pub table : TableIs c plain.table_area
+  pub acts : List Act
+  pub ending : Ending
+  pub restores : Restores (settled plain.table_area c) plain.words (pieces_in plain volume) acts ending
+  pub is : outcome ≡ record { acts = settling_act plain.table_area c ∷ acts; taken = 0; status = ending_status ending }
 
-given : (number : ℕ) (c : Cartridge) (plain : Plain) (volume : Volume) (outcome : Outcome) → HasNumber c plain number volume → RestoreOutcome number (Some c) outcome →
+pub given : (number : ℕ) (c : Cartridge) (plain : Plain) (volume : Volume) (outcome : Outcome) → HasNumber c plain number volume → RestoreOutcome number (Some c) outcome →
     IsGiven number c plain volume outcome
 given number c plain volume outcome has (m, mounts, opened) =
     let mounted = standing_mounts c plain has.stands has.reads in
@@ -157,10 +157,10 @@ has_volume number c plain volume has table = record {
 }
 
 -- just its bytes
-abbrev WasWhole : Plain → Volume → Outcome → Type 0
+abbrev pub WasWhole : Plain → Volume → Outcome → Type 0
 WasWhole plain volume outcome = (outcome.status ≡ status.Done) × (output_of outcome ≡ volume_bytes plain.words volume)
 
-given_whole : (number : ℕ) (c : Cartridge) (plain : Plain) (volume : Volume) (outcome : Outcome) → HasNumber c plain number volume → IsGiven number c plain volume outcome →
+pub given_whole : (number : ℕ) (c : Cartridge) (plain : Plain) (volume : Volume) (outcome : Outcome) → HasNumber c plain number volume → IsGiven number c plain volume outcome →
     All (LosesFew c plain.words) (pieces_in plain volume) → WasWhole plain volume outcome
 given_whole number c plain volume outcome has g few =
     let d : Cartridge = settled plain.table_area c in

@@ -1,10 +1,13 @@
 pub mod Added
 pub mod Appends
+pub mod Complete
+pub mod Completing
 pub mod Endings
 pub mod Ends
 pub mod Formats
 pub mod GivenBack
 pub mod Hands
+pub mod Listing
 pub mod MachineLaws
 pub mod Made
 pub mod Mounted

@@ -25,6 +25,8 @@ use Rattle.tape_cmd.proofs.GivenBack.{gives_back}
 use Rattle.tape_cmd.proofs.Endings.{appends_none, any_input, nothing_front, none_printed}
 use Rattle.tape_cmd.proofs.Ends.{Laws, is_a_fault, each_left, stops_go_on, ends_asked, ends_cause, ends_answers, ends_carried, ends_cut, ends_stops, ends_joins, ends_otherwise, ends_named, ends_finished, ends_begun, ends_silent}
 use Rattle.tape_cmd.proofs.MachineLaws.{machine_is_function_where, machine_answers_where}
+use Rattle.tape_cmd.proofs.Completing.{completes}
+use Rattle.tape_cmd.proofs.Listing.{lists_appends, none_listed}
 use Rattle.tape_cmd.proofs.Several.{makes_volumes, carries_out_lines, none_made, none_scripted}
 use Rattle.tape_cmd.proofs.Survives.{survives_one_loss, none_survives}
 use Rattle.tape_cmd.proofs.Volumes.{volumes_stay, list_stays, stops_format, stops_append, is_changed, may_change, none_changed}
@@ -171,6 +173,7 @@ module _ {T S K : Type 0} (t : tapes.Meaning T) (s : sources.Meaning S) (k : sin
       record {
         answers = ends_answers t s k words command old new answer laws spelled ends;
         carried = ends_carried t s k words command old new answer laws spelled ends;
+        complete = λ none. completes t s k words old new answer laws.right (λ other spells. has_values words other spells) (ends_answers t s k words command old new answer laws spelled ends none);
         cut = ends_cut t s k words command old new answer laws spelled values ends;
         cause = ends_cause t s k words command old new answer ends;
         asked = λ is. (command, spelled, ends_asked t s k words command old new answer ends is);
@@ -183,6 +186,7 @@ module _ {T S K : Type 0} (t : tapes.Meaning T) (s : sources.Meaning S) (k : sin
         survives = survives_one_loss t s k words command old new answer laws spelled values (λ other spells. has_values words other spells) ends stops;
         makes = makes_volumes t s k words command old new answer laws spelled (λ other spells. has_values words other spells) ends stops;
         scripts = carries_out_lines t s k words command old new answer laws spelled ends stops;
+        listed = lists_appends t s k words command old new answer laws spelled (λ other spells. has_values words other spells) ends;
         restores =
             gives_back t s k words old new answer (ends_carried t s k words command old new answer laws spelled ends)
             (ends_cut t s k words command old new answer laws spelled values ends);
@@ -247,6 +251,7 @@ module _ {T S K : Type 0} (t : tapes.Meaning T) (s : sources.Meaning S) (k : sin
       let nothing = idle_changes_nothing answer is in record {
         answers = λ none. answers;
         carried = λ sound. answers;
+        complete = λ none. completes t s k words old old answer laws.right (λ other spells. has_values words other spells) answers;
         cut = λ failing same. let fault = ap is_fault same ∙ is_a_fault failing in let no = nothing.0 in absurd (cc);
         cause = λ failing same. let fault = ap is_fault same ∙ is_a_fault failing in let no = nothing.0 in absurd (cc);
         asked = λ same. let fault = ap is_fault same in let no = nothing.0 in absurd (cc);
@@ -260,6 +265,7 @@ module _ {T S K : Type 0} (t : tapes.Meaning T) (s : sources.Meaning S) (k : sin
         makes = none_made t k (s.left old.source) words old.tape old.sink answer laws.right laws.before (laws.nothing old.sink)
             (λ done. let no = nothing.1 in let may : may_change answer ≡ true = ap may_change done in cc) (λ other spells. has_values words other spells) stops;
         scripts = none_scripted t k (s.left old.source) words old.tape old.sink laws.right laws.before (laws.nothing old.sink) stops;
+        listed = none_listed t k (s.left old.source) words old.tape old.sink answer laws.right laws.before (laws.nothing old.sink) nothing.0 nothing.1;
         restores = gives_back t s k words old old answer (λ sound. answers) (λ failing same. let fault = ap is_fault same ∙ is_a_fault failing in let no = nothing.0 in absurd (cc));
         joins = record {
           counts = record { tape = omega arith; source = omega arith; sink = omega arith };

@@ -95,6 +95,20 @@ settled_held c plain whole stood live mounts = record {
   last = (mounted_listed c plain.header plain.words plain.table_area (entries_of plain) whole mounts).last;
 }
 
+-- and takes volumes, where it is not protected
+pub settled_kept : (c : Cartridge) (plain : Plain) → IsCartridge c → Stands c plain → IsTableLive c → Mounts c (mounted_as plain) → c.info.protected ≡ false →
+    IsKept (settled plain.table_area c) plain
+settled_kept c plain whole stood live mounts free =
+    let held : IsHeld (settled plain.table_area c) plain = settled_held c plain whole stood live mounts in
+    let keeps = settled_keeps_table c plain.table_area mounts.reads in record {
+      cartridge = held.cartridge;
+      stands = held.stands;
+      table = keeps.table;
+      live = held.live;
+      unprotected = ap (λ (i : TapeInfo). i.protected) keeps.info ∙ free;
+      last = held.last;
+    }
+
 -- what is left of some acts, the first of which settles the table
 module _ (c : Cartridge) (plain : Plain) (whole : IsCartridge c) (stood : Stands c plain) (live : IsTableLive c) (mounts : Mounts c (mounted_as plain)) where
   abbrev still : Cartridge
@@ -169,7 +183,7 @@ abbrev pub IsLeftBy : Cartridge → List Act → (text : List ℕ) → (left : O
 IsLeftBy c acts text left = Between c acts text left ⊎ Behind c acts text left
 
 -- of a text that is empty nothing is written
-no_text : (some more : List ℕ) → some ++ more ≡ [] → some ≡ []
+pub no_text : (some more : List ℕ) → some ++ more ≡ [] → some ≡ []
 no_text [] more is = refl
 no_text (x ∷ xs) more is = cc
 
@@ -287,18 +301,9 @@ module _ (seed count : ℕ) (few : count ≤ 200) (c : Cartridge) (plain : Plain
       elim (mounted_or_turned (Making seed count) c plain outcome stood opened) [
         | inl turned ↦ inl turned
         | inr was ↦
-            let held : IsHeld (settled plain.table_area c) plain = settled_held c plain whole stood live was.mounts in
-            let keeps = settled_keeps_table c plain.table_area was.mounts.reads in
             let did = was.did in inr (record {
               mounts = was.mounts;
-              kept = record {
-                cartridge = held.cartridge;
-                stands = held.stands;
-                table = keeps.table;
-                live = held.live;
-                unprotected = ap (λ (i : TapeInfo). i.protected) keeps.info ∙ free;
-                last = held.last;
-              };
+              kept = settled_kept c plain whole stood live was.mounts free;
               acts = did.acts;
               answer = did.answer;
               makes = did.makes;

@@ -1,4 +1,5 @@
 pub mod Append
+pub mod Complete
 pub mod Defect
 pub mod Format
 pub mod Headline
@@ -6,6 +7,7 @@ pub mod Info
 pub mod Laws
 pub mod Lines
 pub mod List
+pub mod Listing
 pub mod Lose
 pub mod Machine
 pub mod Make

@@ -1,5 +1,5 @@
 -- The headline: what a run promises (this project's own).
-use Rattle.std.specs.Prelude.{◌≡◌, ◌≢◌, ◌↔◌, ℕ, true, false, List}
+use Rattle.std.specs.Prelude.{◌≡◌, ◌≢◌, ◌⊎◌, ◌↔◌, ℕ, true, false, List}
 use Rattle.qic_base.specs.Sink as sinks
 use Rattle.qic_base.specs.Source as sources
 use Rattle.qic_base.specs.Tape as tapes
@@ -8,7 +8,9 @@ use Rattle.tape_script.specs.declared.words.Words.{Words}
 use Rattle.tape_cmd.specs.declared.status.Status.{Status}
 use Rattle.tape_cmd.specs.declared.status.Status.TheVariants as status
 use Rattle.tape_cmd.specs.Machine.{Spells, SpellsNone}
-use Rattle.tape_cmd.specs.Runs.{is_fault, fault_of, is_outcome, may_come_from}
+use Rattle.tape_cmd.specs.Complete.{CanBeDone}
+use Rattle.tape_cmd.specs.Listing.{ListsAppends}
+use Rattle.tape_cmd.specs.Runs.{OverTold, is_fault, fault_of, is_outcome, may_come_from}
 use Rattle.tape_cmd.specs.Headline.{Answers, NoneRose, IsCut, EachLeft, WordsLeave, Joins, SpellsOne, SpellsNoneThat, HasNamedFault, HasNoFault, PrintsText, PrintsRefused, PrintsFront}
 use Rattle.tape_cmd.specs.OneLoss.{SurvivesOneLoss}
 use Rattle.tape_cmd.specs.Several.{MakesVolumes, CarriesOutLines}
@@ -20,6 +22,9 @@ pub record Promises {T S K : Type 0} (t : tapes.Meaning T) (s : sources.Meaning 
   pub answers : NoneRose t s k old new → Answers t s k words old new answer
   -- Where no fault of the outside ended it, the same, whatever the counts say.
   pub carried : is_fault answer ≡ false → Answers t s k words old new answer
+  -- Where no count rose, and the command has all that it needs, it is Done, or there was no memory.
+  pub complete : NoneRose t s k old new → (command : Words) → Spells words command →
+      OverTold t s old (λ held input. CanBeDone command held input → (answer ≡ status.NoMemory) ⊎ (answer ≡ status.Done))
   -- A fault of the outside cut off the acts of the plain machine's outcome over what is told, ..
   pub cut : (failing : Failing) → answer ≡ fault_of failing → IsCut t s k words old new failing
   -- .. and comes only where the count of its object rose, one of the source only to a command that reads it.
@@ -46,6 +51,9 @@ pub record Promises {T S K : Type 0} (t : tapes.Meaning T) (s : sources.Meaning 
   -- most one line more.
   pub makes : MakesVolumes t k words old.tape new.tape old.sink new.sink answer
   pub scripts : CarriesOutLines t k (s.left old.source) words old.tape new.tape old.sink new.sink
+  -- Whether it stands for a plain one or not, a cartridge that was mounted is mounted behind `append`, `make` and `script` with the
+  -- old list and the appends that were carried out, but after a fault of the tape.
+  pub listed : ListsAppends t k (s.left old.source) words old.tape new.tape old.sink new.sink answer
   -- Of a cartridge that stands for a plain one a volume is given back byte for byte.
   pub restores : GivesBack t k words old.tape new.tape old.sink new.sink answer
   -- Two runs can be joined.

@@ -1,6 +1,6 @@
 //! Laws of the plain machine. Each is the contract of a function that does nothing.
 
-ghost use Rattle.tape_cmd.specs.Laws.{MachineIsFunction, MachineAnswers, OneOutcome};
+ghost use Rattle.tape_cmd.specs.Laws.{MachineIsFunction, MachineAnswers, OneOutcome, DoneWhereAllIsThere};
 
 /// Words, what the drive holds and the input determine what is held then, the output, the bytes taken and the status.
 pub fn machine_is_function()
@@ -15,4 +15,10 @@ pub fn machine_answers()
 /// A command has one outcome: its acts, the bytes taken and the answer.
 pub fn a_command_has_one_outcome()
     ensures { OneOutcome }
+{}
+
+/// Where all is there that a command needs it is carried out: a cartridge that mounts, room, a volume that can be read, an
+/// input without a fault.
+pub fn a_command_with_its_needs_is_done()
+    ensures { DoneWhereAllIsThere }
 {}
