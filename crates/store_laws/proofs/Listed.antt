@@ -1,19 +1,18 @@
 -- A cartridge whose volume table holds a list, behind its mounting, an append, a worn sector or a scrub.
-use Rattle.std.proofs.Common.{◌≡◌, inl, inr, ℕ, ◌+◌, ◌-◌, ◌*◌, ◌/◌, ◌^◌, ◌<◌, ◌≤◌, true, false, List, [], ◌∷◌, ◌++◌, length, map, nat_le, Option, None, refl, sym, ap, ◌∙◌, subst, arith, append-nil}
+use Rattle.std.proofs.Common.{◌≡◌, inl, inr, ℕ, ◌+◌, ◌-◌, ◌*◌, ◌/◌, ◌^◌, ◌<◌, ◌≤◌, true, false, List, [], ◌∷◌, ◌++◌, length, nat_le, Option, None, refl, sym, ap, ◌∙◌, subst, arith, append-nil}
 use Rattle.std.specs.Prelude.{slice_index}
 use Rattle.std.specs.Option.{option_map}
 use Rattle.std.proofs.lemmas.Bool.{cases_lt, le-leb}
 use Rattle.std.proofs.lemmas.List.{length-take-le}
 use Rattle.std.proofs.lemmas.List.Elements.{All-take}
 use Rattle.qic_base.specs.declared.tape.TapeInfo.{TapeInfo}
-use Rattle.qic_base.specs.Cartridge.{Cartridge, IsLength}
+use Rattle.qic_base.specs.Cartridge.{Cartridge, IsLength, view_at}
 use Rattle.qic_base.specs.Step.{Step, Wear, changed}
 use Rattle.acts.specs.Acts.{Act, steps_of}
 use Rattle.gf256_qic.specs.Code.{IsSector}
 use Rattle.cartridge_spec.specs.Header.{Header, HeaderFault, has_signature, number, number_in}
 use Rattle.cartridge_spec.specs.HeaderAndTable.{IsArea, IsFormatted, IsInForce, TableIs, last_segment, table_cells}
 use Rattle.cartridge_spec.specs.Mounting.{settled}
-use Rattle.cartridge_spec.specs.Segment.{sector_at}
 use Rattle.cartridge_spec.specs.Says.{Agrees, Written, data_of, unreadable_count, unreadable_data, with_parity}
 use Rattle.cartridge_spec.specs.Slots.{FitsSlot, slot_bytes, slot_sector, with_slot}
 use Rattle.cartridge_spec.specs.Table.{Entry, IsSoundList, Shows}
@@ -36,11 +35,11 @@ use Rattle.mount_laws.proofs.Settled.{settled_keeps_table}
 use Rattle.mount_laws.proofs.Standing.{can_be_read, written_table}
 use Rattle.volume_table.proofs.Orders.{faultless_is_sound}
 use Rattle.volume_table.proofs.Putting.{put_entry_is_shown}
-use Rattle.append_plan.specs.Between.{table_places, table_writes}
+use Rattle.append_plan.specs.Between.{table_writes}
 use Rattle.append_plan.specs.Room.{free_segments, last_end, room, taken_by}
 use Rattle.append_plan.specs.Settled.{IsSettledFor}
 use Rattle.append_plan.proofs.Dead.{live_written, settled_is_settled_for, table_settled}
-use Rattle.append_plan.proofs.Keeping.{steps_kept}
+use Rattle.append_plan.proofs.Keeping.{AreIn, steps_kept}
 use Rattle.append_plan.proofs.Orders.{end_least}
 use Rattle.append_plan.proofs.Segments.{AreTaken, HasRoom, room_is, room_most, segments_taken}
 use Rattle.append_plan.proofs.Table.{slot_differs}
@@ -54,7 +53,7 @@ use Rattle.volume_store.specs.Mounting.{HasList}
 use Rattle.volume_store.proofs.Again.{list_shown, table_one}
 use Rattle.volume_store.proofs.Behind.{AreBehind, input_behind, settled_behind}
 use Rattle.volume_store.proofs.Ending.{list_more, took_fits}
-use Rattle.volume_store.proofs.Settled.{settled_list, steps_settle, writes_info}
+use Rattle.volume_store.proofs.Settled.{settled_list, steps_settle}
 use Rattle.volume_store.proofs.Taking.{both_true}
 use Rattle.store_laws.specs.Listed.{IsListed, MountedListed, ListedReads, AppendListed, WearListed, ScrubListed, kept_of, listed_behind}
 use Rattle.store_laws.proofs.Keeping.{changed_by_acts}
@@ -125,22 +124,31 @@ mounted_listed c header words table entries whole mounts =
 
 -- ---- an append
 
-module _ (c : Cartridge) (words : List ℕ) (entries : List Entry) (table : List (List ℕ)) (name : List ℕ) (date : ℕ) (promised : Option ℕ) (reply : Entry → List ℕ) (input : List ℕ) (listed : IsListed c words entries) (mark : c.info.protected ≡ false) (reads : TableIs c table) (label : IsLabel name) (word : date < 2 ^ 32) where
+-- what an append leaves of a table that shows a list: its data, with each sector that takes a write holding its part of them,
+-- and header and marks as they were
+pub record LeavesTable (c d : Cartridge) (last : ℕ) (entries : List Entry) : Type 0 where
+  pub data_left : List (List ℕ)
+  pub is_area : IsArea data_left
+  pub settles : IsSettledFor d data_left
+  pub shown : Shows data_left entries
+  pub order : IsSoundList last entries
+  pub info : d.info ≡ c.info
+  pub front : (s i : ℕ) → s < 2 → i < 32 → view_at d s i ≡ view_at c s i
+
+-- the writes of a table lie in its segment
+writes_in_table : (n : ℕ) (area : List (List ℕ)) → n < 232 → AreIn (λ s i. s ≡ 2) (table_writes (slot_sector n) area)
+writes_in_table n area few = ((refl, omega arith), ((refl, omega arith), ((refl, omega arith), ((refl, omega arith), tt))))
+
+module _ (c : Cartridge) (words : List ℕ) (entries : List Entry) (table : List (List ℕ)) (listed : IsListed c words entries) (mark : c.info.protected ≡ false) (reads : TableIs c table) where
   abbrev kept : Kept
   kept = kept_of c words entries table
 
   abbrev last : ℕ
   last = length words - 1
 
-  abbrev ins : List Act
-  ins = input_writes kept promised input
-
-  -- the settled cartridge, and the one with the volume's segments written
+  -- the settled cartridge
   abbrev still : Cartridge
   still = changed_by (settling_steps table c) c
-
-  abbrev filled : Cartridge
-  filled = changed_by (steps_of ins) still
 
   order : IsSoundList last entries
   order = subst (λ (n : ℕ). IsSoundList n entries) (sym listed.last) listed.order
@@ -155,92 +163,122 @@ module _ (c : Cartridge) (words : List ℕ) (entries : List Entry) (table : List
   shown : Shows table entries
   shown = list_shown c table entries (listed.list mark) reads
 
-  behind : AreBehind ins
-  behind = input_behind kept promised input (end_least 2 last entries order)
-
-  filled_settled : IsSettledFor filled table
-  filled_settled =
-      settled_behind still table (steps_of ins) behind
+  -- steps behind the table's segment leave it settled
+  behind_settled : (steps : List Step) → AreIn (λ s i. 2 < s) steps → IsSettledFor (changed_by steps still) table
+  behind_settled steps behind =
+      settled_behind still table steps behind
       (subst (λ (d : Cartridge). IsSettledFor d table) (sym (steps_settle c table reads)) (settled_is_settled_for c table reads mark))
 
-  filled_info : filled.info ≡ c.info
-  filled_info =
-      (steps_kept (λ s i. 2 < s) (steps_of ins) still behind).info
-      ∙ ap (λ (d : Cartridge). d.info) (steps_settle c table reads) ∙ (settled_keeps_table c table reads).info
-
-  -- another list on a cartridge with these marks
-  listed_as : (d : Cartridge) (es : List Entry) → d.info ≡ c.info → IsSoundList last es → HasList d es → IsListed d words es
-  listed_as d es info sound has =
-      let same : last ≡ last_segment d = listed.last ∙ sym (ap (λ (i : TapeInfo). 28 * i.segments_per_track - 1) info) in
+  pub behind_leaves : (steps : List Step) → AreIn (λ s i. 2 < s) steps → LeavesTable c (changed_by steps still) last entries
+  behind_leaves steps behind =
+      let kept_so = steps_kept (λ s i. 2 < s) steps still behind in
       record {
-        long = subst (λ (i : TapeInfo). IsLength i.segments_per_track) (sym info) listed.long;
+        data_left = table;
+        is_area = area;
+        settles = behind_settled steps behind;
+        shown = shown;
+        order = order;
+        info = kept_so.info ∙ ap (λ (d : Cartridge). d.info) (steps_settle c table reads) ∙ (settled_keeps_table c table reads).info;
+        front = λ s i low h. kept_so.others s i h (λ (past : 2 < s). omega arith)
+            ∙ ap (λ (d : Cartridge). view_at d s i) (steps_settle c table reads)
+            ∙ (settled_keeps_table c table reads).others s i h (λ (same : s ≡ 2). omega arith);
+      }
+
+  -- such a cartridge has the list
+  leaves_listed : (d : Cartridge) (es : List Entry) → LeavesTable c d last es → IsListed d words es
+  leaves_listed d es leaves =
+      let same : last ≡ last_segment d = listed.last ∙ sym (ap (λ (i : TapeInfo). 28 * i.segments_per_track - 1) leaves.info) in
+      record {
+        long = subst (λ (i : TapeInfo). IsLength i.segments_per_track) (sym leaves.info) listed.long;
         last = same;
-        order = subst (λ (n : ℕ). IsSoundList n es) same sound;
-        list = λ free. has;
+        order = subst (λ (n : ℕ). IsSoundList n es) same leaves.order;
+        list = λ free. settled_shows d leaves.data_left es leaves.is_area leaves.settles leaves.shown;
       }
 
-  -- the entry of a volume that has room fits its slot
-  entry_fits : (bytes : List ℕ) → HasRoom words entries last (length bytes) → FitsSlot (entry_for kept name date bytes)
-  entry_fits bytes has =
-      let segments : List ℕ = taken_by words (length bytes) (free_segments words entries last) in
-      let taken : AreTaken words (last_end entries) last segments = segments_taken words entries last (length bytes) has in
-      let long : c.info.segments_per_track ≤ 246 = listed.long.longest in
-      let ends_at : last ≡ 28 * c.info.segments_per_track - 1 = listed.last in
-      let starts : slice_index segments 0 ≡ taken.start = taken.starts in
-      let ends : slice_index segments (length segments - 1) ≡ taken.end = taken.ends in
-      let forwards : taken.start ≤ taken.end = taken.forwards in
-      let within : taken.end ≤ last = taken.within in
-      let enough : length bytes ≤ capacity_between words (last_end entries + 1) last = has.enough in
-      record {
-        start = omega arith;
-        end = omega arith;
-        name = label.size;
-        date = omega arith;
-        directory = omega arith;
-        size = omega (arith, room_most words entries last);
-      }
+  -- the writes of an input
+  pub ins_behind : (promised : Option ℕ) (input : List ℕ) → AreBehind (input_writes kept promised input)
+  ins_behind promised input = input_behind kept promised input (end_least 2 last entries order)
 
-  with_entry : (bytes : List ℕ) → taking (room_in kept) promised input ≡ Fits bytes →
-      IsListed (changed_by (steps_of (entry_acts kept name date reply (Fits bytes))) filled) words (entries ++ entry_for kept name date bytes ∷ [])
-  with_entry bytes took =
-      let e : Entry = entry_for kept name date bytes in
-      let n : ℕ = length entries in
-      let fit = took_fits (room_in kept) promised input bytes took in
-      let has : HasRoom words entries last (length bytes) =
-      room_is words entries last (length bytes) (both_true (nat_le 1 (room words entries last)) (nat_le (length bytes) (room words entries last))
-      (le-leb 1 (room words entries last) fit.0) (le-leb (length bytes) (room words entries last) fit.1)) in
-      let within : n < 232 = has.free_slot in
-      let small : n / 8 < 29 = omega arith in
-      let slot : List ℕ = slot_bytes e in
-      let new : List (List ℕ) = with_slot table n slot in
-      let new_area : IsArea new = slot_area table n slot area within (length-slot_bytes e label.size) (slot_are_bytes e label.bytes (omega arith) (omega arith)) in
-      let places : List ℕ = table_places (slot_sector n) in
-      let writes : List Step = table_writes (slot_sector n) new in
-      let d : Cartridge = changed_by writes filled in
-      let now : IsSettledFor d new = table_settled filled table new (slot_sector n) small (slot_differs table n slot area) new_area filled_settled in
-      subst (λ (steps : List Step). IsListed (changed_by steps filled) words (entries ++ e ∷ [])) (sym (append-nil writes))
-      (listed_as d (entries ++ e ∷ []) (writes_info places (map (sector_at (with_parity new)) places) filled 2 ∙ filled_info)
-      (list_more words entries last name date (length bytes) order fit.0 fit.1)
-      (settled_shows d new (entries ++ e ∷ []) new_area now (put_entry_is_shown table entries e area shown within (entry_fits bytes has))))
+  module _ (name : List ℕ) (date : ℕ) (promised : Option ℕ) (reply : Entry → List ℕ) (input : List ℕ) (label : IsLabel name) (word : date < 2 ^ 32) where
+    abbrev ins : List Act
+    ins = input_writes kept promised input
 
-  by_taking : (became : Taking) → taking (room_in kept) promised input ≡ became →
-      IsListed (changed_by (steps_of (entry_acts kept name date reply became)) filled) words (listed_behind kept name date became)
-  by_taking (Fits bytes) took = with_entry bytes took
-  by_taking (TooLong need have) took = listed_as filled entries filled_info order (settled_shows filled table entries area filled_settled shown)
-  by_taking (TooShort asked read) took = listed_as filled entries filled_info order (settled_shows filled table entries area filled_settled shown)
+    -- the cartridge with the volume's segments written
+    abbrev filled : Cartridge
+    filled = changed_by (steps_of ins) still
 
-  pub append_leaves : IsListed (changed_by (steps_of (append_acts kept name date promised reply input)) c) words
-      (listed_behind kept name date (taking (room_in kept) promised input))
-  append_leaves =
-      let became : Taking = taking (room_in kept) promised input in
-      let first : Act = record { steps = settling_steps table c; text = [] } in
-      let parts : changed_by (steps_of (append_acts kept name date promised reply input)) c ≡ changed_by (steps_of (entry_acts kept name date reply became)) filled =
-      changed_by_acts (first ∷ ins) (entry_acts kept name date reply became) c
-      ∙ ap (changed_by (steps_of (entry_acts kept name date reply became))) (changed_by-append (settling_steps table c) (steps_of ins) c) in
-      subst (λ (d : Cartridge). IsListed d words (listed_behind kept name date became)) (sym parts) (by_taking became refl)
+    filled_leaves : LeavesTable c filled last entries
+    filled_leaves = behind_leaves (steps_of ins) (ins_behind promised input)
+
+    -- the entry of a volume that has room fits its slot
+    entry_fits : (bytes : List ℕ) → HasRoom words entries last (length bytes) → FitsSlot (entry_for kept name date bytes)
+    entry_fits bytes has =
+        let segments : List ℕ = taken_by words (length bytes) (free_segments words entries last) in
+        let taken : AreTaken words (last_end entries) last segments = segments_taken words entries last (length bytes) has in
+        let long : c.info.segments_per_track ≤ 246 = listed.long.longest in
+        let ends_at : last ≡ 28 * c.info.segments_per_track - 1 = listed.last in
+        let starts : slice_index segments 0 ≡ taken.start = taken.starts in
+        let ends : slice_index segments (length segments - 1) ≡ taken.end = taken.ends in
+        let forwards : taken.start ≤ taken.end = taken.forwards in
+        let within : taken.end ≤ last = taken.within in
+        let enough : length bytes ≤ capacity_between words (last_end entries + 1) last = has.enough in
+        record {
+          start = omega arith;
+          end = omega arith;
+          name = label.size;
+          date = omega arith;
+          directory = omega arith;
+          size = omega (arith, room_most words entries last);
+        }
+
+    with_entry : (bytes : List ℕ) → taking (room_in kept) promised input ≡ Fits bytes →
+        LeavesTable c (changed_by (steps_of (entry_acts kept name date reply (Fits bytes))) filled) last (entries ++ entry_for kept name date bytes ∷ [])
+    with_entry bytes took =
+        let e : Entry = entry_for kept name date bytes in
+        let n : ℕ = length entries in
+        let fit = took_fits (room_in kept) promised input bytes took in
+        let has : HasRoom words entries last (length bytes) =
+        room_is words entries last (length bytes) (both_true (nat_le 1 (room words entries last)) (nat_le (length bytes) (room words entries last))
+        (le-leb 1 (room words entries last) fit.0) (le-leb (length bytes) (room words entries last) fit.1)) in
+        let within : n < 232 = has.free_slot in
+        let small : n / 8 < 29 = omega arith in
+        let slot : List ℕ = slot_bytes e in
+        let new : List (List ℕ) = with_slot table n slot in
+        let new_area : IsArea new = slot_area table n slot area within (length-slot_bytes e label.size) (slot_are_bytes e label.bytes (omega arith) (omega arith)) in
+        let writes : List Step = table_writes (slot_sector n) new in
+        let kept_so = steps_kept (λ s i. s ≡ 2) writes filled (writes_in_table n new within) in
+        let all : LeavesTable c (changed_by writes filled) last (entries ++ e ∷ []) = record {
+          data_left = new;
+          is_area = new_area;
+          settles = table_settled filled table new (slot_sector n) small (slot_differs table n slot area) new_area (behind_settled (steps_of ins) (ins_behind promised input));
+          shown = put_entry_is_shown table entries e area shown within (entry_fits bytes has);
+          order = list_more words entries last name date (length bytes) order fit.0 fit.1;
+          info = kept_so.info ∙ filled_leaves.info;
+          front = λ s i low h. kept_so.others s i h (λ (same : s ≡ 2). omega arith) ∙ filled_leaves.front s i low h;
+        } in
+        subst (λ (steps : List Step). LeavesTable c (changed_by steps filled) last (entries ++ e ∷ [])) (sym (append-nil writes)) all
+
+    by_taking : (became : Taking) → taking (room_in kept) promised input ≡ became →
+        LeavesTable c (changed_by (steps_of (entry_acts kept name date reply became)) filled) last (listed_behind kept name date became)
+    by_taking (Fits bytes) took = with_entry bytes took
+    by_taking (TooLong need have) took = filled_leaves
+    by_taking (TooShort asked read) took = filled_leaves
+
+    pub append_leaves : LeavesTable c (changed_by (steps_of (append_acts kept name date promised reply input)) c) last
+        (listed_behind kept name date (taking (room_in kept) promised input))
+    append_leaves =
+        let became : Taking = taking (room_in kept) promised input in
+        let first : Act = record { steps = settling_steps table c; text = [] } in
+        let parts : changed_by (steps_of (append_acts kept name date promised reply input)) c ≡ changed_by (steps_of (entry_acts kept name date reply became)) filled =
+        changed_by_acts (first ∷ ins) (entry_acts kept name date reply became) c
+        ∙ ap (changed_by (steps_of (entry_acts kept name date reply became))) (changed_by-append (settling_steps table c) (steps_of ins) c) in
+        subst (λ (d : Cartridge). LeavesTable c d last (listed_behind kept name date became)) (sym parts) (by_taking became refl)
 
 pub append_listed : AppendListed
-append_listed = append_leaves
+append_listed c words entries table name date promised reply input listed mark reads label word =
+    leaves_listed c words entries table listed mark reads (changed_by (steps_of (append_acts (kept_of c words entries table) name date promised reply input)) c)
+    (listed_behind (kept_of c words entries table) name date (taking (room_in (kept_of c words entries table)) promised input))
+    (append_leaves c words entries table listed mark reads name date promised reply input label word)
 
 -- ---- a worn sector, and a scrub
 

@@ -3,6 +3,7 @@
 
 ghost use Rattle.store_laws.specs.Kept.{AppendsKeep, WearsKeep, ScrubsKeep};
 ghost use Rattle.store_laws.specs.Listed.{MountedListed, ListedReads, AppendListed, WearListed, ScrubListed, RestoresAnyway, ScrubsAnyway};
+ghost use Rattle.store_laws.specs.Listing.{SettledLists, AppendLists, AppendFrontLists, WearLists, ScrubLists};
 
 /// An append of as many bytes as are promised, with room for them, leaves the plain cartridge with that volume; a stop in it that
 /// or the one before it.
@@ -33,4 +34,18 @@ pub fn appends_wears_and_scrubs_leave_a_list()
 pub fn restores_and_scrubs_come_to_something()
     ensures restores { RestoresAnyway }
     ensures scrubs { ScrubsAnyway }
+{}
+
+/// A mounted cartridge is mounted with the same list once it is settled, and with the list behind an append, all of it done; a
+/// front of an append's acts that writes no entry leaves the list before it.
+pub fn an_append_leaves_what_is_mounted()
+    ensures settled { SettledLists }
+    ensures appends { AppendLists }
+    ensures fronts { AppendFrontLists }
+{}
+
+/// A sector that is worn behind the table's segment, and a scrub or a front of its acts, leave what is mounted.
+pub fn wears_and_scrubs_leave_what_is_mounted()
+    ensures wears { WearLists }
+    ensures scrubs { ScrubLists }
 {}

@@ -44,16 +44,21 @@ use Rattle.tape_cmd.specs.Opening.{Going, Opened, OpenOutcome, WritableOutcome}
 use Rattle.tape_cmd.specs.Outcome.{Outcome}
 use Rattle.tape_cmd.specs.Runs.{Ends, Finished, IsCutOff, fault_of, is_fault}
 use Rattle.tape_cmd.specs.Headline.{EachNow}
+use Rattle.made_volumes.specs.Items.{made_list}
+use Rattle.made_volumes.specs.Machine as made
+use Rattle.made_volumes.specs.Machine.{Makes}
+use Rattle.made_volumes.proofs.Leaving.{made_are_listed, make_lists}
 use Rattle.tape_cmd.specs.Listing.{NowLists, WasListed, ListsVolume, ScriptsOver, ListsAppends}
+use Rattle.tape_cmd.specs.Make.{Making, MakeOutcome, MakesOn, make_status}
 use Rattle.tape_cmd.specs.Volumes.{IsCarriedOut, WasNotDone}
 use Rattle.tape_cmd.specs.Script.{Scripting, ScriptOutcome, ScriptsOn}
 use Rattle.tape_cmd.proofs.Added.{replied_text, status_fits}
 use Rattle.tape_cmd.proofs.Appends.{appended_line_is_some}
-use Rattle.tape_cmd.proofs.Several.{no_text}
+use Rattle.tape_cmd.proofs.Several.{no_text, told_now}
 use Rattle.tape_cmd.proofs.Ends.{Laws, over_at, told_whole}
 use Rattle.tape_cmd.proofs.Opened.{quiet}
 use Rattle.tape_cmd.proofs.Totals.{plain_answers}
-use Rattle.tape_cmd.proofs.Volumes.{Did, carried_out_did, done_now, now_weaker}
+use Rattle.tape_cmd.proofs.Volumes.{Did, carried_out_did, done_now, may_change, now_weaker}
 
 -- ---- a cartridge as it was mounted
 
@@ -380,3 +385,201 @@ module _ (told : Option (List ℕ)) (spoken : List (List ℕ)) (c : Cartridge) (
       by_front : (at : FrontDone outcome.acts text) → Answered text (effects (done_of outcome.acts text at) (Some c))
       by_front (inl w) = by_whole w.front w.rest (w.parts ∙ acts) w.is_text
       by_front (inr p) = by_part p.front p.act p.rest p.some p.more (p.parts ∙ acts) p.written p.is_text
+
+-- ---- `make`
+
+module _ (seed count : ℕ) (few : count ≤ 200) (c : Cartridge) (header : Header) (words : List ℕ) (table : List (List ℕ)) (entries : List Entry) (whole : IsCartridge c)
+    (mounts : Mounts c (Mounted header words table entries)) where
+  abbrev HasMade : (n : ℕ) → Option Cartridge → Type 0
+  HasMade n left = IsSomeAnd left (λ d. Lists d header words (made_list seed n words entries))
+
+  abbrev HasSome : Option Cartridge → Type 0
+  HasSome left = (n : ℕ) × (n ≤ count) × HasMade n left
+
+  before_any : (d : Cartridge) (left : Option Cartridge) → Lists d header words entries → left ≡ Some d → HasSome left
+  before_any d left lists is = (0, omega arith, some_and (λ e. Lists e header words entries) d left lists is)
+
+  -- a front of the acts behind the settling
+  behind_some : (acts : List Act) (answer : made.Answer) (more rest : List Act) → Makes seed count (settled table c) words entries acts answer → more ++ rest ≡ acts →
+      HasSome (effects (steps_of (quiet (settling_steps table c) ∷ more)) (Some c))
+  behind_some acts answer more rest makes parts =
+      let l = make_lists seed count (settled table c) header words entries acts more rest answer (effects (steps_of (quiet (settling_steps table c) ∷ more)) (Some c)) few
+      (lists_still c header words table entries whole mounts) (listed c header words table entries whole mounts) makes parts (behind_acts c header words table entries whole mounts more) in
+      (l.appended, l.within, l.lists)
+
+  behind_all : (acts : List Act) (answer : made.Answer) (more rest : List Act) → Makes seed count (settled table c) words entries acts answer → more ++ rest ≡ acts →
+      ((rest ≡ []) × (answer ≡ made.Done)) ⊎ (text_of more ≢ []) → HasMade count (effects (steps_of (quiet (settling_steps table c) ∷ more)) (Some c))
+  behind_all acts answer more rest makes parts which =
+      made_are_listed seed count (settled table c) header words entries acts more rest answer (effects (steps_of (quiet (settling_steps table c) ∷ more)) (Some c)) few
+      (lists_still c header words table entries whole mounts) (listed c header words table entries whole mounts) makes parts (behind_acts c header words table entries whole mounts more) which
+
+  -- the steps of a front and of the act behind it
+  with_act : (x : Act) (more : List Act) (act : Act) → x ≡ quiet (settling_steps table c) →
+      steps_of (x ∷ more) ++ act.steps ≡ steps_of (quiet (settling_steps table c) ∷ (more ++ act ∷ []))
+  with_act x more act first =
+      ap (λ (a : Act). steps_of (a ∷ more) ++ act.steps) first ∙ append_assoc (settling_steps table c) (steps_of more) act.steps
+      ∙ ap (λ (ss : List TapeStep). settling_steps table c ++ ss) (ap (λ (ss : List TapeStep). steps_of more ++ ss) (sym (append-nil act.steps)) ∙ sym (steps_of-append more (act ∷ [])))
+
+  -- where nothing was to be said up to an act and by it, nothing was said
+  unsaid : (more : List Act) (act : Act) (said rest : List ℕ) → said ++ rest ≡ act.text → text_of (more ++ act ∷ []) ≡ [] → text_of more ++ said ≡ []
+  unsaid more act said rest written none =
+      no_text (text_of more ++ said) rest
+      (append_assoc (text_of more) said rest ∙ ap (λ (w : List ℕ). text_of more ++ w) (written ∙ sym (append-nil act.text)) ∙ sym (text_of-append more (act ∷ [])) ∙ none)
+
+  make_lists_so : (outcome : Outcome) (text : List ℕ) (at : FrontDone outcome.acts text) → MakeOutcome seed count (Some c) outcome →
+      HasSome (effects (done_of outcome.acts text at) (Some c)) × (text ≢ [] → HasMade count (effects (done_of outcome.acts text at) (Some c)))
+  make_lists_so outcome text at (inl (locked, is)) = by_none at (ap (λ (o : Outcome). o.acts) is)
+    where
+      by_none : (at : FrontDone outcome.acts text) → outcome.acts ≡ [] →
+          HasSome (effects (done_of outcome.acts text at) (Some c)) × (text ≢ [] → HasMade count (effects (done_of outcome.acts text at) (Some c)))
+      by_none (inl w) none = by_front w.front w.rest (w.parts ∙ none) w.is_text
+        where
+          by_front : (front rest : List Act) → front ++ rest ≡ [] → text ≡ text_of front → HasSome (effects (steps_of front) (Some c)) × (text ≢ [] → HasMade count (effects (steps_of front) (Some c)))
+          by_front [] rest parts is_text = (before_any c (Some c) (table, mounts) refl, λ some. absurd (some is_text))
+          by_front (x ∷ xs) rest parts is_text = cc
+      by_none (inr p) none = by_front p.front p.act p.rest (p.parts ∙ none)
+        where
+          by_front : (front : List Act) (act : Act) (rest : List Act) → front ++ act ∷ rest ≡ [] →
+              HasSome (effects (steps_of front ++ act.steps) (Some c)) × (text ≢ [] → HasMade count (effects (steps_of front ++ act.steps) (Some c)))
+          by_front [] act rest parts = cc
+          by_front (x ∷ xs) act rest parts = cc
+  make_lists_so outcome text at (inr (free, opened)) = by_at at
+    where
+      did : MakesOn seed count c words table entries outcome
+      did = went_on c header words table entries whole mounts (Making seed count) outcome opened
+
+      acts : outcome.acts ≡ quiet (settling_steps table c) ∷ did.acts
+      acts = ap (λ (o : Outcome). o.acts) did.is
+
+      by_whole : (front rest : List Act) → front ++ rest ≡ quiet (settling_steps table c) ∷ did.acts → text ≡ text_of front →
+          HasSome (effects (steps_of front) (Some c)) × (text ≢ [] → HasMade count (effects (steps_of front) (Some c)))
+      by_whole [] rest parts is_text = (before_any c (Some c) (table, mounts) refl, λ some. absurd (some is_text))
+      by_whole (x ∷ more) rest parts is_text =
+          let first : x ≡ quiet (settling_steps table c) = cc in
+          let behind : more ++ rest ≡ did.acts = cc in
+          let same : effects (steps_of (quiet (settling_steps table c) ∷ more)) (Some c) ≡ effects (steps_of (x ∷ more)) (Some c) =
+          ap (λ (a : Act). effects (steps_of (a ∷ more)) (Some c)) (sym first) in (
+            subst HasSome same (behind_some did.acts did.answer more rest did.makes behind),
+            λ some. subst (HasMade count) same (behind_all did.acts did.answer more rest did.makes behind
+            (inr (λ none. some (is_text ∙ ap (λ (a : Act). text_of (a ∷ more)) first ∙ none)))),
+          )
+
+      by_part : (front : List Act) (act : Act) (rest : List Act) (said unsaid_text : List ℕ) → front ++ act ∷ rest ≡ quiet (settling_steps table c) ∷ did.acts → said ++ unsaid_text ≡ act.text →
+          text ≡ text_of front ++ said → HasSome (effects (steps_of front ++ act.steps) (Some c)) × (text ≢ [] → HasMade count (effects (steps_of front ++ act.steps) (Some c)))
+      by_part [] act rest said unsaid_text parts written is_text =
+          let first : act ≡ quiet (settling_steps table c) = cc in (
+            before_any (settled table c) (effects act.steps (Some c)) (lists_still c header words table entries whole mounts)
+                (ap (λ (a : Act). effects a.steps (Some c)) first ∙ now_settled c header words table entries whole mounts),
+            λ some. absurd (some (is_text ∙ no_text said unsaid_text (written ∙ ap (λ (a : Act). a.text) first))),
+          )
+      by_part (x ∷ more) act rest said unsaid_text parts written is_text =
+          let first : x ≡ quiet (settling_steps table c) = cc in
+          let behind : more ++ act ∷ rest ≡ did.acts = cc in
+          let next : List Act = more ++ act ∷ [] in
+          let all : next ++ rest ≡ did.acts = append_assoc more (act ∷ []) rest ∙ behind in
+          let same : effects (steps_of (quiet (settling_steps table c) ∷ next)) (Some c) ≡ effects (steps_of (x ∷ more) ++ act.steps) (Some c) =
+          ap (λ (ss : List TapeStep). effects ss (Some c)) (sym (with_act x more act first)) in (
+            subst HasSome same (behind_some did.acts did.answer next rest did.makes all),
+            λ some. subst (HasMade count) same (behind_all did.acts did.answer next rest did.makes all
+            (inr (λ none. some (is_text ∙ ap (λ (a : Act). text_of (a ∷ more) ++ said) first ∙ unsaid more act said unsaid_text written none)))),
+          )
+
+      by_at : (at : FrontDone outcome.acts text) → HasSome (effects (done_of outcome.acts text at) (Some c)) × (text ≢ [] → HasMade count (effects (done_of outcome.acts text at) (Some c)))
+      by_at (inl w) = by_whole w.front w.rest (w.parts ∙ acts) w.is_text
+      by_at (inr p) = by_part p.front p.act p.rest p.some p.more (p.parts ∙ acts) p.written p.is_text
+
+  -- once it was carried out all of them are there
+  make_lists_all : (outcome : Outcome) → MakeOutcome seed count (Some c) outcome → outcome.status ≡ status.Done → HasMade count (effects (steps_of outcome.acts) (Some c))
+  make_lists_all outcome (inl (locked, is)) done = let other = ap (λ (o : Outcome). o.status) is in absurd (cc)
+  make_lists_all outcome (inr (free, opened)) done =
+      let did : MakesOn seed count c words table entries outcome = went_on c header words table entries whole mounts (Making seed count) outcome opened in
+      let answered : did.answer ≡ made.Done = all_made did.answer (sym (ap (λ (o : Outcome). o.status) did.is) ∙ done) in
+      subst (HasMade count) (sym (ap (λ (o : Outcome). effects (steps_of o.acts) (Some c)) did.is))
+      (behind_all did.acts did.answer did.acts [] did.makes (append-nil did.acts) (inl (refl, answered)))
+    where
+      all_made : (answer : made.Answer) → make_status answer ≡ status.Done → answer ≡ made.Done
+      all_made made.Done is = refl
+      all_made made.Protected is = cc
+      all_made made.TableMismatch is = cc
+      all_made (made.Full need have) is = cc
+      all_made (made.Lost segment lost) is = cc
+      all_made (made.Mismatch segment) is = cc
+
+-- ---- all of them
+
+same_told : (told : Option (List ℕ)) (input other : List ℕ) → told ≡ Some input → IfSome told (λ bytes. other ≡ bytes) → other ≡ input
+same_told told input other is known = subst (λ (o : Option (List ℕ)). IfSome o (λ bytes. other ≡ bytes)) is known
+
+pub lists_appends : {T S K : Type 0} (t : tapes.Meaning T) (s : sources.Meaning S) (k : sinks.Meaning K) (words : List (List ℕ)) (command : Words) (old new : Outside T S K) (answer : Status) →
+    Laws t s k old new → Spells words command → ((other : Words) → Spells words other → HasValues other) → Ends t s k command old new answer →
+    ListsAppends t k (s.left old.source) words old.tape new.tape old.sink new.sink answer
+lists_appends t s k words command old new answer laws spelled values ends = record {
+  appended = λ name date c header map_words table entries spells was which.
+      append_lists_volume t s k name date old new answer laws (values (commands.Append name date) spells)
+      (subst (λ (w : Words). Ends t s k w old new answer) (one_command words command (commands.Append name date) spelled spells) ends) c header map_words table entries was which;
+  unchanged = λ name date c header map_words table entries spells was not.
+      append_lists_none t s k name date old new answer laws (values (commands.Append name date) spells)
+      (subst (λ (w : Words). Ends t s k w old new answer) (one_command words command (commands.Append name date) spelled spells) ends) c header map_words table entries was not;
+  made = λ seed count c header map_words table entries spells was other.
+      let which : Words = commands.Make seed count in
+      let few : count ≤ 200 = values which spells in
+      let ran = ends_done t s k which old new answer laws few
+      (subst (λ (w : Words). Ends t s k w old new answer) (one_command words command which spelled spells) ends) c was.told other in
+      let whole : IsCartridge c = told_whole (Some c) (t.told old.tape) (t.size old.tape) laws.right was.told in
+      let so = make_lists_so seed count few c header map_words table entries whole was.mounts ran.outcome ran.text ran.at ran.plain in
+      let Made : ℕ → Option Cartridge → Type 0 = λ n left. IsSomeAnd left (λ d. Lists d header map_words (made_list seed n map_words entries)) in record {
+        text = ran.text;
+        took = ran.took;
+        some = (so.0.0, so.0.1, now_weaker t old.tape new.tape (λ left is. subst (Made so.0.0) (sym is) so.0.2) ran.now);
+        all = λ either. elim either [
+          | inl some ↦ now_weaker t old.tape new.tape (λ left is. subst (Made count) (sym is) (so.1 some)) ran.now
+          | inr done ↦
+              let all = ran.done done in
+              now_weaker t old.tape new.tape
+              (λ left is. subst (Made count) (sym (is ∙ ap (λ (at : FrontDone ran.outcome.acts ran.text). effects (done_of ran.outcome.acts ran.text at) (Some c)) all.1))
+              (make_lists_all seed count few c header map_words table entries whole was.mounts ran.outcome ran.plain all.0)) ran.now
+        ];
+      };
+  scripted = λ c header map_words table entries was other script.
+      let ran = ends_done t s k commands.Script old new answer laws tt
+      (subst (λ (w : Words). Ends t s k w old new answer) (one_command words command commands.Script spelled script.spelled) ends) c was.told other in
+      let whole : IsCartridge c = told_whole (Some c) (t.told old.tape) (t.size old.tape) laws.right was.told in record {
+        text = ran.text;
+        took = ran.took;
+        lists = now_weaker t old.tape new.tape
+            (λ left is. subst (ListsAnswered header map_words entries script.does.items script.does.dids (length ran.text)) (sym is)
+            (script_lists (s.left old.source) words c header map_words table entries whole was.mounts script ran.input ran.outcome ran.text ran.at
+            (same_told (s.left old.source) script.input ran.input script.is_told ran.is_told) ran.plain)) ran.now;
+      };
+}
+
+-- ---- a run that touched nothing
+
+pub none_listed : {T K : Type 0} (t : tapes.Meaning T) (k : sinks.Meaning K) (told : Option (List ℕ)) (words : List (List ℕ)) (a : T) (x : K) (answer : Status) → tapes.IsToldRight (t.told a) (t.size a) → tapes.IsLeftNow t a →
+    k.took x [] x → is_fault answer ≡ false → may_change answer ≡ false → ListsAppends t k told words a a x x answer
+none_listed t k told words a x answer right after nothing no_fault none = record {
+  appended = λ name date c header map_words table entries spells was which. absurd (never which);
+  unchanged = λ name date c header map_words table entries spells was not. as_before c header map_words table entries was;
+  made = λ seed count c header map_words table entries spells was other. record {
+    text = [];
+    took = nothing;
+    some = (0, omega arith, as_before c header map_words table entries was);
+    all = λ either. elim either [ | inl some ↦ absurd (some refl) | inr done ↦ absurd (never (inl done)) ];
+  };
+  scripted = λ c header map_words table entries was other script. record {
+    text = [];
+    took = nothing;
+    lists = told_now t a a (ListsAnswered header map_words entries script.does.items script.does.dids 0) after refl
+        (subst (λ (o : Option (Option Cartridge)). IsSomeAnd o (ListsAnswered header map_words entries script.does.items script.does.dids 0)) (sym was.told)
+        (listed_none (settled table c) c header map_words entries script.input script.outcome script.does (table, was.mounts)));
+  };
+}
+  where
+    never : IsCarriedOut answer → ⊥
+    never (inl done) = let no = ap may_change done in cc
+    never (inr fault) = let no = ap is_fault fault in cc
+
+    as_before : (c : Cartridge) (header : Header) (map_words : List ℕ) (table : List (List ℕ)) (entries : List Entry) → WasListed t a c header map_words table entries → NowLists t a a header map_words entries
+    as_before c header map_words table entries was =
+        told_now t a a (λ left. IsSomeAnd left (λ d. Lists d header map_words entries)) after refl
+        (subst (λ (o : Option (Option Cartridge)). IsSomeAnd o (λ left. IsSomeAnd left (λ d. Lists d header map_words entries))) (sym was.told) (table, was.mounts))

@@ -141,7 +141,7 @@ module _ (c : Cartridge) (plain : Plain) (whole : IsCartridge c) (stood : Stands
 
 -- ---- what is told when a run is over
 
-told_now : {T : Type 0} (t : tapes.Meaning T) (a b : T) (P : Option Cartridge → Type 0) → tapes.IsLeftNow t b → t.tells_stops b ≡ t.tells_stops a →
+pub told_now : {T : Type 0} (t : tapes.Meaning T) (a b : T) (P : Option Cartridge → Type 0) → tapes.IsLeftNow t b → t.tells_stops b ≡ t.tells_stops a →
     IsSomeAnd (t.told b) P → EachNow t a b P
 told_now t a b P after telling holds = record {
   told = holds;

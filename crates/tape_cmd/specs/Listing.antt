@@ -35,14 +35,12 @@ pub record ListsVolume {T : Type 0} (t : tapes.Meaning T) (told : Option (List �
   pub is_told : IsInput told input
   pub lists : NowLists t old new header words (entries ++ entry_for (kept_in words entries) name date input ∷ [])
 
--- the list with the first ones of the made volumes: all of them, where anything was printed
+-- the list with the first ones of the made volumes; with all of them, where anything was printed, or all was carried out
 pub record ListsMade {T K : Type 0} (t : tapes.Meaning T) (k : sinks.Meaning K) (old new : T) (before behind : K) (answer : Status) (header : Header) (words : List ℕ) (entries : List Entry) (seed count : ℕ) : Type 0 where
   pub text : List ℕ
   pub took : k.took before text behind
-  pub made : ℕ
-  pub within : made ≤ count
-  pub lists : NowLists t old new header words (made_list seed made words entries)
-  pub all : (text ≢ []) ⊎ (answer ≡ status.Done) → made ≡ count
+  pub some : (n : ℕ) × (n ≤ count) × NowLists t old new header words (made_list seed n words entries)
+  pub all : (text ≢ []) ⊎ (answer ≡ status.Done) → NowLists t old new header words (made_list seed count words entries)
 
 -- the words ask for a script over an input that is told, the lines of which do this and wear no sector of the segments 0 to 2
 pub record ScriptsOver (told : Option (List ℕ)) (words : List (List ℕ)) (c : Cartridge) (map_words : List ℕ) (table : List (List ℕ)) (entries : List Entry) : Type 0 where

@@ -1,0 +1,64 @@
+-- What a mounted cartridge is mounted as behind appends, worn sectors and scrubs, whatever the sectors of its volumes hold, as
+-- facts (this project's own).
+use Rattle.std.specs.Prelude.{◌≡◌, ◌≢◌, ◌⊎◌, ℕ, ◌^◌, ◌<◌, ◌≤◌, false, List, [], ◌++◌, Option}
+use Rattle.qic_base.specs.Cartridge.{Cartridge}
+use Rattle.acts.specs.Acts.{Act, steps_of}
+use Rattle.cartridge_spec.specs.Header.{Header}
+use Rattle.cartridge_spec.specs.HeaderAndTable.{TableIs}
+use Rattle.cartridge_spec.specs.Mounting.{Mounted, Mounts, settled}
+use Rattle.cartridge_spec.specs.Table.{Entry}
+use Rattle.cartridge_spec.specs.Writes.{changed_by}
+use Rattle.change_laws.specs.Wear.{worn}
+use Rattle.format_plan.specs.Fresh.{IsLabel}
+use Rattle.scrub_plan.specs.Scrubbing.{Scrubs}
+use Rattle.volume_store.specs.Appending.{Taking, Fits, append_acts, room_in, taking}
+use Rattle.store_laws.specs.Listed.{IsListed, kept_of, listed_behind}
+
+-- a cartridge is mounted with this header, these words and this list, whatever the data of its table
+abbrev pub Lists : Cartridge → Header → (words : List ℕ) → List Entry → Type 0
+Lists d header words entries = (table : List (List ℕ)) × Mounts d (Mounted header words table entries)
+
+-- settling leaves it so
+abbrev pub SettledLists : Type 0
+SettledLists =
+    (c : Cartridge) (header : Header) (words : List ℕ) (table : List (List ℕ)) (entries : List Entry) →
+    Mounts c (Mounted header words table entries) → Lists (settled table c) header words entries
+
+-- ---- an append
+
+-- all of it leaves the list behind it, ..
+abbrev pub AppendLists : Type 0
+AppendLists =
+    (c : Cartridge) (header : Header) (words : List ℕ) (entries : List Entry) (table : List (List ℕ)) (name : List ℕ) (date : ℕ)
+    (promised : Option ℕ) (reply : Entry → List ℕ) (input : List ℕ) → Lists c header words entries → IsListed c words entries →
+    c.info.protected ≡ false → TableIs c table → IsLabel name → date < 2 ^ 32 →
+    Lists (changed_by (steps_of (append_acts (kept_of c words entries table) name date promised reply input)) c) header words
+    (listed_behind (kept_of c words entries table) name date (taking (room_in (kept_of c words entries table)) promised input))
+
+-- .. and a front of its acts the list before it, but for all acts where an entry is written
+abbrev pub AddsNone : (rest : List Act) → Taking → Type 0
+AddsNone rest became = (rest ≢ []) ⊎ ((bytes : List ℕ) → became ≢ Fits bytes)
+
+abbrev pub AppendFrontLists : Type 0
+AppendFrontLists =
+    (c : Cartridge) (header : Header) (words : List ℕ) (entries : List Entry) (table : List (List ℕ)) (name : List ℕ) (date : ℕ)
+    (promised : Option ℕ) (reply : Entry → List ℕ) (input : List ℕ) (front rest : List Act) → Lists c header words entries →
+    IsListed c words entries → c.info.protected ≡ false → TableIs c table →
+    front ++ rest ≡ append_acts (kept_of c words entries table) name date promised reply input →
+    AddsNone rest (taking (room_in (kept_of c words entries table)) promised input) →
+    Lists (changed_by (steps_of front) c) header words entries
+
+-- ---- a worn sector, and a scrub
+
+-- one behind the table's segment
+abbrev pub WearLists : Type 0
+WearLists =
+    (c : Cartridge) (header : Header) (words : List ℕ) (entries : List Entry) (segment sector : ℕ) →
+    Lists c header words entries → 3 ≤ segment → sector < 32 → Lists (worn segment sector c) header words entries
+
+-- all of its acts, or a front of them
+abbrev pub ScrubLists : Type 0
+ScrubLists =
+    (c : Cartridge) (header : Header) (words : List ℕ) (entries : List Entry) (acts front rest : List Act) →
+    Lists c header words entries → Scrubs c words entries acts → front ++ rest ≡ acts →
+    Lists (changed_by (steps_of front) c) header words entries
