@@ -79,7 +79,7 @@ no_entry kept name date reply (TooLong need have) none = refl
 no_entry kept name date reply (TooShort asked read) none = refl
 
 -- a front of acts and one more, but for all of these, is one of the acts
-front_within : (front rest acts entry : List Act) → front ++ rest ≡ acts ++ entry → length entry ≤ 1 → (rest ≢ []) ⊎ (entry ≡ []) → (more : List Act) × (front ++ more ≡ acts)
+pub front_within : (front rest acts entry : List Act) → front ++ rest ≡ acts ++ entry → length entry ≤ 1 → (rest ≢ []) ⊎ (entry ≡ []) → (more : List Act) × (front ++ more ≡ acts)
 front_within [] rest acts entry e short none = (acts, refl)
 front_within (x ∷ front) rest [] entry e short (inr is) = absurd (let none : x ∷ (front ++ rest) ≡ [] = e ∙ is in cc)
 front_within (x ∷ front) [] [] entry e short (inl none) = absurd (none refl)

@@ -6,11 +6,13 @@ pub mod Given
 pub mod Hearing
 pub mod Input
 pub mod Lifting
+pub mod Listing
 pub mod MachineLaws
 pub mod OneItem
 pub mod Outcomes
 pub mod Plain
 pub mod Quiet
+pub mod Reached
 pub mod Reading
 pub mod Running
 pub mod Speaking

@@ -32,7 +32,7 @@ use Rattle.volume_script.proofs.Values.{append_values}
 -- ---- what is known behind some acts
 
 -- a reply takes no step
-replied : (acts : List Act) (text : List ℕ) → steps_of (acts ++ reply text ∷ []) ≡ steps_of acts
+pub replied : (acts : List Act) (text : List ℕ) → steps_of (acts ++ reply text ∷ []) ≡ steps_of acts
 replied acts text = steps_of-append acts (reply text ∷ []) ∙ append-nil (steps_of acts)
 
 listed_by : (c : Cartridge) (words : List ℕ) (entries : List Entry) (x y : List Step) → x ≡ y → IsListed (changed_by y c) words entries → IsListed (changed_by x c) words entries
@@ -45,7 +45,7 @@ record Doing (c : Cartridge) (words : List ℕ) (entries : List Entry) (asked : 
   listed : IsListed (changed_by (steps_of did.acts) c) words did.entries
 
 -- .. an append, by what became of its bytes
-taken_listed : (c : Cartridge) (words : List ℕ) (kept : Kept) (name : List ℕ) (date : ℕ) (acts : List Act) (taken : Taking) →
+pub taken_listed : (c : Cartridge) (words : List ℕ) (kept : Kept) (name : List ℕ) (date : ℕ) (acts : List Act) (taken : Taking) →
     IsListed (changed_by (steps_of acts) c) words (listed_behind kept name date taken) →
     IsListed (changed_by (steps_of (taken_as kept name date acts taken).acts) c) words (taken_as kept name date acts taken).entries
 taken_listed c words kept name date acts (Fits bytes) listed = listed
@@ -54,7 +54,7 @@ taken_listed c words kept name date acts (TooLong need have) listed =
 taken_listed c words kept name date acts (TooShort promised read) listed = listed
 
 -- .. a restore, which takes no step
-given_listed : (c : Cartridge) (words : List ℕ) (entries : List Entry) (number : ℕ) (e : Entry) (parts : List Act) (ending : restoring.Ending) → steps_of parts ≡ [] →
+pub given_listed : (c : Cartridge) (words : List ℕ) (entries : List Entry) (number : ℕ) (e : Entry) (parts : List Act) (ending : restoring.Ending) → steps_of parts ≡ [] →
     IsListed c words entries →
     IsListed (changed_by (steps_of (given_as words entries number e parts ending).acts) c) words (given_as words entries number e parts ending).entries
 given_listed c words entries number e parts restoring.Restored none listed =

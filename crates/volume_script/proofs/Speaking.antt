@@ -3,14 +3,16 @@ use Rattle.std.proofs.Common.{◌≡◌, inl, inr, ℕ, ◌+◌, ◌<◌, Bool, 
 use Rattle.std.proofs.lemmas.Bool.{cases_Bool, le-ltb}
 use Rattle.std.proofs.lemmas.List.{length-append}
 use Rattle.qic_base.specs.Cartridge.{Cartridge}
-use Rattle.acts.specs.Acts.{Act, text_of}
+use Rattle.acts.specs.Acts.{Act, steps_of, text_of}
 use Rattle.acts.proofs.Joins.{text_of-append}
 use Rattle.cartridge_spec.specs.Table.{Entry}
+use Rattle.cartridge_spec.specs.Writes.{changed_by}
 use Rattle.restore_plan.specs.Restoring.{Restored, LostIn, MismatchIn}
 use Rattle.restore_plan.specs.Restoring as restoring
 use Rattle.scrub_plan.specs.Scrubbing.{Counts, counts_line, counts_of, last_act, looked_at, looking_acts}
 use Rattle.tape_script.specs.declared.line.Line.{Line}
 use Rattle.tape_script.specs.declared.line.Line.TheVariants as line
+use Rattle.tape_script.specs.Input.{Item, IsItem, Ending, HasItems, promised}
 use Rattle.volume_lines.specs.Lines.{appended_line, number_line, place_line, list_text, reply_behind, count_line, volume_lines}
 use Rattle.volume_store.specs.Appending.{Kept, Taking, Fits, TooLong, TooShort, append_acts, entry_for, has_promised_room, room_in, table_with, taking}
 use Rattle.append_plan.specs.Between.{table_writes}
@@ -18,8 +20,7 @@ use Rattle.cartridge_spec.specs.Slots.{slot_sector}
 use Rattle.volume_script.specs.declared.refusal.Refusal.{Refusal}
 use Rattle.volume_script.specs.declared.refusal.Refusal.TheVariants as why
 use Rattle.volume_script.specs.Lines.{no_volume_line, refusal_line}
-use Rattle.volume_script.specs.Script.{Did, LineDoes, Meeting, Finds, Refuses, appended, given_as, kept_on, refused, reply, taken_as}
-use Rattle.volume_script.specs.Standing.{LineHasBytes}
+use Rattle.volume_script.specs.Script.{Did, ItemsDo, LineDoes, Outcome, ScriptDoes, Meeting, Finds, Refuses, appended, given_as, kept_on, refused, reply, taken_as}
 use Rattle.volume_script.proofs.Acts.{fits_acts, front_acts, full_taking}
 
 -- ---- acts whose last one prints something
@@ -139,28 +140,69 @@ appended_speaks kept name promised date bytes long = elim (cases_Bool (has_promi
       (refused_speaks acts kept.entries (why.Full promised (room_in kept)))
 ]
 
-pub speaks_line : (c : Cartridge) (words : List ℕ) (entries : List Entry) (asked : Line) (bytes : List ℕ) (did : Did) → LineHasBytes asked bytes →
+-- the bytes behind a line are as many as it promises
+abbrev pub IsLong : Line → (bytes : List ℕ) → Type 0
+IsLong (line.Append name promised date) bytes = length bytes ≡ promised
+IsLong other bytes = Unit {0}
+
+pub speaks_line : (c : Cartridge) (words : List ℕ) (entries : List Entry) (asked : Line) (bytes : List ℕ) (did : Did) → IsLong asked bytes →
     LineDoes c words entries asked bytes did → Speaks did.acts
-speaks_line c words entries (line.Append name promised date) bytes did has (m, meets, is) =
+speaks_line c words entries (line.Append name promised date) bytes did long (m, meets, is) =
     subst (λ (d : Did). Speaks d.acts) (sym is) (by_meeting m)
   where
     by_meeting : (m : Meeting) → Speaks (appended c words entries name promised date bytes m).acts
     by_meeting (Refuses w) = refused_speaks [] entries w
-    by_meeting (Finds table) = appended_speaks (kept_on c words entries table) name promised date bytes has.1
-speaks_line c words entries line.List bytes did has is =
+    by_meeting (Finds table) = appended_speaks (kept_on c words entries table) name promised date bytes long
+speaks_line c words entries line.List bytes did long is =
     subst (λ (d : Did). Speaks d.acts) (sym is) (speaks_so [] (reply (list_text words entries)) (list_some words entries))
-speaks_line c words entries (line.Restore number) bytes did has (inl (none, is)) =
+speaks_line c words entries (line.Restore number) bytes did long (inl (none, is)) =
     subst (λ (d : Did). Speaks d.acts) (sym is) (refused_speaks [] entries (why.NoVolume number (length entries)))
-speaks_line c words entries (line.Restore number) bytes did has (inr gives) =
+speaks_line c words entries (line.Restore number) bytes did long (inr gives) =
     subst (λ (d : Did). Speaks d.acts) (sym gives.is) (given_speaks words entries number gives.entry _ gives.ending)
-speaks_line c words entries line.Scrub bytes did has (inl (mark, is)) =
+speaks_line c words entries line.Scrub bytes did long (inl (mark, is)) =
     subst (λ (d : Did). Speaks d.acts) (sym is) (refused_speaks [] entries why.Protected)
-speaks_line c words entries line.Scrub bytes did has (inr (free, (acts, scrubs, is))) =
+speaks_line c words entries line.Scrub bytes did long (inr (free, (acts, scrubs, is))) =
     subst (λ (d : Did). Speaks d.acts) (sym is) (subst Speaks (sym scrubs.are)
     (speaks_so (looking_acts c (looked_at words entries) scrubs.sayings) (last_act (counts_of c (looked_at words entries) scrubs.sayings))
     (counts_some (counts_of c (looked_at words entries) scrubs.sayings))))
-speaks_line c words entries (line.Lose segment sector) bytes did has (inl (none, is)) =
+speaks_line c words entries (line.Lose segment sector) bytes did long (inl (none, is)) =
     subst (λ (d : Did). Speaks d.acts) (sym is) (refused_speaks [] entries (why.Place segment sector))
-speaks_line c words entries (line.Lose segment sector) bytes did has (inr (place, is)) =
+speaks_line c words entries (line.Lose segment sector) bytes did long (inr (place, is)) =
     subst (λ (d : Did). Speaks d.acts) (sym is) (speaks_so [] _ (place_some (codes "lost") segment sector))
-speaks_line c words entries line.End bytes did has never = absurd never
+speaks_line c words entries line.End bytes did long never = absurd never
+
+-- ---- the items of an input
+
+-- each of them has a reply
+abbrev pub AllSpeak : List Did → Type 0
+AllSpeak [] = Unit {0}
+AllSpeak (did ∷ dids) = Speaks did.acts × AllSpeak dids
+
+is_long : (l : Line) (bytes : List ℕ) → length bytes ≡ promised l → IsLong l bytes
+is_long (line.Append name count date) bytes long = long
+is_long line.List bytes long = tt
+is_long (line.Restore number) bytes long = tt
+is_long line.Scrub bytes long = tt
+is_long (line.Lose segment sector) bytes long = tt
+is_long line.End bytes long = tt
+
+pub all_speak : (number place : ℕ) (input : List ℕ) (items : List Item) (ending : Ending) (dids : List Did) (c : Cartridge) (words : List ℕ) (entries : List Entry) →
+    HasItems IsItem number place input items ending → ItemsDo c words entries items dids → AllSpeak dids
+all_speak number place input [] ending [] c words entries read ran = tt
+all_speak number place input [] ending (did ∷ dids) c words entries read ran = absurd ran
+all_speak number place input (item ∷ items) ending [] c words entries read ran = absurd ran
+all_speak number place input (item ∷ items) ending (did ∷ dids) c words entries (within, (text, (behind, (parts, is, read)))) ran = (
+  speaks_line c words entries item.line item.bytes did (is_long item.line item.bytes is.kept) ran.0,
+  all_speak (number + 1) (place + length text) behind items ending dids (changed_by (steps_of did.acts) c) words did.entries read ran.1,
+)
+
+pub script_speaks : (c : Cartridge) (words : List ℕ) (entries : List Entry) (input : List ℕ) (outcome : Outcome) → (does : ScriptDoes c words entries input outcome) → AllSpeak does.dids
+script_speaks c words entries input outcome does = all_speak 1 0 input does.items does.ending does.dids c words entries does.read does.did
+
+-- there are as many as there are lines
+pub as_many : (items : List Item) (dids : List Did) (c : Cartridge) (words : List ℕ) (entries : List Entry) → ItemsDo c words entries items dids → length dids ≡ length items
+as_many [] [] c words entries ran = refl
+as_many [] (did ∷ dids) c words entries ran = absurd ran
+as_many (item ∷ items) [] c words entries ran = absurd ran
+as_many (item ∷ items) (did ∷ dids) c words entries ran =
+    let rest : length dids ≡ length items = as_many items dids (changed_by (steps_of did.acts) c) words did.entries ran.1 in omega arith

@@ -242,13 +242,13 @@ module _ (c : Cartridge) (plain : Plain) (name : List ℕ) (date : ℕ) (bytes :
 
 -- ---- the other lines
 
-given_entries : (words : List ℕ) (entries : List Entry) (number : ℕ) (e : Entry) (parts : List Act) (ending : restoring.Ending) → (given_as words entries number e parts ending).entries ≡ entries
+pub given_entries : (words : List ℕ) (entries : List Entry) (number : ℕ) (e : Entry) (parts : List Act) (ending : restoring.Ending) → (given_as words entries number e parts ending).entries ≡ entries
 given_entries words entries number e parts Restored = refl
 given_entries words entries number e parts (LostIn segment lost) = refl
 given_entries words entries number e parts (MismatchIn segment) = refl
 
 -- a reply takes no step
-given_steps : (words : List ℕ) (entries : List Entry) (number : ℕ) (e : Entry) (parts : List Act) (ending : restoring.Ending) → steps_of parts ≡ [] → steps_of (given_as words entries number e parts ending).acts ≡ []
+pub given_steps : (words : List ℕ) (entries : List Entry) (number : ℕ) (e : Entry) (parts : List Act) (ending : restoring.Ending) → steps_of parts ≡ [] → steps_of (given_as words entries number e parts ending).acts ≡ []
 given_steps words entries number e parts Restored none = steps_of-append parts _ ∙ append-nil (steps_of parts) ∙ none
 given_steps words entries number e parts (LostIn segment lost) none = steps_of-append parts _ ∙ append-nil (steps_of parts) ∙ none
 given_steps words entries number e parts (MismatchIn segment) none = steps_of-append parts _ ∙ append-nil (steps_of parts) ∙ none

@@ -4,6 +4,7 @@ pub mod Items
 pub mod Laws
 pub mod Limited
 pub mod Lines
+pub mod Listing
 pub mod Promised
 pub mod Runs
 pub mod Script

@@ -1,0 +1,276 @@
+-- With which list a cartridge is mounted behind some items of a script, and which of these were answered.
+use Rattle.std.proofs.Common.{◌≡◌, ◌≢◌, ◌⊎◌, inl, inr, ℕ, ◌+◌, ◌<◌, ◌≤◌, ◌^◌, false, List, [], ◌∷◌, ◌++◌, length, take, drop, Option, Some, IsSomeAnd, refl, sym, ap, ◌∙◌, subst, arith, append-nil}
+use Rattle.qic_base.specs.Cartridge.{Cartridge}
+use Rattle.qic_base.specs.Step.{Step, Wear}
+use Rattle.acts.specs.Acts.{Act, steps_of, text_of}
+use Rattle.acts.proofs.Joins.{steps_of-append}
+use Rattle.cartridge_spec.specs.Header.{Header}
+use Rattle.cartridge_spec.specs.HeaderAndTable.{TableIs}
+use Rattle.cartridge_spec.specs.Table.{Entry}
+use Rattle.cartridge_spec.specs.Writes.{changed_by}
+use Rattle.format_plan.specs.Fresh.{IsLabel}
+use Rattle.restore_plan.specs.Restoring.{framed, pieces}
+use Rattle.restore_plan.proofs.Counts.{framed_in_no_step}
+use Rattle.scrub_plan.specs.Scrubbing.{Scrubs}
+use Rattle.store_laws.specs.Listed.{IsListed, listed_behind}
+use Rattle.store_laws.specs.Listing.{Lists}
+use Rattle.store_laws.proofs.Listed.{append_listed, scrub_listed, wear_listed}
+use Rattle.store_laws.proofs.Listing.{append_front_lists, append_lists, front_within, scrub_lists, wear_lists}
+use Rattle.tape_script.specs.declared.line.Line.{Line}
+use Rattle.tape_script.specs.declared.line.Line.TheVariants as line
+use Rattle.tape_script.specs.Input.{Item, IsItem, Ending, AtEnd, AtStop, AtFault, HasItems, IsLine, IsLined}
+use Rattle.volume_lines.specs.Lines.{lost_line, reply_behind}
+use Rattle.volume_store.specs.Appending.{Kept, Taking, Fits, TooLong, TooShort, room_in, taking}
+use Rattle.volume_script.specs.declared.refusal.Refusal.TheVariants as why
+use Rattle.volume_script.specs.Lines.{end_line, refusal_line}
+use Rattle.volume_script.specs.Listing.{ItemsWearBehind, ListedBehind, ListedBetween, ListedNone, ListsAnswered, WearsBehind}
+use Rattle.volume_script.specs.Script.{Did, EndDoes, EndsEarly, Finds, GivesBack, ItemsDo, LineDoes, Meeting, Meets, Outcome, Refuses, ScriptDoes, acts_on, appended, cartridge_behind, entries_behind, kept_on, place_behind, refused, reply, taken_as}
+use Rattle.volume_script.proofs.Acts.{took_enough}
+use Rattle.volume_script.proofs.Outcomes.{replied, taken_listed}
+use Rattle.volume_script.proofs.Reached.{AllLeave, Reached, reached_behind, reached_between, reached_none}
+use Rattle.volume_script.proofs.Speaking.{as_many, script_speaks}
+use Rattle.volume_script.proofs.Standing.{given_entries, given_steps}
+use Rattle.volume_script.proofs.Values.{append_values}
+
+-- ---- the items of any input
+
+-- a line's name is a label, and its date a date word
+abbrev IsLabelled : Line → Type 0
+IsLabelled (line.Append name promised date) = IsLabel name × (date < 2 ^ 32)
+IsLabelled other = Unit {0}
+
+abbrev AreLabelled : List Item → Type 0
+AreLabelled [] = Unit {0}
+AreLabelled (item ∷ items) = IsLabelled item.line × AreLabelled items
+
+line_labelled : (l : Line) (front : List ℕ) → IsLined (λ before. IsLine before l) front → IsLabelled l
+line_labelled (line.Append name count date) front lined = append_values front name count date lined
+line_labelled line.List front lined = tt
+line_labelled (line.Restore number) front lined = tt
+line_labelled line.Scrub front lined = tt
+line_labelled (line.Lose segment sector) front lined = tt
+line_labelled line.End front lined = tt
+
+are_labelled : (number place : ℕ) (input : List ℕ) (items : List Item) (ending : Ending) → HasItems IsItem number place input items ending → AreLabelled items
+are_labelled number place input [] ending read = tt
+are_labelled number place input (item ∷ items) ending (within, (text, (behind, (parts, is, read)))) =
+    (line_labelled item.line is.front is.lined, are_labelled (number + 1) (place + length text) behind items ending read)
+
+-- ---- fronts of acts
+
+no_nil : (x : Act) (xs : List Act) → x ∷ xs ≢ []
+no_nil x xs e = absurd (cc)
+
+no_first : (xs ys : List Step) → xs ++ ys ≡ [] → xs ≡ []
+no_first [] ys none = refl
+no_first (x ∷ xs) ys none = absurd (cc)
+
+-- one of acts that take no step takes none
+front_still : (front rest acts : List Act) → front ++ rest ≡ acts → steps_of acts ≡ [] → steps_of front ≡ []
+front_still front rest acts parts none = no_first (steps_of front) (steps_of rest) (sym (steps_of-append front rest) ∙ ap steps_of parts ∙ none)
+
+-- one of a single act, but for that act, is empty
+front_alone : (front : List Act) (act : Act) (rest : List Act) (x : Act) → front ++ act ∷ rest ≡ x ∷ [] → front ≡ []
+front_alone [] act rest x parts = refl
+front_alone (y ∷ []) act rest x parts = let none : act ∷ rest ≡ [] = cc in absurd (cc)
+front_alone (y ∷ z ∷ front) act rest x parts = let none : z ∷ (front ++ act ∷ rest) ≡ [] = cc in absurd (cc)
+
+-- ---- one item
+
+-- an item leaves the list behind it, and a front of its acts the list before it
+record ItemLists (c : Cartridge) (header : Header) (words : List ℕ) (entries : List Entry) (did : Did) : Type 0 where
+  done : Lists (changed_by (steps_of did.acts) c) header words did.entries
+  listed : IsListed (changed_by (steps_of did.acts) c) words did.entries
+  stopped : (front : List Act) (act : Act) (rest : List Act) → front ++ act ∷ rest ≡ did.acts → Lists (changed_by (steps_of front) c) header words entries
+
+module _ (c : Cartridge) (header : Header) (words : List ℕ) (entries : List Entry) (lists : Lists c header words entries) (listed : IsListed c words entries) where
+  -- steps that are none leave the list
+  lists_by : (steps : List Step) → steps ≡ [] → Lists (changed_by steps c) header words entries
+  lists_by steps none = subst (λ (ss : List Step). Lists (changed_by ss c) header words entries) (sym none) lists
+
+  -- one that takes no step
+  still_lists : (did : Did) → steps_of did.acts ≡ [] → did.entries ≡ entries → ItemLists c header words entries did
+  still_lists did none same = record {
+    done = subst (λ (es : List Entry). Lists (changed_by (steps_of did.acts) c) header words es) (sym same) (lists_by (steps_of did.acts) none);
+    listed = subst (λ (es : List Entry). IsListed (changed_by (steps_of did.acts) c) words es) (sym same)
+        (subst (λ (ss : List Step). IsListed (changed_by ss c) words entries) (sym none) listed);
+    stopped = λ front act rest parts. lists_by (steps_of front) (front_still front (act ∷ rest) did.acts parts none);
+  }
+
+  -- ---- an append
+
+  module _ (name : List ℕ) (n date : ℕ) (bytes : List ℕ) (table : List (List ℕ)) (mark : c.info.protected ≡ false) (reads : TableIs c table) where
+    abbrev kept : Kept
+    kept = kept_on c words entries table
+
+    abbrev acts : List Act
+    acts = acts_on c words entries name n date bytes (Finds table)
+
+    -- a front of its acts that writes no entry
+    front_lists : (front rest : List Act) → front ++ rest ≡ acts → (rest ≢ []) ⊎ ((xs : List ℕ) → taking (room_in kept) (Some n) bytes ≢ Fits xs) →
+        Lists (changed_by (steps_of front) c) header words entries
+    front_lists front rest parts none =
+        append_front_lists c header words entries table name date (Some n) (reply_behind (length entries)) bytes front rest lists listed mark reads parts none
+
+    taking_lists : (label : IsLabel name) → date < 2 ^ 32 → (became : Taking) → taking (room_in kept) (Some n) bytes ≡ became →
+        ItemLists c header words entries (taken_as kept name date acts became)
+    taking_lists label word became took = by_taking became took
+      where
+        behind_lists : (became : Taking) → taking (room_in kept) (Some n) bytes ≡ became → Lists (changed_by (steps_of acts) c) header words (listed_behind kept name date became)
+        behind_lists became took =
+            subst (λ (k : Taking). Lists (changed_by (steps_of acts) c) header words (listed_behind kept name date k)) took
+            (append_lists c header words entries table name date (Some n) (reply_behind (length entries)) bytes lists listed mark reads label word)
+
+        behind_listed : (became : Taking) → taking (room_in kept) (Some n) bytes ≡ became →
+            IsListed (changed_by (steps_of (taken_as kept name date acts became).acts) c) words (taken_as kept name date acts became).entries
+        behind_listed became took =
+            taken_listed c words kept name date acts became
+            (subst (λ (k : Taking). IsListed (changed_by (steps_of acts) c) words (listed_behind kept name date k)) took
+            (append_listed c words entries table name date (Some n) (reply_behind (length entries)) bytes listed mark reads label word))
+
+        by_taking : (became : Taking) → taking (room_in kept) (Some n) bytes ≡ became → ItemLists c header words entries (taken_as kept name date acts became)
+        by_taking (Fits xs) took = record {
+          done = behind_lists (Fits xs) took;
+          listed = behind_listed (Fits xs) took;
+          stopped = λ front act rest parts. front_lists front (act ∷ rest) parts (inl (no_nil act rest));
+        }
+        by_taking (TooLong need have) took = record {
+          done = subst (λ (ss : List Step). Lists (changed_by ss c) header words entries) (sym (replied acts (refusal_line (why.Full need have)))) (behind_lists (TooLong need have) took);
+          listed = behind_listed (TooLong need have) took;
+          stopped = λ front act rest parts.
+              let within = front_within front (act ∷ rest) acts (reply (refusal_line (why.Full need have)) ∷ []) parts (omega arith) (inl (no_nil act rest)) in
+              front_lists front within.0 within.1 (inr (λ xs is. absurd (let other : TooLong need have ≡ Fits xs = sym took ∙ is in cc)));
+        }
+        by_taking (TooShort asked read) took = record {
+          done = behind_lists (TooShort asked read) took;
+          listed = behind_listed (TooShort asked read) took;
+          stopped = λ front act rest parts. front_lists front (act ∷ rest) parts (inl (no_nil act rest));
+        }
+
+  append_leaves : (name : List ℕ) (n date : ℕ) (bytes : List ℕ) (m : Meeting) → IsLabel name → date < 2 ^ 32 → Meets c m →
+      ItemLists c header words entries (appended c words entries name n date bytes m)
+  append_leaves name n date bytes (Refuses w) label word meets = still_lists (refused [] entries w) refl refl
+  append_leaves name n date bytes (Finds table) label word meets =
+      taking_lists name n date bytes table meets.0 meets.1 label word (taking (room_in (kept_on c words entries table)) (Some n) bytes) refl
+
+  -- ---- the other lines
+
+  gives_lists : (number : ℕ) (did : Did) → GivesBack c words entries number did → ItemLists c header words entries did
+  gives_lists number did gives =
+      let parts : List Act = framed (pieces words gives.entry) gives.acts in
+      still_lists did
+      (ap (λ (d : Did). steps_of d.acts) gives.is
+      ∙ given_steps words entries number gives.entry parts gives.ending (framed_in_no_step c words (pieces words gives.entry) gives.acts gives.ending gives.restores).0)
+      (ap (λ (d : Did). d.entries) gives.is ∙ given_entries words entries number gives.entry parts gives.ending)
+
+  scrubs_lists : (acts : List Act) → c.info.protected ≡ false → Scrubs c words entries acts → ItemLists c header words entries (record { acts = acts; entries = entries })
+  scrubs_lists acts mark scrubs = record {
+    done = scrub_lists c header words entries acts acts [] lists scrubs (append-nil acts);
+    listed = scrub_listed c words entries acts listed mark scrubs;
+    stopped = λ front act rest parts. scrub_lists c header words entries acts front (act ∷ rest) lists scrubs parts;
+  }
+
+  lose_lists : (segment sector : ℕ) → 3 ≤ segment → sector < 32 →
+      ItemLists c header words entries (record { acts = record { steps = Wear segment sector ∷ []; text = lost_line segment sector } ∷ []; entries = entries })
+  lose_lists segment sector behind small = record {
+    done = wear_lists c header words entries segment sector lists behind small;
+    listed = wear_listed c words entries segment sector listed;
+    stopped = λ front act rest parts.
+        lists_by (steps_of front) (ap steps_of (front_alone front act rest (record { steps = Wear segment sector ∷ []; text = lost_line segment sector }) parts));
+  }
+
+  line_lists : (asked : Line) (bytes : List ℕ) (did : Did) → IsLabelled asked → WearsBehind asked → LineDoes c words entries asked bytes did → ItemLists c header words entries did
+  line_lists (line.Append name n date) bytes did labelled behind (m, meets, is) =
+      subst (ItemLists c header words entries) (sym is) (append_leaves name n date bytes m labelled.0 labelled.1 meets)
+  line_lists line.List bytes did labelled behind is = still_lists did (ap (λ (d : Did). steps_of d.acts) is) (ap (λ (d : Did). d.entries) is)
+  line_lists (line.Restore number) bytes did labelled behind (inl (none, is)) = still_lists did (ap (λ (d : Did). steps_of d.acts) is) (ap (λ (d : Did). d.entries) is)
+  line_lists (line.Restore number) bytes did labelled behind (inr gives) = gives_lists number did gives
+  line_lists line.Scrub bytes did labelled behind (inl (mark, is)) = still_lists did (ap (λ (d : Did). steps_of d.acts) is) (ap (λ (d : Did). d.entries) is)
+  line_lists line.Scrub bytes did labelled behind (inr (free, (acts, scrubs, is))) = subst (ItemLists c header words entries) (sym is) (scrubs_lists acts free scrubs)
+  line_lists (line.Lose segment sector) bytes did labelled behind (inl (none, is)) = still_lists did (ap (λ (d : Did). steps_of d.acts) is) (ap (λ (d : Did). d.entries) is)
+  line_lists (line.Lose segment sector) bytes did labelled behind (inr (place, is)) =
+      subst (ItemLists c header words entries) (sym is) (lose_lists segment sector behind place.in_segment)
+  line_lists line.End bytes did labelled behind never = absurd never
+
+  -- ---- the last acts
+
+  -- bytes that end early are not enough
+  early_lists : (early_name : List ℕ) (promised date : ℕ) (bytes : List ℕ) (m : Meeting) (front rest last : List Act) → length bytes < promised → Meets c m →
+      last ≡ acts_on c words entries early_name promised date bytes m → front ++ rest ≡ last → Lists (changed_by (steps_of front) c) header words entries
+  early_lists early_name promised date bytes (Refuses w) front rest last short meets is parts = lists_by (steps_of front) (front_still front rest last parts (ap steps_of is))
+  early_lists early_name promised date bytes (Finds table) front rest last short meets is parts =
+      front_lists early_name promised date bytes table meets.0 meets.1 front rest (parts ∙ is)
+      (inr (λ xs took. absurd (let enough : promised ≤ length bytes = (took_enough (room_in (kept_on c words entries table)) promised bytes xs took).0 in omega arith)))
+
+  end_lists : (bytes : List ℕ) (ending : Ending) (last front rest : List Act) → EndDoes c words entries bytes ending last → front ++ rest ≡ last →
+      Lists (changed_by (steps_of front) c) header words entries
+  end_lists bytes AtEnd last front rest is parts = lists_by (steps_of front) (front_still front rest last parts (ap steps_of is))
+  end_lists bytes AtStop last front rest is parts = lists_by (steps_of front) (front_still front rest last parts (ap steps_of is))
+  end_lists bytes (AtFault number place) last front rest (inl (below, (early, (m, meets, is)))) parts =
+      early_lists early.name early.promised early.date early.bytes m front rest last early.short meets is parts
+  end_lists bytes (AtFault number place) last front rest (inr (none, is)) parts = lists_by (steps_of front) (front_still front rest last parts (ap steps_of is))
+
+-- ---- what is left of a script
+
+-- the cartridge is left as it is
+abbrev Stays : List Step → Cartridge → Option Cartridge → Type 0
+Stays ss d left = left ≡ Some d
+
+-- the list behind so many items
+abbrev ListsBehind : Header → (words : List ℕ) → List Entry → List Did → ℕ → Option Cartridge → Type 0
+ListsBehind header words entries dids n left = IsSomeAnd left (λ d. Lists d header words (entries_behind entries (take n dids)))
+
+left_there : (header : Header) (words : List ℕ) (entries : List Entry) (d : Cartridge) (left : Option Cartridge) → Lists d header words entries → left ≡ Some d →
+    IsSomeAnd left (λ e. Lists e header words entries)
+left_there header words entries d left lists is = subst (λ (o : Option Cartridge). IsSomeAnd o (λ e. Lists e header words entries)) (sym is) lists
+
+all_list : (header : Header) (words : List ℕ) (bytes : List ℕ) (ending : Ending) (last : List Act) (items : List Item) (dids : List Did) (c : Cartridge) (entries : List Entry) →
+    Lists c header words entries → IsListed c words entries → AreLabelled items → ItemsWearBehind items → ItemsDo c words entries items dids →
+    EndDoes (cartridge_behind c dids) words (entries_behind entries dids) bytes ending last → AllLeave Stays (ListsBehind header words entries dids) c dids last
+all_list header words bytes ending last [] [] c entries lists listed labelled behind ran ends =
+    λ front rest left parts is. left_there header words entries (changed_by (steps_of front) c) left (end_lists c header words entries lists listed bytes ending last front rest ends parts) is
+all_list header words bytes ending last [] (did ∷ dids) c entries lists listed labelled behind ran ends = absurd ran
+all_list header words bytes ending last (item ∷ items) [] c entries lists listed labelled behind ran ends = absurd ran
+all_list header words bytes ending last (item ∷ items) (did ∷ dids) c entries lists listed labelled behind ran ends =
+    let first : ItemLists c header words entries did = line_lists c header words entries lists listed item.line item.bytes did labelled.0 behind.0 ran.0 in (
+      record {
+        done = first.done;
+        stopped = λ front act rest left whole is. inl (left_there header words entries (changed_by (steps_of front) c) left (first.stopped front act rest whole) is);
+      },
+      all_list header words bytes ending last items dids (changed_by (steps_of did.acts) c) did.entries first.done first.listed labelled.1 behind.1 ran.1 ends,
+    )
+
+script_lists : (c : Cartridge) (header : Header) (words : List ℕ) (entries : List Entry) (input : List ℕ) (outcome : Outcome) → Lists c header words entries → IsListed c words entries →
+    (does : ScriptDoes c words entries input outcome) → ItemsWearBehind does.items → AllLeave Stays (ListsBehind header words entries does.dids) c does.dids does.last
+script_lists c header words entries input outcome lists listed does behind =
+    all_list header words (drop (place_behind 1 0 input does.items does.ending does.read) input) does.ending does.last does.items does.dids c entries lists listed
+    (are_labelled 1 0 input does.items does.ending does.read) behind does.did does.ends
+
+lists_answered : (c : Cartridge) (header : Header) (words : List ℕ) (entries : List Entry) (items : List Item) (dids : List Did) (printed : ℕ) (left : Option Cartridge) →
+    ItemsDo c words entries items dids → Reached (ListsBehind header words entries dids) dids printed left → ListsAnswered header words entries items dids printed left
+lists_answered c header words entries items dids printed left ran r =
+    let long : length dids ≡ length items = as_many items dids c words entries ran in
+    record {
+      count = r.count;
+      within = (let most = r.within in omega arith);
+      lists = r.holds;
+      answered = λ n within. r.answered n (omega arith);
+      most = r.most;
+    }
+
+pub listed_between : ListedBetween
+listed_between c header words entries input outcome front rest left lists listed does behind parts is =
+    lists_answered c header words entries does.items does.dids (length (text_of front)) left does.did
+    (reached_between Stays (ListsBehind header words entries does.dids) does.dids c does.last front rest left (script_speaks c words entries input outcome does)
+    (script_lists c header words entries input outcome lists listed does behind) (parts ∙ ap (λ (o : Outcome). o.acts) does.is) is)
+
+pub listed_behind_act : ListedBehind
+listed_behind_act c header words entries input outcome front act rest left printed lists listed does behind parts is above below =
+    lists_answered c header words entries does.items does.dids printed left does.did
+    (reached_behind Stays (λ ss d. refl) (ListsBehind header words entries does.dids) does.dids c does.last front act rest left printed (script_speaks c words entries input outcome does)
+    (script_lists c header words entries input outcome lists listed does behind) (parts ∙ ap (λ (o : Outcome). o.acts) does.is) is above below)
+
+pub listed_none : ListedNone
+listed_none c d header words entries input outcome does lists =
+    lists_answered c header words entries does.items does.dids 0 (Some d) does.did
+    (reached_none (ListsBehind header words entries does.dids) does.dids (Some d) (script_speaks c words entries input outcome does) lists)

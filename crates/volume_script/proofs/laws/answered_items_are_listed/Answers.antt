@@ -1,0 +1,11 @@
+use Rattle.volume_script.proofs.Listing.{listed_behind_act, listed_between, listed_none}
+use Rattle.volume_script.proofs.laws.answered_items_are_listed.Goals as goal
+
+pub returns-clause-between : goal.returns-clause-between
+returns-clause-between c = listed_between
+
+pub returns-clause-behind : goal.returns-clause-behind
+returns-clause-behind c = listed_behind_act
+
+pub returns-clause-none : goal.returns-clause-none
+returns-clause-none c = listed_none
