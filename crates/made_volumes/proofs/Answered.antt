@@ -30,7 +30,7 @@ no_front [] ys none = refl
 no_front (x ∷ xs) ys none = absurd (cc)
 
 -- a front of acts that print nothing
-quiet_front : (front rest acts : List Act) → front ++ rest ≡ acts → text_of acts ≡ [] → text_of front ≡ []
+pub quiet_front : (front rest acts : List Act) → front ++ rest ≡ acts → text_of acts ≡ [] → text_of front ≡ []
 quiet_front front rest acts parts quiet = no_front (text_of front) (text_of rest) (sym (text_of-append front rest) ∙ ap text_of parts ∙ quiet)
 
 input_texts : (kept : Kept) (promised : Option ℕ) (input : List ℕ) → text_of (input_writes kept promised input) ≡ []
@@ -52,7 +52,7 @@ quiet_acts kept name date promised input =
     ∙ ap (λ (text : List ℕ). text ++ text_of last) (input_texts kept promised input)
     ∙ entry_texts kept name date (taking (room_in kept) promised input)
 
-append_prints_nothing : (seed : ℕ) (c : Cartridge) (words : List ℕ) (es : List Entry) (volume : ℕ) (acts : List Act) (answer : Answer) →
+pub append_prints_nothing : (seed : ℕ) (c : Cartridge) (words : List ℕ) (es : List Entry) (volume : ℕ) (acts : List Act) (answer : Answer) →
     Does seed c words es (AppendMade volume) acts answer → text_of acts ≡ []
 append_prints_nothing seed c words es volume acts answer (inl refused) = ap text_of refused.does
 append_prints_nothing seed c words es volume acts answer (inr (free, inl appended)) =

@@ -15,3 +15,4 @@ pub mod Stops
 pub mod Answered
 pub mod Outcomes
 pub mod Complete
+pub mod Leaving

@@ -47,7 +47,7 @@ all_taken n xs long = take_all n xs (omega arith)
 
 module _ (seed : ℕ) (c : Cartridge) (words : List ℕ) (entries : List Entry) (listed : IsListed c words entries) where
   -- the list behind a made volume that had room
-  made_behind : (table : List (List ℕ)) (volume : ℕ) → made_answer seed words entries volume ≡ Done →
+  pub made_behind : (table : List (List ℕ)) (volume : ℕ) → made_answer seed words entries volume ≡ Done →
       listed_behind (kept_of c words entries table) (made_name volume) 0
       (taking (room_in (kept_of c words entries table)) (Some (made_length seed volume)) (made_bytes seed volume))
       ≡ entries ++ made_entry seed words entries volume ∷ []

@@ -268,7 +268,7 @@ stills_done seed (item ∷ items) c plain acts still held (inr (first, rest, par
 
 -- ---- which steps are still
 
-stills_append : (xs ys : List Item) → AreStill xs → AreStill ys → AreStill (xs ++ ys)
+pub stills_append : (xs ys : List Item) → AreStill xs → AreStill ys → AreStill (xs ++ ys)
 stills_append [] ys one other = other
 stills_append (x ∷ xs) ys one other = (one.0, stills_append xs ys one.1 other)
 
@@ -303,13 +303,13 @@ still_wearing_volumes words before last (e ∷ es) least order =
     (still_wearing_volumes words e.end last es (omega (arith, order.0, order.1)) order.3)
 
 -- also without the first of them
-still_wearing_behind : (words : List ℕ) (n before last : ℕ) (es : List Entry) → 2 ≤ before → LieBehind before last es → AreStill (wearing_volumes words (drop n es))
+pub still_wearing_behind : (words : List ℕ) (n before last : ℕ) (es : List Entry) → 2 ≤ before → LieBehind before last es → AreStill (wearing_volumes words (drop n es))
 still_wearing_behind words zero before last es least order = still_wearing_volumes words before last es least order
 still_wearing_behind words (suc n) before last [] least order = tt
 still_wearing_behind words (suc n) before last (e ∷ es) least order =
     still_wearing_behind words n e.end last es (omega (arith, order.0, order.1)) order.3
 
-still_summing : (number count : ℕ) → AreStill (summing number count)
+pub still_summing : (number count : ℕ) → AreStill (summing number count)
 still_summing number zero = tt
 still_summing number (suc count) = (tt, still_summing (number + 1) count)
 

@@ -4,12 +4,14 @@ use Rattle.qic_base.specs.Cartridge.{Cartridge}
 use Rattle.qic_base.specs.Stop.{Torn}
 use Rattle.acts.specs.Acts.{Act, steps_of, text_of, next_steps}
 use Rattle.append_plan.specs.Appending.{appended_volume, with_volume}
+use Rattle.cartridge_spec.specs.Header.{Header}
 use Rattle.cartridge_spec.specs.Table.{Entry}
 use Rattle.cartridge_spec.specs.Volumes.{Plain, Volume, Stands, entries_of}
 use Rattle.cartridge_spec.specs.Writes.{changed_by}
 use Rattle.restore_plan.specs.Restoring.{LosesFew, pieces}
 use Rattle.store_laws.specs.Kept.{IsKept}
 use Rattle.store_laws.specs.Listed.{IsListed}
+use Rattle.store_laws.specs.Listing.{Lists}
 use Rattle.tape_script.specs.Generator.{made_bytes}
 use Rattle.volume_store.specs.Restoring.{volume_at}
 use Rattle.made_volumes.specs.Items.{Item, ScrubAll, made_name, after_items, appending, made_list, wearing_volumes}
@@ -114,3 +116,28 @@ MadeWhereThereIsRoom =
     (seed count : ℕ) (c : Cartridge) (plain : Plain) (acts : List Act) (answer : Answer) → count ≤ 200 → IsKept c plain →
     HaveRoom seed count plain → LoseFewBehind seed count c plain → Makes seed count c plain.words (entries_of plain) acts answer →
     answer ≡ Done
+
+-- ---- a mounted cartridge, whatever the sectors of its volumes hold
+
+-- what is left is mounted with the list that was mounted and some of the made volumes behind it, up to so many
+pub record ListsWithMade (seed count : ℕ) (header : Header) (words : List ℕ) (entries : List Entry) (left : Option Cartridge) : Type 0 where
+  pub appended : ℕ
+  pub within : appended ≤ count
+  pub lists : IsSomeAnd left (λ d. Lists d header words (made_list seed appended words entries))
+
+-- so it is behind each front of the acts of a run
+abbrev pub MakeLists : Type 0
+MakeLists =
+    (seed count : ℕ) (c : Cartridge) (header : Header) (words : List ℕ) (entries : List Entry) (acts front rest : List Act)
+    (answer : Answer) (left : Option Cartridge) → count ≤ 200 → Lists c header words entries → IsListed c words entries →
+    Makes seed count c words entries acts answer → front ++ rest ≡ acts → left ≡ Some (changed_by (steps_of front) c) →
+    ListsWithMade seed count header words entries left
+
+-- .. with all of them where all acts were carried out, or something was printed
+abbrev pub MadeAreListed : Type 0
+MadeAreListed =
+    (seed count : ℕ) (c : Cartridge) (header : Header) (words : List ℕ) (entries : List Entry) (acts front rest : List Act)
+    (answer : Answer) (left : Option Cartridge) → count ≤ 200 → Lists c header words entries → IsListed c words entries →
+    Makes seed count c words entries acts answer → front ++ rest ≡ acts → left ≡ Some (changed_by (steps_of front) c) →
+    ((rest ≡ []) × (answer ≡ Done)) ⊎ (text_of front ≢ []) →
+    IsSomeAnd left (λ d. Lists d header words (made_list seed count words entries))

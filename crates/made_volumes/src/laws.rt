@@ -2,6 +2,7 @@
 //! rest on it; their proofs import the lemmas of this crate's `proofs`.
 
 ghost use Rattle.made_volumes.specs.Laws.{MakesOneThing, MakesSomething, StopsAreInSteps, StoppedMakeStands, DoneMakeStands, MadeAreAnswered, MadeWhereThereIsRoom};
+ghost use Rattle.made_volumes.specs.Laws.{MakeLists, MadeAreListed};
 
 /// A run does one thing on a cartridge.
 pub fn a_run_is_one()
@@ -34,4 +35,11 @@ pub fn made_volumes_are_answered()
 /// scrub no segment of one has more than three unreadable sectors.
 pub fn a_run_with_room_is_carried_out()
     ensures { MadeWhereThereIsRoom }
+{}
+
+/// A run leaves a mounted cartridge mounted with its list and some of the made volumes behind it, whatever the sectors of its volumes
+/// hold: all of them where all was carried out, or something was printed.
+pub fn made_volumes_are_listed()
+    ensures lists { MakeLists }
+    ensures all { MadeAreListed }
 {}

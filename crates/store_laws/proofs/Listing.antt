@@ -26,6 +26,7 @@ use Rattle.volume_store.specs.Appending.{Kept, Taking, Fits, TooLong, TooShort, 
 use Rattle.volume_store.proofs.Behind.{AreBehind, front_behind}
 use Rattle.store_laws.specs.Listed.{IsListed, kept_of, listed_behind}
 use Rattle.store_laws.specs.Listing.{AppendFrontLists, AppendLists, Lists, ScrubLists, SettledLists, WearLists}
+use Rattle.store_laws.proofs.Fronts.{front_within}
 use Rattle.store_laws.proofs.Listed.{LeavesTable, append_leaves, behind_leaves, ins_behind}
 
 pub settled_lists : SettledLists
@@ -77,20 +78,6 @@ no_entry : (kept : Kept) (name : List ℕ) (date : ℕ) (reply : Entry → List 
 no_entry kept name date reply (Fits bytes) none = absurd (none bytes refl)
 no_entry kept name date reply (TooLong need have) none = refl
 no_entry kept name date reply (TooShort asked read) none = refl
-
--- a front of acts and one more, but for all of these, is one of the acts
-pub front_within : (front rest acts entry : List Act) → front ++ rest ≡ acts ++ entry → length entry ≤ 1 → (rest ≢ []) ⊎ (entry ≡ []) → (more : List Act) × (front ++ more ≡ acts)
-front_within [] rest acts entry e short none = (acts, refl)
-front_within (x ∷ front) rest [] entry e short (inr is) = absurd (let none : x ∷ (front ++ rest) ≡ [] = e ∙ is in cc)
-front_within (x ∷ front) [] [] entry e short (inl none) = absurd (none refl)
-front_within (x ∷ front) (r ∷ rest) [] entry e short (inl none) =
-    let long : length (x ∷ (front ++ r ∷ rest)) ≡ length entry = ap (λ (xs : List Act). length xs) e in
-    absurd (omega (arith, length-append front (r ∷ rest)))
-front_within (x ∷ front) rest (a ∷ acts) entry e short none =
-    let head : x ≡ a = cc in
-    let tail : front ++ rest ≡ acts ++ entry = cc in
-    let next = front_within front rest acts entry tail short none in
-    (next.0, ap (λ (xs : List Act). x ∷ xs) next.1 ∙ ap (λ (y : Act). y ∷ acts) head)
 
 -- the settling, and then steps behind the table's segment
 front_lists : (c : Cartridge) (header : Header) (words : List ℕ) (entries : List Entry) (table : List (List ℕ)) (first : Act) (front : List Act) → Lists c header words entries →

@@ -3,7 +3,6 @@ use Rattle.std.proofs.Common.{◌≡◌, ◌≢◌, ◌⊎◌, inl, inr, ℕ, �
 use Rattle.qic_base.specs.Cartridge.{Cartridge}
 use Rattle.qic_base.specs.Step.{Step, Wear}
 use Rattle.acts.specs.Acts.{Act, steps_of, text_of}
-use Rattle.acts.proofs.Joins.{steps_of-append}
 use Rattle.cartridge_spec.specs.Header.{Header}
 use Rattle.cartridge_spec.specs.HeaderAndTable.{TableIs}
 use Rattle.cartridge_spec.specs.Table.{Entry}
@@ -14,8 +13,9 @@ use Rattle.restore_plan.proofs.Counts.{framed_in_no_step}
 use Rattle.scrub_plan.specs.Scrubbing.{Scrubs}
 use Rattle.store_laws.specs.Listed.{IsListed, listed_behind}
 use Rattle.store_laws.specs.Listing.{Lists}
+use Rattle.store_laws.proofs.Fronts.{front_still, front_within, no_nil}
 use Rattle.store_laws.proofs.Listed.{append_listed, scrub_listed, wear_listed}
-use Rattle.store_laws.proofs.Listing.{append_front_lists, append_lists, front_within, scrub_lists, wear_lists}
+use Rattle.store_laws.proofs.Listing.{append_front_lists, append_lists, scrub_lists, wear_lists}
 use Rattle.tape_script.specs.declared.line.Line.{Line}
 use Rattle.tape_script.specs.declared.line.Line.TheVariants as line
 use Rattle.tape_script.specs.Input.{Item, IsItem, Ending, AtEnd, AtStop, AtFault, HasItems, IsLine, IsLined}
@@ -58,18 +58,7 @@ are_labelled number place input (item ∷ items) ending (within, (text, (behind,
 
 -- ---- fronts of acts
 
-no_nil : (x : Act) (xs : List Act) → x ∷ xs ≢ []
-no_nil x xs e = absurd (cc)
-
-no_first : (xs ys : List Step) → xs ++ ys ≡ [] → xs ≡ []
-no_first [] ys none = refl
-no_first (x ∷ xs) ys none = absurd (cc)
-
--- one of acts that take no step takes none
-front_still : (front rest acts : List Act) → front ++ rest ≡ acts → steps_of acts ≡ [] → steps_of front ≡ []
-front_still front rest acts parts none = no_first (steps_of front) (steps_of rest) (sym (steps_of-append front rest) ∙ ap steps_of parts ∙ none)
-
--- one of a single act, but for that act, is empty
+-- one of a single act, but for all of it, is empty
 front_alone : (front : List Act) (act : Act) (rest : List Act) (x : Act) → front ++ act ∷ rest ≡ x ∷ [] → front ≡ []
 front_alone [] act rest x parts = refl
 front_alone (y ∷ []) act rest x parts = let none : act ∷ rest ≡ [] = cc in absurd (cc)

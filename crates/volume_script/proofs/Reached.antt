@@ -7,44 +7,12 @@ use Rattle.acts.specs.Acts.{Act, steps_of, text_of, next_steps}
 use Rattle.acts.proofs.Joins.{steps_of-append, text_of-append}
 use Rattle.cartridge_spec.specs.Writes.{changed_by}
 use Rattle.format_plan.proofs.Writing.{changed_by-append}
+use Rattle.store_laws.proofs.Fronts.{Past, Within, ends_in}
 use Rattle.store_laws.proofs.Keeping.{changed_by_acts}
 use Rattle.volume_script.specs.Script.{Did, acts_of}
 use Rattle.volume_script.proofs.Speaking.{AllSpeak, Speaks, front_prints_less, prints_some}
 
--- ---- fronts of acts
-
--- a front of two lists of acts ends within the first of them, ..
-record Within (front rest acts more : List Act) : Type 0 where
-  act : Act
-  behind : List Act
-  whole : front ++ act ∷ behind ≡ acts
-  rest_is : rest ≡ act ∷ (behind ++ more)
-
--- .. or has all of it
-record Past (front rest acts more : List Act) : Type 0 where
-  next : List Act
-  front_is : front ≡ acts ++ next
-  parts : next ++ rest ≡ more
-
-ends_in : (front rest acts more : List Act) → front ++ rest ≡ acts ++ more → Within front rest acts more ⊎ Past front rest acts more
-ends_in front rest [] more e = inr (record { next = front; front_is = refl; parts = e })
-ends_in [] rest (a ∷ acts) more e = inl (record { act = a; behind = acts; whole = refl; rest_is = e })
-ends_in (x ∷ front) rest (a ∷ acts) more e =
-    let head : x ≡ a = cc in
-    let tail : front ++ rest ≡ acts ++ more = cc in
-    elim (ends_in front rest acts more tail) [
-      | inl w ↦ inl (record {
-        act = w.act;
-        behind = w.behind;
-        whole = ap (λ (xs : List Act). x ∷ xs) w.whole ∙ ap (λ (y : Act). y ∷ acts) head;
-        rest_is = w.rest_is;
-      })
-      | inr p ↦ inr (record {
-        next = p.next;
-        front_is = ap (λ (xs : List Act). x ∷ xs) p.front_is ∙ ap (λ (y : Act). y ∷ (acts ++ p.next)) head;
-        parts = p.parts;
-      })
-    ]
+-- ---- texts and steps of fronts
 
 -- the text of a front and of the act behind it, and their steps
 front_text : (front : List Act) (act : Act) → length (text_of (front ++ act ∷ [])) ≡ length (text_of front) + length act.text
