@@ -1,5 +1,5 @@
 -- With which list a cartridge is mounted behind a front of the acts of a run.
-use Rattle.std.proofs.Common.{◌≡◌, ◌≢◌, ◌⊎◌, inl, inr, ℕ, zero, suc, ◌+◌, ◌≤◌, ◌^◌, Bool, true, false, cond, List, [], ◌∷◌, ◌++◌, length, drop, take, nat_lt, Option, Some, IsSomeAnd, refl, sym, ap, ◌∙◌, subst, arith, append-nil}
+use Rattle.std.proofs.Common.{◌≡◌, ◌≢◌, ◌⊎◌, inl, inr, ℕ, zero, suc, ◌+◌, ◌≤◌, Bool, true, false, cond, List, [], ◌∷◌, ◌++◌, length, drop, take, nat_lt, Option, Some, IsSomeAnd, refl, sym, ap, ◌∙◌, subst, arith, append-nil}
 use Rattle.qic_base.specs.Cartridge.{Cartridge}
 use Rattle.qic_base.specs.Step.{Step, Wear}
 use Rattle.acts.specs.Acts.{Act, steps_of, text_of}
@@ -11,14 +11,14 @@ use Rattle.cartridge_spec.specs.Volumes.{volume_length}
 use Rattle.cartridge_spec.specs.Writes.{changed_by}
 use Rattle.store_laws.specs.Listed.{IsListed, kept_of, listed_behind}
 use Rattle.store_laws.specs.Listing.{Lists}
-use Rattle.store_laws.proofs.Fronts.{Past, Within, ends_in, front_still, no_nil}
+use Rattle.store_laws.proofs.Fronts.{ends_in, front_still, no_nil}
 use Rattle.store_laws.proofs.Keeping.{changed_by_acts}
 use Rattle.store_laws.proofs.Listed.{append_listed, scrub_listed, wear_listed}
 use Rattle.store_laws.proofs.Listing.{append_front_lists, append_lists, scrub_lists, wear_lists}
 use Rattle.tape_script.specs.Generator.{made_length, made_bytes}
 use Rattle.volume_store.specs.Appending.{Kept, Taking, Fits, TooLong, TooShort, has_promised_room, room_in, silently, taking}
-use Rattle.made_volumes.specs.Items.{Item, AppendMade, WearSector, ScrubAll, SumVolume, made_name, made_entry, after_item, after_items, appending, wearing_volumes, summing, made_list}
-use Rattle.made_volumes.specs.Laws.{ListsWithMade, MadeAreListed, MakeLists}
+use Rattle.made_volumes.specs.Items.{Item, AppendMade, WearSector, ScrubAll, SumVolume, made_name, made_entry, after_items, appending, wearing_volumes, summing, made_list}
+use Rattle.made_volumes.specs.Laws.{MadeAreListed, MakeLists}
 use Rattle.made_volumes.specs.Machine.{Answer, Done, Full, Does, Runs, Makes, IsAppended, made_acts, made_answer}
 use Rattle.made_volumes.proofs.Answered.{append_prints_nothing, quiet_front}
 use Rattle.made_volumes.proofs.Outcomes.{made_behind}

@@ -37,8 +37,8 @@ pub fn a_run_with_room_is_carried_out()
     ensures { MadeWhereThereIsRoom }
 {}
 
-/// A run leaves a mounted cartridge mounted with its list and some of the made volumes behind it, whatever the sectors of its volumes
-/// hold: all of them where all was carried out, or something was printed.
+/// A run leaves a mounted cartridge mounted with its list and some of the made volumes behind it, whatever the sectors of
+/// its volumes hold: all of them where all was carried out, or something was printed.
 pub fn made_volumes_are_listed()
     ensures lists { MakeLists }
     ensures all { MadeAreListed }

@@ -81,7 +81,7 @@ module _ (c : Cartridge) (header : Header) (words : List ℕ) (table : List (Lis
   listed = mounted_listed c header words table entries whole mounts
 
   lists_still : Lists still header words entries
-  lists_still = settled_lists c header words table entries whole mounts
+  lists_still = settled_lists c header words table entries mounts
 
   reads_still : TableIs still table
   reads_still = (settled_keeps_table c table mounts.reads).table
@@ -165,10 +165,10 @@ module _ (c : Cartridge) (header : Header) (words : List ℕ) (table : List (Lis
         none_added front [] parts (inl other) =
             inr (λ bytes took. other (status_fits (room_in (kept_on c words table entries)) input bytes (ap (λ (have : ℕ). taking have None input) (sym same_room) ∙ took)))
         none_added front [] parts (inr quiet) = inr (λ bytes took.
-        let kept : Kept = kept_of still words entries table in
-        let e : Entry = entry_for kept name date bytes in
-        appended_line_is_some (length entries + 1) e.size e.start e.end
-        (sym (replied_text kept name date (reply_behind (length entries)) input bytes took) ∙ ap text_of (sym parts ∙ append-nil front) ∙ quiet))
+            let kept : Kept = kept_of still words entries table in
+            let e : Entry = entry_for kept name date bytes in
+            appended_line_is_some (length entries + 1) e.size e.start e.end
+            (sym (replied_text kept name date (reply_behind (length entries)) input bytes took) ∙ ap text_of (sym parts ∙ append-nil front) ∙ quiet))
 
         by_front : (xs : List Act) → xs ++ rest ≡ settling ∷ acts_by (kept_of still words entries table) input →
             (append_status (room_in (kept_on c words table entries)) input ≢ status.Done) ⊎ (text_of xs ≡ []) → ListsNow entries (effects (steps_of xs) (Some c))
@@ -219,7 +219,7 @@ pub record RanDone {T S K : Type 0} (t : tapes.Meaning T) (s : sources.Meaning S
   pub at : FrontDone outcome.acts text
   pub now : EachNow t old.tape new.tape (λ left. left ≡ effects (done_of outcome.acts text at) (Some c))
   -- where it was carried out, all of them
-  pub done : answer ≡ status.Done → (outcome.status ≡ status.Done) × (at ≡ inl (record { front = outcome.acts; rest = []; parts = append-nil outcome.acts; is_text = refl }))
+  pub done : answer ≡ status.Done → (outcome.status ≡ status.Done) × (done_of outcome.acts text at ≡ steps_of outcome.acts)
 
 ends_done : {T S K : Type 0} (t : tapes.Meaning T) (s : sources.Meaning S) (k : sinks.Meaning K) (command : Words) (old new : Outside T S K) (answer : Status) → Laws t s k old new → HasValues command →
     Ends t s k command old new answer → (c : Cartridge) → t.told old.tape ≡ Some (Some c) → answer ≢ status.TapeFault → RanDone t s k command old new answer c
@@ -536,7 +536,7 @@ lists_appends t s k words command old new answer laws spelled values ends = reco
           | inr done ↦
               let all = ran.done done in
               now_weaker t old.tape new.tape
-              (λ left is. subst (Made count) (sym (is ∙ ap (λ (at : FrontDone ran.outcome.acts ran.text). effects (done_of ran.outcome.acts ran.text at) (Some c)) all.1))
+              (λ left is. subst (Made count) (sym (is ∙ ap (λ (ss : List TapeStep). effects ss (Some c)) all.1))
               (make_lists_all seed count few c header map_words table entries whole was.mounts ran.outcome ran.plain all.0)) ran.now
         ];
       };

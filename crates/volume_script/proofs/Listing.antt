@@ -22,9 +22,9 @@ use Rattle.tape_script.specs.Input.{Item, IsItem, Ending, AtEnd, AtStop, AtFault
 use Rattle.volume_lines.specs.Lines.{lost_line, reply_behind}
 use Rattle.volume_store.specs.Appending.{Kept, Taking, Fits, TooLong, TooShort, room_in, taking}
 use Rattle.volume_script.specs.declared.refusal.Refusal.TheVariants as why
-use Rattle.volume_script.specs.Lines.{end_line, refusal_line}
+use Rattle.volume_script.specs.Lines.{refusal_line}
 use Rattle.volume_script.specs.Listing.{ItemsWearBehind, ListedBehind, ListedBetween, ListedNone, ListsAnswered, WearsBehind}
-use Rattle.volume_script.specs.Script.{Did, EndDoes, EndsEarly, Finds, GivesBack, ItemsDo, LineDoes, Meeting, Meets, Outcome, Refuses, ScriptDoes, acts_on, appended, cartridge_behind, entries_behind, kept_on, place_behind, refused, reply, taken_as}
+use Rattle.volume_script.specs.Script.{Did, EndDoes, Finds, GivesBack, ItemsDo, LineDoes, Meeting, Meets, Outcome, Refuses, ScriptDoes, acts_on, appended, cartridge_behind, entries_behind, kept_on, place_behind, refused, reply, taken_as}
 use Rattle.volume_script.proofs.Acts.{took_enough}
 use Rattle.volume_script.proofs.Outcomes.{replied, taken_listed}
 use Rattle.volume_script.proofs.Reached.{AllLeave, Reached, reached_behind, reached_between, reached_none}

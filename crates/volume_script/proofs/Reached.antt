@@ -1,5 +1,5 @@
 -- How many items are done after a stop among their acts, by how much was printed, whatever is said of the cartridge behind them.
-use Rattle.std.proofs.Common.{◌≡◌, ◌⊎◌, inl, inr, ℕ, zero, suc, ◌+◌, ◌-◌, ◌<◌, ◌≤◌, List, [], ◌∷◌, ◌++◌, length, take, Option, Some, refl, sym, ap, ◌∙◌, subst, arith, append_assoc, append-nil}
+use Rattle.std.proofs.Common.{◌≡◌, ◌⊎◌, inl, inr, ℕ, zero, suc, ◌+◌, ◌-◌, ◌<◌, ◌≤◌, List, [], ◌∷◌, ◌++◌, length, take, Option, Some, sym, ap, ◌∙◌, subst, arith, append_assoc, append-nil}
 use Rattle.std.proofs.lemmas.List.{length-append}
 use Rattle.qic_base.specs.Cartridge.{Cartridge}
 use Rattle.qic_base.specs.Step.{Step}
@@ -7,7 +7,7 @@ use Rattle.acts.specs.Acts.{Act, steps_of, text_of, next_steps}
 use Rattle.acts.proofs.Joins.{steps_of-append, text_of-append}
 use Rattle.cartridge_spec.specs.Writes.{changed_by}
 use Rattle.format_plan.proofs.Writing.{changed_by-append}
-use Rattle.store_laws.proofs.Fronts.{Past, Within, ends_in}
+use Rattle.store_laws.proofs.Fronts.{ends_in}
 use Rattle.store_laws.proofs.Keeping.{changed_by_acts}
 use Rattle.volume_script.specs.Script.{Did, acts_of}
 use Rattle.volume_script.proofs.Speaking.{AllSpeak, Speaks, front_prints_less, prints_some}
