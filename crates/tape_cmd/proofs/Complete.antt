@@ -1,12 +1,11 @@
 -- A command is carried out where all is there that it needs.
-use Rattle.std.proofs.Common.{◌≡◌, ◌⊎◌, inl, inr, ℕ, ◌+◌, ◌≤◌, Bool, true, false, cond, List, length, min, Option, Some, None, refl, sym, ap, ◌∙◌, subst}
+use Rattle.std.proofs.Common.{◌≡◌, ◌⊎◌, inl, inr, ℕ, ◌+◌, ◌≤◌, Bool, true, cond, List, length, min, Option, Some, None, ap, ◌∙◌, subst}
 use Rattle.qic_base.specs.Cartridge.{Cartridge, IsCartridge, view_at}
 use Rattle.qic_base.specs.Tape.{spoil_answer}
 use Rattle.cartridge_spec.specs.Mounting.{Mounting, Mounts, settled}
-use Rattle.cartridge_spec.specs.Volumes.{Plain, Stands, entries_of}
+use Rattle.cartridge_spec.specs.Volumes.{Plain, entries_of}
 use Rattle.fresh_header.proofs.Front.{first_defect_is_none}
 use Rattle.format_plan.specs.Formatting.{HasNoDefectInFront}
-use Rattle.made_volumes.specs.Machine as made
 use Rattle.made_volumes.proofs.Complete.{made_where_there_is_room}
 use Rattle.mount_laws.specs.Laws.{mounted_as}
 use Rattle.mount_laws.proofs.Mounting.{mounts_is_function}
@@ -14,21 +13,19 @@ use Rattle.mount_laws.proofs.Standing.{standing_mounts}
 use Rattle.tape_pulses.specs.Pulses as pulses
 use Rattle.tape_script.specs.Input.{Item, Ending, AtEnd, AtStop, IsItem, IsPulse, IsPulses, IsScript}
 use Rattle.tape_script.proofs.Inputs as inputs
-use Rattle.tape_script.specs.declared.words.Words.{Words}
 use Rattle.tape_script.specs.declared.words.Words.TheVariants as words
 use Rattle.volume_script.specs.Script as scripts
 use Rattle.volume_store.specs.Appending.{room_in}
 use Rattle.tape_cmd.specs.declared.status.Status.{Status}
 use Rattle.tape_cmd.specs.declared.status.Status.TheVariants as status
 use Rattle.tape_cmd.specs.Append.{Appends, AppendOutcome, kept_on}
-use Rattle.tape_cmd.specs.Complete.{IsUnprotected, ReadsAs, CanTake, CanGive, CanMake, IsOfTrains, IsOfLines, CanBeDone}
+use Rattle.tape_cmd.specs.Complete.{IsUnprotected, ReadsAs, CanTake, CanGive, CanMake, IsOfTrains, IsOfLines}
 use Rattle.tape_cmd.specs.Defect.{DefectOutcome}
 use Rattle.tape_cmd.specs.Format.{FormatOutcome}
 use Rattle.tape_cmd.specs.Info.{telling}
 use Rattle.tape_cmd.specs.Laws.{DoneWhereAllIsThere}
 use Rattle.tape_cmd.specs.List.{listing}
 use Rattle.tape_cmd.specs.Lose.{LoseOutcome}
-use Rattle.tape_cmd.specs.Machine.{Yields, HasValues}
 use Rattle.tape_cmd.specs.Make.{Making, MakeOutcome, make_status}
 use Rattle.tape_cmd.specs.Opening.{Going, Opened, OpenOutcome, WritableOutcome, Printing, Shows}
 use Rattle.tape_cmd.specs.Outcome.{Outcome}

@@ -1,5 +1,5 @@
 -- What has to be there for a command to be carried out (this project's own).
-use Rattle.std.specs.Prelude.{◌≡◌, ◌⊎◌, ℕ, Bool, true, false, List, length, All, Option, IsSomeAnd}
+use Rattle.std.specs.Prelude.{◌≡◌, ◌⊎◌, ℕ, true, false, List, length, All, Option, IsSomeAnd}
 use Rattle.qic_base.specs.Cartridge.{Cartridge, view_at}
 use Rattle.qic_base.specs.Tape.{spoil_answer}
 use Rattle.append_plan.specs.Room.{has_room}
