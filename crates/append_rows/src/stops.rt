@@ -1,17 +1,13 @@
 //! Appends in which a call of the tape fails, as a stop would cut them short.
 
 use crate::runs::{appends, breaks_off, prints};
-use command_runs::told;
+use command_runs::{formatted_before, told};
 use drive_states::Unit;
 use qic_mem::{MemTape, Outcome};
 use std::alloc::Global;
 use std::process::Abort;
 use std::test::Fail;
 use tape_cmd::Status;
-
-/// The calls of the tape in `new 3`: the renewal, and the insertion; and in `format L`: the insertion; the reference
-/// bursts; each of the 84 segments formatted; each of their 2,688 sectors read; and 32 sectors of each copy written.
-const FORMATTED: u64 = 2 + 2 + 84 + 2688 + 64;
 
 // The calls of the tape in an append of no byte, counted from 0. A segment without a defect has 32 sectors, and each that
 // is read or written is a call. A table that is whole is not settled, so nothing is written in front of the volume.
@@ -59,30 +55,15 @@ volumes 9
 
 const OUTCOMES: [Outcome; 3] = [Outcome::Old, Outcome::Lost, Outcome::New];
 
-/// A cartridge of three segments per track, formatted, on a tape whose call fails that comes so many calls later.
-fn formatted_before(
-    rt: &impl Abort,
-    alloc: Global,
-    call: u64,
-    outcome: Outcome,
-) -> Result<Unit<MemTape>, Fail> {
-    let fails = FORMATTED.saturating_add(call);
-    let mut tape = MemTape::new(alloc, 3, [fails].to_vec(alloc)?)?;
-    tape.set_outcome(outcome);
-    let mut unit = Unit::new(tape);
-    prints(rt, alloc, &mut unit, &["new", "3"], b"blank 3\n");
-    prints(rt, alloc, &mut unit, &["format", "L"], b"formatted 84 0\n");
-    Ok(unit)
-}
-
-/// The same with eight volumes, which fill sector 0 of the table.
+/// A drive with a formatted cartridge and eight volumes, which fill sector 0 of the table. The tape's call fails that comes so
+/// many calls later, and then leaves this.
 pub fn eight_before(
     rt: &impl Abort,
     alloc: Global,
     call: u64,
     outcome: Outcome,
 ) -> Result<Unit<MemTape>, Fail> {
-    let mut unit = formatted_before(rt, alloc, (8 * CALLS).saturating_add(call), outcome)?;
+    let mut unit = formatted_before(alloc, (8 * CALLS).saturating_add(call), outcome)?;
     appends(rt, alloc, &mut unit, b"appended 1 0 3 3\n");
     appends(rt, alloc, &mut unit, b"appended 2 0 4 4\n");
     appends(rt, alloc, &mut unit, b"appended 3 0 5 5\n");
@@ -150,7 +131,7 @@ fn first_leaves(
     outcome: Outcome,
     volumes: &[u8],
 ) -> Result<bool, Fail> {
-    let mut unit = formatted_before(rt, alloc, call, outcome)?;
+    let mut unit = formatted_before(alloc, call, outcome)?;
     breaks_off(rt, alloc, &mut unit);
     Ok(lists(alloc, &mut unit, volumes))
 }
@@ -178,7 +159,7 @@ fn failing_tape(rt: HostRuntime) -> Result<(), Fail> {
 fn an_append_has_no_more_calls(rt: HostRuntime) -> Result<(), Fail> {
     let alloc = rt.alloc();
     // The last one is in `failing_tape`. The first call behind it is the insertion of the next command.
-    let mut unit = formatted_before(&rt, alloc, CALLS, Outcome::Old)?;
+    let mut unit = formatted_before(alloc, CALLS, Outcome::Old)?;
     appends(&rt, alloc, &mut unit, b"appended 1 0 3 3\n");
     breaks_off(&rt, alloc, &mut unit);
     prints(&rt, alloc, &mut unit, &["list"], ONE);

@@ -3,8 +3,8 @@
 #![tactic(auto)]
 
 use drive_states::Unit;
-use qic_base::{NoMemory, Tape};
-use qic_mem::{MemSink, MemSource, MemTape};
+use qic_base::{NoMemory, Source, Tape};
+use qic_mem::{MemSink, MemSource, MemTape, Outcome};
 use std::alloc::Global;
 use tape_cmd::{Status, run};
 
@@ -19,11 +19,11 @@ pub fn empty(alloc: Global, room: u16) -> Result<Unit<MemTape>, NoMemory> {
 }
 
 /// Runs the words over a unit, with this input.
-pub fn run_over<T: Tape>(
+pub fn run_over<T: Tape, S: Source>(
     alloc: Global,
     text: &[&str],
     unit: &mut Unit<T>,
-    source: &mut MemSource,
+    source: &mut S,
     sink: &mut MemSink,
 ) -> Result<Status, NoMemory> {
     let mut words = Vec::new(alloc);
@@ -44,12 +44,37 @@ pub fn run_words<T: Tape>(
     run_over(alloc, text, unit, &mut source, sink)
 }
 
+/// Puts in a cartridge of three segments per track, and formats it with the label `L`.
+fn format(alloc: Global, unit: &mut Unit<MemTape>) -> Result<(), NoMemory> {
+    let mut out = sink(alloc)?;
+    run_words(alloc, &["new", "3"], unit, &mut out)?;
+    run_words(alloc, &["format", "L"], unit, &mut out)?;
+    Ok(())
+}
+
 /// A drive with a cartridge of three segments per track, formatted by the commands with the label `L`.
 pub fn formatted(alloc: Global) -> Result<Unit<MemTape>, NoMemory> {
     let mut unit = empty(alloc, 3)?;
-    let mut out = sink(alloc)?;
-    run_words(alloc, &["new", "3"], &mut unit, &mut out)?;
-    run_words(alloc, &["format", "L"], &mut unit, &mut out)?;
+    format(alloc, &mut unit)?;
+    Ok(unit)
+}
+
+/// The calls of the tape in these commands. In `new 3`: the renewal, and the insertion; and in `format L`: the insertion;
+/// the reference bursts; each of the 84 segments formatted; each of their 2,688 sectors read; and 32 sectors of each copy
+/// written.
+const FORMATTED: u64 = 2 + 2 + 84 + 2688 + 64;
+
+/// The same drive on a tape whose call fails that comes so many calls later, and then leaves this.
+pub fn formatted_before(
+    alloc: Global,
+    call: u64,
+    outcome: Outcome,
+) -> Result<Unit<MemTape>, NoMemory> {
+    let fails = FORMATTED.saturating_add(call);
+    let mut tape = MemTape::new(alloc, 3, [fails].to_vec(alloc)?)?;
+    tape.set_outcome(outcome);
+    let mut unit = Unit::new(tape);
+    format(alloc, &mut unit)?;
     Ok(unit)
 }
 
