@@ -163,6 +163,23 @@ Zero bytes are a code block, as a stopped formatting leaves it, but no header. N
   $ tape cart.img info | sed -n 1p
   label B
 
+With both copies so there is no header, which `format` mends.
+
+  $ head -c 29696 /dev/zero | tr '\0' '\377' | dd of=cart.img bs=64 seek=639 conv=notrunc status=none
+  $ for command in info list 'restore 1' scrub; do tape cart.img $command; done
+  tape: the cartridge is not formatted
+  tape: the cartridge is not formatted
+  tape: the cartridge is not formatted
+  tape: the cartridge is not formatted
+  [6]
+  $ echo lost | tape cart.img append N
+  tape: the cartridge is not formatted
+  [6]
+  $ tape cart.img format C
+  formatted 84 0
+  $ tape cart.img info | sed -n 1p
+  label C
+
 And a cartridge that has no reference bursts is not formatted, whatever its headers are.
 
   $ cp whole.img cart.img

@@ -156,7 +156,7 @@ module _ (c : Cartridge) (header : Header) (words : List ℕ) (table : List (Lis
     lists_without input outcome front rest (inr (free, opened)) parts before =
         let is : outcome ≡ appended name date input c words table entries = went_on (Appends name date input) outcome opened in
         by_front front (parts ∙ ap (λ (o : Outcome). o.acts) is ∙ ap (λ (k : Kept). settling ∷ acts_by k input) (sym same_kept))
-        (elim before [ | inl other ↦ inl (λ done. other (ap (λ (o : Outcome). o.status) is ∙ done)) | inr quiet ↦ inr quiet ])
+        (elim before [ inl other ↦ inl (λ done. other (ap (λ (o : Outcome). o.status) is ∙ done)) | inr quiet ↦ inr quiet ])
       where
         -- an entry is written by the last act, which prints
         none_added : (front rest : List Act) → front ++ rest ≡ settling ∷ acts_by (kept_of still words entries table) input →
@@ -461,7 +461,7 @@ module _ (seed count : ℕ) (few : count ≤ 200) (c : Cartridge) (header : Head
           ap (λ (a : Act). effects (steps_of (a ∷ more)) (Some c)) (sym first) in (
             subst HasSome same (behind_some did.acts did.answer more rest did.makes behind),
             λ some. subst (HasMade count) same (behind_all did.acts did.answer more rest did.makes behind
-            (inr (λ none. some (is_text ∙ ap (λ (a : Act). text_of (a ∷ more)) first ∙ none)))),
+                (inr (λ none. some (is_text ∙ ap (λ (a : Act). text_of (a ∷ more)) first ∙ none)))),
           )
 
       by_part : (front : List Act) (act : Act) (rest : List Act) (said unsaid_text : List ℕ) → front ++ act ∷ rest ≡ quiet (settling_steps table c) ∷ did.acts → said ++ unsaid_text ≡ act.text →
@@ -481,7 +481,7 @@ module _ (seed count : ℕ) (few : count ≤ 200) (c : Cartridge) (header : Head
           ap (λ (ss : List TapeStep). effects ss (Some c)) (sym (with_act x more act first)) in (
             subst HasSome same (behind_some did.acts did.answer next rest did.makes all),
             λ some. subst (HasMade count) same (behind_all did.acts did.answer next rest did.makes all
-            (inr (λ none. some (is_text ∙ ap (λ (a : Act). text_of (a ∷ more) ++ said) first ∙ unsaid more act said unsaid_text written none)))),
+                (inr (λ none. some (is_text ∙ ap (λ (a : Act). text_of (a ∷ more) ++ said) first ∙ unsaid more act said unsaid_text written none)))),
           )
 
       by_at : (at : FrontDone outcome.acts text) → HasSome (effects (done_of outcome.acts text at) (Some c)) × (text ≢ [] → HasMade count (effects (done_of outcome.acts text at) (Some c)))
@@ -564,7 +564,7 @@ none_listed t k told words a x answer right after nothing no_fault none = record
     text = [];
     took = nothing;
     some = (0, omega arith, as_before c header map_words table entries was);
-    all = λ either. elim either [ | inl some ↦ absurd (some refl) | inr done ↦ absurd (never (inl done)) ];
+    all = λ either. elim either [ inl some ↦ absurd (some refl) | inr done ↦ absurd (never (inl done)) ];
   };
   scripted = λ c header map_words table entries was other script. record {
     text = [];
