@@ -54,7 +54,7 @@ taken_listed c words kept name date acts (TooLong need have) listed =
 taken_listed c words kept name date acts (TooShort promised read) listed = listed
 
 -- .. a restore, which takes no step
-pub given_listed : (c : Cartridge) (words : List ℕ) (entries : List Entry) (number : ℕ) (e : Entry) (parts : List Act) (ending : restoring.Ending) → steps_of parts ≡ [] →
+given_listed : (c : Cartridge) (words : List ℕ) (entries : List Entry) (number : ℕ) (e : Entry) (parts : List Act) (ending : restoring.Ending) → steps_of parts ≡ [] →
     IsListed c words entries →
     IsListed (changed_by (steps_of (given_as words entries number e parts ending).acts) c) words (given_as words entries number e parts ending).entries
 given_listed c words entries number e parts restoring.Restored none listed =
