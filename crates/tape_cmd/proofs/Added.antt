@@ -181,7 +181,7 @@ never_short have input asked read took = by_flag (nat_le 1 have && nat_le (lengt
 found_by_append : (name : List ℕ) (date : ℕ) (why : Status) → is_opening why ≡ true → may_come_from why (words.Append name date) ≡ true
 found_by_append name date status.NoCartridge sound = refl
 found_by_append name date status.NotFormatted sound = refl
-found_by_append name date (status.Foreign field value) sound = refl
+found_by_append name date (status.Foreign field value) sound = sound
 found_by_append name date (status.Lost segment lost) sound = sound
 found_by_append name date status.TableMismatch sound = refl
 found_by_append name date why sound = cc

@@ -128,7 +128,7 @@ making_first seed count c header ws table entries outcome found = ap (λ (o : Ou
 found_by_make : (seed count : ℕ) (why : Status) → is_opening why ≡ true → may_come_from why (words.Make seed count) ≡ true
 found_by_make seed count status.NoCartridge sound = refl
 found_by_make seed count status.NotFormatted sound = refl
-found_by_make seed count (status.Foreign field value) sound = refl
+found_by_make seed count (status.Foreign field value) sound = sound
 found_by_make seed count (status.Lost segment lost) sound = many_lost (nat_lt 3 lost) _ sound
   where
     many_lost : (a b : Bool) → (a && b) ≡ true → (a && true) ≡ true

@@ -2,6 +2,8 @@
 use Rattle.std.proofs.Common.{◌≡◌, ◌≢◌, ◌⊎◌, ℕ, ◌++◌, Bool, true, false, List, [], length, Option, Some, None, IfSome, IsSomeAnd, Result, Ok, Err, refl, sym, ap, ◌∙◌, subst, inl, inr, append-nil}
 use Rattle.qic_base.specs.Cartridge.{Cartridge}
 use Rattle.qic_base.specs.declared.tape.TapeInfo.{TapeInfo}
+use Rattle.qic_base.specs.declared.foreign.ForeignField.{ForeignField}
+use Rattle.qic_base.specs.declared.foreign.ForeignField.TheVariants as foreign_field
 use Rattle.qic_base.specs.declared.sink.SinkFailed.{SinkFailed}
 use Rattle.qic_base.specs.Sink as sinks
 use Rattle.qic_base.specs.Step.{Step as TapeStep}
@@ -14,10 +16,10 @@ use Rattle.mount_laws.proofs.Mounting.{mounts_is_function}
 use Rattle.volume_store.specs.declared.fault.StoreFault.{StoreFault}
 use Rattle.volume_store.specs.declared.fault.StoreFault.TheVariants as fault
 use Rattle.cartridge_spec.specs.Header.{fault_as}
-use Rattle.volume_store.specs.Finding.{is_of_mounting, NamesCause}
+use Rattle.volume_store.specs.Finding.{is_of_mounting, IsForeign, NamesCause}
 use Rattle.volume_store.proofs.Taking.{both_true}
-use Rattle.std.proofs.lemmas.Bool.{lt-ltb}
-use Rattle.std.specs.Prelude.{◌==◌, nat_lt}
+use Rattle.std.proofs.lemmas.Bool.{lt-ltb, ne_eqb}
+use Rattle.std.specs.Prelude.{◌==◌, nat_lt, not}
 use Rattle.volume_store.specs.Mounting.{StoreView, StoreFits, IsSettling, MountRefuses, MountDoes}
 use Rattle.volume_store.specs.Mounting as stores
 use Rattle.drive_states.specs.Unit.{UnitView}
@@ -31,7 +33,7 @@ use Rattle.tape_cmd.specs.declared.status.Status.{Status}
 use Rattle.tape_cmd.specs.declared.status.Status.TheVariants as status
 use Rattle.tape_cmd.specs.Lines.{list_text, info_text}
 use Rattle.tape_cmd.specs.Outcome.{Outcome, refused, acted, first_steps}
-use Rattle.tape_cmd.specs.Opening.{Going, Opened, OpenOutcome, WritableOutcome, IsRefusal, RefusesOpening, Printing, Shows, store_status, is_opening, StartFails, IsOpened, HasOpened, OpeningEnds, IsUnlocked, WritableEnds}
+use Rattle.tape_cmd.specs.Opening.{Going, Opened, OpenOutcome, WritableOutcome, IsRefusal, RefusesOpening, Printing, Shows, store_status, is_opening, is_refused, StartFails, IsOpened, HasOpened, OpeningEnds, IsUnlocked, WritableEnds}
 use Rattle.tape_cmd.specs.Info.{telling}
 use Rattle.tape_cmd.specs.List.{listing}
 use Rattle.tape_cmd.specs.Machine.{CommandPrints}
@@ -169,10 +171,24 @@ turned t a b c info f there did told sound = inl (record {
       (told_at_start t a b there.did (λ d. MountRefuses d f) told) (λ held known refuses. refuses_mounting info f held known refuses);
 })
 
+foreign_is_refused : (n : ℕ) (field : ForeignField) (value : ℕ) → IsForeign n field value → is_refused field value ≡ true
+foreign_is_refused n foreign_field.FormatCode value is = ap not (ne_eqb value 2 is)
+foreign_is_refused n foreign_field.FirstHeader value is = ap not (ne_eqb value 0 is)
+foreign_is_refused n foreign_field.SecondHeader value is = ap not (ne_eqb value 1 is)
+foreign_is_refused n foreign_field.FirstData value is = ap not (ne_eqb value 2 is)
+foreign_is_refused n foreign_field.LastData value is = refl
+foreign_is_refused n foreign_field.SegmentsPerTrack value is = refl
+foreign_is_refused n foreign_field.Tracks value is = ap not (ne_eqb value 28 is)
+foreign_is_refused n foreign_field.TrackMaximum value is = ap not (ne_eqb value 149 is)
+foreign_is_refused n foreign_field.SectorMaximum value is = ap not (ne_eqb value 128 is)
+foreign_is_refused n foreign_field.Map value is = lt-ltb value 3 is
+foreign_is_refused n foreign_field.Slot value is = lt-ltb value 232 is
+foreign_is_refused n foreign_field.Range value is = lt-ltb value 232 is
+
 pub open_failed : {T : Type 0} (A : Type 0) (n : ℕ) (t : tapes.Meaning T) (a b : T) (c : UnitView T) (info : TapeInfo) (f : StoreFault) → Present t a b info → MountDoes t b c.tape (Err f) → is_of_mounting f ≡ true →
     NamesCause {A = A} n (Err f) → OpeningEnds t a c (Err (store_status f))
 open_failed A n t a b c info fault.NotFormatted there does kind cause = turned t a b c info fault.NotFormatted there does.done does.told refl
-open_failed A n t a b c info (fault.Foreign field value) there does kind cause = turned t a b c info (fault.Foreign field value) there does.done does.told refl
+open_failed A n t a b c info (fault.Foreign field value) there does kind cause = turned t a b c info (fault.Foreign field value) there does.done does.told (foreign_is_refused n field value cause)
 open_failed A n t a b c info (fault.Lost segment lost) there does kind cause =
     turned t a b c info (fault.Lost segment lost) there does.done does.told
     (both_true (nat_lt 3 lost) (segment == 2) (lt-ltb 3 lost cause.1) (ap (λ (s : ℕ). s == 2) cause.0))
@@ -230,7 +246,7 @@ no_outcome why sound same = let no = ap is_opening same in cc
 found_by_list : (why : Status) → is_opening why ≡ true → may_come_from why words.List ≡ true
 found_by_list status.NoCartridge sound = refl
 found_by_list status.NotFormatted sound = refl
-found_by_list (status.Foreign field value) sound = refl
+found_by_list (status.Foreign field value) sound = sound
 found_by_list (status.Lost segment lost) sound = sound
 found_by_list status.TableMismatch sound = refl
 found_by_list why sound = cc
@@ -238,7 +254,7 @@ found_by_list why sound = cc
 found_by_info : (why : Status) → is_opening why ≡ true → may_come_from why words.Info ≡ true
 found_by_info status.NoCartridge sound = refl
 found_by_info status.NotFormatted sound = refl
-found_by_info (status.Foreign field value) sound = refl
+found_by_info (status.Foreign field value) sound = sound
 found_by_info (status.Lost segment lost) sound = sound
 found_by_info status.TableMismatch sound = refl
 found_by_info why sound = cc

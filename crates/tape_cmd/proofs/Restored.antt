@@ -57,7 +57,7 @@ none_sound entries (suc n) none =
 found_by_restore : (number : ℕ) (why : Status) → is_opening why ≡ true → may_come_from why (words.Restore number) ≡ true
 found_by_restore number status.NoCartridge sound = refl
 found_by_restore number status.NotFormatted sound = refl
-found_by_restore number (status.Foreign field value) sound = refl
+found_by_restore number (status.Foreign field value) sound = sound
 found_by_restore number (status.Lost segment lost) sound = both_true (nat_lt 3 lost) true (left_of (nat_lt 3 lost) (segment == 2) sound) refl
 found_by_restore number status.TableMismatch sound = refl
 found_by_restore number why sound = cc

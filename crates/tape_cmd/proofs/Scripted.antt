@@ -73,7 +73,7 @@ told_input (Some bytes) input P told is = subst P told is
 found_by_script : (why : Status) → is_opening why ≡ true → may_come_from why words.Script ≡ true
 found_by_script status.NoCartridge sound = refl
 found_by_script status.NotFormatted sound = refl
-found_by_script (status.Foreign field value) sound = refl
+found_by_script (status.Foreign field value) sound = sound
 found_by_script (status.Lost segment lost) sound = sound
 found_by_script status.TableMismatch sound = refl
 found_by_script why sound = cc

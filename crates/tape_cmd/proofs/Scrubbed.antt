@@ -39,7 +39,7 @@ mends_first c header ws table entries outcome found = ap (λ (o : Outcome). firs
 found_by_scrub : (why : Status) → is_opening why ≡ true → may_come_from why words.Scrub ≡ true
 found_by_scrub status.NoCartridge sound = refl
 found_by_scrub status.NotFormatted sound = refl
-found_by_scrub (status.Foreign field value) sound = refl
+found_by_scrub (status.Foreign field value) sound = sound
 found_by_scrub (status.Lost segment lost) sound = sound
 found_by_scrub status.TableMismatch sound = refl
 found_by_scrub why sound = cc

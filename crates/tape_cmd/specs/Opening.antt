@@ -1,6 +1,8 @@
 -- How the opening of a cartridge ends: refused, or with its table settled and what was found (this project's own).
-use Rattle.std.specs.Prelude.{◌≡◌, ◌⊎◌, ℕ, ◌&&◌, ◌==◌, nat_lt, Bool, true, false, List, [], Option, Some, None, IfSome, IsSomeAnd, Result, Ok, Err}
+use Rattle.std.specs.Prelude.{◌≡◌, ◌⊎◌, ℕ, ◌&&◌, ◌==◌, nat_lt, Bool, true, false, not, List, [], Option, Some, None, IfSome, IsSomeAnd, Result, Ok, Err}
 use Rattle.qic_base.specs.Cartridge.{Cartridge}
+use Rattle.qic_base.specs.declared.foreign.ForeignField.{ForeignField}
+use Rattle.qic_base.specs.declared.foreign.ForeignField.TheVariants.{FormatCode, FirstHeader, SecondHeader, FirstData, LastData, SegmentsPerTrack, Tracks, TrackMaximum, SectorMaximum, Map, Slot, Range}
 use Rattle.qic_base.specs.Step.{Step}
 use Rattle.qic_base.specs.Tape.{Meaning, Done, Broke, Tells}
 use Rattle.cartridge_spec.specs.Header.{Header, HeaderFault}
@@ -94,11 +96,27 @@ store_status fault.Sink = status.SinkFault
 store_status (fault.Short promised read) = status.TapeFault
 store_status fault.Tape = status.TapeFault
 
+-- A drive that reports some number of segments per track refuses such a value of this field. Two fields go by that number, so that
+-- each value of theirs is refused by some; of the map the value is a segment in front, of the table a slot's number.
+abbrev pub is_refused : ForeignField → (value : ℕ) → Bool
+is_refused FormatCode value = not (value == 2)
+is_refused FirstHeader value = not (value == 0)
+is_refused SecondHeader value = not (value == 1)
+is_refused FirstData value = not (value == 2)
+is_refused LastData value = true
+is_refused SegmentsPerTrack value = true
+is_refused Tracks value = not (value == 28)
+is_refused TrackMaximum value = not (value == 149)
+is_refused SectorMaximum value = not (value == 128)
+is_refused Map value = nat_lt value 3
+is_refused Slot value = nat_lt value 232
+is_refused Range value = nat_lt value 232
+
 -- an answer to what an opening finds
 abbrev pub is_opening : Status → Bool
 is_opening status.NoCartridge = true
 is_opening status.NotFormatted = true
-is_opening (status.Foreign field value) = true
+is_opening (status.Foreign field value) = is_refused field value
 is_opening (status.Lost segment lost) = nat_lt 3 lost && segment == 2
 is_opening status.TableMismatch = true
 is_opening answer = false

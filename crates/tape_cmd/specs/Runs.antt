@@ -11,6 +11,7 @@ use Rattle.tape_script.specs.declared.words.Words.{Words}
 use Rattle.tape_script.specs.declared.words.Words.TheVariants as words
 use Rattle.tape_cmd.specs.declared.status.Status.{Status}
 use Rattle.tape_cmd.specs.declared.status.Status.TheVariants as status
+use Rattle.tape_cmd.specs.Opening.{is_refused}
 use Rattle.tape_cmd.specs.Outcome.{Outcome, output_of}
 use Rattle.tape_cmd.specs.Traits.{traits_of}
 use Rattle.tape_cmd.specs.Machine.{Yields, CommandPrints, FrontPrints, RefusedPrints, HasInputFault}
@@ -69,7 +70,8 @@ is_full (words.Make seed count) need have = nat_lt have need
 is_full command need have = false
 
 -- the commands that such an answer may come from, and with which numbers, whatever the tape and the source tell: a segment
--- that doesn't read lost more than three sectors, and is that of the volume table but for commands that give volumes back
+-- that doesn't read lost more than three sectors, and is that of the volume table but for commands that give volumes back; a foreign
+-- value is not the one that its field has to have
 abbrev pub may_come_from : Status → Words → Bool
 may_come_from status.Done command = true
 may_come_from (status.ScriptFault line place) command = (traits_of command).lines
@@ -78,7 +80,7 @@ may_come_from status.NotFormatted command = (traits_of command).mounts
 may_come_from status.Protected command = (traits_of command).writable
 may_come_from status.BadPlace command = (traits_of command).sector
 may_come_from status.NotBlank command = (traits_of command).blank
-may_come_from (status.Foreign field value) command = (traits_of command).mounts
+may_come_from (status.Foreign field value) command = (traits_of command).mounts && is_refused field value
 may_come_from (status.Lost segment lost) command =
     (traits_of command).mounts && (nat_lt 3 lost && ((traits_of command).restores || segment == 2))
 may_come_from (status.DefectInFront segment) command = (traits_of command).formats
