@@ -31,9 +31,9 @@ use Rattle.tape_script.specs.declared.words.Words.TheVariants as commands
 use Rattle.tape_script.proofs.Commands.{one_command}
 use Rattle.volume_lines.specs.Lines.{reply_behind}
 use Rattle.volume_script.specs.Script as scripts
-use Rattle.volume_script.specs.Script.{ScriptDoes}
+use Rattle.volume_script.specs.Script.{ScriptDoes, entries_behind}
 use Rattle.volume_script.specs.Listing.{ListsAnswered}
-use Rattle.volume_script.proofs.Listing.{listed_behind_act, listed_between, listed_none}
+use Rattle.volume_script.proofs.Listing.{listed_behind_act, listed_between, listed_done, listed_none}
 use Rattle.volume_script.proofs.MachineLaws.{one_outcome as one_script}
 use Rattle.volume_store.specs.Appending.{Kept, Taking, Fits, TooLong, append_acts, entry_for, kept_in, room_in, taking}
 use Rattle.tape_cmd.specs.declared.status.Status.{Status}
@@ -337,54 +337,61 @@ module _ (told : Option (List ℕ)) (spoken : List (List ℕ)) (c : Cartridge) (
       (subst (λ (xs : List ℕ). Answered xs (Some d)) (sym none)
       (listed_none (still c header words table entries whole mounts) d header words entries script.input script.outcome script.does lists))
 
-  script_lists : (input : List ℕ) (outcome : Outcome) (text : List ℕ) (at : FrontDone outcome.acts text) → input ≡ script.input → ScriptOutcome (Some c) input outcome →
-      Answered text (effects (done_of outcome.acts text at) (Some c))
-  script_lists input outcome text at same opened = by_front at
-    where
-      did : ScriptsOn input c words table entries outcome
-      did = went_on c header words table entries whole mounts (Scripting input) outcome opened
+  module _ (input : List ℕ) (outcome : Outcome) (same : input ≡ script.input) (opened : ScriptOutcome (Some c) input outcome) where
+    did : ScriptsOn input c words table entries outcome
+    did = went_on c header words table entries whole mounts (Scripting input) outcome opened
 
-      one : did.came ≡ script.outcome
-      one = one_script (settled table c) words entries script.input did.came script.outcome
-          (subst (λ (i : List ℕ). ScriptDoes (settled table c) words entries i did.came) same did.does) script.does
+    one : did.came ≡ script.outcome
+    one = one_script (settled table c) words entries script.input did.came script.outcome
+        (subst (λ (i : List ℕ). ScriptDoes (settled table c) words entries i did.came) same did.does) script.does
 
-      acts : outcome.acts ≡ quiet (settling_steps table c) ∷ script.outcome.acts
-      acts = ap (λ (o : Outcome). o.acts) did.is ∙ ap (λ (o : scripts.Outcome). quiet (settling_steps table c) ∷ o.acts) one
+    acts : outcome.acts ≡ quiet (settling_steps table c) ∷ script.outcome.acts
+    acts = ap (λ (o : Outcome). o.acts) did.is ∙ ap (λ (o : scripts.Outcome). quiet (settling_steps table c) ∷ o.acts) one
 
-      by_whole : (front rest : List Act) → front ++ rest ≡ quiet (settling_steps table c) ∷ script.outcome.acts → text ≡ text_of front → Answered text (effects (steps_of front) (Some c))
-      by_whole [] rest parts is = nothing_said c text (Some c) is (table, mounts) refl
-      by_whole (x ∷ more) rest parts is =
-          let first : x ≡ quiet (settling_steps table c) = cc in
-          let behind : more ++ rest ≡ script.outcome.acts = cc in
-          subst (λ (xs : List ℕ). Answered xs (effects (steps_of (x ∷ more)) (Some c))) (sym (is ∙ ap (λ (a : Act). text_of (a ∷ more)) first))
-          (listed_between (settled table c) header words entries script.input script.outcome more rest (effects (steps_of (x ∷ more)) (Some c)) (lists_still c header words table entries whole mounts)
-          (listed c header words table entries whole mounts) script.does script.behind behind
-          (ap (λ (a : Act). effects (steps_of (a ∷ more)) (Some c)) first ∙ behind_acts c header words table entries whole mounts more))
+    -- once it was carried out those of all lines are there
+    script_lists_all : IsSomeAnd (effects (steps_of outcome.acts) (Some c)) (λ d. Lists d header words (entries_behind entries script.does.dids))
+    script_lists_all =
+        listed_done (settled table c) header words entries script.input script.outcome (effects (steps_of outcome.acts) (Some c))
+        (lists_still c header words table entries whole mounts) (listed c header words table entries whole mounts) script.does script.behind
+        (ap (λ (xs : List Act). effects (steps_of xs) (Some c)) acts ∙ behind_acts c header words table entries whole mounts script.outcome.acts)
 
-      by_part : (front : List Act) (act : Act) (rest : List Act) (some more_text : List ℕ) → front ++ act ∷ rest ≡ quiet (settling_steps table c) ∷ script.outcome.acts → some ++ more_text ≡ act.text →
-          text ≡ text_of front ++ some → Answered text (effects (steps_of front ++ act.steps) (Some c))
-      by_part [] act rest some more_text parts written is =
-          let first : act ≡ quiet (settling_steps table c) = cc in
-          nothing_said (settled table c) text (effects act.steps (Some c)) (is ∙ no_text some more_text (written ∙ ap (λ (a : Act). a.text) first)) (lists_still c header words table entries whole mounts)
-          (ap (λ (a : Act). effects a.steps (Some c)) first ∙ now_settled c header words table entries whole mounts)
-      by_part (x ∷ more) act rest some more_text parts written is =
-          let first : x ≡ quiet (settling_steps table c) = cc in
-          let behind : more ++ act ∷ rest ≡ script.outcome.acts = cc in
-          let texts : length text ≡ length (text_of more) + length some =
-          ap length (is ∙ ap (λ (a : Act). text_of (a ∷ more) ++ some) first) ∙ length-append (text_of more) some in
-          let act_text : length act.text ≡ length some + length more_text = ap length (sym written) ∙ length-append some more_text in
-          listed_behind_act (settled table c) header words entries script.input script.outcome more act rest (effects (steps_of (x ∷ more) ++ act.steps) (Some c)) (length text)
-          (lists_still c header words table entries whole mounts) (listed c header words table entries whole mounts) script.does script.behind behind
-          (ap (λ (a : Act). effects (steps_of (a ∷ more) ++ act.steps) (Some c)) first
-          ∙ ap (λ (ss : List TapeStep). effects ss (Some c)) (append_assoc (settling_steps table c) (steps_of more) act.steps)
-          ∙ effects-append (settling_steps table c) (steps_of more ++ act.steps) (Some c)
-          ∙ ap (effects (steps_of more ++ act.steps)) (now_settled c header words table entries whole mounts)
-          ∙ effects-some (steps_of more ++ act.steps) (settled table c))
-          (omega arith) (omega arith)
+    script_lists : (text : List ℕ) (at : FrontDone outcome.acts text) → Answered text (effects (done_of outcome.acts text at) (Some c))
+    script_lists text at = by_front at
+      where
+        by_whole : (front rest : List Act) → front ++ rest ≡ quiet (settling_steps table c) ∷ script.outcome.acts → text ≡ text_of front → Answered text (effects (steps_of front) (Some c))
+        by_whole [] rest parts is = nothing_said c text (Some c) is (table, mounts) refl
+        by_whole (x ∷ more) rest parts is =
+            let first : x ≡ quiet (settling_steps table c) = cc in
+            let behind : more ++ rest ≡ script.outcome.acts = cc in
+            subst (λ (xs : List ℕ). Answered xs (effects (steps_of (x ∷ more)) (Some c))) (sym (is ∙ ap (λ (a : Act). text_of (a ∷ more)) first))
+            (listed_between (settled table c) header words entries script.input script.outcome more rest (effects (steps_of (x ∷ more)) (Some c)) (lists_still c header words table entries whole mounts)
+            (listed c header words table entries whole mounts) script.does script.behind behind
+            (ap (λ (a : Act). effects (steps_of (a ∷ more)) (Some c)) first ∙ behind_acts c header words table entries whole mounts more))
 
-      by_front : (at : FrontDone outcome.acts text) → Answered text (effects (done_of outcome.acts text at) (Some c))
-      by_front (inl w) = by_whole w.front w.rest (w.parts ∙ acts) w.is_text
-      by_front (inr p) = by_part p.front p.act p.rest p.some p.more (p.parts ∙ acts) p.written p.is_text
+        by_part : (front : List Act) (act : Act) (rest : List Act) (some more_text : List ℕ) → front ++ act ∷ rest ≡ quiet (settling_steps table c) ∷ script.outcome.acts → some ++ more_text ≡ act.text →
+            text ≡ text_of front ++ some → Answered text (effects (steps_of front ++ act.steps) (Some c))
+        by_part [] act rest some more_text parts written is =
+            let first : act ≡ quiet (settling_steps table c) = cc in
+            nothing_said (settled table c) text (effects act.steps (Some c)) (is ∙ no_text some more_text (written ∙ ap (λ (a : Act). a.text) first)) (lists_still c header words table entries whole mounts)
+            (ap (λ (a : Act). effects a.steps (Some c)) first ∙ now_settled c header words table entries whole mounts)
+        by_part (x ∷ more) act rest some more_text parts written is =
+            let first : x ≡ quiet (settling_steps table c) = cc in
+            let behind : more ++ act ∷ rest ≡ script.outcome.acts = cc in
+            let texts : length text ≡ length (text_of more) + length some =
+            ap length (is ∙ ap (λ (a : Act). text_of (a ∷ more) ++ some) first) ∙ length-append (text_of more) some in
+            let act_text : length act.text ≡ length some + length more_text = ap length (sym written) ∙ length-append some more_text in
+            listed_behind_act (settled table c) header words entries script.input script.outcome more act rest (effects (steps_of (x ∷ more) ++ act.steps) (Some c)) (length text)
+            (lists_still c header words table entries whole mounts) (listed c header words table entries whole mounts) script.does script.behind behind
+            (ap (λ (a : Act). effects (steps_of (a ∷ more) ++ act.steps) (Some c)) first
+            ∙ ap (λ (ss : List TapeStep). effects ss (Some c)) (append_assoc (settling_steps table c) (steps_of more) act.steps)
+            ∙ effects-append (settling_steps table c) (steps_of more ++ act.steps) (Some c)
+            ∙ ap (effects (steps_of more ++ act.steps)) (now_settled c header words table entries whole mounts)
+            ∙ effects-some (steps_of more ++ act.steps) (settled table c))
+            (omega arith) (omega arith)
+
+        by_front : (at : FrontDone outcome.acts text) → Answered text (effects (done_of outcome.acts text at) (Some c))
+        by_front (inl w) = by_whole w.front w.rest (w.parts ∙ acts) w.is_text
+        by_front (inr p) = by_part p.front p.act p.rest p.some p.more (p.parts ∙ acts) p.written p.is_text
 
 -- ---- `make`
 
@@ -543,13 +550,17 @@ lists_appends t s k words command old new answer laws spelled values ends = reco
   scripted = λ c header map_words table entries was other script.
       let ran = ends_done t s k commands.Script old new answer laws tt
       (subst (λ (w : Words). Ends t s k w old new answer) (one_command words command commands.Script spelled script.spelled) ends) c was.told other in
-      let whole : IsCartridge c = told_whole (Some c) (t.told old.tape) (t.size old.tape) laws.right was.told in record {
+      let whole : IsCartridge c = told_whole (Some c) (t.told old.tape) (t.size old.tape) laws.right was.told in
+      let same : ran.input ≡ script.input = same_told (s.left old.source) script.input ran.input script.is_told ran.is_told in record {
         text = ran.text;
         took = ran.took;
         lists = now_weaker t old.tape new.tape
             (λ left is. subst (ListsAnswered header map_words entries script.does.items script.does.dids (length ran.text)) (sym is)
-            (script_lists (s.left old.source) words c header map_words table entries whole was.mounts script ran.input ran.outcome ran.text ran.at
-            (same_told (s.left old.source) script.input ran.input script.is_told ran.is_told) ran.plain)) ran.now;
+            (script_lists (s.left old.source) words c header map_words table entries whole was.mounts script ran.input ran.outcome same ran.plain ran.text ran.at)) ran.now;
+        all = λ done. now_weaker t old.tape new.tape
+            (λ left is. subst (λ (o : Option Cartridge). IsSomeAnd o (λ d. Lists d header map_words (entries_behind entries script.does.dids)))
+            (sym (is ∙ ap (λ (ss : List TapeStep). effects ss (Some c)) (ran.done done).1))
+            (script_lists_all (s.left old.source) words c header map_words table entries whole was.mounts script ran.input ran.outcome same ran.plain)) ran.now;
       };
 }
 
@@ -572,6 +583,7 @@ none_listed t k told words a x answer right after nothing no_fault none = record
     lists = told_now t a a (ListsAnswered header map_words entries script.does.items script.does.dids 0) after refl
         (subst (λ (o : Option (Option Cartridge)). IsSomeAnd o (ListsAnswered header map_words entries script.does.items script.does.dids 0)) (sym was.told)
         (listed_none (settled table c) c header map_words entries script.input script.outcome script.does (table, was.mounts)));
+    all = λ done. absurd (never (inl done));
   };
 }
   where

@@ -12,7 +12,7 @@ use Rattle.store_laws.specs.Listing.{Lists}
 use Rattle.tape_script.specs.declared.words.Words.TheVariants as commands
 use Rattle.volume_script.specs.Listing.{ItemsWearBehind, ListsAnswered}
 use Rattle.volume_script.specs.Script as scripts
-use Rattle.volume_script.specs.Script.{ScriptDoes}
+use Rattle.volume_script.specs.Script.{ScriptDoes, entries_behind}
 use Rattle.volume_store.specs.Appending.{entry_for, kept_in}
 use Rattle.tape_cmd.specs.declared.status.Status.{Status}
 use Rattle.tape_cmd.specs.declared.status.Status.TheVariants as status
@@ -51,11 +51,13 @@ pub record ScriptsOver (told : Option (List ℕ)) (words : List (List ℕ)) (c :
   pub does : ScriptDoes (settled table c) map_words entries input outcome
   pub behind : ItemsWearBehind does.items
 
--- the list with the appends of its first lines: all whose reply was written whole, and at most one more
-pub record ListsScripted {T K : Type 0} (t : tapes.Meaning T) (k : sinks.Meaning K) {told : Option (List ℕ)} {words : List (List ℕ)} {c : Cartridge} {map_words : List ℕ} {table : List (List ℕ)} {entries : List Entry} (old new : T) (before behind : K) (header : Header) (script : ScriptsOver told words c map_words table entries) : Type 0 where
+-- the list with the appends of its first lines: all whose reply was written whole, and at most one more; and all lines, where it was
+-- carried out
+pub record ListsScripted {T K : Type 0} (t : tapes.Meaning T) (k : sinks.Meaning K) {told : Option (List ℕ)} {words : List (List ℕ)} {c : Cartridge} {map_words : List ℕ} {table : List (List ℕ)} {entries : List Entry} (old new : T) (before behind : K) (answer : Status) (header : Header) (script : ScriptsOver told words c map_words table entries) : Type 0 where
   pub text : List ℕ
   pub took : k.took before text behind
   pub lists : EachNow t old new (ListsAnswered header map_words entries script.does.items script.does.dids (length text))
+  pub all : answer ≡ status.Done → NowLists t old new header map_words (entries_behind entries script.does.dids)
 
 -- When a run is over that no fault of the tape ended, the cartridge is mounted with the old list and the appends that were carried
 -- out: that of `append` after Done and after a fault of the sink; those of the made volumes; those of the script's lines.
@@ -71,4 +73,4 @@ pub record ListsAppends {T K : Type 0} (t : tapes.Meaning T) (k : sinks.Meaning 
       ListsMade t k old new before behind answer header map_words entries seed count
   pub scripted : (c : Cartridge) (header : Header) (map_words : List ℕ) (table : List (List ℕ)) (entries : List Entry) →
       WasListed t old c header map_words table entries → answer ≢ status.TapeFault → (script : ScriptsOver told words c map_words table entries) →
-      ListsScripted t k old new before behind header script
+      ListsScripted t k old new before behind answer header script

@@ -1,8 +1,10 @@
 -- With which list a cartridge is mounted behind some items of a script, and which of these were answered.
 use Rattle.std.proofs.Common.{◌≡◌, ◌≢◌, ◌⊎◌, inl, inr, ℕ, ◌+◌, ◌<◌, ◌≤◌, ◌^◌, false, List, [], ◌∷◌, ◌++◌, length, take, drop, Option, Some, IsSomeAnd, refl, sym, ap, ◌∙◌, subst, arith, append-nil}
+use Rattle.std.proofs.lemmas.List.{length-append, take_all}
 use Rattle.qic_base.specs.Cartridge.{Cartridge}
 use Rattle.qic_base.specs.Step.{Step, Wear}
 use Rattle.acts.specs.Acts.{Act, steps_of, text_of}
+use Rattle.acts.proofs.Joins.{text_of-append}
 use Rattle.cartridge_spec.specs.Header.{Header}
 use Rattle.cartridge_spec.specs.HeaderAndTable.{TableIs}
 use Rattle.cartridge_spec.specs.Table.{Entry}
@@ -23,8 +25,8 @@ use Rattle.volume_lines.specs.Lines.{lost_line, reply_behind}
 use Rattle.volume_store.specs.Appending.{Kept, Taking, Fits, TooLong, TooShort, room_in, taking}
 use Rattle.volume_script.specs.declared.refusal.Refusal.TheVariants as why
 use Rattle.volume_script.specs.Lines.{refusal_line}
-use Rattle.volume_script.specs.Listing.{ItemsWearBehind, ListedBehind, ListedBetween, ListedNone, ListsAnswered, WearsBehind}
-use Rattle.volume_script.specs.Script.{Did, EndDoes, Finds, GivesBack, ItemsDo, LineDoes, Meeting, Meets, Outcome, Refuses, ScriptDoes, acts_on, appended, cartridge_behind, entries_behind, kept_on, place_behind, refused, reply, taken_as}
+use Rattle.volume_script.specs.Listing.{ItemsWearBehind, ListedBehind, ListedBetween, ListedDone, ListedNone, ListsAnswered, WearsBehind}
+use Rattle.volume_script.specs.Script.{Did, EndDoes, Finds, GivesBack, ItemsDo, LineDoes, Meeting, Meets, Outcome, Refuses, ScriptDoes, acts_of, acts_on, appended, cartridge_behind, entries_behind, kept_on, place_behind, refused, reply, taken_as}
 use Rattle.volume_script.proofs.Acts.{took_enough}
 use Rattle.volume_script.proofs.Outcomes.{replied, taken_listed}
 use Rattle.volume_script.proofs.Reached.{AllLeave, Reached, reached_behind, reached_between, reached_none}
@@ -178,7 +180,7 @@ module _ (c : Cartridge) (header : Header) (words : List ℕ) (entries : List En
   line_lists line.Scrub bytes did labelled behind (inr (free, (acts, scrubs, is))) = subst (ItemLists c header words entries) (sym is) (scrubs_lists acts free scrubs)
   line_lists (line.Lose segment sector) bytes did labelled behind (inl (none, is)) = still_lists did (ap (λ (d : Did). steps_of d.acts) is) (ap (λ (d : Did). d.entries) is)
   line_lists (line.Lose segment sector) bytes did labelled behind (inr (place, is)) =
-      subst (ItemLists c header words entries) (sym is) (lose_lists segment sector behind place.in_segment)
+      subst (ItemLists c header words entries) (sym is) (lose_lists segment sector (behind place.in_segment) place.in_segment)
   line_lists line.End bytes did labelled behind never = absurd never
 
   -- ---- the last acts
@@ -258,6 +260,24 @@ listed_behind_act c header words entries input outcome front act rest left print
     lists_answered c header words entries does.items does.dids printed left does.did
     (reached_behind Stays (λ ss d. refl) (ListsBehind header words entries does.dids) does.dids c does.last front act rest left printed (script_speaks c words entries input outcome does)
     (script_lists c header words entries input outcome lists listed does behind) (parts ∙ ap (λ (o : Outcome). o.acts) does.is) is above below)
+
+-- what items print is within what they and other acts print
+texts_within : (dids : List Did) (last : List Act) → length (text_of (acts_of dids)) ≤ length (text_of (acts_of dids ++ last))
+texts_within dids last =
+    let split = ap length (text_of-append (acts_of dids) last) ∙ length-append (text_of (acts_of dids)) (text_of last) in omega arith
+
+pub listed_done : ListedDone
+listed_done c header words entries input outcome left lists listed does behind is =
+    let between : ListsAnswered header words entries does.items does.dids (length (text_of outcome.acts)) left =
+    listed_between c header words entries input outcome outcome.acts [] left lists listed does behind (append-nil outcome.acts) is in
+    let long : length does.dids ≡ length does.items = as_many does.items does.dids c words entries does.did in
+    let first : take (length does.items) does.dids ≡ does.dids = take_all (length does.items) does.dids (omega arith) in
+    let acts : acts_of does.dids ++ does.last ≡ outcome.acts = sym (ap (λ (o : Outcome). o.acts) does.is) in
+    let texts : length (text_of (acts_of does.dids)) ≤ length (text_of outcome.acts) =
+    subst (λ (xs : List Act). length (text_of (acts_of does.dids)) ≤ length (text_of xs)) acts (texts_within does.dids does.last) in
+    let all : length does.items ≤ between.count =
+    between.answered (length does.items) (omega arith) (subst (λ (ds : List Did). length (text_of (acts_of ds)) ≤ length (text_of outcome.acts)) (sym first) texts) in
+    subst (λ (ds : List Did). IsSomeAnd left (λ d. Lists d header words (entries_behind entries ds))) (take_all between.count does.dids (omega arith)) between.lists
 
 pub listed_none : ListedNone
 listed_none c d header words entries input outcome does lists =

@@ -1,5 +1,5 @@
 -- What a script leaves of a mounted cartridge, whatever the sectors of its volumes hold, as facts (this project's own).
-use Rattle.std.specs.Prelude.{◌≡◌, ℕ, suc, ◌+◌, ◌≤◌, List, [], ◌∷◌, ◌++◌, length, take, Option, Some, IsSomeAnd}
+use Rattle.std.specs.Prelude.{◌≡◌, ℕ, suc, ◌+◌, ◌<◌, ◌≤◌, List, [], ◌∷◌, ◌++◌, length, take, Option, Some, IsSomeAnd}
 use Rattle.qic_base.specs.Cartridge.{Cartridge}
 use Rattle.acts.specs.Acts.{Act, steps_of, text_of}
 use Rattle.cartridge_spec.specs.Header.{Header}
@@ -12,9 +12,9 @@ use Rattle.tape_script.specs.declared.line.Line.TheVariants as line
 use Rattle.tape_script.specs.Input.{Item}
 use Rattle.volume_script.specs.Script.{Did, Outcome, ScriptDoes, acts_of, entries_behind}
 
--- a sector that a line wears lies behind the table's segment
+-- a sector that a line wears lies behind the table's segment; each cartridge has the segments in front
 abbrev pub WearsBehind : Line → Type 0
-WearsBehind (line.Lose segment sector) = 3 ≤ segment
+WearsBehind (line.Lose segment sector) = sector < 32 → 3 ≤ segment
 WearsBehind other = Unit {0}
 
 abbrev pub ItemsWearBehind : List Item → Type 0
@@ -48,6 +48,15 @@ ListedBehind =
     front ++ act ∷ rest ≡ outcome.acts → left ≡ Some (changed_by (steps_of front ++ act.steps) c) →
     length (text_of front) ≤ printed → printed ≤ length (text_of front) + length act.text →
     ListsAnswered header words entries does.items does.dids printed left
+
+-- .. with the list behind all items, where all acts were done
+abbrev pub ListedDone : Type 0
+ListedDone =
+    (c : Cartridge) (header : Header) (words : List ℕ) (entries : List Entry) (input : List ℕ) (outcome : Outcome)
+    (left : Option Cartridge) → Lists c header words entries → IsListed c words entries →
+    (does : ScriptDoes c words entries input outcome) → ItemsWearBehind does.items →
+    left ≡ Some (changed_by (steps_of outcome.acts) c) →
+    IsSomeAnd left (λ d. Lists d header words (entries_behind entries does.dids))
 
 -- .. and where nothing was done, nor printed
 abbrev pub ListedNone : Type 0

@@ -3,7 +3,7 @@
 ghost use Rattle.volume_script.specs.Laws.{OneOutcome, EachOutcome, StopsInOne};
 ghost use Rattle.volume_script.specs.Standing.{ItemsHaveBytes, ItemsStand, StoppedItemStands, FaultStands};
 ghost use Rattle.volume_script.specs.Standing.{DoneScriptStands, StoppedScriptStands, AnsweredBetween, AnsweredBehind};
-ghost use Rattle.volume_script.specs.Listing.{ListedBetween, ListedBehind, ListedNone};
+ghost use Rattle.volume_script.specs.Listing.{ListedBetween, ListedBehind, ListedDone, ListedNone};
 
 /// An input has at most one outcome over a mounted cartridge.
 pub fn an_input_has_one_outcome()
@@ -44,9 +44,10 @@ pub fn answered_items_stand()
 {}
 
 /// A cartridge that was mounted with a list is mounted with the list behind some items, whatever the sectors of its volumes hold:
-/// those whose reply was written whole are among them, and at most one more. No item may wear a sector of header or table.
+/// those whose reply was written whole are among them, and at most one more; and all, where all was done. No item may wear a sector of header or table.
 pub fn answered_items_are_listed()
     ensures between { ListedBetween }
     ensures behind { ListedBehind }
+    ensures done { ListedDone }
     ensures none { ListedNone }
 {}
