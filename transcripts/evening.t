@@ -175,6 +175,29 @@ A cartridge that is protected is refused, whether it is formatted or not, and no
   tape: segment 2 lost 4 sectors
   [11]
 
+So is one with a header or a volume table of another tool, and one whose table agrees with no code block.
+
+  $ refused() { cp cart.img before.img; tape cart.img make 1 1; echo $?; cmp before.img cart.img; }
+  $ cp whole.img cart.img
+  $ each lose 0 29 30 31
+  3 of 3 done
+  $ put 0 0 4 '\x04'
+  $ refused
+  tape: foreign format-code 4
+  7
+  $ cp whole.img cart.img
+  $ put 2 1 0 VTBL
+  $ refused
+  tape: foreign slot 8
+  7
+  $ cp whole.img cart.img
+  $ put 2 29 0 '\x01'
+  $ each lose 2 5 31
+  2 of 2 done
+  $ refused
+  tape: the volume table does not agree
+  8
+
 With an output that is full the volumes stand.
 
   $ cp whole.img cart.img

@@ -352,10 +352,40 @@ No line has 128 bytes before its newline, so no more are read of one without a n
   tape: input fault in line 1 at byte 0
   873
 
+As many lines as may be
+-----------------------
+
+These are 65,536, each of which is refused, since there is no such place. The next one is at fault, unless it is `end`: so an
+input that never ends is answered.
+
+  $ set -o pipefail
+  $ many() { { yes 'lose 84 0' | head -n 65536; printf "$1"; } | tape cart.img script | uniq -c | sed 's/^ *//'; }
+  $ many ''
+  65536 refused place 84 0
+  1 end
+  $ many 'end\nlose 84 0\n'
+  65536 refused place 84 0
+  1 end
+  $ many 'lose 84 0\n'
+  tape: input fault in line 65537 at byte 655360
+  65536 refused place 84 0
+  [3]
+  $ set +o pipefail
+
+The bytes of an append are no lines, so they may have more newlines than that.
+
+  $ { echo 'append n 100000'; yes '' | head -n 100000; echo list; } | tape cart.img script
+  appended 2 100000 4 7
+  1 3 3 0 2097-12-31T23:59:59 0123456789abcdefghijklmnopqrstuvwxyzABCDEFGH
+  2 4 7 100000 1970-01-01T00:00:00 n
+  volumes 2
+  end
+
 What ends it besides
 --------------------
 
-The cartridge is mounted first, and the script is not read where that is refused.
+The cartridge is mounted first, and the script is not read where that is refused: with a header or a volume table of another
+tool, too, and with a table that agrees with no code block or has lost too much.
 
   $ lines() { echo list | ("$@"; cat); }
   $ lines tape none.img script
@@ -365,6 +395,32 @@ The cartridge is mounted first, and the script is not read where that is refused
   blank 3
   $ lines tape none.img script
   tape: the cartridge is not formatted
+  list
+  $ cp whole.img cart.img
+  $ each lose 0 29 30 31
+  3 of 3 done
+  $ put 0 0 4 '\x04'
+  $ lines tape cart.img script
+  tape: foreign format-code 4
+  list
+  $ cp whole.img cart.img
+  $ put 2 1 0 VTBL
+  $ lines tape cart.img script
+  tape: foreign slot 8
+  list
+  $ cp whole.img cart.img
+  $ put 2 29 0 '\x01'
+  $ each lose 2 5 31
+  2 of 2 done
+  $ cp cart.img before.img
+  $ lines tape cart.img script
+  tape: the volume table does not agree
+  list
+  $ cmp before.img cart.img
+  $ each lose 2 0 1
+  2 of 2 done
+  $ lines tape cart.img script
+  tape: segment 2 lost 4 sectors
   list
   $ lines tape cart.img script now
   usage: tape IMAGE COMMAND

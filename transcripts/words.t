@@ -23,6 +23,9 @@ the status 2, and nothing else happens: neither the cartridge nor the input is t
   > INPUT
   usage: tape IMAGE COMMAND
   6
+  $ echo 'a volume' | (tape cart.img append; cat)
+  usage: tape IMAGE COMMAND
+  a volume
 
 In what follows such words are told by `no`, which prints them if they should be a command after all.
 
@@ -39,7 +42,7 @@ Words count as they stand: case counts, nothing is trimmed, and an empty word is
 
 Each command has its words, no fewer and no more.
 
-  $ for word in new defect lose protect format; do no $word; done
+  $ for word in new defect lose protect format append restore; do no $word; done
   $ no new 3 3
   $ no defect 4
   $ no defect 4 0 0
@@ -51,6 +54,13 @@ Each command has its words, no fewer and no more.
   $ no format two names
   $ no format two names 1994-03-01T12:00:00
   $ no format L 1994-03-01T12:00:00 1994-03-01T12:00:00
+  $ no append two names
+  $ no append two names 1994-03-01T12:00:00
+  $ no append a 1994-03-01T12:00:00 1994-03-01T12:00:00
+  $ no restore 1 1
+  $ no restore a
+  $ no restore 1 volume
+  $ for word in deep 1 scrub ''; do no scrub "$word"; done
   $ no info now
   $ no pulses -
   $ no pulses 6
@@ -74,9 +84,10 @@ segments per track are 3 to 246.
   >     no defect 4 "$number"
   >     no lose "$number" 0
   >     no lose 4 "$number"
+  >     no restore "$number"
   > done
 
-The greatest number is a number, though there is no such sector.
+The greatest number is a number, though there is no such sector and no such volume.
 
   $ tape cart.img lose 999999999 999999999
   tape: no such sector
@@ -84,6 +95,9 @@ The greatest number is a number, though there is no such sector.
   $ tape cart.img defect 999999999 0
   tape: no such sector
   [15]
+  $ tape cart.img restore 999999999
+  tape: no volume 999999999 of 0
+  [10]
 
 The mark is `on` or `off`.
 
@@ -101,6 +115,12 @@ space.
   $ no format ' a' 1994-03-01T12:00:00
   $ tape cart.img info | sed -n 1p
   label L
+
+So is the name of a volume.
+
+  $ for name in '' ' ' ' a' 'a ' $'a\t' $'a\n' $'\n' $'a\x7f' $'\x01' ä; do no append "$name"; done
+  $ no append '0123456789abcdefghijklmnopqrstuvwxyzABCDEFGHI'
+  $ no append ' a' 1994-03-01T12:00:00
 
 These are labels.
 
@@ -128,6 +148,7 @@ A date has all of its digits, in the years 1970 to 2097. How long a month is isn
   >         1994-00-01T12:00:00 1994-03-32T12:00:00 1994-03-00T12:00:00 1994-03-01T24:00:00 1994-03-01T12:60:00 \
   >         1994-03-01T12:00:60 1969-12-31T23:59:59 2098-01-01T00:00:00; do
   >     no format M "$date"
+  >     no append a "$date"
   > done
   $ for date in 1970-01-01T00:00:00 1994-02-31T23:59:59 2097-12-31T23:59:59; do
   >     tape other.img format M $date
