@@ -1,11 +1,11 @@
-//! Formattings in which a call of the tape fails, as a stop would cut them short.
+//! Formattings in which a call of the tape fails, as a stop would cut them short, or a write of the sink.
 
 use crate::mounting::{LIST, one_volume};
 use crate::runs::{answers, prints, refuses};
 use crate::sectors::{is_lost_alone, write_first};
-use command_runs::{run_words, sink};
+use command_runs::{empty, run_words, sink};
 use drive_states::Unit;
-use qic_mem::{MemTape, Outcome};
+use qic_mem::{MemSink, MemTape, Outcome};
 use std::alloc::Global;
 use std::process::Abort;
 use std::test::Fail;
@@ -79,6 +79,26 @@ fn left_of(status: Status, printed: &[u8]) -> Result<Left, Fail> {
     }
 }
 
+/// What `list` has to answer and to print where this is left.
+fn listed(left: Left) -> (Status, &'static [u8]) {
+    match left {
+        Left::No => (Status::NotFormatted, b""),
+        _ => (Status::Done, b"volumes 0\n"),
+    }
+}
+
+/// What `info` shows. Then `list` has to show the same.
+fn shown_and_listed(
+    rt: &impl Abort,
+    alloc: Global,
+    unit: &mut Unit<MemTape>,
+) -> Result<Left, Fail> {
+    let left = shown(alloc, unit)?;
+    let (status, printed) = listed(left);
+    answers(rt, alloc, unit, &["list"], status, printed);
+    Ok(left)
+}
+
 /// What `format L` over a new cartridge leaves if this call of it fails. Then a whole one has to be carried out.
 fn left_by_first(
     rt: &impl Abort,
@@ -89,35 +109,91 @@ fn left_by_first(
     let mut unit = failing(alloc, NEW.saturating_add(call), outcome)?;
     prints(rt, alloc, &mut unit, &["new", "3"], b"blank 3\n");
     refuses(rt, alloc, &mut unit, &["format", "L"], Status::TapeFault);
-    let left = shown(alloc, &mut unit);
+    let left = shown_and_listed(rt, alloc, &mut unit);
     prints(rt, alloc, &mut unit, &["format", "M"], b"formatted 84 0\n");
     left
+}
+
+/// What it has to leave. Sector 0 of copy 0 is the first that a mounting finds; lost, it is found again from the others.
+fn kept(call: u64, outcome: Outcome) -> Left {
+    if call < FIRST_COPY || (call == FIRST_COPY && outcome == Outcome::Old) {
+        Left::No
+    } else {
+        Left::L
+    }
+}
+
+/// Lets this call fail with each outcome.
+fn fails_at(rt: &impl Abort, alloc: Global, call: u64) -> Result<(), Fail> {
+    for outcome in OUTCOMES {
+        let left = left_by_first(rt, alloc, call, outcome)?;
+        assert_eq!(rt; left, kept(call, outcome), "call {call}, {outcome:?}");
+    }
+    Ok(())
 }
 
 #[test]
 fn a_first_format_leaves_no_header_or_its_own(rt: HostRuntime) -> Result<(), Fail> {
     let alloc = rt.alloc();
-    let rows = [
-        (INSERTION, [Left::No; 3]),
-        (REFERENCE, [Left::No; 3]),
-        (FORMAT, [Left::No; 3]),
-        (READ - 1, [Left::No; 3]),
-        (READ, [Left::No; 3]),
-        (WRITE - 1, [Left::No; 3]),
-        (WRITE, [Left::No; 3]),
-        (FIRST_COPY - 1, [Left::No; 3]),
-        // Lost, it is found again from the other sectors.
-        (FIRST_COPY, [Left::No, Left::L, Left::L]),
-        (FIRST_COPY + 1, [Left::L; 3]),
-        (SECOND_COPY, [Left::L; 3]),
-    ];
-    for (call, wanted) in rows {
-        for (outcome, want) in OUTCOMES.into_iter().zip(wanted) {
-            let left = left_by_first(&rt, alloc, call, outcome)?;
-            assert_eq!(rt; left, want, "call {call}, {outcome:?}");
-        }
+    for call in INSERTION..READ + 1 {
+        fails_at(&rt, alloc, call)?;
+    }
+    // Of the reads, the first and the last.
+    for call in WRITE - 1..CALLS {
+        fails_at(&rt, alloc, call)?;
     }
     Ok(())
+}
+
+/// What `format L` prints.
+const LINE: &[u8] = b"formatted 84 0\n";
+
+/// What `format L` answers over a sink with this room whose write with this number fails, and how many bytes of its line the
+/// sink took; nothing where they are no front of it.
+fn formats_into(
+    alloc: Global,
+    unit: &mut Unit<MemTape>,
+    room: usize,
+    write: u64,
+) -> Result<(Status, Option<usize>), Fail> {
+    let mut out = MemSink::new(alloc, room, [write].to_vec(alloc)?)?;
+    let status = run_words(alloc, &["format", "L"], unit, &mut out)?;
+    let printed = out.bytes();
+    Ok((status, LINE.starts_with(printed).then_some(printed.len())))
+}
+
+/// Over a new cartridge it has to answer this status, and the sink to take so many bytes. The cartridge is formatted in any
+/// case.
+fn ends_into(
+    rt: &impl Abort,
+    alloc: Global,
+    room: usize,
+    write: u64,
+    status: Status,
+    taken: usize,
+) -> Result<(), Fail> {
+    let mut unit = empty(alloc, 3)?;
+    prints(rt, alloc, &mut unit, &["new", "3"], b"blank 3\n");
+    assert_eq!(rt;
+        formats_into(alloc, &mut unit, room, write)?,
+        (status, Some(taken)),
+        "room {room}, write {write}"
+    );
+    prints(rt, alloc, &mut unit, &["list"], b"volumes 0\n");
+    Ok(())
+}
+
+#[test]
+fn a_format_stands_where_its_line_is_cut_short(rt: HostRuntime) -> Result<(), Fail> {
+    let alloc = rt.alloc();
+    let whole = LINE.len();
+    for room in 0..whole {
+        ends_into(&rt, alloc, room, u64::MAX, Status::SinkFault, room)?;
+    }
+    ends_into(&rt, alloc, whole, u64::MAX, Status::Done, whole)?;
+    // The line is one write.
+    ends_into(&rt, alloc, 4096, 0, Status::SinkFault, 0)?;
+    ends_into(&rt, alloc, 4096, 1, Status::Done, whole)
 }
 
 /// A cartridge with the label `L`, on a tape whose call fails that comes so many calls later.
