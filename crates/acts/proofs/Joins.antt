@@ -1,5 +1,5 @@
 -- How runs over acts join.
-use Rattle.std.proofs.Common.{◌≡◌, ℕ, List, [], ◌∷◌, ◌++◌, refl, sym, ap, ◌∙◌, subst, arith, append_assoc, Option, append-nil, Some}
+use Rattle.std.proofs.Common.{◌≡◌, ℕ, List, [], ◌∷◌, ◌++◌, refl, sym, ap, ◌∙◌, subst, arith, append_assoc, Option, append-nil, Some, ◌≤◌}
 use Rattle.std.specs.Option.{option_map}
 use Rattle.qic_base.specs.Cartridge.{Cartridge}
 use Rattle.qic_base.specs.Step.{Step, effects}
@@ -9,7 +9,7 @@ use Rattle.qic_base.specs.Source as sources
 use Rattle.qic_base.specs.Tape as tapes
 use Rattle.qic_base.proofs.Steps.{Rose-after, effects-append, Torn-nothing, Done-nothing, Done-Done, Done-Broke, Broke-front}
 use Rattle.qic_base.proofs.Writing.{TakesBoth, Wrote-Wrote}
-use Rattle.acts.specs.Acts.{Act, steps_of, text_of, next_steps, Outside, TapeFails, SourceFails, SinkFails, Went, Parted, TapeCut, SinkCut, SourceCut, WroteAndBroke}
+use Rattle.acts.specs.Acts.{Act, steps_of, text_of, next_steps, Outside, TapeFails, SourceFails, SinkFails, Went, Parted, TapeCut, SinkCut, SourceCut, WroteAndBroke, Cut}
 use Rattle.acts.specs.Laws.{NothingWent, WentBoth, WentThenCut, CutIsLonger}
 
 -- ---- lists of acts
@@ -55,6 +55,26 @@ parted_before xs ys at = record {
   parts = sym (append_assoc at.front (at.act ∷ at.rest) ys) ∙ ap (λ (zs : List Act). zs ++ ys) at.parts;
 }
 
+-- ---- texts that broke off
+
+-- before the text that broke off nothing was written, ..
+pub broke_first : {K : Type 0} {k : sinks.Meaning K} {a b : K} {next : List ℕ} → sinks.BrokeOff k a b next → WroteAndBroke k a b [] next
+broke_first broke = record {
+  part = broke.front;
+  rest = broke.rest;
+  parts = broke.parts;
+  some = broke.some;
+  took = broke.took;
+  cause = broke.cause;
+  later = broke.later;
+}
+
+-- .. or a text that is empty
+pub broke_behind : {K : Type 0} {k : sinks.Meaning K} {a b : K} {next : List ℕ} (text : List ℕ) → text ≡ [] → sinks.BrokeOff k a b next →
+    WroteAndBroke k a b text next
+broke_behind {k = k} {a = a} {b = b} {next = next} text none broke =
+    subst (λ (written : List ℕ). WroteAndBroke k a b written next) (sym none) (broke_first broke)
+
 -- ---- runs
 
 module _ {T S K : Type 0} (t : tapes.Meaning T) (s : sources.Meaning S) (k : sinks.Meaning K) where
@@ -77,6 +97,7 @@ module _ {T S K : Type 0} (t : tapes.Meaning T) (s : sources.Meaning S) (k : sin
     part = broke.part;
     rest = broke.rest;
     parts = broke.parts;
+    some = broke.some;
     took = subst (λ (text : List ℕ). k.took a text c) (sym (append_assoc xs ys broke.part)) (both a b c xs (ys ++ broke.part) first.took broke.took);
     cause = Rose-after (k.faults a) (k.faults b) (k.faults c) first.later broke.cause;
     later = let e = first.later in let f = broke.later in omega arith;
@@ -131,6 +152,16 @@ module _ {T S K : Type 0} (t : tapes.Meaning T) (s : sources.Meaning S) (k : sin
     wrote = subst (sinks.Wrote k a.sink c.sink) (sym (text_of-append xs cut.front)) (Wrote-Wrote both first.wrote cut.wrote);
     cause = Rose-after (s.faults a.source) (s.faults b.source) (s.faults c.source) first.source_later cut.cause;
     source_later = let e = first.source_later in let f = cut.source_later in omega arith;
+  }
+
+  -- the text of one act alone broke off
+  pub sink_cut_one : (a b : Outside T S K) (act : Act) → tapes.Done t a.tape b.tape act.steps → sinks.BrokeOff k a.sink b.sink act.text →
+      s.faults a.source ≤ s.faults b.source → Cut t s k a b (act ∷ []) SinkFails
+  sink_cut_one a b act did broke later = record {
+    at = record { front = []; act = act; rest = []; parts = refl };
+    did = did;
+    broke = broke_first broke;
+    source_later = later;
   }
 
   pub went_then_cut : TakesBoth k → WentThenCut t s k

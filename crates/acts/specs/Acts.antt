@@ -1,6 +1,6 @@
 -- Acts: what a command does to the tape and what it prints, part by part; and how a run over them went (this project's
 -- own). Steps and text are tied to one number of acts, so that a text that was printed tells which steps were done.
-use Rattle.std.specs.Prelude.{◌≡◌, ℕ, ◌≤◌, List, [], ◌∷◌, ◌++◌, Option, Some}
+use Rattle.std.specs.Prelude.{◌≡◌, ◌≢◌, ℕ, ◌≤◌, List, [], ◌∷◌, ◌++◌, Option, Some}
 use Rattle.qic_base.specs.Cause.{Rose}
 use Rattle.qic_base.specs.Cartridge.{Cartridge}
 use Rattle.qic_base.specs.Step.{Step, effects}
@@ -64,11 +64,12 @@ pub record TapeCut {T S K : Type 0} (t : tapes.Meaning T) (s : sources.Meaning S
   pub wrote : sinks.Wrote k old.sink new.sink (text_of front)
   pub source_later : s.faults old.source ≤ s.faults new.source
 
--- a text was taken whole, and a fault of the sink broke the next one off
+-- a text was taken whole, and a fault of the sink broke the next one off, so that some of that was not taken
 pub record WroteAndBroke {K : Type 0} (k : sinks.Meaning K) (old new : K) (text next : List ℕ) : Type 0 where
   pub part : List ℕ
   pub rest : List ℕ
   pub parts : part ++ rest ≡ next
+  pub some : rest ≢ []
   pub took : k.took old (text ++ part) new
   pub cause : Rose (k.faults old) (k.faults new)
   pub later : k.faults old ≤ k.faults new

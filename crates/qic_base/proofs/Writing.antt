@@ -1,5 +1,5 @@
 -- How texts that were written one after the other join.
-use Rattle.std.proofs.Common.{◌≡◌, ℕ, List, ◌++◌, sym, ap, ◌∙◌, arith, append_assoc}
+use Rattle.std.proofs.Common.{◌≡◌, ◌≢◌, ℕ, List, [], ◌∷◌, ◌++◌, refl, sym, ap, ◌∙◌, arith, append_assoc}
 use Rattle.qic_base.specs.Sink.{Meaning, Wrote, BrokeOff}
 use Rattle.qic_base.proofs.Steps.{Rose-after}
 
@@ -18,10 +18,15 @@ Wrote-BrokeOff {m = m} {a = a} {b = b} {c = c} {xs = xs} both first next = recor
   front = xs ++ next.front;
   rest = next.rest;
   parts = append_assoc xs next.front next.rest ∙ ap (λ ys. xs ++ ys) next.parts;
+  some = next.some;
   took = both a b c xs next.front first.took next.took;
   cause = Rose-after (m.faults a) (m.faults b) (m.faults c) first.later next.cause;
   later = let e = first.later in let f = next.later in omega arith;
 }
+
+pub some_longer : (xs ys : List ℕ) → xs ≢ [] → xs ++ ys ≢ []
+some_longer [] ys some none = some refl
+some_longer (x ∷ xs) ys some none = absurd (cc)
 
 -- what broke off a text broke off a longer one
 pub BrokeOff-longer : {K : Type 0} {m : Meaning K} {a b : K} {xs : List ℕ} (ys text : List ℕ) → xs ++ ys ≡ text → BrokeOff m a b xs → BrokeOff m a b text
@@ -29,6 +34,7 @@ BrokeOff-longer ys text parts broke = record {
   front = broke.front;
   rest = broke.rest ++ ys;
   parts = sym (append_assoc broke.front broke.rest ys) ∙ ap (λ xs. xs ++ ys) broke.parts ∙ parts;
+  some = some_longer broke.rest ys broke.some;
   took = broke.took;
   cause = broke.cause;
   later = broke.later;

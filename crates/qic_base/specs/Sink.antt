@@ -1,5 +1,5 @@
 -- A sink of bytes: what was written to it, what it took, and how often it failed (this project's profile).
-use Rattle.std.specs.Prelude.{◌≡◌, ℕ, ◌≤◌, List, [], ◌++◌, length, take, Option, Result, Ok, Err}
+use Rattle.std.specs.Prelude.{◌≡◌, ◌≢◌, ℕ, ◌≤◌, List, [], ◌++◌, length, take, Option, Result, Ok, Err}
 use Rattle.qic_base.specs.Cause.{Rose}
 
 -- All that a sink means to the code above it.
@@ -20,11 +20,12 @@ pub record Wrote {K : Type 0} (m : Meaning K) (old new : K) (text : List ℕ) : 
   pub took : m.took old text new
   pub later : m.faults old ≤ m.faults new
 
--- From old on, a fault of the sink broke the text off: a front of it was taken.
+-- From old on, a fault of the sink broke the text off: a front of it was taken, and not the whole.
 pub record BrokeOff {K : Type 0} (m : Meaning K) (old new : K) (text : List ℕ) : Type 0 where
   pub front : List ℕ
   pub rest : List ℕ
   pub parts : front ++ rest ≡ text
+  pub some : rest ≢ []
   pub took : m.took old front new
   pub cause : Rose (m.faults old) (m.faults new)
   pub later : m.faults old ≤ m.faults new

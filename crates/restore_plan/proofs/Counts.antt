@@ -110,7 +110,7 @@ length-bytes_in (sector ∷ sectors) are =
     length-append sector (bytes_in sectors) ∙ omega arith
 
 -- a piece that is read gives its bytes
-read_count : (c : Cartridge) (words : List ℕ) (piece : Piece) (act : Act) → FitsIn words piece → IsRead c words piece act →
+pub read_count : (c : Cartridge) (words : List ℕ) (piece : Piece) (act : Act) → FitsIn words piece → IsRead c words piece act →
     length act.text ≡ piece.count
 read_count c words piece act fits read =
     let mask : ℕ = mask_at words piece.segment in

@@ -1,5 +1,5 @@
 mod Joining
-mod Looked
+pub mod Looked
 mod Parts
 mod Reading
 mod Scrubbed

@@ -13,7 +13,7 @@ use Rattle.scrub_plan.specs.Scrubbing.{Looked, looked_segments, looked_volumes}
 
 -- ---- the segments of a volume
 
-range_part : (a m n : ℕ) → range_with_len a (m + n) ≡ range_with_len a m ++ range_with_len (a + m) n
+pub range_part : (a m n : ℕ) → range_with_len a (m + n) ≡ range_with_len a m ++ range_with_len (a + m) n
 range_part a zero n =
     let none : zero + n ≡ n = omega arith in
     let here : a ≡ a + zero = omega arith in

@@ -9,7 +9,7 @@ use Rattle.qic_base.specs.Tape as tapes
 use Rattle.qic_base.proofs.Steps.{Tells-map, Done-after_reads, Broke-after_reads}
 use Rattle.acts.specs.Acts.{Act, TapeFails, SinkFails, Went, Cut}
 use Rattle.acts.specs.Around.{no_source, around}
-use Rattle.acts.proofs.Joins.{cut_is_longer}
+use Rattle.acts.proofs.Joins.{cut_is_longer, sink_cut_one}
 use Rattle.gf256_qic.specs.Code.{IsCodeBlock}
 use Rattle.cartridge_spec.specs.Header.{has_signature}
 use Rattle.cartridge_spec.specs.Says.{whole_mask, Saying, Data, LostSectors, Mismatch, Says, data_of}
@@ -178,12 +178,7 @@ module _ {T K : Type 0} {t : tapes.Meaning T} {k : sinks.Meaning K} where
 
   cut_line : (a b : T) (s after : K) (line : List ℕ) → tapes.Done t a b [] → sinks.BrokeOff k s after line →
       Cut t no_source k (around a s) (around b after) (act_of [] line ∷ []) SinkFails
-  cut_line a b s after line read broke = record {
-    at = record { front = []; act = act_of [] line; rest = []; parts = refl };
-    did = read;
-    broke = record { part = broke.front; rest = broke.rest; parts = broke.parts; took = broke.took; cause = broke.cause; later = broke.later };
-    source_later = omega arith;
-  }
+  cut_line a b s after line read broke = sink_cut_one t no_source k (around a s) (around b after) (act_of [] line) read broke (omega arith)
 
 -- ---- by answers
 

@@ -7,7 +7,7 @@ use Rattle.qic_base.proofs.Steps.{Tells-map, Done-nothing}
 use Rattle.qic_base.proofs.Writing.{TakesBoth}
 use Rattle.acts.specs.Acts.{Act, steps_of, text_of, Outside, Failing, TapeFails, SinkFails, Went, Cut}
 use Rattle.acts.specs.Around.{no_source, around}
-use Rattle.acts.proofs.Joins.{text_of-append, went_both, went_then_cut, cut_is_longer}
+use Rattle.acts.proofs.Joins.{text_of-append, went_both, went_then_cut, cut_is_longer, sink_cut_one}
 use Rattle.cartridge_spec.specs.Says.{Saying}
 use Rattle.cartridge_spec.specs.Table.{Entry}
 use Rattle.scrub_plan.specs.Scrubbing.{Looked, Counts, SayInTurn, looking_acts, looked_at, unread_count, counts_line, counts_of, last_act, Scrubs}
@@ -89,12 +89,8 @@ module _ {T K : Type 0} (t : tapes.Meaning T) (k : sinks.Meaning K) (words : Lis
       ScrubCut t k words entries a (around b.tape after) SinkFails
   line_cut both after broke =
       let last : Act = last_act (reported report) in
-      let cut : Cut t no_source k b (around b.tape after) (last ∷ []) SinkFails = record {
-        at = record { front = []; act = last; rest = []; parts = refl };
-        did = Done-nothing t b.tape;
-        broke = record { part = broke.front; rest = broke.rest; parts = broke.parts; took = broke.took; cause = broke.cause; later = broke.later };
-        source_later = omega arith;
-      } in
+      let cut : Cut t no_source k b (around b.tape after) (last ∷ []) SinkFails =
+      sink_cut_one t no_source k b (around b.tape after) last (Done-nothing t b.tape) broke (omega arith) in
       let whole : Cut t no_source k a (around b.tape after) (looked.acts ++ last ∷ []) SinkFails =
       went_then_cut t no_source k both a b (around b.tape after) looked.acts (last ∷ []) SinkFails looked.went cut in
       record {

@@ -7,6 +7,7 @@ use Rattle.qic_base.specs.Sink as sinks
 use Rattle.qic_base.specs.Source as sources
 use Rattle.qic_base.specs.Tape as tapes
 use Rattle.qic_base.proofs.Steps.{Done-nothing}
+use Rattle.acts.proofs.Joins.{sink_cut_one}
 use Rattle.acts.specs.Acts.{Act, Outside, next_steps, TapeFails, SourceFails, SinkFails, Went, TapeCut, Cut}
 use Rattle.drive_states.specs.Record.{Record}
 use Rattle.tape_script.specs.Input.{IsPulse, IsTrain}
@@ -94,19 +95,8 @@ module _ {T S K : Type 0} (t : tapes.Meaning T) (s : sources.Meaning S) (k : sin
     pub unshown : sinks.BrokeOff k a.sink b.sink text → Heard s a.source b.source (λ p. Cut t s k a b (train_act r p ∷ []) SinkFails)
     unshown broke =
         let level = level_is line now (after_train r train) text text_is line_is now_is in
-        heard (λ p. Cut t s k a b (train_act r p ∷ []) SinkFails) (record {
-          at = record { front = []; act = train_act r train; rest = []; parts = refl };
-          did = did;
-          broke = record {
-            part = broke.front;
-            rest = broke.rest;
-            parts = broke.parts ∙ level;
-            took = broke.took;
-            cause = broke.cause;
-            later = broke.later;
-          };
-          source_later = later;
-        })
+        heard (λ p. Cut t s k a b (train_act r p ∷ []) SinkFails)
+        (sink_cut_one t s k a b (train_act r train) did (subst (sinks.BrokeOff k a.sink b.sink) level broke) later)
 
     -- its level was written, too
     pub shown : sinks.Wrote k a.sink b.sink text →

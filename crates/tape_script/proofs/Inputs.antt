@@ -80,12 +80,12 @@ pub record AreItems {I : Type 0} (Spelled : List ℕ → I → Type 0) : Type 0 
   pub no_stop : (text rest : List ℕ) (x : I) → Spelled text x → ¬ (HasStop (text ++ rest))
 
 -- one item begins an input
-record SameItem {I : Type 0} (s t r q : List ℕ) (x y : I) : Type 0 where
-  texts : s ≡ t
-  rests : r ≡ q
-  items : x ≡ y
+pub record SameItem {I : Type 0} (s t r q : List ℕ) (x y : I) : Type 0 where
+  pub texts : s ≡ t
+  pub rests : r ≡ q
+  pub items : x ≡ y
 
-one_item : {I : Type 0} (Spelled : List ℕ → I → Type 0) → AreItems Spelled → (s t r q : List ℕ) (x y : I) → Spelled s x → Spelled t y → s ++ r ≡ t ++ q → SameItem s t r q x y
+pub one_item : {I : Type 0} (Spelled : List ℕ → I → Type 0) → AreItems Spelled → (s t r q : List ℕ) (x y : I) → Spelled s x → Spelled t y → s ++ r ≡ t ++ q → SameItem s t r q x y
 one_item {I} Spelled are s t r q x y a b e = elim (fronts s t r q e) [
   | inl f ↦ let law = are.no_begin s f.more x y a (let P : List ℕ → Type 0 = λ u. Spelled u y in subst P f.longer b) in record {
     texts = sym (f.longer ∙ ap (λ u. s ++ u) law.0 ∙ append-nil s);
@@ -111,7 +111,7 @@ one_ending Spelled line place input (AtFault n m) AtStop p q = absurd (p.0.no_st
 one_ending Spelled line place input (AtFault n m) (AtFault k l) p q = rw (p.1, p.2, q.1, q.2) refl
 
 -- where an item begins the input, it doesn't end there
-no_ending : {I : Type 0} (Spelled : List ℕ → I → Type 0) → AreItems Spelled → (line place : ℕ) (input text rest : List ℕ) (x : I) (a : Ending) →
+pub no_ending : {I : Type 0} (Spelled : List ℕ → I → Type 0) → AreItems Spelled → (line place : ℕ) (input text rest : List ℕ) (x : I) (a : Ending) →
     Ends Spelled line place input a → line ≤ most_items → input ≡ text ++ rest → Spelled text x → ⊥
 no_ending Spelled are line place input text rest x AtEnd p le e spelled =
     are.some text x spelled (nil_from_length text (let l = ap length (sym p ∙ e) in let m = length-append text rest in omega arith))

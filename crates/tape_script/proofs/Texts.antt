@@ -1,6 +1,6 @@
 -- The printed texts.
-use Rattle.std.proofs.Common.{◌≡◌, ℕ, ◌+◌, ◌-◌, ◌<◌, ◌≤◌, true, false, List, [], ◌∷◌, ◌++◌, length, take, drop, get_or, refl, sym, ap, ◌∙◌, arith}
-use Rattle.std.proofs.lemmas.List.{take_more, take-take, drop-take, take-append-drop, length-take}
+use Rattle.std.proofs.Common.{◌≡◌, ◌≢◌, ℕ, ◌+◌, ◌-◌, ◌<◌, ◌≤◌, true, false, List, [], ◌∷◌, ◌++◌, length, take, drop, get_or, refl, sym, ap, ◌∙◌, arith}
+use Rattle.std.proofs.lemmas.List.{take_more, take-take, drop-take, take-append-drop, length-take, length-drop}
 use Rattle.tape_script.specs.Text.{is_filler, before_cut, trimmed}
 
 -- filling at the end is cut
@@ -50,6 +50,10 @@ pub front_more : (text : List ℕ) (at n : ℕ) → n ≤ length (take (length t
     take at text ++ take n (take (length text - at) (drop at text)) ≡ take (at + n) text
 front_more text at n within =
     rw (take-take n (length text - at) (drop at text) (omega (arith, length-take (length text - at) (drop at text)))) (take-more text at n)
+
+-- what is left behind a place within is some
+pub some_left : (text : List ℕ) (at : ℕ) → at < length text → drop at text ≢ []
+some_left text at within none = let long = ap length none in absurd (omega (arith, length-drop at text))
 
 pub front_within : (text : List ℕ) (at n : ℕ) → at ≤ length text → n ≤ length (take (length text - at) (drop at text)) → at + n ≤ length text
 front_within text at n here within = omega (arith, length-take (length text - at) (drop at text))

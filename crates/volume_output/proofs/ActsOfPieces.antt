@@ -1,40 +1,17 @@
 -- Acts of the first of some pieces: how many bytes, and no step.
-use Rattle.std.proofs.Common.{◌≡◌, ℕ, suc, ◌+◌, ◌*◌, ◌≤◌, true, false, List, [], ◌∷◌, ◌++◌, length, take, All, refl, sym, ap, ◌∙◌, subst, arith, length-append}
-use Rattle.std.proofs.lemmas.List.{length-take-le}
+use Rattle.std.proofs.Common.{◌≡◌, ℕ, suc, ◌+◌, ◌≤◌, true, false, List, [], ◌∷◌, ◌++◌, length, take, All, refl, sym, ap, ◌∙◌, subst, arith, length-append}
 use Rattle.std.proofs.lemmas.List.Elements.{All-head, All-tail}
 use Rattle.std.proofs.lemmas.List.Sums.{sum_by-cons}
-use Rattle.qic_base.specs.declared.tape.SectorView.{SectorView}
 use Rattle.qic_base.specs.Cartridge.{Cartridge}
 use Rattle.qic_base.specs.Step.{Step}
 use Rattle.acts.specs.Acts.{Act, steps_of, text_of}
-use Rattle.cartridge_spec.specs.SayingLaws.{AreDataSectors}
-use Rattle.cartridge_spec.specs.Shape.{mask_at, usable_count, data_count, capacity}
 use Rattle.cartridge_spec.specs.Volumes.{carrying}
-use Rattle.cartridge_spec.proofs.Sayings.{said_are_sectors, cartridge_sectors}
-use Rattle.cartridge_spec.proofs.Segments.{count_of_cells}
-use Rattle.append_plan.specs.NewVolume.{bytes_in}
-use Rattle.append_plan.proofs.Bytes.{carried_all}
 use Rattle.append_plan.proofs.Segments.{carrying_carry}
-use Rattle.restore_plan.specs.Restoring.{Piece, Ending, Restored, LostIn, MismatchIn, IsRead, Ends, Restores, piece_cells, bytes_held, framed}
-use Rattle.restore_plan.proofs.Counts.{FitsIn, pieces_fit, length-bytes_in}
+use Rattle.restore_plan.specs.Restoring.{Piece, Ending, Restored, LostIn, MismatchIn, Ends, Restores, bytes_held, framed}
+use Rattle.restore_plan.proofs.Counts.{FitsIn, pieces_fit, read_count}
 use Rattle.volume_output.specs.Laws.{RestoredAreOf, PrintedInNoStep, TextOfFirst}
 use Rattle.volume_output.specs.Output.{AreOf, EndsAt}
 use Rattle.volume_output.proofs.Joining.{EndsAt-more}
-
--- a piece that is read gives its bytes
-read_count : (c : Cartridge) (words : List ℕ) (piece : Piece) (act : Act) → FitsIn words piece → IsRead c words piece act →
-    length act.text ≡ piece.count
-read_count c words piece act fits read =
-    let mask : ℕ = mask_at words piece.segment in
-    let cells : List SectorView = piece_cells c words piece in
-    let are : AreDataSectors cells read.sectors = said_are_sectors cells read.sectors read.says in
-    let size : length read.sectors + 3 ≡ length cells = are.size in
-    let usable : length cells ≡ usable_count mask = count_of_cells c piece.segment mask in
-    let long : length (bytes_in read.sectors) ≡ 1024 * length read.sectors =
-    length-bytes_in read.sectors (cartridge_sectors read.sectors are.each) in
-    let all : capacity mask ≡ 1024 * data_count mask = carried_all words piece.segment fits.carry in
-    let within : piece.count ≤ capacity mask = fits.within in
-    ap (λ (a : Act). length a.text) read.shown ∙ length-take-le piece.count (bytes_in read.sectors) (omega arith)
 
 are_of : (c : Cartridge) (words : List ℕ) (needed : List Piece) (acts : List Act) (ending : Ending) → All (FitsIn words) needed →
     Restores c words needed acts ending → AreOf needed acts

@@ -7,7 +7,7 @@ use Rattle.qic_base.proofs.Steps.{Tells-map}
 use Rattle.qic_base.proofs.Writing.{TakesBoth, Wrote-Wrote, Wrote-BrokeOff, BrokeOff-longer}
 use Rattle.acts.specs.Acts.{Act, text_of, TapeFails, SinkFails, Went, Cut}
 use Rattle.acts.specs.Around.{no_source, around}
-use Rattle.acts.proofs.Joins.{cut_is_longer}
+use Rattle.acts.proofs.Joins.{cut_is_longer, broke_first}
 use Rattle.cartridge_spec.specs.Says.{cells_of, Says, Data, LostSectors, data_of}
 use Rattle.cartridge_spec.specs.Says as saying
 use Rattle.cartridge_spec.specs.Shape.{mask_at, usable_count}
@@ -173,13 +173,6 @@ module _ {T K : Type 0} (t : tapes.Meaning T) (k : sinks.Meaning K) (words : Lis
         cut = record {
           at = record { front = []; act = printed_act lined piece act; rest = []; parts = sym (one_printed lined piece act) };
           did = subst (tapes.Done t old new) (sym (no_steps lined piece sectors)) did;
-          broke = record {
-            part = broke.front;
-            rest = broke.rest;
-            parts = broke.parts;
-            took = broke.took;
-            cause = broke.cause;
-            later = broke.later;
-          };
+          broke = broke_first broke;
           source_later = omega arith;
         }

@@ -15,7 +15,7 @@ pub struct Trials {
 }
 
 impl Trials {
-    // No set but this.
+    /// No set but this.
     pub(crate) fn of(set: LostSet) -> Trials
         ensures { AreTrials result (set ∷ []) }
     {
@@ -26,7 +26,7 @@ impl Trials {
         }
     }
 
-    // One set more, behind the others.
+    /// One set more, behind the others; there are fewer than 5.
     pub(crate) fn add(&mut self, set: LostSet)
         requires { self.old.count < 5 }
         ensures more { (sets : List ℕ) → AreTrials self.old sets → AreTrials self.new (sets ++ set ∷ []) }

@@ -1,8 +1,8 @@
-use Rattle.std.proofs.Common.{[], drop, refl}
+use Rattle.std.proofs.Common.{[], drop, refl, arith}
 use Rattle.std.proofs.lemmas.List.{take-append-drop}
 use Rattle.qic_base.specs.Sink.{Wrote, BrokeOff}
 use Rattle.qic_base.proofs.Writing.{Wrote-Wrote, Wrote-BrokeOff}
-use Rattle.tape_script.proofs.Texts.{front_more, front_within}
+use Rattle.tape_script.proofs.Texts.{front_more, front_within, some_left}
 use Rattle.tape_script.proofs.write.write_text.Goals as goal
 
 pub loop-at-preserved : goal.loop-at-preserved
@@ -20,6 +20,7 @@ returns-in-Err g c =
       front = [];
       rest = drop c.loop-at.at c.args.text.now;
       parts = refl;
+      some = some_left c.args.text.now c.loop-at.at (omega arith);
       took = c.in-Err.ensures.takes;
       cause = c.in-Err.ensures.cause.failed;
       later = c.in-Err.ensures.cause.later;
