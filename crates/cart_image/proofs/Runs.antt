@@ -5,86 +5,6 @@ use Rattle.qic_base.specs.Cause.{Rose}
 use Rattle.qic_base.specs.Disk.{Meaning, DiskStep, Look, WriteAt, SetLen, Sync, stored, Unsynced, Inside, IsSettled, Stored, Failed}
 use Rattle.cart_image.specs.Run.{Looks, Ran, Halted, after_steps, Pending, Crashed}
 
--- looks
-
-pub Looks-nothing : {D : Type 0} (m : Meaning D) (d : D) → Looks m d d
-Looks-nothing m d = record {
-  told = refl;
-  later = omega arith;
-  leaves = λ left is. is;
-  telling = refl;
-  clock = omega arith;
-  kept = λ t left early was. was;
-  parted = λ t u left order early is. inl is;
-  since = λ t left early is. inl is;
-}
-
-told-look : (told : Option (List ℕ)) → option_map (stored Look) told ≡ told
-told-look None = refl
-told-look (Some bytes) = refl
-
-pub Looks-look : {D : Type 0} {m : Meaning D} {a b c : D} → Looks m a b → Stored m b c Look → Looks m a c
-Looks-look {m = m} {b = b} first next = record {
-  told = next.told ∙ told-look (m.told b) ∙ first.told;
-  later = let e = first.later in let f = next.later in omega arith;
-  leaves = λ left is. let was = next.leaves left is in first.leaves left (subst (m.may_leave b) (sym was.2) was.1);
-  telling = next.crashes.telling ∙ first.telling;
-  clock = let e = first.clock in let f = next.crashes.clock in omega arith;
-  kept = λ t left early was. next.crashes.kept t left (let e = first.clock in omega arith) (first.kept t left early was);
-  parted = λ t u left order early is.
-      elim (next.crashes.parted t u left order (let e = first.clock in omega arith) is) [
-        | inl earlier ↦ elim (first.parted t u left order early earlier) [
-          | inl was ↦ inl was
-          | inr later ↦ inr (next.crashes.kept u left (let e = first.clock in omega arith) later)
-        ]
-        | inr later ↦ inr later
-      ];
-  since = λ t left early is. elim (next.crashes.since t left (let e = first.clock in omega arith) is) [
-    | inl earlier ↦ first.since t left early earlier
-    | inr was ↦ inr (first.leaves left (subst (m.may_leave b) (sym was.2) was.1))
-  ];
-}
-
-pub Looks-Looks : {D : Type 0} {m : Meaning D} {a b c : D} → Looks m a b → Looks m b c → Looks m a c
-Looks-Looks first next = record {
-  told = next.told ∙ first.told;
-  later = let e = first.later in let f = next.later in omega arith;
-  leaves = λ left is. first.leaves left (next.leaves left is);
-  telling = next.telling ∙ first.telling;
-  clock = let e = first.clock in let f = next.clock in omega arith;
-  kept = λ t left early was. next.kept t left (let e = first.clock in omega arith) (first.kept t left early was);
-  parted = λ t u left order early is.
-      elim (next.parted t u left order (let e = first.clock in omega arith) is) [
-        | inl earlier ↦ elim (first.parted t u left order early earlier) [
-          | inl was ↦ inl was
-          | inr later ↦ inr (next.kept u left (let e = first.clock in omega arith) later)
-        ]
-        | inr later ↦ inr later
-      ];
-  since = λ t left early is. elim (next.since t left (let e = first.clock in omega arith) is) [
-    | inl earlier ↦ first.since t left early earlier
-    | inr was ↦ inr (first.leaves left was)
-  ];
-}
-
-pub Looks-settled : {D : Type 0} {m : Meaning D} {a b : D} → Looks m a b → IsSettled m a → IsSettled m b
-Looks-settled looks settled = record { only = λ bytes left told is. settled.only bytes left (sym looks.told ∙ told) (looks.leaves left is) }
-
--- runs, one after the other
-
-pub Ran-Ran : {D : Type 0} (m : Meaning D) (a b c : D) (xs ys : List DiskStep) → Ran m a b xs → Ran m b c ys → Ran m a c (xs ++ ys)
-Ran-Ran m a b c [] ys same rest = subst (λ d. Ran m d c ys) same rest
-Ran-Ran m a b c (x ∷ xs) ys first rest = (first.0, first.1, Ran-Ran m first.0 b c xs ys first.2 rest)
-
-pub Ran-Halted : {D : Type 0} (m : Meaning D) (a b c : D) (xs ys : List DiskStep) → Ran m a b xs → Halted m b c ys → Halted m a c (xs ++ ys)
-Ran-Halted m a b c [] ys same rest = subst (λ d. Halted m d c ys) same rest
-Ran-Halted m a b c (x ∷ xs) ys first rest = inr (first.0, first.1, Ran-Halted m first.0 b c xs ys first.2 rest)
-
-pub Halted-front : {D : Type 0} (m : Meaning D) (a c : D) (xs ys : List DiskStep) → Halted m a c xs → Halted m a c (xs ++ ys)
-Halted-front m a c [] ys halted = absurd halted
-Halted-front m a c (x ∷ xs) ys (inl failed) = inl failed
-Halted-front m a c (x ∷ xs) ys (inr rest) = inr (rest.0, rest.1, Halted-front m rest.0 c xs ys rest.2)
-
 -- whatever a run does, time goes on, and the disk tells its bytes as before
 pub record Passes {D : Type 0} (m : Meaning D) (old new : D) : Type 0 where
   pub tells : is_some (m.told new) ≡ is_some (m.told old)
@@ -126,6 +46,76 @@ Failed-Passes f = record { tells = f.tells; later = f.later; telling = f.crashes
 
 pub Looks-Passes : {D : Type 0} {m : Meaning D} {a b : D} → Looks m a b → Passes m a b
 Looks-Passes l = record { tells = ap is_some l.told; later = l.later; telling = l.telling; clock = l.clock; kept = l.kept; parted = l.parted }
+
+-- looks
+
+pub Looks-nothing : {D : Type 0} (m : Meaning D) (d : D) → Looks m d d
+Looks-nothing m d = record {
+  told = refl;
+  later = omega arith;
+  leaves = λ left is. is;
+  telling = refl;
+  clock = omega arith;
+  kept = λ t left early was. was;
+  parted = λ t u left order early is. inl is;
+  since = λ t left early is. inl is;
+}
+
+told-look : (told : Option (List ℕ)) → option_map (stored Look) told ≡ told
+told-look None = refl
+told-look (Some bytes) = refl
+
+pub Looks-look : {D : Type 0} {m : Meaning D} {a b c : D} → Looks m a b → Stored m b c Look → Looks m a c
+Looks-look {m = m} {b = b} first next =
+    let both = Passes-Passes (Looks-Passes first) (Stored-Passes next) in
+    record {
+      told = next.told ∙ told-look (m.told b) ∙ first.told;
+      later = both.later;
+      leaves = λ left is. let was = next.leaves left is in first.leaves left (subst (m.may_leave b) (sym was.2) was.1);
+      telling = both.telling;
+      clock = both.clock;
+      kept = both.kept;
+      parted = both.parted;
+      since = λ t left early is. elim (next.crashes.since t left (let e = first.clock in omega arith) is) [
+        | inl earlier ↦ first.since t left early earlier
+        | inr was ↦ inr (first.leaves left (subst (m.may_leave b) (sym was.2) was.1))
+      ];
+    }
+
+pub Looks-Looks : {D : Type 0} {m : Meaning D} {a b c : D} → Looks m a b → Looks m b c → Looks m a c
+Looks-Looks first next =
+    let both = Passes-Passes (Looks-Passes first) (Looks-Passes next) in
+    record {
+      told = next.told ∙ first.told;
+      later = both.later;
+      leaves = λ left is. first.leaves left (next.leaves left is);
+      telling = both.telling;
+      clock = both.clock;
+      kept = both.kept;
+      parted = both.parted;
+      since = λ t left early is. elim (next.since t left (let e = first.clock in omega arith) is) [
+        | inl earlier ↦ first.since t left early earlier
+        | inr was ↦ inr (first.leaves left was)
+      ];
+    }
+
+pub Looks-settled : {D : Type 0} {m : Meaning D} {a b : D} → Looks m a b → IsSettled m a → IsSettled m b
+Looks-settled looks settled = record { only = λ bytes left told is. settled.only bytes left (sym looks.told ∙ told) (looks.leaves left is) }
+
+-- runs, one after the other
+
+pub Ran-Ran : {D : Type 0} (m : Meaning D) (a b c : D) (xs ys : List DiskStep) → Ran m a b xs → Ran m b c ys → Ran m a c (xs ++ ys)
+Ran-Ran m a b c [] ys same rest = subst (λ d. Ran m d c ys) same rest
+Ran-Ran m a b c (x ∷ xs) ys first rest = (first.0, first.1, Ran-Ran m first.0 b c xs ys first.2 rest)
+
+pub Ran-Halted : {D : Type 0} (m : Meaning D) (a b c : D) (xs ys : List DiskStep) → Ran m a b xs → Halted m b c ys → Halted m a c (xs ++ ys)
+Ran-Halted m a b c [] ys same rest = subst (λ d. Halted m d c ys) same rest
+Ran-Halted m a b c (x ∷ xs) ys first rest = inr (first.0, first.1, Ran-Halted m first.0 b c xs ys first.2 rest)
+
+pub Halted-front : {D : Type 0} (m : Meaning D) (a c : D) (xs ys : List DiskStep) → Halted m a c xs → Halted m a c (xs ++ ys)
+Halted-front m a c [] ys halted = absurd halted
+Halted-front m a c (x ∷ xs) ys (inl failed) = inl failed
+Halted-front m a c (x ∷ xs) ys (inr rest) = inr (rest.0, rest.1, Halted-front m rest.0 c xs ys rest.2)
 
 pub Ran-Passes : {D : Type 0} (m : Meaning D) (a b : D) (steps : List DiskStep) → Ran m a b steps → Passes m a b
 Ran-Passes m a b [] same = subst (λ d. Passes m a d) (sym same) (Passes-nothing m a)

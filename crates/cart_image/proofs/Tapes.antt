@@ -12,11 +12,13 @@ use Rattle.qic_base.specs.Disk as disk
 use Rattle.qic_base.specs.Disk.{DiskStep, Look, Failed, IsSettled}
 use Rattle.qic_base.specs.Step.{Step, WriteSector, FormatSegment, SetReferenced, SetProtected, Renew, Wear, Spoil, effect, effects}
 use Rattle.qic_base.specs.Tape.{Does, Done, Broke, Stops, Tells}
+use Rattle.cart_image.specs.declared.segment.SegmentStates.{SegmentStates}
 use Rattle.cart_image.specs.declared.tape.ImageTape.{ImageTape}
 use Rattle.cart_image.specs.Image.{cartridge_of, info_of, size_of, view_in}
 use Rattle.cart_image.specs.ImageTape.{image_means}
 use Rattle.cart_image.specs.Layout.{sectors, image_len, protected_place, referenced_place, write_sector_steps, wear_steps, spoil_steps, mark_steps, format_plan, renew_steps}
 use Rattle.cart_image.specs.Run.{Looks, Looked, Carried}
+use Rattle.cart_image.specs.State.{AreStates}
 use Rattle.cart_image.specs.Tape.{disk_means}
 use Rattle.cart_image.specs.Whole.{IsHeadOf, some_info, info-parts, cartridge_of-read, info_of-cartridge, size_of-cartridge}
 use Rattle.cart_image.proofs.Carries.{Means, Does-carried}
@@ -125,6 +127,22 @@ module _ {D : Type 0} {g : Ghosts D} (s : ImageTape D g) (n segment sector : ℕ
   pub q-on-tape : (q : ℕ) → q ≡ place_of segment sector → q < sectors n
   q-on-tape q is-q = let o = on-tape in omega arith
 
+-- what is known of a segment is right of the disk's bytes
+abbrev IsRight : {D : Type 0} → disk.Meaning D → D → Option SegmentStates → Type 0
+IsRight m d known = (states : SegmentStates) (bytes : List ℕ) → known ≡ Some states → m.told d ≡ Some bytes → AreStates states (cartridge_of bytes)
+
+-- the invariants of a tape over this disk, of this size, of which this is known
+abbrev IsTape : {D : Type 0} → disk.Meaning D → D → Option ℕ → Option SegmentStates → Type 0
+IsTape m d size known =
+    record {
+      settled : (bytes left : List ℕ) → m.told d ≡ Some bytes → m.may_leave d left → left ≡ bytes;
+      shortest : (n : ℕ) → size ≡ Some n → 3 ≤ n;
+      longest : (n : ℕ) → size ≡ Some n → n ≤ LONGEST;
+      covers : (n : ℕ) → size ≡ Some n → image_len n ≤ m.seen_len d;
+      sized : (n : ℕ) (bytes : List ℕ) → size ≡ Some n → m.told d ≡ Some bytes → size_of bytes ≡ Some n;
+      right : IsRight m d known;
+    }
+
 some_size : (o : Option ℕ) → IsSome o → (n : ℕ) × (o ≡ Some n)
 some_size None is = cc
 some_size (Some n) is = (n, refl)
@@ -162,11 +180,23 @@ module _ {D : Type 0} {g : Ghosts D} (s : ImageTape D g) {T E : Type 0} (new : D
       by_result (Ok x) looks = Looks-settled looks (tape-settled s)
       by_result (Err e) looked = looked.2.settled
 
-  pub sized-after : (steps : List Step) → KeepsSize steps → Does (disk_means g.means) s.disk new steps result → (n : ℕ) (bytes : List ℕ) → s.segments_per_track ≡ Some n → g.means.told new ≡ Some bytes → size_of bytes ≡ Some n
-  sized-after steps keeps does n bytes size told = size-kept g.means s.disk new steps result n bytes keeps does (λ b was. s.sized n b size was) told
+  -- a tape of the same size, over the disk that the call left
+  module _ (t : ImageTape D g) (size : t.segments_per_track ≡ s.segments_per_track) (seen : g.means.seen_len new ≡ g.means.seen_len t.disk) (settled : IsSettled g.means new)
+      (steps : List Step) (keeps : KeepsSize steps) (does : Does (disk_means g.means) s.disk new steps result) where
+    -- .. of which this is known
+    pub known-tape : (known : Option SegmentStates) → IsRight g.means new known → IsTape g.means new t.segments_per_track known
+    known-tape known right = record {
+      settled = settled.only;
+      shortest = t.shortest;
+      longest = t.longest;
+      covers = λ n is. (let c = t.covers n is in omega arith);
+      sized = λ n bytes is told. size-kept g.means s.disk new steps result n bytes keeps does (λ b was. s.sized n b (sym size ∙ is) was) told;
+      right = right;
+    }
 
-  pub covers-after : g.means.seen_len new ≡ g.means.seen_len s.disk → (n : ℕ) → s.segments_per_track ≡ Some n → image_len n ≤ g.means.seen_len new
-  covers-after same n size = let c = s.covers n size in omega arith
+    -- .. of which nothing is known
+    pub unknown-tape : IsTape g.means new t.segments_per_track None
+    unknown-tape = known-tape None (λ states bytes none told. cc)
 
 -- what a look at the head told
 pub info-fact : (told : Option (List ℕ)) (info : Option TapeInfo) → IfSome told (λ b. info ≡ info_of b) → IfSome (option_map cartridge_of told) (λ held. info ≡ option_map (λ (c : Cartridge). c.info) held)

@@ -1,35 +1,22 @@
-use Rattle.std.proofs.Common.{[]}
+use Rattle.std.proofs.Common.{[], refl}
 use Rattle.cart_image.proofs.Known.{same-right, read-right}
 use Rattle.cart_image.proofs.Sizes.{keeps-nothing}
-use Rattle.cart_image.proofs.Tapes.{looked-does, looked-settled, tape-settled, sized-after, covers-after}
+use Rattle.cart_image.proofs.Tapes.{looked-does, looked-settled, tape-settled, known-tape, unknown-tape}
 use Rattle.cart_image.proofs.tape.ImageTape.look.Goals as goal
 
 pub invariant_of-self-in-Break-1 : goal.invariant_of-self-in-Break-1
 invariant_of-self-in-Break-1 g c =
     let s = c.args.self.now in
-    let settled = looked-settled s _ c.read_states.result c.read_states.ensures.looked in
-    record {
-      settled = settled.only;
-      shortest = s.shortest;
-      longest = s.longest;
-      covers = covers-after s _ c.read_states.result c.read_states.ensures.seen;
-      sized = sized-after s _ c.read_states.result [] keeps-nothing (looked-does g.D.Disk.means _ _ c.read_states.result (tape-settled s) c.read_states.ensures.looked);
-      right = λ states bytes none told. cc;
-    }
+    unknown-tape s _ c.read_states.result s refl c.read_states.ensures.seen (looked-settled s _ c.read_states.result c.read_states.ensures.looked) [] keeps-nothing
+    (looked-does g.D.Disk.means _ _ c.read_states.result (tape-settled s) c.read_states.ensures.looked)
 
 pub invariant_of-self-2 : goal.invariant_of-self-2
 invariant_of-self-2 g c =
     let s = c.args.self.now in
-    let settled = looked-settled s _ c.read_states.result c.read_states.ensures.looked in
-    record {
-      settled = settled.only;
-      shortest = s.shortest;
-      longest = s.longest;
-      covers = covers-after s _ c.read_states.result c.read_states.ensures.seen;
-      sized = sized-after s _ c.read_states.result [] keeps-nothing (looked-does g.D.Disk.means _ _ c.read_states.result (tape-settled s) c.read_states.ensures.looked);
-      right = λ states bytes is told. same-right _ _ _ is
-          (read-right s c.size-size.result c.args.segment 0 c.size-size.ensures c.requires c.in_ok-states.states c.in_ok-states.ensures.segment _ c.in_ok-states.ensures.looked.told c.in_ok-states.ensures.states bytes told);
-    }
+    known-tape s _ c.read_states.result s refl c.read_states.ensures.seen (looked-settled s _ c.read_states.result c.read_states.ensures.looked) [] keeps-nothing
+    (looked-does g.D.Disk.means _ _ c.read_states.result (tape-settled s) c.read_states.ensures.looked) _
+    (λ states bytes is told. same-right _ _ _ is
+    (read-right s c.size-size.result c.args.segment 0 c.size-size.ensures c.requires c.in_ok-states.states c.in_ok-states.ensures.segment _ c.in_ok-states.ensures.looked.told c.in_ok-states.ensures.states bytes told))
 
 pub returns-clause-states : goal.returns-clause-states
 returns-clause-states g c = λ bytes told.

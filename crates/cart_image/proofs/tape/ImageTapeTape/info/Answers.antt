@@ -1,6 +1,6 @@
-use Rattle.std.proofs.Common.{[]}
+use Rattle.std.proofs.Common.{[], refl}
 use Rattle.cart_image.proofs.Runs.{Looks-settled}
-use Rattle.cart_image.proofs.Tapes.{Tape-done, Tape-broke, looks-done, looks-broke, tape-settled, looked-sized, head-size, info-fact, sized-after, covers-after}
+use Rattle.cart_image.proofs.Tapes.{Tape-done, Tape-broke, looks-done, looks-broke, tape-settled, looked-sized, head-size, info-fact, unknown-tape}
 use Rattle.cart_image.proofs.Sizes.{keeps-nothing}
 use Rattle.cart_image.proofs.tape.ImageTapeTape.info.Goals as goal
 
@@ -20,15 +20,7 @@ invariant_of-self g c =
 pub invariant_of-self-in-Err : goal.invariant_of-self-in-Err
 invariant_of-self-in-Err g c =
     let s = c.args.self.now in
-    let settled = c.in-Err.ensures.looked.2.settled in
-    record {
-      settled = settled.only;
-      shortest = s.shortest;
-      longest = s.longest;
-      covers = covers-after s _ c.read_info.result c.in-Err.ensures.failed;
-      sized = sized-after s _ c.read_info.result [] keeps-nothing (rw c.in-Err.is (looks-broke g.D.Disk.means _ _ (tape-settled s) c.in-Err.ensures.looked));
-      right = λ states bytes none told. cc;
-    }
+    unknown-tape s _ c.read_info.result s refl c.in-Err.ensures.failed c.in-Err.ensures.looked.2.settled [] keeps-nothing (rw c.in-Err.is (looks-broke g.D.Disk.means _ _ (tape-settled s) c.in-Err.ensures.looked))
 
 pub returns-in-Ok-clause-did : goal.returns-in-Ok-clause-did
 returns-in-Ok-clause-did g c = Tape-done _ _ [] (looks-done g.D.Disk.means _ _ (tape-settled c.args.self.now) c.in-Ok.ensures.looked)

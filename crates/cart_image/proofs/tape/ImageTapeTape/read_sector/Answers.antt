@@ -1,10 +1,10 @@
-use Rattle.std.proofs.Common.{[], sym, ◌∙◌}
+use Rattle.std.proofs.Common.{[], refl, sym, ◌∙◌}
 use Rattle.qic_base.specs.Tape.{Reads}
 use Rattle.cart_image.proofs.Carries.{Failed-Broke}
 use Rattle.cart_image.proofs.Known.{state-here, told-same}
 use Rattle.cart_image.proofs.Runs.{Looks-Looks}
 use Rattle.cart_image.proofs.Sizes.{keeps-nothing}
-use Rattle.cart_image.proofs.Tapes.{Tape-done, Tape-broke, looks-done, looks-broke, looked-does, looked-settled, tape-settled, read-fact, sized-after, covers-after}
+use Rattle.cart_image.proofs.Tapes.{Tape-done, Tape-broke, looks-done, looks-broke, looked-does, looked-settled, tape-settled, read-fact, known-tape, unknown-tape}
 use Rattle.cart_image.proofs.tape.ImageTapeTape.read_sector.Goals as goal
 
 pub returns-in-Err-clause-did : goal.returns-in-Err-clause-did
@@ -20,28 +20,14 @@ read_sector-requires-clause-state g c =
 pub invariant_of-self : goal.invariant_of-self
 invariant_of-self g c =
     let t = c.look.new.self in
-    let settled = looked-settled t _ c.read_sector.result c.read_sector.ensures.looked in
-    record {
-      settled = settled.only;
-      shortest = t.shortest;
-      longest = t.longest;
-      covers = covers-after t _ c.read_sector.result c.read_sector.ensures.seen;
-      sized = sized-after t _ c.read_sector.result [] keeps-nothing (looked-does g.D.Disk.means _ _ c.read_sector.result (tape-settled t) c.read_sector.ensures.looked);
-      right = λ states bytes is told. t.right states bytes is (sym c.in-Ok-read_sector.ensures.looked.told ∙ told);
-    }
+    known-tape t _ c.read_sector.result t refl c.read_sector.ensures.seen (looked-settled t _ c.read_sector.result c.read_sector.ensures.looked) [] keeps-nothing
+    (looked-does g.D.Disk.means _ _ c.read_sector.result (tape-settled t) c.read_sector.ensures.looked) _ (λ states bytes is told. t.right states bytes is (sym c.in-Ok-read_sector.ensures.looked.told ∙ told))
 
 pub invariant_of-self-in-Err-read_sector : goal.invariant_of-self-in-Err-read_sector
 invariant_of-self-in-Err-read_sector g c =
     let t = c.look.new.self in
-    let settled = looked-settled t _ c.read_sector.result c.read_sector.ensures.looked in
-    record {
-      settled = settled.only;
-      shortest = t.shortest;
-      longest = t.longest;
-      covers = covers-after t _ c.read_sector.result c.read_sector.ensures.seen;
-      sized = sized-after t _ c.read_sector.result [] keeps-nothing (looked-does g.D.Disk.means _ _ c.read_sector.result (tape-settled t) c.read_sector.ensures.looked);
-      right = λ states bytes none told. cc;
-    }
+    unknown-tape t _ c.read_sector.result t refl c.read_sector.ensures.seen (looked-settled t _ c.read_sector.result c.read_sector.ensures.looked) [] keeps-nothing
+    (looked-does g.D.Disk.means _ _ c.read_sector.result (tape-settled t) c.read_sector.ensures.looked)
 
 pub returns-in-Ok-read_sector-clause-did : goal.returns-in-Ok-read_sector-clause-did
 returns-in-Ok-read_sector-clause-did g c =

@@ -1,21 +1,13 @@
-use Rattle.std.proofs.Common.{[], ◌∷◌}
+use Rattle.std.proofs.Common.{[], ◌∷◌, refl}
 use Rattle.qic_base.specs.Step.{SetProtected}
 use Rattle.cart_image.proofs.Sizes.{keeps-protected}
-use Rattle.cart_image.proofs.Tapes.{Tape-done, Tape-broke, protected-does, sized-after, covers-after}
+use Rattle.cart_image.proofs.Tapes.{Tape-done, Tape-broke, protected-does, unknown-tape}
 use Rattle.cart_image.proofs.tape.ImageTapeTape.set_protected.Goals as goal
 
 pub invariant_of-self : goal.invariant_of-self
 invariant_of-self g c =
     let s = c.args.self.now in
-    let settled = c.set_mark.ensures.settled in
-    record {
-      settled = settled.only;
-      shortest = s.shortest;
-      longest = s.longest;
-      covers = covers-after s _ c.set_mark.result c.set_mark.ensures.seen;
-      sized = sized-after s _ c.set_mark.result (SetProtected c.args.on ∷ []) (keeps-protected c.args.on) (protected-does s _ c.set_mark.result c.requires c.args.on c.set_mark.ensures.carried);
-      right = λ states bytes none told. cc;
-    }
+    unknown-tape s _ c.set_mark.result s refl c.set_mark.ensures.seen c.set_mark.ensures.settled (SetProtected c.args.on ∷ []) (keeps-protected c.args.on) (protected-does s _ c.set_mark.result c.requires c.args.on c.set_mark.ensures.carried)
 
 pub returns-in-Ok-clause-did : goal.returns-in-Ok-clause-did
 returns-in-Ok-clause-did g c = Tape-done _ _ (SetProtected c.args.on ∷ []) (protected-does c.args.self.now _ _ c.requires c.args.on c.in-Ok.ensures.carried)

@@ -1,21 +1,13 @@
-use Rattle.std.proofs.Common.{[], ◌∷◌}
+use Rattle.std.proofs.Common.{[], ◌∷◌, refl}
 use Rattle.qic_base.specs.Step.{SetReferenced}
 use Rattle.cart_image.proofs.Sizes.{keeps-referenced}
-use Rattle.cart_image.proofs.Tapes.{Tape-done, Tape-broke, referenced-does, sized-after, covers-after}
+use Rattle.cart_image.proofs.Tapes.{Tape-done, Tape-broke, referenced-does, unknown-tape}
 use Rattle.cart_image.proofs.tape.ImageTapeTape.set_referenced.Goals as goal
 
 pub invariant_of-self : goal.invariant_of-self
 invariant_of-self g c =
     let s = c.args.self.now in
-    let settled = c.set_mark.ensures.settled in
-    record {
-      settled = settled.only;
-      shortest = s.shortest;
-      longest = s.longest;
-      covers = covers-after s _ c.set_mark.result c.set_mark.ensures.seen;
-      sized = sized-after s _ c.set_mark.result (SetReferenced ∷ []) (keeps-referenced) (referenced-does s _ c.set_mark.result c.requires c.set_mark.ensures.carried);
-      right = λ states bytes none told. cc;
-    }
+    unknown-tape s _ c.set_mark.result s refl c.set_mark.ensures.seen c.set_mark.ensures.settled (SetReferenced ∷ []) keeps-referenced (referenced-does s _ c.set_mark.result c.requires c.set_mark.ensures.carried)
 
 pub returns-in-Ok-clause-did : goal.returns-in-Ok-clause-did
 returns-in-Ok-clause-did g c = Tape-done _ _ (SetReferenced ∷ []) (referenced-does c.args.self.now _ _ c.requires c.in-Ok.ensures.carried)

@@ -1,4 +1,4 @@
-use Rattle.std.proofs.Common.{[], ◌∷◌, refl, sym, ◌∙◌, arith}
+use Rattle.std.proofs.Common.{[], ◌∷◌, refl, ◌∙◌, arith}
 use Rattle.qic_base.specs.Step.{Spoil, spoiled_view}
 use Rattle.std.proofs.Common.{◌≡◌}
 use Rattle.qic_base.specs.Tape.{spoil_answer}
@@ -6,7 +6,7 @@ use Rattle.cart_image.proofs.Carries.{Failed-Broke}
 use Rattle.cart_image.proofs.Exits.{Carried-after, CarriedBy-failed}
 use Rattle.cart_image.proofs.Known.{same-right, state-here, changed-right, told-same}
 use Rattle.cart_image.proofs.Sizes.{keeps-spoil}
-use Rattle.cart_image.proofs.Tapes.{Tape-done, Tape-broke, tape-settled, spoil-does, seen-fact, sized-after, covers-after}
+use Rattle.cart_image.proofs.Tapes.{Tape-done, Tape-broke, tape-settled, spoil-does, seen-fact, known-tape, unknown-tape}
 use Rattle.cart_image.proofs.tape.ImageTapeTape.spoil.Goals as goal
 
 pub returns-in-Err-clause-did : goal.returns-in-Err-clause-did
@@ -25,38 +25,21 @@ spoil-requires-clause-state g c =
 pub invariant_of-self : goal.invariant_of-self
 invariant_of-self g c =
     let s = c.args.self.now in
-    let t = c.look.new.self in
-    let settled = c.spoil.ensures.settled in
-    record {
-      settled = settled.only;
-      shortest = t.shortest;
-      longest = t.longest;
-      covers = covers-after t _ c.spoil.result c.spoil.ensures.seen;
-      sized = λ n bytes size told. sized-after s _ c.spoil.result (Spoil c.args.segment c.args.sector ∷ []) (keeps-spoil c.args.segment c.args.sector)
-          (spoil-does s c.size-size.result c.args.segment c.args.sector c.size-size.ensures c.requires _ c.spoil.result c.sector_number.result c.sector_number.ensures (Carried-after g.D.Disk.means _ _ _ _ _ c.in-Ok.ensures.looked c.spoil.ensures.carried))
-          n bytes (sym c.in-Ok.ensures.size ∙ size) told;
-      right = λ states bytes is told. same-right _ _ _ is
-          (changed-right s c.size-size.result c.args.segment c.args.sector c.size-size.ensures c.requires c.in-Ok.states c.in-Ok.ensures.segment (λ b was. c.in-Ok.ensures.states b (c.in-Ok.ensures.looked.told ∙ was))
-          c.of-state.result c.of-state.ensures _ (Spoil c.args.segment c.args.sector) spoiled_view (λ d. refl)
-          (spoil-does s c.size-size.result c.args.segment c.args.sector c.size-size.ensures c.requires _ _ c.sector_number.result c.sector_number.ensures (Carried-after g.D.Disk.means _ _ _ _ _ c.in-Ok.ensures.looked c.in-Ok-spoil.ensures.carried))
-          c.spoiled.result c.spoiled.ensures c.with.result c.with.ensures.segment c.with.ensures.states (omega arith) bytes told);
-    }
+    known-tape s _ c.spoil.result c.look.new.self c.in-Ok.ensures.size c.spoil.ensures.seen c.spoil.ensures.settled
+    (Spoil c.args.segment c.args.sector ∷ []) (keeps-spoil c.args.segment c.args.sector)
+    (spoil-does s c.size-size.result c.args.segment c.args.sector c.size-size.ensures c.requires _ c.spoil.result c.sector_number.result c.sector_number.ensures (Carried-after g.D.Disk.means _ _ _ _ _ c.in-Ok.ensures.looked c.spoil.ensures.carried))
+    _ (λ states bytes is told. same-right _ _ _ is
+    (changed-right s c.size-size.result c.args.segment c.args.sector c.size-size.ensures c.requires c.in-Ok.states c.in-Ok.ensures.segment (λ b was. c.in-Ok.ensures.states b (c.in-Ok.ensures.looked.told ∙ was))
+    c.of-state.result c.of-state.ensures _ (Spoil c.args.segment c.args.sector) spoiled_view (λ d. refl)
+    (spoil-does s c.size-size.result c.args.segment c.args.sector c.size-size.ensures c.requires _ _ c.sector_number.result c.sector_number.ensures (Carried-after g.D.Disk.means _ _ _ _ _ c.in-Ok.ensures.looked c.in-Ok-spoil.ensures.carried))
+    c.spoiled.result c.spoiled.ensures c.with.result c.with.ensures.segment c.with.ensures.states (omega arith) bytes told))
 
 pub invariant_of-self-in-Err-spoil : goal.invariant_of-self-in-Err-spoil
 invariant_of-self-in-Err-spoil g c =
     let s = c.args.self.now in
-    let t = c.look.new.self in
-    let settled = c.spoil.ensures.settled in
-    record {
-      settled = settled.only;
-      shortest = t.shortest;
-      longest = t.longest;
-      covers = covers-after t _ c.spoil.result c.spoil.ensures.seen;
-      sized = λ n bytes size told. sized-after s _ c.spoil.result (Spoil c.args.segment c.args.sector ∷ []) (keeps-spoil c.args.segment c.args.sector)
-          (spoil-does s c.size-size.result c.args.segment c.args.sector c.size-size.ensures c.requires _ c.spoil.result c.sector_number.result c.sector_number.ensures (Carried-after g.D.Disk.means _ _ _ _ _ c.in-Ok.ensures.looked c.spoil.ensures.carried))
-          n bytes (sym c.in-Ok.ensures.size ∙ size) told;
-      right = λ states bytes none told. cc;
-    }
+    unknown-tape s _ c.spoil.result c.look.new.self c.in-Ok.ensures.size c.spoil.ensures.seen c.spoil.ensures.settled
+    (Spoil c.args.segment c.args.sector ∷ []) (keeps-spoil c.args.segment c.args.sector)
+    (spoil-does s c.size-size.result c.args.segment c.args.sector c.size-size.ensures c.requires _ c.spoil.result c.sector_number.result c.sector_number.ensures (Carried-after g.D.Disk.means _ _ _ _ _ c.in-Ok.ensures.looked c.spoil.ensures.carried))
 
 pub returns-in-Ok-spoil-clause-did : goal.returns-in-Ok-spoil-clause-did
 returns-in-Ok-spoil-clause-did g c =

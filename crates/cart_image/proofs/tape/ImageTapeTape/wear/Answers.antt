@@ -1,10 +1,10 @@
-use Rattle.std.proofs.Common.{[], ◌∷◌, refl, sym, ◌∙◌, arith}
+use Rattle.std.proofs.Common.{[], ◌∷◌, refl, ◌∙◌, arith}
 use Rattle.qic_base.specs.Step.{Wear, worn_view}
 use Rattle.cart_image.proofs.Carries.{Failed-Broke}
 use Rattle.cart_image.proofs.Exits.{Carried-after, CarriedBy-failed}
 use Rattle.cart_image.proofs.Known.{same-right, state-here, changed-right}
 use Rattle.cart_image.proofs.Sizes.{keeps-wear}
-use Rattle.cart_image.proofs.Tapes.{Tape-done, Tape-broke, tape-settled, wear-does, sized-after, covers-after}
+use Rattle.cart_image.proofs.Tapes.{Tape-done, Tape-broke, tape-settled, wear-does, known-tape, unknown-tape}
 use Rattle.cart_image.proofs.tape.ImageTapeTape.wear.Goals as goal
 
 pub returns-in-Err-clause-did : goal.returns-in-Err-clause-did
@@ -23,38 +23,21 @@ wear-requires-clause-state g c =
 pub invariant_of-self : goal.invariant_of-self
 invariant_of-self g c =
     let s = c.args.self.now in
-    let t = c.look.new.self in
-    let settled = c.wear.ensures.settled in
-    record {
-      settled = settled.only;
-      shortest = t.shortest;
-      longest = t.longest;
-      covers = covers-after t _ c.wear.result c.wear.ensures.seen;
-      sized = λ n bytes size told. sized-after s _ c.wear.result (Wear c.args.segment c.args.sector ∷ []) (keeps-wear c.args.segment c.args.sector)
-          (wear-does s c.size-size.result c.args.segment c.args.sector c.size-size.ensures c.requires _ c.wear.result c.sector_number.result c.sector_number.ensures (Carried-after g.D.Disk.means _ _ _ _ _ c.in-Ok.ensures.looked c.wear.ensures.carried))
-          n bytes (sym c.in-Ok.ensures.size ∙ size) told;
-      right = λ states bytes is told. same-right _ _ _ is
-          (changed-right s c.size-size.result c.args.segment c.args.sector c.size-size.ensures c.requires c.in-Ok.states c.in-Ok.ensures.segment (λ b was. c.in-Ok.ensures.states b (c.in-Ok.ensures.looked.told ∙ was))
-          c.of-state.result c.of-state.ensures _ (Wear c.args.segment c.args.sector) worn_view (λ d. refl)
-          (wear-does s c.size-size.result c.args.segment c.args.sector c.size-size.ensures c.requires _ _ c.sector_number.result c.sector_number.ensures (Carried-after g.D.Disk.means _ _ _ _ _ c.in-Ok.ensures.looked c.in-Ok-wear.ensures.carried))
-          c.worn.result c.worn.ensures c.with.result c.with.ensures.segment c.with.ensures.states (omega arith) bytes told);
-    }
+    known-tape s _ c.wear.result c.look.new.self c.in-Ok.ensures.size c.wear.ensures.seen c.wear.ensures.settled
+    (Wear c.args.segment c.args.sector ∷ []) (keeps-wear c.args.segment c.args.sector)
+    (wear-does s c.size-size.result c.args.segment c.args.sector c.size-size.ensures c.requires _ c.wear.result c.sector_number.result c.sector_number.ensures (Carried-after g.D.Disk.means _ _ _ _ _ c.in-Ok.ensures.looked c.wear.ensures.carried))
+    _ (λ states bytes is told. same-right _ _ _ is
+    (changed-right s c.size-size.result c.args.segment c.args.sector c.size-size.ensures c.requires c.in-Ok.states c.in-Ok.ensures.segment (λ b was. c.in-Ok.ensures.states b (c.in-Ok.ensures.looked.told ∙ was))
+    c.of-state.result c.of-state.ensures _ (Wear c.args.segment c.args.sector) worn_view (λ d. refl)
+    (wear-does s c.size-size.result c.args.segment c.args.sector c.size-size.ensures c.requires _ _ c.sector_number.result c.sector_number.ensures (Carried-after g.D.Disk.means _ _ _ _ _ c.in-Ok.ensures.looked c.in-Ok-wear.ensures.carried))
+    c.worn.result c.worn.ensures c.with.result c.with.ensures.segment c.with.ensures.states (omega arith) bytes told))
 
 pub invariant_of-self-in-Err-wear : goal.invariant_of-self-in-Err-wear
 invariant_of-self-in-Err-wear g c =
     let s = c.args.self.now in
-    let t = c.look.new.self in
-    let settled = c.wear.ensures.settled in
-    record {
-      settled = settled.only;
-      shortest = t.shortest;
-      longest = t.longest;
-      covers = covers-after t _ c.wear.result c.wear.ensures.seen;
-      sized = λ n bytes size told. sized-after s _ c.wear.result (Wear c.args.segment c.args.sector ∷ []) (keeps-wear c.args.segment c.args.sector)
-          (wear-does s c.size-size.result c.args.segment c.args.sector c.size-size.ensures c.requires _ c.wear.result c.sector_number.result c.sector_number.ensures (Carried-after g.D.Disk.means _ _ _ _ _ c.in-Ok.ensures.looked c.wear.ensures.carried))
-          n bytes (sym c.in-Ok.ensures.size ∙ size) told;
-      right = λ states bytes none told. cc;
-    }
+    unknown-tape s _ c.wear.result c.look.new.self c.in-Ok.ensures.size c.wear.ensures.seen c.wear.ensures.settled
+    (Wear c.args.segment c.args.sector ∷ []) (keeps-wear c.args.segment c.args.sector)
+    (wear-does s c.size-size.result c.args.segment c.args.sector c.size-size.ensures c.requires _ c.wear.result c.sector_number.result c.sector_number.ensures (Carried-after g.D.Disk.means _ _ _ _ _ c.in-Ok.ensures.looked c.wear.ensures.carried))
 
 pub returns-in-Ok-wear-clause-did : goal.returns-in-Ok-wear-clause-did
 returns-in-Ok-wear-clause-did g c =

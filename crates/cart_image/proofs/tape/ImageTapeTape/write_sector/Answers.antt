@@ -1,4 +1,4 @@
-use Rattle.std.proofs.Common.{[], ◌∷◌, refl, sym, ◌∙◌, arith}
+use Rattle.std.proofs.Common.{[], ◌∷◌, refl, ◌∙◌, arith}
 use Rattle.qic_base.specs.Step.{WriteSector, written_view}
 use Rattle.std.proofs.Common.{◌≡◌}
 use Rattle.qic_base.specs.Tape.{write_answer}
@@ -6,7 +6,7 @@ use Rattle.cart_image.proofs.Carries.{Failed-Broke}
 use Rattle.cart_image.proofs.Exits.{Carried-after, CarriedBy-failed}
 use Rattle.cart_image.proofs.Known.{same-right, state-here, changed-right, told-same}
 use Rattle.cart_image.proofs.Sizes.{keeps-write}
-use Rattle.cart_image.proofs.Tapes.{Tape-done, Tape-broke, tape-settled, write-does, seen-fact, sized-after, covers-after}
+use Rattle.cart_image.proofs.Tapes.{Tape-done, Tape-broke, tape-settled, write-does, seen-fact, known-tape, unknown-tape}
 use Rattle.cart_image.proofs.tape.ImageTapeTape.write_sector.Goals as goal
 
 pub returns-in-Err-clause-did : goal.returns-in-Err-clause-did
@@ -25,38 +25,21 @@ write_sector-requires-clause-state g c =
 pub invariant_of-self : goal.invariant_of-self
 invariant_of-self g c =
     let s = c.args.self.now in
-    let t = c.look.new.self in
-    let settled = c.write_sector.ensures.settled in
-    record {
-      settled = settled.only;
-      shortest = t.shortest;
-      longest = t.longest;
-      covers = covers-after t _ c.write_sector.result c.write_sector.ensures.seen;
-      sized = λ n bytes size told. sized-after s _ c.write_sector.result (WriteSector c.args.segment c.args.sector c.args.from.now ∷ []) (keeps-write c.args.segment c.args.sector c.args.from.now)
-          (write-does s c.size-size.result c.args.segment c.args.sector c.size-size.ensures c.requires _ c.write_sector.result c.sector_number.result c.sector_number.ensures c.args.from.now (omega arith) (Carried-after g.D.Disk.means _ _ _ _ _ c.in-Ok.ensures.looked c.write_sector.ensures.carried))
-          n bytes (sym c.in-Ok.ensures.size ∙ size) told;
-      right = λ states bytes is told. same-right _ _ _ is
-          (changed-right s c.size-size.result c.args.segment c.args.sector c.size-size.ensures c.requires c.in-Ok.states c.in-Ok.ensures.segment (λ b was. c.in-Ok.ensures.states b (c.in-Ok.ensures.looked.told ∙ was))
-          c.of-state.result c.of-state.ensures _ (WriteSector c.args.segment c.args.sector c.args.from.now) (written_view c.args.from.now) (λ d. refl)
-          (write-does s c.size-size.result c.args.segment c.args.sector c.size-size.ensures c.requires _ _ c.sector_number.result c.sector_number.ensures c.args.from.now (omega arith) (Carried-after g.D.Disk.means _ _ _ _ _ c.in-Ok.ensures.looked c.in-Ok-write_sector.ensures.carried))
-          c.written.result (c.written.ensures c.args.from.now) c.with.result c.with.ensures.segment c.with.ensures.states (omega arith) bytes told);
-    }
+    known-tape s _ c.write_sector.result c.look.new.self c.in-Ok.ensures.size c.write_sector.ensures.seen c.write_sector.ensures.settled
+    (WriteSector c.args.segment c.args.sector c.args.from.now ∷ []) (keeps-write c.args.segment c.args.sector c.args.from.now)
+    (write-does s c.size-size.result c.args.segment c.args.sector c.size-size.ensures c.requires _ c.write_sector.result c.sector_number.result c.sector_number.ensures c.args.from.now (omega arith) (Carried-after g.D.Disk.means _ _ _ _ _ c.in-Ok.ensures.looked c.write_sector.ensures.carried))
+    _ (λ states bytes is told. same-right _ _ _ is
+    (changed-right s c.size-size.result c.args.segment c.args.sector c.size-size.ensures c.requires c.in-Ok.states c.in-Ok.ensures.segment (λ b was. c.in-Ok.ensures.states b (c.in-Ok.ensures.looked.told ∙ was))
+    c.of-state.result c.of-state.ensures _ (WriteSector c.args.segment c.args.sector c.args.from.now) (written_view c.args.from.now) (λ d. refl)
+    (write-does s c.size-size.result c.args.segment c.args.sector c.size-size.ensures c.requires _ _ c.sector_number.result c.sector_number.ensures c.args.from.now (omega arith) (Carried-after g.D.Disk.means _ _ _ _ _ c.in-Ok.ensures.looked c.in-Ok-write_sector.ensures.carried))
+    c.written.result (c.written.ensures c.args.from.now) c.with.result c.with.ensures.segment c.with.ensures.states (omega arith) bytes told))
 
 pub invariant_of-self-in-Err-write_sector : goal.invariant_of-self-in-Err-write_sector
 invariant_of-self-in-Err-write_sector g c =
     let s = c.args.self.now in
-    let t = c.look.new.self in
-    let settled = c.write_sector.ensures.settled in
-    record {
-      settled = settled.only;
-      shortest = t.shortest;
-      longest = t.longest;
-      covers = covers-after t _ c.write_sector.result c.write_sector.ensures.seen;
-      sized = λ n bytes size told. sized-after s _ c.write_sector.result (WriteSector c.args.segment c.args.sector c.args.from.now ∷ []) (keeps-write c.args.segment c.args.sector c.args.from.now)
-          (write-does s c.size-size.result c.args.segment c.args.sector c.size-size.ensures c.requires _ c.write_sector.result c.sector_number.result c.sector_number.ensures c.args.from.now (omega arith) (Carried-after g.D.Disk.means _ _ _ _ _ c.in-Ok.ensures.looked c.write_sector.ensures.carried))
-          n bytes (sym c.in-Ok.ensures.size ∙ size) told;
-      right = λ states bytes none told. cc;
-    }
+    unknown-tape s _ c.write_sector.result c.look.new.self c.in-Ok.ensures.size c.write_sector.ensures.seen c.write_sector.ensures.settled
+    (WriteSector c.args.segment c.args.sector c.args.from.now ∷ []) (keeps-write c.args.segment c.args.sector c.args.from.now)
+    (write-does s c.size-size.result c.args.segment c.args.sector c.size-size.ensures c.requires _ c.write_sector.result c.sector_number.result c.sector_number.ensures c.args.from.now (omega arith) (Carried-after g.D.Disk.means _ _ _ _ _ c.in-Ok.ensures.looked c.write_sector.ensures.carried))
 
 pub returns-in-Ok-write_sector-clause-did : goal.returns-in-Ok-write_sector-clause-did
 returns-in-Ok-write_sector-clause-did g c =
