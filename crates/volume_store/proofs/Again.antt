@@ -6,7 +6,7 @@ use Rattle.qic_base.specs.Cartridge.{Cartridge}
 use Rattle.qic_base.specs.Step.{Step}
 use Rattle.qic_base.specs.Tape.{Meaning, Done, Broke, Does, Tells}
 use Rattle.cartridge_spec.specs.HeaderAndTable.{table_cells, TableIs}
-use Rattle.cartridge_spec.specs.Says.{Data, AsRead, ByCode, ReadsAll, TableSays, HasBlock, HasNoBlock, Agrees, data_of}
+use Rattle.cartridge_spec.specs.Says.{Data, AsRead, ByCode, LostSectors, ReadsAll, TableSays, HasBlock, HasNoBlock, Agrees, data_of}
 use Rattle.cartridge_spec.specs.Table.{Entry, Shows}
 use Rattle.qic_base.specs.declared.tape.SectorView.{SectorView}
 use Rattle.cartridge_spec.proofs.Hiding.{nothing_is_hidden}
@@ -24,7 +24,7 @@ use Rattle.segment_io.proofs.Going.{tells_always}
 use Rattle.volume_store.specs.declared.fault.StoreFault.{StoreFault}
 use Rattle.volume_store.specs.declared.table_reader.Unread.{Unread}
 use Rattle.volume_store.specs.declared.fault.StoreFault.TheVariants as fault
-use Rattle.volume_store.specs.Again.{BrokeUnread, FaultUnread, HasTable, FindsList, IsOfReading, IsSettledAgain, IsBrokenOff, SettlesAgain, AddsEntry, data_with, entry_writes}
+use Rattle.volume_store.specs.Again.{BrokeUnread, FaultUnread, HasTable, FindsList, IsOfReading, IsSettledAgain, IsRefused, IsBrokenOff, SettlesAgain, AddsEntry, data_with, entry_writes}
 use Rattle.volume_store.specs.Finding.{FindsTable, Leaves, refusal_of}
 use Rattle.volume_store.specs.Mounting.{HasList}
 use Rattle.volume_store.specs.Settling.{mending_steps}
@@ -92,43 +92,40 @@ broken_before m old new wanted broke = record {
   told = tells_always m old (λ c. (area : List (List ℕ)) → TableIs c area → (rest : List Step) × ([] ++ rest ≡ wanted area c)) (λ c area table. (wanted area c, refl));
 }
 
+-- what follows where it was refused, and where a fault of the tape broke these steps off, holds of the fault of a reading
+refused_by : {T : Type 0} (m : Meaning T) (old new : T) (entries : List Entry) (found : List (List ℕ)) (wanted : (area : List (List ℕ)) → Cartridge → List Step) (P : StoreFault → Type 0) →
+    ((segment lost : ℕ) → IsRefused m old new (λ c. TableSays (table_cells c) (ByCode (LostSectors lost))) → P (fault.Lost segment lost)) →
+    (IsRefused m old new (λ c. HasList c entries → ⊥) → P fault.TableMismatch) → (IsBrokenOff m old new wanted → P fault.Tape) →
+    (f : StoreFault) → Leaves {A = Unread} m old new [] (Err f) → (f ≢ fault.Tape → Tells m old (λ c. FindsList c found entries (Err f))) → IsOfReading {A = Unread} (Err f) → P f
+refused_by m old new entries found wanted P is_lost is_other is_broken = by_fault
+  where
+    by_fault : (f : StoreFault) → Leaves {A = Unread} m old new [] (Err f) → (f ≢ fault.Tape → Tells m old (λ c. FindsList c found entries (Err f))) → IsOfReading {A = Unread} (Err f) → P f
+    by_fault (fault.Lost segment lost) left told kind = is_lost segment lost (record { done = left; told = told (λ same. cc) })
+    by_fault fault.TableMismatch left told kind = is_other (record { done = left; told = told (λ same. cc) })
+    by_fault fault.Tape left told kind = is_broken (broken_before m old new wanted left)
+    by_fault fault.NotFormatted left told kind = absurd kind
+    by_fault (fault.Foreign field value) left told kind = absurd kind
+    by_fault (fault.Full need have) left told kind = absurd kind
+    by_fault (fault.NoVolume number count) left told kind = absurd kind
+    by_fault (fault.Mismatch segment) left told kind = absurd kind
+    by_fault fault.Protected left told kind = absurd kind
+    by_fault (fault.Short promised read) left told kind = absurd kind
+    by_fault fault.Source left told kind = absurd kind
+    by_fault fault.Sink left told kind = absurd kind
+
 pub settles_refused : {T : Type 0} (m : Meaning T) (old new : T) (entries : List Entry) (found sectors : List (List ℕ)) (f : StoreFault) (r : Result (Unit {0}) StoreFault) → r ≡ Err f →
     Leaves {A = Unread} m old new [] (Err f) → (f ≢ fault.Tape → Tells m old (λ c. FindsList c found entries (Err f))) → IsOfReading {A = Unread} (Err f) → SettlesAgain m old new entries sectors r
-settles_refused m old new entries found sectors f r is left told kind = subst (λ (answer : Result (Unit {0}) StoreFault). SettlesAgain m old new entries sectors answer) (sym is) (by_fault f left told kind)
-  where
-    by_fault : (f : StoreFault) → Leaves {A = Unread} m old new [] (Err f) → (f ≢ fault.Tape → Tells m old (λ c. FindsList c found entries (Err f))) → IsOfReading {A = Unread} (Err f) →
-        SettlesAgain {A = Unit {0}} m old new entries sectors (Err f)
-    by_fault (fault.Lost segment lost) left told kind = record { done = left; told = told (λ same. cc) }
-    by_fault fault.TableMismatch left told kind = record { done = left; told = told (λ same. cc) }
-    by_fault fault.Tape left told kind = broken_before m old new settling_steps left
-    by_fault fault.NotFormatted left told kind = absurd kind
-    by_fault (fault.Foreign field value) left told kind = kind
-    by_fault (fault.Full need have) left told kind = kind
-    by_fault (fault.NoVolume number count) left told kind = kind
-    by_fault (fault.Mismatch segment) left told kind = kind
-    by_fault fault.Protected left told kind = kind
-    by_fault (fault.Short promised read) left told kind = kind
-    by_fault fault.Source left told kind = kind
-    by_fault fault.Sink left told kind = kind
+settles_refused m old new entries found sectors f r is left told kind =
+    subst (λ (answer : Result (Unit {0}) StoreFault). SettlesAgain m old new entries sectors answer) (sym is)
+    (refused_by m old new entries found settling_steps (λ (g : StoreFault). SettlesAgain {A = Unit {0}} m old new entries sectors (Err g))
+    (λ segment lost was. was) (λ was. was) (λ was. was) f left told kind)
 
 pub adds_refused : {T : Type 0} (m : Meaning T) (old new : T) (entries : List Entry) (entry : Entry) (found : List (List ℕ)) (f : StoreFault) (r : Result (Unit {0}) StoreFault) → r ≡ Err f →
     Leaves {A = Unread} m old new [] (Err f) → (f ≢ fault.Tape → Tells m old (λ c. FindsList c found entries (Err f))) → IsOfReading {A = Unread} (Err f) → AddsEntry m old new entries entry r
-adds_refused m old new entries entry found f r is left told kind = subst (λ (answer : Result (Unit {0}) StoreFault). AddsEntry m old new entries entry answer) (sym is) (by_fault f left told kind)
-  where
-    by_fault : (f : StoreFault) → Leaves {A = Unread} m old new [] (Err f) → (f ≢ fault.Tape → Tells m old (λ c. FindsList c found entries (Err f))) → IsOfReading {A = Unread} (Err f) →
-        AddsEntry {A = Unit {0}} m old new entries entry (Err f)
-    by_fault (fault.Lost segment lost) left told kind = record { done = left; told = told (λ same. cc) }
-    by_fault fault.TableMismatch left told kind = record { done = left; told = told (λ same. cc) }
-    by_fault fault.Tape left told kind = broken_before m old new (λ area c. entry_writes entries entry area) left
-    by_fault fault.NotFormatted left told kind = absurd kind
-    by_fault (fault.Foreign field value) left told kind = kind
-    by_fault (fault.Full need have) left told kind = kind
-    by_fault (fault.NoVolume number count) left told kind = kind
-    by_fault (fault.Mismatch segment) left told kind = kind
-    by_fault fault.Protected left told kind = kind
-    by_fault (fault.Short promised read) left told kind = kind
-    by_fault fault.Source left told kind = kind
-    by_fault fault.Sink left told kind = kind
+adds_refused m old new entries entry found f r is left told kind =
+    subst (λ (answer : Result (Unit {0}) StoreFault). AddsEntry m old new entries entry answer) (sym is)
+    (refused_by m old new entries found (λ area c. entry_writes entries entry area) (λ (g : StoreFault). AddsEntry {A = Unit {0}} m old new entries entry (Err g))
+    (λ segment lost was. was) (λ was. was) (λ was. was) f left told kind)
 
 -- ---- the steps of a told cartridge
 

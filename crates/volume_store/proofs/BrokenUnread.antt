@@ -1,6 +1,5 @@
 -- An append that a fault of the outside ended, over a table's segment that says no data.
 use Rattle.std.proofs.Common.{◌≡◌, inl, inr, List, [], ℕ, Result, Ok, Err, refl, sym, subst, arith}
-use Rattle.qic_base.specs.Cartridge.{Cartridge}
 use Rattle.qic_base.specs.Source as sources
 use Rattle.qic_base.specs.Step.{Step}
 use Rattle.qic_base.specs.Tape as tapes

@@ -1,5 +1,5 @@
 -- How an append ended, by what its stages did.
-use Rattle.std.proofs.Common.{◌≡◌, ◌⊎◌, inl, inr, ℕ, ◌+◌, ◌-◌, ◌<◌, ◌≤◌, ◌&&◌, min, Bool, true, false, cond, nat_lt, nat_le, List, [], ◌∷◌, ◌++◌, length, take, drop, Option, Some, None, IfSome, Result, Err, refl, sym, ap, ◌∙◌, subst, arith, append-nil}
+use Rattle.std.proofs.Common.{◌≡◌, inl, inr, ℕ, ◌+◌, ◌-◌, ◌<◌, ◌≤◌, ◌&&◌, min, Bool, true, false, cond, nat_lt, nat_le, List, [], ◌∷◌, ◌++◌, length, take, drop, Option, Some, None, IfSome, Result, Err, refl, sym, ap, ◌∙◌, subst, arith, append-nil}
 use Rattle.std.specs.Option.{option_map}
 use Rattle.std.specs.Prelude.{slice_index, is_some}
 use Rattle.std.proofs.lemmas.Bool.{and_parts, leb-true, le-leb}
@@ -133,20 +133,12 @@ list_more words entries last name date n order some within =
 abbrev pub made : (name : List ℕ) (date start end size : ℕ) → Entry
 made name date start end size = record { start = start; end = end; name = name; date = date; flags = 1; sequence = 1; directory = 0; size = size }
 
--- what is told of a fault is told of the answer that is that fault
-pub answered : (T S : Type 0) (t : tapes.Meaning T) (s : sources.Meaning S) (old new : Outside T S (Unit {0})) (store after : StoreView) (name : List ℕ) (date : ℕ) (promised : Option ℕ) (why : StoreFault) (r : Result Appended StoreFault) →
-    r ≡ Err why → AppendEnds t s old new store after name date promised (Err why) → AppendEnds t s old new store after name date promised r
-answered T S t s old new store after name date promised why r is ends =
-    subst (λ (answer : Result Appended StoreFault). AppendEnds t s old new store after name date promised answer) (sym is) ends
-
--- the list as it was, or with the entry, by the store's view
-pub either_order : (map words : List ℕ) (table entries list : List Entry) (e : Entry) → map ≡ words → table ≡ entries → IsSoundList (length words - 1) entries →
-    IsSoundList (length words - 1) (entries ++ e ∷ []) → (list ≡ table) ⊎ (list ≡ table ++ e ∷ []) → IsSoundList (length map - 1) list
-either_order map words table entries list e same shown order more (inl is) =
-    subst (λ (ws : List ℕ). IsSoundList (length ws - 1) list) (sym same) (subst (λ (es : List Entry). IsSoundList (length words - 1) es) (sym (is ∙ shown)) order)
-either_order map words table entries list e same shown order more (inr is) =
-    subst (λ (ws : List ℕ). IsSoundList (length ws - 1) list) (sym same)
-    (subst (λ (es : List Entry). IsSoundList (length words - 1) es) (sym (is ∙ ap (λ (es : List Entry). es ++ e ∷ []) shown)) more)
+-- what is told of an end, by the store's view, is told of the answer that is that end
+pub answered : (T S : Type 0) (t : tapes.Meaning T) (s : sources.Meaning S) (old new : Outside T S (Unit {0})) (view store after : StoreView) (name : List ℕ) (date : ℕ) (promised : Option ℕ) (end r : Result Appended StoreFault) →
+    view ≡ store → r ≡ end → AppendEnds t s old new view after name date promised end → AppendEnds t s old new store after name date promised r
+answered T S t s old new view store after name date promised end r same is ends =
+    subst (λ (v : StoreView). AppendEnds t s old new v after name date promised r) same
+    (subst (λ (answer : Result Appended StoreFault). AppendEnds t s old new view after name date promised answer) (sym is) ends)
 
 module _ {T S : Type 0} (t : tapes.Meaning T) (s : sources.Meaning S) (store after : StoreView) (name : List ℕ) (date : ℕ) (promised : Option ℕ) where
   act_went : (x y : T) (a : S) (steps : List Step) → Done t x y steps → Went t s no_sink (reading x a) (reading y a) (record { steps = steps; text = [] } ∷ [])

@@ -12,6 +12,7 @@ pub mod Restored
 pub mod Scrubs
 pub mod Settled
 pub mod Slots
+pub mod Stages
 pub mod Stale
 pub mod Storing
 pub mod TableSegment

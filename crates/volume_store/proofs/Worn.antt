@@ -15,7 +15,7 @@ use Rattle.format_plan.proofs.Copies.{held_view, view_held}
 use Rattle.volume_store.specs.Mounting.{HasList}
 
 -- what can be read agrees with the same block
-worn_list : (c : Cartridge) (segment sector : ℕ) (entries : List Entry) → HasList c entries → HasList (changed (Wear segment sector) c) entries
+pub worn_list : (c : Cartridge) (segment sector : ℕ) (entries : List Entry) → HasList c entries → HasList (changed (Wear segment sector) c) entries
 worn_list c segment sector entries has =
     let d : Cartridge = changed (Wear segment sector) c in
     record {
