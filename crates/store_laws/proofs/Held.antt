@@ -1,5 +1,5 @@
 -- What settling, worn sectors and scrubs leave of a mounted cartridge that stands for a plain one.
-use Rattle.std.proofs.Common.{◌≡◌, inl, inr, ℕ, ◌-◌, ◌*◌, ◌<◌, List, length, get_or, slice_get, slice_set, false, sym, ap, ◌∙◌, subst}
+use Rattle.std.proofs.Common.{◌≡◌, inl, inr, ℕ, ◌-◌, ◌*◌, ◌<◌, Bool, true, false, cond, List, length, get_or, slice_get, slice_set, refl, sym, ap, ◌∙◌, subst}
 use Rattle.std.specs.Prelude.{unwrap_or}
 use Rattle.std.proofs.lemmas.Bool.{cases_lt, cases_eq}
 use Rattle.std.proofs.lemmas.List.{get_or-set_same, set_past}
@@ -7,58 +7,90 @@ use Rattle.std.proofs.lemmas.Option.{unwrap_or-slice_get}
 use Rattle.qic_base.specs.declared.tape.TapeInfo.{TapeInfo}
 use Rattle.qic_base.specs.declared.tape.SectorView.{SectorView}
 use Rattle.qic_base.specs.declared.tape.SectorView.TheVariants.{Blank, Defect, Lost, Holds}
-use Rattle.qic_base.specs.Cartridge.{Cartridge, view_at, place_of}
+use Rattle.qic_base.specs.Cartridge.{Cartridge, IsCartridge, view_at, place_of}
 use Rattle.qic_base.specs.Step.{worn_view}
 use Rattle.acts.specs.Acts.{Act, steps_of}
 use Rattle.cartridge_spec.specs.HeaderAndTable.{TableIs, last_segment}
+use Rattle.cartridge_spec.specs.Mounting.{Mounts, settled}
+use Rattle.cartridge_spec.specs.Says.{whole_mask, with_parity}
 use Rattle.cartridge_spec.specs.Segment.{IsLive}
+use Rattle.cartridge_spec.specs.Shape.{usable_places}
 use Rattle.cartridge_spec.specs.Table.{IsSoundList}
-use Rattle.cartridge_spec.specs.Volumes.{Plain, entries_of}
-use Rattle.cartridge_spec.specs.Writes.{changed_by}
+use Rattle.cartridge_spec.specs.Volumes.{Plain, Stands, entries_of}
+use Rattle.cartridge_spec.specs.Writes.{changed_by, writes_of}
 use Rattle.cartridge_spec.proofs.Segments.{view_of_cartridge}
 use Rattle.cartridge_spec.proofs.Whole.{with_view_whole, worn_is_view}
 use Rattle.change_laws.specs.Wear.{worn, WearSpares}
 use Rattle.change_laws.proofs.Changes.{view_elsewhere}
 use Rattle.change_laws.proofs.Standing.{worn_stands}
-use Rattle.mount_laws.specs.Laws.{IsTableLive}
+use Rattle.mount_laws.specs.Laws.{IsTableLive, mounted_as}
 use Rattle.mount_laws.specs.Settling.{settling_steps}
 use Rattle.mount_laws.proofs.Settled.{settled_keeps_table, settled_stands, settled_is_whole}
 use Rattle.mount_laws.proofs.Settles.{settling_settles}
 use Rattle.mount_laws.proofs.Standing.{standing_data}
 use Rattle.mount_laws.proofs.Whole.{settled_is_cartridge}
 use Rattle.append_plan.proofs.Volume.{old_order}
-use Rattle.scrub_plan.specs.Scrubbing.{Scrubs, looked_at}
-use Rattle.scrub_plan.specs.Mended.{IsBeingMended}
+use Rattle.scrub_plan.specs.Scrubbing.{Scrubs}
 use Rattle.scrub_plan.proofs.Done.{done_being_mended}
 use Rattle.scrub_plan.proofs.Mending.{done_scrub_is_cartridge}
 use Rattle.scrub_plan.proofs.Mounted.{done_scrub_stands}
 use Rattle.store_laws.specs.Held.{IsHeld}
-use Rattle.store_laws.specs.Kept.{IsKept}
+use Rattle.store_laws.specs.Kept.{IsOpen}
+use Rattle.store_laws.proofs.Keeping.{mended_live}
+use Rattle.store_laws.proofs.Listed.{mounted_listed}
 
 -- ---- where the table reads
 
-pub held_kept : (c : Cartridge) (plain : Plain) (table : List (List ℕ)) → IsHeld c plain → TableIs c table → c.info.protected ≡ false → IsKept c plain
-held_kept c plain table held reads free = record {
+pub held_open : (c : Cartridge) (plain : Plain) (table : List (List ℕ)) → IsHeld c plain → TableIs c table → c.info.protected ≡ false → IsOpen c plain
+held_open c plain table held reads free = record {
   cartridge = held.cartridge;
   stands = held.stands;
   table = subst (TableIs c) (standing_data c plain table held.stands reads) reads;
-  live = held.live;
   unprotected = free;
   last = held.last;
 }
 
-pub kept_held : (c : Cartridge) (plain : Plain) → IsKept c plain → IsHeld c plain
-kept_held c plain kept = record { cartridge = kept.cartridge; stands = kept.stands; live = kept.live; last = kept.last }
+pub open_held : (c : Cartridge) (plain : Plain) → IsOpen c plain → IsHeld c plain
+open_held c plain held = record { cartridge = held.cartridge; stands = held.stands; last = held.last }
 
 -- it is settled
-pub settled_held : (c : Cartridge) (plain : Plain) → IsKept c plain → IsHeld (changed_by (settling_steps plain.table_area c) c) plain
-settled_held c plain kept =
-    subst (λ (d : Cartridge). IsHeld d plain) (sym (settling_settles c plain.table_area kept.table)) (record {
-      cartridge = settled_is_cartridge c plain.table_area kept.cartridge kept.table;
-      stands = settled_stands c plain plain.table_area kept.stands kept.table;
-      live = λ i h. subst IsLive (sym (settled_is_whole c plain.table_area i kept.table kept.unprotected kept.live h)) tt;
-      last = kept.last ∙ sym (ap (λ (i : TapeInfo). 28 * i.segments_per_track - 1) (settled_keeps_table c plain.table_area kept.table).info);
+pub settled_held : (c : Cartridge) (plain : Plain) → IsOpen c plain → IsHeld (changed_by (settling_steps plain.table_area c) c) plain
+settled_held c plain held =
+    subst (λ (d : Cartridge). IsHeld d plain) (sym (settling_settles c plain.table_area held.table)) (record {
+      cartridge = settled_is_cartridge c plain.table_area held.cartridge held.table;
+      stands = settled_stands c plain plain.table_area held.stands held.table;
+      last = held.last ∙ sym (ap (λ (i : TapeInfo). 28 * i.segments_per_track - 1) (settled_keeps_table c plain.table_area held.table).info);
     })
+
+-- each sector of the table's segment takes a write still
+pub settled_live : (c : Cartridge) (area : List (List ℕ)) → TableIs c area → IsTableLive c → IsTableLive (settled area c)
+settled_live c area reads live = by_mark c.info.protected refl
+  where
+    by_mark : (b : Bool) → c.info.protected ≡ b → IsTableLive (settled area c)
+    by_mark true locked =
+        subst IsTableLive (sym (ap (λ (b : Bool). cond b c (changed_by (writes_of 2 (usable_places whole_mask) (with_parity area)) c)) locked)) live
+    by_mark false free = λ i h. subst IsLive (sym (settled_is_whole c area i reads free live h)) tt
+
+pub settling_live : (c : Cartridge) (plain : Plain) → IsOpen c plain → IsTableLive c → IsTableLive (changed_by (settling_steps plain.table_area c) c)
+settling_live c plain held live =
+    subst IsTableLive (sym (settling_settles c plain.table_area held.table)) (settled_live c plain.table_area held.table live)
+
+-- ---- where it was just mounted
+
+pub mounted_held : (c : Cartridge) (plain : Plain) → IsCartridge c → Stands c plain → Mounts c (mounted_as plain) → IsHeld (settled plain.table_area c) plain
+mounted_held c plain whole stood mounts = record {
+  cartridge = settled_is_cartridge c plain.table_area whole mounts.reads;
+  stands = settled_stands c plain plain.table_area stood mounts.reads;
+  last = (mounted_listed c plain.header plain.words plain.table_area (entries_of plain) whole mounts).last;
+}
+
+-- and it is not protected
+pub mounted_open : (c : Cartridge) (plain : Plain) → IsCartridge c → Stands c plain → Mounts c (mounted_as plain) → c.info.protected ≡ false →
+    IsOpen (settled plain.table_area c) plain
+mounted_open c plain whole stood mounts free =
+    let keeps = settled_keeps_table c plain.table_area mounts.reads in
+    held_open (settled plain.table_area c) plain plain.table_area (mounted_held c plain whole stood mounts) keeps.table
+    (ap (λ (i : TapeInfo). i.protected) keeps.info ∙ free)
 
 -- ---- a worn sector
 
@@ -91,17 +123,13 @@ worn_held c plain segment sector held small spares = record {
   cartridge = with_view_whole c segment sector (worn_view (view_at c segment sector)) held.cartridge
       (worn_is_view (view_at c segment sector) (view_of_cartridge c segment sector held.cartridge));
   stands = worn_stands c plain segment sector small held.stands spares;
-  live = λ i h. live_still c segment sector 2 i (held.live i h);
   last = held.last;
 }
 
--- ---- a scrub
+pub worn_is_live : (c : Cartridge) (segment sector : ℕ) → IsTableLive c → IsTableLive (worn segment sector c)
+worn_is_live c segment sector live i h = live_still c segment sector 2 i (live i h)
 
-live_mended : (c d : Cartridge) (plain : Plain) → IsBeingMended (looked_at plain.words (entries_of plain)) c d → IsTableLive c → IsTableLive d
-live_mended c d plain mended live i h = elim (mended.each 2 i h) [
-  | inl same ↦ subst IsLive (sym same) (live i h)
-  | inr (block, is, was, now) ↦ subst IsLive (sym now) tt
-]
+-- ---- a scrub
 
 pub scrubbed_held : (c : Cartridge) (plain : Plain) (acts : List Act) → IsHeld c plain → Scrubs c plain.words (entries_of plain) acts → IsHeld (changed_by (steps_of acts) c) plain
 scrubbed_held c plain acts held scrubs =
@@ -110,6 +138,10 @@ scrubbed_held c plain acts held scrubs =
     record {
       cartridge = done_scrub_is_cartridge c plain.words (entries_of plain) acts held.cartridge scrubs;
       stands = done_scrub_stands c plain acts held.stands scrubs;
-      live = live_mended c (changed_by (steps_of acts) c) plain mended held.live;
       last = held.last ∙ sym (ap (λ (i : TapeInfo). 28 * i.segments_per_track - 1) mended.info);
     }
+
+pub scrubbed_live : (c : Cartridge) (plain : Plain) (acts : List Act) → IsHeld c plain → Scrubs c plain.words (entries_of plain) acts → IsTableLive c → IsTableLive (changed_by (steps_of acts) c)
+scrubbed_live c plain acts held scrubs =
+    mended_live c (changed_by (steps_of acts) c) plain
+    (done_being_mended c plain.words (entries_of plain) (last_segment c) acts (old_order c plain held.stands) scrubs)

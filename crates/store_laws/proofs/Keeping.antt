@@ -27,7 +27,7 @@ use Rattle.scrub_plan.specs.Mended.{IsBeingMended}
 use Rattle.scrub_plan.proofs.Done.{done_being_mended}
 use Rattle.scrub_plan.proofs.Mending.{done_scrub_is_cartridge}
 use Rattle.scrub_plan.proofs.Mounted.{done_scrub_stands, done_scrub_table}
-use Rattle.store_laws.specs.Kept.{IsKept}
+use Rattle.store_laws.specs.Kept.{IsOpen, IsKept, WearsLeaveOpen, ScrubsLeaveOpen}
 
 -- ---- acts one after the other
 
@@ -47,34 +47,63 @@ acts_stopped first rest acts c left parts torn =
 
 -- ---- what is kept
 
-pub worn_kept : (c : Cartridge) (plain : Plain) (segment sector : ℕ) → IsKept c plain → 3 ≤ segment → sector < 32 → IsKept (worn segment sector c) plain
-worn_kept c plain segment sector held behind small = record {
+pub kept_open : (c : Cartridge) (plain : Plain) → IsKept c plain → IsOpen c plain
+kept_open c plain held = record {
+  cartridge = held.cartridge;
+  stands = held.stands;
+  table = held.table;
+  unprotected = held.unprotected;
+  last = held.last;
+}
+
+pub live_kept : (c : Cartridge) (plain : Plain) → IsOpen c plain → IsTableLive c → IsKept c plain
+live_kept c plain held live = record {
+  cartridge = held.cartridge;
+  stands = held.stands;
+  table = held.table;
+  live = live;
+  unprotected = held.unprotected;
+  last = held.last;
+}
+
+pub worn_open : WearsLeaveOpen
+worn_open c plain segment sector held behind small = record {
   cartridge = with_view_whole c segment sector (worn_view (view_at c segment sector)) held.cartridge
       (worn_is_view (view_at c segment sector) (view_of_cartridge c segment sector held.cartridge));
   stands = worn_stands c plain segment sector small held.stands (inl behind);
   table = subst (λ (cells : List SectorView). TableSays cells (AsRead plain.table_area) ⊎ TableSays cells (ByCode (Data plain.table_area)))
       (sym (other_cells c segment sector 2 small (λ is. let low : segment ≡ 2 = sym is in omega arith))) held.table;
-  live = λ i h. subst IsLive (sym (view_of_other c segment sector 2 i (worn_view (view_at c segment sector)) small h (λ is. let low : segment ≡ 2 = sym is in omega arith))) (held.live i h);
   unprotected = held.unprotected;
   last = held.last;
 }
 
+pub worn_kept : (c : Cartridge) (plain : Plain) (segment sector : ℕ) → IsKept c plain → 3 ≤ segment → sector < 32 → IsKept (worn segment sector c) plain
+worn_kept c plain segment sector held behind small =
+    live_kept (worn segment sector c) plain (worn_open c plain segment sector (kept_open c plain held) behind small)
+    (λ i h. subst IsLive (sym (view_of_other c segment sector 2 i (worn_view (view_at c segment sector)) small h (λ is. let low : segment ≡ 2 = sym is in omega arith))) (held.live i h))
+
 -- a scrub leaves live sectors live
-mended_live : (c d : Cartridge) (plain : Plain) → IsBeingMended (looked_at plain.words (entries_of plain)) c d → IsTableLive c → IsTableLive d
+pub mended_live : (c d : Cartridge) (plain : Plain) → IsBeingMended (looked_at plain.words (entries_of plain)) c d → IsTableLive c → IsTableLive d
 mended_live c d plain mended live i h = elim (mended.each 2 i h) [
   | inl same ↦ subst IsLive (sym same) (live i h)
   | inr (block, is, was, now) ↦ subst IsLive (sym now) tt
 ]
 
-pub scrubbed_kept : (c : Cartridge) (plain : Plain) (acts : List Act) → IsKept c plain → Scrubs c plain.words (entries_of plain) acts → IsKept (changed_by (steps_of acts) c) plain
-scrubbed_kept c plain acts held scrubs =
+pub scrubbed_open : ScrubsLeaveOpen
+scrubbed_open c plain acts held scrubs =
     let order : IsSoundList (last_segment c) (entries_of plain) = old_order c plain held.stands in
     let mended = done_being_mended c plain.words (entries_of plain) (last_segment c) acts order scrubs in
     record {
       cartridge = done_scrub_is_cartridge c plain.words (entries_of plain) acts held.cartridge scrubs;
       stands = done_scrub_stands c plain acts held.stands scrubs;
       table = done_scrub_table c plain.words (entries_of plain) (last_segment c) acts plain.table_area order scrubs held.table;
-      live = mended_live c (changed_by (steps_of acts) c) plain mended held.live;
       unprotected = ap (λ (i : TapeInfo). i.protected) mended.info ∙ held.unprotected;
       last = held.last ∙ sym (ap (λ (i : TapeInfo). 28 * i.segments_per_track - 1) mended.info);
     }
+
+pub scrubbed_kept : (c : Cartridge) (plain : Plain) (acts : List Act) → IsKept c plain → Scrubs c plain.words (entries_of plain) acts → IsKept (changed_by (steps_of acts) c) plain
+scrubbed_kept c plain acts held scrubs =
+    let d : Cartridge = changed_by (steps_of acts) c in
+    let order : IsSoundList (last_segment c) (entries_of plain) = old_order c plain held.stands in
+    live_kept d plain (scrubbed_open c plain acts (kept_open c plain held) scrubs)
+    (mended_live c d plain (done_being_mended c plain.words (entries_of plain) (last_segment c) acts order scrubs) held.live)

@@ -7,7 +7,7 @@ use Rattle.std.proofs.lemmas.List.{length-take-le}
 use Rattle.std.proofs.lemmas.List.Elements.{All-take}
 use Rattle.qic_base.specs.declared.tape.TapeInfo.{TapeInfo}
 use Rattle.qic_base.specs.Cartridge.{Cartridge, IsLength, view_at}
-use Rattle.qic_base.specs.Step.{Step, Wear, changed}
+use Rattle.qic_base.specs.Step.{Step}
 use Rattle.acts.specs.Acts.{Act, steps_of}
 use Rattle.gf256_qic.specs.Code.{IsSector}
 use Rattle.cartridge_spec.specs.Header.{Header, HeaderFault, has_signature, number, number_in}
@@ -22,10 +22,7 @@ use Rattle.cartridge_spec.proofs.Sayings.{block_from_data, cartridge_sectors, da
 use Rattle.cartridge_spec.proofs.Segments.{length-whole_cells}
 use Rattle.cartridge_spec.proofs.SlotBytes.{length-slot_bytes, slot_are_bytes}
 use Rattle.cartridge_spec.proofs.Slots.{slot_area}
-use Rattle.change_laws.specs.Wear.{worn}
-use Rattle.change_laws.proofs.Changes.{worn_reads_no_more}
 use Rattle.format_plan.specs.Fresh.{IsLabel}
-use Rattle.format_plan.proofs.Copies.{held_view, view_held}
 use Rattle.format_plan.proofs.Writing.{changed_by-append}
 use Rattle.header_segments.specs.Refusal.{foreign, refusal}
 use Rattle.header_segments.proofs.Refusals.{length-words_in, refusal-segments, refusal-signed}
@@ -55,6 +52,7 @@ use Rattle.volume_store.proofs.Behind.{AreBehind, input_behind, settled_behind}
 use Rattle.volume_store.proofs.Ending.{list_more, took_fits}
 use Rattle.volume_store.proofs.Settled.{settled_list, steps_settle}
 use Rattle.volume_store.proofs.Taking.{both_true}
+use Rattle.volume_store.proofs.Worn.{worn_list}
 use Rattle.store_laws.specs.Listed.{IsListed, MountedListed, ListedReads, AppendListed, WearListed, ScrubListed, kept_of, listed_behind}
 use Rattle.store_laws.proofs.Keeping.{changed_by_acts}
 
@@ -281,21 +279,6 @@ append_listed c words entries table name date promised reply input listed mark r
     (append_leaves c words entries table listed mark reads name date promised reply input label word)
 
 -- ---- a worn sector, and a scrub
-
-worn_list : (c : Cartridge) (segment sector : ℕ) (entries : List Entry) → HasList c entries → HasList (worn segment sector c) entries
-worn_list c segment sector entries has =
-    let d : Cartridge = changed (Wear segment sector) c in
-    record {
-      block = has.block;
-      code = has.code;
-      agrees = record {
-        size = has.agrees.size ∙ length-whole_cells c 2 ∙ sym (length-whole_cells d 2);
-        each = λ i bytes at.
-            let held = held_view d 2 i bytes at in
-            has.agrees.each i bytes (view_held c 2 i bytes held.within (worn_reads_no_more c segment sector 2 i bytes held.view));
-      };
-      shown = has.shown;
-    }
 
 pub wear_listed : WearListed
 wear_listed c words entries segment sector listed = record {

@@ -1,5 +1,5 @@
 -- An append of promised bytes to a cartridge that stands for a plain one, done or stopped.
-use Rattle.std.proofs.Common.{◌≡◌, ◌⊎◌, inl, ℕ, ◌+◌, ◌-◌, ◌*◌, ◌^◌, ◌<◌, Bool, true, false, cond, List, [], ◌++◌, length, take, All, Option, Some, IsSomeAnd, sym, ap, ◌∙◌, subst, arith, nat_lt, append-nil}
+use Rattle.std.proofs.Common.{◌≡◌, ◌⊎◌, ℕ, ◌+◌, ◌-◌, ◌*◌, ◌^◌, ◌<◌, Bool, true, false, cond, List, [], ◌++◌, length, take, All, Option, Some, IsSomeAnd, sym, ap, ◌∙◌, subst, arith, nat_lt, append-nil}
 use Rattle.std.proofs.lemmas.Bool.{le-ltb}
 use Rattle.std.proofs.lemmas.List.{length-map, take_all}
 use Rattle.qic_base.specs.declared.tape.TapeInfo.{TapeInfo}
@@ -8,7 +8,7 @@ use Rattle.qic_base.specs.Step.{Step}
 use Rattle.qic_base.specs.Stop.{Torn}
 use Rattle.acts.specs.Acts.{Act, steps_of}
 use Rattle.acts.proofs.Joins.{steps_of-append}
-use Rattle.cartridge_spec.specs.HeaderAndTable.{IsArea, TableIs, last_segment}
+use Rattle.cartridge_spec.specs.HeaderAndTable.{TableIs, last_segment}
 use Rattle.cartridge_spec.specs.Segment.{IsLive}
 use Rattle.cartridge_spec.specs.Shape.{Carries, mask_at}
 use Rattle.cartridge_spec.specs.Mounting.{settled}
@@ -26,18 +26,18 @@ use Rattle.append_plan.specs.Between.{IsWhole, table_writes}
 use Rattle.append_plan.specs.Laws.{new_plain, new_table, IsReady, MayAppend}
 use Rattle.append_plan.specs.Laws as appends
 use Rattle.append_plan.specs.Room.{last_end, has_room}
-use Rattle.append_plan.proofs.Appended.{appended_stands, appended_is_whole}
-use Rattle.append_plan.proofs.Between.{before_reads_old}
+use Rattle.append_plan.specs.Settled.{MayAppendTo, IsSettledFor}
+use Rattle.append_plan.proofs.Appended.{appended_is_whole, done_is_settled_for, done_stands}
+use Rattle.append_plan.proofs.Dead.{settled_is_settled_for}
 use Rattle.append_plan.proofs.Mounted.{done_touches_only}
-use Rattle.append_plan.proofs.Ready.{settled_is_ready, stopped_from_the_start}
+use Rattle.append_plan.proofs.Ready.{settled_is_ready, settled_may_append_to, stopped_from_the_start}
 use Rattle.append_plan.proofs.Segments.{carrying_carry}
-use Rattle.append_plan.proofs.Table.{appended_table_shows}
-use Rattle.append_plan.proofs.Volume.{may_append}
-use Rattle.append_plan.proofs.Whole.{appended_is_cartridge}
+use Rattle.append_plan.proofs.Whole.{done_is_cartridge}
 use Rattle.volume_input.specs.Input.{volume_acts, filled_acts, input_acts}
 use Rattle.volume_input.proofs.ActLaws.{volume_is_writes}
 use Rattle.volume_store.specs.Appending.{Kept, Fits, TooLong, TooShort, entry_acts, entry_for, free_in, input_writes, room_in, silently, taking}
-use Rattle.store_laws.specs.Kept.{IsKept}
+use Rattle.store_laws.specs.Kept.{IsOpen, IsKept, AppendsLeaveOpen, settle_and_append, with_bytes}
+use Rattle.store_laws.proofs.Keeping.{kept_open, live_kept}
 
 -- ---- an append of promised bytes
 
@@ -103,35 +103,68 @@ module _ (c : Cartridge) (plain : Plain) (name : List ℕ) (date : ℕ) (bytes :
       ap (λ (b : Bool). steps_of (cond b (input_acts plain.words free size true bytes) []
       ++ entry_acts kept name date silently (cond b (cond (nat_lt size size) (TooShort size size) (Fits (take size bytes))) (TooLong size (room_in kept))))) small
 
--- ---- on a settled table
+-- ---- from the settling of the table on
 
--- a whole table's segment reads, and takes what is written to it
-whole_reads : (c : Cartridge) (area : List (List ℕ)) → IsArea area → IsWhole c area → TableIs c area
-whole_reads c area is whole = before_reads_old c area 0 is (omega arith) (inl whole)
+pub settled_last : (c : Cartridge) (area : List (List ℕ)) → TableIs c area → last_segment (settled area c) ≡ last_segment c
+settled_last c area reads = ap (λ (i : TapeInfo). 28 * i.segments_per_track - 1) (settled_keeps_table c area reads).info
 
+-- what all steps leave is what those of the append leave of the settled cartridge
+appended_behind : (c : Cartridge) (plain : Plain) (name : List ℕ) (date : ℕ) (bytes : List ℕ) → TableIs c plain.table_area →
+    changed_by (settle_and_append c plain name date bytes) c
+    ≡ changed_by (appends.steps_of (settled plain.table_area c) plain name date bytes) (settled plain.table_area c)
+appended_behind c plain name date bytes reads =
+    let next : List Step = appends.steps_of (settled plain.table_area c) plain name date bytes in
+    changed_by-append (settling_steps plain.table_area c) next c ∙ ap (changed_by next) (settling_settles c plain.table_area reads)
+
+-- the plain cartridge with the volume
+more_is : (c : Cartridge) (plain : Plain) (name : List ℕ) (date : ℕ) (bytes : List ℕ) → IsOpen c plain →
+    new_plain (settled plain.table_area c) plain name date bytes ≡ with_bytes plain name date bytes
+more_is c plain name date bytes held =
+    ap (λ (last : ℕ). with_volume plain (appended_volume plain last name date bytes)) (settled_last c plain.table_area held.table ∙ sym held.last)
+
+-- ---- where sectors of the table's segment may take no write
+
+pub open_appended : AppendsLeaveOpen
+open_appended c plain name date bytes held named room =
+    let still : Cartridge = settled plain.table_area c in
+    let may : MayAppendTo still plain name date bytes = settled_may_append_to c plain name date bytes (record {
+      cartridge = held.cartridge;
+      stands = held.stands;
+      room = room;
+      label = named.label;
+      word = named.word;
+      content = named.content;
+    }) held.table in
+    let known : IsSettledFor still plain.table_area = settled_is_settled_for c plain.table_area held.table held.unprotected in
+    let done : Cartridge = changed_by (appends.steps_of still plain name date bytes) still in
+    let info : done.info ≡ c.info = (done_touches_only still plain name date bytes may).0 ∙ (settled_keeps_table c plain.table_area held.table).info in
+    let all : IsOpen done (new_plain still plain name date bytes) = record {
+      cartridge = done_is_cartridge still plain name date bytes may;
+      stands = done_stands still plain name date bytes may known;
+      table = (done_is_settled_for still plain name date bytes may known).table;
+      unprotected = ap (λ (i : TapeInfo). i.protected) info ∙ held.unprotected;
+      last = held.last ∙ sym (ap (λ (i : TapeInfo). 28 * i.segments_per_track - 1) info);
+    } in
+    subst (λ (p : Plain). IsOpen (changed_by (settle_and_append c plain name date bytes) c) p) (more_is c plain name date bytes held)
+    (subst (λ (d : Cartridge). IsOpen d (new_plain still plain name date bytes)) (sym (appended_behind c plain name date bytes held.table)) all)
+
+-- ---- where each of them takes a write
+
+-- a whole table's segment takes what is written to it
 whole_lives : (c : Cartridge) (area : List (List ℕ)) → IsWhole c area → IsTableLive c
 whole_lives c area whole i h = subst IsLive (sym (whole i h)) tt
 
 module _ (name : List ℕ) (date : ℕ) (bytes : List ℕ) (label : IsLabel name) (word : date < 2 ^ 32) (content : All (λ b. b < 256) bytes) (c : Cartridge) (plain : Plain) (held : IsKept c plain) where
-  abbrev area : List (List ℕ)
-  area = plain.table_area
-
   -- the settled cartridge
   abbrev still : Cartridge
-  still = settled area c
-
-  same_info : still.info ≡ c.info
-  same_info = (settled_keeps_table c area held.table).info
+  still = settled plain.table_area c
 
   pub same_last : last_segment still ≡ last_segment c
-  same_last = ap (λ (i : TapeInfo). 28 * i.segments_per_track - 1) same_info
+  same_last = settled_last c plain.table_area held.table
 
   -- the plain cartridge with the volume
   abbrev more : Plain
-  more = with_volume plain (appended_volume plain (length plain.words - 1) name date bytes)
-
-  more_is : new_plain still plain name date bytes ≡ more
-  more_is = ap (λ (last : ℕ). with_volume plain (appended_volume plain last name date bytes)) (same_last ∙ sym held.last)
+  more = with_bytes plain name date bytes
 
   may : has_room plain.words (entries_of plain) (last_segment c) (length bytes) ≡ true → MayAppend c plain name date bytes
   may room = record {
@@ -146,37 +179,21 @@ module _ (name : List ℕ) (date : ℕ) (bytes : List ℕ) (label : IsLabel name
     content = content;
   }
 
-  ready : has_room plain.words (entries_of plain) (last_segment c) (length bytes) ≡ true → IsReady still plain name date bytes
-  ready room = settled_is_ready c plain name date bytes (may room)
-
   -- the steps that settle it and those that append
   abbrev steps : List Step
-  steps = settling_steps area c ++ appends.steps_of still plain name date bytes
-
-  behind : changed_by steps c ≡ changed_by (appends.steps_of still plain name date bytes) still
-  behind =
-      changed_by-append (settling_steps area c) (appends.steps_of still plain name date bytes) c
-      ∙ ap (changed_by (appends.steps_of still plain name date bytes)) (settling_settles c area held.table)
+  steps = settle_and_append c plain name date bytes
 
   pub kept_appended : has_room plain.words (entries_of plain) (last_segment c) (length bytes) ≡ true → IsKept (changed_by steps c) more
   kept_appended room =
       let done : Cartridge = changed_by (appends.steps_of still plain name date bytes) still in
-      let is : IsReady still plain name date bytes = ready room in
-      let new : List (List ℕ) = new_table still plain name date bytes in
-      let whole : IsWhole done new = appended_is_whole still plain name date bytes is in
-      let info : done.info ≡ c.info = (done_touches_only still plain name date bytes (may_append is)).0 ∙ same_info in
-      let all : IsKept done (new_plain still plain name date bytes) = record {
-        cartridge = appended_is_cartridge still plain name date bytes is;
-        stands = appended_stands still plain name date bytes is;
-        table = whole_reads done new (appended_table_shows still plain name date bytes is).0 whole;
-        live = whole_lives done new whole;
-        unprotected = ap (λ (i : TapeInfo). i.protected) info ∙ held.unprotected;
-        last = held.last ∙ sym (ap (λ (i : TapeInfo). 28 * i.segments_per_track - 1) info);
-      } in
-      subst (λ (p : Plain). IsKept (changed_by steps c) p) more_is (subst (λ (d : Cartridge). IsKept d (new_plain still plain name date bytes)) (sym behind) all)
+      let is : IsReady still plain name date bytes = settled_is_ready c plain name date bytes (may room) in
+      live_kept (changed_by steps c) more
+      (open_appended c plain name date bytes (kept_open c plain held) (record { label = label; word = word; content = content }) room)
+      (subst IsTableLive (sym (appended_behind c plain name date bytes held.table))
+      (whole_lives done (new_table still plain name date bytes) (appended_is_whole still plain name date bytes is)))
 
   pub stopped_appended : (left : Option Cartridge) → has_room plain.words (entries_of plain) (last_segment c) (length bytes) ≡ true →
       Torn steps (Some c) left → IsSomeAnd left (λ d. Stands d plain ⊎ Stands d more)
   stopped_appended left room torn =
-      subst (λ (p : Plain). IsSomeAnd left (λ d. Stands d plain ⊎ Stands d p)) more_is
+      subst (λ (p : Plain). IsSomeAnd left (λ d. Stands d plain ⊎ Stands d p)) (more_is c plain name date bytes (kept_open c plain held))
       (stopped_from_the_start c plain name date bytes left (may room) torn)

@@ -3,11 +3,8 @@ use Rattle.std.specs.Prelude.{◌≡◌, ◌-◌, length}
 use Rattle.qic_base.specs.Cartridge.{Cartridge, IsCartridge}
 use Rattle.cartridge_spec.specs.HeaderAndTable.{last_segment}
 use Rattle.cartridge_spec.specs.Volumes.{Plain, Stands}
-use Rattle.mount_laws.specs.Laws.{IsTableLive}
 
--- each sector of whose table's segment takes what is written to it
 pub record IsHeld (c : Cartridge) (plain : Plain) : Type 0 where
   pub cartridge : IsCartridge c
   pub stands : Stands c plain
-  pub live : IsTableLive c
   pub last : length plain.words - 1 ≡ last_segment c

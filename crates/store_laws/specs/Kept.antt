@@ -1,6 +1,7 @@
 -- A mounted cartridge that takes volumes, and what appends, worn sectors and scrubs leave of it, as facts (this project's own).
 use Rattle.std.specs.Prelude.{◌≡◌, ◌⊎◌, ℕ, ◌-◌, ◌^◌, ◌<◌, ◌≤◌, true, false, List, ◌++◌, length, All, Option, Some, IsSomeAnd}
 use Rattle.qic_base.specs.Cartridge.{Cartridge, IsCartridge}
+use Rattle.qic_base.specs.Step.{Step}
 use Rattle.qic_base.specs.Stop.{Torn}
 use Rattle.acts.specs.Acts.{Act, steps_of}
 use Rattle.append_plan.specs.Appending.{appended_volume, with_volume}
@@ -16,7 +17,15 @@ use Rattle.mount_laws.specs.Laws.{IsTableLive}
 use Rattle.mount_laws.specs.Settling.{settling_steps}
 use Rattle.scrub_plan.specs.Scrubbing.{Scrubs}
 
--- its table reads, each sector of the table's segment takes what is written to it, and it is not protected
+-- its table reads, and it is not protected
+pub record IsOpen (c : Cartridge) (plain : Plain) : Type 0 where
+  pub cartridge : IsCartridge c
+  pub stands : Stands c plain
+  pub table : TableIs c plain.table_area
+  pub unprotected : c.info.protected ≡ false
+  pub last : length plain.words - 1 ≡ last_segment c
+
+-- .. and each sector of the table's segment takes what is written to it
 pub record IsKept (c : Cartridge) (plain : Plain) : Type 0 where
   pub cartridge : IsCartridge c
   pub stands : Stands c plain
@@ -37,11 +46,15 @@ pub record IsAppendable (name : List ℕ) (date : ℕ) (bytes : List ℕ) : Type
   pub word : date < 2 ^ 32
   pub content : All (λ b. b < 256) bytes
 
--- all of its acts done, the plain cartridge with the volume stands, and may be appended to again; a stop in them leaves that, or
+-- the steps that settle the table, and those that append the bytes behind them
+abbrev pub settle_and_append : Cartridge → Plain → (name : List ℕ) → (date : ℕ) → (bytes : List ℕ) → List Step
+settle_and_append c plain name date bytes = settling_steps plain.table_area c ++ appends.steps_of (settled plain.table_area c) plain name date bytes
+
+-- all of them done, the plain cartridge with the volume stands, and may be appended to again; a stop in them leaves that, or
 -- what stood
 pub record AppendKeeps (c : Cartridge) (plain : Plain) (name : List ℕ) (date : ℕ) (bytes : List ℕ) : Type 0 where
-  pub done : IsKept (changed_by (settling_steps plain.table_area c ++ appends.steps_of (settled plain.table_area c) plain name date bytes) c) (with_bytes plain name date bytes)
-  pub stopped : (left : Option Cartridge) → Torn (settling_steps plain.table_area c ++ appends.steps_of (settled plain.table_area c) plain name date bytes) (Some c) left →
+  pub done : IsKept (changed_by (settle_and_append c plain name date bytes) c) (with_bytes plain name date bytes)
+  pub stopped : (left : Option Cartridge) → Torn (settle_and_append c plain name date bytes) (Some c) left →
       IsSomeAnd left (λ d. Stands d plain ⊎ Stands d (with_bytes plain name date bytes))
 
 abbrev pub AppendsKeep : Type 0
@@ -60,3 +73,22 @@ abbrev pub ScrubsKeep : Type 0
 ScrubsKeep =
     (c : Cartridge) (plain : Plain) (acts : List Act) → IsKept c plain → Scrubs c plain.words (entries_of plain) acts →
     IsKept (changed_by (steps_of acts) c) plain
+
+-- ---- where sectors of the table's segment may take no write
+
+-- an append, all of it done
+abbrev pub AppendsLeaveOpen : Type 0
+AppendsLeaveOpen =
+    (c : Cartridge) (plain : Plain) (name : List ℕ) (date : ℕ) (bytes : List ℕ) → IsOpen c plain → IsAppendable name date bytes →
+    has_room plain.words (entries_of plain) (last_segment c) (length bytes) ≡ true →
+    IsOpen (changed_by (settle_and_append c plain name date bytes) c) (with_bytes plain name date bytes)
+
+-- a sector that is worn behind the table
+abbrev pub WearsLeaveOpen : Type 0
+WearsLeaveOpen =
+    (c : Cartridge) (plain : Plain) (segment sector : ℕ) → IsOpen c plain → 3 ≤ segment → sector < 32 → IsOpen (worn segment sector c) plain
+
+abbrev pub ScrubsLeaveOpen : Type 0
+ScrubsLeaveOpen =
+    (c : Cartridge) (plain : Plain) (acts : List Act) → IsOpen c plain → Scrubs c plain.words (entries_of plain) acts →
+    IsOpen (changed_by (steps_of acts) c) plain

@@ -1,7 +1,7 @@
 //! What becomes of a mounted cartridge. Each law is the contract of a function that does nothing, so that other crates can rest
 //! on it; their proofs import the lemmas of this crate's `proofs`.
 
-ghost use Rattle.store_laws.specs.Kept.{AppendsKeep, WearsKeep, ScrubsKeep};
+ghost use Rattle.store_laws.specs.Kept.{AppendsKeep, WearsKeep, ScrubsKeep, AppendsLeaveOpen, WearsLeaveOpen, ScrubsLeaveOpen};
 ghost use Rattle.store_laws.specs.Listed.{MountedListed, ListedReads, AppendListed, WearListed, ScrubListed, RestoresAnyway, ScrubsAnyway};
 ghost use Rattle.store_laws.specs.Listing.{SettledLists, AppendLists, AppendFrontLists, WearLists, ScrubLists};
 
@@ -15,6 +15,14 @@ pub fn an_append_keeps_what_stands()
 pub fn wears_and_scrubs_keep_what_stands()
     ensures wears { WearsKeep }
     ensures scrubs { ScrubsKeep }
+{}
+
+/// An append that is done, a sector that is worn behind the table's segment, and a scrub leave a cartridge whose table reads, also
+/// where sectors of the table's segment take no write.
+pub fn appends_wears_and_scrubs_leave_it_open()
+    ensures appends { AppendsLeaveOpen }
+    ensures wears { WearsLeaveOpen }
+    ensures scrubs { ScrubsLeaveOpen }
 {}
 
 /// A mounted cartridge has the list that it was mounted with; its table shows that list, or has lost more than three sectors.
