@@ -10,6 +10,7 @@ use Rattle.cartridge_spec.specs.Table.{Entry}
 use Rattle.cartridge_spec.specs.Volumes.{Plain, Stands, entries_of}
 use Rattle.cartridge_spec.specs.Writes.{changed_by}
 use Rattle.format_plan.proofs.Writing.{changed_by-append, effects-some, some_and}
+use Rattle.mount_laws.specs.Laws.{IsTableLive}
 use Rattle.store_laws.specs.Held.{IsHeld}
 use Rattle.store_laws.proofs.Keeping.{changed_by_acts}
 use Rattle.tape_script.specs.Input.{Ending, AtEnd, AtStop, AtFault, Item}
@@ -98,27 +99,28 @@ Tears ss d left = Torn ss (Some d) left
 abbrev StandsBehind : Plain → List Item → List Did → ℕ → Option Cartridge → Type 0
 StandsBehind plain items dids n left = IsSomeAnd left (λ d. Stands d (plain_behind plain (take n items) (take n dids)))
 
-all_stand : (items : List Item) (dids : List Did) (c : Cartridge) (plain : Plain) (last : List Act) → IsHeld c plain → HaveBytes items → ItemsDo c plain.words (entries_of plain) items dids →
-    ItemsSpare c plain items dids → EndStands (cartridge_behind c dids) (plain_behind plain items dids) last → AllLeave Tears (StandsBehind plain items dids) c dids last
-all_stand [] [] c plain last held has ran spares ends = λ front rest left parts torn. ends left (torn_there front rest last c left parts torn)
-all_stand [] (did ∷ dids) c plain last held has ran spares ends = absurd ran
-all_stand (item ∷ items) [] c plain last held has ran spares ends = absurd ran
-all_stand (item ∷ items) (did ∷ dids) c plain last held has ran spares ends =
+all_stand : (items : List Item) (dids : List Did) (c : Cartridge) (plain : Plain) (last : List Act) → IsHeld c plain → IsTableLive c → HaveBytes items →
+    ItemsDo c plain.words (entries_of plain) items dids → ItemsSpare c plain items dids → EndStands (cartridge_behind c dids) (plain_behind plain items dids) last →
+    AllLeave Tears (StandsBehind plain items dids) c dids last
+all_stand [] [] c plain last held live has ran spares ends = λ front rest left parts torn. ends left (torn_there front rest last c left parts torn)
+all_stand [] (did ∷ dids) c plain last held live has ran spares ends = absurd ran
+all_stand (item ∷ items) [] c plain last held live has ran spares ends = absurd ran
+all_stand (item ∷ items) (did ∷ dids) c plain last held live has ran spares ends =
     let leaves : ItemLeaves c plain item did = item_leaves c plain item did held has.0 spares.0 ran.0 in
     let next : Plain = plain_after plain item did in (
       record {
         done = leaves.done.stands;
         stopped = λ front act rest left whole torn. some_split (λ d. Stands d plain) (λ d. Stands d next) left
-            (leaves.stopped left (torn_there front (act ∷ rest) did.acts c left whole torn));
+            (leaves.stopped live left (torn_there front (act ∷ rest) did.acts c left whole torn));
       },
-      all_stand items dids (changed_by (steps_of did.acts) c) next last leaves.done has.1 (next_do (changed_by (steps_of did.acts) c) plain next items did.entries dids leaves.entries leaves.words ran.1)
-          spares.1 ends,
+      all_stand items dids (changed_by (steps_of did.acts) c) next last leaves.done (leaves.live live) has.1
+          (next_do (changed_by (steps_of did.acts) c) plain next items did.entries dids leaves.entries leaves.words ran.1) spares.1 ends,
     )
 
-script_stands : (c : Cartridge) (plain : Plain) (input : List ℕ) (outcome : Outcome) → IsHeld c plain → (does : ScriptDoes c plain.words (entries_of plain) input outcome) →
+script_stands : (c : Cartridge) (plain : Plain) (input : List ℕ) (outcome : Outcome) → IsHeld c plain → IsTableLive c → (does : ScriptDoes c plain.words (entries_of plain) input outcome) →
     All (λ b. b < 256) input → ItemsSpare c plain does.items does.dids → AllLeave Tears (StandsBehind plain does.items does.dids) c does.dids does.last
-script_stands c plain input outcome held does content spares =
-    all_stand does.items does.dids c plain does.last held (items_have_bytes input does.items does.ending does.read content) does.did spares
+script_stands c plain input outcome held live does content spares =
+    all_stand does.items does.dids c plain does.last held live (items_have_bytes input does.items does.ending does.read content) does.did spares
     (ends_of c plain input outcome held does content spares)
 
 stands_answered : (c : Cartridge) (plain : Plain) (items : List Item) (dids : List Did) (printed : ℕ) (left : Option Cartridge) → ItemsDo c plain.words (entries_of plain) items dids →
@@ -134,16 +136,16 @@ stands_answered c plain items dids printed left ran r =
     }
 
 pub answered_between : AnsweredBetween
-answered_between c plain input outcome front rest left held does content spares parts torn =
+answered_between c plain input outcome front rest left held live does content spares parts torn =
     stands_answered c plain does.items does.dids (length (text_of front)) left does.did
     (reached_between Tears (StandsBehind plain does.items does.dids) does.dids c does.last front rest left (script_speaks c plain.words (entries_of plain) input outcome does)
-    (script_stands c plain input outcome held does content spares) (parts ∙ ap (λ (o : Outcome). o.acts) does.is) torn)
+    (script_stands c plain input outcome held live does content spares) (parts ∙ ap (λ (o : Outcome). o.acts) does.is) torn)
 
 pub answered_behind : AnsweredBehind
-answered_behind c plain input outcome front act rest left printed held does content spares parts is above below =
+answered_behind c plain input outcome front act rest left printed held live does content spares parts is above below =
     stands_answered c plain does.items does.dids printed left does.did
     (reached_behind Tears (λ ss d. Torn-nothing ss (Some d)) (StandsBehind plain does.items does.dids) does.dids c does.last front act rest left printed
-    (script_speaks c plain.words (entries_of plain) input outcome does) (script_stands c plain input outcome held does content spares)
+    (script_speaks c plain.words (entries_of plain) input outcome does) (script_stands c plain input outcome held live does content spares)
     (parts ∙ ap (λ (o : Outcome). o.acts) does.is) is above below)
 
 -- where nothing was printed no item was answered
@@ -156,10 +158,10 @@ none_answered c plain input outcome left does content stands =
 -- ---- a stop in a script
 
 pub stopped_script_stands : StoppedScriptStands
-stopped_script_stands c plain input outcome left held does content spares torn =
+stopped_script_stands c plain input outcome left held live does content spares torn =
     let s : StopsBehind outcome.acts c left = stops_behind outcome.acts c left torn in
     let reached : StandsAnswered plain does.items does.dids (length (text_of s.front)) left =
-    answered_between c plain input outcome s.front s.rest left held does content spares s.parts s.torn in
+    answered_between c plain input outcome s.front s.rest left held live does content spares s.parts s.torn in
     (reached.count, reached.within, reached.stands)
 
 -- ---- a script that was done

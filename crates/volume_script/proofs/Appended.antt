@@ -12,11 +12,11 @@ use Rattle.qic_base.specs.Step.{Step}
 use Rattle.qic_base.specs.Tape as tapes
 use Rattle.qic_base.proofs.Steps.{Tells-map}
 use Rattle.qic_base.proofs.Writing.{TakesBoth}
-use Rattle.acts.specs.Acts.{Act, Failing, TapeFails, SourceFails, SinkFails, Went, Cut}
+use Rattle.acts.specs.Acts.{Act, text_of, Failing, TapeFails, SourceFails, SinkFails, Went, Cut}
 use Rattle.acts.specs.Around.{no_sink, reading}
 use Rattle.append_plan.specs.Between.{table_writes}
 use Rattle.cartridge_spec.specs.Slots.{slot_sector}
-use Rattle.acts.proofs.Joins.{cut_is_longer}
+use Rattle.acts.proofs.Joins.{cut_is_longer, broke_behind}
 use Rattle.cartridge_spec.specs.HeaderAndTable.{table_cells, TableIs}
 use Rattle.cartridge_spec.specs.Says.{ByCode, LostSectors, TableSays}
 use Rattle.cartridge_spec.specs.Table.{Entry}
@@ -219,14 +219,7 @@ module _ {T S K : Type 0} (t : tapes.Meaning T) (s : sources.Meaning S) (k : sin
           parts = sym (fits_acts kept name date promised has.ran.input has.bytes has.ran.took reply_of);
         };
         did = subst (tapes.Done t a b) (sym (front_and_last kept name date promised has.ran.input has.bytes has.ran.took reply_of last refl)) silent.did;
-        broke = record {
-          part = broke.front;
-          rest = broke.rest;
-          parts = broke.parts;
-          took = subst (λ (l : List ℕ). k.took x (l ++ broke.front) y) (sym (input_texts kept (Some promised) has.ran.input)) broke.took;
-          cause = broke.cause;
-          later = broke.later;
-        };
+        broke = broke_behind (text_of (front_acts kept promised has.ran.input)) (input_texts kept (Some promised) has.ran.input) broke;
         source_later = silent.source_later;
       }
 

@@ -1,6 +1,7 @@
 pub mod Acts
 pub mod Answered
 pub mod Appended
+pub mod Counted
 pub mod Early
 pub mod Given
 pub mod Hearing
@@ -8,8 +9,8 @@ pub mod Input
 pub mod Lifting
 pub mod Listing
 pub mod MachineLaws
-pub mod OneItem
 pub mod Outcomes
+pub mod Places
 pub mod Plain
 pub mod Quiet
 pub mod Reached

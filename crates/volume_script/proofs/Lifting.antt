@@ -7,7 +7,7 @@ use Rattle.qic_base.proofs.Steps.{Done-nothing}
 use Rattle.qic_base.proofs.Writing.{TakesBoth}
 use Rattle.acts.specs.Acts.{Act, Outside, Failing, TapeFails, SourceFails, SinkFails, Went, Cut, text_of}
 use Rattle.acts.specs.Around.{no_source, no_sink, around, reading}
-use Rattle.acts.proofs.Joins.{went_both, went_then_cut}
+use Rattle.acts.proofs.Joins.{went_both, went_then_cut, sink_cut_one}
 use Rattle.volume_script.specs.Script.{reply}
 
 abbrev pub out : {T S K : Type 0} → T → S → K → Outside T S K
@@ -83,12 +83,7 @@ module _ {T S K : Type 0} (t : tapes.Meaning T) (s : sources.Meaning S) (k : sin
   }
 
   reply_broke : (b : T) (j : S) (x y : K) (text : List ℕ) → TakesNone k → sinks.BrokeOff k x y text → Cut t s k (out b j x) (out b j y) (reply text ∷ []) SinkFails
-  reply_broke b j x y text none broke = record {
-    at = record { front = []; act = reply text; rest = []; parts = refl };
-    did = Done-nothing t b;
-    broke = record { part = broke.front; rest = broke.rest; parts = broke.parts; took = broke.took; cause = broke.cause; later = broke.later };
-    source_later = omega arith;
-  }
+  reply_broke b j x y text none broke = sink_cut_one t s k (out b j x) (out b j y) (reply text) (Done-nothing t b) broke (omega arith)
 
   pub replied_went : TakesBoth k → (old : Outside T S K) (b : T) (j : S) (x y : K) (acts : List Act) (text : List ℕ) → Went t s k old (out b j x) acts →
       sinks.Wrote k x y text → Went t s k old (out b j y) (acts ++ reply text ∷ [])

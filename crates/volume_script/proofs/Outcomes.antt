@@ -1,6 +1,6 @@
 -- Each input has an outcome over a cartridge whose volume table is known.
-use Rattle.std.proofs.Common.{◌≡◌, ◌≢◌, ◌⊎◌, ℕ, ◌+◌, ◌*◌, ◌<◌, ◌≤◌, ◌^◌, Bool, true, false, List, [], ◌∷◌, ◌++◌, length, drop, Option, Some, None, nat_lt, ltb-true, ltb-false, refl, sym, ◌∙◌, subst, arith, inl, inr, append-nil}
-use Rattle.qic_base.specs.Cartridge.{Cartridge, IsPlace}
+use Rattle.std.proofs.Common.{◌≡◌, ◌≢◌, ℕ, ◌+◌, ◌<◌, ◌≤◌, ◌^◌, Bool, true, false, List, [], ◌∷◌, ◌++◌, length, drop, Option, Some, None, refl, sym, ◌∙◌, subst, inl, inr, append-nil}
+use Rattle.qic_base.specs.Cartridge.{Cartridge}
 use Rattle.qic_base.specs.Step.{Step, Wear}
 use Rattle.acts.specs.Acts.{Act, steps_of}
 use Rattle.acts.proofs.Joins.{steps_of-append}
@@ -28,6 +28,7 @@ use Rattle.volume_script.specs.Lines.{end_line}
 use Rattle.volume_script.specs.Script.{Did, EndDoes, EndsEarly, FaultDoes, Finds, ItemsDo, LineDoes, Meeting, Meets, Refuses, acts_of, acts_on, answer_by, appended, cartridge_behind, entries_behind, given_as, kept_on, place_behind, refused, reply, taken_as, taken_by}
 use Rattle.volume_script.proofs.Early.{early_or_not}
 use Rattle.volume_script.proofs.Values.{append_values}
+use Rattle.volume_script.proofs.Places.{place_or_not}
 
 -- ---- what is known behind some acts
 
@@ -65,18 +66,6 @@ given_listed c words entries number e parts (restoring.MismatchIn segment) none 
     listed_by c words entries (steps_of (refused parts entries (why.Mismatch segment)).acts) [] (replied parts _ ∙ none) listed
 
 -- ---- a place
-
--- a cartridge has a sector, or not
-place_or_not : (n segment sector : ℕ) → IsPlace n segment sector ⊎ ¬ (IsPlace n segment sector)
-place_or_not n segment sector = by_segment (nat_lt segment (28 * n)) refl
-  where
-    by_sector : segment < 28 * n → (b : Bool) → nat_lt sector 32 ≡ b → IsPlace n segment sector ⊎ ¬ (IsPlace n segment sector)
-    by_sector on_tape true is = inl (record { on_tape = on_tape; in_segment = ltb-true sector 32 is })
-    by_sector on_tape false is = inr (λ place. let above = ltb-false sector 32 is in let within = place.in_segment in omega arith)
-
-    by_segment : (b : Bool) → nat_lt segment (28 * n) ≡ b → IsPlace n segment sector ⊎ ¬ (IsPlace n segment sector)
-    by_segment true is = by_sector (ltb-true segment (28 * n) is) (nat_lt sector 32) refl
-    by_segment false is = inr (λ place. let above = ltb-false segment (28 * n) is in let within = place.on_tape in omega arith)
 
 -- items were carried out, and what is known behind them
 record DoneAll (c : Cartridge) (words : List ℕ) (entries : List Entry) (items : List Item) : Type 0 where

@@ -1,5 +1,5 @@
 -- Lines that promise no bytes: the source is not touched.
-use Rattle.std.proofs.Common.{◌≡◌, ◌≢◌, ◌⊎◌, ℕ, ◌*◌, ◌<◌, nat_lt, ltb-true, ltb-false, true, false, Bool, List, [], ◌∷◌, ◌++◌, length, Option, Some, None, Result, Ok, Err, IsSomeAnd, refl, sym, ap, ◌∙◌, subst, arith, inl, inr, append-nil}
+use Rattle.std.proofs.Common.{◌≡◌, ◌≢◌, ◌⊎◌, ℕ, true, false, Bool, List, [], ◌∷◌, ◌++◌, length, Option, Some, None, Result, Ok, Err, IsSomeAnd, refl, sym, ap, ◌∙◌, subst, arith, inl, inr, append-nil}
 use Rattle.std.specs.Option.{option_map_or}
 use Rattle.std.specs.Prelude.{◌↔◌}
 use Rattle.qic_base.specs.Cartridge.{Cartridge, IsPlace}
@@ -13,7 +13,7 @@ use Rattle.qic_base.proofs.Steps.{Tells-map}
 use Rattle.qic_base.proofs.Writing.{TakesBoth}
 use Rattle.acts.specs.Acts.{Act, Outside, Failing, TapeFails, SourceFails, SinkFails, Went, Cut}
 use Rattle.acts.specs.Around.{no_source, around}
-use Rattle.acts.proofs.Joins.{cut_is_longer}
+use Rattle.acts.proofs.Joins.{cut_is_longer, sink_cut_one}
 use Rattle.cartridge_spec.specs.Table.{Entry}
 use Rattle.cartridge_spec.specs.Volumes.{volume_length}
 use Rattle.drive_states.specs.declared.fault.HandFault.{HandFault}
@@ -46,6 +46,7 @@ use Rattle.volume_script.specs.Promised.{replied_so}
 use Rattle.volume_script.specs.Script.{Did, LineDoes, given_as, reply}
 use Rattle.volume_script.proofs.Lifting.{out, TakesNone, printed_went, printed_cut, replied_went, replied_cut, rested}
 use Rattle.volume_script.proofs.Plain.{given, line_one, would_without}
+use Rattle.volume_script.proofs.Places.{place_or_not}
 
 -- the mark that is told is the one that the drive knows
 pub mark_told : {T : Type 0} (t : tapes.Meaning T) (store : StoreView) (u : UnitView T) → StoreFits t store u → (mark : Bool) → is_protected u.drive.deck ≡ mark →
@@ -240,17 +241,6 @@ length_told t store u fits =
     by_cartridge None known = absurd known
     by_cartridge (Some info) known = known
 
-place_decided : (n segment sector : ℕ) → IsPlace n segment sector ⊎ ¬ (IsPlace n segment sector)
-place_decided n segment sector = by_segment (nat_lt segment (28 * n)) refl
-  where
-    by_sector : segment < 28 * n → (b : Bool) → nat_lt sector 32 ≡ b → IsPlace n segment sector ⊎ ¬ (IsPlace n segment sector)
-    by_sector on_tape true is = inl (record { on_tape = on_tape; in_segment = ltb-true sector 32 is })
-    by_sector on_tape false is = inr (λ place. let above = ltb-false sector 32 is in let within = place.in_segment in omega arith)
-
-    by_segment : (b : Bool) → nat_lt segment (28 * n) ≡ b → IsPlace n segment sector ⊎ ¬ (IsPlace n segment sector)
-    by_segment true is = by_sector (ltb-true segment (28 * n) is) (nat_lt sector 32) refl
-    by_segment false is = inr (λ place. let above = ltb-false segment (28 * n) is in let within = place.on_tape in omega arith)
-
 -- what a call for a sector answered: it was worn, or there is none
 pub data Wearing {T : Type 0} (t : tapes.Meaning T) (old new : UnitView T) (segment sector : ℕ) : Result (Unit {0}) HandFault → Type 0 where
   Worn : {r : Result (Unit {0}) HandFault} → IsPlace (segments_per_track old.drive.deck) segment sector → Wears t old new segment sector r → Wearing t old new segment sector r
@@ -259,7 +249,7 @@ pub data Wearing {T : Type 0} (t : tapes.Meaning T) (old new : UnitView T) (segm
 pub wearing : {T : Type 0} (t : tapes.Meaning T) (old new : UnitView T) (segment sector : ℕ) (r : Result (Unit {0}) HandFault) →
     (¬ (IsPlace (segments_per_track old.drive.deck) segment sector) → (r ≡ Err hand.BadPlace) × (new ≡ old)) →
     (IsPlace (segments_per_track old.drive.deck) segment sector → Wears t old new segment sector r) → Wearing t old new segment sector r
-wearing {T} t old new segment sector r misplaced placed = by_place (place_decided (segments_per_track old.drive.deck) segment sector)
+wearing {T} t old new segment sector r misplaced placed = by_place (place_or_not (segments_per_track old.drive.deck) segment sector)
   where
     by_place : IsPlace (segments_per_track old.drive.deck) segment sector ⊎ ¬ (IsPlace (segments_per_track old.drive.deck) segment sector) → Wearing t old new segment sector r
     by_place (inl place) = Worn place (placed place)
@@ -288,12 +278,7 @@ module _ {T S K : Type 0} (t : tapes.Meaning T) (s : sources.Meaning S) (k : sin
       (record { did = did; wrote = subst (sinks.Wrote k x y) (sym (append-nil (lost_line segment sector))) wrote; source_later = omega arith }) (worn_does place)
   worn_ends both none (Err failed) (Worn place did) broke =
       known_cut t s k store store loses refl old.tape new.tape i x y SinkFails (record { acts = worn_act ∷ []; entries = store.entries })
-      (record {
-        at = record { front = []; act = worn_act; rest = []; parts = refl };
-        did = did;
-        broke = record { part = broke.front; rest = broke.rest; parts = broke.parts; took = broke.took; cause = broke.cause; later = broke.later };
-        source_later = omega arith;
-      }) (worn_does place)
+      (sink_cut_one t s k (out old.tape i x) (out new.tape i y) worn_act did broke (omega arith)) (worn_does place)
 
   pub absent_ends : TakesBoth k → TakesNone k → (r : Result (Unit {0}) SinkFailed) → Wearing t old new segment sector (Err hand.BadPlace) →
       sinks.Writes k x y (refusal_line (why.Place segment sector)) r → ItemEnds t s k store store (out old.tape i x) (out new.tape i y) loses (replied_so r)

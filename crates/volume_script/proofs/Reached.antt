@@ -15,21 +15,21 @@ use Rattle.volume_script.proofs.Speaking.{AllSpeak, Speaks, front_prints_less, p
 -- ---- texts and steps of fronts
 
 -- the text of a front and of the act behind it, and their steps
-front_text : (front : List Act) (act : Act) → length (text_of (front ++ act ∷ [])) ≡ length (text_of front) + length act.text
+pub front_text : (front : List Act) (act : Act) → length (text_of (front ++ act ∷ [])) ≡ length (text_of front) + length act.text
 front_text front act =
     ap (λ (t : List ℕ). length t) (text_of-append front (act ∷ []) ∙ ap (λ (t : List ℕ). text_of front ++ t) (append-nil act.text)) ∙ length-append (text_of front) act.text
 
-front_steps : (front : List Act) (act : Act) → steps_of (front ++ act ∷ []) ≡ steps_of front ++ act.steps
+pub front_steps : (front : List Act) (act : Act) → steps_of (front ++ act ∷ []) ≡ steps_of front ++ act.steps
 front_steps front act = steps_of-append front (act ∷ []) ∙ ap (λ (ss : List Step). steps_of front ++ ss) (append-nil act.steps)
 
 -- ---- what some items print
 
-first_text : (did : Did) (dids : List Did) → length (text_of (acts_of (did ∷ dids))) ≡ length (text_of did.acts) + length (text_of (acts_of dids))
+pub first_text : (did : Did) (dids : List Did) → length (text_of (acts_of (did ∷ dids))) ≡ length (text_of did.acts) + length (text_of (acts_of dids))
 first_text did dids =
     ap (λ (text : List ℕ). length text) (text_of-append did.acts (acts_of dids)) ∙ length-append (text_of did.acts) (text_of (acts_of dids))
 
 -- so the first of any prints something
-first_prints : (dids : List Did) → AllSpeak dids → 1 ≤ length dids → (n : ℕ) → 0 < length (text_of (acts_of (take (suc n) dids)))
+pub first_prints : (dids : List Did) → AllSpeak dids → 1 ≤ length dids → (n : ℕ) → 0 < length (text_of (acts_of (take (suc n) dids)))
 first_prints [] speak some n = absurd (omega arith)
 first_prints (did ∷ dids) speak some n =
     let all = first_text did (take n dids) in

@@ -10,7 +10,7 @@ use Rattle.format_plan.proofs.Writing.{changed_by-append}
 use Rattle.tape_script.specs.Input.{Item, IsItem, Ending, Ends, HasItems, most_items}
 use Rattle.tape_script.proofs.Inputs as inputs
 use Rattle.volume_script.specs.Script.{Did, ItemDoes, ItemsDo, acts_of, cartridge_behind, entries_behind, place_behind}
-use Rattle.volume_script.proofs.OneItem.{one_item, no_ending}
+use Rattle.tape_script.proofs.Inputs.{one_item, no_ending}
 use Rattle.volume_script.proofs.Plain.{line_one}
 
 -- ---- reading

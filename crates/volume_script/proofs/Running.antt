@@ -38,7 +38,7 @@ use Rattle.volume_script.proofs.Appended.{flip}
 use Rattle.volume_script.proofs.Hearing.{early_of}
 use Rattle.volume_script.proofs.Input.{no_line_fault, no_line_early, early_fault, none_rest, on_rest, stop_rest}
 use Rattle.volume_script.proofs.Lifting.{out, TakesNone, replied_went, replied_cut}
-use Rattle.volume_script.proofs.OneItem.{no_ending}
+use Rattle.tape_script.proofs.Inputs.{no_ending}
 use Rattle.volume_script.proofs.Reading.{Reads, reads_more, read_end, place_is, split_reading, acts_of-append, entries_behind-append, cartridge_is, do_more, split_doing}
 
 plain_place : (texts : List ℕ) → 0 + length texts ≡ length texts

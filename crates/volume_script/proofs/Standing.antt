@@ -17,6 +17,7 @@ use Rattle.cartridge_spec.specs.Volumes.{Plain, Volume, Stands, entries_of}
 use Rattle.cartridge_spec.specs.Writes.{changed_by}
 use Rattle.change_laws.specs.Wear.{worn, WearSpares}
 use Rattle.format_plan.proofs.Writing.{some_and, some_weaker}
+use Rattle.mount_laws.specs.Laws.{IsTableLive}
 use Rattle.mount_laws.specs.Settling.{settling_steps}
 use Rattle.mount_laws.proofs.Keeping.{stopped_stands}
 use Rattle.mount_laws.proofs.Settled.{settled_stands}
@@ -38,9 +39,10 @@ use Rattle.volume_input.proofs.ActLaws.{input_is_free}
 use Rattle.volume_lines.specs.Lines.{lost_line, reply_behind}
 use Rattle.volume_store.specs.Appending.{Kept, Taking, Fits, TooLong, TooShort, append_acts, entry_acts, entry_for, free_in, has_promised_room, input_writes, room_in, taking}
 use Rattle.store_laws.specs.Held.{IsHeld}
-use Rattle.store_laws.specs.Kept.{IsAppendable, IsKept, with_bytes}
-use Rattle.store_laws.proofs.Held.{held_kept, kept_held, scrubbed_held, settled_held, worn_held}
-use Rattle.store_laws.proofs.Standing.{all_writes, kept_appended, same_last, stopped_appended}
+use Rattle.store_laws.specs.Kept.{IsAppendable, IsKept, IsOpen, with_bytes}
+use Rattle.store_laws.proofs.Held.{held_open, open_held, scrubbed_held, scrubbed_live, settled_held, settling_live, worn_held, worn_is_live}
+use Rattle.store_laws.proofs.Keeping.{live_kept}
+use Rattle.store_laws.proofs.Standing.{all_writes, kept_appended, open_appended, settled_last, stopped_appended}
 use Rattle.tape_script.specs.declared.line.Line.{Line}
 use Rattle.tape_script.specs.declared.line.Line.TheVariants as line
 use Rattle.tape_script.specs.Input.{Item, IsItem, IsLine, IsLined, Ending, HasItems, promised}
@@ -76,16 +78,18 @@ items_have_bytes input items ending read content = have_bytes 1 0 input items en
 
 -- ---- one item
 
--- what an item leaves, done or stopped
+-- what an item leaves, done or stopped; stopped where each sector of the table's segment takes what is written to it
 pub record ItemLeaves (c : Cartridge) (plain : Plain) (item : Item) (did : Did) : Type 0 where
   pub done : IsHeld (changed_by (steps_of did.acts) c) (plain_after plain item did)
+  pub live : IsTableLive c → IsTableLive (changed_by (steps_of did.acts) c)
   pub entries : entries_of (plain_after plain item did) ≡ did.entries
   pub words : (plain_after plain item did).words ≡ plain.words
-  pub stopped : (left : Option Cartridge) → Torn (steps_of did.acts) (Some c) left → IsSomeAnd left (λ d. Stands d plain ⊎ Stands d (plain_after plain item did))
+  pub stopped : IsTableLive c → (left : Option Cartridge) → Torn (steps_of did.acts) (Some c) left → IsSomeAnd left (λ d. Stands d plain ⊎ Stands d (plain_after plain item did))
 
 -- one that adds no volume
 record Stills (c : Cartridge) (plain : Plain) (did : Did) : Type 0 where
   done : IsHeld (changed_by (steps_of did.acts) c) plain
+  live : IsTableLive c → IsTableLive (changed_by (steps_of did.acts) c)
   entries : did.entries ≡ entries_of plain
   stopped : (left : Option Cartridge) → Torn (steps_of did.acts) (Some c) left → IsSomeAnd left (λ d. Stands d plain)
 
@@ -99,15 +103,17 @@ leaves_still c plain item did still =
     let same : plain_after plain item did ≡ plain = same_after plain item did still.entries in
     record {
       done = subst (λ (p : Plain). IsHeld (changed_by (steps_of did.acts) c) p) (sym same) still.done;
+      live = still.live;
       entries = ap (λ (p : Plain). entries_of p) same ∙ sym still.entries;
       words = ap (λ (p : Plain). p.words) same;
-      stopped = λ left torn. some_weaker left (λ d stands. inl stands) (still.stopped left torn);
+      stopped = λ live left torn. some_weaker left (λ d stands. inl stands) (still.stopped left torn);
     }
 
 -- .. and takes no step
 no_steps : (c : Cartridge) (plain : Plain) (did : Did) → IsHeld c plain → steps_of did.acts ≡ [] → did.entries ≡ entries_of plain → Stills c plain did
 no_steps c plain did held none same = record {
   done = subst (λ (ss : List Step). IsHeld (changed_by ss c) plain) (sym none) held;
+  live = λ live. subst (λ (ss : List Step). IsTableLive (changed_by ss c)) (sym none) live;
   entries = same;
   stopped = λ left torn. some_and (λ d. Stands d plain) c left held.stands (subst (λ (ss : List Step). Torn ss (Some c) left) none torn);
 }
@@ -176,37 +182,40 @@ module _ (c : Cartridge) (plain : Plain) (name : List ℕ) (date : ℕ) (bytes :
     fits_doing : does_by plain.table_area (last_segment c) size ≡ record { acts = its_acts; entries = entries_of plain ++ entry_for kept_now name date bytes ∷ [] }
     fits_doing = ap (λ (became : Taking). taken_as kept_now name date its_acts became) fits_taking
 
-    fits_steps : IsKept c plain → IsAppendable name date bytes →
+    fits_steps : IsOpen c plain →
         steps_of its_acts ≡ settling_steps plain.table_area c ++ appends.steps_of (settled plain.table_area c) plain name date bytes
-    fits_steps keeps may =
+    fits_steps ready =
         sym (replied_steps kept_now name date size bytes bytes fits_taking replies)
         ∙ ap (λ (rest : List Step). settling_steps plain.table_area c ++ rest)
         (all_writes c plain name date bytes (settling_steps plain.table_area c) enough
         ∙ ap (λ (last : ℕ). append_steps plain last bytes (appended_volume plain last name date bytes))
-        (sym (same_last name date bytes may.label may.word may.content c plain keeps)))
+        (sym (settled_last c plain.table_area ready.table)))
 
     entries_more : entries_of (with_bytes plain name date bytes) ≡ entries_of plain ++ entry_for kept_now name date bytes ∷ []
     entries_more =
         map-append (λ (v : Volume). v.entry) plain.volumes (appended_volume plain (length plain.words - 1) name date bytes ∷ [])
         ∙ ap (λ (last : ℕ). entries_of plain ++ entry_for (kept_at plain.table_area last) name date bytes ∷ []) held.last
 
-    fits_leaves : (n : ℕ) (did : Did) → IsKept c plain → IsAppendable name date bytes →
+    fits_leaves : (n : ℕ) (did : Did) → IsOpen c plain → IsAppendable name date bytes →
         did ≡ record { acts = its_acts; entries = entries_of plain ++ entry_for kept_now name date bytes ∷ [] } →
         ItemLeaves c plain (record { line = line.Append name n date; bytes = bytes }) did
-    fits_leaves n did keeps may is =
+    fits_leaves n did ready may is =
         let item : Item = record { line = line.Append name n date; bytes = bytes } in
         let list : did.entries ≡ entries_of plain ++ entry_for kept_now name date bytes ∷ [] = ap (λ (d : Did). d.entries) is in
         let more : plain_after plain item did ≡ with_bytes plain name date bytes = more_after plain item did (entry_for kept_now name date bytes) list in
         let steps : steps_of did.acts ≡ settling_steps plain.table_area c ++ appends.steps_of (settled plain.table_area c) plain name date bytes =
-        ap (λ (d : Did). steps_of d.acts) is ∙ fits_steps keeps may in
+        ap (λ (d : Did). steps_of d.acts) is ∙ fits_steps ready in
+        let kept : IsTableLive c → IsKept c plain = live_kept c plain ready in
         record {
           done = subst (λ (p : Plain). IsHeld (changed_by (steps_of did.acts) c) p) (sym more)
               (subst (λ (ss : List Step). IsHeld (changed_by ss c) (with_bytes plain name date bytes)) (sym steps)
-              (kept_held _ (with_bytes plain name date bytes) (kept_appended name date bytes may.label may.word may.content c plain keeps enough)));
+              (open_held _ (with_bytes plain name date bytes) (open_appended c plain name date bytes ready may enough)));
+          live = λ live. subst (λ (ss : List Step). IsTableLive (changed_by ss c)) (sym steps)
+              (kept_appended name date bytes may.label may.word may.content c plain (kept live) enough).live;
           entries = ap (λ (p : Plain). entries_of p) more ∙ entries_more ∙ sym list;
           words = ap (λ (p : Plain). p.words) more;
-          stopped = λ left torn. subst (λ (p : Plain). IsSomeAnd left (λ d. Stands d plain ⊎ Stands d p)) (sym more)
-              (stopped_appended name date bytes may.label may.word may.content c plain keeps left enough
+          stopped = λ live left torn. subst (λ (p : Plain). IsSomeAnd left (λ d. Stands d plain ⊎ Stands d p)) (sym more)
+              (stopped_appended name date bytes may.label may.word may.content c plain (kept live) left enough
               (subst (λ (ss : List Step). Torn ss (Some c) left) steps torn));
         }
 
@@ -215,16 +224,17 @@ module _ (c : Cartridge) (plain : Plain) (name : List ℕ) (date : ℕ) (bytes :
     full_doing : does_by plain.table_area (last_segment c) size ≡ refused its_acts (entries_of plain) (why.Full size (room_in kept_now))
     full_doing = ap (λ (became : Taking). taken_as kept_now name date its_acts became) (full_taking kept_now name date size small bytes)
 
-    full_stills : (did : Did) → IsKept c plain → did ≡ refused its_acts (entries_of plain) (why.Full size (room_in kept_now)) → Stills c plain did
-    full_stills did keeps is =
+    full_stills : (did : Did) → IsOpen c plain → did ≡ refused its_acts (entries_of plain) (why.Full size (room_in kept_now)) → Stills c plain did
+    full_stills did ready is =
         let steps : steps_of did.acts ≡ settling_steps plain.table_area c =
         ap (λ (d : Did). steps_of d.acts) is
         ∙ ap (λ (xs : List Act). steps_of (refused xs (entries_of plain) (why.Full size (room_in kept_now))).acts) (full_acts kept_now name date size small replies bytes)
         ∙ append-nil (settling_steps plain.table_area c) in
         record {
-          done = subst (λ (ss : List Step). IsHeld (changed_by ss c) plain) (sym steps) (settled_held c plain keeps);
+          done = subst (λ (ss : List Step). IsHeld (changed_by ss c) plain) (sym steps) (settled_held c plain ready);
+          live = λ live. subst (λ (ss : List Step). IsTableLive (changed_by ss c)) (sym steps) (settling_live c plain ready live);
           entries = ap (λ (d : Did). d.entries) is;
-          stopped = λ left torn. stopped_stands c plain plain.table_area left keeps.stands keeps.table (subst (λ (ss : List Step). Torn ss (Some c) left) steps torn);
+          stopped = λ left torn. stopped_stands c plain plain.table_area left ready.stands ready.table (subst (λ (ss : List Step). Torn ss (Some c) left) steps torn);
         }
 
   pub append_leaves : (n : ℕ) (did : Did) → IsAppendable name date bytes → size ≡ n → (m : Meeting) → Meets c m → did ≡ appended c plain.words (entries_of plain) name n date bytes m →
@@ -233,11 +243,11 @@ module _ (c : Cartridge) (plain : Plain) (name : List ℕ) (date : ℕ) (bytes :
       leaves_still c plain (record { line = line.Append name n date; bytes = bytes }) did
       (no_steps c plain did held (ap (λ (d : Did). steps_of d.acts) is) (ap (λ (d : Did). d.entries) is))
   append_leaves n did may long (Finds table) meets is =
-      let keeps : IsKept c plain = held_kept c plain table held meets.1 meets.0 in
+      let ready : IsOpen c plain = held_open c plain table held meets.1 meets.0 in
       let does : did ≡ does_by plain.table_area (last_segment c) size = is ∙ same_doing table n (standing_data c plain table held.stands meets.1) long in
       elim (cases_Bool (has_room plain.words (entries_of plain) (last_segment c) size)) [
-        | inl enough ↦ fits_leaves enough n did keeps may (does ∙ fits_doing enough)
-        | inr small ↦ leaves_still c plain (record { line = line.Append name n date; bytes = bytes }) did (full_stills small did keeps (does ∙ full_doing small))
+        | inl enough ↦ fits_leaves enough n did ready may (does ∙ fits_doing enough)
+        | inr small ↦ leaves_still c plain (record { line = line.Append name n date; bytes = bytes }) did (full_stills small did ready (does ∙ full_doing small))
       ]
 
 -- ---- the other lines
@@ -268,6 +278,7 @@ scrub_stills c plain acts did held scrubs is =
     let steps : steps_of did.acts ≡ steps_of acts = ap (λ (d : Did). steps_of d.acts) is in
     record {
       done = subst (λ (ss : List Step). IsHeld (changed_by ss c) plain) (sym steps) (scrubbed_held c plain acts held scrubs);
+      live = λ live. subst (λ (ss : List Step). IsTableLive (changed_by ss c)) (sym steps) (scrubbed_live c plain acts held scrubs live);
       entries = ap (λ (d : Did). d.entries) is;
       stopped = λ left torn. stopped_scrub_stands c plain acts left held.stands scrubs (subst (λ (ss : List Step). Torn ss (Some c) left) steps torn);
     }
@@ -279,6 +290,7 @@ lose_stills c plain segment sector did held small spares is =
     let worn_is : IsHeld (worn segment sector c) plain = worn_held c plain segment sector held small spares in
     record {
       done = subst (λ (ss : List Step). IsHeld (changed_by ss c) plain) (sym steps) worn_is;
+      live = λ live. subst (λ (ss : List Step). IsTableLive (changed_by ss c)) (sym steps) (worn_is_live c segment sector live);
       entries = ap (λ (d : Did). d.entries) is;
       stopped = λ left torn. by_torn left worn_is (subst (λ (ss : List Step). Torn ss (Some c) left) steps torn);
     }
@@ -317,7 +329,7 @@ pub item_leaves : (c : Cartridge) (plain : Plain) (item : Item) (did : Did) → 
 item_leaves c plain item did held has spares does = line_leaves c plain item.line item.bytes did held has spares does
 
 pub stopped_item_stands : StoppedItemStands
-stopped_item_stands c plain item did left held has does spares torn = (item_leaves c plain item did held has spares does).stopped left torn
+stopped_item_stands c plain item did left held live has does spares torn = (item_leaves c plain item did held has spares does).stopped live left torn
 
 -- ---- items one after the other
 
@@ -328,7 +340,7 @@ next_do c plain next items entries dids list map ran =
     subst (λ (es : List Entry). ItemsDo c next.words es items dids) (sym list) (subst (λ (ws : List ℕ). ItemsDo c ws entries items dids) (sym map) ran)
 
 pub items_stand : ItemsStand
-items_stand c plain [] [] held has ran spares = (held, refl, refl)
+items_stand c plain [] [] held has ran spares = (held, refl, refl, λ live. live)
 items_stand c plain [] (did ∷ dids) held has ran spares = absurd ran
 items_stand c plain (item ∷ items) [] held has ran spares = absurd ran
 items_stand c plain (item ∷ items) (did ∷ dids) held has ran spares =
@@ -336,7 +348,7 @@ items_stand c plain (item ∷ items) (did ∷ dids) held has ran spares =
     let d : Cartridge = changed_by (steps_of did.acts) c in
     let next : Plain = plain_after plain item did in
     let rest = items_stand d next items dids leaves.done has.1 (next_do d plain next items did.entries dids leaves.entries leaves.words ran.1) spares.1 in
-    (rest.0, rest.1 ∙ ap (λ (es : List Entry). entries_behind es dids) leaves.entries, rest.2 ∙ leaves.words)
+    (rest.0, rest.1 ∙ ap (λ (es : List Entry). entries_behind es dids) leaves.entries, rest.2 ∙ leaves.words, λ live. rest.3 (leaves.live live))
 
 -- ---- an append whose bytes end early
 

@@ -1,5 +1,5 @@
 -- What a script leaves of a mounted cartridge, whatever the sectors of its volumes hold, as facts (this project's own).
-use Rattle.std.specs.Prelude.{◌≡◌, ℕ, suc, ◌+◌, ◌<◌, ◌≤◌, List, [], ◌∷◌, ◌++◌, length, take, Option, Some, IsSomeAnd}
+use Rattle.std.specs.Prelude.{◌≡◌, ◌↔◌, ℕ, ◌+◌, ◌<◌, ◌≤◌, List, [], ◌∷◌, ◌++◌, length, take, Option, Some, IsSomeAnd}
 use Rattle.qic_base.specs.Cartridge.{Cartridge}
 use Rattle.acts.specs.Acts.{Act, steps_of, text_of}
 use Rattle.cartridge_spec.specs.Header.{Header}
@@ -21,33 +21,48 @@ abbrev pub ItemsWearBehind : List Item → Type 0
 ItemsWearBehind [] = Unit {0}
 ItemsWearBehind (item ∷ items) = WearsBehind item.line × ItemsWearBehind items
 
--- What is left is mounted with the list behind so many items, where so many bytes were printed: all items whose reply was
--- written whole are among them, and at most one more.
+-- what is left is mounted with the list behind so many items, where none of them wore a sector of header or table
+abbrev pub ListsBehind : Header → (words : List ℕ) → List Entry → List Item → List Did → (count : ℕ) → (left : Option Cartridge) → Type 0
+ListsBehind header words entries items dids count left =
+    ItemsWearBehind (take count items) → IsSomeAnd left (λ d. Lists d header words (entries_behind entries (take count dids)))
+
+-- what so many items print, in bytes
+abbrev pub printed_by : List Did → (count : ℕ) → ℕ
+printed_by dids count = length (text_of (acts_of (take count dids)))
+
+-- What is left is mounted with the list behind those items whose reply was written whole, where so many bytes were printed.
 pub record ListsAnswered (header : Header) (words : List ℕ) (entries : List Entry) (items : List Item) (dids : List Did) (printed : ℕ) (left : Option Cartridge) : Type 0 where
   pub count : ℕ
   pub within : count ≤ length items
-  pub lists : IsSomeAnd left (λ d. Lists d header words (entries_behind entries (take count dids)))
-  pub answered : (n : ℕ) → n ≤ length items → length (text_of (acts_of (take n dids))) ≤ printed → n ≤ count
-  pub most : (n : ℕ) → suc n ≤ count → length (text_of (acts_of (take n dids))) ≤ printed
+  pub lists : ListsBehind header words entries items dids count left
+  pub answered : (n : ℕ) → n ≤ length items → (n ≤ count) ↔ (printed_by dids n ≤ printed)
+
+-- What is left is mounted with the list behind those items whose reply was written whole, and behind the next one, if there is one:
+-- that of which the sink broke the reply off.
+pub record ListsBroken (header : Header) (words : List ℕ) (entries : List Entry) (items : List Item) (dids : List Did) (printed : ℕ) (left : Option Cartridge) : Type 0 where
+  pub count : ℕ
+  pub within : count ≤ length items
+  pub lists : ListsBehind header words entries items dids count left
+  pub begun : (n : ℕ) → n < length items → (n < count) ↔ (printed_by dids n ≤ printed)
 
 -- so it is behind each front of the acts, with their texts written, over any input
 abbrev pub ListedBetween : Type 0
 ListedBetween =
     (c : Cartridge) (header : Header) (words : List ℕ) (entries : List Entry) (input : List ℕ) (outcome : Outcome)
     (front rest : List Act) (left : Option Cartridge) → Lists c header words entries → IsListed c words entries →
-    (does : ScriptDoes c words entries input outcome) → ItemsWearBehind does.items → front ++ rest ≡ outcome.acts →
+    (does : ScriptDoes c words entries input outcome) → front ++ rest ≡ outcome.acts →
     left ≡ Some (changed_by (steps_of front) c) →
     ListsAnswered header words entries does.items does.dids (length (text_of front)) left
 
--- .. behind the steps of the next act, with some of its text written
+-- .. behind the steps of the next act, with a part of its text written and not the whole
 abbrev pub ListedBehind : Type 0
 ListedBehind =
     (c : Cartridge) (header : Header) (words : List ℕ) (entries : List Entry) (input : List ℕ) (outcome : Outcome)
     (front : List Act) (act : Act) (rest : List Act) (left : Option Cartridge) (printed : ℕ) → Lists c header words entries →
-    IsListed c words entries → (does : ScriptDoes c words entries input outcome) → ItemsWearBehind does.items →
+    IsListed c words entries → (does : ScriptDoes c words entries input outcome) →
     front ++ act ∷ rest ≡ outcome.acts → left ≡ Some (changed_by (steps_of front ++ act.steps) c) →
-    length (text_of front) ≤ printed → printed ≤ length (text_of front) + length act.text →
-    ListsAnswered header words entries does.items does.dids printed left
+    length (text_of front) ≤ printed → printed < length (text_of front) + length act.text →
+    ListsBroken header words entries does.items does.dids printed left
 
 -- .. with the list behind all items, where all acts were done
 abbrev pub ListedDone : Type 0

@@ -6,6 +6,7 @@ use Rattle.acts.specs.Acts.{Act, steps_of, text_of, next_steps}
 use Rattle.cartridge_spec.specs.Volumes.{Plain, Stands, entries_of}
 use Rattle.cartridge_spec.specs.Writes.{changed_by}
 use Rattle.change_laws.specs.Wear.{WearSpares}
+use Rattle.mount_laws.specs.Laws.{IsTableLive}
 use Rattle.store_laws.specs.Held.{IsHeld}
 use Rattle.store_laws.specs.Kept.{IsAppendable, with_bytes}
 use Rattle.tape_script.specs.declared.line.Line.{Line}
@@ -64,7 +65,8 @@ ItemsHaveBytes =
 
 -- ---- items
 
--- all items done, the cartridge stands for the plain one behind them, with the same list and the same map
+-- all items done, the cartridge stands for the plain one behind them, with the same list and the same map, also where sectors of
+-- the table's segment take no write; where each of these takes one, it still does
 abbrev pub ItemsStand : Type 0
 ItemsStand =
     (c : Cartridge) (plain : Plain) (items : List Item) (dids : List Did) → IsHeld c plain → HaveBytes items →
@@ -72,12 +74,14 @@ ItemsStand =
     IsHeld (cartridge_behind c dids) (plain_behind plain items dids)
     × (entries_of (plain_behind plain items dids) ≡ entries_behind (entries_of plain) dids)
     × ((plain_behind plain items dids).words ≡ plain.words)
+    × (IsTableLive c → IsTableLive (cartridge_behind c dids))
 
--- a stop in one of them leaves what stood, or the plain cartridge behind it
+-- where each of these sectors takes a write, a stop in one item leaves what stood, or the plain cartridge behind it
 abbrev pub StoppedItemStands : Type 0
 StoppedItemStands =
-    (c : Cartridge) (plain : Plain) (item : Item) (did : Did) (left : Option Cartridge) → IsHeld c plain → HasBytes item →
-    ItemDoes c plain.words (entries_of plain) item did → LineSpares c plain item.line → Torn (steps_of did.acts) (Some c) left →
+    (c : Cartridge) (plain : Plain) (item : Item) (did : Did) (left : Option Cartridge) → IsHeld c plain → IsTableLive c →
+    HasBytes item → ItemDoes c plain.words (entries_of plain) item did → LineSpares c plain item.line →
+    Torn (steps_of did.acts) (Some c) left →
     IsSomeAnd left (λ d. Stands d plain ⊎ Stands d (plain_after plain item did))
 
 -- the acts in front of a fault leave what stood, done or stopped: they write behind the volumes, and never the list
@@ -89,7 +93,7 @@ FaultStands =
 
 -- ---- a script
 
--- all of it done, the cartridge stands for the plain one behind all items
+-- all of it done, the cartridge stands for the plain one behind all items, also where sectors of the table's segment take no write
 abbrev pub DoneScriptStands : Type 0
 DoneScriptStands =
     (c : Cartridge) (plain : Plain) (input : List ℕ) (outcome : Outcome) → IsHeld c plain →
@@ -97,10 +101,10 @@ DoneScriptStands =
     ItemsSpare c plain does.items does.dids →
     Stands (changed_by (steps_of outcome.acts) c) (plain_behind plain does.items does.dids)
 
--- a stop in a script leaves the plain cartridge behind some of its items
+-- where each of these sectors takes a write, a stop in a script leaves the plain cartridge behind some of its items
 abbrev pub StoppedScriptStands : Type 0
 StoppedScriptStands =
-    (c : Cartridge) (plain : Plain) (input : List ℕ) (outcome : Outcome) (left : Option Cartridge) → IsHeld c plain →
+    (c : Cartridge) (plain : Plain) (input : List ℕ) (outcome : Outcome) (left : Option Cartridge) → IsHeld c plain → IsTableLive c →
     (does : ScriptDoes c plain.words (entries_of plain) input outcome) → All (λ b. b < 256) input →
     ItemsSpare c plain does.items does.dids → Torn (steps_of outcome.acts) (Some c) left →
     (n : ℕ) × (n ≤ length does.items) × IsSomeAnd left (λ d. Stands d (plain_behind plain (take n does.items) (take n does.dids)))
@@ -114,11 +118,12 @@ pub record StandsAnswered (plain : Plain) (items : List Item) (dids : List Did) 
   pub answered : (n : ℕ) → n ≤ length items → length (text_of (acts_of (take n dids))) ≤ printed → n ≤ count
   pub most : (n : ℕ) → suc n ≤ count → length (text_of (acts_of (take n dids))) ≤ printed
 
--- so it is after a stop among the steps of an act, with the acts before it done and their texts written
+-- so it is, where each of these sectors takes a write, after a stop among the steps of an act, with the acts before it done and
+-- their texts written
 abbrev pub AnsweredBetween : Type 0
 AnsweredBetween =
     (c : Cartridge) (plain : Plain) (input : List ℕ) (outcome : Outcome) (front rest : List Act) (left : Option Cartridge) →
-    IsHeld c plain → (does : ScriptDoes c plain.words (entries_of plain) input outcome) → All (λ b. b < 256) input →
+    IsHeld c plain → IsTableLive c → (does : ScriptDoes c plain.words (entries_of plain) input outcome) → All (λ b. b < 256) input →
     ItemsSpare c plain does.items does.dids → front ++ rest ≡ outcome.acts →
     Torn (next_steps rest) (Some (changed_by (steps_of front) c)) left →
     StandsAnswered plain does.items does.dids (length (text_of front)) left
@@ -128,7 +133,7 @@ abbrev pub AnsweredBehind : Type 0
 AnsweredBehind =
     (c : Cartridge) (plain : Plain) (input : List ℕ) (outcome : Outcome) (front : List Act) (act : Act) (rest : List Act)
     (left : Option Cartridge) (printed : ℕ) →
-    IsHeld c plain → (does : ScriptDoes c plain.words (entries_of plain) input outcome) → All (λ b. b < 256) input →
+    IsHeld c plain → IsTableLive c → (does : ScriptDoes c plain.words (entries_of plain) input outcome) → All (λ b. b < 256) input →
     ItemsSpare c plain does.items does.dids → front ++ act ∷ rest ≡ outcome.acts →
     left ≡ Some (changed_by (steps_of front ++ act.steps) c) → length (text_of front) ≤ printed →
     printed ≤ length (text_of front) + length act.text →

@@ -23,7 +23,8 @@ pub fn a_stop_is_in_one_item()
 {}
 
 /// Items leave what stands, with the volumes that were appended; a stop in one of them leaves what stood before it or
-/// behind it, and one in an append whose bytes end early leaves what stood. An input of bytes has such items.
+/// behind it, and one in an append whose bytes end early leaves what stood. An input of bytes has such items. A stop in one of
+/// them is told where each sector of the table's segment takes a write; what they leave done also where some take none.
 pub fn items_keep_what_stands()
     ensures bytes { ItemsHaveBytes }
     ensures done { ItemsStand }
@@ -31,20 +32,23 @@ pub fn items_keep_what_stands()
     ensures early { FaultStands }
 {}
 
-/// A script leaves what stands behind its items; a stop in it what stands behind some of them.
+/// A script leaves what stands behind its items, also where sectors of the table's segment take no write; a stop in it what stands
+/// behind some of them, where each of these takes one.
 pub fn a_script_keeps_what_stands()
     ensures done { DoneScriptStands }
     ensures stopped { StoppedScriptStands }
 {}
 
-/// Items whose reply was written whole are among those, and at most one more.
+/// Items whose reply was written whole are among those, and at most one more, where each sector of the table's segment takes a
+/// write.
 pub fn answered_items_stand()
     ensures between { AnsweredBetween }
     ensures behind { AnsweredBehind }
 {}
 
-/// A cartridge that was mounted with a list is mounted with the list behind some items, whatever the sectors of its volumes hold:
-/// those whose reply was written whole are among them, and at most one more; and all, where all was done. No item may wear a sector of header or table.
+/// A cartridge that was mounted with a list is mounted with the list behind the items whose reply was written whole, whatever the
+/// sectors of its volumes hold, and where the sink broke a reply off, behind one more; with the list behind all, where all was done.
+/// None of these items may have worn a sector of header or table.
 pub fn answered_items_are_listed()
     ensures between { ListedBetween }
     ensures behind { ListedBehind }
