@@ -13,7 +13,7 @@ use Rattle.cartridge_spec.specs.Writes.{changed_by}
 use Rattle.format_plan.proofs.Writing.{effects-some}
 use Rattle.append_plan.specs.Appending.{with_volume}
 use Rattle.store_laws.specs.Kept.{IsKept}
-use Rattle.store_laws.proofs.Keeping.{changed_by_acts}
+use Rattle.store_laws.proofs.Keeping.{changed_by_acts, kept_open}
 use Rattle.tape_script.specs.Generator.{made_length, made_bytes}
 use Rattle.volume_input.specs.Input.{input_acts}
 use Rattle.volume_input.proofs.ActLaws.{input_prints_nothing}
@@ -94,7 +94,7 @@ module _ (seed : ℕ) (rest : List Item) where
       Runs seed c plain.words (entries_of plain) (appending volume n ++ rest) acts answer → front ++ rear ≡ acts → text_of front ≢ [] →
       Torn (next_steps rear) (Some (changed_by (steps_of front) c)) left → IsSomeAnd left (λ d. Stands d (with_made seed plain volume n))
   appends_answered zero c plain volume acts front rear answer left few held still runs parts printed torn =
-      stills_stopped seed rest c plain acts answer left (still c plain held refl refl) held runs (torn_behind front rear acts c left parts torn)
+      stills_stopped seed rest c plain acts answer left (still c plain held.stands refl refl) (kept_open c plain held) runs (torn_behind front rear acts c left parts torn)
   appends_answered (suc n) c plain volume acts front rear answer left few held still (inl (other, does)) parts printed torn =
       absurd (printed (quiet_front front rear acts parts (append_prints_nothing seed c plain.words (entries_of plain) volume acts answer does)))
   appends_answered (suc n) c plain volume acts front rear answer left few held still (inr (first, behind, joined, does, more)) parts printed torn =

@@ -13,13 +13,13 @@ use Rattle.cartridge_spec.specs.Writes.{changed_by}
 use Rattle.restore_plan.specs.Laws.{HasVolume}
 use Rattle.restore_plan.specs.Restoring.{LosesFew, Restores, pieces}
 use Rattle.restore_plan.proofs.Standing.{restores_byte_for_byte}
-use Rattle.store_laws.specs.Kept.{IsKept}
+use Rattle.store_laws.specs.Kept.{IsOpen}
 use Rattle.volume_store.specs.Restoring.{volume_at}
 use Rattle.made_volumes.specs.Items.{Item, AppendMade, WearSector, ScrubAll, SumVolume, after_items, appending, wearing, first_two, wearing_in, wearing_volumes, summing, made_list, making}
 use Rattle.made_volumes.specs.Laws.{made_volume, with_made, before_sums, MadeWhereThereIsRoom}
 use Rattle.made_volumes.specs.Machine.{Answer, Done, Does, Runs, IsSummed, ending_answer, made_answer}
 use Rattle.made_volumes.proofs.MachineLaws.{RunsBehind, RunsFront, after_items-append, never_lost, never_unlocked, runs_behind, runs_front}
-use Rattle.made_volumes.proofs.Stops.{AreStill, StillBehind, appends_done, behind_is_still, behind_next, done_append_kept, entries_more, still_after, still_done, sum_in_no_step}
+use Rattle.made_volumes.proofs.Stops.{AreStill, StillBehind, appends_done, behind_is_still, behind_next, done_append_open, entries_more, still_after, still_done, sum_in_no_step}
 
 -- ---- worn sectors, and a scrub
 
@@ -64,7 +64,7 @@ mending_after seed words es (WearSector segment sector ∷ items) mends = mendin
 mending_after seed words es (ScrubAll ∷ items) mends = mending_after seed words es items mends.1
 mending_after seed words es (SumVolume number ∷ items) mends = absurd mends.0
 
-mending_goes : (seed : ℕ) (c : Cartridge) (plain : Plain) (item : Item) (acts : List Act) (answer : Answer) → IsMending item → IsKept c plain →
+mending_goes : (seed : ℕ) (c : Cartridge) (plain : Plain) (item : Item) (acts : List Act) (answer : Answer) → IsMending item → IsOpen c plain →
     Does seed c plain.words (entries_of plain) item acts answer → answer ≡ Done
 mending_goes seed c plain (AppendMade volume) acts answer mends held does = absurd mends
 mending_goes seed c plain (WearSector segment sector) acts answer mends held does = does.answered
@@ -72,7 +72,7 @@ mending_goes seed c plain ScrubAll acts answer mends held (inl refused) = absurd
 mending_goes seed c plain ScrubAll acts answer mends held (inr (free, done)) = done.answered
 mending_goes seed c plain (SumVolume number) acts answer mends held does = absurd mends
 
-all_mending_go : (seed : ℕ) (items : List Item) (c : Cartridge) (plain : Plain) (acts : List Act) (answer : Answer) → AreStill items → AreMending items → IsKept c plain →
+all_mending_go : (seed : ℕ) (items : List Item) (c : Cartridge) (plain : Plain) (acts : List Act) (answer : Answer) → AreStill items → AreMending items → IsOpen c plain →
     Runs seed c plain.words (entries_of plain) items acts answer → answer ≡ Done
 all_mending_go seed [] c plain acts answer still mends held (none, done) = done
 all_mending_go seed (item ∷ items) c plain acts answer still mends held (inl (other, does)) =
@@ -84,7 +84,7 @@ all_mending_go seed (item ∷ items) c plain acts answer still mends held (inr (
 
 -- ---- the appends, and these steps behind them
 
-append_goes : (seed : ℕ) (c : Cartridge) (plain : Plain) (volume : ℕ) (acts : List Act) (answer : Answer) → IsKept c plain →
+append_goes : (seed : ℕ) (c : Cartridge) (plain : Plain) (volume : ℕ) (acts : List Act) (answer : Answer) → IsOpen c plain →
     made_answer seed plain.words (entries_of plain) volume ≡ Done → Does seed c plain.words (entries_of plain) (AppendMade volume) acts answer → answer ≡ Done
 append_goes seed c plain volume acts answer held room (inl refused) = absurd (never_unlocked c refused.mark held.unprotected)
 append_goes seed c plain volume acts answer held room (inr (free, inl appended)) = appended.answered ∙ room
@@ -107,16 +107,16 @@ room_next seed plain volume n room k small =
     ∙ ap (λ (v : ℕ). made_answer seed plain.words (after_items seed plain.words (entries_of plain) (appending volume (suc k))) v) same
     ∙ room (suc k) (omega arith)
 
-front_goes : (seed : ℕ) (rest : List Item) (n : ℕ) (c : Cartridge) (plain : Plain) (volume : ℕ) (acts : List Act) (answer : Answer) → volume + n ≤ 201 → IsKept c plain →
+front_goes : (seed : ℕ) (rest : List Item) (n : ℕ) (c : Cartridge) (plain : Plain) (volume : ℕ) (acts : List Act) (answer : Answer) → volume + n ≤ 201 → IsOpen c plain →
     HaveRoomFrom seed plain.words (entries_of plain) volume n → StillBehind seed plain.words (entries_of plain) volume n rest → AreMending rest →
     Runs seed c plain.words (entries_of plain) (appending volume n ++ rest) acts answer → answer ≡ Done
 front_goes seed rest zero c plain volume acts answer few held room still mends runs =
-    all_mending_go seed rest c plain acts answer (still c plain held refl refl) mends held runs
+    all_mending_go seed rest c plain acts answer (still c plain held.stands refl refl) mends held runs
 front_goes seed rest (suc n) c plain volume acts answer few held room still mends (inl (other, does)) =
     absurd (other (append_goes seed c plain volume acts answer held (room_here seed plain.words (entries_of plain) volume n room) does))
 front_goes seed rest (suc n) c plain volume acts answer few held room still mends (inr (first, rear, parts, does, more)) =
     front_goes seed rest n (changed_by (steps_of first) c) (with_volume plain (made_volume seed plain volume)) (volume + 1) rear answer (omega arith)
-    (done_append_kept seed c plain held volume (omega arith) first does) (room_next seed plain volume n room) (behind_next seed rest plain volume n still) mends
+    (done_append_open seed c plain held volume (omega arith) first does) (room_next seed plain volume n room) (behind_next seed rest plain volume n still) mends
     (subst (λ (es : List Entry). Runs seed (changed_by (steps_of first) c) plain.words es (appending (volume + 1) n ++ rest) rear answer)
     (sym (entries_more seed plain volume)) more)
 
@@ -192,7 +192,7 @@ made_where_there_is_room seed count c plain acts answer small held room few make
     let all : front ++ sums ≡ making seed count words es =
     append_assoc (appending 1 count) rest sums ∙ ap (λ (items : List Item). appending 1 count ++ items) rear in
     let still : StillBehind seed words es 1 count rest =
-    λ d p kept same list. stills_front rest sums (subst AreStill (sym rear) (behind_is_still seed count words es d p kept same list)) in
+    λ d p stands same list. stills_front rest sums (subst AreStill (sym rear) (behind_is_still seed count words es d p stands same list)) in
     let mends : AreMending rest = mending_append worn (ScrubAll ∷ []) (mending_volumes words (drop (length es) (made_list seed count words es))) (tt, tt) in
     let here : Runs seed c words es (front ++ sums) acts answer = subst (λ (items : List Item). Runs seed c words es items acts answer) (sym all) makes in
     let begun : RunsFront seed c words es front acts answer = runs_front seed c words es front sums acts answer here in
@@ -201,12 +201,12 @@ made_where_there_is_room seed count c plain acts answer small held room few make
     let behind : RunsBehind seed c words es front sums begun.acts acts answer = runs_behind seed c words es front sums begun.acts acts answer ran here in
     let d : Cartridge = changed_by (steps_of begun.acts) c in
     let more : Plain = with_made seed plain 1 count in
-    let kept : IsKept d more = appends_done seed rest count c plain 1 begun.acts (omega arith) held still ran in
+    let now : IsOpen d more = appends_done seed rest count c plain 1 begun.acts (omega arith) held still ran in
     let same : more.words ≡ words = made_words seed count plain 1 in
     let list : entries_of more ≡ made_list seed count words es = made_entries seed count plain 1 in
     let after : after_items seed words es front ≡ entries_of more =
     after_items-append seed words es (appending 1 count) rest ∙ mending_after seed words (made_list seed count words es) rest mends ∙ sym list in
-    sums_go seed count d more (length es + 1) behind.rest answer kept.stands
+    sums_go seed count d more (length es + 1) behind.rest answer now.stands
     (λ m e later at. subst (λ (ws : List ℕ). All (LosesFew d ws) (pieces ws e)) (sym same)
     (few begun.acts m e ran (omega arith) (ap (λ (listed : List Entry). volume_at listed m) (sym list) ∙ at)))
     (subst (λ (ws : List ℕ). Runs seed d ws (entries_of more) sums behind.rest answer) (sym same)

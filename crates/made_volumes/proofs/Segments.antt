@@ -1,22 +1,11 @@
 -- The carrying segments of a volume, up to one of them; and where a volume lies.
-use Rattle.std.proofs.Common.{◌≡◌, ℕ, zero, suc, ◌+◌, ◌-◌, ◌<◌, ◌≤◌, Bool, cond, List, [], ◌∷◌, ◌++◌, filter, slice_get, Some, sym, ap, ◌∙◌, subst, arith, nat_le}
+use Rattle.std.proofs.Common.{◌≡◌, ℕ, ◌+◌, ◌-◌, ◌<◌, ◌≤◌, Bool, cond, List, [], ◌∷◌, ◌++◌, filter, sym, ap, ◌∙◌, arith, nat_le}
 use Rattle.std.specs.List.{range_with_len}
 use Rattle.std.proofs.lemmas.Bool.{le-leb, lt-leb}
 use Rattle.std.proofs.lemmas.List.Elements.{filter-append}
 use Rattle.cartridge_spec.specs.Shape.{mask_at, usable_count}
-use Rattle.cartridge_spec.specs.Table.{Entry, LieBehind}
 use Rattle.cartridge_spec.specs.Volumes.{carrying}
-
-range_part : (a m n : ℕ) → range_with_len a (m + n) ≡ range_with_len a m ++ range_with_len (a + m) n
-range_part a zero n =
-    let none : zero + n ≡ n = omega arith in
-    let here : a ≡ a + zero = omega arith in
-    ap (range_with_len a) none ∙ ap (λ (b : ℕ). range_with_len b n) here
-range_part a (suc m) n =
-    let first : suc m + n ≡ suc (m + n) = omega arith in
-    let here : a + 1 + m ≡ a + suc m = omega arith in
-    ap (range_with_len a) first ∙ ap (λ (xs : List ℕ). a ∷ xs) (range_part (a + 1) m n)
-    ∙ ap (λ (b : ℕ). a ∷ (range_with_len (a + 1) m ++ range_with_len b n)) here
+use Rattle.segment_mending.proofs.Looked.{range_part}
 
 -- whether a segment carries data by the map
 abbrev pub carries : List ℕ → ℕ → Bool
@@ -52,24 +41,6 @@ one_carries words segment many =
 pub none_carries : (words : List ℕ) (segment : ℕ) → usable_count (mask_at words segment) < 4 → carrying words segment segment ≡ []
 none_carries words segment few =
     one_more words segment ∙ ap (λ (b : Bool). cond b (segment ∷ []) []) (lt-leb 4 (usable_count (mask_at words segment)) few)
-
--- ---- a volume of a list in order
-
-pub record LiesOn (last : ℕ) (e : Entry) : Type 0 where
-  pub behind : 2 < e.start
-  pub forwards : e.start ≤ e.end
-  pub within : e.end ≤ last
-
-lies_behind : (before last : ℕ) (xs : List Entry) (i : ℕ) (e : Entry) → 2 ≤ before → LieBehind before last xs → slice_get xs i ≡ Some e → LiesOn last e
-lies_behind before last [] i e least order at = absurd (cc)
-lies_behind before last (x ∷ xs) zero e least order at =
-    let same : x ≡ e = cc in
-    subst (LiesOn last) same (record { behind = omega (arith, order.0); forwards = order.1; within = order.2 })
-lies_behind before last (x ∷ xs) (suc i) e least order at =
-    lies_behind x.end last xs i e (omega (arith, order.0, order.1)) order.3 at
-
-pub lies_on : (last : ℕ) (xs : List Entry) (i : ℕ) (e : Entry) → LieBehind 2 last xs → slice_get xs i ≡ Some e → LiesOn last e
-lies_on last xs i e order at = lies_behind 2 last xs i e (omega arith) order at
 
 -- a segment alone carries data or not
 pub one_or_none : (words : List ℕ) (segment : ℕ) → carrying words segment segment ≡ cond (carries words segment) (segment ∷ []) []

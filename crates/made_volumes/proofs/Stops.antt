@@ -25,15 +25,13 @@ use Rattle.mount_laws.proofs.Keeping.{stopped_stands}
 use Rattle.mount_laws.proofs.Standing.{standing_data}
 use Rattle.append_plan.specs.Appending.{appended_volume, with_volume, append_steps}
 use Rattle.append_plan.specs.Room.{has_room}
-use Rattle.append_plan.specs.Laws as appends
 use Rattle.append_plan.proofs.Segments.{carrying_from}
 use Rattle.append_plan.proofs.Volume.{old_order}
-use Rattle.cartridge_spec.specs.Mounting.{settled}
 use Rattle.restore_plan.specs.Restoring.{Ending, Restored, LostIn, MismatchIn}
 use Rattle.scrub_plan.proofs.Mounted.{stopped_scrub_stands}
-use Rattle.store_laws.specs.Kept.{IsKept}
-use Rattle.store_laws.proofs.Keeping.{acts_stopped, changed_by_acts, scrubbed_kept, worn_kept}
-use Rattle.store_laws.proofs.Standing.{kept_appended, stopped_appended, all_writes, no_writes, same_last}
+use Rattle.store_laws.specs.Kept.{IsAppendable, IsOpen, IsKept, settle_and_append}
+use Rattle.store_laws.proofs.Keeping.{acts_stopped, changed_by_acts, kept_open, scrubbed_open, worn_open}
+use Rattle.store_laws.proofs.Standing.{open_appended, kept_appended, stopped_appended, all_writes, no_writes, settled_last}
 use Rattle.tape_script.specs.Generator.{made_length, made_byte, made_bytes}
 use Rattle.volume_store.specs.Appending.{Kept, append_acts, silently, room_in, kept_in, has_promised_room}
 use Rattle.made_volumes.specs.Items.{Item, AppendMade, WearSector, ScrubAll, SumVolume, made_name, made_entry, after_item, after_items, appending, wearing, first_two, wearing_in, wearing_volumes, summing, made_list, making}
@@ -86,10 +84,13 @@ pub made_content : (seed volume : ℕ) → All (λ b. b < 256) (made_bytes seed 
 unfolding made_bytes
 made_content seed volume = All-map (λ b. b < 256) (made_byte seed volume) (range_with_len 0 (made_length seed volume)) (λ k d h. omega arith)
 
+made_named : (seed volume : ℕ) → volume ≤ 200 → IsAppendable (made_name volume) 0 (made_bytes seed volume)
+made_named seed volume few = record { label = made_label volume few; word = omega arith; content = made_content seed volume }
+
 -- ---- an append, as a step
 
 -- the steps of the append to a cartridge that stands for a plain one
-module _ (seed : ℕ) (c : Cartridge) (plain : Plain) (held : IsKept c plain) (volume : ℕ) (small : volume ≤ 200) where
+module _ (seed : ℕ) (c : Cartridge) (plain : Plain) (held : IsOpen c plain) (volume : ℕ) where
   abbrev bytes : List ℕ
   bytes = made_bytes seed volume
 
@@ -128,7 +129,7 @@ module _ (seed : ℕ) (c : Cartridge) (plain : Plain) (held : IsKept c plain) (v
 
   -- all its steps, where there is room, or none of the volume
   abbrev all_steps : List Step
-  all_steps = settling ++ appends.steps_of (settled plain.table_area c) plain (made_name volume) 0 bytes
+  all_steps = settle_and_append c plain (made_name volume) 0 bytes
 
   steps_are : (table : List (List ℕ)) → TableIs c table → has_room plain.words (entries_of plain) (last_segment c) (length bytes) ≡ true →
       steps_of (made_acts seed c plain.words (entries_of plain) table volume) ≡ all_steps
@@ -136,7 +137,7 @@ module _ (seed : ℕ) (c : Cartridge) (plain : Plain) (held : IsKept c plain) (v
       ap steps_of (same_acts table reads)
       ∙ ap (λ (rest : List Step). settling ++ rest) (all_writes c plain (made_name volume) 0 bytes settling enough
       ∙ ap (λ (last : ℕ). append_steps plain last bytes (appended_volume plain last (made_name volume) 0 bytes))
-      (sym (same_last (made_name volume) 0 bytes (made_label volume small) (omega arith) (made_content seed volume) c plain held)))
+      (sym (settled_last c plain.table_area held.table)))
 
   only_settled : (table : List (List ℕ)) → TableIs c table → has_room plain.words (entries_of plain) (last_segment c) (length bytes) ≡ false →
       steps_of (made_acts seed c plain.words (entries_of plain) table volume) ≡ settling
@@ -145,9 +146,6 @@ module _ (seed : ℕ) (c : Cartridge) (plain : Plain) (held : IsKept c plain) (v
       ∙ ap (λ (rest : List Step). settling ++ rest) (no_writes c plain (made_name volume) 0 bytes settling short)
       ∙ append-nil settling
 
-  abbrev more : Plain
-  more = with_volume plain (made_volume seed plain volume)
-
   -- what the step is: the table reads, and there is room or not
   append_is : (acts : List Act) (answer : Answer) → Does seed c plain.words (entries_of plain) (AppendMade volume) acts answer →
       IsAppended seed c plain.words (entries_of plain) volume acts answer
@@ -155,12 +153,13 @@ module _ (seed : ℕ) (c : Cartridge) (plain : Plain) (held : IsKept c plain) (v
   append_is acts answer (inr (free, inl appended)) = appended
   append_is acts answer (inr (free, inr lost)) = absurd (never_lost c plain.table_area lost.lost held.table lost.says)
 
-  pub done_append_kept : (acts : List Act) → Does seed c plain.words (entries_of plain) (AppendMade volume) acts Done → IsKept (changed_by (steps_of acts) c) more
-  done_append_kept acts does =
+  -- where it was carried out there was room, and all its steps were done
+  done_append : (acts : List Act) → Does seed c plain.words (entries_of plain) (AppendMade volume) acts Done →
+      (has_room plain.words (entries_of plain) (last_segment c) (length bytes) ≡ true) × (steps_of acts ≡ all_steps)
+  done_append acts does =
       let is = append_is acts Done does in
       let enough : has_room plain.words (entries_of plain) (last_segment c) (length bytes) ≡ true = by_answer (has_room plain.words (entries_of plain) (last_segment c) (length bytes)) same_room is.answered in
-      subst (λ (steps : List Step). IsKept (changed_by steps c) more) (sym (ap steps_of is.does ∙ steps_are is.table is.reads enough))
-      (kept_appended (made_name volume) 0 bytes (made_label volume small) (omega arith) (made_content seed volume) c plain held enough)
+      (enough, ap steps_of is.does ∙ steps_are is.table is.reads enough)
     where
       by_answer : (b : Bool) → has_promised_room (room_in (kept_in plain.words (entries_of plain))) (Some (made_length seed volume)) ≡ b →
           Done ≡ made_answer seed plain.words (entries_of plain) volume → b ≡ true
@@ -170,16 +169,39 @@ module _ (seed : ℕ) (c : Cartridge) (plain : Plain) (held : IsKept c plain) (v
           answered ∙ ap (λ (b : Bool). cond b Done (Full (made_length seed volume) (room_in (kept_in plain.words (entries_of plain))))) is in
           absurd (cc)
 
+-- what it leaves, done
+pub done_append_open : (seed : ℕ) (c : Cartridge) (plain : Plain) → IsOpen c plain → (volume : ℕ) → volume ≤ 200 → (acts : List Act) →
+    Does seed c plain.words (entries_of plain) (AppendMade volume) acts Done → IsOpen (changed_by (steps_of acts) c) (with_volume plain (made_volume seed plain volume))
+done_append_open seed c plain held volume small acts does =
+    let did = done_append seed c plain held volume acts does in
+    subst (λ (steps : List Step). IsOpen (changed_by steps c) (with_volume plain (made_volume seed plain volume))) (sym did.1)
+    (open_appended c plain (made_name volume) 0 (made_bytes seed volume) held (made_named seed volume small) did.0)
+
+-- where each sector of the table's segment takes a write, done or stopped
+module _ (seed : ℕ) (c : Cartridge) (plain : Plain) (held : IsKept c plain) (volume : ℕ) (small : volume ≤ 200) where
+  abbrev more : Plain
+  more = with_volume plain (made_volume seed plain volume)
+
+  named : IsAppendable (made_name volume) 0 (made_bytes seed volume)
+  named = made_named seed volume small
+
+  pub done_append_kept : (acts : List Act) → Does seed c plain.words (entries_of plain) (AppendMade volume) acts Done → IsKept (changed_by (steps_of acts) c) more
+  done_append_kept acts does =
+      let did = done_append seed c plain (kept_open c plain held) volume acts does in
+      subst (λ (steps : List Step). IsKept (changed_by steps c) more) (sym did.1)
+      (kept_appended (made_name volume) 0 (made_bytes seed volume) named.label named.word named.content c plain held did.0)
+
   pub stopped_append_stands : (acts : List Act) (answer : Answer) (left : Option Cartridge) → Does seed c plain.words (entries_of plain) (AppendMade volume) acts answer →
       Torn (steps_of acts) (Some c) left → IsSomeAnd left (λ d. Stands d plain ⊎ Stands d more)
   stopped_append_stands acts answer left does torn =
-      let is = append_is acts answer does in
-      elim (cases_Bool (has_room plain.words (entries_of plain) (last_segment c) (length bytes))) [
-        | inl enough ↦ stopped_appended (made_name volume) 0 bytes (made_label volume small) (omega arith) (made_content seed volume) c plain held left enough
-            (subst (λ (steps : List Step). Torn steps (Some c) left) (ap steps_of is.does ∙ steps_are is.table is.reads enough) torn)
+      let here : IsOpen c plain = kept_open c plain held in
+      let is = append_is seed c plain here volume acts answer does in
+      elim (cases_Bool (has_room plain.words (entries_of plain) (last_segment c) (length (made_bytes seed volume)))) [
+        | inl enough ↦ stopped_appended (made_name volume) 0 (made_bytes seed volume) named.label named.word named.content c plain held left enough
+            (subst (λ (steps : List Step). Torn steps (Some c) left) (ap steps_of is.does ∙ steps_are seed c plain here volume is.table is.reads enough) torn)
         | inr short ↦ some_weaker left (λ d stands. inl stands)
             (stopped_stands c plain plain.table_area left held.stands held.table
-            (subst (λ (steps : List Step). Torn steps (Some c) left) (ap steps_of is.does ∙ only_settled is.table is.reads short) torn))
+            (subst (λ (steps : List Step). Torn steps (Some c) left) (ap steps_of is.does ∙ only_settled seed c plain here volume is.table is.reads short) torn))
       ]
 
 -- ---- the other steps
@@ -207,23 +229,23 @@ sum_in_no_step number size given Restored = refl
 sum_in_no_step number size given (LostIn segment lost) = refl
 sum_in_no_step number size given (MismatchIn segment) = refl
 
-nothing_changed : (c : Cartridge) (plain : Plain) (acts : List Act) → steps_of acts ≡ [] → IsKept c plain → IsKept (changed_by (steps_of acts) c) plain
-nothing_changed c plain acts none held = subst (λ (steps : List Step). IsKept (changed_by steps c) plain) (sym none) held
+nothing_changed : (c : Cartridge) (plain : Plain) (acts : List Act) → steps_of acts ≡ [] → IsOpen c plain → IsOpen (changed_by (steps_of acts) c) plain
+nothing_changed c plain acts none held = subst (λ (steps : List Step). IsOpen (changed_by steps c) plain) (sym none) held
 
-pub still_done : (seed : ℕ) (c : Cartridge) (plain : Plain) (item : Item) (acts : List Act) → IsStill item → IsKept c plain →
-    Does seed c plain.words (entries_of plain) item acts Done → IsKept (changed_by (steps_of acts) c) plain
+pub still_done : (seed : ℕ) (c : Cartridge) (plain : Plain) (item : Item) (acts : List Act) → IsStill item → IsOpen c plain →
+    Does seed c plain.words (entries_of plain) item acts Done → IsOpen (changed_by (steps_of acts) c) plain
 still_done seed c plain (AppendMade volume) acts still held does = absurd still
 still_done seed c plain (WearSector segment sector) acts still held does =
-    subst (λ (zs : List Act). IsKept (changed_by (steps_of zs) c) plain) (sym does.does) (worn_kept c plain segment sector held still.0 still.1)
+    subst (λ (zs : List Act). IsOpen (changed_by (steps_of zs) c) plain) (sym does.does) (worn_open c plain segment sector held still.0 still.1)
 still_done seed c plain ScrubAll acts still held (inl refused) = absurd (never_unlocked c refused.mark held.unprotected)
-still_done seed c plain ScrubAll acts still held (inr (free, done)) = scrubbed_kept c plain acts held done.does
+still_done seed c plain ScrubAll acts still held (inr (free, done)) = scrubbed_open c plain acts held done.does
 still_done seed c plain (SumVolume number) acts still held does =
     nothing_changed c plain acts (ap steps_of does.does ∙ sum_in_no_step number (volume_length plain.words does.entry) (text_of does.given) does.ending) held
 
-stands_there : (c : Cartridge) (plain : Plain) (left : Option Cartridge) → IsKept c plain → left ≡ Some c → IsSomeAnd left (λ d. Stands d plain)
+stands_there : (c : Cartridge) (plain : Plain) (left : Option Cartridge) → IsOpen c plain → left ≡ Some c → IsSomeAnd left (λ d. Stands d plain)
 stands_there c plain left held is = some_and (λ d. Stands d plain) c left held.stands is
 
-still_stopped : (seed : ℕ) (c : Cartridge) (plain : Plain) (item : Item) (acts : List Act) (answer : Answer) (left : Option Cartridge) → IsStill item → IsKept c plain →
+still_stopped : (seed : ℕ) (c : Cartridge) (plain : Plain) (item : Item) (acts : List Act) (answer : Answer) (left : Option Cartridge) → IsStill item → IsOpen c plain →
     Does seed c plain.words (entries_of plain) item acts answer → Torn (steps_of acts) (Some c) left → IsSomeAnd left (λ d. Stands d plain)
 still_stopped seed c plain (AppendMade volume) acts answer left still held does torn = absurd still
 still_stopped seed c plain (WearSector segment sector) acts answer left still held does torn =
@@ -232,7 +254,7 @@ still_stopped seed c plain (WearSector segment sector) acts answer left still he
     by_torn : Torn (Wear segment sector ∷ []) (Some c) left → IsSomeAnd left (λ d. Stands d plain)
     by_torn (inl is) = stands_there c plain left held is
     by_torn (inr (inl half)) = absurd half
-    by_torn (inr (inr is)) = stands_there (worn segment sector c) plain left (worn_kept c plain segment sector held still.0 still.1) is
+    by_torn (inr (inr is)) = stands_there (worn segment sector c) plain left (worn_open c plain segment sector held still.0 still.1) is
 still_stopped seed c plain ScrubAll acts answer left still held (inl refused) torn = absurd (never_unlocked c refused.mark held.unprotected)
 still_stopped seed c plain ScrubAll acts answer left still held (inr (free, done)) torn = stopped_scrub_stands c plain acts left held.stands done.does torn
 still_stopped seed c plain (SumVolume number) acts answer left still held does torn =
@@ -242,7 +264,7 @@ still_stopped seed c plain (SumVolume number) acts answer left still held does t
 
 -- ---- several steps
 
-pub stills_stopped : (seed : ℕ) (items : List Item) (c : Cartridge) (plain : Plain) (acts : List Act) (answer : Answer) (left : Option Cartridge) → AreStill items → IsKept c plain →
+pub stills_stopped : (seed : ℕ) (items : List Item) (c : Cartridge) (plain : Plain) (acts : List Act) (answer : Answer) (left : Option Cartridge) → AreStill items → IsOpen c plain →
     Runs seed c plain.words (entries_of plain) items acts answer → Torn (steps_of acts) (Some c) left → IsSomeAnd left (λ d. Stands d plain)
 stills_stopped seed [] c plain acts answer left still held (none, done) torn =
     stands_there c plain left held (subst (λ (zs : List Act). Torn (steps_of zs) (Some c) left) none torn)
@@ -256,15 +278,15 @@ stills_stopped seed (item ∷ items) c plain acts answer left still held (inr (f
           (still_after seed plain.words (entries_of plain) item still.0) more) behind
     ]
 
-stills_done : (seed : ℕ) (items : List Item) (c : Cartridge) (plain : Plain) (acts : List Act) → AreStill items → IsKept c plain →
-    Runs seed c plain.words (entries_of plain) items acts Done → IsKept (changed_by (steps_of acts) c) plain
+stills_done : (seed : ℕ) (items : List Item) (c : Cartridge) (plain : Plain) (acts : List Act) → AreStill items → IsOpen c plain →
+    Runs seed c plain.words (entries_of plain) items acts Done → IsOpen (changed_by (steps_of acts) c) plain
 stills_done seed [] c plain acts still held (none, done) = nothing_changed c plain acts (ap steps_of none) held
 stills_done seed (item ∷ items) c plain acts still held (inl (other, does)) = absurd (other refl)
 stills_done seed (item ∷ items) c plain acts still held (inr (first, rest, parts, does, more)) =
     let d : Cartridge = changed_by (steps_of first) c in
-    let kept : IsKept (changed_by (steps_of rest) d) plain = stills_done seed items d plain rest still.1 (still_done seed c plain item first still.0 held does)
+    let now : IsOpen (changed_by (steps_of rest) d) plain = stills_done seed items d plain rest still.1 (still_done seed c plain item first still.0 held does)
     (subst (λ (es : List Entry). Runs seed d plain.words es items rest Done) (still_after seed plain.words (entries_of plain) item still.0) more) in
-    subst (λ (e : Cartridge). IsKept e plain) (sym (ap (λ (zs : List Act). changed_by (steps_of zs) c) (sym parts) ∙ changed_by_acts first rest c)) kept
+    subst (λ (e : Cartridge). IsOpen e plain) (sym (ap (λ (zs : List Act). changed_by (steps_of zs) c) (sym parts) ∙ changed_by_acts first rest c)) now
 
 -- ---- which steps are still
 
@@ -323,14 +345,14 @@ entries_more seed plain volume = map-append (λ (v : Volume). v.entry) plain.vol
 -- what comes behind the appends is still where they all stand
 abbrev pub StillBehind : (seed : ℕ) (words : List ℕ) (es : List Entry) (volume n : ℕ) (rest : List Item) → Type 0
 StillBehind seed words es volume n rest =
-    (d : Cartridge) (p : Plain) → IsKept d p → p.words ≡ words → entries_of p ≡ after_items seed words es (appending volume n) → AreStill rest
+    (d : Cartridge) (p : Plain) → Stands d p → p.words ≡ words → entries_of p ≡ after_items seed words es (appending volume n) → AreStill rest
 
 module _ (seed : ℕ) (rest : List Item) where
   -- with one volume more the same comes behind
   pub behind_next : (plain : Plain) (volume n : ℕ) → StillBehind seed plain.words (entries_of plain) volume (suc n) rest →
       StillBehind seed plain.words (entries_of (with_volume plain (made_volume seed plain volume))) (volume + 1) n rest
-  behind_next plain volume n still d p held words es =
-      still d p held words (es ∙ ap (λ (now : List Entry). after_items seed plain.words now (appending (volume + 1) n)) (entries_more seed plain volume))
+  behind_next plain volume n still d p stands words es =
+      still d p stands words (es ∙ ap (λ (now : List Entry). after_items seed plain.words now (appending (volume + 1) n)) (entries_more seed plain volume))
 
   -- how many volumes stand, behind so many
   pub record StandsFrom (plain : Plain) (volume n : ℕ) (left : Option Cartridge) : Type 0 where
@@ -352,7 +374,7 @@ module _ (seed : ℕ) (rest : List Item) where
   appends_stopped zero c plain volume acts answer left few held still runs torn = record {
     appended = 0;
     within = omega arith;
-    stands = stills_stopped seed rest c plain acts answer left (still c plain held refl refl) held runs torn;
+    stands = stills_stopped seed rest c plain acts answer left (still c plain held.stands refl refl) (kept_open c plain held) runs torn;
   }
   appends_stopped (suc n) c plain volume acts answer left few held still (inl (other, does)) torn =
       by_stop (some_split (λ d. Stands d plain) (λ d. Stands d (with_volume plain (made_volume seed plain volume))) left (stopped_append_stands seed c plain held volume (omega arith) acts answer left does torn))
@@ -375,27 +397,27 @@ module _ (seed : ℕ) (rest : List Item) where
       by_stop (inl stands) = record { appended = 0; within = omega arith; stands = stands }
       by_stop (inr stands) = record { appended = 1; within = omega arith; stands = stands }
 
-  pub appends_done : (n : ℕ) (c : Cartridge) (plain : Plain) (volume : ℕ) (acts : List Act) → volume + n ≤ 201 → IsKept c plain →
+  pub appends_done : (n : ℕ) (c : Cartridge) (plain : Plain) (volume : ℕ) (acts : List Act) → volume + n ≤ 201 → IsOpen c plain →
       StillBehind seed plain.words (entries_of plain) volume n rest →
-      Runs seed c plain.words (entries_of plain) (appending volume n ++ rest) acts Done → IsKept (changed_by (steps_of acts) c) (with_made seed plain volume n)
-  appends_done zero c plain volume acts few held still runs = stills_done seed rest c plain acts (still c plain held refl refl) held runs
+      Runs seed c plain.words (entries_of plain) (appending volume n ++ rest) acts Done → IsOpen (changed_by (steps_of acts) c) (with_made seed plain volume n)
+  appends_done zero c plain volume acts few held still runs = stills_done seed rest c plain acts (still c plain held.stands refl refl) held runs
   appends_done (suc n) c plain volume acts few held still (inl (other, does)) = absurd (other refl)
   appends_done (suc n) c plain volume acts few held still (inr (first, rear, parts, does, more)) =
       let next : Plain = with_volume plain (made_volume seed plain volume) in
       let d : Cartridge = changed_by (steps_of first) c in
-      let kept : IsKept (changed_by (steps_of rear) d) (with_made seed next (volume + 1) n) =
-      appends_done n d next (volume + 1) rear (omega arith) (done_append_kept seed c plain held volume (omega arith) first does) (behind_next plain volume n still)
+      let now : IsOpen (changed_by (steps_of rear) d) (with_made seed next (volume + 1) n) =
+      appends_done n d next (volume + 1) rear (omega arith) (done_append_open seed c plain held volume (omega arith) first does) (behind_next plain volume n still)
       (subst (λ (es : List Entry). Runs seed d plain.words es (appending (volume + 1) n ++ rest) rear Done) (sym (entries_more seed plain volume)) more) in
-      subst (λ (e : Cartridge). IsKept e (with_made seed next (volume + 1) n))
-      (sym (ap (λ (zs : List Act). changed_by (steps_of zs) c) (sym parts) ∙ changed_by_acts first rear c)) kept
+      subst (λ (e : Cartridge). IsOpen e (with_made seed next (volume + 1) n))
+      (sym (ap (λ (zs : List Act). changed_by (steps_of zs) c) (sym parts) ∙ changed_by_acts first rear c)) now
 
 -- ---- a run
 
 pub behind_is_still : (seed count : ℕ) (words : List ℕ) (es : List Entry) →
     StillBehind seed words es 1 count (wearing_volumes words (drop (length es) (made_list seed count words es)) ++ ScrubAll ∷ summing (length es + 1) count)
-behind_is_still seed count words es d p held same list =
+behind_is_still seed count words es d p stands same list =
     let order : LieBehind 2 (last_segment d) (made_list seed count words es) =
-    subst (LieBehind 2 (last_segment d)) list (old_order d p held.stands) in
+    subst (LieBehind 2 (last_segment d)) list (old_order d p stands) in
     stills_append (wearing_volumes words (drop (length es) (made_list seed count words es))) (ScrubAll ∷ summing (length es + 1) count)
     (still_wearing_behind words (length es) 2 (last_segment d) (made_list seed count words es) (omega arith) order)
     (tt, still_summing (length es + 1) count)

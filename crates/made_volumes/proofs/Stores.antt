@@ -8,7 +8,7 @@ use Rattle.cartridge_spec.specs.Table.{Entry, LieBehind}
 use Rattle.drive_states.specs.Deck.{segments_per_track}
 use Rattle.drive_states.specs.Unit.{UnitView}
 use Rattle.host_driver.specs.Fits.{segments_of}
-use Rattle.made_volumes.proofs.Segments.{LiesOn, lies_on}
+use Rattle.segment_mending.proofs.Looked.{LiesOn, lies_on}
 use Rattle.volume_store.specs.Mounting.{StoreView, StoreFits}
 
 module _ {T : Type 0} (t : tapes.Meaning T) (held : StoreView) (u : UnitView T) (fits : StoreFits t held u) where

@@ -9,7 +9,7 @@ use Rattle.qic_base.specs.Tape as tapes
 use Rattle.qic_base.proofs.Steps.{Tells-map}
 use Rattle.acts.specs.Acts.{Act, steps_of, text_of, next_steps, Failing, TapeFails, SinkFails, Cut}
 use Rattle.acts.specs.Around.{no_source, around}
-use Rattle.acts.proofs.Joins.{steps_of-append}
+use Rattle.acts.proofs.Joins.{steps_of-append, sink_cut_one}
 use Rattle.cartridge_spec.specs.Table.{Entry}
 use Rattle.cartridge_spec.specs.Volumes.{volume_length}
 use Rattle.restore_plan.specs.Restoring.{Piece, Ending, Restored, LostIn, MismatchIn, Restores, pieces}
@@ -135,12 +135,7 @@ module _ {T K : Type 0} (t : tapes.Meaning T) (k : sinks.Meaning K) (seed : ℕ)
   }
 
   line_cut : (y : K) (e : Entry) → Gave e Restored → sinks.BrokeOff k x y (line_of e) → Cut t no_source k (around a x) (around b y) (line_act e ∷ []) SinkFails
-  line_cut y e gave broke = record {
-    at = record { front = []; act = line_act e; rest = []; parts = refl };
-    did = did_nothing e Restored gave;
-    broke = record { part = broke.front; rest = broke.rest; parts = broke.parts; took = broke.took; cause = broke.cause; later = broke.later };
-    source_later = omega arith;
-  }
+  line_cut y e gave broke = sink_cut_one t no_source k (around a x) (around b y) (line_act e) (did_nothing e Restored gave) broke (omega arith)
 
   line_broke : (y : K) (e : Entry) → Gave e Restored → total < 2 ^ 32 → volume_at entries number ≡ Some e → sinks.BrokeOff k x y (line_of e) →
       RunEnds t k seed words entries (SumVolume number ∷ []) (around a x) (around b y) (Err fault.Sink)

@@ -9,7 +9,7 @@ use Rattle.cartridge_spec.specs.Table.{Entry}
 use Rattle.cartridge_spec.specs.Volumes.{Plain, Volume, Stands, entries_of}
 use Rattle.cartridge_spec.specs.Writes.{changed_by}
 use Rattle.restore_plan.specs.Restoring.{LosesFew, pieces}
-use Rattle.store_laws.specs.Kept.{IsKept}
+use Rattle.store_laws.specs.Kept.{IsOpen, IsKept}
 use Rattle.store_laws.specs.Listed.{IsListed}
 use Rattle.store_laws.specs.Listing.{Lists}
 use Rattle.tape_script.specs.Generator.{made_bytes}
@@ -75,14 +75,15 @@ StoppedMakeStands =
     IsKept c plain → Makes seed count c plain.words (entries_of plain) acts answer → Torn (steps_of acts) (Some c) left →
     StandsWithMade seed count plain left
 
--- where all was carried out, all of them stand
+-- where all was carried out, all of them stand, also where sectors of the table's segment take no write
 abbrev pub DoneMakeStands : Type 0
 DoneMakeStands =
-    (seed count : ℕ) (c : Cartridge) (plain : Plain) (acts : List Act) → count ≤ 200 → IsKept c plain →
+    (seed count : ℕ) (c : Cartridge) (plain : Plain) (acts : List Act) → count ≤ 200 → IsOpen c plain →
     Makes seed count c plain.words (entries_of plain) acts Done →
     Stands (changed_by (steps_of acts) c) (with_made seed plain 1 count)
 
--- .. and so they do where something was printed before a stop, which may come inside the steps of the next act
+-- .. and where each of these takes a write, so they do where something was printed before a stop, which may come inside the steps
+-- of the next act
 abbrev pub MadeAreAnswered : Type 0
 MadeAreAnswered =
     (seed count : ℕ) (c : Cartridge) (plain : Plain) (acts front rest : List Act) (answer : Answer) (left : Option Cartridge) →
@@ -110,10 +111,10 @@ LoseFewBehind seed count c plain =
     length (entries_of plain) < number → volume_at (made_list seed count plain.words (entries_of plain)) number ≡ Some e →
     All (LosesFew (changed_by (steps_of acts) c) plain.words) (pieces plain.words e)
 
--- then all steps are carried out
+-- then all steps are carried out, also where sectors of the table's segment take no write
 abbrev pub MadeWhereThereIsRoom : Type 0
 MadeWhereThereIsRoom =
-    (seed count : ℕ) (c : Cartridge) (plain : Plain) (acts : List Act) (answer : Answer) → count ≤ 200 → IsKept c plain →
+    (seed count : ℕ) (c : Cartridge) (plain : Plain) (acts : List Act) (answer : Answer) → count ≤ 200 → IsOpen c plain →
     HaveRoom seed count plain → LoseFewBehind seed count c plain → Makes seed count c plain.words (entries_of plain) acts answer →
     answer ≡ Done
 
