@@ -13,12 +13,12 @@ use Rattle.qic_base.specs.Sink as sinks
 use Rattle.qic_base.specs.Source as sources
 use Rattle.qic_base.specs.Step.{Step as TapeStep, effects}
 use Rattle.qic_base.specs.Tape as tapes
-use Rattle.qic_base.proofs.Steps.{Broke-front, Done-nothing, Done-Done, Done-Broke, effects-append}
+use Rattle.qic_base.proofs.Steps.{Done-nothing, Done-Done, Done-Broke, effects-append}
 use Rattle.qic_base.specs.Stop.{Torn}
 use Rattle.qic_base.proofs.Writing.{TakesBoth}
 use Rattle.acts.specs.Acts.{Act, steps_of, text_of, next_steps, Failing, TapeFails, SourceFails, SinkFails, Went, Cut, TapeCut, SourceCut, SinkCut}
 use Rattle.acts.specs.Around.{no_sink, reading}
-use Rattle.acts.proofs.Joins.{steps_of-append, text_of-append}
+use Rattle.acts.proofs.Joins.{steps_of-append, text_of-append, broke_behind}
 use Rattle.cartridge_spec.specs.HeaderAndTable.{TableIs, table_cells, last_segment}
 use Rattle.cartridge_spec.specs.Says.{Data, LostSectors, AsRead, ByCode, TableSays}
 use Rattle.cartridge_spec.proofs.TableSayings.{table_says_is_function}
@@ -54,18 +54,10 @@ use Rattle.tape_cmd.proofs.PlainLaws.{plain_is_function}
 use Rattle.tape_cmd.proofs.Endings.{told_map, nothing_front}
 use Rattle.tape_cmd.proofs.Ends.{is_some-map}
 use Rattle.tape_cmd.proofs.Mounted.{Settles, told_both, locked_is, unlocked_refused_is, writable_begins}
-use Rattle.tape_cmd.proofs.Opened.{IsKnown, quiet, outside, went_behind, settled_told, opened_known, known_before, found_locked, never_both, unlocked}
+use Rattle.tape_cmd.proofs.Opened.{opening_cut, IsKnown, quiet, outside, went_behind, settled_told, opened_known, known_before, found_locked, never_both, unlocked}
+use Rattle.tape_cmd.proofs.Told.{input_of, input_told}
 
 -- ---- the input
-
--- an input that is told, or none
-abbrev input_of : Option (List ℕ) → List ℕ
-input_of None = []
-input_of (Some bytes) = bytes
-
-input_told : (told : Option (List ℕ)) → IfSome told (λ bytes. input_of told ≡ bytes)
-input_told None = tt
-input_told (Some bytes) = refl
 
 input_bytes : (told : Option (List ℕ)) → IfNone told (All (λ b. b < 256) (input_of told))
 input_bytes None = All-nil (λ b. b < 256)
@@ -234,20 +226,6 @@ module _ {T S K : Type 0} (t : tapes.Meaning T) (s : sources.Meaning S) (k : sin
   whatever outcome told =
       told_map (t.told a) _ _ told (λ held each. (input_of (s.left i), input_told (s.left i), ((λ is. input_bytes (s.left i)), each (input_of (s.left i)))))
 
-  -- a fault of the tape in a front of the settling
-  abbrev opening_cut : (b : T) (steps : List TapeStep) (acts : List Act) → ((z : K) → k.took z [] z) → (rest : List TapeStep) → steps ++ rest ≡ next_steps acts → tapes.Broke t a b steps →
-      TapeCut t s k (outside a i x) (outside b i x) acts
-  opening_cut b steps acts nothing rest is broke =
-      let longer : tapes.Broke t a b (next_steps acts) = subst (tapes.Broke t a b) is (Broke-front rest broke) in record {
-        front = [];
-        rest = acts;
-        parts = refl;
-        broke = longer;
-        here = λ held left told now. longer.torn held left told now;
-        wrote = record { took = nothing x; later = omega arith };
-        source_later = omega arith;
-      }
-
   -- the opening was refused, or cut off
   pub append_unopened : (b : UnitView T) (why : Status) → ((z : K) → k.took z [] z) → WritableEnds t a b (Err why) → Ends t s k (words.Append name date) (outside a i x) (outside b.tape i x) why
   append_unopened b why nothing (inl locked) =
@@ -270,14 +248,14 @@ module _ {T S K : Type 0} (t : tapes.Meaning T) (s : sources.Meaning S) (k : sin
               (λ is. input_bytes (s.left i)),
               λ outcome plain.
                   let begins = writable_begins (Appends name date (input_of (s.left i))) (appends_first name date (input_of (s.left i))) cut.steps held front outcome plain in record {
-                    cut = opening_cut b.tape cut.steps outcome.acts nothing begins.0 begins.1 cut.broke;
+                    cut = opening_cut t s k nothing a b.tape i x cut.steps outcome.acts begins.0 begins.1 cut.broke;
                     done = λ sink still. absurd (cc);
                     silent = λ still. refl;
                   },
             ),
           ));
           acts = quiet cut.steps ∷ [];
-          cut = opening_cut b.tape cut.steps (quiet cut.steps ∷ []) nothing [] (append-nil cut.steps) cut.broke;
+          cut = opening_cut t s k nothing a b.tape i x cut.steps (quiet cut.steps ∷ []) [] (append-nil cut.steps) cut.broke;
           front = nothing_front (words.Append name date);
           silent = λ still unlike. refl;
           reads = λ same. absurd (cc);
@@ -428,14 +406,7 @@ module _ {T S K : Type 0} (t : tapes.Meaning T) (s : sources.Meaning S) (k : sin
       broken y broke = record {
         at = record { front = quiet opening.steps ∷ (quiet ran.settling ∷ writes); act = last_act; rest = []; parts = parted };
         did = subst (tapes.Done t a c) (sym steps_before) all_did;
-        broke = record {
-          part = broke.front;
-          rest = broke.rest;
-          parts = broke.parts;
-          took = subst (λ (text : List ℕ). k.took x (text ++ broke.front) y) (sym none_before) broke.took;
-          cause = broke.cause;
-          later = broke.later;
-        };
+        broke = broke_behind (text_of (quiet opening.steps ∷ (quiet ran.settling ∷ writes))) none_before broke;
         source_later = ran.went.source_later;
       }
 

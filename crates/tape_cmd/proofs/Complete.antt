@@ -10,6 +10,7 @@ use Rattle.made_volumes.proofs.Complete.{made_where_there_is_room}
 use Rattle.mount_laws.specs.Laws.{mounted_as}
 use Rattle.mount_laws.proofs.Mounting.{mounts_is_function}
 use Rattle.mount_laws.proofs.Standing.{standing_mounts}
+use Rattle.store_laws.proofs.Held.{mounted_open}
 use Rattle.tape_pulses.specs.Pulses as pulses
 use Rattle.tape_script.specs.Input.{Item, Ending, AtEnd, AtStop, IsItem, IsPulse, IsPulses, IsScript}
 use Rattle.tape_script.proofs.Inputs as inputs
@@ -35,7 +36,6 @@ use Rattle.tape_cmd.specs.Restore.{RestoreOutcome}
 use Rattle.tape_cmd.specs.Script.{Scripting, ScriptOutcome, script_status}
 use Rattle.tape_cmd.specs.Scrub.{Mends, ScrubOutcome}
 use Rattle.tape_cmd.proofs.GivenBack.{given, given_whole}
-use Rattle.tape_cmd.proofs.Several.{settled_kept}
 
 -- ---- a cartridge that is mounted
 
@@ -105,7 +105,7 @@ make_goes seed count c outcome small whole free can does =
     let did = on.did in
     let there : ReadsAs c plain = can.mounts in
     ap status_of did.is ∙ ap make_status (made_where_there_is_room seed count (settled plain.table_area c) plain did.acts did.answer small
-    (settled_kept c plain whole there.stands can.live on.mounts free) can.room can.few did.makes)
+    (mounted_open c plain whole there.stands on.mounts free) can.room can.few did.makes)
 
 -- ---- commands that read lines
 

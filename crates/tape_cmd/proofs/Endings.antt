@@ -26,6 +26,7 @@ use Rattle.volume_script.specs.Lines.{end_line}
 use Rattle.tape_cmd.specs.Pulses.{AreLevels}
 use Rattle.tape_cmd.specs.Writing.{printed_status}
 use Rattle.acts.specs.Around.{no_source, around}
+use Rattle.acts.proofs.Joins.{broke_first}
 use Rattle.tape_cmd.specs.Runs.{InputLeft, may_come_from, IsOfBytes, IsCutOff, EndsBlind}
 use Rattle.tape_cmd.proofs.PlainLaws.{plain_is_function}
 
@@ -209,15 +210,6 @@ module _ {T K : Type 0} (t : tapes.Meaning T) (k : sinks.Meaning K) where
     fault = tt;
   })
 
-  abbrev sink_cut_one : (a b : T) (x y : K) (steps : List TapeStep) (text : List ℕ) → tapes.Done t a b steps → sinks.BrokeOff k x y text →
-      SinkCut t no_source k (around a x) (around b y) (record { steps = steps; text = text } ∷ [])
-  sink_cut_one a b x y steps text did broke = record {
-    at = record { front = []; act = record { steps = steps; text = text }; rest = []; parts = refl };
-    did = did;
-    broke = record { part = broke.front; rest = broke.rest; parts = broke.parts; took = broke.took; cause = broke.cause; later = broke.later };
-    source_later = omega arith;
-  }
-
   -- the sink broke its output off
   unprinted : (command : Words) → IsBlind command → (a b : T) (x y : K) (outcome : Outcome) →
       outcome.status ≡ status.Done → outcome ≡ acted (first_act outcome).steps (first_act outcome).text → CommandPrints command (first_act outcome).text →
@@ -225,7 +217,12 @@ module _ {T K : Type 0} (t : tapes.Meaning T) (k : sinks.Meaning K) where
       tapes.Done t a b (first_act outcome).steps → sinks.BrokeOff k x y (first_act outcome).text → EndsBlind t k command a b x y status.SinkFault
   unprinted command blind a b x y outcome ends one prints told did broke =
       let act : Act = first_act outcome in
-      let cut : SinkCut t no_source k (around a x) (around b y) (act ∷ []) = sink_cut_one a b x y act.steps act.text did broke in
+      let cut : SinkCut t no_source k (around a x) (around b y) (act ∷ []) = record {
+        at = record { front = []; act = act; rest = []; parts = refl };
+        did = did;
+        broke = broke_first broke;
+        source_later = omega arith;
+      } in
       let off : IsCutOff t no_source k command (around a x) (around b y) SinkFails outcome =
       subst (IsCutOff t no_source k command (around a x) (around b y) SinkFails) (sym one) (record {
         cut = cut;

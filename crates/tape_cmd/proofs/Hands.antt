@@ -1,5 +1,5 @@
 -- How a change by hand ends, by what the drive's call answered.
-use Rattle.std.proofs.Common.{◌≡◌, ◌≢◌, ◌⊎◌, ℕ, ◌*◌, ◌<◌, Bool, true, false, [], Option, Some, None, IfSome, IfNone, Result, Err, refl, subst, inl, inr, arith, nat_lt, ltb-true, ltb-false}
+use Rattle.std.proofs.Common.{◌≡◌, ◌≢◌, ◌⊎◌, ℕ, [], Option, Some, None, IfSome, IfNone, Result, Err, refl, subst, inl, inr}
 use Rattle.std.specs.Option.{option_map}
 use Rattle.qic_base.specs.Cartridge.{Cartridge, IsPlace}
 use Rattle.qic_base.specs.declared.tape.TapeInfo.{TapeInfo}
@@ -7,6 +7,7 @@ use Rattle.qic_base.specs.Tape as tapes
 use Rattle.qic_base.proofs.Steps.{Done-told}
 use Rattle.drive_states.specs.declared.fault.HandFault.{HandFault}
 use Rattle.drive_states.specs.declared.fault.HandFault.TheVariants.{NoCartridge, BadPlace}
+use Rattle.volume_script.proofs.Places.{place_or_not}
 
 -- what the drive knows since the insertion is what the tape told before it
 pub known_before : {T : Type 0} (t : tapes.Meaning T) (a b : T) (cartridge : Option TapeInfo) → tapes.Done t a b [] →
@@ -36,17 +37,6 @@ told_at_start t a b inserted P told =
     let telling : Option (Option Cartridge) → Type 0 = λ held. IfSome held (λ h. IfSome h P) in
     subst telling (Done-told inserted) told
 
-place_decided : (n segment sector : ℕ) → IsPlace n segment sector ⊎ ¬ (IsPlace n segment sector)
-place_decided n segment sector = by_segment (nat_lt segment (28 * n)) refl
-  where
-    by_sector : segment < 28 * n → (b : Bool) → nat_lt sector 32 ≡ b → IsPlace n segment sector ⊎ ¬ (IsPlace n segment sector)
-    by_sector on_tape true is = inl (record { on_tape = on_tape; in_segment = ltb-true sector 32 is })
-    by_sector on_tape false is = inr (λ place. let above = ltb-false sector 32 is in let within = place.in_segment in omega arith)
-
-    by_segment : (b : Bool) → nat_lt segment (28 * n) ≡ b → IsPlace n segment sector ⊎ ¬ (IsPlace n segment sector)
-    by_segment true is = by_sector (ltb-true segment (28 * n) is) (nat_lt sector 32) refl
-    by_segment false is = inr (λ place. let above = ltb-false segment (28 * n) is in let within = place.on_tape in omega arith)
-
 -- the drive knows a cartridge, and it has the sector
 pub record Reached (cartridge : Option TapeInfo) (segment sector : ℕ) (P : Type 0) : Type 0 where
   pub info : TapeInfo
@@ -66,7 +56,7 @@ pub reached : (cartridge : Option TapeInfo) (segment sector : ℕ) (result : Res
     IfSome cartridge (λ info. IsPlace info.segments_per_track segment sector → P result) →
     result ≢ Err NoCartridge → result ≢ Err BadPlace → Reached cartridge segment sector (P result)
 reached None segment sector result P absent misplaced placed some good = absurd (some absent)
-reached (Some info) segment sector result P absent misplaced placed some good = by_place (place_decided info.segments_per_track segment sector)
+reached (Some info) segment sector result P absent misplaced placed some good = by_place (place_or_not info.segments_per_track segment sector)
   where
     by_place : IsPlace info.segments_per_track segment sector ⊎ ¬ (IsPlace info.segments_per_track segment sector) → Reached (Some info) segment sector (P result)
     by_place (inl place) = record { info = info; known = refl; place = place; fact = placed place }
@@ -78,7 +68,7 @@ pub unknown : (cartridge : Option TapeInfo) (segment sector : ℕ) (result : Res
     IfSome cartridge (λ info. IsPlace info.segments_per_track segment sector → P result) →
     result ≡ Err NoCartridge → ¬ (P (Err NoCartridge)) → cartridge ≡ None
 unknown None segment sector result P misplaced placed is never = refl
-unknown (Some info) segment sector result P misplaced placed is never = by_place (place_decided info.segments_per_track segment sector)
+unknown (Some info) segment sector result P misplaced placed is never = by_place (place_or_not info.segments_per_track segment sector)
   where
     by_place : IsPlace info.segments_per_track segment sector ⊎ ¬ (IsPlace info.segments_per_track segment sector) → Some info ≡ None
     by_place (inl place) = absurd (never (subst P is (placed place)))

@@ -20,6 +20,7 @@ pub mod Scripted
 pub mod Scrubbed
 pub mod Several
 pub mod Survives
+pub mod Told
 pub mod Totals
 pub mod Trains
 pub mod Values

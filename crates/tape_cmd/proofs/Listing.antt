@@ -1,6 +1,5 @@
 -- What a cartridge is mounted with when a run is over that adds volumes.
-use Rattle.std.proofs.Common.{◌≡◌, ◌≢◌, ◌⊎◌, inl, inr, ℕ, ◌+◌, ◌-◌, ◌*◌, ◌<◌, ◌≤◌, ◌^◌, ◌&&◌, nat_le, min, Bool, true, false, cond, List, [], ◌∷◌, ◌++◌, length, is_some, Option, Some, None, IfSome, IsSomeAnd, refl, sym, ap, ◌∙◌, subst, arith, append_assoc, append-nil}
-use Rattle.std.proofs.lemmas.Bool.{cases_Bool}
+use Rattle.std.proofs.Common.{◌≡◌, ◌≢◌, ◌⊎◌, inl, inr, ℕ, ◌+◌, ◌-◌, ◌*◌, ◌<◌, ◌≤◌, ◌^◌, ◌&&◌, nat_le, min, Bool, true, false, cond, List, [], ◌∷◌, ◌++◌, length, Option, Some, None, IfSome, IsSomeAnd, refl, sym, ap, ◌∙◌, subst, arith, append_assoc, append-nil}
 use Rattle.std.proofs.lemmas.List.{length-append}
 use Rattle.qic_base.specs.declared.tape.TapeInfo.{TapeInfo}
 use Rattle.qic_base.specs.Cartridge.{Cartridge, IsCartridge}
@@ -9,10 +8,10 @@ use Rattle.qic_base.specs.Source as sources
 use Rattle.qic_base.specs.Step.{Step as TapeStep, effects}
 use Rattle.qic_base.specs.Tape as tapes
 use Rattle.qic_base.proofs.Steps.{effects-append}
-use Rattle.acts.specs.Acts.{Act, steps_of, text_of, Outside, Failing, TapeFails, SourceFails, SinkFails}
-use Rattle.acts.proofs.Joins.{steps_of-append, text_of-append}
+use Rattle.acts.specs.Acts.{Act, steps_of, text_of, Outside, TapeFails, SourceFails, SinkFails}
+use Rattle.acts.proofs.Joins.{steps_of-append}
 use Rattle.cartridge_spec.specs.Header.{Header}
-use Rattle.cartridge_spec.specs.HeaderAndTable.{TableIs, last_segment}
+use Rattle.cartridge_spec.specs.HeaderAndTable.{TableIs}
 use Rattle.cartridge_spec.specs.Mounting.{Mounting, Mounted, Mounts, settled}
 use Rattle.cartridge_spec.specs.Table.{Entry}
 use Rattle.cartridge_spec.specs.Writes.{changed_by}
@@ -32,7 +31,7 @@ use Rattle.tape_script.proofs.Commands.{one_command}
 use Rattle.volume_lines.specs.Lines.{reply_behind}
 use Rattle.volume_script.specs.Script as scripts
 use Rattle.volume_script.specs.Script.{ScriptDoes, entries_behind}
-use Rattle.volume_script.specs.Listing.{ListsAnswered}
+use Rattle.volume_script.specs.Listing.{ItemsWearBehind, ListsAnswered, ListsBroken}
 use Rattle.volume_script.proofs.Listing.{listed_behind_act, listed_between, listed_done, listed_none}
 use Rattle.volume_script.proofs.MachineLaws.{one_outcome as one_script}
 use Rattle.volume_store.specs.Appending.{Kept, Taking, Fits, TooLong, append_acts, entry_for, kept_in, room_in, taking}
@@ -40,25 +39,26 @@ use Rattle.tape_cmd.specs.declared.status.Status.{Status}
 use Rattle.tape_cmd.specs.declared.status.Status.TheVariants as status
 use Rattle.tape_cmd.specs.Append.{Appends, AppendOutcome, append_status, appended, kept_on}
 use Rattle.tape_cmd.specs.Machine.{HasValues, Spells, Yields}
-use Rattle.tape_cmd.specs.Opening.{Going, Opened, OpenOutcome, WritableOutcome}
+use Rattle.tape_cmd.specs.Opening.{Going, Opened, OpenOutcome}
 use Rattle.tape_cmd.specs.Outcome.{Outcome}
-use Rattle.tape_cmd.specs.Runs.{Ends, Finished, IsCutOff, fault_of, is_fault}
+use Rattle.tape_cmd.specs.Runs.{Ends, IsCutOff, fault_of}
 use Rattle.tape_cmd.specs.Headline.{EachNow}
 use Rattle.made_volumes.specs.Items.{made_list}
 use Rattle.made_volumes.specs.Machine as made
 use Rattle.made_volumes.specs.Machine.{Makes}
 use Rattle.made_volumes.proofs.Leaving.{made_are_listed, make_lists}
-use Rattle.tape_cmd.specs.Listing.{NowLists, WasListed, ListsVolume, ScriptsOver, ListsAppends}
+use Rattle.tape_cmd.specs.Listing.{IsHeard, ListsAppends, ListsVolume, NowLists, WasListed}
 use Rattle.tape_cmd.specs.Make.{Making, MakeOutcome, MakesOn, make_status}
 use Rattle.tape_cmd.specs.Volumes.{IsCarriedOut, WasNotDone}
 use Rattle.tape_cmd.specs.Script.{Scripting, ScriptOutcome, ScriptsOn}
 use Rattle.tape_cmd.proofs.Added.{replied_text, status_fits}
 use Rattle.tape_cmd.proofs.Appends.{appended_line_is_some}
-use Rattle.tape_cmd.proofs.Several.{no_text, told_now}
+use Rattle.tape_cmd.proofs.Several.{heard_fault, never_sink, no_more, none_left, some_long, told_now}
 use Rattle.tape_cmd.proofs.Ends.{Laws, over_at, told_whole}
 use Rattle.tape_cmd.proofs.Opened.{quiet}
 use Rattle.tape_cmd.proofs.Totals.{plain_answers}
-use Rattle.tape_cmd.proofs.Volumes.{Did, carried_out_did, done_now, may_change, now_weaker}
+use Rattle.tape_cmd.proofs.Told.{input_of, input_told}
+use Rattle.tape_cmd.proofs.Volumes.{Did, carried_out_did, done_now, now_weaker}
 
 -- ---- a cartridge as it was mounted
 
@@ -190,7 +190,7 @@ pub record WholeFront (acts : List Act) (text : List ℕ) : Type 0 where
   pub parts : front ++ rest ≡ acts
   pub is_text : text ≡ text_of front
 
--- .. and the steps of the next one, with some of its text
+-- .. and the steps of the next one, with a part of its text, and not the whole
 pub record PartFront (acts : List Act) (text : List ℕ) : Type 0 where
   pub front : List Act
   pub act : Act
@@ -199,6 +199,7 @@ pub record PartFront (acts : List Act) (text : List ℕ) : Type 0 where
   pub some : List ℕ
   pub more : List ℕ
   pub written : some ++ more ≡ act.text
+  pub lacks : more ≢ []
   pub is_text : text ≡ text_of front ++ some
 
 abbrev FrontDone : List Act → List ℕ → Type 0
@@ -207,6 +208,14 @@ FrontDone acts text = WholeFront acts text ⊎ PartFront acts text
 abbrev done_of : (acts : List Act) (text : List ℕ) → FrontDone acts text → List TapeStep
 done_of acts text (inl w) = steps_of w.front
 done_of acts text (inr p) = steps_of p.front ++ p.act.steps
+
+abbrev IsPart : (acts : List Act) (text : List ℕ) → FrontDone acts text → Type 0
+IsPart acts text (inl w) = ⊥
+IsPart acts text (inr p) = Unit {0}
+
+abbrev IsWhole : (acts : List Act) (text : List ℕ) → FrontDone acts text → Type 0
+IsWhole acts text (inl w) = Unit {0}
+IsWhole acts text (inr p) = ⊥
 
 -- over what is told of a command: some input and its outcome, and the acts that were done
 pub record RanDone {T S K : Type 0} (t : tapes.Meaning T) (s : sources.Meaning S) (k : sinks.Meaning K) (command : Words) (old new : Outside T S K) (answer : Status) (c : Cartridge) : Type 0 where
@@ -218,8 +227,11 @@ pub record RanDone {T S K : Type 0} (t : tapes.Meaning T) (s : sources.Meaning S
   pub took : k.took old.sink text new.sink
   pub at : FrontDone outcome.acts text
   pub now : EachNow t old.tape new.tape (λ left. left ≡ effects (done_of outcome.acts text at) (Some c))
-  -- where it was carried out, all of them
-  pub done : answer ≡ status.Done → (outcome.status ≡ status.Done) × (done_of outcome.acts text at ≡ steps_of outcome.acts)
+  -- where the input was carried out, all of them
+  pub heard : IsHeard answer → (outcome.status ≡ answer) × (done_of outcome.acts text at ≡ steps_of outcome.acts)
+  -- the sink broke a text off where it failed, and just there
+  pub broke : answer ≡ status.SinkFault → IsPart outcome.acts text at
+  pub whole : answer ≢ status.SinkFault → IsWhole outcome.acts text at
 
 ends_done : {T S K : Type 0} (t : tapes.Meaning T) (s : sources.Meaning S) (k : sinks.Meaning K) (command : Words) (old new : Outside T S K) (answer : Status) → Laws t s k old new → HasValues command →
     Ends t s k command old new answer → (c : Cartridge) → t.told old.tape ≡ Some (Some c) → answer ≢ status.TapeFault → RanDone t s k command old new answer c
@@ -233,7 +245,9 @@ ends_done t s k command old new answer laws values (inl finished) c told other =
       took = finished.went.wrote.took;
       at = inl (record { front = finished.outcome.acts; rest = []; parts = append-nil finished.outcome.acts; is_text = refl });
       now = done_now t old.tape new.tape (steps_of finished.outcome.acts) (Some c) laws.after finished.went.did told;
-      done = λ is. (sym finished.answered ∙ is, refl);
+      heard = λ which. (sym finished.answered, refl);
+      broke = λ is. absurd (never_sink answer command finished.sound is);
+      whole = λ other. tt;
     }
 ends_done t s k command old new answer laws values (inr (TapeFails, is, stopped)) c told other = absurd (other is)
 ends_done t s k command old new answer laws values (inr (SourceFails, is, stopped)) c told other =
@@ -249,7 +263,9 @@ ends_done t s k command old new answer laws values (inr (SourceFails, is, stoppe
       took = cut.wrote.took;
       at = inl (record { front = cut.front; rest = cut.rest; parts = cut.parts; is_text = refl });
       now = done_now t old.tape new.tape (steps_of cut.front) (Some c) laws.after cut.did told;
-      done = λ done. absurd (cc);
+      heard = λ which. absurd (heard_fault SourceFails answer is which);
+      broke = λ sink. let other : fault_of SourceFails ≡ status.SinkFault = sym is ∙ sink in absurd (cc);
+      whole = λ other. tt;
     }
 ends_done t s k command old new answer laws values (inr (SinkFails, is, stopped)) c told other =
     let over = over_at (t.told old.tape) _ (Some c) stopped.told told in
@@ -272,10 +288,13 @@ ends_done t s k command old new answer laws values (inr (SinkFails, is, stopped)
         some = broke.part;
         more = broke.rest;
         written = broke.parts;
+        lacks = broke.some;
         is_text = refl;
       });
       now = done_now t old.tape new.tape (steps_of at.front ++ at.act.steps) (Some c) laws.after cut.did told;
-      done = λ done. absurd (cc);
+      heard = λ which. absurd (heard_fault SinkFails answer is which);
+      broke = λ sink. tt;
+      whole = λ other. absurd (other is);
     }
 
 -- ---- `append`
@@ -325,73 +344,71 @@ module _ {T S K : Type 0} (t : tapes.Meaning T) (s : sources.Meaning S) (k : sin
 
 -- ---- `script`
 
-module _ (told : Option (List ℕ)) (spoken : List (List ℕ)) (c : Cartridge) (header : Header) (words : List ℕ) (table : List (List ℕ)) (entries : List Entry) (whole : IsCartridge c)
-    (mounts : Mounts c (Mounted header words table entries)) (script : ScriptsOver told spoken c words table entries) where
+module _ (c : Cartridge) (header : Header) (words : List ℕ) (table : List (List ℕ)) (entries : List Entry) (whole : IsCartridge c) (mounts : Mounts c (Mounted header words table entries))
+    (input : List ℕ) (came : scripts.Outcome) (does : ScriptDoes (settled table c) words entries input came) where
   abbrev Answered : (text : List ℕ) → Option Cartridge → Type 0
-  Answered text left = ListsAnswered header words entries script.does.items script.does.dids (length text) left
+  Answered text left = ListsAnswered header words entries does.items does.dids (length text) left
 
-  -- nothing was done, or the table was settled
-  nothing_said : (d : Cartridge) (text : List ℕ) (left : Option Cartridge) → text ≡ [] → Lists d header words entries → left ≡ Some d → Answered text left
-  nothing_said d text left none lists is =
-      subst (Answered text) (sym is)
-      (subst (λ (xs : List ℕ). Answered xs (Some d)) (sym none)
-      (listed_none (still c header words table entries whole mounts) d header words entries script.input script.outcome script.does lists))
+  abbrev Broken : (text : List ℕ) → Option Cartridge → Type 0
+  Broken text left = ListsBroken header words entries does.items does.dids (length text) left
 
-  module _ (input : List ℕ) (outcome : Outcome) (same : input ≡ script.input) (opened : ScriptOutcome (Some c) input outcome) where
+  module _ (outcome : Outcome) (opened : ScriptOutcome (Some c) input outcome) where
     did : ScriptsOn input c words table entries outcome
     did = went_on c header words table entries whole mounts (Scripting input) outcome opened
 
-    one : did.came ≡ script.outcome
-    one = one_script (settled table c) words entries script.input did.came script.outcome
-        (subst (λ (i : List ℕ). ScriptDoes (settled table c) words entries i did.came) same did.does) script.does
-
-    acts : outcome.acts ≡ quiet (settling_steps table c) ∷ script.outcome.acts
-    acts = ap (λ (o : Outcome). o.acts) did.is ∙ ap (λ (o : scripts.Outcome). quiet (settling_steps table c) ∷ o.acts) one
+    acts : outcome.acts ≡ quiet (settling_steps table c) ∷ came.acts
+    acts =
+        ap (λ (o : Outcome). o.acts) did.is
+        ∙ ap (λ (o : scripts.Outcome). quiet (settling_steps table c) ∷ o.acts) (one_script (settled table c) words entries input did.came came did.does does)
 
     -- once it was carried out those of all lines are there
-    script_lists_all : IsSomeAnd (effects (steps_of outcome.acts) (Some c)) (λ d. Lists d header words (entries_behind entries script.does.dids))
-    script_lists_all =
-        listed_done (settled table c) header words entries script.input script.outcome (effects (steps_of outcome.acts) (Some c))
-        (lists_still c header words table entries whole mounts) (listed c header words table entries whole mounts) script.does script.behind
-        (ap (λ (xs : List Act). effects (steps_of xs) (Some c)) acts ∙ behind_acts c header words table entries whole mounts script.outcome.acts)
+    script_lists_all : ItemsWearBehind does.items → IsSomeAnd (effects (steps_of outcome.acts) (Some c)) (λ d. Lists d header words (entries_behind entries does.dids))
+    script_lists_all behind =
+        listed_done (settled table c) header words entries input came (effects (steps_of outcome.acts) (Some c))
+        (lists_still c header words table entries whole mounts) (listed c header words table entries whole mounts) does behind
+        (ap (λ (xs : List Act). effects (steps_of xs) (Some c)) acts ∙ behind_acts c header words table entries whole mounts came.acts)
 
-    script_lists : (text : List ℕ) (at : FrontDone outcome.acts text) → Answered text (effects (done_of outcome.acts text at) (Some c))
-    script_lists text at = by_front at
+    -- a front of the acts went
+    script_answered : (text : List ℕ) (at : FrontDone outcome.acts text) → IsWhole outcome.acts text at → Answered text (effects (done_of outcome.acts text at) (Some c))
+    script_answered text (inr p) part = absurd part
+    script_answered text (inl w) is_whole = by_front w.front w.rest (w.parts ∙ acts) w.is_text
       where
-        by_whole : (front rest : List Act) → front ++ rest ≡ quiet (settling_steps table c) ∷ script.outcome.acts → text ≡ text_of front → Answered text (effects (steps_of front) (Some c))
-        by_whole [] rest parts is = nothing_said c text (Some c) is (table, mounts) refl
-        by_whole (x ∷ more) rest parts is =
+        by_front : (front rest : List Act) → front ++ rest ≡ quiet (settling_steps table c) ∷ came.acts → text ≡ text_of front → Answered text (effects (steps_of front) (Some c))
+        by_front [] rest parts is =
+            subst (λ (xs : List ℕ). Answered xs (Some c)) (sym is) (listed_none (settled table c) c header words entries input came does (table, mounts))
+        by_front (x ∷ more) rest parts is =
             let first : x ≡ quiet (settling_steps table c) = cc in
-            let behind : more ++ rest ≡ script.outcome.acts = cc in
+            let behind : more ++ rest ≡ came.acts = cc in
             subst (λ (xs : List ℕ). Answered xs (effects (steps_of (x ∷ more)) (Some c))) (sym (is ∙ ap (λ (a : Act). text_of (a ∷ more)) first))
-            (listed_between (settled table c) header words entries script.input script.outcome more rest (effects (steps_of (x ∷ more)) (Some c)) (lists_still c header words table entries whole mounts)
-            (listed c header words table entries whole mounts) script.does script.behind behind
+            (listed_between (settled table c) header words entries input came more rest (effects (steps_of (x ∷ more)) (Some c)) (lists_still c header words table entries whole mounts)
+            (listed c header words table entries whole mounts) does behind
             (ap (λ (a : Act). effects (steps_of (a ∷ more)) (Some c)) first ∙ behind_acts c header words table entries whole mounts more))
 
-        by_part : (front : List Act) (act : Act) (rest : List Act) (some more_text : List ℕ) → front ++ act ∷ rest ≡ quiet (settling_steps table c) ∷ script.outcome.acts → some ++ more_text ≡ act.text →
-            text ≡ text_of front ++ some → Answered text (effects (steps_of front ++ act.steps) (Some c))
-        by_part [] act rest some more_text parts written is =
+    -- the text of the act behind them broke off
+    script_broken : (text : List ℕ) (at : FrontDone outcome.acts text) → IsPart outcome.acts text at → Broken text (effects (done_of outcome.acts text at) (Some c))
+    script_broken text (inl w) is_whole = absurd is_whole
+    script_broken text (inr p) part = by_front p.front p.act p.rest p.some p.more (p.parts ∙ acts) p.written p.lacks p.is_text
+      where
+        by_front : (front : List Act) (act : Act) (rest : List Act) (some unsaid : List ℕ) → front ++ act ∷ rest ≡ quiet (settling_steps table c) ∷ came.acts → some ++ unsaid ≡ act.text → unsaid ≢ [] →
+            text ≡ text_of front ++ some → Broken text (effects (steps_of front ++ act.steps) (Some c))
+        by_front [] act rest some unsaid parts written lacks is =
             let first : act ≡ quiet (settling_steps table c) = cc in
-            nothing_said (settled table c) text (effects act.steps (Some c)) (is ∙ no_text some more_text (written ∙ ap (λ (a : Act). a.text) first)) (lists_still c header words table entries whole mounts)
-            (ap (λ (a : Act). effects a.steps (Some c)) first ∙ now_settled c header words table entries whole mounts)
-        by_part (x ∷ more) act rest some more_text parts written is =
+            absurd (lacks (no_more some unsaid (written ∙ ap (λ (a : Act). a.text) first)))
+        by_front (x ∷ more) act rest some unsaid parts written lacks is =
             let first : x ≡ quiet (settling_steps table c) = cc in
-            let behind : more ++ act ∷ rest ≡ script.outcome.acts = cc in
+            let behind : more ++ act ∷ rest ≡ came.acts = cc in
             let texts : length text ≡ length (text_of more) + length some =
             ap length (is ∙ ap (λ (a : Act). text_of (a ∷ more) ++ some) first) ∙ length-append (text_of more) some in
-            let act_text : length act.text ≡ length some + length more_text = ap length (sym written) ∙ length-append some more_text in
-            listed_behind_act (settled table c) header words entries script.input script.outcome more act rest (effects (steps_of (x ∷ more) ++ act.steps) (Some c)) (length text)
-            (lists_still c header words table entries whole mounts) (listed c header words table entries whole mounts) script.does script.behind behind
+            let act_text : length act.text ≡ length some + length unsaid = ap length (sym written) ∙ length-append some unsaid in
+            let long : 0 < length unsaid = some_long unsaid lacks in
+            listed_behind_act (settled table c) header words entries input came more act rest (effects (steps_of (x ∷ more) ++ act.steps) (Some c)) (length text)
+            (lists_still c header words table entries whole mounts) (listed c header words table entries whole mounts) does behind
             (ap (λ (a : Act). effects (steps_of (a ∷ more) ++ act.steps) (Some c)) first
             ∙ ap (λ (ss : List TapeStep). effects ss (Some c)) (append_assoc (settling_steps table c) (steps_of more) act.steps)
             ∙ effects-append (settling_steps table c) (steps_of more ++ act.steps) (Some c)
             ∙ ap (effects (steps_of more ++ act.steps)) (now_settled c header words table entries whole mounts)
             ∙ effects-some (steps_of more ++ act.steps) (settled table c))
             (omega arith) (omega arith)
-
-        by_front : (at : FrontDone outcome.acts text) → Answered text (effects (done_of outcome.acts text at) (Some c))
-        by_front (inl w) = by_whole w.front w.rest (w.parts ∙ acts) w.is_text
-        by_front (inr p) = by_part p.front p.act p.rest p.some p.more (p.parts ∙ acts) p.written p.is_text
 
 -- ---- `make`
 
@@ -427,27 +444,21 @@ module _ (seed count : ℕ) (few : count ≤ 200) (c : Cartridge) (header : Head
       ap (λ (a : Act). steps_of (a ∷ more) ++ act.steps) first ∙ append_assoc (settling_steps table c) (steps_of more) act.steps
       ∙ ap (λ (ss : List TapeStep). settling_steps table c ++ ss) (ap (λ (ss : List TapeStep). steps_of more ++ ss) (sym (append-nil act.steps)) ∙ sym (steps_of-append more (act ∷ [])))
 
-  -- where nothing was to be said up to an act and by it, nothing was said
-  unsaid : (more : List Act) (act : Act) (said rest : List ℕ) → said ++ rest ≡ act.text → text_of (more ++ act ∷ []) ≡ [] → text_of more ++ said ≡ []
-  unsaid more act said rest written none =
-      no_text (text_of more ++ said) rest
-      (append_assoc (text_of more) said rest ∙ ap (λ (w : List ℕ). text_of more ++ w) (written ∙ sym (append-nil act.text)) ∙ sym (text_of-append more (act ∷ [])) ∙ none)
-
   make_lists_so : (outcome : Outcome) (text : List ℕ) (at : FrontDone outcome.acts text) → MakeOutcome seed count (Some c) outcome →
-      HasSome (effects (done_of outcome.acts text at) (Some c)) × (text ≢ [] → HasMade count (effects (done_of outcome.acts text at) (Some c)))
+      HasSome (effects (done_of outcome.acts text at) (Some c)) × ((text ≢ []) ⊎ IsPart outcome.acts text at → HasMade count (effects (done_of outcome.acts text at) (Some c)))
   make_lists_so outcome text at (inl (locked, is)) = by_none at (ap (λ (o : Outcome). o.acts) is)
     where
       by_none : (at : FrontDone outcome.acts text) → outcome.acts ≡ [] →
-          HasSome (effects (done_of outcome.acts text at) (Some c)) × (text ≢ [] → HasMade count (effects (done_of outcome.acts text at) (Some c)))
+          HasSome (effects (done_of outcome.acts text at) (Some c)) × ((text ≢ []) ⊎ IsPart outcome.acts text at → HasMade count (effects (done_of outcome.acts text at) (Some c)))
       by_none (inl w) none = by_front w.front w.rest (w.parts ∙ none) w.is_text
         where
-          by_front : (front rest : List Act) → front ++ rest ≡ [] → text ≡ text_of front → HasSome (effects (steps_of front) (Some c)) × (text ≢ [] → HasMade count (effects (steps_of front) (Some c)))
-          by_front [] rest parts is_text = (before_any c (Some c) (table, mounts) refl, λ some. absurd (some is_text))
+          by_front : (front rest : List Act) → front ++ rest ≡ [] → text ≡ text_of front → HasSome (effects (steps_of front) (Some c)) × ((text ≢ []) ⊎ ⊥ → HasMade count (effects (steps_of front) (Some c)))
+          by_front [] rest parts is_text = (before_any c (Some c) (table, mounts) refl, λ shown. elim shown [ inl some ↦ absurd (some is_text) | inr part ↦ absurd part ])
           by_front (x ∷ xs) rest parts is_text = cc
       by_none (inr p) none = by_front p.front p.act p.rest (p.parts ∙ none)
         where
           by_front : (front : List Act) (act : Act) (rest : List Act) → front ++ act ∷ rest ≡ [] →
-              HasSome (effects (steps_of front ++ act.steps) (Some c)) × (text ≢ [] → HasMade count (effects (steps_of front ++ act.steps) (Some c)))
+              HasSome (effects (steps_of front ++ act.steps) (Some c)) × ((text ≢ []) ⊎ Unit {0} → HasMade count (effects (steps_of front ++ act.steps) (Some c)))
           by_front [] act rest parts = cc
           by_front (x ∷ xs) act rest parts = cc
   make_lists_so outcome text at (inr (free, opened)) = by_at at
@@ -459,27 +470,27 @@ module _ (seed count : ℕ) (few : count ≤ 200) (c : Cartridge) (header : Head
       acts = ap (λ (o : Outcome). o.acts) did.is
 
       by_whole : (front rest : List Act) → front ++ rest ≡ quiet (settling_steps table c) ∷ did.acts → text ≡ text_of front →
-          HasSome (effects (steps_of front) (Some c)) × (text ≢ [] → HasMade count (effects (steps_of front) (Some c)))
-      by_whole [] rest parts is_text = (before_any c (Some c) (table, mounts) refl, λ some. absurd (some is_text))
+          HasSome (effects (steps_of front) (Some c)) × ((text ≢ []) ⊎ ⊥ → HasMade count (effects (steps_of front) (Some c)))
+      by_whole [] rest parts is_text = (before_any c (Some c) (table, mounts) refl, λ shown. elim shown [ inl some ↦ absurd (some is_text) | inr part ↦ absurd part ])
       by_whole (x ∷ more) rest parts is_text =
           let first : x ≡ quiet (settling_steps table c) = cc in
           let behind : more ++ rest ≡ did.acts = cc in
           let same : effects (steps_of (quiet (settling_steps table c) ∷ more)) (Some c) ≡ effects (steps_of (x ∷ more)) (Some c) =
           ap (λ (a : Act). effects (steps_of (a ∷ more)) (Some c)) (sym first) in (
             subst HasSome same (behind_some did.acts did.answer more rest did.makes behind),
-            λ some. subst (HasMade count) same (behind_all did.acts did.answer more rest did.makes behind
-                (inr (λ none. some (is_text ∙ ap (λ (a : Act). text_of (a ∷ more)) first ∙ none)))),
+            λ shown. elim shown [
+              | inl some ↦ subst (HasMade count) same (behind_all did.acts did.answer more rest did.makes behind
+                  (inr (λ none. some (is_text ∙ ap (λ (a : Act). text_of (a ∷ more)) first ∙ none))))
+              | inr part ↦ absurd part
+            ],
           )
 
-      by_part : (front : List Act) (act : Act) (rest : List Act) (said unsaid_text : List ℕ) → front ++ act ∷ rest ≡ quiet (settling_steps table c) ∷ did.acts → said ++ unsaid_text ≡ act.text →
-          text ≡ text_of front ++ said → HasSome (effects (steps_of front ++ act.steps) (Some c)) × (text ≢ [] → HasMade count (effects (steps_of front ++ act.steps) (Some c)))
-      by_part [] act rest said unsaid_text parts written is_text =
-          let first : act ≡ quiet (settling_steps table c) = cc in (
-            before_any (settled table c) (effects act.steps (Some c)) (lists_still c header words table entries whole mounts)
-                (ap (λ (a : Act). effects a.steps (Some c)) first ∙ now_settled c header words table entries whole mounts),
-            λ some. absurd (some (is_text ∙ no_text said unsaid_text (written ∙ ap (λ (a : Act). a.text) first))),
-          )
-      by_part (x ∷ more) act rest said unsaid_text parts written is_text =
+      by_part : (front : List Act) (act : Act) (rest : List Act) (said unsaid : List ℕ) → front ++ act ∷ rest ≡ quiet (settling_steps table c) ∷ did.acts → said ++ unsaid ≡ act.text → unsaid ≢ [] →
+          HasSome (effects (steps_of front ++ act.steps) (Some c)) × HasMade count (effects (steps_of front ++ act.steps) (Some c))
+      by_part [] act rest said unsaid parts written lacks =
+          let first : act ≡ quiet (settling_steps table c) = cc in
+          absurd (lacks (no_more said unsaid (written ∙ ap (λ (a : Act). a.text) first)))
+      by_part (x ∷ more) act rest said unsaid parts written lacks =
           let first : x ≡ quiet (settling_steps table c) = cc in
           let behind : more ++ act ∷ rest ≡ did.acts = cc in
           let next : List Act = more ++ act ∷ [] in
@@ -487,13 +498,13 @@ module _ (seed count : ℕ) (few : count ≤ 200) (c : Cartridge) (header : Head
           let same : effects (steps_of (quiet (settling_steps table c) ∷ next)) (Some c) ≡ effects (steps_of (x ∷ more) ++ act.steps) (Some c) =
           ap (λ (ss : List TapeStep). effects ss (Some c)) (sym (with_act x more act first)) in (
             subst HasSome same (behind_some did.acts did.answer next rest did.makes all),
-            λ some. subst (HasMade count) same (behind_all did.acts did.answer next rest did.makes all
-                (inr (λ none. some (is_text ∙ ap (λ (a : Act). text_of (a ∷ more) ++ said) first ∙ unsaid more act said unsaid_text written none)))),
+            subst (HasMade count) same (behind_all did.acts did.answer next rest did.makes all (inr (λ none. lacks (none_left more act said unsaid written none)))),
           )
 
-      by_at : (at : FrontDone outcome.acts text) → HasSome (effects (done_of outcome.acts text at) (Some c)) × (text ≢ [] → HasMade count (effects (done_of outcome.acts text at) (Some c)))
+      by_at : (at : FrontDone outcome.acts text) →
+          HasSome (effects (done_of outcome.acts text at) (Some c)) × ((text ≢ []) ⊎ IsPart outcome.acts text at → HasMade count (effects (done_of outcome.acts text at) (Some c)))
       by_at (inl w) = by_whole w.front w.rest (w.parts ∙ acts) w.is_text
-      by_at (inr p) = by_part p.front p.act p.rest p.some p.more (p.parts ∙ acts) p.written p.is_text
+      by_at (inr p) = let so = by_part p.front p.act p.rest p.some p.more (p.parts ∙ acts) p.written p.lacks in (so.0, λ shown. so.1)
 
   -- once it was carried out all of them are there
   make_lists_all : (outcome : Outcome) → MakeOutcome seed count (Some c) outcome → outcome.status ≡ status.Done → HasMade count (effects (steps_of outcome.acts) (Some c))
@@ -513,9 +524,6 @@ module _ (seed count : ℕ) (few : count ≤ 200) (c : Cartridge) (header : Head
       all_made (made.Mismatch segment) is = cc
 
 -- ---- all of them
-
-same_told : (told : Option (List ℕ)) (input other : List ℕ) → told ≡ Some input → IfSome told (λ bytes. other ≡ bytes) → other ≡ input
-same_told told input other is known = subst (λ (o : Option (List ℕ)). IfSome o (λ bytes. other ≡ bytes)) is known
 
 pub lists_appends : {T S K : Type 0} (t : tapes.Meaning T) (s : sources.Meaning S) (k : sinks.Meaning K) (words : List (List ℕ)) (command : Words) (old new : Outside T S K) (answer : Status) →
     Laws t s k old new → Spells words command → ((other : Words) → Spells words other → HasValues other) → Ends t s k command old new answer →
@@ -539,58 +547,66 @@ lists_appends t s k words command old new answer laws spelled values ends = reco
         took = ran.took;
         some = (so.0.0, so.0.1, now_weaker t old.tape new.tape (λ left is. subst (Made so.0.0) (sym is) so.0.2) ran.now);
         all = λ either. elim either [
-          | inl some ↦ now_weaker t old.tape new.tape (λ left is. subst (Made count) (sym is) (so.1 some)) ran.now
-          | inr done ↦
-              let all = ran.done done in
+          | inl some ↦ now_weaker t old.tape new.tape (λ left is. subst (Made count) (sym is) (so.1 (inl some))) ran.now
+          | inr (inl done) ↦
+              let all = ran.heard (inl done) in
               now_weaker t old.tape new.tape
               (λ left is. subst (Made count) (sym (is ∙ ap (λ (ss : List TapeStep). effects ss (Some c)) all.1))
-              (make_lists_all seed count few c header map_words table entries whole was.mounts ran.outcome ran.plain all.0)) ran.now
+              (make_lists_all seed count few c header map_words table entries whole was.mounts ran.outcome ran.plain (all.0 ∙ done))) ran.now
+          | inr (inr sink) ↦ now_weaker t old.tape new.tape (λ left is. subst (Made count) (sym is) (so.1 (inr (ran.broke sink)))) ran.now
         ];
       };
-  scripted = λ c header map_words table entries was other script.
+  scripted = λ c header map_words table entries spells was other.
       let ran = ends_done t s k commands.Script old new answer laws tt
-      (subst (λ (w : Words). Ends t s k w old new answer) (one_command words command commands.Script spelled script.spelled) ends) c was.told other in
-      let whole : IsCartridge c = told_whole (Some c) (t.told old.tape) (t.size old.tape) laws.right was.told in
-      let same : ran.input ≡ script.input = same_told (s.left old.source) script.input ran.input script.is_told ran.is_told in record {
-        text = ran.text;
-        took = ran.took;
-        lists = now_weaker t old.tape new.tape
-            (λ left is. subst (ListsAnswered header map_words entries script.does.items script.does.dids (length ran.text)) (sym is)
-            (script_lists (s.left old.source) words c header map_words table entries whole was.mounts script ran.input ran.outcome same ran.plain ran.text ran.at)) ran.now;
-        all = λ done. now_weaker t old.tape new.tape
-            (λ left is. subst (λ (o : Option Cartridge). IsSomeAnd o (λ d. Lists d header map_words (entries_behind entries script.does.dids)))
-            (sym (is ∙ ap (λ (ss : List TapeStep). effects ss (Some c)) (ran.done done).1))
-            (script_lists_all (s.left old.source) words c header map_words table entries whole was.mounts script ran.input ran.outcome same ran.plain)) ran.now;
+      (subst (λ (w : Words). Ends t s k w old new answer) (one_command words command commands.Script spelled spells) ends) c was.told other in
+      let whole : IsCartridge c = told_whole (Some c) (t.told old.tape) (t.size old.tape) laws.right was.told in record {
+        input = ran.input;
+        is_told = ran.is_told;
+        lists = λ came does. record {
+          text = ran.text;
+          took = ran.took;
+          answered = λ other. now_weaker t old.tape new.tape
+              (λ left is. subst (ListsAnswered header map_words entries does.items does.dids (length ran.text)) (sym is)
+              (script_answered c header map_words table entries whole was.mounts ran.input came does ran.outcome ran.plain ran.text ran.at (ran.whole other))) ran.now;
+          broken = λ sink. now_weaker t old.tape new.tape
+              (λ left is. subst (ListsBroken header map_words entries does.items does.dids (length ran.text)) (sym is)
+              (script_broken c header map_words table entries whole was.mounts ran.input came does ran.outcome ran.plain ran.text ran.at (ran.broke sink))) ran.now;
+          all = λ heard behind. now_weaker t old.tape new.tape
+              (λ left is. subst (λ (o : Option Cartridge). IsSomeAnd o (λ d. Lists d header map_words (entries_behind entries does.dids)))
+              (sym (is ∙ ap (λ (ss : List TapeStep). effects ss (Some c)) (ran.heard heard).1))
+              (script_lists_all c header map_words table entries whole was.mounts ran.input came does ran.outcome ran.plain behind)) ran.now;
+        };
       };
 }
 
 -- ---- a run that touched nothing
 
 pub none_listed : {T K : Type 0} (t : tapes.Meaning T) (k : sinks.Meaning K) (told : Option (List ℕ)) (words : List (List ℕ)) (a : T) (x : K) (answer : Status) → tapes.IsToldRight (t.told a) (t.size a) → tapes.IsLeftNow t a →
-    k.took x [] x → is_fault answer ≡ false → may_change answer ≡ false → ListsAppends t k told words a a x x answer
-none_listed t k told words a x answer right after nothing no_fault none = record {
+    k.took x [] x → (IsCarriedOut answer → ⊥) → (IsHeard answer → ⊥) → ListsAppends t k told words a a x x answer
+none_listed t k told words a x answer right after nothing never unheard = record {
   appended = λ name date c header map_words table entries spells was which. absurd (never which);
   unchanged = λ name date c header map_words table entries spells was not. as_before c header map_words table entries was;
   made = λ seed count c header map_words table entries spells was other. record {
     text = [];
     took = nothing;
     some = (0, omega arith, as_before c header map_words table entries was);
-    all = λ either. elim either [ inl some ↦ absurd (some refl) | inr done ↦ absurd (never (inl done)) ];
+    all = λ either. elim either [ inl some ↦ absurd (some refl) | inr done ↦ absurd (never done) ];
   };
-  scripted = λ c header map_words table entries was other script. record {
-    text = [];
-    took = nothing;
-    lists = told_now t a a (ListsAnswered header map_words entries script.does.items script.does.dids 0) after refl
-        (subst (λ (o : Option (Option Cartridge)). IsSomeAnd o (ListsAnswered header map_words entries script.does.items script.does.dids 0)) (sym was.told)
-        (listed_none (settled table c) c header map_words entries script.input script.outcome script.does (table, was.mounts)));
-    all = λ done. absurd (never (inl done));
+  scripted = λ c header map_words table entries spells was other. record {
+    input = input_of told;
+    is_told = input_told told;
+    lists = λ came does. record {
+      text = [];
+      took = nothing;
+      answered = λ other. told_now t a a (ListsAnswered header map_words entries does.items does.dids 0) after refl
+          (subst (λ (o : Option (Option Cartridge)). IsSomeAnd o (ListsAnswered header map_words entries does.items does.dids 0)) (sym was.told)
+          (listed_none (settled table c) c header map_words entries (input_of told) came does (table, was.mounts)));
+      broken = λ sink. absurd (never (inr sink));
+      all = λ heard behind. absurd (unheard heard);
+    };
   };
 }
   where
-    never : IsCarriedOut answer → ⊥
-    never (inl done) = let no = ap may_change done in cc
-    never (inr fault) = let no = ap is_fault fault in cc
-
     as_before : (c : Cartridge) (header : Header) (map_words : List ℕ) (table : List (List ℕ)) (entries : List Entry) → WasListed t a c header map_words table entries → NowLists t a a header map_words entries
     as_before c header map_words table entries was =
         told_now t a a (λ left. IsSomeAnd left (λ d. Lists d header map_words entries)) after refl

@@ -1,5 +1,5 @@
 -- How a command goes on that has mounted a cartridge: the settling, and then its acts.
-use Rattle.std.proofs.Common.{◌≡◌, ◌≢◌, ℕ, ◌*◌, ◌-◌, Bool, true, false, List, [], ◌∷◌, length, Option, Some, None, IfSome, IsSomeAnd, refl, sym, ap, ◌∙◌, subst, arith, append-nil}
+use Rattle.std.proofs.Common.{◌≡◌, ◌≢◌, ℕ, ◌*◌, ◌-◌, Bool, true, false, List, [], ◌∷◌, ◌++◌, length, Option, Some, None, IfSome, IsSomeAnd, refl, sym, ap, ◌∙◌, subst, arith, append-nil}
 use Rattle.std.specs.Option.{option_map}
 use Rattle.qic_base.specs.Cartridge.{Cartridge}
 use Rattle.qic_base.specs.declared.tape.TapeInfo.{TapeInfo}
@@ -7,8 +7,9 @@ use Rattle.qic_base.specs.Sink as sinks
 use Rattle.qic_base.specs.Source as sources
 use Rattle.qic_base.specs.Step.{Step as TapeStep, effects}
 use Rattle.qic_base.specs.Tape as tapes
+use Rattle.qic_base.proofs.Steps.{Broke-front}
 use Rattle.qic_base.proofs.Writing.{TakesBoth}
-use Rattle.acts.specs.Acts.{Act, Outside, Failing, Went, Cut}
+use Rattle.acts.specs.Acts.{Act, next_steps, Outside, Failing, TapeCut, Went, Cut}
 use Rattle.acts.proofs.Joins.{went_both, went_then_cut}
 use Rattle.cartridge_spec.specs.HeaderAndTable.{last_segment}
 use Rattle.cartridge_spec.specs.Mounting.{settled}
@@ -50,6 +51,20 @@ module _ {T S K : Type 0} (t : tapes.Meaning T) (s : sources.Meaning S) (k : sin
       Cut t s k (outside b i x) new acts failing → Cut t s k (outside a i x) new (quiet steps ∷ acts) failing
   cut_behind both nothing a b i x new steps acts failing did cut =
       went_then_cut t s k both (outside a i x) (outside b i x) new (quiet steps ∷ []) acts failing (quiet_went nothing a b i x steps did) cut
+
+  -- a fault of the tape in a front of the steps of the first of some acts
+  abbrev pub opening_cut : ((z : K) → k.took z [] z) → (a b : T) (i : S) (x : K) (steps : List TapeStep) (acts : List Act) (rest : List TapeStep) → steps ++ rest ≡ next_steps acts → tapes.Broke t a b steps →
+      TapeCut t s k (outside a i x) (outside b i x) acts
+  opening_cut nothing a b i x steps acts rest is broke =
+      let longer : tapes.Broke t a b (next_steps acts) = subst (tapes.Broke t a b) is (Broke-front rest broke) in record {
+        front = [];
+        rest = acts;
+        parts = refl;
+        broke = longer;
+        here = λ held left told now. longer.torn held left told now;
+        wrote = record { took = nothing x; later = omega arith };
+        source_later = omega arith;
+      }
 
 -- what is told of the settled cartridge is so of the one that was mounted
 pub settled_told : {T : Type 0} (t : tapes.Meaning T) (a : T) (b : UnitView T) (store : StoreView) (opening : HasOpened t a b store) (P : Cartridge → Type 0) (R : Option Cartridge → Type 0) →

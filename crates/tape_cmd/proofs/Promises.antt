@@ -20,6 +20,8 @@ use Rattle.tape_cmd.specs.Machine.{HasValues, HasInputFault, Spells, SpellsNone}
 use Rattle.tape_cmd.specs.Runs.{InputLeft, is_fault, is_outcome, may_come_from, NamesFault, Finished, IsCutOff, Ends, EndsBlind}
 use Rattle.acts.specs.Around.{no_source, around}
 use Rattle.tape_cmd.specs.Headline.{Stepped, Answers, WordsLeave, EachLeft, SpellsOne, PrintsRefused, PrintsFront}
+use Rattle.tape_cmd.specs.Listing.{IsHeard}
+use Rattle.tape_cmd.specs.Volumes.{IsCarriedOut}
 use Rattle.tape_cmd.specs.Promises.{Promises}
 use Rattle.tape_cmd.proofs.GivenBack.{gives_back}
 use Rattle.tape_cmd.proofs.Endings.{appends_none, any_input, nothing_front, none_printed}
@@ -31,6 +33,7 @@ use Rattle.tape_cmd.proofs.Several.{makes_volumes, carries_out_lines, none_made,
 use Rattle.tape_cmd.proofs.Survives.{survives_one_loss, none_survives}
 use Rattle.tape_cmd.proofs.Volumes.{volumes_stay, list_stays, stops_format, stops_append, is_changed, may_change, none_changed}
 use Rattle.tape_cmd.proofs.Values.{has_values}
+use Rattle.tape_cmd.proofs.Told.{input_of, input_told}
 
 pub machine_is_function : MachineIsFunction
 machine_is_function = machine_is_function_where one_command
@@ -39,15 +42,6 @@ pub machine_answers : MachineAnswers
 machine_answers = machine_answers_where one_command each_words
 
 -- ---- a command that reads no input, over any source
-
--- the input that is told, or else none
-abbrev input_of : Option (List ℕ) → List ℕ
-input_of None = []
-input_of (Some bytes) = bytes
-
-input_told : (left : Option (List ℕ)) → IfSome left (λ bytes. input_of left ≡ bytes)
-input_told None = tt
-input_told (Some bytes) = refl
 
 over_left : {A : Type 0} (held : Option A) (left : Option (List ℕ)) (P R : A → List ℕ → Type 0) → IfSome held (λ a. (input : List ℕ) × Unit {0} × P a input) →
     ((a : A) (input other : List ℕ) → P a input → R a other) → IfSome held (λ a. (input : List ℕ) × IfSome left (λ bytes. input ≡ bytes) × R a input)
@@ -228,6 +222,19 @@ idle_changes_nothing status.Usage is = (refl, refl, refl)
 idle_changes_nothing status.NoMemory is = (refl, refl, refl)
 idle_changes_nothing answer is = absurd (cc)
 
+idle_carries_nothing : (answer : Status) → is_idle answer ≡ true → (IsCarriedOut answer → ⊥) × (IsHeard answer → ⊥)
+idle_carries_nothing answer is =
+    let nothing = idle_changes_nothing answer is in (
+      (λ which. elim which [
+        | inl done ↦ let may : may_change answer ≡ true = ap may_change done in let no = nothing.1 in cc
+        | inr sink ↦ let fault : is_fault answer ≡ true = ap is_fault sink in let no = nothing.0 in cc
+      ]),
+      (λ heard. elim heard [
+        | inl done ↦ let may : is_outcome answer ≡ true = ap is_outcome done in let no = nothing.2 in cc
+        | inr (line, place, named) ↦ let may : is_outcome answer ≡ true = ap is_outcome named in let no = nothing.2 in cc
+      ]),
+    )
+
 over_any : (o : Option (Option Cartridge)) (left : Option (List ℕ)) (R : Option Cartridge → List ℕ → Type 0) → ((held : Option Cartridge) (input : List ℕ) → o ≡ Some held → R held input) →
     IfSome o (λ held. (input : List ℕ) × IfSome left (λ bytes. input ≡ bytes) × R held input)
 over_any None left R follows = tt
@@ -248,7 +255,8 @@ module _ {T S K : Type 0} (t : tapes.Meaning T) (s : sources.Meaning S) (k : sin
       ((command : Words) → Spells words command → PrintsFront k command old.sink old.sink) → Promises t s k words old old answer
   idle answer laws is kept answers usage memory begun =
       let stops : EachLeft t old.tape old.tape (WordsLeave (s.left old.source) words) = untouched_stops laws in
-      let nothing = idle_changes_nothing answer is in record {
+      let nothing = idle_changes_nothing answer is in
+      let ends = idle_carries_nothing answer is in record {
         answers = λ none. answers;
         carried = λ sound. answers;
         complete = λ none. completes t s k words old old answer laws.right (λ other spells. has_values words other spells) answers;
@@ -263,9 +271,9 @@ module _ {T S K : Type 0} (t : tapes.Meaning T) (s : sources.Meaning S) (k : sin
         changed = none_changed t (s.left old.source) words old.tape answer laws.before nothing.0 nothing.1;
         survives = none_survives t (s.left old.source) words old.tape answer laws.right nothing.0 nothing.1 (λ other spells. has_values words other spells) stops;
         makes = none_made t k (s.left old.source) words old.tape old.sink answer laws.right laws.before (laws.nothing old.sink)
-            (λ done. let no = nothing.1 in let may : may_change answer ≡ true = ap may_change done in cc) (λ other spells. has_values words other spells) stops;
-        scripts = none_scripted t k (s.left old.source) words old.tape old.sink laws.right laws.before (laws.nothing old.sink) stops;
-        listed = none_listed t k (s.left old.source) words old.tape old.sink answer laws.right laws.before (laws.nothing old.sink) nothing.0 nothing.1;
+            ends.0 (λ other spells. has_values words other spells) stops;
+        scripts = none_scripted t k (s.left old.source) words old.tape old.sink answer laws.right laws.before (laws.nothing old.sink) ends.1 stops;
+        listed = none_listed t k (s.left old.source) words old.tape old.sink answer laws.right laws.before (laws.nothing old.sink) ends.0 ends.1;
         restores = gives_back t s k words old old answer (λ sound. answers) (λ failing same. let fault = ap is_fault same ∙ is_a_fault failing in let no = nothing.0 in absurd (cc));
         joins = record {
           counts = record { tape = omega arith; source = omega arith; sink = omega arith };

@@ -7,9 +7,8 @@ use Rattle.qic_base.specs.Sink as sinks
 use Rattle.qic_base.specs.Source as sources
 use Rattle.qic_base.specs.Step.{Step as TapeStep}
 use Rattle.qic_base.specs.Tape as tapes
-use Rattle.qic_base.proofs.Steps.{Broke-front}
 use Rattle.qic_base.proofs.Writing.{TakesBoth}
-use Rattle.acts.specs.Acts.{Act, next_steps, text_of, Failing, TapeFails, SourceFails, SinkFails, Cut, TapeCut}
+use Rattle.acts.specs.Acts.{Act, text_of, Failing, TapeFails, SourceFails, SinkFails, Cut}
 use Rattle.cartridge_spec.specs.Mounting as mounting
 use Rattle.cartridge_spec.specs.Mounting.{Mounting}
 use Rattle.drive_states.specs.Unit.{UnitView}
@@ -32,7 +31,8 @@ use Rattle.tape_cmd.specs.Runs.{Ends, InputLeft, IsCutOff, NamesFault, Prints, f
 use Rattle.tape_cmd.specs.Script.{Scripting, ScriptOutcome, script_status, run_status}
 use Rattle.tape_cmd.proofs.Endings.{told_map}
 use Rattle.tape_cmd.proofs.Mounted.{Settles, no_outcome, begins_is, refused_is}
-use Rattle.tape_cmd.proofs.Opened.{outside, quiet, went_behind, cut_behind, settled_told}
+use Rattle.tape_cmd.proofs.Opened.{opening_cut, outside, quiet, went_behind, cut_behind, settled_told}
+use Rattle.tape_cmd.proofs.Told.{input_of, input_told}
 
 -- ---- the fault of an input
 
@@ -101,33 +101,11 @@ all_left : (told : Option (List ℕ)) → told ≡ option_map (drop 0) told
 all_left None = refl
 all_left (Some bytes) = refl
 
-abbrev input_of : Option (List ℕ) → List ℕ
-input_of None = []
-input_of (Some bytes) = bytes
-
-input_told : (told : Option (List ℕ)) → IfSome told (λ bytes. input_of told ≡ bytes)
-input_told None = tt
-input_told (Some bytes) = refl
-
 -- a front of a script's text is anything
 said : (text : List ℕ) → (rest : List ℕ) × ((replies : List ℕ) × (text ++ rest ≡ replies ++ end_line))
 said text = (end_line, (text, refl))
 
 module _ {T S K : Type 0} (t : tapes.Meaning T) (s : sources.Meaning S) (k : sinks.Meaning K) (a : T) (i : S) (x : K) where
-  -- a fault of the tape in a front of the settling
-  abbrev opening_cut : (b : T) (steps : List TapeStep) (acts : List Act) → ((z : K) → k.took z [] z) → (rest : List TapeStep) → steps ++ rest ≡ next_steps acts → tapes.Broke t a b steps →
-      TapeCut t s k (outside a i x) (outside b i x) acts
-  opening_cut b steps acts nothing rest is broke =
-      let longer : tapes.Broke t a b (next_steps acts) = subst (tapes.Broke t a b) is (Broke-front rest broke) in record {
-        front = [];
-        rest = acts;
-        parts = refl;
-        broke = longer;
-        here = λ held left told now. longer.torn held left told now;
-        wrote = record { took = nothing x; later = omega arith };
-        source_later = omega arith;
-      }
-
   -- the opening was refused, or cut off
   pub script_unopened : (b : UnitView T) (why : Status) → ((z : K) → k.took z [] z) → OpeningEnds t a b (Err why) → Ends t s k words.Script (outside a i x) (outside b.tape i x) why
   script_unopened b why nothing (inl turned) = inl (record {
@@ -155,14 +133,14 @@ module _ {T S K : Type 0} (t : tapes.Meaning T) (s : sources.Meaning S) (k : sin
               (λ no. absurd (cc)),
               λ outcome plain.
                   let begins = begins_is (Scripting (input_of (s.left i))) (scripting_first (input_of (s.left i))) cut.steps held front outcome plain in record {
-                    cut = opening_cut b.tape cut.steps outcome.acts nothing begins.0 begins.1 cut.broke;
+                    cut = opening_cut t s k nothing a b.tape i x cut.steps outcome.acts begins.0 begins.1 cut.broke;
                     done = λ sink still. absurd (cc);
                     silent = λ still. absurd (cc);
                   },
             ),
           ));
           acts = quiet cut.steps ∷ [];
-          cut = opening_cut b.tape cut.steps (quiet cut.steps ∷ []) nothing [] (append-nil cut.steps) cut.broke;
+          cut = opening_cut t s k nothing a b.tape i x cut.steps (quiet cut.steps ∷ []) [] (append-nil cut.steps) cut.broke;
           front = said [];
           silent = λ still unlike. refl;
           reads = λ same. refl;

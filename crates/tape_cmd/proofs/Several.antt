@@ -1,7 +1,6 @@
 -- What runs of several items leave of the plain cartridge that a cartridge stands for: generated runs, and scripts.
-use Rattle.std.proofs.Common.{◌≡◌, ◌≢◌, ◌⊎◌, inl, inr, ℕ, ◌+◌, ◌≤◌, Bool, true, false, cond, List, [], ◌∷◌, ◌++◌, length, take, is_some, append_assoc, Option, Some, None, IfSome, IsSomeAnd, refl, sym, ap, ◌∙◌, subst, arith, append-nil}
+use Rattle.std.proofs.Common.{◌≡◌, ◌≢◌, ◌⊎◌, inl, inr, ℕ, ◌+◌, ◌<◌, ◌≤◌, true, false, List, [], ◌∷◌, ◌++◌, length, take, is_some, append_assoc, Option, Some, None, IfSome, IsSomeAnd, refl, sym, ap, ◌∙◌, subst, arith, append-nil}
 use Rattle.std.proofs.lemmas.List.{length-append}
-use Rattle.qic_base.specs.declared.tape.TapeInfo.{TapeInfo}
 use Rattle.qic_base.specs.Cartridge.{Cartridge, IsCartridge}
 use Rattle.qic_base.specs.Sink as sinks
 use Rattle.qic_base.specs.Source as sources
@@ -11,28 +10,24 @@ use Rattle.qic_base.specs.Tape as tapes
 use Rattle.qic_base.proofs.Steps.{Torn-append, effects-append}
 use Rattle.acts.specs.Acts.{Act, steps_of, text_of, next_steps, Outside, Failing, TapeFails, SourceFails, SinkFails, Went, Cut}
 use Rattle.acts.proofs.Joins.{steps_of-append, text_of-append}
-use Rattle.cartridge_spec.specs.HeaderAndTable.{TableIs}
 use Rattle.cartridge_spec.specs.Mounting.{Mounting, Mounts, settled}
-use Rattle.cartridge_spec.specs.Says.{whole_mask, with_parity}
-use Rattle.cartridge_spec.specs.Segment.{IsLive}
-use Rattle.cartridge_spec.specs.Shape.{usable_places}
 use Rattle.cartridge_spec.specs.Volumes.{Plain, Stands, entries_of}
-use Rattle.cartridge_spec.specs.Writes.{changed_by, writes_of}
+use Rattle.cartridge_spec.specs.Writes.{changed_by}
 use Rattle.format_plan.proofs.Writing.{effects-some, some_and}
 use Rattle.mount_laws.specs.Laws.{IsTableLive, mounted_as}
 use Rattle.mount_laws.specs.Settling.{settling_steps}
 use Rattle.mount_laws.proofs.Keeping.{stopped_stands}
-use Rattle.mount_laws.proofs.Settled.{settled_is_whole, settled_keeps_table, settled_stands}
 use Rattle.mount_laws.proofs.Standing.{standing_mounts_only_so}
-use Rattle.mount_laws.proofs.Whole.{settled_is_cartridge, settling_effects}
+use Rattle.mount_laws.proofs.Whole.{settling_effects}
 use Rattle.made_volumes.specs.Laws.{with_made}
 use Rattle.made_volumes.specs.Machine as made
 use Rattle.made_volumes.specs.Machine.{Makes}
 use Rattle.made_volumes.proofs.Answered.{made_are_answered}
 use Rattle.made_volumes.proofs.Stops.{done_make_stands, stopped_make_stands}
 use Rattle.store_laws.specs.Held.{IsHeld}
-use Rattle.store_laws.specs.Kept.{IsKept}
-use Rattle.store_laws.proofs.Listed.{mounted_listed}
+use Rattle.store_laws.specs.Kept.{IsKept, IsOpen}
+use Rattle.store_laws.proofs.Held.{mounted_held, mounted_open, settled_live}
+use Rattle.store_laws.proofs.Keeping.{live_kept}
 use Rattle.tape_script.specs.declared.words.Words.{Words}
 use Rattle.tape_script.specs.declared.words.Words.TheVariants as commands
 use Rattle.tape_script.specs.Input.{Item}
@@ -41,20 +36,22 @@ use Rattle.volume_script.specs.Script as scripts
 use Rattle.volume_script.specs.Script.{ScriptDoes}
 use Rattle.volume_script.specs.Standing.{StandsAnswered, plain_behind}
 use Rattle.volume_script.proofs.MachineLaws.{one_outcome as one_script}
-use Rattle.volume_script.proofs.Answered.{answered_behind, answered_between, none_answered, stopped_script_stands}
+use Rattle.volume_script.proofs.Answered.{answered_behind, answered_between, done_script_stands, none_answered, stopped_script_stands}
 use Rattle.tape_cmd.specs.declared.status.Status.{Status}
 use Rattle.tape_cmd.specs.declared.status.Status.TheVariants as status
 use Rattle.tape_cmd.specs.Machine.{HasValues, Spells, Yields}
 use Rattle.tape_cmd.specs.Make.{Making, MakeOutcome, make_status}
 use Rattle.tape_cmd.specs.Opening.{Going, Opened, OpenOutcome}
 use Rattle.tape_cmd.specs.Outcome.{Outcome, refused}
-use Rattle.tape_cmd.specs.Runs.{is_fault, Ends}
+use Rattle.tape_cmd.specs.Runs.{Ends, fault_of, is_fault, may_come_from}
 use Rattle.tape_cmd.specs.Script.{Scripting, ScriptOutcome}
 use Rattle.tape_cmd.specs.Headline.{EachLeft, EachNow, StopLeaves, WordsLeave}
+use Rattle.tape_cmd.specs.Listing.{IsHeard}
 use Rattle.tape_cmd.specs.Several.{SomeMade, MakesVolumes, Scripted, SomeScripted, CarriesOutLines}
 use Rattle.tape_cmd.proofs.Ends.{Laws, after_steps, over_at, told_whole, is_a_fault}
 use Rattle.tape_cmd.proofs.Opened.{quiet}
 use Rattle.tape_cmd.proofs.Totals.{plain_answers}
+use Rattle.tape_cmd.specs.Volumes.{IsCarriedOut}
 use Rattle.tape_cmd.proofs.Volumes.{done_now, each_weaker, now_weaker, whole_of}
 
 -- ---- a cartridge that stands for a plain one, mounted
@@ -67,50 +64,22 @@ pub record WasMounted (goes : Going) (c : Cartridge) (plain : Plain) (outcome : 
 pub record WasTurned (outcome : Outcome) : Type 0 where
   pub why : Status
   pub is : outcome ≡ refused why
-  pub not_done : why ≢ status.Done
+  pub unheard : IsHeard why → ⊥
+
+never_heard : (lost : ℕ) → IsHeard (status.Lost 2 lost) → ⊥
+never_heard lost (inl done) = cc
+never_heard lost (inr (line, place, is)) = cc
 
 mounted_or_turned : (goes : Going) (c : Cartridge) (plain : Plain) (outcome : Outcome) → Stands c plain → OpenOutcome goes (Some c) outcome →
     WasTurned outcome ⊎ WasMounted goes c plain outcome
 mounted_or_turned goes c plain outcome stood (m, mounts, opened) =
     elim (standing_mounts_only_so c plain m stood mounts) [
       | inl same ↦ inr (record { mounts = subst (Mounts c) same mounts; did = subst (λ (a : Mounting). Opened goes c a outcome) same opened })
-      | inr (n, same) ↦ inl (record { why = status.Lost 2 n; is = subst (λ (a : Mounting). Opened goes c a outcome) same opened; not_done = λ is. cc })
+      | inr (n, same) ↦ inl (record { why = status.Lost 2 n; is = subst (λ (a : Mounting). Opened goes c a outcome) same opened; unheard = never_heard n })
     ]
 
--- settling leaves each sector of the table's segment live
-settled_live : (c : Cartridge) (area : List (List ℕ)) → IsTableLive c → TableIs c area → IsTableLive (settled area c)
-settled_live c area live reads = by_mark c.info.protected refl
-  where
-    by_mark : (b : Bool) → c.info.protected ≡ b → IsTableLive (settled area c)
-    by_mark true locked =
-        subst IsTableLive (sym (ap (λ (b : Bool). cond b c (changed_by (writes_of 2 (usable_places whole_mask) (with_parity area)) c)) locked)) live
-    by_mark false free = λ i h. subst IsLive (sym (settled_is_whole c area i reads free live h)) tt
-
--- the settled cartridge is held as the plain one
-settled_held : (c : Cartridge) (plain : Plain) → IsCartridge c → Stands c plain → IsTableLive c → Mounts c (mounted_as plain) → IsHeld (settled plain.table_area c) plain
-settled_held c plain whole stood live mounts = record {
-  cartridge = settled_is_cartridge c plain.table_area whole mounts.reads;
-  stands = settled_stands c plain plain.table_area stood mounts.reads;
-  live = settled_live c plain.table_area live mounts.reads;
-  last = (mounted_listed c plain.header plain.words plain.table_area (entries_of plain) whole mounts).last;
-}
-
--- and takes volumes, where it is not protected
-pub settled_kept : (c : Cartridge) (plain : Plain) → IsCartridge c → Stands c plain → IsTableLive c → Mounts c (mounted_as plain) → c.info.protected ≡ false →
-    IsKept (settled plain.table_area c) plain
-settled_kept c plain whole stood live mounts free =
-    let held : IsHeld (settled plain.table_area c) plain = settled_held c plain whole stood live mounts in
-    let keeps = settled_keeps_table c plain.table_area mounts.reads in record {
-      cartridge = held.cartridge;
-      stands = held.stands;
-      table = keeps.table;
-      live = held.live;
-      unprotected = ap (λ (i : TapeInfo). i.protected) keeps.info ∙ free;
-      last = held.last;
-    }
-
 -- what is left of some acts, the first of which settles the table
-module _ (c : Cartridge) (plain : Plain) (whole : IsCartridge c) (stood : Stands c plain) (live : IsTableLive c) (mounts : Mounts c (mounted_as plain)) where
+module _ (c : Cartridge) (plain : Plain) (whole : IsCartridge c) (stood : Stands c plain) (mounts : Mounts c (mounted_as plain)) where
   abbrev still : Cartridge
   still = settled plain.table_area c
 
@@ -167,7 +136,7 @@ pub record Between (c : Cartridge) (acts : List Act) (text : List ℕ) (left : O
   pub torn : Torn (next_steps rest) (effects (steps_of front) (Some c)) left
   pub is_text : text ≡ text_of front
 
--- all steps of the next one were done, and some of its text written
+-- all steps of the next one were done, and a part of its text written, and not the whole
 pub record Behind (c : Cartridge) (acts : List Act) (text : List ℕ) (left : Option Cartridge) : Type 0 where
   pub front : List Act
   pub act : Act
@@ -177,6 +146,7 @@ pub record Behind (c : Cartridge) (acts : List Act) (text : List ℕ) (left : Op
   pub some : List ℕ
   pub more : List ℕ
   pub written : some ++ more ≡ act.text
+  pub lacks : more ≢ []
   pub is_text : text ≡ text_of front ++ some
 
 abbrev pub IsLeftBy : Cartridge → List Act → (text : List ℕ) → (left : Option Cartridge) → Type 0
@@ -186,6 +156,20 @@ IsLeftBy c acts text left = Between c acts text left ⊎ Behind c acts text left
 pub no_text : (some more : List ℕ) → some ++ more ≡ [] → some ≡ []
 no_text [] more is = refl
 no_text (x ∷ xs) more is = cc
+
+pub no_more : (some more : List ℕ) → some ++ more ≡ [] → more ≡ []
+no_more [] more is = is
+no_more (x ∷ xs) more is = cc
+
+-- .. so none is left of it where an act and those before it print nothing
+pub none_left : (front : List Act) (act : Act) (some more : List ℕ) → some ++ more ≡ act.text → text_of (front ++ act ∷ []) ≡ [] → more ≡ []
+none_left front act some more written none =
+    let last : act.text ++ [] ≡ [] = no_more (text_of front) (act.text ++ []) (sym (text_of-append front (act ∷ [])) ∙ none) in
+    no_more some more (written ∙ sym (append-nil act.text) ∙ last)
+
+pub some_long : (text : List ℕ) → text ≢ [] → 0 < length text
+some_long [] some = absurd (some refl)
+some_long (x ∷ xs) some = omega arith
 
 none_torn : (steps : List TapeStep) (held : Option Cartridge) → Torn steps held held
 none_torn [] held = refl
@@ -213,6 +197,34 @@ module _ {T S K : Type 0} (t : tapes.Meaning T) (s : sources.Meaning S) (k : sin
     each = left_done acts (text_of acts) (steps_of acts) went.did (inl (record { front = acts; rest = []; parts = append-nil acts; torn = refl; is_text = refl }));
   }
 
+  -- the sink broke a text off
+  pub record WasBroken (acts : List Act) : Type 0 where
+    pub text : List ℕ
+    pub took : k.took old.sink text new.sink
+    pub each : EachNow t old.tape new.tape (Behind c acts text)
+
+  pub broke_left : (acts : List Act) → Cut t s k old new acts SinkFails → WasBroken acts
+  broke_left acts cut =
+      let at = cut.at in
+      let broke = cut.broke in
+      let text : List ℕ = text_of at.front ++ broke.part in record {
+        text = text;
+        took = broke.took;
+        each = told_now t old.tape new.tape (Behind c acts text) after cut.did.stops.telling
+            (subst (λ (o : Option (Option Cartridge)). IsSomeAnd o (Behind c acts text)) (sym (done_steps (steps_of at.front ++ at.act.steps) cut.did)) (record {
+              front = at.front;
+              act = at.act;
+              rest = at.rest;
+              parts = at.parts;
+              is = refl;
+              some = broke.part;
+              more = broke.rest;
+              written = broke.parts;
+              lacks = broke.some;
+              is_text = refl;
+            }));
+      }
+
   pub cut_left : (acts : List Act) (failing : Failing) → Cut t s k old new acts failing → WasLeft acts
   cut_left acts TapeFails cut = record {
     text = text_of cut.front;
@@ -233,23 +245,8 @@ module _ {T S K : Type 0} (t : tapes.Meaning T) (s : sources.Meaning S) (k : sin
     }));
   }
   cut_left acts SinkFails cut =
-      let at = cut.at in
-      let broke = cut.broke in
-      let text : List ℕ = text_of at.front ++ broke.part in record {
-        text = text;
-        took = broke.took;
-        each = left_done acts text (steps_of at.front ++ at.act.steps) cut.did (inr (record {
-          front = at.front;
-          act = at.act;
-          rest = at.rest;
-          parts = at.parts;
-          is = refl;
-          some = broke.part;
-          more = broke.rest;
-          written = broke.parts;
-          is_text = refl;
-        }));
-      }
+      let was : WasBroken acts = broke_left acts cut in
+      record { text = was.text; took = was.took; each = now_weaker t old.tape new.tape (λ left behind. inr behind) was.each }
 
 -- over what is told of a command: some input and its outcome, and how the acts of this ended
 pub record Ran {T S K : Type 0} (t : tapes.Meaning T) (s : sources.Meaning S) (k : sinks.Meaning K) (command : Words) (old new : Outside T S K) (answer : Status) (c : Cartridge) (told : t.told old.tape ≡ Some (Some c)) (after : tapes.IsLeftNow t new.tape) : Type 0 where
@@ -258,7 +255,22 @@ pub record Ran {T S K : Type 0} (t : tapes.Meaning T) (s : sources.Meaning S) (k
   pub outcome : Outcome
   pub plain : Yields command (Some c) input outcome
   pub was : WasLeft t s k old new c told after outcome.acts
-  pub done : answer ≡ status.Done → (outcome.status ≡ status.Done) × tapes.Done t old.tape new.tape (steps_of outcome.acts)
+  pub heard : IsHeard answer → (outcome.status ≡ answer) × tapes.Done t old.tape new.tape (steps_of outcome.acts)
+  pub broke : answer ≡ status.SinkFault → WasBroken t s k old new c told after outcome.acts
+
+pub never_sink : (answer : Status) (command : Words) → may_come_from answer command ≡ true → answer ≢ status.SinkFault
+never_sink answer command sound is = let no : may_come_from status.SinkFault command ≡ true = subst (λ (a : Status). may_come_from a command ≡ true) is sound in absurd (cc)
+
+-- no fault of the outside comes where the input was carried out
+pub heard_fault : (failing : Failing) (answer : Status) → answer ≡ fault_of failing → IsHeard answer → ⊥
+heard_fault failing answer is (inl done) = let fault : is_fault answer ≡ true = ap is_fault is ∙ is_a_fault failing in let no : is_fault answer ≡ false = ap is_fault done in cc
+heard_fault failing answer is (inr (line, place, named)) =
+    let fault : is_fault answer ≡ true = ap is_fault is ∙ is_a_fault failing in let no : is_fault answer ≡ false = ap is_fault named in cc
+
+sink_alone : (failing : Failing) (answer : Status) → answer ≡ fault_of failing → answer ≡ status.SinkFault → failing ≡ SinkFails
+sink_alone TapeFails answer is sink = let other : fault_of TapeFails ≡ status.SinkFault = sym is ∙ sink in absurd (cc)
+sink_alone SourceFails answer is sink = let other : fault_of SourceFails ≡ status.SinkFault = sym is ∙ sink in absurd (cc)
+sink_alone SinkFails answer is sink = refl
 
 pub ends_ran : {T S K : Type 0} (t : tapes.Meaning T) (s : sources.Meaning S) (k : sinks.Meaning K) (command : Words) (old new : Outside T S K) (answer : Status) → Laws t s k old new → HasValues command →
     Ends t s k command old new answer → (c : Cartridge) (told : t.told old.tape ≡ Some (Some c)) (after : tapes.IsLeftNow t new.tape) → Ran t s k command old new answer c told after
@@ -269,7 +281,8 @@ ends_ran t s k command old new answer laws values (inl finished) c told after =
       outcome = finished.outcome;
       plain = over.2.1;
       was = went_left t s k old new c told after finished.outcome.acts finished.went;
-      done = λ is. (sym finished.answered ∙ is, finished.went.did);
+      heard = λ which. (sym finished.answered, finished.went.did);
+      broke = λ is. absurd (never_sink answer command finished.sound is);
     }
 ends_ran t s k command old new answer laws values (inr (failing, is, stopped)) c told after =
     let over = over_at (t.told old.tape) _ (Some c) stopped.told told in
@@ -280,30 +293,36 @@ ends_ran t s k command old new answer laws values (inr (failing, is, stopped)) c
       outcome = some.0;
       plain = some.1;
       was = cut_left t s k old new c told after some.0.acts failing off.cut;
-      done = λ done. let fault : is_fault answer ≡ true = ap is_fault is ∙ is_a_fault failing in absurd (cc);
+      heard = λ which. absurd (heard_fault failing answer is which);
+      broke = λ sink. broke_left t s k old new c told after some.0.acts
+          (subst (Cut t s k old new some.0.acts) (sink_alone failing answer is sink) off.cut);
     }
 
 -- ---- a generated run
 
-module _ (seed count : ℕ) (few : count ≤ 200) (c : Cartridge) (plain : Plain) (whole : IsCartridge c) (stood : Stands c plain) (live : IsTableLive c) where
+module _ (seed count : ℕ) (few : count ≤ 200) (c : Cartridge) (plain : Plain) (whole : IsCartridge c) (stood : Stands c plain) where
   -- its steps were carried out on a settled cartridge that may be written
   pub record MakeRan (outcome : Outcome) : Type 0 where
     pub mounts : Mounts c (mounted_as plain)
-    pub kept : IsKept (settled plain.table_area c) plain
+    pub held : IsOpen (settled plain.table_area c) plain
     pub acts : List Act
     pub answer : made.Answer
     pub makes : Makes seed count (settled plain.table_area c) plain.words (entries_of plain) acts answer
     pub is : outcome ≡ record { acts = quiet (settling_steps plain.table_area c) ∷ acts; taken = 0; status = make_status answer }
 
+  never_protected : IsHeard status.Protected → ⊥
+  never_protected (inl done) = cc
+  never_protected (inr (line, place, is)) = cc
+
   make_course : (outcome : Outcome) → MakeOutcome seed count (Some c) outcome → WasTurned outcome ⊎ MakeRan outcome
-  make_course outcome (inl (locked, is)) = inl (record { why = status.Protected; is = is; not_done = λ same. cc })
+  make_course outcome (inl (locked, is)) = inl (record { why = status.Protected; is = is; unheard = never_protected })
   make_course outcome (inr (free, opened)) =
       elim (mounted_or_turned (Making seed count) c plain outcome stood opened) [
         | inl turned ↦ inl turned
         | inr was ↦
             let did = was.did in inr (record {
               mounts = was.mounts;
-              kept = settled_kept c plain whole stood live was.mounts free;
+              held = mounted_open c plain whole stood was.mounts free;
               acts = did.acts;
               answer = did.answer;
               makes = did.makes;
@@ -311,41 +330,50 @@ module _ (seed count : ℕ) (few : count ≤ 200) (c : Cartridge) (plain : Plain
             })
       ]
 
+  -- .. and where each sector of the table's segment takes a write, it still did
+  kept_now : (outcome : Outcome) → IsTableLive c → MakeRan outcome → IsKept (settled plain.table_area c) plain
+  kept_now outcome live run =
+      live_kept (settled plain.table_area c) plain run.held (settled_live c plain.table_area run.mounts.reads live)
+
   abbrev HasMade : (n : ℕ) → Option Cartridge → Type 0
   HasMade n left = IsSomeAnd left (λ d. Stands d (with_made seed plain 1 n))
 
   -- a stop leaves some of the volumes
-  make_stopped : (outcome : Outcome) (left : Option Cartridge) → MakeOutcome seed count (Some c) outcome → Torn (steps_of outcome.acts) (Some c) left →
+  make_stopped : (outcome : Outcome) (left : Option Cartridge) → IsTableLive c → MakeOutcome seed count (Some c) outcome → Torn (steps_of outcome.acts) (Some c) left →
       (n : ℕ) × (n ≤ count) × HasMade n left
-  make_stopped outcome left does torn =
+  make_stopped outcome left live does torn =
       elim (make_course outcome does) [
         | inl turned ↦
             (0, omega arith, some_and (λ d. Stands d plain) c left stood (subst (λ (o : Outcome). Torn (steps_of o.acts) (Some c) left) turned.is torn))
-        | inr run ↦ elim (stopped_first c plain whole stood live run.mounts run.acts left (subst (λ (o : Outcome). Torn (steps_of o.acts) (Some c) left) run.is torn)) [
+        | inr run ↦ elim (stopped_first c plain whole stood run.mounts run.acts left (subst (λ (o : Outcome). Torn (steps_of o.acts) (Some c) left) run.is torn)) [
           | inl stands ↦ (0, omega arith, stands)
           | inr behind ↦
-              let some = stopped_make_stands seed count (settled plain.table_area c) plain run.acts run.answer left few run.kept run.makes behind in
+              let some = stopped_make_stands seed count (settled plain.table_area c) plain run.acts run.answer left few (kept_now outcome live run) run.makes behind in
               (some.appended, some.within, some.stands)
         ]
       ]
 
+  -- a front of the acts printed something
   printed_run : (run_acts : List Act) (answer : made.Answer) (text : List ℕ) (left : Option Cartridge) → Mounts c (mounted_as plain) → IsKept (settled plain.table_area c) plain →
-      Makes seed count (settled plain.table_area c) plain.words (entries_of plain) run_acts answer → text ≢ [] → IsLeftBy c (quiet (settling_steps plain.table_area c) ∷ run_acts) text left → HasMade count left
-  printed_run run_acts answer text left mounts kept makes some (inl at) =
-      elim (begun c plain whole stood live mounts at.front at.rest run_acts at.parts) [
+      Makes seed count (settled plain.table_area c) plain.words (entries_of plain) run_acts answer → text ≢ [] → Between c (quiet (settling_steps plain.table_area c) ∷ run_acts) text left → HasMade count left
+  printed_run run_acts answer text left mounts kept makes some at =
+      elim (begun c plain whole stood mounts at.front at.rest run_acts at.parts) [
         | inl (none, all) ↦ absurd (some (at.is_text ∙ ap text_of none))
         | inr (more, is, parts) ↦
             made_are_answered seed count (settled plain.table_area c) plain run_acts more at.rest answer left few kept makes parts
             (λ none. some (at.is_text ∙ ap text_of is ∙ none))
             (subst (λ (held : Option Cartridge). Torn (next_steps at.rest) held left)
-            (ap (λ (acts : List Act). effects (steps_of acts) (Some c)) is ∙ behind_front c plain whole stood live mounts more) at.torn)
+            (ap (λ (acts : List Act). effects (steps_of acts) (Some c)) is ∙ behind_front c plain whole stood mounts more) at.torn)
       ]
-  printed_run run_acts answer text left mounts kept makes some (inr at) =
-      elim (begun c plain whole stood live mounts at.front (at.act ∷ at.rest) run_acts at.parts) [
+
+  -- the text of an act broke off
+  broken_run : (run_acts : List Act) (answer : made.Answer) (text : List ℕ) (left : Option Cartridge) → Mounts c (mounted_as plain) → IsKept (settled plain.table_area c) plain →
+      Makes seed count (settled plain.table_area c) plain.words (entries_of plain) run_acts answer → Behind c (quiet (settling_steps plain.table_area c) ∷ run_acts) text left → HasMade count left
+  broken_run run_acts answer text left mounts kept makes at =
+      elim (begun c plain whole stood mounts at.front (at.act ∷ at.rest) run_acts at.parts) [
         | inl (none, all) ↦
             let first : at.act ≡ quiet (settling_steps plain.table_area c) = cc in
-            let unsaid : at.some ≡ [] = no_text at.some at.more (at.written ∙ ap (λ (a : Act). a.text) first) in
-            absurd (some (at.is_text ∙ ap (λ (acts : List Act). text_of acts ++ at.some) none ∙ unsaid))
+            absurd (at.lacks (no_more at.some at.more (at.written ∙ ap (λ (a : Act). a.text) first)))
         | inr (more, is, parts) ↦
             let next : List Act = more ++ at.act ∷ [] in
             let whole_front : steps_of (quiet (settling_steps plain.table_area c) ∷ next) ≡ steps_of at.front ++ at.act.steps =
@@ -353,51 +381,55 @@ module _ (seed count : ℕ) (few : count ≤ 200) (c : Cartridge) (plain : Plain
             ∙ sym (append_assoc (settling_steps plain.table_area c) (steps_of more) at.act.steps) ∙ ap (λ (acts : List Act). steps_of acts ++ at.act.steps) (sym is) in
             made_are_answered seed count (settled plain.table_area c) plain run_acts next at.rest answer left few kept makes
             (append_assoc more (at.act ∷ []) at.rest ∙ parts)
-            (λ none. some (unsaid_so at.front more at.act at.some at.more text at.is_text at.written is none))
+            (λ none. at.lacks (none_left more at.act at.some at.more at.written none))
             (subst (λ (held : Option Cartridge). Torn (next_steps at.rest) held left)
-            (at.is ∙ ap (λ (ss : List TapeStep). effects ss (Some c)) (sym whole_front) ∙ behind_front c plain whole stood live mounts next) (none_torn (next_steps at.rest) left))
+            (at.is ∙ ap (λ (ss : List TapeStep). effects ss (Some c)) (sym whole_front) ∙ behind_front c plain whole stood mounts next) (none_torn (next_steps at.rest) left))
       ]
-    where
-      -- where nothing was to be said up to an act and by it, nothing was said
-      unsaid_so : (front more : List Act) (act : Act) (said rest text : List ℕ) → text ≡ text_of front ++ said → said ++ rest ≡ act.text → front ≡ quiet (settling_steps plain.table_area c) ∷ more →
-          text_of (more ++ act ∷ []) ≡ [] → text ≡ []
-      unsaid_so front more act said rest text is written same none =
-          let whole_text : text_of more ++ (said ++ rest) ≡ [] =
-          ap (λ (w : List ℕ). text_of more ++ w) (written ∙ sym (append-nil act.text)) ∙ sym (text_of-append more (act ∷ [])) ∙ none in
-          is ∙ ap (λ (acts : List Act). text_of acts ++ said) same
-          ∙ no_text (text_of more ++ said) rest (append_assoc (text_of more) said rest ∙ whole_text)
 
-  -- once it has printed anything all of them are there
-  make_printed : (outcome : Outcome) (text : List ℕ) (left : Option Cartridge) → MakeOutcome seed count (Some c) outcome → text ≢ [] → IsLeftBy c outcome.acts text left → HasMade count left
-  make_printed outcome text left does some so =
+  -- of no acts none broke off
+  none_behind : (text : List ℕ) (left : Option Cartridge) → Behind c [] text left → HasMade count left
+  none_behind text left at = by_front at.front at.act at.rest at.parts
+    where
+      by_front : (front : List Act) (act : Act) (rest : List Act) → front ++ act ∷ rest ≡ [] → HasMade count left
+      by_front [] act rest none = cc
+      by_front (x ∷ xs) act rest none = cc
+
+  -- once the sink failed all of them are there, ..
+  make_broken : (outcome : Outcome) (text : List ℕ) (left : Option Cartridge) → IsTableLive c → MakeOutcome seed count (Some c) outcome → Behind c outcome.acts text left → HasMade count left
+  make_broken outcome text left live does so =
       elim (make_course outcome does) [
-        | inl turned ↦ absurd (some (nothing_left text left (subst (λ (o : Outcome). IsLeftBy c o.acts text left) turned.is so)))
-        | inr run ↦ printed_run run.acts run.answer text left run.mounts run.kept run.makes some (subst (λ (o : Outcome). IsLeftBy c o.acts text left) run.is so)
+        | inl turned ↦ none_behind text left (subst (λ (o : Outcome). Behind c o.acts text left) turned.is so)
+        | inr run ↦ broken_run run.acts run.answer text left run.mounts (kept_now outcome live run) run.makes (subst (λ (o : Outcome). Behind c o.acts text left) run.is so)
+      ]
+
+  -- .. and once it has printed anything
+  make_printed : (outcome : Outcome) (text : List ℕ) (left : Option Cartridge) → IsTableLive c → MakeOutcome seed count (Some c) outcome → text ≢ [] →
+      IsLeftBy c outcome.acts text left → HasMade count left
+  make_printed outcome text left live does some (inr so) = make_broken outcome text left live does so
+  make_printed outcome text left live does some (inl so) =
+      elim (make_course outcome does) [
+        | inl turned ↦ absurd (some (nothing_left text left (subst (λ (o : Outcome). Between c o.acts text left) turned.is so)))
+        | inr run ↦ printed_run run.acts run.answer text left run.mounts (kept_now outcome live run) run.makes some (subst (λ (o : Outcome). Between c o.acts text left) run.is so)
       ]
     where
-      nothing_left : (text : List ℕ) (left : Option Cartridge) → IsLeftBy c [] text left → text ≡ []
-      nothing_left text left (inl at) = by_front at.front at.rest at.parts at.is_text
+      nothing_left : (text : List ℕ) (left : Option Cartridge) → Between c [] text left → text ≡ []
+      nothing_left text left at = by_front at.front at.rest at.parts at.is_text
         where
           by_front : (front rest : List Act) → front ++ rest ≡ [] → text ≡ text_of front → text ≡ []
           by_front [] rest none is = is
           by_front (x ∷ xs) rest none is = cc
-      nothing_left text left (inr at) = by_front at.front at.act at.rest at.parts
-        where
-          by_front : (front : List Act) (act : Act) (rest : List Act) → front ++ act ∷ rest ≡ [] → text ≡ []
-          by_front [] act rest none = cc
-          by_front (x ∷ xs) act rest none = cc
 
-  -- and once it was carried out
+  -- and once it was carried out, also where sectors of the table's segment take no write
   make_done : (outcome : Outcome) → MakeOutcome seed count (Some c) outcome → outcome.status ≡ status.Done → HasMade count (effects (steps_of outcome.acts) (Some c))
   make_done outcome does is_done =
       elim (make_course outcome does) [
-        | inl turned ↦ absurd (turned.not_done (sym (ap (λ (o : Outcome). o.status) turned.is) ∙ is_done))
+        | inl turned ↦ absurd (turned.unheard (inl (sym (ap (λ (o : Outcome). o.status) turned.is) ∙ is_done)))
         | inr run ↦
             let answered : run.answer ≡ made.Done = all_done run.answer (sym (ap (λ (o : Outcome). o.status) run.is) ∙ is_done) in
             some_and (λ d. Stands d (with_made seed plain 1 count)) (changed_by (steps_of run.acts) (settled plain.table_area c)) (effects (steps_of outcome.acts) (Some c))
-            (done_make_stands seed count (settled plain.table_area c) plain run.acts few run.kept
+            (done_make_stands seed count (settled plain.table_area c) plain run.acts few run.held
             (subst (λ (a : made.Answer). Makes seed count (settled plain.table_area c) plain.words (entries_of plain) run.acts a) answered run.makes))
-            (ap (λ (o : Outcome). effects (steps_of o.acts) (Some c)) run.is ∙ behind_front c plain whole stood live run.mounts run.acts)
+            (ap (λ (o : Outcome). effects (steps_of o.acts) (Some c)) run.is ∙ behind_front c plain whole stood run.mounts run.acts)
       ]
     where
       all_done : (answer : made.Answer) → make_status answer ≡ status.Done → answer ≡ made.Done
@@ -411,14 +443,14 @@ module _ (seed count : ℕ) (few : count ≤ 200) (c : Cartridge) (plain : Plain
 -- what is left by words of a generated run
 some_made : (told : Option (List ℕ)) (words : List (List ℕ)) (held left : Option Cartridge) → ((command : Words) → Spells words command → HasValues command) → IfSome held IsCartridge →
     WordsLeave told words held left → SomeMade words held left
-some_made told words held left values whole (inl same) seed count c plain is run =
+some_made told words held left values whole (inl same) seed count c plain is run live =
     (0, omega arith, some_and (λ d. Stands d plain) c left run.stands (same ∙ is))
-some_made told words held left values whole (inr (command, spelled, leaves)) seed count c plain is run =
+some_made told words held left values whole (inr (command, spelled, leaves)) seed count c plain is run live =
     let other : Words = commands.Make seed count in
     let same : command ≡ other = one_command words command other spelled run.spelled in
     let l : StopLeaves told other (Some c) left =
     subst (λ (w : Words). StopLeaves told w (Some c) left) same (subst (λ (h : Option Cartridge). StopLeaves told command h left) is leaves) in
-    make_stopped seed count (values other run.spelled) c plain (whole_of held c whole is) run.stands run.live l.outcome left l.plain l.torn
+    make_stopped seed count (values other run.spelled) c plain (whole_of held c whole is) run.stands l.outcome left live l.plain l.torn
 
 pub makes_volumes : {T S K : Type 0} (t : tapes.Meaning T) (s : sources.Meaning S) (k : sinks.Meaning K) (words : List (List ℕ)) (command : Words) (old new : Outside T S K) (answer : Status) →
     Laws t s k old new → Spells words command → ((other : Words) → Spells words other → HasValues other) → Ends t s k command old new answer →
@@ -434,15 +466,19 @@ makes_volumes t s k words command old new answer laws spelled values ends leaves
       let was = ran.was in record {
         text = was.text;
         took = was.took;
-        all = λ which. elim which [
+        done = λ done.
+            let all = ran.heard (inl done) in
+            now_weaker t old.tape new.tape
+            (λ left is. subst (λ (o : Option Cartridge). IsSomeAnd o (λ d. Stands d (with_made seed plain 1 count))) (sym is)
+            (make_done seed count few c plain whole run.stands ran.outcome ran.plain (all.0 ∙ done)))
+            (done_now t old.tape new.tape (steps_of ran.outcome.acts) (Some c) laws.after all.1 told);
+        all = λ live which. elim which [
           | inl some ↦ now_weaker t old.tape new.tape
-              (λ left is. make_printed seed count few c plain whole run.stands run.live ran.outcome was.text left ran.plain some is) was.each
-          | inr done ↦
-              let all = ran.done done in
+              (λ left is. make_printed seed count few c plain whole run.stands ran.outcome was.text left live ran.plain some is) was.each
+          | inr sink ↦
+              let broken = ran.broke sink in
               now_weaker t old.tape new.tape
-              (λ left is. subst (λ (o : Option Cartridge). IsSomeAnd o (λ d. Stands d (with_made seed plain 1 count))) (sym is)
-              (make_done seed count few c plain whole run.stands run.live ran.outcome ran.plain all.0))
-              (done_now t old.tape new.tape (steps_of ran.outcome.acts) (Some c) laws.after all.1 told)
+              (λ left is. make_broken seed count few c plain whole run.stands ran.outcome broken.text left live ran.plain is) broken.each
         ];
       };
 }
@@ -476,7 +512,7 @@ module _ (told : Option (List ℕ)) (words : List (List ℕ)) (c : Cartridge) (p
             (subst (λ (i : List ℕ). ScriptDoes (settled plain.table_area c) plain.words (entries_of plain) i did.came) same did.does) script.does in
             inr (record {
               mounts = was.mounts;
-              held = settled_held c plain whole script.stands script.live was.mounts;
+              held = mounted_held c plain whole script.stands was.mounts;
               acts = ap (λ (o : Outcome). o.acts) did.is ∙ ap (λ (o : scripts.Outcome). quiet (settling_steps plain.table_area c) ∷ o.acts) one;
             })
       ]
@@ -485,16 +521,31 @@ module _ (told : Option (List ℕ)) (words : List (List ℕ)) (c : Cartridge) (p
   BehindSome left = (n : ℕ) × (n ≤ length items) × IsSomeAnd left (λ d. Stands d (plain_behind plain (take n items) (take n dids)))
 
   -- a stop leaves the plain cartridge behind some of the lines
-  script_stopped : (input : List ℕ) (outcome : Outcome) (left : Option Cartridge) → input ≡ script.input → ScriptOutcome (Some c) input outcome → Torn (steps_of outcome.acts) (Some c) left → BehindSome left
-  script_stopped input outcome left same does torn =
+  script_stopped : (input : List ℕ) (outcome : Outcome) (left : Option Cartridge) → IsTableLive c → input ≡ script.input → ScriptOutcome (Some c) input outcome →
+      Torn (steps_of outcome.acts) (Some c) left → BehindSome left
+  script_stopped input outcome left live same does torn =
       elim (script_course input outcome same does) [
         | inl turned ↦
             (0, omega arith, some_and (λ d. Stands d plain) c left script.stands (subst (λ (o : Outcome). Torn (steps_of o.acts) (Some c) left) turned.is torn))
         | inr run ↦
-            elim (stopped_first c plain whole script.stands script.live run.mounts script.outcome.acts left (subst (λ (acts : List Act). Torn (steps_of acts) (Some c) left) run.acts torn)) [
+            elim (stopped_first c plain whole script.stands run.mounts script.outcome.acts left (subst (λ (acts : List Act). Torn (steps_of acts) (Some c) left) run.acts torn)) [
               | inl stands ↦ (0, omega arith, stands)
-              | inr behind ↦ stopped_script_stands (settled plain.table_area c) plain script.input script.outcome left run.held script.does script.bytes script.spares behind
+              | inr behind ↦ stopped_script_stands (settled plain.table_area c) plain script.input script.outcome left run.held (settled_live c plain.table_area run.mounts.reads live)
+                  script.does script.bytes script.spares behind
             ]
+      ]
+
+  -- once its input was carried out the plain cartridge behind all of the lines stands, also where sectors of the table's segment take
+  -- no write
+  script_heard : (input : List ℕ) (outcome : Outcome) → input ≡ script.input → ScriptOutcome (Some c) input outcome → IsHeard outcome.status →
+      IsSomeAnd (effects (steps_of outcome.acts) (Some c)) (λ d. Stands d (plain_behind plain items dids))
+  script_heard input outcome same does heard =
+      elim (script_course input outcome same does) [
+        | inl turned ↦ absurd (turned.unheard (subst (λ (o : Outcome). IsHeard o.status) turned.is heard))
+        | inr run ↦
+            some_and (λ d. Stands d (plain_behind plain items dids)) (changed_by (steps_of script.outcome.acts) (settled plain.table_area c)) (effects (steps_of outcome.acts) (Some c))
+            (done_script_stands (settled plain.table_area c) plain script.input script.outcome run.held script.does script.bytes script.spares)
+            (ap (λ (acts : List Act). effects (steps_of acts) (Some c)) run.acts ∙ behind_front c plain whole script.stands run.mounts script.outcome.acts)
       ]
 
   abbrev Answered : (text : List ℕ) → Option Cartridge → Type 0
@@ -506,8 +557,9 @@ module _ (told : Option (List ℕ)) (words : List (List ℕ)) (c : Cartridge) (p
       subst (λ (xs : List ℕ). Answered xs left) (sym none)
       (none_answered (settled plain.table_area c) plain script.input script.outcome left script.does script.bytes stands)
 
-  script_answered : (input : List ℕ) (outcome : Outcome) (text : List ℕ) (left : Option Cartridge) → input ≡ script.input → ScriptOutcome (Some c) input outcome → IsLeftBy c outcome.acts text left → Answered text left
-  script_answered input outcome text left same does so =
+  script_answered : (input : List ℕ) (outcome : Outcome) (text : List ℕ) (left : Option Cartridge) → IsTableLive c → input ≡ script.input →
+      ScriptOutcome (Some c) input outcome → IsLeftBy c outcome.acts text left → Answered text left
+  script_answered input outcome text left live same does so =
       elim (script_course input outcome same does) [
         | inl turned ↦ turned_down text left (subst (λ (o : Outcome). IsLeftBy c o.acts text left) turned.is so)
         | inr run ↦ ran run (subst (λ (acts : List Act). IsLeftBy c acts text left) run.acts so)
@@ -528,19 +580,20 @@ module _ (told : Option (List ℕ)) (words : List (List ℕ)) (c : Cartridge) (p
 
       ran : ScriptRan outcome → IsLeftBy c (quiet (settling_steps plain.table_area c) ∷ script.outcome.acts) text left → Answered text left
       ran run (inl at) =
-          elim (begun c plain whole script.stands script.live run.mounts at.front at.rest script.outcome.acts at.parts) [
+          elim (begun c plain whole script.stands run.mounts at.front at.rest script.outcome.acts at.parts) [
             | inl (none, all) ↦
                 nothing_answered text left (at.is_text ∙ ap text_of none)
                 (stopped_stands c plain plain.table_area left script.stands run.mounts.reads
                 (subst (λ (rest : List Act). Torn (next_steps rest) (Some c) left) all (subst (λ (front : List Act). Torn (next_steps at.rest) (effects (steps_of front) (Some c)) left) none at.torn)))
             | inr (more, is, parts) ↦
                 subst (λ (xs : List ℕ). Answered xs left) (sym (at.is_text ∙ ap text_of is))
-                (answered_between (settled plain.table_area c) plain script.input script.outcome more at.rest left run.held script.does script.bytes script.spares parts
+                (answered_between (settled plain.table_area c) plain script.input script.outcome more at.rest left run.held
+                (settled_live c plain.table_area run.mounts.reads live) script.does script.bytes script.spares parts
                 (subst (λ (held : Option Cartridge). Torn (next_steps at.rest) held left)
-                (ap (λ (acts : List Act). effects (steps_of acts) (Some c)) is ∙ behind_front c plain whole script.stands script.live run.mounts more) at.torn))
+                (ap (λ (acts : List Act). effects (steps_of acts) (Some c)) is ∙ behind_front c plain whole script.stands run.mounts more) at.torn))
           ]
       ran run (inr at) =
-          elim (begun c plain whole script.stands script.live run.mounts at.front (at.act ∷ at.rest) script.outcome.acts at.parts) [
+          elim (begun c plain whole script.stands run.mounts at.front (at.act ∷ at.rest) script.outcome.acts at.parts) [
             | inl (none, all) ↦
                 let first : at.act ≡ quiet (settling_steps plain.table_area c) = cc in
                 let unsaid : at.some ≡ [] = no_text at.some at.more (at.written ∙ ap (λ (a : Act). a.text) first) in
@@ -550,7 +603,8 @@ module _ (told : Option (List ℕ)) (words : List (List ℕ)) (c : Cartridge) (p
             | inr (more, is, parts) ↦
                 let texts : length text ≡ length (text_of more) + length at.some = ap length (at.is_text ∙ ap (λ (acts : List Act). text_of acts ++ at.some) is) ∙ length-append (text_of more) at.some in
                 let act_text : length at.act.text ≡ length at.some + length at.more = ap length (sym at.written) ∙ length-append at.some at.more in
-                answered_behind (settled plain.table_area c) plain script.input script.outcome more at.act at.rest left (length text) run.held script.does script.bytes script.spares parts
+                answered_behind (settled plain.table_area c) plain script.input script.outcome more at.act at.rest left (length text) run.held
+                (settled_live c plain.table_area run.mounts.reads live) script.does script.bytes script.spares parts
                 (at.is ∙ ap (λ (acts : List Act). effects (steps_of acts ++ at.act.steps) (Some c)) is
                 ∙ ap (λ (ss : List TapeStep). effects ss (Some c)) (append_assoc (settling_steps plain.table_area c) (steps_of more) at.act.steps)
                 ∙ effects-append (settling_steps plain.table_area c) (steps_of more ++ at.act.steps) (Some c)
@@ -561,17 +615,17 @@ module _ (told : Option (List ℕ)) (words : List (List ℕ)) (c : Cartridge) (p
 
 -- what is left by words of a script
 some_scripted : (told : Option (List ℕ)) (words : List (List ℕ)) (held left : Option Cartridge) → IfSome held IsCartridge → WordsLeave told words held left → SomeScripted told words held left
-some_scripted told words held left whole (inl same) c plain is script =
+some_scripted told words held left whole (inl same) c plain is script live =
     (0, omega arith, some_and (λ d. Stands d plain) c left script.stands (same ∙ is))
-some_scripted told words held left whole (inr (command, spelled, leaves)) c plain is script =
+some_scripted told words held left whole (inr (command, spelled, leaves)) c plain is script live =
     let same : command ≡ commands.Script = one_command words command commands.Script spelled script.spelled in
     let l : StopLeaves told commands.Script (Some c) left =
     subst (λ (w : Words). StopLeaves told w (Some c) left) same (subst (λ (h : Option Cartridge). StopLeaves told command h left) is leaves) in
-    script_stopped told words c plain (whole_of held c whole is) script l.input l.outcome left (same_input told script.input l.input script.is_told l.is_told) l.plain l.torn
+    script_stopped told words c plain (whole_of held c whole is) script l.input l.outcome left live (same_input told script.input l.input script.is_told l.is_told) l.plain l.torn
 
 pub carries_out_lines : {T S K : Type 0} (t : tapes.Meaning T) (s : sources.Meaning S) (k : sinks.Meaning K) (words : List (List ℕ)) (command : Words) (old new : Outside T S K) (answer : Status) →
     Laws t s k old new → Spells words command → Ends t s k command old new answer →
-    EachLeft t old.tape new.tape (WordsLeave (s.left old.source) words) → CarriesOutLines t k (s.left old.source) words old.tape new.tape old.sink new.sink
+    EachLeft t old.tape new.tape (WordsLeave (s.left old.source) words) → CarriesOutLines t k (s.left old.source) words old.tape new.tape old.sink new.sink answer
 carries_out_lines t s k words command old new answer laws spelled ends leaves = record {
   stopped = each_weaker t old.tape new.tape laws.right (λ held left whole is. some_scripted (s.left old.source) words held left whole is) leaves;
   over = λ c plain told script.
@@ -581,9 +635,16 @@ carries_out_lines t s k words command old new answer laws spelled ends leaves = 
       let was = ran.was in record {
         text = was.text;
         took = was.took;
-        answered = now_weaker t old.tape new.tape
-            (λ left is. script_answered (s.left old.source) words c plain whole script ran.input ran.outcome was.text left
+        answered = λ live. now_weaker t old.tape new.tape
+            (λ left is. script_answered (s.left old.source) words c plain whole script ran.input ran.outcome was.text left live
             (same_input (s.left old.source) script.input ran.input script.is_told ran.is_told) ran.plain is) was.each;
+        all = λ heard.
+            let all = ran.heard heard in
+            now_weaker t old.tape new.tape
+            (λ left is. subst (λ (o : Option Cartridge). IsSomeAnd o (λ d. Stands d (plain_behind plain script.does.items script.does.dids))) (sym is)
+            (script_heard (s.left old.source) words c plain whole script ran.input ran.outcome
+            (same_input (s.left old.source) script.input ran.input script.is_told ran.is_told) ran.plain (subst IsHeard (sym all.0) heard)))
+            (done_now t old.tape new.tape (steps_of ran.outcome.acts) (Some c) laws.after all.1 told);
       };
 }
 
@@ -593,24 +654,26 @@ untouched_now : {T : Type 0} (t : tapes.Meaning T) (a : T) (c : Cartridge) (P : 
 untouched_now t a c P after told holds = told_now t a a P after refl (subst (λ (o : Option (Option Cartridge)). IsSomeAnd o P) (sym told) holds)
 
 pub none_made : {T K : Type 0} (t : tapes.Meaning T) (k : sinks.Meaning K) (told : Option (List ℕ)) (words : List (List ℕ)) (a : T) (x : K) (answer : Status) → tapes.IsToldRight (t.told a) (t.size a) → tapes.IsLeftNow t a →
-    k.took x [] x → answer ≢ status.Done → ((other : Words) → Spells words other → HasValues other) → EachLeft t a a (WordsLeave told words) → MakesVolumes t k words a a x x answer
-none_made t k told words a x answer right after nothing other values leaves = record {
+    k.took x [] x → (IsCarriedOut answer → ⊥) → ((other : Words) → Spells words other → HasValues other) → EachLeft t a a (WordsLeave told words) → MakesVolumes t k words a a x x answer
+none_made t k told words a x answer right after nothing never values leaves = record {
   stopped = each_weaker t a a right (λ held left whole is. some_made told words held left values whole is) leaves;
   over = λ seed count c plain is run. record {
     text = [];
     took = nothing;
-    all = λ which. elim which [ inl some ↦ absurd (some refl) | inr done ↦ absurd (other done) ];
+    done = λ done. absurd (never (inl done));
+    all = λ live which. elim which [ inl some ↦ absurd (some refl) | inr sink ↦ absurd (never (inr sink)) ];
   };
 }
 
-pub none_scripted : {T K : Type 0} (t : tapes.Meaning T) (k : sinks.Meaning K) (told : Option (List ℕ)) (words : List (List ℕ)) (a : T) (x : K) → tapes.IsToldRight (t.told a) (t.size a) → tapes.IsLeftNow t a →
-    k.took x [] x → EachLeft t a a (WordsLeave told words) → CarriesOutLines t k told words a a x x
-none_scripted t k told words a x right after nothing leaves = record {
+pub none_scripted : {T K : Type 0} (t : tapes.Meaning T) (k : sinks.Meaning K) (told : Option (List ℕ)) (words : List (List ℕ)) (a : T) (x : K) (answer : Status) → tapes.IsToldRight (t.told a) (t.size a) → tapes.IsLeftNow t a →
+    k.took x [] x → (IsHeard answer → ⊥) → EachLeft t a a (WordsLeave told words) → CarriesOutLines t k told words a a x x answer
+none_scripted t k told words a x answer right after nothing unheard leaves = record {
   stopped = each_weaker t a a right (λ held left whole is. some_scripted told words held left whole is) leaves;
   over = λ c plain is script. record {
     text = [];
     took = nothing;
-    answered = untouched_now t a c (StandsAnswered plain script.does.items script.does.dids 0) after is
+    answered = λ live. untouched_now t a c (StandsAnswered plain script.does.items script.does.dids 0) after is
         (none_answered (settled plain.table_area c) plain script.input script.outcome (Some c) script.does script.bytes script.stands);
+    all = λ heard. absurd (unheard heard);
   };
 }

@@ -1,5 +1,5 @@
 -- Each command has an outcome over what a drive can hold.
-use Rattle.std.proofs.Common.{◌≡◌, ◌⊎◌, ℕ, ◌<◌, ◌≤◌, ◌*◌, ◌^◌, Bool, true, false, List, Option, Some, None, IfSome, refl, inl, inr, nat_lt, ltb-true, ltb-false, arith}
+use Rattle.std.proofs.Common.{◌≡◌, ◌⊎◌, ℕ, ◌<◌, ◌≤◌, ◌^◌, Bool, true, false, List, Option, Some, None, IfSome, refl, inl, inr}
 use Rattle.qic_base.specs.Cartridge.{Cartridge, IsCartridge, view_at}
 use Rattle.qic_base.specs.Tape.{spoil_answer}
 use Rattle.tape_script.specs.declared.words.Words.{Words}
@@ -38,23 +38,12 @@ use Rattle.tape_cmd.specs.List.{listing}
 use Rattle.tape_cmd.specs.Pulses.{sent, info_of, SentOutcome}
 use Rattle.tape_cmd.specs.Make.{Making}
 use Rattle.tape_cmd.specs.Script.{Scripting}
+use Rattle.volume_script.proofs.Places.{place_or_not}
 use Rattle.tape_cmd.specs.Machine.{HasValues, Yields}
-
--- a cartridge has a sector, or not
-place_or_not : (c : Cartridge) (segment sector : ℕ) → HasPlace c segment sector ⊎ ¬ (HasPlace c segment sector)
-place_or_not c segment sector = by_segment (nat_lt segment (28 * c.info.segments_per_track)) refl
-  where
-    by_sector : segment < 28 * c.info.segments_per_track → (b : Bool) → nat_lt sector 32 ≡ b → HasPlace c segment sector ⊎ ¬ (HasPlace c segment sector)
-    by_sector on_tape true is = inl (record { on_tape = on_tape; in_segment = ltb-true sector 32 is })
-    by_sector on_tape false is = inr (λ place. let above = ltb-false sector 32 is in let within = place.in_segment in omega arith)
-
-    by_segment : (b : Bool) → nat_lt segment (28 * c.info.segments_per_track) ≡ b → HasPlace c segment sector ⊎ ¬ (HasPlace c segment sector)
-    by_segment true is = by_sector (ltb-true segment (28 * c.info.segments_per_track) is) (nat_lt sector 32) refl
-    by_segment false is = inr (λ place. let above = ltb-false segment (28 * c.info.segments_per_track) is in let within = place.on_tape in omega arith)
 
 lose_answers : (segment sector : ℕ) (held : Option Cartridge) → (outcome : Outcome) × LoseOutcome segment sector held outcome
 lose_answers segment sector None = (_, refl)
-lose_answers segment sector (Some c) = by_place (place_or_not c segment sector)
+lose_answers segment sector (Some c) = by_place (place_or_not c.info.segments_per_track segment sector)
   where
     by_place : HasPlace c segment sector ⊎ ¬ (HasPlace c segment sector) → (outcome : Outcome) × LoseOutcome segment sector (Some c) outcome
     by_place (inl place) = (_, inr (place, refl))
@@ -62,7 +51,7 @@ lose_answers segment sector (Some c) = by_place (place_or_not c segment sector)
 
 defect_answers : (segment sector : ℕ) (held : Option Cartridge) → (outcome : Outcome) × DefectOutcome segment sector held outcome
 defect_answers segment sector None = (_, refl)
-defect_answers segment sector (Some c) = by_place (place_or_not c segment sector)
+defect_answers segment sector (Some c) = by_place (place_or_not c.info.segments_per_track segment sector)
   where
     by_view : HasPlace c segment sector → (b : Bool) → spoil_answer (view_at c segment sector) ≡ b → (outcome : Outcome) × DefectOutcome segment sector (Some c) outcome
     by_view place true is = (_, inr (inr (place, is, refl)))

@@ -1,39 +1,13 @@
 -- The values that words give a command.
 use Rattle.std.proofs.lemmas.Bool.{eqb-true}
-use Rattle.std.proofs.lemmas.List.{length-replicate, length-append}
-use Rattle.std.proofs.lemmas.List.Elements.{All-append, All-replicate}
-use Rattle.std.proofs.Common.{codes, if◌then◌else◌, ◌≡◌, ℕ, ◌+◌, ◌-◌, ◌<◌, ◌^◌, ◌==◌, ◌++◌, Bool, true, false, List, [], ◌∷◌, length, replicate, All, refl, sym, ap, ◌∙◌, subst, inl, inr, arith}
-use Rattle.qic_base.specs.Name.{IsNameText, IsPrintable, filled}
+use Rattle.std.proofs.Common.{codes, if◌then◌else◌, ◌≡◌, ℕ, ◌-◌, ◌<◌, ◌^◌, ◌==◌, Bool, true, false, List, [], ◌∷◌, refl, inl, inr, arith}
 use Rattle.format_plan.specs.Fresh.{IsLabel}
 use Rattle.tape_script.specs.declared.words.Words.{Words}
 use Rattle.tape_script.specs.declared.words.Words.TheVariants as words
-use Rattle.tape_script.specs.Forms.{Word, Name, IsDateWord, SpellsAll, HasForm, dated}
+use Rattle.tape_script.specs.Forms.{Word, Name, SpellsAll, HasForm, dated}
 use Rattle.tape_script.specs.Words.{IsCommand}
+use Rattle.volume_script.proofs.Values.{date_is_word, name_is_label}
 use Rattle.tape_cmd.specs.Machine.{HasValues}
-
--- a name is a label
-printable_bytes : (text : List ℕ) → All IsPrintable text → All (λ b. b < 256) text
-printable_bytes text all = λ k d within. let most = (all k d within).1 in omega arith
-
-name_is_label : (word label : List ℕ) → IsNameText word → label ≡ filled word → IsLabel label
-unfolding filled
-name_is_label word label text same =
-    let n : ℕ = 44 - length word in
-    let fits = text.fits in
-    let size : length (word ++ replicate n 0x20) ≡ 44 = length-append word (replicate n 0x20) ∙ ap (λ m. length word + m) (length-replicate n 0x20) ∙ omega arith in
-    subst IsLabel (sym same) (record {
-      size = size;
-      bytes = All-append (λ b. b < 256) word (replicate n 0x20) (printable_bytes word text.printable) (All-replicate (λ b. b < 256) n 0x20 (omega arith));
-    })
-
--- a date word has 32 bits
-date_is_word : (word : List ℕ) (date : ℕ) → IsDateWord word date → date < 2 ^ 32
-date_is_word word date is =
-    let d = is.a_date in
-    let a = d.first_year in let b = d.last_year in let c = d.first_month in let e = d.last_month in let f = d.first_day in let g = d.last_day in
-    let h = d.last_hour in let i = d.last_minute in let j = d.last_second in
-    let same = is.stamped in
-    omega arith
 
 -- a label of 44 bytes, or a name, and a date behind a word
 dated_values : (word : List ℕ) (ws : List (List ℕ)) (label : List ℕ) (date : ℕ) → HasForm ws (dated (Word word ∷ Name label ∷ []) date) → IsLabel label × (date < 2 ^ 32)

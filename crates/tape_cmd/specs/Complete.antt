@@ -8,7 +8,7 @@ use Rattle.cartridge_spec.specs.Mounting.{settled}
 use Rattle.cartridge_spec.specs.Volumes.{Plain, Volume, Stands, entries_of}
 use Rattle.format_plan.specs.Formatting.{HasNoDefectInFront}
 use Rattle.made_volumes.specs.Laws.{HaveRoom, LoseFewBehind}
-use Rattle.mount_laws.specs.Laws.{CanBeRead, IsTableLive}
+use Rattle.mount_laws.specs.Laws.{CanBeRead}
 use Rattle.restore_plan.specs.Laws.{pieces_in}
 use Rattle.restore_plan.specs.Restoring.{LosesFew}
 use Rattle.tape_script.specs.Input.{Item, AtEnd, AtStop, IsPulses, IsScript}
@@ -47,12 +47,11 @@ pub record CanGive (c : Cartridge) (number : ℕ) : Type 0 where
   pub has : HasNumber c plain number volume
   pub few : All (LosesFew c plain.words) (pieces_in plain volume)
 
--- Each sector of the table's segment takes a write, each of the generated volumes has room when its turn comes, and no segment
--- that holds some of their bytes has more than three unreadable sectors once they were appended, worn and scrubbed.
+-- Each of the generated volumes has room when its turn comes, and no segment that holds some of their bytes has more than three
+-- unreadable sectors once they were appended, worn and scrubbed.
 pub record CanMake (c : Cartridge) (seed count : ℕ) : Type 0 where
   pub plain : Plain
   pub mounts : ReadsAs c plain
-  pub live : IsTableLive c
   pub room : HaveRoom seed count plain
   pub few : LoseFewBehind seed count (settled plain.table_area c) plain
 

@@ -10,9 +10,10 @@ use Rattle.cartridge_spec.specs.Table.{Entry}
 use Rattle.made_volumes.specs.Items.{made_list}
 use Rattle.store_laws.specs.Listing.{Lists}
 use Rattle.tape_script.specs.declared.words.Words.TheVariants as commands
-use Rattle.volume_script.specs.Listing.{ItemsWearBehind, ListsAnswered}
+use Rattle.tape_script.specs.Input.{Item}
+use Rattle.volume_script.specs.Listing.{ItemsWearBehind, ListsAnswered, ListsBroken}
 use Rattle.volume_script.specs.Script as scripts
-use Rattle.volume_script.specs.Script.{ScriptDoes, entries_behind}
+use Rattle.volume_script.specs.Script.{Did, ScriptDoes, entries_behind}
 use Rattle.volume_store.specs.Appending.{entry_for, kept_in}
 use Rattle.tape_cmd.specs.declared.status.Status.{Status}
 use Rattle.tape_cmd.specs.declared.status.Status.TheVariants as status
@@ -35,29 +36,33 @@ pub record ListsVolume {T : Type 0} (t : tapes.Meaning T) (told : Option (List �
   pub is_told : IsInput told input
   pub lists : NowLists t old new header words (entries ++ entry_for (kept_in words entries) name date input ∷ [])
 
--- the list with the first ones of the made volumes; with all of them, where anything was printed, or all was carried out
+-- the list with the first ones of the made volumes; with all of them, where anything was printed, the sink failed, or all was
+-- carried out
 pub record ListsMade {T K : Type 0} (t : tapes.Meaning T) (k : sinks.Meaning K) (old new : T) (before behind : K) (answer : Status) (header : Header) (words : List ℕ) (entries : List Entry) (seed count : ℕ) : Type 0 where
   pub text : List ℕ
   pub took : k.took before text behind
   pub some : (n : ℕ) × (n ≤ count) × NowLists t old new header words (made_list seed n words entries)
-  pub all : (text ≢ []) ⊎ (answer ≡ status.Done) → NowLists t old new header words (made_list seed count words entries)
+  pub all : (text ≢ []) ⊎ IsCarriedOut answer → NowLists t old new header words (made_list seed count words entries)
 
--- the words ask for a script over an input that is told, the lines of which do this and wear no sector of the segments 0 to 2
-pub record ScriptsOver (told : Option (List ℕ)) (words : List (List ℕ)) (c : Cartridge) (map_words : List ℕ) (table : List (List ℕ)) (entries : List Entry) : Type 0 where
-  pub spelled : Spells words commands.Script
-  pub input : List ℕ
-  pub is_told : told ≡ Some input
-  pub outcome : scripts.Outcome
-  pub does : ScriptDoes (settled table c) map_words entries input outcome
-  pub behind : ItemsWearBehind does.items
+-- the input of a script was carried out, up to its end or to the line at fault
+abbrev pub IsHeard : Status → Type 0
+IsHeard answer = (answer ≡ status.Done) ⊎ ((line place : ℕ) × (answer ≡ status.ScriptFault line place))
 
--- the list with the appends of its first lines: all whose reply was written whole, and at most one more; and all lines, where it was
--- carried out
-pub record ListsScripted {T K : Type 0} (t : tapes.Meaning T) (k : sinks.Meaning K) {told : Option (List ℕ)} {words : List (List ℕ)} {c : Cartridge} {map_words : List ℕ} {table : List (List ℕ)} {entries : List Entry} (old new : T) (before behind : K) (answer : Status) (header : Header) (script : ScriptsOver told words c map_words table entries) : Type 0 where
+-- The list with the appends of those lines whose reply was written whole; and, where the sink failed, of the next one, whose reply
+-- it broke off; of all lines, where the input was carried out. None of these lines may have worn a sector of the segments 0 to 2.
+pub record ListsLines {T K : Type 0} (t : tapes.Meaning T) (k : sinks.Meaning K) (old new : T) (before behind : K) (answer : Status) (header : Header) (words : List ℕ) (entries : List Entry) (items : List Item) (dids : List Did) : Type 0 where
   pub text : List ℕ
   pub took : k.took before text behind
-  pub lists : EachNow t old new (ListsAnswered header map_words entries script.does.items script.does.dids (length text))
-  pub all : answer ≡ status.Done → NowLists t old new header map_words (entries_behind entries script.does.dids)
+  pub answered : answer ≢ status.SinkFault → EachNow t old new (ListsAnswered header words entries items dids (length text))
+  pub broken : answer ≡ status.SinkFault → EachNow t old new (ListsBroken header words entries items dids (length text))
+  pub all : IsHeard answer → ItemsWearBehind items → NowLists t old new header words (entries_behind entries dids)
+
+-- so it is by what the lines of the input do: that which the source tells, or some input where it tells none
+pub record ListsScripted {T K : Type 0} (t : tapes.Meaning T) (k : sinks.Meaning K) (told : Option (List ℕ)) (old new : T) (before behind : K) (answer : Status) (c : Cartridge) (header : Header) (words : List ℕ) (table : List (List ℕ)) (entries : List Entry) : Type 0 where
+  pub input : List ℕ
+  pub is_told : IsInput told input
+  pub lists : (outcome : scripts.Outcome) → (does : ScriptDoes (settled table c) words entries input outcome) →
+      ListsLines t k old new before behind answer header words entries does.items does.dids
 
 -- When a run is over that no fault of the tape ended, the cartridge is mounted with the old list and the appends that were carried
 -- out: that of `append` after Done and after a fault of the sink; those of the made volumes; those of the script's lines.
@@ -72,5 +77,5 @@ pub record ListsAppends {T K : Type 0} (t : tapes.Meaning T) (k : sinks.Meaning 
       Spells words (commands.Make seed count) → WasListed t old c header map_words table entries → answer ≢ status.TapeFault →
       ListsMade t k old new before behind answer header map_words entries seed count
   pub scripted : (c : Cartridge) (header : Header) (map_words : List ℕ) (table : List (List ℕ)) (entries : List Entry) →
-      WasListed t old c header map_words table entries → answer ≢ status.TapeFault → (script : ScriptsOver told words c map_words table entries) →
-      ListsScripted t k old new before behind answer header script
+      Spells words commands.Script → WasListed t old c header map_words table entries → answer ≢ status.TapeFault →
+      ListsScripted t k told old new before behind answer c header map_words table entries

@@ -16,66 +16,69 @@ use Rattle.tape_cmd.specs.declared.status.Status.{Status}
 use Rattle.tape_cmd.specs.declared.status.Status.TheVariants as status
 use Rattle.tape_cmd.specs.Machine.{Spells}
 use Rattle.tape_cmd.specs.Headline.{EachLeft, EachNow}
+use Rattle.tape_cmd.specs.Listing.{IsHeard}
 
 -- ---- a generated run
 
--- the words ask for so many volumes from this seed, on a cartridge that stands for a plain one, each sector of whose table's
--- segment takes a write
+-- the words ask for so many volumes from this seed, on a cartridge that stands for a plain one
 pub record Generated (words : List (List ℕ)) (seed count : ℕ) (c : Cartridge) (plain : Plain) : Type 0 where
   pub spelled : Spells words (commands.Make seed count)
   pub stands : Stands c plain
-  pub live : IsTableLive c
 
--- What is left of it stands for the plain cartridge with the first ones of the volumes.
+-- Where each sector of its table's segment takes a write, what is left of it stands for the plain cartridge with the first ones of
+-- the volumes.
 abbrev pub SomeMade : (words : List (List ℕ)) → (held left : Option Cartridge) → Type 0
 SomeMade words held left =
-    (seed count : ℕ) (c : Cartridge) (plain : Plain) → held ≡ Some c → Generated words seed count c plain →
+    (seed count : ℕ) (c : Cartridge) (plain : Plain) → held ≡ Some c → Generated words seed count c plain → IsTableLive c →
     (n : ℕ) × (n ≤ count) × IsSomeAnd left (λ d. Stands d (with_made seed plain 1 n))
 
--- When it is over this was printed; and where that is anything, or it was carried out, all of the volumes are there.
-pub record AllMade {T K : Type 0} (t : tapes.Meaning T) (k : sinks.Meaning K) (old new : T) (before behind : K) (answer : Status) (seed count : ℕ) (plain : Plain) : Type 0 where
+-- When it is over this was printed; and once it was carried out, all of the volumes are there. Where each sector of the table's
+-- segment takes a write, they are there, too, where anything was printed, or the sink failed.
+pub record AllMade {T K : Type 0} (t : tapes.Meaning T) (k : sinks.Meaning K) (old new : T) (before behind : K) (answer : Status) (seed count : ℕ) (c : Cartridge) (plain : Plain) : Type 0 where
   pub text : List ℕ
   pub took : k.took before text behind
-  pub all : (text ≢ []) ⊎ (answer ≡ status.Done) → EachNow t old new (λ left. IsSomeAnd left (λ d. Stands d (with_made seed plain 1 count)))
+  pub done : answer ≡ status.Done → EachNow t old new (λ left. IsSomeAnd left (λ d. Stands d (with_made seed plain 1 count)))
+  pub all : IsTableLive c → (text ≢ []) ⊎ (answer ≡ status.SinkFault) → EachNow t old new (λ left. IsSomeAnd left (λ d. Stands d (with_made seed plain 1 count)))
 
 -- A generated run may be stopped: each cartridge that it leaves is so; and so it is when it is over.
 pub record MakesVolumes {T K : Type 0} (t : tapes.Meaning T) (k : sinks.Meaning K) (words : List (List ℕ)) (old new : T) (before behind : K) (answer : Status) : Type 0 where
   pub stopped : EachLeft t old new (SomeMade words)
   pub over : (seed count : ℕ) (c : Cartridge) (plain : Plain) → t.told old ≡ Some (Some c) → Generated words seed count c plain →
-      AllMade t k old new before behind answer seed count plain
+      AllMade t k old new before behind answer seed count c plain
 
 -- ---- a script
 
--- The words ask for a script over an input of bytes that is told, on a cartridge that stands for a plain one, each sector of whose
--- table's segment takes a write. By the plain machine the lines do this on the settled cartridge; and each sector that they wear
--- spares the header and the table.
+-- The words ask for a script over an input of bytes that is told, on a cartridge that stands for a plain one. By the plain machine
+-- the lines do this on the settled cartridge; and each sector that they wear spares the header and the table.
 pub record Scripted (told : Option (List ℕ)) (words : List (List ℕ)) (c : Cartridge) (plain : Plain) : Type 0 where
   pub spelled : Spells words commands.Script
   pub input : List ℕ
   pub is_told : told ≡ Some input
   pub bytes : All (λ b. b < 256) input
   pub stands : Stands c plain
-  pub live : IsTableLive c
   pub outcome : scripts.Outcome
   pub does : ScriptDoes (settled plain.table_area c) plain.words (entries_of plain) input outcome
   pub spares : ItemsSpare (settled plain.table_area c) plain does.items does.dids
 
--- What is left of it stands for the plain cartridge behind the first ones of the lines.
+-- Where each sector of its table's segment takes a write, what is left of it stands for the plain cartridge behind the first ones
+-- of the lines.
 abbrev pub SomeScripted : (told : Option (List ℕ)) → (words : List (List ℕ)) → (held left : Option Cartridge) → Type 0
 SomeScripted told words held left =
-    (c : Cartridge) (plain : Plain) → held ≡ Some c → (script : Scripted told words c plain) →
+    (c : Cartridge) (plain : Plain) → held ≡ Some c → (script : Scripted told words c plain) → IsTableLive c →
     (n : ℕ) × (n ≤ length script.does.items)
     × IsSomeAnd left (λ d. Stands d (plain_behind plain (take n script.does.items) (take n script.does.dids)))
 
--- When it is over, whatever it answered, this was printed; and all lines whose reply was written whole are among these, and at most
--- one more.
-pub record AllAnswered {T K : Type 0} (t : tapes.Meaning T) (k : sinks.Meaning K) {told : Option (List ℕ)} {words : List (List ℕ)} {c : Cartridge} {plain : Plain} (old new : T) (before behind : K) (script : Scripted told words c plain) : Type 0 where
+-- When it is over, whatever it answered, this was printed. Where each sector of the table's segment takes a write, all lines whose
+-- reply was written whole are among these, and at most one more; and all lines, also where some of these sectors take none, once
+-- the input was carried out.
+pub record AllAnswered {T K : Type 0} (t : tapes.Meaning T) (k : sinks.Meaning K) {told : Option (List ℕ)} {words : List (List ℕ)} {c : Cartridge} {plain : Plain} (old new : T) (before behind : K) (answer : Status) (script : Scripted told words c plain) : Type 0 where
   pub text : List ℕ
   pub took : k.took before text behind
-  pub answered : EachNow t old new (StandsAnswered plain script.does.items script.does.dids (length text))
+  pub answered : IsTableLive c → EachNow t old new (StandsAnswered plain script.does.items script.does.dids (length text))
+  pub all : IsHeard answer → EachNow t old new (λ left. IsSomeAnd left (λ d. Stands d (plain_behind plain script.does.items script.does.dids)))
 
 -- A script may be stopped: each cartridge that it leaves is so; and so it is when it is over.
-pub record CarriesOutLines {T K : Type 0} (t : tapes.Meaning T) (k : sinks.Meaning K) (told : Option (List ℕ)) (words : List (List ℕ)) (old new : T) (before behind : K) : Type 0 where
+pub record CarriesOutLines {T K : Type 0} (t : tapes.Meaning T) (k : sinks.Meaning K) (told : Option (List ℕ)) (words : List (List ℕ)) (old new : T) (before behind : K) (answer : Status) : Type 0 where
   pub stopped : EachLeft t old new (SomeScripted told words)
   pub over : (c : Cartridge) (plain : Plain) → t.told old ≡ Some (Some c) → (script : Scripted told words c plain) →
-      AllAnswered t k old new before behind script
+      AllAnswered t k old new before behind answer script
