@@ -155,6 +155,15 @@ A cartridge that is protected is refused, whether it is formatted or not, and no
   tape: the cartridge is protected
   [5]
   $ cmp before.img cart.img
+
+A run that is refused leaves its input unread, too.
+
+  $ echo 'nor of this' | (tape cart.img make 1 1; cat)
+  tape: the cartridge is protected
+  nor of this
+
+So is a run without a cartridge, and one on a cartridge that isn't formatted; the protect mark is asked for before that.
+
   $ tape none.img make 1 1
   tape: no cartridge
   [4]
