@@ -4,7 +4,7 @@ ghost use Rattle.std.specs.Prelude.{◌≡◌, ◌+◌, ◌*◌, ◌<◌, ◌≤
 ghost use Rattle.std.specs.Vec.{vec_len, vec_capacity};
 ghost use Rattle.cartridge_spec.specs.Header.{byte_in, word_in, words_in, IsInMap};
 
-use qic_base::{LONGEST, read_u32, write_u32};
+use qic_base::{LONGEST, push_within, read_u32, write_u32};
 
 /// The greatest number of segments: 28 tracks of the greatest length.
 pub const SEGMENTS: u32 = 28 * LONGEST as u32;
@@ -13,19 +13,6 @@ pub const SEGMENTS: u32 = 28 * LONGEST as u32;
 const FIRST_SECTOR: usize = 2;
 
 const WORDS_IN_SECTOR: usize = 256;
-
-/// Adds a word to a list that has room for it, so that no memory is taken.
-fn push_within(words: &mut Vec<u32>, word: u32)
-    requires { vec_len words.old < vec_capacity words.old }
-    ensures items { words.new.items ≡ words.old.items ++ word ∷ [] }
-    ensures len { vec_len words.new ≡ vec_len words.old + 1 }
-    ensures capacity { vec_capacity words.old ≤ vec_capacity words.new }
-{
-    match words.push(word) {
-        Ok(()) => {}
-        Err(_) => unreachable!(),
-    }
-}
 
 /// Makes the list one of so many zero words.
 pub fn clear_words(words: &mut Vec<u32>, segments: u32)

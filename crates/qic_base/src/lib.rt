@@ -18,7 +18,7 @@ pub use disk::{Disk, DiskFailed};
 pub use field::{read_u16, read_u32, read_u64, write_u16, write_u32, write_u64};
 pub use foreign::ForeignField;
 pub use lost_set::LostSet;
-pub use memory::NoMemory;
+pub use memory::{NoMemory, push_within};
 pub use name::Name;
 pub use sink::{Sink, SinkFailed};
 pub use source::{Source, SourceFailed};

@@ -9,7 +9,7 @@ ghost use Rattle.volume_table.specs.Reading.{ShowsSlot, IsTakenBefore};
 
 use crate::entry::Entry;
 use crate::fault::TableFault;
-use qic_base::{Name, read_u16, read_u32, read_u64};
+use qic_base::{Name, push_within, read_u16, read_u32, read_u64};
 
 /// The number of slots: eight in each of the 29 data sectors (Linux ftape headers).
 pub const SLOTS: u8 = 232;
@@ -88,18 +88,6 @@ fn read_slot(
         return Err(TableFault::BadRange { slot: index });
     }
     Ok(Some(entry))
-}
-
-/// Adds an entry to a list that has room for it, so that no memory is taken.
-pub fn push_within(entries: &mut Vec<Entry>, entry: Entry)
-    requires { vec_len entries.old < vec_capacity entries.old }
-    ensures items { entries.new.items ≡ entries.old.items ++ entry ∷ [] }
-    ensures capacity { vec_capacity entries.old ≤ vec_capacity entries.new }
-{
-    match entries.push(entry) {
-        Ok(()) => {}
-        Err(_) => unreachable!(),
-    }
 }
 
 /// Adds the table's volumes to an empty list, up to the first slot that is at fault.

@@ -7,9 +7,9 @@ ghost use Rattle.cartridge_spec.specs.Table.{Shows, HasNoFault, IsFirstFault};
 use crate::entry::Entry;
 use crate::fault::{TableFault, TableFull};
 use crate::showing::are_shown_by;
-use crate::slots::{SLOTS, push_within, read_slots};
+use crate::slots::{SLOTS, read_slots};
 use crate::writing::write_slot;
-use qic_base::NoMemory;
+use qic_base::{NoMemory, push_within};
 use std::alloc::Global;
 use std::marker::Model;
 

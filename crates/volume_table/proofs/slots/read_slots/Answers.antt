@@ -15,7 +15,7 @@ pub loop-index-preserved : goal.loop-index-preserved
 loop-index-preserved c =
     elim c.match-branch-2.branch [
       | in-Some w ↦
-          let pushed : map entry_of w.push_within.new.entries.items ≡ map entry_of c.loop-index.entries.items ++ entry_of w.in-Some.entry ∷ [] =
+          let pushed : map entry_of w.push_within.new.list.items ≡ map entry_of c.loop-index.entries.items ++ entry_of w.in-Some.entry ∷ [] =
           ap (map entry_of) w.push_within.ensures.items ∙ map-append entry_of c.loop-index.entries.items (w.in-Some.entry ∷ []) in
           record {
             so_far = rw (w.entries-is, w.seen_free-is)
