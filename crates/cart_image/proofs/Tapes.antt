@@ -9,7 +9,7 @@ use Rattle.qic_base.specs.declared.tape.TapeInfo.{TapeInfo}
 use Rattle.qic_base.specs.declared.TheConstants.{LONGEST}
 use Rattle.qic_base.specs.Cartridge.{Cartridge, IsPlace, IsLength, place_of, view_at}
 use Rattle.qic_base.specs.Disk as disk
-use Rattle.qic_base.specs.Disk.{DiskStep, Look, Failed, IsSettled}
+use Rattle.qic_base.specs.Disk.{Look, Failed, IsSettled}
 use Rattle.qic_base.specs.Step.{Step, WriteSector, FormatSegment, SetReferenced, SetProtected, Renew, Wear, Spoil, effect, effects}
 use Rattle.qic_base.specs.Tape.{Does, Done, Broke, Stops, Tells}
 use Rattle.cart_image.specs.declared.segment.SegmentStates.{SegmentStates}

@@ -1,9 +1,9 @@
 //! A segment of an image file formatted.
-ghost use Rattle.std.specs.Prelude.{◌≡◌, ◌+◌, ◌*◌, ◌^◌, ◌<◌, ◌≤◌, ◌==◌, not, length, map, slice_range, IfOk, IfSome};
+ghost use Rattle.std.specs.Prelude.{◌≡◌, ◌+◌, ◌*◌, ◌^◌, ◌<◌, ◌≤◌, ◌==◌, not, map};
 ghost use Rattle.std.specs.List.{list_any};
 ghost use Rattle.qic_base.specs.Disk.{IsSettled};
 ghost use Rattle.cart_image.specs.Layout.{image_len as length_of, open_gate, formed_byte, run_write, write_runs, put_chosen as chosen_steps, zero_segment, format_segment_steps, format_plan, put as put_steps};
-ghost use Rattle.cart_image.specs.Run.{Runs, Looked, Carried};
+ghost use Rattle.cart_image.specs.Run.{Runs, Carried};
 
 use crate::layout::{CLOSED, FORMED, OPEN, formed_place, gate_place, sector_place};
 use crate::reading::read_plane;

@@ -117,7 +117,7 @@ pub record Shows (area : List (List ℕ)) (h : Header) (words : List ℕ) : Type
   pub map : words ≡ words_in area (28 * h.segments_per_track)
 
 -- the data spell them: all fields hold their values, and all other bytes are 0
-pub record Spells (h : Header) (words : List ℕ) (area : List (List ℕ)) : Type 0 where
+pub record SpellsHeader (h : Header) (words : List ℕ) (area : List (List ℕ)) : Type 0 where
   pub profile : All (Holds area) (profile_fields h.segments_per_track)
   pub shows : Shows area h words
   pub rest : (k : ℕ) → k < 29696 →

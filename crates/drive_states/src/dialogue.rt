@@ -1,6 +1,6 @@
 //! The drive and its end of the cable: what a train does.
 
-ghost use Rattle.std.specs.Prelude.{◌≡◌, ◌≢◌, ◌<◌, ◌≤◌, ◌-◌, ◌+◌, [], ◌∷◌, None, OnOk, OnErr, true, min};
+ghost use Rattle.std.specs.Prelude.{◌≡◌, ◌≢◌, ◌<◌, ◌≤◌, ◌-◌, [], ◌∷◌, None, OnOk, OnErr, true};
 ghost use Rattle.qic_base.specs.Step.{SetReferenced};
 ghost use Rattle.qic_base.specs.Tape.{Does};
 ghost use Rattle.qic117_commands.specs.Commands.{command_at};
@@ -8,7 +8,7 @@ ghost use Rattle.drive_states.specs.AnyDrive.{drive_of};
 ghost use Rattle.drive_states.specs.Cable.{record_of, unit_of};
 ghost use Rattle.drive_states.specs.Deck.{ticked, reset, given, IsParameter, refusal_of, is_streaming};
 ghost use Rattle.drive_states.specs.Reach.{IsFormatting, Formats};
-ghost use Rattle.drive_states.specs.Row.{obeying, by_command, taking, showing, heard, obeyed, moved_on, idled, after_gap, latched, parameter_trains, steps_of, command_steps, train_steps, gap_steps, without_reference};
+ghost use Rattle.drive_states.specs.Row.{obeying, by_command, taking, showing, obeyed, moved_on, idled, after_gap, latched, parameter_trains, steps_of, command_steps, train_steps, gap_steps, without_reference};
 ghost use Rattle.drive_states.specs.Sound.{IsUnderWay, IsSoundRecord};
 
 use crate::any_drive::AnyDrive;

@@ -1,6 +1,6 @@
 //! What commands and gaps do to a deck (this project's profile of QIC-117).
 
-ghost use Rattle.std.specs.Prelude.{◌≡◌, ◌<◌, Bool, false};
+ghost use Rattle.std.specs.Prelude.{◌≡◌, ◌<◌, false};
 ghost use Rattle.drive_states.specs.Deck.{streaming, home, entering, referenced, sought, skipped, accepted, given, IsParameter, reset, ticked, run_on, passed, unreferenced, referenced_as, error_word};
 ghost use Rattle.drive_states.specs.Sound.{IsSound};
 

@@ -1,6 +1,6 @@
 //! How an accepted command moves a drive from one state to another.
 
-ghost use Rattle.std.specs.Prelude.{◌≡◌, ◌<◌, [], ◌∷◌, OnOk, OnErr, None, if◌then◌else◌};
+ghost use Rattle.std.specs.Prelude.{◌≡◌, ◌<◌, [], ◌∷◌, OnOk, OnErr, None};
 ghost use Rattle.qic117_commands.specs.declared.command.Command.TheVariants as named;
 ghost use Rattle.qic_base.specs.Step.{SetReferenced};
 ghost use Rattle.qic_base.specs.Tape.{Does};

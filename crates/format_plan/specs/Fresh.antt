@@ -3,7 +3,7 @@
 use Rattle.std.specs.Prelude.{◌≡◌, ℕ, ◌<◌, List, length, All}
 use Rattle.qic_base.specs.Cartridge.{Cartridge}
 use Rattle.cartridge_spec.specs.Defects.{MarksDefects}
-use Rattle.cartridge_spec.specs.Header.{Header, Spells}
+use Rattle.cartridge_spec.specs.Header.{Header, SpellsHeader}
 use Rattle.cartridge_spec.specs.HeaderAndTable.{IsArea}
 use Rattle.cartridge_spec.specs.Volumes.{Plain, empty_plain}
 use Rattle.format_plan.specs.Formatting.{HasNoDefectInFront}
@@ -26,7 +26,7 @@ fresh_header n label date = record {
 -- header data for it, with the words of this map
 pub record IsFreshArea (n : ℕ) (label : List ℕ) (date : ℕ) (words : List ℕ) (area : List (List ℕ)) : Type 0 where
   pub size : IsArea area
-  pub spells : Spells (fresh_header n label date) words area
+  pub spells : SpellsHeader (fresh_header n label date) words area
 
 -- fresh header data whose map marks the cartridge's defects
 pub record IsFreshWith (c : Cartridge) (label : List ℕ) (date : ℕ) (words : List ℕ) (area : List (List ℕ)) : Type 0 where

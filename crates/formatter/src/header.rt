@@ -1,16 +1,14 @@
 //! The header of a fresh cartridge, and its two copies.
 
-ghost use Rattle.std.specs.Prelude.{◌≡◌, ◌<◌, ◌*◌, true, false, length, take, All, OnOk, IsOkUnless};
-ghost use Rattle.qic_base.specs.Cartridge.{IsLength, IsSector};
+ghost use Rattle.std.specs.Prelude.{◌≡◌, ◌<◌, ◌*◌, true, false, length, take, IsOkUnless};
+ghost use Rattle.qic_base.specs.Cartridge.{IsLength};
 ghost use Rattle.qic_base.specs.Tape.{Does};
-ghost use Rattle.cartridge_spec.specs.Header.{Spells};
+ghost use Rattle.cartridge_spec.specs.Header.{SpellsHeader};
 ghost use Rattle.cartridge_spec.specs.HeaderAndTable.{IsArea};
 ghost use Rattle.header_segments.specs.Header.{header_of};
-ghost use Rattle.qic117_commands.specs.Views.{is_primary};
 ghost use Rattle.drive_states.specs.Deck.{segments_per_track, is_stopped, is_protected, is_referenced};
 ghost use Rattle.host_driver.specs.Calls.{IsReady, MayWrite, Keeps};
 ghost use Rattle.host_driver.specs.Fits.{AgreesWithTape};
-ghost use Rattle.gf256_qic.specs.Code.{parity_sectors};
 ghost use Rattle.format_plan.specs.Formatting.{copy_writes};
 ghost use Rattle.cartridge_spec.specs.Says.{with_parity};
 ghost use Rattle.format_plan.specs.Fresh.{IsFreshArea};
@@ -80,12 +78,12 @@ fn spell(geometry: Geometry, label: &Name, date: u32, map: &BadMap, sectors: &mu
     put_parity(sectors);
 }
 
-// Spells the header and the map in the data sectors.
+// SpellsHeader the header and the map in the data sectors.
 fn put_header(header: &Header, map: &BadMap, sectors: &mut [[u8; SECTOR]])
     requires long { IsLength header.now.segments_per_track }
     requires words { length map.now ≡ 28 * header.now.segments_per_track }
     requires room { length sectors.old ≡ 32 }
-    ensures { Spells (header_of header.now) map.now (take 29 sectors.new) }
+    ensures { SpellsHeader (header_of header.now) map.now (take 29 sectors.new) }
 {
     encode(header, map, &mut sectors[..DATA_SECTORS]);
 }

@@ -10,7 +10,7 @@ use Rattle.std.proofs.lemmas.Option.{unwrap_or-slice_get}
 use Rattle.qic_base.specs.Cartridge.{IsSector}
 use Rattle.qic_base.specs.Field.{number_at, little_endian}
 use Rattle.cartridge_spec.specs.Segment.{sector_at}
-use Rattle.cartridge_spec.specs.Header.{Header, Field, Value, Number, Text, byte_in, word_in, words_in, Holds, HoldsValue, IsInField, IsInMap, Spells, profile_fields, header_fields}
+use Rattle.cartridge_spec.specs.Header.{Header, Field, Value, Number, Text, byte_in, word_in, words_in, Holds, HoldsValue, IsInField, IsInMap, SpellsHeader, profile_fields, header_fields}
 use Rattle.cartridge_spec.specs.HeaderAndTable.{IsArea}
 use Rattle.fresh_header.specs.Laws.{SpelledIsOne}
 use Rattle.fresh_header.proofs.Fields.{are_first, first-head, first-tail}
@@ -144,7 +144,7 @@ same_in_map one other words n k whole all is are within in_map =
 -- ---- the whole
 
 same_bytes_in : (h : Header) (words : List ℕ) (one other : List (List ℕ)) (k : ℕ) → IsArea one → IsArea other →
-    Spells h words one → Spells h words other → k < 29696 → byte_in one k ≡ byte_in other k
+    SpellsHeader h words one → SpellsHeader h words other → k < 29696 → byte_in one k ≡ byte_in other k
 same_bytes_in h words one other k whole all spells spelled within =
     by_fields
     (same_or_outside (profile_fields h.segments_per_track ++ header_fields h) one other k whole all refl

@@ -1,7 +1,7 @@
 -- What formatting writes into a cartridge's header exists, and is determined, as facts.
 use Rattle.std.specs.Prelude.{◌≡◌, ◌⊎◌, ℕ, ◌^◌, ◌<◌, List, All}
 use Rattle.qic_base.specs.Cartridge.{Cartridge, IsCartridge}
-use Rattle.cartridge_spec.specs.Header.{Header, Shows, Spells}
+use Rattle.cartridge_spec.specs.Header.{Header, Shows, SpellsHeader}
 use Rattle.cartridge_spec.specs.HeaderAndTable.{IsArea}
 use Rattle.cartridge_spec.specs.Defects.{MarksDefects}
 use Rattle.format_plan.specs.Formatting.{HasNoDefectInFront, IsFirstDefectInFront}
@@ -31,7 +31,7 @@ FirstDefectIsOne =
 abbrev pub SpelledIsOne : Type 0
 SpelledIsOne =
     (h : Header) (words : List ℕ) (one other : List (List ℕ)) → IsArea one → IsArea other →
-    Spells h words one → Spells h words other → one ≡ other
+    SpellsHeader h words one → SpellsHeader h words other → one ≡ other
 
 -- the words of a map have 32 bits
 abbrev pub AreWords : List ℕ → Type 0

@@ -9,7 +9,7 @@ use Rattle.std.proofs.lemmas.Option.{unwrap_or-slice_get}
 use Rattle.qic_base.specs.Cartridge.{IsLength}
 use Rattle.qic_base.specs.Field.{number_at, little_endian_bytes, overwritten}
 use Rattle.cartridge_spec.specs.Segment.{sector_at}
-use Rattle.cartridge_spec.specs.Header.{Header, Field, Value, Number, Text, number, byte_in, word_in, words_in, Holds, HoldsValue, IsInField, IsInMap, Spells, profile_fields, header_fields}
+use Rattle.cartridge_spec.specs.Header.{Header, Field, Value, Number, Text, number, byte_in, word_in, words_in, Holds, HoldsValue, IsInField, IsInMap, SpellsHeader, profile_fields, header_fields}
 use Rattle.header_segments.specs.Writing.{FieldFits, with_fields, told_fields}
 use Rattle.header_segments.proofs.FieldSets.{HoldsIn, HoldsHere, are_placed, HoldsIn-with_fields, get_or-with_fields, length-before_fields}
 use borrow.Rule.Slice.PartMut.{put_mid}
@@ -166,7 +166,7 @@ rest_clear h words sector clean mapped e k outside no_map = by_sector (cases_eq 
         ∙ clear
     by_sector (inr other) = ap (λ (xs : List ℕ). get_or xs (k % 1024) 0) (later_kept mapped sector (k / 1024) other) ∙ before
 
-pub encoded_spells : (h : Header) (words sector : List ℕ) (clean mapped : List (List ℕ)) → IsEncoded h words sector clean mapped → Spells h words (set mapped 0 sector)
+pub encoded_spells : (h : Header) (words sector : List ℕ) (clean mapped : List (List ℕ)) → IsEncoded h words sector clean mapped → SpellsHeader h words (set mapped 0 sector)
 encoded_spells h words sector clean mapped e =
     let all : All (Holds (set mapped 0 sector)) (all_fields h) = holds_all h words sector clean mapped e in
     record {

@@ -1,7 +1,7 @@
 -- Laws of the header (this project's profile).
 use Rattle.std.specs.Prelude.{◌≡◌, ℕ, ◌<◌, List, None, true, slice_index}
 use Rattle.qic_base.specs.Cartridge.{IsLength}
-use Rattle.cartridge_spec.specs.Header.{Header, Shows, Spells, has_signature, header_fault}
+use Rattle.cartridge_spec.specs.Header.{Header, Shows, SpellsHeader, has_signature, header_fault}
 
 -- what the same data show is equal
 abbrev pub HeaderIsDetermined : Type 0
@@ -18,6 +18,6 @@ pub record AreTaken (area : List (List ℕ)) (n : ℕ) (h : Header) (words : Lis
 -- what spells a header and a map without a bad sector in segments 0 to 2 is taken as them
 abbrev pub SpelledIsRead : Type 0
 SpelledIsRead =
-    (h : Header) (words : List ℕ) (area : List (List ℕ)) → IsLength h.segments_per_track → Spells h words area →
+    (h : Header) (words : List ℕ) (area : List (List ℕ)) → IsLength h.segments_per_track → SpellsHeader h words area →
     ((segment : ℕ) → segment < 3 → slice_index words segment ≡ 0) →
     AreTaken area h.segments_per_track h words

@@ -1,8 +1,8 @@
 //! A header as bytes.
 
-ghost use Rattle.std.specs.Prelude.{◌≡◌, ◌+◌, ◌-◌, ◌*◌, ℕ, length, All};
+ghost use Rattle.std.specs.Prelude.{◌≡◌, ◌-◌, ◌*◌, ℕ, length, All};
 ghost use Rattle.qic_base.specs.Cartridge.{IsLength};
-ghost use Rattle.cartridge_spec.specs.Header.{Spells, profile_fields, byte_in};
+ghost use Rattle.cartridge_spec.specs.Header.{SpellsHeader, profile_fields, byte_in};
 ghost use Rattle.header_segments.specs.Header.{header_of};
 ghost use Rattle.header_segments.specs.Writing.{FieldFits, with_fields, told_fields};
 
@@ -57,12 +57,12 @@ fn write_told(sector: &mut [u8; 1024], header: &Header)
     write_u32(sector, 74, label_date);
 }
 
-/// Spells the header and the map in a data area of 29 sectors. All other bytes become zero.
+/// SpellsHeader the header and the map in a data area of 29 sectors. All other bytes become zero.
 pub fn encode(header: &Header, map: &BadMap, into: &mut [[u8; 1024]])
     requires sectors { length into.old ≡ 29 }
     requires long { IsLength header.now.segments_per_track }
     requires map { length map.now ≡ 28 * header.now.segments_per_track }
-    ensures { Spells (header_of header.now) map.now into.new }
+    ensures { SpellsHeader (header_of header.now) map.now into.new }
 {
     clear(into);
     map.write(into);

@@ -1,5 +1,5 @@
 -- A host that follows a train fits the unit again.
-use Rattle.std.proofs.Common.{◌≡◌, ◌≢◌, ℕ, ◌-◌, ◌<◌, ◌≤◌, ◌⊎◌, inl, inr, Bool, true, false, refl, sym, ap, ◌∙◌, subst, Some, None, Option, Result, Ok, Err, is_err, OnErr, OnOk, IfSome, IsSomeAnd, if◌then◌else◌, nat_lt, arith}
+use Rattle.std.proofs.Common.{◌≡◌, ◌≢◌, ℕ, ◌-◌, ◌<◌, ◌≤◌, inl, inr, Bool, true, false, refl, sym, ap, ◌∙◌, subst, Some, None, Option, Result, Ok, Err, is_err, OnErr, OnOk, IfSome, IsSomeAnd, if◌then◌else◌, nat_lt, arith}
 use Rattle.std.proofs.lemmas.Bool.Decides.{nat_tests}
 use Rattle.std.specs.Option.{option_map}
 use Rattle.qic_base.specs.Tape.{Meaning}
@@ -10,17 +10,17 @@ use Rattle.drive_states.specs.declared.deck.Deck.{Deck}
 use Rattle.drive_states.specs.declared.under_way.Parameter.{Parameter}
 use Rattle.drive_states.specs.declared.under_way.UnderWay.{UnderWay}
 use Rattle.drive_states.specs.declared.under_way.UnderWay.TheVariants.{Nothing, Report, Awaited}
-use Rattle.drive_states.specs.Deck.{is_protected, unreferenced, segments_per_track}
+use Rattle.drive_states.specs.Deck.{unreferenced, segments_per_track}
 use Rattle.drive_states.specs.Record.{Record}
 use Rattle.drive_states.specs.Row.{given_more, longer, heard, latched, parameter_code, parameter_values}
 use Rattle.drive_states.specs.Unit.{UnitView, IsSoundUnit}
 use Rattle.host_driver.specs.declared.host.Host.{Host}
-use Rattle.host_driver.specs.Fits.{Fits, GeneratesAll, parameter_of, segments_of}
+use Rattle.host_driver.specs.Fits.{Fits, parameter_of}
 use Rattle.host_driver.specs.Followed.{followed}
 use Rattle.host_driver.specs.Train.{TakesTrain, after_train}
 use Rattle.drive_states.specs.Row.{without_reference}
 use Rattle.host_driver.proofs.Follows.{remembered, followed-remembered, after_train-heard, counted, latches, some_number}
-use Rattle.host_driver.proofs.Kept.{Kept, KeptRecord, Kept-unreferenced, length_of, after_train-kept}
+use Rattle.host_driver.proofs.Kept.{Kept, Kept-unreferenced, after_train-kept}
 
 -- the host is what it remembers of the unit that it fits
 pub is_remembered : {T : Type 0} {m : Meaning T} {h : Host} {u : UnitView T} → Fits m h u → h ≡ remembered h.geometry u.drive

@@ -1,10 +1,10 @@
 -- What a host remembers after a train is what the drive is in after it.
-use Rattle.std.proofs.Common.{◌≡◌, ◌≢◌, ℕ, ◌+◌, ◌-◌, ◌*◌, ◌<◌, ◌≤◌, ◌⊎◌, inl, inr, Bool, true, false, List, [], ◌∷◌, if◌then◌else◌, ◌==◌, ◌&&◌, nat_lt, nat_le, min, refl, sym, ap, ◌∙◌, arith, subst, Some, None, Option}
+use Rattle.std.proofs.Common.{◌≡◌, ◌≢◌, ℕ, ◌+◌, ◌-◌, ◌*◌, ◌<◌, ◌≤◌, Bool, true, false, List, [], ◌∷◌, if◌then◌else◌, ◌==◌, nat_lt, refl, sym, ap, ◌∙◌, arith, Some, None, Option}
 use Rattle.std.proofs.lemmas.Bool.Decides.{nat_tests}
 use Rattle.qic117_commands.specs.Codes.{code_of}
 use Rattle.qic117_commands.specs.Commands.{number_of, command_at, commands}
 use Rattle.qic117_commands.specs.declared.command.Command.{Command}
-use Rattle.qic117_commands.specs.declared.command.Command.TheVariants.{Reset, ReportNextBit, ReportStatus, ReportError, ReportConfiguration, ReportRom, LogicalForward, SeekTrack, SkipReverse, SkipForward, ReportVendor, ReportTapeStatus, ReportFormatSegments, SetFormatSegments}
+use Rattle.qic117_commands.specs.declared.command.Command.TheVariants.{ReportNextBit, ReportStatus, ReportError, ReportConfiguration, ReportRom, ReportVendor, ReportTapeStatus, ReportFormatSegments}
 use Rattle.qic117_commands.specs.declared.error_code.ErrorCode.{ErrorCode}
 use Rattle.qic117_commands.specs.declared.error_code.ErrorCode.TheVariants.{UndefinedCommand, IllegalInReport}
 use Rattle.qic117_commands.proofs.Numbers.{command_at-number_of}
@@ -12,7 +12,7 @@ use Rattle.drive_states.specs.declared.deck.Deck.{Deck}
 use Rattle.drive_states.specs.declared.under_way.Parameter.{Parameter}
 use Rattle.drive_states.specs.declared.under_way.UnderWay.{UnderWay}
 use Rattle.drive_states.specs.declared.under_way.UnderWay.TheVariants.{Nothing, Report, Awaited}
-use Rattle.drive_states.specs.Deck.{refusal_of, accepted, given, ticked, run_on, is_streaming, ends_early}
+use Rattle.drive_states.specs.Deck.{refusal_of, accepted, ticked, run_on, is_streaming, ends_early}
 use Rattle.drive_states.specs.Record.{Record}
 use Rattle.drive_states.specs.Row.{heard, by_command, by_refusal, given_more, longer, idled, begun, parameter_trains, parameter_values, latched, showing, parameter_code}
 use Rattle.host_driver.specs.declared.host.Host.{Host}

@@ -1,5 +1,5 @@
 -- The sectors that the host asks for are under the head.
-use Rattle.std.proofs.Common.{◌≡◌, ℕ, ◌+◌, ◌*◌, ◌<◌, ◌≤◌, Bool, true, false, refl, sym, ap, ◌∙◌, subst, Some, None, Option, IsSomeAnd, arith}
+use Rattle.std.proofs.Common.{◌≡◌, ℕ, ◌*◌, ◌<◌, Bool, true, refl, sym, subst, Some, None, Option, IsSomeAnd, arith}
 use Rattle.std.proofs.lemmas.Nat.{mul-add-lt}
 use Rattle.std.specs.Option.{option_map_or}
 use Rattle.qic_base.specs.declared.tape.TapeInfo.{TapeInfo}

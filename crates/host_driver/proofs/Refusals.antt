@@ -1,6 +1,5 @@
 -- Where no row of the state table refuses what a host sends, and what that tells of the drive.
-use Rattle.std.proofs.Common.{◌≡◌, ℕ, Bool, true, false, not, ◌&&◌, ◌==◌, Option, Some, None, refl}
-use Rattle.qic117_commands.specs.declared.command.Command.{Command}
+use Rattle.std.proofs.Common.{◌≡◌, ℕ, Bool, true, false, not, ◌&&◌, ◌==◌, None, refl}
 use Rattle.qic117_commands.specs.declared.command.Command.TheVariants.{ReportStatus, ReportError, ReportFormatSegments, LogicalForward, SeekTrack, EnterFormat, EnterVerify, SkipReverse, SkipForward}
 use Rattle.qic117_commands.specs.declared.view.DriveView.{DriveView}
 use Rattle.qic117_commands.specs.declared.view.Mode.{Mode}

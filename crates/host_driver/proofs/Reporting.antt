@@ -1,5 +1,5 @@
 -- A report of the drive, level by level.
-use Rattle.std.proofs.Common.{◌≡◌, ◌≢◌, ℕ, ◌+◌, ◌*◌, ◌<◌, ◌≤◌, ◌^◌, ◌⊎◌, inl, inr, Bool, true, false, List, [], ◌∷◌, ◌++◌, length, take, drop, get_or, if◌then◌else◌, ◌==◌, ◌&&◌, refl, sym, ap, ◌∙◌, arith, subst, Some, None, Option, add-one, length-append}
+use Rattle.std.proofs.Common.{◌≡◌, ◌≢◌, ℕ, ◌+◌, ◌<◌, ◌≤◌, ◌^◌, inl, inr, Bool, true, false, List, [], ◌∷◌, ◌++◌, length, take, drop, get_or, if◌then◌else◌, ◌==◌, refl, sym, ap, ◌∙◌, arith, subst, Some, None, Option, add-one, length-append}
 use Rattle.std.proofs.Math.Seq.{drop-cons, drop-length}
 use Rattle.std.proofs.lemmas.List.{take_more, take_all, length-take}
 use Rattle.std.specs.Option.{option_map_or}
@@ -17,7 +17,7 @@ use Rattle.drive_states.specs.declared.under_way.UnderWay.{UnderWay}
 use Rattle.drive_states.specs.declared.under_way.UnderWay.TheVariants.{Nothing, Report}
 use Rattle.drive_states.specs.Deck.{refusal_of, accepted, ticked, is_seeking, segments_per_track, status_word, told_segments}
 use Rattle.drive_states.specs.Record.{Record}
-use Rattle.drive_states.specs.Row.{report_word, report_width, tape_status, gap_steps}
+use Rattle.drive_states.specs.Row.{report_word, tape_status}
 use Rattle.drive_states.specs.Sound.{IsSound, HasLength}
 use Rattle.drive_states.proofs.Marks.{gap_steps-none}
 use Rattle.host_driver.specs.declared.report.Report.{Report as Kind}

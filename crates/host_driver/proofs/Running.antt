@@ -1,17 +1,15 @@
 -- The tape runs on by a segment.
-use Rattle.std.proofs.Common.{◌≡◌, ◌≢◌, ℕ, ◌+◌, ◌*◌, ◌<◌, ◌≤◌, Bool, true, false, [], if◌then◌else◌, ◌&&◌, nat_lt, nat_le, refl, sym, ap, ◌∙◌, subst, arith}
+use Rattle.std.proofs.Common.{◌≡◌, ◌+◌, Bool, true, false, [], if◌then◌else◌, ◌&&◌, nat_lt, nat_le, refl, sym, ap, ◌∙◌, subst, arith}
 use Rattle.std.proofs.lemmas.Bool.Decides.{nat_tests}
 use Rattle.qic117_commands.specs.Views.{is_format}
 use Rattle.drive_states.specs.declared.deck.Deck.{Deck}
 use Rattle.drive_states.specs.declared.deck.Motion.TheVariants.{Stopped, Streaming}
-use Rattle.drive_states.specs.declared.under_way.UnderWay.TheVariants.{Nothing}
-use Rattle.drive_states.specs.Deck.{limit, segments_per_track, is_seeking, is_streaming, ends_early, run_on, ticked}
-use Rattle.drive_states.specs.Reach.{segment_of}
+use Rattle.drive_states.specs.Deck.{limit, segments_per_track, is_seeking, is_streaming, ends_early, run_on}
 use Rattle.drive_states.specs.Record.{Record}
-use Rattle.drive_states.specs.Row.{idled, moved_on}
+use Rattle.drive_states.specs.Row.{idled}
 use Rattle.drive_states.proofs.Marks.{gap_steps-none}
 use Rattle.host_driver.specs.Fits.{GeneratesAll}
-use Rattle.host_driver.specs.Place.{KeepsMode, RunsOn, StreamsAt, idled_deck}
+use Rattle.host_driver.specs.Place.{KeepsMode, RunsOn, idled_deck}
 use Rattle.host_driver.specs.Train.{TakesTrain, after_train, train_steps}
 use Rattle.host_driver.proofs.Follows.{after_train-idled}
 use Rattle.host_driver.proofs.Motions.{ticked-still}

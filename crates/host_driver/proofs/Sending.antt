@@ -1,5 +1,5 @@
 -- What a command or a value of its parameter does to a drive at rest.
-use Rattle.std.proofs.Common.{◌≡◌, ◌≢◌, ℕ, ◌+◌, ◌-◌, ◌<◌, ◌≤◌, Bool, true, false, unwrap_or, List, [], ◌∷◌, if◌then◌else◌, ◌==◌, ◌&&◌, nat_lt, is_none, refl, sym, ap, ◌∙◌, subst, Some, None, Option, IsSomeAnd, IfSome, arith}
+use Rattle.std.proofs.Common.{◌≡◌, ◌≢◌, ℕ, ◌+◌, ◌-◌, ◌<◌, Bool, true, false, unwrap_or, [], ◌∷◌, if◌then◌else◌, ◌==◌, ◌&&◌, nat_lt, refl, sym, ap, ◌∙◌, subst, Some, None, Option, IsSomeAnd, IfSome, arith}
 use Rattle.std.proofs.lemmas.Bool.{false≢true}
 use Rattle.std.proofs.lemmas.Bool.Decides.{nat_tests}
 use Rattle.std.specs.Option.{option_map_or}
@@ -8,7 +8,7 @@ use Rattle.qic_base.specs.declared.tape.TapeInfo.{TapeInfo}
 use Rattle.qic117_commands.specs.Commands.{number_of, command_at}
 use Rattle.qic117_commands.specs.Views.{is_format}
 use Rattle.qic117_commands.specs.declared.command.Command.{Command}
-use Rattle.qic117_commands.specs.declared.command.Command.TheVariants.{Reset, ReportNextBit, ReportError, LogicalForward, SeekTrack, SeekLoadPoint, EnterFormat, WriteReference, EnterVerify, StopTape, SkipReverse, SkipForward, EnterPrimary, SetFormatSegments}
+use Rattle.qic117_commands.specs.declared.command.Command.TheVariants.{Reset, ReportError, LogicalForward, SeekTrack, EnterFormat, WriteReference, EnterVerify, SkipReverse, SkipForward, EnterPrimary, SetFormatSegments}
 use Rattle.qic117_commands.specs.declared.view.Mode.{Mode}
 use Rattle.qic117_commands.specs.declared.view.Mode.TheVariants.{Primary, Format, Verify}
 use Rattle.qic117_commands.proofs.Numbers.{command_at-number_of}
@@ -19,7 +19,7 @@ use Rattle.drive_states.specs.declared.under_way.UnderWay.{UnderWay}
 use Rattle.drive_states.specs.declared.under_way.UnderWay.TheVariants.{Nothing, Report, Awaited}
 use Rattle.drive_states.specs.Deck.{refusal_of, accepted, given, ticked, is_seeking, is_stopped, limit, segments_per_track, referenced_as}
 use Rattle.drive_states.specs.Record.{Record}
-use Rattle.drive_states.specs.Row.{heard, by_command, by_refusal, begun, is_report, given_more, longer, latched, parameter_code, parameter_values, parameter_trains, obeying, steps_of}
+use Rattle.drive_states.specs.Row.{heard, by_command, by_refusal, given_more, longer, latched, parameter_code, parameter_values, parameter_trains, obeying}
 use Rattle.drive_states.proofs.Marks.{gap_steps-none}
 use Rattle.host_driver.specs.Commands.{is_plain, TakesValue}
 use Rattle.host_driver.specs.Fits.{GeneratesAll, parameter_of}

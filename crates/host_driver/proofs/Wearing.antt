@@ -1,6 +1,5 @@
 -- A sector of a cartridge that the host knows is worn.
 use Rattle.std.proofs.Common.{◌≡◌, ℕ, ◌*◌, ◌<◌, ◌≤◌, ◌⊎◌, inl, inr, [], ◌∷◌, ap, sym, subst, arith, Some, None, Option, IfSome, IsSomeAnd, Result, Ok, Err}
-use Rattle.std.specs.Option.{option_map_or}
 use Rattle.qic_base.specs.Cartridge.{IsPlace}
 use Rattle.std.proofs.lemmas.Bool.{cases_lt}
 use Rattle.qic_base.specs.Step.{Wear}

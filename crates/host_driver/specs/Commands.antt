@@ -1,5 +1,5 @@
 -- Which commands the host sends whole, with a gap behind them.
-use Rattle.std.specs.Prelude.{◌≢◌, ℕ, ◌<◌, Bool, true, false, if◌then◌else◌}
+use Rattle.std.specs.Prelude.{◌≢◌, ℕ, ◌<◌, Bool, true, false}
 use Rattle.qic117_commands.specs.declared.command.Command.{Command}
 use Rattle.qic117_commands.specs.declared.command.Command.TheVariants.{Reset, ReportNextBit, EnterFormat, WriteReference, EnterVerify, EnterPrimary, SetFormatSegments}
 use Rattle.qic117_commands.specs.declared.view.Mode.{Mode}

@@ -1,5 +1,5 @@
 -- A train of pulses with the gap behind it, and the trains that a host sends (this project's own).
-use Rattle.std.specs.Prelude.{◌≡◌, ◌≢◌, ℕ, ◌-◌, true, List, Option, Some, None, if◌then◌else◌, nat_le}
+use Rattle.std.specs.Prelude.{◌≡◌, ◌≢◌, ℕ, ◌-◌, true, List, if◌then◌else◌, nat_le}
 use Rattle.qic_base.specs.Step.{Step}
 use Rattle.qic117_commands.specs.Commands.{number_of}
 use Rattle.qic117_commands.specs.Views.{is_format}

@@ -1,6 +1,6 @@
 //! What the host remembers, its start, and the trains that it sends.
 
-ghost use Rattle.std.specs.Prelude.{◌≡◌, ◌≢◌, ◌↔◌, [], None, Some, IsOk, IfOk, OnOk, OnErr, IsOkUnless};
+ghost use Rattle.std.specs.Prelude.{◌≡◌, ◌≢◌, [], None, Some, IsOk, IfOk, OnOk, OnErr, IsOkUnless};
 ghost use Rattle.qic_base.specs.Tape.{Does};
 ghost use Rattle.drive_states.specs.Deck.{is_protected, is_referenced};
 ghost use Rattle.host_driver.specs.Calls.{IsReady};

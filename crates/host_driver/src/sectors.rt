@@ -1,6 +1,6 @@
 //! Sectors under the head, and what a person does to one.
 
-ghost use Rattle.std.specs.Prelude.{◌≡◌, ◌≢◌, ◌<◌, ◌+◌, [], ◌∷◌, true, false, IsOkUnless, IfOk, OnOk, OnErr, MatchResult};
+ghost use Rattle.std.specs.Prelude.{◌≡◌, ◌≢◌, ◌<◌, ◌+◌, [], ◌∷◌, true, IsOkUnless, IfOk, OnOk, OnErr, MatchResult};
 ghost use Rattle.qic_base.specs.Cartridge.{IsPlace, view_at};
 ghost use Rattle.qic_base.specs.Step.{WriteSector, FormatSegment};
 ghost use Rattle.qic_base.specs.Tape.{Does, Tells, Reads, write_answer};

@@ -2,7 +2,7 @@
 use Rattle.std.proofs.Common.{◌≡◌, ◌⊎◌, ℕ, ◌*◌, ◌<◌, inl, inr, Bool, true, false, List, [], ◌∷◌, Option, Some, None, refl, sym, ap, ◌∙◌, subst, arith, All}
 use Rattle.std.proofs.lemmas.List.Elements.{All-nil, All-cons}
 use Rattle.qic_base.specs.Cartridge.{Cartridge, IsCartridge}
-use Rattle.cartridge_spec.specs.Header.{Header, HeaderFault, Field, Holds, number_in, text_in, words_in, header_fields, header_fault, has_signature, number, text}
+use Rattle.cartridge_spec.specs.Header.{Header, HeaderFault, Field, Holds, number_in, text_in, words_in, header_fault, has_signature, number, text}
 use Rattle.cartridge_spec.specs.Header as headers
 use Rattle.cartridge_spec.specs.Table.{Entry, TableFault, IsFirstFault, HasNoFault, slot_fault}
 use Rattle.cartridge_spec.specs.Table as tables

@@ -1,14 +1,13 @@
 -- Inputs that begin with lines: each has lines and an ending, and only those.
-use Rattle.std.proofs.Common.{◌≡◌, ◌≢◌, ◌⊎◌, inl, inr, ℕ, zero, suc, ◌+◌, ◌≤◌, ◌<◌, List, [], ◌∷◌, ◌++◌, length, Option, Some, None, IfSome, refl, sym, ap, ◌∙◌, subst, arith, append_assoc, append-nil}
+use Rattle.std.proofs.Common.{◌≡◌, inl, inr, ℕ, zero, suc, ◌+◌, ◌≤◌, ◌<◌, List, [], ◌∷◌, ◌++◌, length, Option, Some, None, IfSome, refl, sym, ap, ◌∙◌, subst, arith, append_assoc, append-nil}
 use Rattle.std.specs.Option.{option_map}
-use Rattle.std.proofs.lemmas.List.{length-append, nil_from_length}
+use Rattle.std.proofs.lemmas.List.{length-append}
 use Rattle.tape_script.proofs.Deciding.{Decided, along, both, at_most, same_bytes}
 use Rattle.tape_script.proofs.Lined.{one_before}
 use Rattle.tape_script.proofs.Readings.{Cut, cut, no_line_without}
 use Rattle.tape_script.proofs.Rests.{Rest}
 use Rattle.pulse_dialogue.specs.declared.line.Line.{Line}
-use Rattle.pulse_dialogue.specs.Lines.{time_of, line_text, line_bytes, greatest_time, most_lines, IsLine, Ending, AtEnd, AtFault, Follows, HasLine, IsFault, Ends, HasLines}
-use Rattle.pulse_dialogue.specs.Reading.{IsLineText}
+use Rattle.pulse_dialogue.specs.Lines.{time_of, line_text, line_bytes, greatest_time, most_lines, IsLine, Ending, AtEnd, AtFault, Follows, HasLine, IsFault, LinesEnd, HasLines}
 use Rattle.pulse_dialogue.specs.Laws.{EachRecording, OneRecording}
 use Rattle.pulse_dialogue.proofs.Lines.{line_no_newline, lined, guess, guess_is, same_line, bytes_some}
 
@@ -86,7 +85,7 @@ each_recording input = let l = lined_from 0 1 0 input in (l.lines, (l.ending, l.
 
 -- ---- and only those
 
-one_ending : (last line place : ℕ) (input : List ℕ) (a b : Ending) → Ends last line place input a → Ends last line place input b → a ≡ b
+one_ending : (last line place : ℕ) (input : List ℕ) (a b : Ending) → LinesEnd last line place input a → LinesEnd last line place input b → a ≡ b
 one_ending last line place input AtEnd AtEnd p q = refl
 one_ending last line place input AtEnd (AtFault n m) p q = absurd (q.0.some p)
 one_ending last line place input (AtFault n m) AtEnd p q = absurd (p.0.some q)
@@ -94,7 +93,7 @@ one_ending last line place input (AtFault n m) (AtFault k l) p q = rw (p.1, p.2,
 
 -- where a line begins the input, it doesn't end there
 no_ending : (last line place : ℕ) (input rest : List ℕ) (x : Line) (a : Ending) → line ≤ most_lines → Follows last x → input ≡ line_bytes x ++ rest →
-    Ends last line place input a → ⊥
+    LinesEnd last line place input a → ⊥
 no_ending last line place input rest x AtEnd within follows e p =
     let some = (bytes_some x follows.nine).0 in
     let l = ap length (sym p ∙ e) in

@@ -1,5 +1,5 @@
 -- A telling, line after line: what was written so far and what is told from then on are the dialogue.
-use Rattle.std.proofs.Common.{◌≡◌, ◌⊎◌, inl, inr, ℕ, ◌+◌, ◌≤◌, ◌<◌, ◌^◌, Bool, true, false, List, [], ◌∷◌, ◌++◌, length, drop, Option, Some, None, IfSome, Result, Ok, Err, refl, sym, ap, ◌∙◌, subst, arith, append-nil, append_assoc}
+use Rattle.std.proofs.Common.{◌≡◌, ◌⊎◌, inl, inr, ℕ, ◌+◌, ◌≤◌, ◌<◌, Bool, true, false, List, [], ◌∷◌, ◌++◌, length, Option, Some, None, IfSome, Result, Ok, Err, refl, sym, ap, ◌∙◌, subst, arith, append-nil, append_assoc}
 use Rattle.std.proofs.lemmas.List.{length-append, length_push}
 use Rattle.qic_base.specs.Cause.{Rose}
 use Rattle.qic_base.specs.declared.sink.SinkFailed.{SinkFailed}
@@ -16,13 +16,13 @@ use Rattle.pulse_dialogue.specs.declared.line.Line.{Line}
 use Rattle.pulse_dialogue.specs.declared.line.Line.TheVariants.{Pulse, Sample}
 use Rattle.pulse_dialogue.specs.declared.teller.OpenTrain.{OpenTrain}
 use Rattle.pulse_dialogue.specs.declared.teller.Teller.{Teller}
-use Rattle.pulse_dialogue.specs.Lines.{time_of, line_bytes, most_lines, Ending, AtEnd, AtFault, Follows, IsFault, Ends, HasLines}
+use Rattle.pulse_dialogue.specs.Lines.{time_of, line_bytes, most_lines, Ending, AtEnd, AtFault, Follows, HasLines}
 use Rattle.pulse_dialogue.specs.Dialogue.{dialogue, IsSound}
-use Rattle.pulse_dialogue.specs.Telling.{HasRoom, continues, continued, told_at, after_line, ended_text}
-use Rattle.pulse_dialogue.specs.Steps.{Scene, Read, Told, ToldEnd, LineBroke, EndBroke, HasNoLine, Hears, HearsEnd}
+use Rattle.pulse_dialogue.specs.Telling.{HasRoom, continues, continued, told_at, after_line}
+use Rattle.pulse_dialogue.specs.Steps.{Scene, Told, ToldEnd, LineBroke, EndBroke, HasNoLine, Hears, HearsEnd}
 use Rattle.pulse_dialogue.specs.Reading.{GaveOn}
-use Rattle.pulse_dialogue.specs.Runs.{Outside, Leaves, IsInput, Ended, Unread, Unwritten, Tells}
-use Rattle.pulse_dialogue.proofs.Inputs.{Lined, lined_from, AreLines, AreLines-push, last_time, last_time-push, lines_bytes, lines_bytes-push, push, read_behind, fault_rest}
+use Rattle.pulse_dialogue.specs.Runs.{Streams, IsInput, Ended, Unread, Unwritten, Tells}
+use Rattle.pulse_dialogue.proofs.Inputs.{lined_from, AreLines, AreLines-push, last_time, last_time-push, lines_bytes, lines_bytes-push, push, read_behind, fault_rest}
 use Rattle.pulse_dialogue.proofs.Tellings.{to_tell, one_line_more, told_at_end, told_at_fault}
 
 -- the open train has no more pulses than lines were read
@@ -54,7 +54,7 @@ counts_after t (Sample time level) lines counts = tt
 -- ---- so far
 
 -- so many lines were read, of so many bytes; this was written for them, and from then on the rest is told
-pub record SoFar {S K : Type 0} (s : sources.Meaning S) (k : sinks.Meaning K) (gap : ℕ) (start : Outside S K) (now : Scene S K) (count place : ℕ) : Type 0 where
+pub record SoFar {S K : Type 0} (s : sources.Meaning S) (k : sinks.Meaning K) (gap : ℕ) (start : Streams S K) (now : Scene S K) (count place : ℕ) : Type 0 where
   pub lines : List Line
   pub are : AreLines 0 lines
   pub number : length lines ≡ count
@@ -85,7 +85,7 @@ module _ {S K : Type 0} (s : sources.Meaning S) (k : sinks.Meaning K) (gap : ℕ
     counts = tt;
   }
 
-  module _ (start : Outside S K) (now new : Scene S K) (count place : ℕ) (far : SoFar s k gap start now count place) where
+  module _ (start : Streams S K) (now new : Scene S K) (count place : ℕ) (far : SoFar s k gap start now count place) where
     follows_last : (line : Line) → Follows now.teller.time line → Follows (last_time 0 far.lines) line
     follows_last line follows = subst (λ (t : ℕ). Follows t line) far.time follows
 
@@ -246,7 +246,7 @@ module _ {S K : Type 0} (s : sources.Meaning S) (k : sinks.Meaning K) (gap : ℕ
     end_came two all (Err fault.Source) hears = source_failed (omega arith) hears
     end_came two all (Err fault.Sink) hears = end_broke (omega arith) two hears
 
-module _ {S K : Type 0} (s : sources.Meaning S) (k : sinks.Meaning K) (gap : ℕ) (old new : Outside S K) where
+module _ {S K : Type 0} (s : sources.Meaning S) (k : sinks.Meaning K) (gap : ℕ) (old new : Streams S K) where
   -- what a telling says of the sink's faults
   pub sink_rose : (result : Result (Unit {0}) TraceFault) → Tells s k gap old new result → result ≡ Err fault.Sink → Rose (k.faults old.sink) (k.faults new.sink)
   sink_rose (Ok done) tells e = cc

@@ -1,6 +1,5 @@
 -- What is told at once and what is told later make up the dialogue.
-use Rattle.std.proofs.Common.{◌≡◌, ◌≢◌, ℕ, zero, suc, ◌+◌, ◌≤◌, Bool, true, false, List, [], ◌∷◌, ◌++◌, Option, Some, None, if◌then◌else◌, nat_le, refl, sym, ap, ◌∙◌, arith, append_assoc, append-nil}
-use Rattle.std.proofs.lemmas.Bool.Decides.{nat_tests}
+use Rattle.std.proofs.Common.{◌≡◌, ◌≢◌, ℕ, ◌+◌, Bool, true, false, List, [], ◌∷◌, ◌++◌, Option, Some, None, if◌then◌else◌, nat_le, refl, sym, ap, ◌∙◌, arith, append_assoc, append-nil}
 use Rattle.pulse_dialogue.specs.declared.context.Context.{Context}
 use Rattle.pulse_dialogue.specs.declared.line.Line.{Line}
 use Rattle.pulse_dialogue.specs.declared.line.Line.TheVariants.{Pulse, Sample}

@@ -64,14 +64,14 @@ pub record IsFault (last line : ℕ) (input : List ℕ) : Type 0 where
   pub no_line : line ≤ most_lines → ¬ (HasLine last input)
 
 -- how the lines end, in front of the line with this number
-abbrev pub Ends : (last line place : ℕ) → List ℕ → Ending → Type 0
-Ends last line place input AtEnd = input ≡ []
-Ends last line place input (AtFault number before) = IsFault last line input × (number ≡ line) × (before ≡ place)
+abbrev pub LinesEnd : (last line place : ℕ) → List ℕ → Ending → Type 0
+LinesEnd last line place input AtEnd = input ≡ []
+LinesEnd last line place input (AtFault number before) = IsFault last line input × (number ≡ line) × (before ≡ place)
 
 -- the input is these lines and then this ending, behind a line of that time, from the line with this number and the place
 -- with so many bytes before it
 abbrev pub HasLines : (last line place : ℕ) → List ℕ → List Line → Ending → Type 0
-HasLines last line place input [] ending = Ends last line place input ending
+HasLines last line place input [] ending = LinesEnd last line place input ending
 HasLines last line place input (first ∷ lines) ending =
     (line ≤ most_lines) × Follows last first
     × ((rest : List ℕ) × ((input ≡ line_bytes first ++ rest)

@@ -1,5 +1,5 @@
 -- What the telling of a recording did to the outside (this project's own).
-use Rattle.std.specs.Prelude.{◌≡◌, ℕ, ◌+◌, ◌≤◌, List, ◌++◌, length, drop, Option, IfSome, Result, Ok, Err}
+use Rattle.std.specs.Prelude.{◌≡◌, ℕ, ◌+◌, ◌≤◌, List, ◌++◌, length, drop, IfSome, Result, Ok, Err}
 use Rattle.std.specs.Option.{option_map}
 use Rattle.qic_base.specs.Sink as sinks
 use Rattle.qic_base.specs.Source as sources
@@ -10,7 +10,7 @@ use Rattle.pulse_dialogue.specs.Lines.{Ending, AtEnd, AtFault, IsRecording}
 use Rattle.pulse_dialogue.specs.Dialogue.{dialogue}
 
 -- the source and the sink, before a call or after it
-pub record Outside (S K : Type 0) : Type 0 where
+pub record Streams (S K : Type 0) : Type 0 where
   pub source : S
   pub sink : K
 
@@ -26,7 +26,7 @@ abbrev pub IsInput : {S : Type 0} (s : sources.Meaning S) (old : S) → List ℕ
 IsInput s old input = IfSome (s.left old) (λ bytes. input ≡ bytes)
 
 -- the input was read so far that its ending is known, and its dialogue was written
-pub record Ended {S K : Type 0} (s : sources.Meaning S) (k : sinks.Meaning K) (gap : ℕ) (old new : Outside S K) (ending : Ending) : Type 0 where
+pub record Ended {S K : Type 0} (s : sources.Meaning S) (k : sinks.Meaning K) (gap : ℕ) (old new : Streams S K) (ending : Ending) : Type 0 where
   pub input : List ℕ
   pub whole : IsInput s old.source input
   pub lines : List Line
@@ -35,7 +35,7 @@ pub record Ended {S K : Type 0} (s : sources.Meaning S) (k : sinks.Meaning K) (g
   pub left : Leaves s old.source new.source input ending
 
 -- a fault of the source broke it off: a front of the dialogue was written
-pub record Unread {S K : Type 0} (s : sources.Meaning S) (k : sinks.Meaning K) (gap : ℕ) (old new : Outside S K) : Type 0 where
+pub record Unread {S K : Type 0} (s : sources.Meaning S) (k : sinks.Meaning K) (gap : ℕ) (old new : Streams S K) : Type 0 where
   pub input : List ℕ
   pub whole : IsInput s old.source input
   pub lines : List Line
@@ -47,7 +47,7 @@ pub record Unread {S K : Type 0} (s : sources.Meaning S) (k : sinks.Meaning K) (
   pub wrote : sinks.Wrote k old.sink new.sink front
 
 -- a fault of the sink broke the dialogue off
-pub record Unwritten {S K : Type 0} (s : sources.Meaning S) (k : sinks.Meaning K) (gap : ℕ) (old new : Outside S K) : Type 0 where
+pub record Unwritten {S K : Type 0} (s : sources.Meaning S) (k : sinks.Meaning K) (gap : ℕ) (old new : Streams S K) : Type 0 where
   pub input : List ℕ
   pub whole : IsInput s old.source input
   pub lines : List Line
@@ -56,7 +56,7 @@ pub record Unwritten {S K : Type 0} (s : sources.Meaning S) (k : sinks.Meaning K
   pub broke : sinks.BrokeOff k old.sink new.sink (dialogue gap lines ending)
 
 -- how a telling ended
-abbrev pub Tells : {S K : Type 0} (s : sources.Meaning S) (k : sinks.Meaning K) (gap : ℕ) (old new : Outside S K) → Result (Unit {0}) TraceFault → Type 0
+abbrev pub Tells : {S K : Type 0} (s : sources.Meaning S) (k : sinks.Meaning K) (gap : ℕ) (old new : Streams S K) → Result (Unit {0}) TraceFault → Type 0
 Tells s k gap old new (Ok done) = Ended s k gap old new AtEnd
 Tells s k gap old new (Err (fault.Line line place)) = Ended s k gap old new (AtFault line place)
 Tells s k gap old new (Err fault.Source) = Unread s k gap old new

@@ -1,5 +1,5 @@
 -- What one line of the input did to a teller and to the outside (this project's own).
-use Rattle.std.specs.Prelude.{◌≡◌, ◌⊎◌, ℕ, ◌≤◌, List, [], length, Option, Some, None, Result, Ok, Err}
+use Rattle.std.specs.Prelude.{◌≡◌, ◌⊎◌, ℕ, ◌≤◌, [], length, Option, Some, None, Result, Ok, Err}
 use Rattle.qic_base.specs.Sink as sinks
 use Rattle.qic_base.specs.Source as sources
 use Rattle.tape_script.specs.Reading.{Gave, HasEnded, BeginsWithNo}
@@ -9,7 +9,7 @@ use Rattle.pulse_dialogue.specs.declared.line.Line.{Line}
 use Rattle.pulse_dialogue.specs.declared.teller.Teller.{Teller}
 use Rattle.pulse_dialogue.specs.Lines.{line_bytes, Follows}
 use Rattle.pulse_dialogue.specs.Dialogue.{IsSound}
-use Rattle.pulse_dialogue.specs.Reading.{IsLineText, GaveOn}
+use Rattle.pulse_dialogue.specs.Reading.{GaveOn}
 use Rattle.pulse_dialogue.specs.Telling.{told_at, after_line, ended_text}
 
 -- a teller, the source and the sink

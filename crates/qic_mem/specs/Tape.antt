@@ -1,6 +1,6 @@
 -- What a tape in memory shows: its cartridge, its size as told, its room in segments per track, its chosen failures, what
 -- they leave, and the calls that it recorded (this project's profile).
-use Rattle.std.specs.Prelude.{◌≡◌, ◌⊎◌, ℕ, Bool, ◌||◌, Option, Some, None, is_some, IfSome, IsTrue, if◌then◌else◌}
+use Rattle.std.specs.Prelude.{◌≡◌, ◌⊎◌, ℕ, Bool, ◌||◌, Option, Some, is_some, IfSome, IsTrue, if◌then◌else◌}
 use Rattle.std.specs.Option.{option_map}
 use Rattle.std.proofs.Common.{refl, sym, ap}
 use Rattle.qic_base.specs.Cartridge.{Cartridge, IsLength}

@@ -9,7 +9,7 @@ use Rattle.cartridge_spec.proofs.Sayings.{says_is_function}
 use Rattle.cartridge_spec.proofs.Blocks.{says_always}
 use Rattle.cartridge_spec.proofs.Segments.{cells_are_views}
 use Rattle.restore_plan.specs.Laws.{RestoresIsFunction, RestoresAlways}
-use Rattle.restore_plan.specs.Restoring.{Piece, Ending, Restored, LostIn, MismatchIn, IsRead, Ends, Restores, piece_cells, act_of}
+use Rattle.restore_plan.specs.Restoring.{Piece, Ending, Restored, LostIn, MismatchIn, IsRead, PieceEnds, Restores, piece_cells, act_of}
 
 -- ---- at most one
 
@@ -22,13 +22,13 @@ not_mismatch cells sectors data_said none = none.1 data_said.1.block data_said.1
 
 -- a piece that is read ends nothing
 read_goes_on : (c : Cartridge) (words : List ℕ) (piece : Piece) (act : Act) (ending : Ending) → IsRead c words piece act →
-    Ends c words piece ending → ⊥
+    PieceEnds c words piece ending → ⊥
 read_goes_on c words piece act Restored read ends = ends
 read_goes_on c words piece act (LostIn s n) read ends = not_lost (piece_cells c words piece) read.sectors n read.says ends.1
 read_goes_on c words piece act (MismatchIn s) read ends = not_mismatch (piece_cells c words piece) read.sectors read.says ends.1
 
 -- it ends in one way
-one_ending : (c : Cartridge) (words : List ℕ) (piece : Piece) (x y : Ending) → Ends c words piece x → Ends c words piece y → x ≡ y
+one_ending : (c : Cartridge) (words : List ℕ) (piece : Piece) (x y : Ending) → PieceEnds c words piece x → PieceEnds c words piece y → x ≡ y
 one_ending c words piece Restored y hx hy = absurd hx
 one_ending c words piece (LostIn s m) Restored hx hy = absurd hy
 one_ending c words piece (LostIn s m) (LostIn t n) hx hy = ap (λ (segment : ℕ). LostIn segment m) (hx.0 ∙ sym hy.0) ∙ ap (LostIn t) (sym hx.1.0 ∙ hy.1.0)

@@ -61,16 +61,16 @@ pub data Ending : Type 0 where
   MismatchIn : ℕ → Ending
 
 -- a piece's segment says no data, and so ends the restore
-abbrev pub Ends : Cartridge → (words : List ℕ) → Piece → Ending → Type 0
-Ends c words piece Restored = ⊥
-Ends c words piece (LostIn segment lost) = (segment ≡ piece.segment) × Says (piece_cells c words piece) (LostSectors lost)
-Ends c words piece (MismatchIn segment) = (segment ≡ piece.segment) × Says (piece_cells c words piece) Mismatch
+abbrev pub PieceEnds : Cartridge → (words : List ℕ) → Piece → Ending → Type 0
+PieceEnds c words piece Restored = ⊥
+PieceEnds c words piece (LostIn segment lost) = (segment ≡ piece.segment) × Says (piece_cells c words piece) (LostSectors lost)
+PieceEnds c words piece (MismatchIn segment) = (segment ≡ piece.segment) × Says (piece_cells c words piece) Mismatch
 
 -- the acts of the pieces that are read, one for each in their order, and the ending: there is no act for the piece that
 -- ends it, and none behind
 abbrev pub Restores : Cartridge → (words : List ℕ) → List Piece → List Act → Ending → Type 0
 Restores c words [] acts ending = (acts ≡ []) × (ending ≡ Restored)
-Restores c words (piece ∷ needed) [] ending = Ends c words piece ending
+Restores c words (piece ∷ needed) [] ending = PieceEnds c words piece ending
 Restores c words (piece ∷ needed) (act ∷ acts) ending = IsRead c words piece act × Restores c words needed acts ending
 
 -- ---- the framed form

@@ -1,6 +1,6 @@
 //! What is done in one segment that was read.
 
-ghost use Rattle.std.specs.Prelude.{◌≡◌, ◌<◌, ◌≤◌, ◌^◌, length, take, OnOk, IsOkUnless};
+ghost use Rattle.std.specs.Prelude.{◌≡◌, ◌<◌, ◌^◌, length, take, OnOk, IsOkUnless};
 ghost use Rattle.qic_base.specs.Sink.{Writes};
 ghost use Rattle.qic_base.specs.Tape.{Does};
 ghost use Rattle.cartridge_spec.specs.Header.{has_signature};

@@ -1,6 +1,6 @@
 //! All segments of a cartridge that hold something, one by one.
 
-ghost use Rattle.std.specs.Prelude.{◌≡◌, ◌-◌, ◌*◌, ◌≤◌, ◌∷◌, [], true, length, OnOk};
+ghost use Rattle.std.specs.Prelude.{◌≡◌, ◌-◌, ◌*◌, ◌∷◌, [], true, length, OnOk};
 ghost use Rattle.acts.specs.Around.{around};
 ghost use Rattle.cartridge_spec.specs.Table.{IsSoundList};
 ghost use Rattle.drive_states.specs.Deck.{is_referenced};

@@ -1,6 +1,6 @@
 //! Sets of lost places, with fewer places and with one more.
 
-ghost use Rattle.std.specs.Prelude.{◌≡◌, ◌≢◌, ℕ, ◌<◌, ◌≤◌, ◌↔◌};
+ghost use Rattle.std.specs.Prelude.{◌≢◌, ℕ, ◌<◌, ◌≤◌, ◌↔◌};
 ghost use Rattle.qic_base.specs.LostSet.{IsLost};
 
 use qic_base::LostSet;

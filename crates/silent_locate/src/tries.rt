@@ -3,7 +3,7 @@
 ghost use Rattle.std.specs.Prelude.{◌≡◌, ℕ, ◌<◌, ◌≤◌, ◌↔◌, length, IsTrue, OnSome, IfSome, IfNone};
 ghost use Rattle.std.specs.Bool.{OnTrue, OnFalse};
 ghost use Rattle.gf256_qic.specs.Code.{IsCodeBlock, AgreesOutside, IsSolvable};
-ghost use Rattle.erasure_solve.specs.Lost.{is_lost, lost_count};
+ghost use Rattle.erasure_solve.specs.Lost.{lost_count};
 ghost use Rattle.silent_locate.specs.Tries.{lost_or};
 
 use crate::SECTOR;

@@ -45,7 +45,7 @@ use Rattle.tape_cmd.specs.Append.{Appends, AppendOutcome, append_status, kept_on
 use Rattle.tape_cmd.specs.Lines.{appended_line, reply_behind}
 use Rattle.tape_cmd.specs.Opening.{IsOpened, HasOpened, IsUnlocked, WritableEnds, is_opening, store_status}
 use Rattle.tape_cmd.specs.Outcome.{Outcome, refused, refused_behind, first_steps}
-use Rattle.tape_cmd.specs.Runs.{Ends, InputLeft, IsOfBytes, IsCutOff, NamesFault, may_come_from}
+use Rattle.tape_cmd.specs.Runs.{CommandEnds, InputLeft, IsOfBytes, IsCutOff, NamesFault, may_come_from}
 use Rattle.tape_cmd.specs.Machine.{CommandPrints, FrontPrints}
 use Rattle.append_plan.specs.Between.{table_writes}
 use Rattle.cartridge_spec.specs.Slots.{slot_sector}
@@ -206,7 +206,7 @@ module _ {T S K : Type 0} (t : tapes.Meaning T) (s : sources.Meaning S) (k : sin
       text_of acts ≡ [] → s.left j ≡ option_map (drop taken) (s.left i) →
       IfSome (t.told a) (λ held. (input : List ℕ) × IfSome (s.left i) (λ bytes. input ≡ bytes)
       × (IsOfBytes (words.Append name date) (s.left i) input × AppendOutcome name date held input (with_acts acts taken why))) →
-      Went t s k (outside a i x) (outside b j x) acts → Ends t s k (words.Append name date) (outside a i x) (outside b j x) why
+      Went t s k (outside a i x) (outside b j x) acts → CommandEnds t s k (words.Append name date) (outside a i x) (outside b j x) why
   turned b j why acts taken nothing sound script other silent left told went = inl (record {
     outcome = with_acts acts taken why;
     answered = refl;
@@ -227,7 +227,7 @@ module _ {T S K : Type 0} (t : tapes.Meaning T) (s : sources.Meaning S) (k : sin
       told_map (t.told a) _ _ told (λ held each. (input_of (s.left i), input_told (s.left i), ((λ is. input_bytes (s.left i)), each (input_of (s.left i)))))
 
   -- the opening was refused, or cut off
-  pub append_unopened : (b : UnitView T) (why : Status) → ((z : K) → k.took z [] z) → WritableEnds t a b (Err why) → Ends t s k (words.Append name date) (outside a i x) (outside b.tape i x) why
+  pub append_unopened : (b : UnitView T) (why : Status) → ((z : K) → k.took z [] z) → WritableEnds t a b (Err why) → CommandEnds t s k (words.Append name date) (outside a i x) (outside b.tape i x) why
   append_unopened b why nothing (inl locked) =
       rw locked.answered (turned b.tape i status.Protected [] 0 nothing refl (λ line place is. cc) (λ is. cc) refl (none_taken (s.left i))
       (whatever (refused status.Protected) (told_map (t.told a) _ _ locked.told (λ held is input. locked_is (Appends name date input) held is)))
@@ -265,7 +265,7 @@ module _ {T S K : Type 0} (t : tapes.Meaning T) (s : sources.Meaning S) (k : sin
 
   module _ (b : UnitView T) (store : StoreView) (opening : HasOpened t a b store) where
     -- a protected one is none that is told
-    pub append_locked : ((z : K) → k.took z [] z) → TakesBoth k → IsUnlocked t a → is_protected b.drive.deck ≡ true → Ends t s k (words.Append name date) (outside a i x) (outside b.tape i x) status.Protected
+    pub append_locked : ((z : K) → k.took z [] z) → TakesBoth k → IsUnlocked t a → is_protected b.drive.deck ≡ true → CommandEnds t s k (words.Append name date) (outside a i x) (outside b.tape i x) status.Protected
     append_locked nothing both free locked =
         turned b.tape i status.Protected (quiet opening.steps ∷ []) 0 nothing refl (λ line place is. cc) (λ is. cc) refl (none_taken (s.left i))
         (whatever (refused_behind opening.steps status.Protected)
@@ -310,7 +310,7 @@ module _ {T S K : Type 0} (t : tapes.Meaning T) (s : sources.Meaning S) (k : sin
     -- there was no room for all of the input
     pub append_full : (c : T) (j : S) (need have : ℕ) → ((z : K) → k.took z [] z) → TakesBoth k → is_protected b.drive.deck ≡ false →
         AppendRan t s (reading b.tape i) (reading c j) store name date None (TooLong need have) →
-        Ends t s k (words.Append name date) (outside a i x) (outside c j x) (status.Full need have)
+        CommandEnds t s k (words.Append name date) (outside a i x) (outside c j x) (status.Full need have)
     append_full c j need have nothing both free ran =
         let kept : Kept = kept_by store ran.table ran.settling in
         let reply : Entry → List ℕ = reply_behind (length store.entries) in
@@ -414,7 +414,7 @@ module _ {T S K : Type 0} (t : tapes.Meaning T) (s : sources.Meaning S) (k : sin
       prints_line = (length store.entries + 1, (entry.size, (entry.start, (entry.end, text_is))))
 
       -- the reply was written, ..
-      pub append_done : (y : K) → sinks.Wrote k x y (reply entry) → Ends t s k (words.Append name date) (outside a i x) (outside c j y) status.Done
+      pub append_done : (y : K) → sinks.Wrote k x y (reply entry) → CommandEnds t s k (words.Append name date) (outside a i x) (outside c j y) status.Done
       append_done y wrote = inl (record {
         outcome = outcome;
         answered = sym is_done;
@@ -429,7 +429,7 @@ module _ {T S K : Type 0} (t : tapes.Meaning T) (s : sources.Meaning S) (k : sin
       })
 
       -- .. or broken off
-      pub append_unsaid : (y : K) → sinks.BrokeOff k x y (reply entry) → Ends t s k (words.Append name date) (outside a i x) (outside c j y) status.SinkFault
+      pub append_unsaid : (y : K) → sinks.BrokeOff k x y (reply entry) → CommandEnds t s k (words.Append name date) (outside a i x) (outside c j y) status.SinkFault
       append_unsaid y broke =
           let off : IsCutOff t s k (words.Append name date) (outside a i x) (outside c j y) SinkFails outcome =
           record { cut = broken y broke; done = λ same still. (is_done, all_did); silent = λ still. none_before } in
@@ -458,7 +458,7 @@ module _ {T S K : Type 0} (t : tapes.Meaning T) (s : sources.Meaning S) (k : sin
           )
 
       pub append_replied : (y : K) (r : Result (Unit {0}) SinkFailed) → sinks.Writes k x y (appended_line added.number added.bytes added.start added.end) r →
-          Ends t s k (words.Append name date) (outside a i x) (outside c j y) (printed_status r)
+          CommandEnds t s k (words.Append name date) (outside a i x) (outside c j y) (printed_status r)
       append_replied y (Ok all) wrote = append_done y (subst (sinks.Wrote k x y) line_is wrote)
       append_replied y (Err failed) broke = append_unsaid y (subst (sinks.BrokeOff k x y) line_is broke)
 
@@ -512,7 +512,7 @@ module _ {T S K : Type 0} (t : tapes.Meaning T) (s : sources.Meaning S) (k : sin
         (Cuts c j cut.input failing) (λ d known each. (known, each)) (opened_known t a b store opening false free) cut.told
 
     pub append_tape : (c : T) (j : S) → ((z : K) → k.took z [] z) → is_protected b.drive.deck ≡ false → AppendCut t s (reading b.tape i) (reading c j) store name date None TapeFails →
-        Ends t s k (words.Append name date) (outside a i x) (outside c j x) status.TapeFault
+        CommandEnds t s k (words.Append name date) (outside a i x) (outside c j x) status.TapeFault
     append_tape c j nothing free cut =
         let once : TapeCut t s no_sink (reading b.tape i) (reading c j) cut.acts = cut.cut in
         inr (
@@ -560,7 +560,7 @@ module _ {T S K : Type 0} (t : tapes.Meaning T) (s : sources.Meaning S) (k : sin
         unsaid none = subst (FrontPrints (words.Append name date)) (sym none) (nothing_front (words.Append name date))
 
     pub append_source : (c : T) (j : S) → ((z : K) → k.took z [] z) → is_protected b.drive.deck ≡ false → AppendCut t s (reading b.tape i) (reading c j) store name date None SourceFails →
-        Ends t s k (words.Append name date) (outside a i x) (outside c j x) status.SourceFault
+        CommandEnds t s k (words.Append name date) (outside a i x) (outside c j x) status.SourceFault
     append_source c j nothing free cut =
         let once : SourceCut t s no_sink (reading b.tape i) (reading c j) cut.acts = cut.cut in
         inr (
@@ -602,7 +602,7 @@ module _ {T S K : Type 0} (t : tapes.Meaning T) (s : sources.Meaning S) (k : sin
 
     pub append_untabled : (c : T) (j : S) (why : Status) (Says : Cartridge → Type 0) → ((z : K) → k.took z [] z) → TakesBoth k → may_come_from why (words.Append name date) ≡ true →
         ((line place : ℕ) → why ≢ status.ScriptFault line place) → why ≢ status.Done → ((d : Cartridge) (table : List (List ℕ)) → TableIs d table → Says d → ⊥) →
-        TableRefused t s (reading b.tape i) (reading c j) Says → Ends t s k (words.Append name date) (outside a i x) (outside c j x) why
+        TableRefused t s (reading b.tape i) (reading c j) Says → CommandEnds t s k (words.Append name date) (outside a i x) (outside c j x) why
     append_untabled c j why Says nothing both sound script other never refusal =
         turned c j why (quiet opening.steps ∷ refusal.acts) refusal.taken nothing sound script other refusal.went.wrote.took refusal.left
         (settled_told t a b store opening (λ d. (refusal.acts ≡ []) × (j ≡ i) × Says d) _ refusal.told
@@ -616,10 +616,10 @@ module _ {T S K : Type 0} (t : tapes.Meaning T) (s : sources.Meaning S) (k : sin
     -- ---- by the answer of the call
 
     pub append_failed : (c : T) (j : S) (after : StoreView) (f : StoreFault) → ((z : K) → k.took z [] z) → TakesBoth k → IsUnlocked t a → (f ≡ fault.Protected) ↔ (is_protected b.drive.deck ≡ true) →
-        AppendEnds t s (reading b.tape i) (reading c j) store after name date None (Err f) → Ends t s k (words.Append name date) (outside a i x) (outside c j x) (store_status f)
+        AppendEnds t s (reading b.tape i) (reading c j) store after name date None (Err f) → CommandEnds t s k (words.Append name date) (outside a i x) (outside c j x) (store_status f)
     append_failed c j after fault.Protected nothing both free mark same =
-        subst (λ (z : S). Ends t s k (words.Append name date) (outside a i x) (outside c z x) status.Protected) (sym same.1)
-        (subst (λ (w : T). Ends t s k (words.Append name date) (outside a i x) (outside w i x) status.Protected) (sym same.0) (append_locked nothing both free (mark.0 refl)))
+        subst (λ (z : S). CommandEnds t s k (words.Append name date) (outside a i x) (outside c z x) status.Protected) (sym same.1)
+        (subst (λ (w : T). CommandEnds t s k (words.Append name date) (outside a i x) (outside w i x) status.Protected) (sym same.0) (append_locked nothing both free (mark.0 refl)))
     append_failed c j after (fault.Lost segment lost) nothing both free mark refusal =
         append_untabled c j (status.Lost segment lost) (λ d. TableSays (table_cells d) (ByCode (LostSectors lost))) nothing both
         (both_true (nat_lt 3 lost) (segment == 2) (lt-ltb 3 lost refusal.1) (ap (λ (s : ℕ). s == 2) refusal.0)) (λ line place is. cc) (λ is. cc)

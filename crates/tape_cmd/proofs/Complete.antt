@@ -111,7 +111,7 @@ make_goes seed count c outcome small whole free can does =
 
 pulses_go : (held : Option Cartridge) (input : List ℕ) (outcome : Outcome) → IsOfTrains input → SentOutcome held input outcome → outcome.status ≡ status.Done
 pulses_go held input outcome (trains, reads) (came, plain, is) =
-    ap status_of is ∙ ap (λ (o : pulses.Outcome). sent_status o.answer) plain.comes ∙ by_ending reads
+    ap status_of is ∙ ap (λ (o : pulses.PulseRun). sent_status o.answer) plain.comes ∙ by_ending reads
   where
     by_ending : IsPulses input trains AtEnd ⊎ IsPulses input trains AtStop → sent_status (pulses.answer_by plain.ending) ≡ status.Done
     by_ending (inl read) =
@@ -124,7 +124,7 @@ script_goes input c plain outcome there (items, reads) does =
     let on = goes_on (Scripting input) c plain outcome there does in
     let did = on.did in
     let lines = did.does in
-    ap status_of did.is ∙ ap (λ (o : scripts.Outcome). script_status o.answer) lines.is ∙ by_ending lines.items lines.ending lines.read reads
+    ap status_of did.is ∙ ap (λ (o : scripts.ScriptRun). script_status o.answer) lines.is ∙ by_ending lines.items lines.ending lines.read reads
   where
     by_ending : (found : List Item) (ending : Ending) → IsScript input found ending → IsScript input items AtEnd ⊎ IsScript input items AtStop →
         script_status (scripts.answer_by ending) ≡ status.Done

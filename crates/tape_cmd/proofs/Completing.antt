@@ -10,7 +10,7 @@ use Rattle.tape_script.proofs.Commands.{one_command}
 use Rattle.tape_cmd.specs.declared.status.Status.{Status}
 use Rattle.tape_cmd.specs.declared.status.Status.TheVariants as status
 use Rattle.tape_cmd.specs.Complete.{CanBeDone}
-use Rattle.tape_cmd.specs.Headline.{Answers, Stepped}
+use Rattle.tape_cmd.specs.Headline.{Answers}
 use Rattle.tape_cmd.specs.Machine.{HasValues, Spells, Step, Yields}
 use Rattle.tape_cmd.specs.Runs.{OverTold}
 use Rattle.tape_cmd.proofs.Complete.{done_where_all_is_there}

@@ -17,7 +17,7 @@ use Rattle.tape_cmd.specs.declared.status.Status.TheVariants as status
 use Rattle.tape_cmd.specs.Outcome.{Outcome, output_of}
 use Rattle.tape_cmd.specs.Traits.{traits_of}
 use Rattle.tape_cmd.specs.Machine.{HasValues, Yields, Spells}
-use Rattle.tape_cmd.specs.Runs.{InputLeft, is_fault, fault_of, is_outcome, may_come_from, Finished, Ends}
+use Rattle.tape_cmd.specs.Runs.{InputLeft, is_fault, fault_of, is_outcome, may_come_from, Finished, CommandEnds}
 use Rattle.tape_cmd.specs.Headline.{Stepped, Answers, NoneRose, WasCut, IsCut, EachLeft, WordsLeave, StopsGoOn, Joins, PrintsFront}
 use Rattle.tape_cmd.proofs.Endings.{refused_front, shorter_front, text_front}
 use Rattle.tape_cmd.proofs.Totals.{plain_answers}
@@ -160,13 +160,13 @@ module _ {T S K : Type 0} (t : tapes.Meaning T) (s : sources.Meaning S) (k : sin
       over_map (t.told old.tape) (s.left old.source) _ _ finished.told (λ held input told plain.
       inr (stepped laws spelled finished held input told plain.1))
 
-  pub ends_cause : Ends t s k command old new answer → (failing : Failing) → answer ≡ fault_of failing → FailingRose t s k old new failing
+  pub ends_cause : CommandEnds t s k command old new answer → (failing : Failing) → answer ≡ fault_of failing → FailingRose t s k old new failing
   ends_cause (inl finished) failing is =
       let no = no_fault_comes command failing in let sound = ap (λ (a : Status). may_come_from a command) (sym is) ∙ finished.sound in absurd (cc)
   ends_cause (inr (other, was, stopped)) failing is =
       subst (FailingRose t s k old new) (same_failing other failing (sym was ∙ is)) (cut_rose t s k old new stopped.acts other stopped.cut)
 
-  pub ends_asked : Ends t s k command old new answer → answer ≡ status.SourceFault → (traits_of command).reads ≡ true
+  pub ends_asked : CommandEnds t s k command old new answer → answer ≡ status.SourceFault → (traits_of command).reads ≡ true
   ends_asked (inl finished) is = let no = ap (λ (a : Status). may_come_from a command) is in let sound = finished.sound in absurd (cc)
   ends_asked (inr (failing, was, stopped)) is = stopped.reads (same_failing failing SourceFails (sym was ∙ is))
 
@@ -175,12 +175,12 @@ module _ {T S K : Type 0} (t : tapes.Meaning T) (s : sources.Meaning S) (k : sin
   none_rose SourceFails none rose = none.source rose
   none_rose SinkFails none rose = none.sink rose
 
-  pub ends_answers : Laws t s k old new → Spells words command → Ends t s k command old new answer → NoneRose t s k old new → Answers t s k words old new answer
+  pub ends_answers : Laws t s k old new → Spells words command → CommandEnds t s k command old new answer → NoneRose t s k old new → Answers t s k words old new answer
   ends_answers laws spelled (inl finished) none = finished_answers laws spelled finished
   ends_answers laws spelled (inr (failing, is, stopped)) none =
       absurd (none_rose failing none (cut_rose t s k old new stopped.acts failing stopped.cut))
 
-  pub ends_carried : Laws t s k old new → Spells words command → Ends t s k command old new answer → is_fault answer ≡ false → Answers t s k words old new answer
+  pub ends_carried : Laws t s k old new → Spells words command → CommandEnds t s k command old new answer → is_fault answer ≡ false → Answers t s k words old new answer
   ends_carried laws spelled (inl finished) sound = finished_answers laws spelled finished
   ends_carried laws spelled (inr (failing, is, stopped)) sound =
       let fault : is_fault answer ≡ true = ap is_fault is ∙ is_a_fault failing in absurd (cc)
@@ -191,7 +191,7 @@ module _ {T S K : Type 0} (t : tapes.Meaning T) (s : sources.Meaning S) (k : sin
   has_outcome laws spelled values held input told =
       plain_answers command held input values (told_whole held (t.told old.tape) (t.size old.tape) laws.right told)
 
-  pub ends_cut : Laws t s k old new → Spells words command → HasValues command → Ends t s k command old new answer → (failing : Failing) → answer ≡ fault_of failing →
+  pub ends_cut : Laws t s k old new → Spells words command → HasValues command → CommandEnds t s k command old new answer → (failing : Failing) → answer ≡ fault_of failing →
       IsCut t s k words old new failing
   ends_cut laws spelled values (inl finished) failing is =
       let no = no_fault_comes command failing in let sound = ap (λ (a : Status). may_come_from a command) (sym is) ∙ finished.sound in absurd (cc)
@@ -205,7 +205,7 @@ module _ {T S K : Type 0} (t : tapes.Meaning T) (s : sources.Meaning S) (k : sin
   )
 
   -- what a run did, over what the tape told
-  left_by : Laws t s k old new → Spells words command → HasValues command → Ends t s k command old new answer → (held : Option Cartridge) → t.told old.tape ≡ Some held →
+  left_by : Laws t s k old new → Spells words command → HasValues command → CommandEnds t s k command old new answer → (held : Option Cartridge) → t.told old.tape ≡ Some held →
       LeftBy t old.tape new.tape held (WordsLeave (s.left old.source) words held)
   left_by laws spelled values (inl finished) held told =
       let over = over_at (t.told old.tape) _ held finished.told told in record {
@@ -226,7 +226,7 @@ module _ {T S K : Type 0} (t : tapes.Meaning T) (s : sources.Meaning S) (k : sin
             inr (command, spelled, record { input = over.0; is_told = over.1; bytes = over.2.0; outcome = some.0; plain = some.1; torn = torn });
       }
 
-  pub ends_stops : Laws t s k old new → Spells words command → HasValues command → Ends t s k command old new answer →
+  pub ends_stops : Laws t s k old new → Spells words command → HasValues command → CommandEnds t s k command old new answer →
       EachLeft t old.tape new.tape (WordsLeave (s.left old.source) words)
   ends_stops laws spelled values ends =
       each_left t old.tape new.tape (WordsLeave (s.left old.source) words) laws.before laws.after (left_by laws spelled values ends)
@@ -245,7 +245,7 @@ module _ {T S K : Type 0} (t : tapes.Meaning T) (s : sources.Meaning S) (k : sin
   tape_tells acts SourceFails cut = ap is_some cut.did.told ∙ is_some-map (effects (steps_of cut.front)) (t.told old.tape)
   tape_tells acts SinkFails cut = ap is_some cut.did.told ∙ is_some-map (effects (steps_of cut.at.front ++ cut.at.act.steps)) (t.told old.tape)
 
-  pub ends_joins : Laws t s k old new → Ends t s k command old new answer → Joins t s k old new
+  pub ends_joins : Laws t s k old new → CommandEnds t s k command old new answer → Joins t s k old new
   ends_joins laws (inl finished) = record {
     counts = record { tape = finished.went.did.later; source = finished.went.source_later; sink = finished.went.wrote.later };
     tape = ap is_some finished.went.did.told ∙ is_some-map (effects (steps_of finished.outcome.acts)) (t.told old.tape);
@@ -265,7 +265,7 @@ module _ {T S K : Type 0} (t : tapes.Meaning T) (s : sources.Meaning S) (k : sin
   -- ---- over any tape, source and sink
 
   -- it ends so, and not otherwise
-  pub ends_otherwise : Ends t s k command old new answer → (answer ≡ status.Usage) ⊎ (answer ≡ status.NoMemory) → ⊥
+  pub ends_otherwise : CommandEnds t s k command old new answer → (answer ≡ status.Usage) ⊎ (answer ≡ status.NoMemory) → ⊥
   ends_otherwise (inl finished) (inl is) = let no = ap (λ (a : Status). may_come_from a command) is in let sound = finished.sound in cc
   ends_otherwise (inl finished) (inr is) = let no = ap (λ (a : Status). may_come_from a command) is in let sound = finished.sound in cc
   ends_otherwise (inr (failing, was, stopped)) (inl is) =
@@ -273,17 +273,17 @@ module _ {T S K : Type 0} (t : tapes.Meaning T) (s : sources.Meaning S) (k : sin
   ends_otherwise (inr (failing, was, stopped)) (inr is) =
       let no = ap is_fault (sym was ∙ is) in let fault = is_a_fault failing in cc
 
-  pub ends_named : Ends t s k command old new answer → is_outcome answer ≡ true → may_come_from answer command ≡ true
+  pub ends_named : CommandEnds t s k command old new answer → is_outcome answer ≡ true → may_come_from answer command ≡ true
   ends_named (inl finished) outcome = finished.sound
   ends_named (inr (failing, is, stopped)) outcome =
       let no : is_outcome answer ≡ false = ap is_outcome is ∙ fault_no_outcome failing in absurd (cc)
 
-  pub ends_finished : Ends t s k command old new answer → is_fault answer ≡ false → Finished t s k command old new answer
+  pub ends_finished : CommandEnds t s k command old new answer → is_fault answer ≡ false → Finished t s k command old new answer
   ends_finished (inl finished) sound = finished
   ends_finished (inr (failing, is, stopped)) sound =
       let fault : is_fault answer ≡ true = ap is_fault is ∙ is_a_fault failing in absurd (cc)
 
-  pub ends_begun : Laws t s k old new → Spells words command → Ends t s k command old new answer → PrintsFront k command old.sink new.sink
+  pub ends_begun : Laws t s k old new → Spells words command → CommandEnds t s k command old new answer → PrintsFront k command old.sink new.sink
   ends_begun laws spelled (inl finished) = by_answer (done_or_not answer)
     where
       by_answer : (answer ≡ status.Done) ⊎ (answer ≢ status.Done) → PrintsFront k command old.sink new.sink
@@ -304,6 +304,6 @@ module _ {T S K : Type 0} (t : tapes.Meaning T) (s : sources.Meaning S) (k : sin
         took = took.took;
       }
 
-  pub ends_silent : Ends t s k command old new answer → (traits_of command).goes ≡ false → answer ≢ status.Done → answer ≢ status.SinkFault → new.sink ≡ old.sink
+  pub ends_silent : CommandEnds t s k command old new answer → (traits_of command).goes ≡ false → answer ≢ status.Done → answer ≢ status.SinkFault → new.sink ≡ old.sink
   ends_silent (inl finished) still other fault = finished.silent still other
   ends_silent (inr (failing, is, stopped)) still other fault = stopped.silent still (λ same. fault (is ∙ ap fault_of same))

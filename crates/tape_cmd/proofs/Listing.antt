@@ -41,7 +41,7 @@ use Rattle.tape_cmd.specs.Append.{Appends, AppendOutcome, append_status, appende
 use Rattle.tape_cmd.specs.Machine.{HasValues, Spells, Yields}
 use Rattle.tape_cmd.specs.Opening.{Going, Opened, OpenOutcome}
 use Rattle.tape_cmd.specs.Outcome.{Outcome}
-use Rattle.tape_cmd.specs.Runs.{Ends, IsCutOff, fault_of}
+use Rattle.tape_cmd.specs.Runs.{CommandEnds, IsCutOff, fault_of}
 use Rattle.tape_cmd.specs.Headline.{EachNow}
 use Rattle.made_volumes.specs.Items.{made_list}
 use Rattle.made_volumes.specs.Machine as made
@@ -234,7 +234,7 @@ pub record RanDone {T S K : Type 0} (t : tapes.Meaning T) (s : sources.Meaning S
   pub whole : answer ≢ status.SinkFault → IsWhole outcome.acts text at
 
 ends_done : {T S K : Type 0} (t : tapes.Meaning T) (s : sources.Meaning S) (k : sinks.Meaning K) (command : Words) (old new : Outside T S K) (answer : Status) → Laws t s k old new → HasValues command →
-    Ends t s k command old new answer → (c : Cartridge) → t.told old.tape ≡ Some (Some c) → answer ≢ status.TapeFault → RanDone t s k command old new answer c
+    CommandEnds t s k command old new answer → (c : Cartridge) → t.told old.tape ≡ Some (Some c) → answer ≢ status.TapeFault → RanDone t s k command old new answer c
 ends_done t s k command old new answer laws values (inl finished) c told other =
     let over = over_at (t.told old.tape) _ (Some c) finished.told told in record {
       input = over.0;
@@ -300,7 +300,7 @@ ends_done t s k command old new answer laws values (inr (SinkFails, is, stopped)
 -- ---- `append`
 
 module _ {T S K : Type 0} (t : tapes.Meaning T) (s : sources.Meaning S) (k : sinks.Meaning K) (name : List ℕ) (date : ℕ) (old new : Outside T S K) (answer : Status) (laws : Laws t s k old new) (values : HasValues (commands.Append name date))
-    (ends : Ends t s k (commands.Append name date) old new answer) (c : Cartridge) (header : Header) (words : List ℕ) (table : List (List ℕ)) (entries : List Entry) (was : WasListed t old.tape c header words table entries) where
+    (ends : CommandEnds t s k (commands.Append name date) old new answer) (c : Cartridge) (header : Header) (words : List ℕ) (table : List (List ℕ)) (entries : List Entry) (was : WasListed t old.tape c header words table entries) where
   abbrev command : Words
   command = commands.Append name date
 
@@ -322,7 +322,7 @@ module _ {T S K : Type 0} (t : tapes.Meaning T) (s : sources.Meaning S) (k : sin
   append_lists_none : WasNotDone answer → NowLists t old.tape new.tape header words entries
   append_lists_none not = by_end ends
     where
-      by_end : Ends t s k command old new answer → NowLists t old.tape new.tape header words entries
+      by_end : CommandEnds t s k command old new answer → NowLists t old.tape new.tape header words entries
       by_end (inl finished) =
           let over = over_at (t.told old.tape) _ (Some c) finished.told was.told in
           now_weaker t old.tape new.tape
@@ -345,7 +345,7 @@ module _ {T S K : Type 0} (t : tapes.Meaning T) (s : sources.Meaning S) (k : sin
 -- ---- `script`
 
 module _ (c : Cartridge) (header : Header) (words : List ℕ) (table : List (List ℕ)) (entries : List Entry) (whole : IsCartridge c) (mounts : Mounts c (Mounted header words table entries))
-    (input : List ℕ) (came : scripts.Outcome) (does : ScriptDoes (settled table c) words entries input came) where
+    (input : List ℕ) (came : scripts.ScriptRun) (does : ScriptDoes (settled table c) words entries input came) where
   abbrev Answered : (text : List ℕ) → Option Cartridge → Type 0
   Answered text left = ListsAnswered header words entries does.items does.dids (length text) left
 
@@ -359,7 +359,7 @@ module _ (c : Cartridge) (header : Header) (words : List ℕ) (table : List (Lis
     acts : outcome.acts ≡ quiet (settling_steps table c) ∷ came.acts
     acts =
         ap (λ (o : Outcome). o.acts) did.is
-        ∙ ap (λ (o : scripts.Outcome). quiet (settling_steps table c) ∷ o.acts) (one_script (settled table c) words entries input did.came came did.does does)
+        ∙ ap (λ (o : scripts.ScriptRun). quiet (settling_steps table c) ∷ o.acts) (one_script (settled table c) words entries input did.came came did.does does)
 
     -- once it was carried out those of all lines are there
     script_lists_all : ItemsWearBehind does.items → IsSomeAnd (effects (steps_of outcome.acts) (Some c)) (λ d. Lists d header words (entries_behind entries does.dids))
@@ -526,20 +526,20 @@ module _ (seed count : ℕ) (few : count ≤ 200) (c : Cartridge) (header : Head
 -- ---- all of them
 
 pub lists_appends : {T S K : Type 0} (t : tapes.Meaning T) (s : sources.Meaning S) (k : sinks.Meaning K) (words : List (List ℕ)) (command : Words) (old new : Outside T S K) (answer : Status) →
-    Laws t s k old new → Spells words command → ((other : Words) → Spells words other → HasValues other) → Ends t s k command old new answer →
+    Laws t s k old new → Spells words command → ((other : Words) → Spells words other → HasValues other) → CommandEnds t s k command old new answer →
     ListsAppends t k (s.left old.source) words old.tape new.tape old.sink new.sink answer
 lists_appends t s k words command old new answer laws spelled values ends = record {
   appended = λ name date c header map_words table entries spells was which.
       append_lists_volume t s k name date old new answer laws (values (commands.Append name date) spells)
-      (subst (λ (w : Words). Ends t s k w old new answer) (one_command words command (commands.Append name date) spelled spells) ends) c header map_words table entries was which;
+      (subst (λ (w : Words). CommandEnds t s k w old new answer) (one_command words command (commands.Append name date) spelled spells) ends) c header map_words table entries was which;
   unchanged = λ name date c header map_words table entries spells was not.
       append_lists_none t s k name date old new answer laws (values (commands.Append name date) spells)
-      (subst (λ (w : Words). Ends t s k w old new answer) (one_command words command (commands.Append name date) spelled spells) ends) c header map_words table entries was not;
+      (subst (λ (w : Words). CommandEnds t s k w old new answer) (one_command words command (commands.Append name date) spelled spells) ends) c header map_words table entries was not;
   made = λ seed count c header map_words table entries spells was other.
       let which : Words = commands.Make seed count in
       let few : count ≤ 200 = values which spells in
       let ran = ends_done t s k which old new answer laws few
-      (subst (λ (w : Words). Ends t s k w old new answer) (one_command words command which spelled spells) ends) c was.told other in
+      (subst (λ (w : Words). CommandEnds t s k w old new answer) (one_command words command which spelled spells) ends) c was.told other in
       let whole : IsCartridge c = told_whole (Some c) (t.told old.tape) (t.size old.tape) laws.right was.told in
       let so = make_lists_so seed count few c header map_words table entries whole was.mounts ran.outcome ran.text ran.at ran.plain in
       let Made : ℕ → Option Cartridge → Type 0 = λ n left. IsSomeAnd left (λ d. Lists d header map_words (made_list seed n map_words entries)) in record {
@@ -558,7 +558,7 @@ lists_appends t s k words command old new answer laws spelled values ends = reco
       };
   scripted = λ c header map_words table entries spells was other.
       let ran = ends_done t s k commands.Script old new answer laws tt
-      (subst (λ (w : Words). Ends t s k w old new answer) (one_command words command commands.Script spelled spells) ends) c was.told other in
+      (subst (λ (w : Words). CommandEnds t s k w old new answer) (one_command words command commands.Script spelled spells) ends) c was.told other in
       let whole : IsCartridge c = told_whole (Some c) (t.told old.tape) (t.size old.tape) laws.right was.told in record {
         input = ran.input;
         is_told = ran.is_told;

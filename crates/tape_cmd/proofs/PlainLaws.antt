@@ -230,7 +230,7 @@ appending_leaves goes (Some c) left outcome (inr (free, opened)) torn = λ mark.
 sent_leaves : (held left : Option Cartridge) (input : List ℕ) (outcome : Outcome) → SentOutcome held input outcome → Torn (steps_of outcome.acts) held left → (left ≡ held) ⊎ (left ≡ effect SetReferenced held)
 sent_leaves held left input outcome (came, plain, is) torn =
     let same : steps_of outcome.acts ≡ steps_of (train_acts (power_on (info_of held)) plain.trains) =
-    ap (λ (o : Outcome). steps_of o.acts) is ∙ ap (λ (o : pulses.Outcome). steps_of o.acts) plain.comes in
+    ap (λ (o : Outcome). steps_of o.acts) is ∙ ap (λ (o : pulses.PulseRun). steps_of o.acts) plain.comes in
     trains_leave (power_on (info_of held)) plain.trains held left (subst (λ (steps : List TapeStep). Torn steps held left) same torn)
 
 format_leaves : (label : List ℕ) (date : ℕ) (held left : Option Cartridge) (outcome : Outcome) → FormatOutcome label date held outcome → Torn (steps_of outcome.acts) held left → FormatLeaves label date held left

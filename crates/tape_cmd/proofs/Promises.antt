@@ -17,7 +17,7 @@ use Rattle.tape_cmd.specs.Outcome.{Outcome, output_of}
 use Rattle.tape_cmd.specs.Traits.{traits_of}
 use Rattle.tape_cmd.specs.Laws.{MachineIsFunction, MachineAnswers}
 use Rattle.tape_cmd.specs.Machine.{HasValues, HasInputFault, Spells, SpellsNone}
-use Rattle.tape_cmd.specs.Runs.{InputLeft, is_fault, is_outcome, may_come_from, NamesFault, Finished, IsCutOff, Ends, EndsBlind}
+use Rattle.tape_cmd.specs.Runs.{InputLeft, is_fault, is_outcome, may_come_from, NamesFault, Finished, IsCutOff, CommandEnds, EndsBlind}
 use Rattle.acts.specs.Around.{no_source, around}
 use Rattle.tape_cmd.specs.Headline.{Stepped, Answers, WordsLeave, EachLeft, SpellsOne, PrintsRefused, PrintsFront}
 use Rattle.tape_cmd.specs.Listing.{IsHeard}
@@ -111,7 +111,7 @@ module _ {T S K : Type 0} (t : tapes.Meaning T) (s : sources.Meaning S) (k : sin
   off_over SourceFails outcome off = let cut = off.cut in absurd (never_rose cut.cause)
   off_over SinkFails outcome off = record { cut = cut_over outcome.acts SinkFails off.cut; done = off.done; silent = off.silent }
 
-  pub ends_over : (answer : Status) → (traits_of command).reads ≡ false → EndsBlind t k command a b x y answer → Ends t s k command before behind answer
+  pub ends_over : (answer : Status) → (traits_of command).reads ≡ false → EndsBlind t k command a b x y answer → CommandEnds t s k command before behind answer
   ends_over answer blind (inl finished) = inl (record {
     outcome = finished.outcome;
     answered = finished.answered;
@@ -160,7 +160,7 @@ module _ {T S K : Type 0} (t : tapes.Meaning T) (s : sources.Meaning S) (k : sin
   same_command spelled other spells = one_command words command other spelled spells
 
   pub promises : Laws t s k old new → Spells words command → HasValues command → ((traits_of command).reads ≡ false → new.source ≡ old.source) → s.keeps old.source new.source →
-      Ends t s k command old new answer → Promises t s k words old new answer
+      CommandEnds t s k command old new answer → Promises t s k words old new answer
   promises laws spelled values source kept ends =
       let stops : EachLeft t old.tape new.tape (WordsLeave (s.left old.source) words) = ends_stops t s k words command old new answer laws spelled values ends in
       let finished : is_fault answer ≡ false → Finished t s k command old new answer = ends_finished t s k words command old new answer ends in

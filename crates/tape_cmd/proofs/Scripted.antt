@@ -27,7 +27,7 @@ use Rattle.tape_cmd.specs.declared.status.Status.{Status}
 use Rattle.tape_cmd.specs.declared.status.Status.TheVariants as status
 use Rattle.tape_cmd.specs.Opening.{Opened, IsOpened, HasOpened, OpeningEnds, is_opening}
 use Rattle.tape_cmd.specs.Outcome.{Outcome, refused, first_steps}
-use Rattle.tape_cmd.specs.Runs.{Ends, InputLeft, IsCutOff, NamesFault, Prints, fault_of, may_come_from}
+use Rattle.tape_cmd.specs.Runs.{CommandEnds, InputLeft, IsCutOff, NamesFault, Prints, fault_of, may_come_from}
 use Rattle.tape_cmd.specs.Script.{Scripting, ScriptOutcome, script_status, run_status}
 use Rattle.tape_cmd.proofs.Endings.{told_map}
 use Rattle.tape_cmd.proofs.Mounted.{Settles, no_outcome, begins_is, refused_is}
@@ -107,7 +107,7 @@ said text = (end_line, (text, refl))
 
 module _ {T S K : Type 0} (t : tapes.Meaning T) (s : sources.Meaning S) (k : sinks.Meaning K) (a : T) (i : S) (x : K) where
   -- the opening was refused, or cut off
-  pub script_unopened : (b : UnitView T) (why : Status) → ((z : K) → k.took z [] z) → OpeningEnds t a b (Err why) → Ends t s k words.Script (outside a i x) (outside b.tape i x) why
+  pub script_unopened : (b : UnitView T) (why : Status) → ((z : K) → k.took z [] z) → OpeningEnds t a b (Err why) → CommandEnds t s k words.Script (outside a i x) (outside b.tape i x) why
   script_unopened b why nothing (inl turned) = inl (record {
     outcome = refused why;
     answered = refl;
@@ -150,7 +150,7 @@ module _ {T S K : Type 0} (t : tapes.Meaning T) (s : sources.Meaning S) (k : sin
 
   module _ (b : UnitView T) (store : StoreView) (opening : HasOpened t a b store) (c : T) (j : S) (y : K) (both : TakesBoth k) (nothing : (z : K) → k.took z [] z) where
     -- the machine's outcome over the cartridge that was opened
-    is_plain : (input : List ℕ) (came : scripts.Outcome) (d : Cartridge) (is : IsOpened d store opening.steps) → ScriptDoes (mounting.settled is.table d) store.words store.entries input came →
+    is_plain : (input : List ℕ) (came : scripts.ScriptRun) (d : Cartridge) (is : IsOpened d store opening.steps) → ScriptDoes (mounting.settled is.table d) store.words store.entries input came →
         ScriptOutcome (Some d) input (record { acts = quiet opening.steps ∷ came.acts; taken = came.taken; status = script_status came.answer })
     is_plain input came d is does = (
       mounting.Mounted store.header store.words is.table store.entries,
@@ -174,9 +174,9 @@ module _ {T S K : Type 0} (t : tapes.Meaning T) (s : sources.Meaning S) (k : sin
     prints_so AllDone text replied = ((λ is. replied refl), (λ other. absurd (other refl)))
     prints_so (FaultIn line place) text replied = ((λ is. absurd (cc)), (λ other. tt))
 
-    ended : (answer : Answer) → runs.Ended t s k store (outside b.tape i x) (outside c j y) answer → Ends t s k words.Script (outside a i x) (outside c j y) (script_status answer)
+    ended : (answer : Answer) → runs.Ended t s k store (outside b.tape i x) (outside c j y) answer → CommandEnds t s k words.Script (outside a i x) (outside c j y) (script_status answer)
     ended answer run =
-        let came : scripts.Outcome = run.outcome in
+        let came : scripts.ScriptRun = run.outcome in
         inl (record {
           outcome = record { acts = quiet opening.steps ∷ came.acts; taken = came.taken; status = script_status came.answer };
           answered = sym (ap script_status run.answered);
@@ -193,7 +193,7 @@ module _ {T S K : Type 0} (t : tapes.Meaning T) (s : sources.Meaning S) (k : sin
         })
 
     -- the table did not show the list: over no cartridge that is told
-    mismatched : runs.Mismatched t s k (outside b.tape i x) (outside c j y) → Ends t s k words.Script (outside a i x) (outside c j y) status.TableMismatch
+    mismatched : runs.Mismatched t s k (outside b.tape i x) (outside c j y) → CommandEnds t s k words.Script (outside a i x) (outside c j y) status.TableMismatch
     mismatched run = inl (record {
       outcome = record { acts = quiet opening.steps ∷ run.acts; taken = run.taken; status = status.TableMismatch };
       answered = refl;
@@ -209,7 +209,7 @@ module _ {T S K : Type 0} (t : tapes.Meaning T) (s : sources.Meaning S) (k : sin
 
     -- over a mounted cartridge the acts of the outcome were cut off
     scripting_cut : (failing : Failing) (input : List ℕ) (d : Cartridge) → (is : IsOpened d store opening.steps) →
-        ((came : scripts.Outcome) → ScriptDoes (mounting.settled is.table d) store.words store.entries input came → Cut t s k (outside b.tape i x) (outside c j y) came.acts failing) →
+        ((came : scripts.ScriptRun) → ScriptDoes (mounting.settled is.table d) store.words store.entries input came → Cut t s k (outside b.tape i x) (outside c j y) came.acts failing) →
         (outcome : Outcome) → ScriptOutcome (Some d) input outcome → IsCutOff t s k words.Script (outside a i x) (outside c j y) failing outcome
     scripting_cut failing input d is each outcome (m, mounts, does) =
         let same : m ≡ mounting.Mounted store.header store.words is.table store.entries = mounts_is_function d m _ mounts is.mounts in
@@ -217,7 +217,7 @@ module _ {T S K : Type 0} (t : tapes.Meaning T) (s : sources.Meaning S) (k : sin
       where
         by_acts : Scripting input d store.header store.words is.table store.entries outcome → IsCutOff t s k words.Script (outside a i x) (outside c j y) failing outcome
         by_acts found =
-            let came : scripts.Outcome = found.came in
+            let came : scripts.ScriptRun = found.came in
             let all : quiet opening.steps ∷ came.acts ≡ outcome.acts =
             ap (λ (ss : List TapeStep). quiet ss ∷ came.acts) is.settles ∙ sym (ap (λ (o : Outcome). o.acts) found.is) in record {
               cut = subst (λ (acts : List Act). Cut t s k (outside a i x) (outside c j y) acts failing) all
@@ -228,13 +228,13 @@ module _ {T S K : Type 0} (t : tapes.Meaning T) (s : sources.Meaning S) (k : sin
 
     -- a fault cut that off
     cut_so : (failing : Failing) → is_some (s.left j) ≡ is_some (s.left i) → runs.CutOff t s k store (outside b.tape i x) (outside c j y) failing →
-        Ends t s k words.Script (outside a i x) (outside c j y) (fault_of failing)
+        CommandEnds t s k words.Script (outside a i x) (outside c j y) (fault_of failing)
     cut_so failing tells run = inr (
       failing,
       refl,
       record {
         told = settled_told t a b store opening
-            (λ d. (came : scripts.Outcome) → ScriptDoes d store.words store.entries run.input came → Cut t s k (outside b.tape i x) (outside c j y) came.acts failing) _ run.told
+            (λ d. (came : scripts.ScriptRun) → ScriptDoes d store.words store.entries run.input came → Cut t s k (outside b.tape i x) (outside c j y) came.acts failing) _ run.told
             (λ d is each. (run.input, run.is_told, ((λ no. absurd (cc)), λ outcome plain. scripting_cut failing run.input d is each outcome plain)));
         acts = quiet opening.steps ∷ run.acts;
         cut = cut_behind t s k both nothing a b.tape i x (outside c j y) opening.steps run.acts failing opening.did run.cut;
@@ -246,8 +246,8 @@ module _ {T S K : Type 0} (t : tapes.Meaning T) (s : sources.Meaning S) (k : sin
     )
 
     -- by the answer of the call
-    pub script_ended : (result : Result (Unit {0}) ScriptFault) → is_some (s.left j) ≡ is_some (s.left i) → runs.Ends t s k store (outside b.tape i x) (outside c j y) result →
-        Ends t s k words.Script (outside a i x) (outside c j y) (run_status result)
+    pub script_ended : (result : Result (Unit {0}) ScriptFault) → is_some (s.left j) ≡ is_some (s.left i) → runs.ScriptEnds t s k store (outside b.tape i x) (outside c j y) result →
+        CommandEnds t s k words.Script (outside a i x) (outside c j y) (run_status result)
     script_ended (Ok done) tells run = ended AllDone run
     script_ended (Err (fault.Input line place)) tells run = ended (FaultIn line place) run
     script_ended (Err fault.TableMismatch) tells run = mismatched run

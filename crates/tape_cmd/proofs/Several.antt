@@ -43,7 +43,7 @@ use Rattle.tape_cmd.specs.Machine.{HasValues, Spells, Yields}
 use Rattle.tape_cmd.specs.Make.{Making, MakeOutcome, make_status}
 use Rattle.tape_cmd.specs.Opening.{Going, Opened, OpenOutcome}
 use Rattle.tape_cmd.specs.Outcome.{Outcome, refused}
-use Rattle.tape_cmd.specs.Runs.{Ends, fault_of, is_fault, may_come_from}
+use Rattle.tape_cmd.specs.Runs.{CommandEnds, fault_of, is_fault, may_come_from}
 use Rattle.tape_cmd.specs.Script.{Scripting, ScriptOutcome}
 use Rattle.tape_cmd.specs.Headline.{EachLeft, EachNow, StopLeaves, WordsLeave}
 use Rattle.tape_cmd.specs.Listing.{IsHeard}
@@ -273,7 +273,7 @@ sink_alone SourceFails answer is sink = let other : fault_of SourceFails ≡ sta
 sink_alone SinkFails answer is sink = refl
 
 pub ends_ran : {T S K : Type 0} (t : tapes.Meaning T) (s : sources.Meaning S) (k : sinks.Meaning K) (command : Words) (old new : Outside T S K) (answer : Status) → Laws t s k old new → HasValues command →
-    Ends t s k command old new answer → (c : Cartridge) (told : t.told old.tape ≡ Some (Some c)) (after : tapes.IsLeftNow t new.tape) → Ran t s k command old new answer c told after
+    CommandEnds t s k command old new answer → (c : Cartridge) (told : t.told old.tape ≡ Some (Some c)) (after : tapes.IsLeftNow t new.tape) → Ran t s k command old new answer c told after
 ends_ran t s k command old new answer laws values (inl finished) c told after =
     let over = over_at (t.told old.tape) _ (Some c) finished.told told in record {
       input = over.0;
@@ -453,7 +453,7 @@ some_made told words held left values whole (inr (command, spelled, leaves)) see
     make_stopped seed count (values other run.spelled) c plain (whole_of held c whole is) run.stands l.outcome left live l.plain l.torn
 
 pub makes_volumes : {T S K : Type 0} (t : tapes.Meaning T) (s : sources.Meaning S) (k : sinks.Meaning K) (words : List (List ℕ)) (command : Words) (old new : Outside T S K) (answer : Status) →
-    Laws t s k old new → Spells words command → ((other : Words) → Spells words other → HasValues other) → Ends t s k command old new answer →
+    Laws t s k old new → Spells words command → ((other : Words) → Spells words other → HasValues other) → CommandEnds t s k command old new answer →
     EachLeft t old.tape new.tape (WordsLeave (s.left old.source) words) → MakesVolumes t k words old.tape new.tape old.sink new.sink answer
 makes_volumes t s k words command old new answer laws spelled values ends leaves = record {
   stopped = each_weaker t old.tape new.tape laws.right (λ held left whole is. some_made (s.left old.source) words held left values whole is) leaves;
@@ -462,7 +462,7 @@ makes_volumes t s k words command old new answer laws spelled values ends leaves
       let same : command ≡ other = one_command words command other spelled run.spelled in
       let few : count ≤ 200 = values other run.spelled in
       let whole : IsCartridge c = told_whole (Some c) (t.told old.tape) (t.size old.tape) laws.right told in
-      let ran = ends_ran t s k other old new answer laws few (subst (λ (w : Words). Ends t s k w old new answer) same ends) c told laws.after in
+      let ran = ends_ran t s k other old new answer laws few (subst (λ (w : Words). CommandEnds t s k w old new answer) same ends) c told laws.after in
       let was = ran.was in record {
         text = was.text;
         took = was.took;
@@ -513,7 +513,7 @@ module _ (told : Option (List ℕ)) (words : List (List ℕ)) (c : Cartridge) (p
             inr (record {
               mounts = was.mounts;
               held = mounted_held c plain whole script.stands was.mounts;
-              acts = ap (λ (o : Outcome). o.acts) did.is ∙ ap (λ (o : scripts.Outcome). quiet (settling_steps plain.table_area c) ∷ o.acts) one;
+              acts = ap (λ (o : Outcome). o.acts) did.is ∙ ap (λ (o : scripts.ScriptRun). quiet (settling_steps plain.table_area c) ∷ o.acts) one;
             })
       ]
 
@@ -624,14 +624,14 @@ some_scripted told words held left whole (inr (command, spelled, leaves)) c plai
     script_stopped told words c plain (whole_of held c whole is) script l.input l.outcome left live (same_input told script.input l.input script.is_told l.is_told) l.plain l.torn
 
 pub carries_out_lines : {T S K : Type 0} (t : tapes.Meaning T) (s : sources.Meaning S) (k : sinks.Meaning K) (words : List (List ℕ)) (command : Words) (old new : Outside T S K) (answer : Status) →
-    Laws t s k old new → Spells words command → Ends t s k command old new answer →
+    Laws t s k old new → Spells words command → CommandEnds t s k command old new answer →
     EachLeft t old.tape new.tape (WordsLeave (s.left old.source) words) → CarriesOutLines t k (s.left old.source) words old.tape new.tape old.sink new.sink answer
 carries_out_lines t s k words command old new answer laws spelled ends leaves = record {
   stopped = each_weaker t old.tape new.tape laws.right (λ held left whole is. some_scripted (s.left old.source) words held left whole is) leaves;
   over = λ c plain told script.
       let same : command ≡ commands.Script = one_command words command commands.Script spelled script.spelled in
       let whole : IsCartridge c = told_whole (Some c) (t.told old.tape) (t.size old.tape) laws.right told in
-      let ran = ends_ran t s k commands.Script old new answer laws tt (subst (λ (w : Words). Ends t s k w old new answer) same ends) c told laws.after in
+      let ran = ends_ran t s k commands.Script old new answer laws tt (subst (λ (w : Words). CommandEnds t s k w old new answer) same ends) c told laws.after in
       let was = ran.was in record {
         text = was.text;
         took = was.took;

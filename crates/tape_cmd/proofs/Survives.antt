@@ -18,7 +18,7 @@ use Rattle.tape_script.proofs.Commands.{one_command}
 use Rattle.tape_cmd.specs.declared.status.Status.{Status}
 use Rattle.tape_cmd.specs.declared.status.Status.TheVariants as status
 use Rattle.tape_cmd.specs.Machine.{HasValues, Spells}
-use Rattle.tape_cmd.specs.Runs.{is_fault, Ends}
+use Rattle.tape_cmd.specs.Runs.{is_fault, CommandEnds}
 use Rattle.tape_cmd.specs.Headline.{EachLeft, StopLeaves, WordsLeave}
 use Rattle.tape_cmd.specs.OneLoss.{ComesBackEither, ComesBackNew, SettledComesBack, StoppedComesBack, SurvivesOneLoss}
 use Rattle.tape_cmd.specs.Volumes.{IsCarriedOut}
@@ -66,7 +66,7 @@ all_come_back t told words a b right values leaves = each_weaker t a b right (λ
 
 pub survives_one_loss : {T S K : Type 0} (t : tapes.Meaning T) (s : sources.Meaning S) (k : sinks.Meaning K) (words : List (List ℕ)) (command : Words) (old new : Outside T S K) (answer : Status) →
     Laws t s k old new → Spells words command → HasValues command → ((other : Words) → Spells words other → HasValues other) →
-    Ends t s k command old new answer → EachLeft t old.tape new.tape (WordsLeave (s.left old.source) words) →
+    CommandEnds t s k command old new answer → EachLeft t old.tape new.tape (WordsLeave (s.left old.source) words) →
     SurvivesOneLoss t (s.left old.source) words old.tape new.tape answer
 survives_one_loss t s k words command old new answer laws spelled values all ends leaves = record {
   stopped = all_come_back t (s.left old.source) words old.tape new.tape laws.right all leaves;
@@ -77,7 +77,7 @@ survives_one_loss t s k words command old new answer laws spelled values all end
       let whole : IsCartridge c = told_whole (Some c) (t.told old.tape) (t.size old.tape) laws.right told in
       let known : HasValues other = subst HasValues same values in
       let d : Did t (s.left old.source) other old.tape new.tape (Some c) status.Done =
-      carried_out_did t s k other old new answer (Some c) whole known refl told which (subst (λ (w : Words). Ends t s k w old new answer) same ends) in
+      carried_out_did t s k other old new answer (Some c) whole known refl told which (subst (λ (w : Words). CommandEnds t s k w old new answer) same ends) in
       let back : IsSomeAnd (effects (steps_of d.outcome.acts) (Some c))
       (λ e. (f : Cartridge) (lost : ℕ) → LosesOneAlone e f lost → ComesBackAs f (new_plain c plain name date d.input)) =
       done_comes_back name date d.input c plain d.outcome known.0 known.1 (of_bytes (s.left old.source) d.input bytes d.is_told (d.bytes refl))

@@ -21,7 +21,7 @@ use Rattle.tape_cmd.specs.declared.status.Status.{Status}
 use Rattle.tape_cmd.specs.declared.status.Status.TheVariants as status
 use Rattle.tape_cmd.specs.Outcome.{Outcome}
 use Rattle.tape_cmd.specs.Pulses.{sent_status, sent, info_of, SentOutcome, AreLevels}
-use Rattle.tape_cmd.specs.Runs.{InputLeft, fault_of, may_come_from, NamesFault, IsOfBytes, IsCutOff, Ends}
+use Rattle.tape_cmd.specs.Runs.{InputLeft, fault_of, may_come_from, NamesFault, IsOfBytes, IsCutOff, CommandEnds}
 
 -- ---- the fault of an input
 
@@ -38,10 +38,10 @@ answer_done : (answer : Answer) → sent_status answer ≡ status.Done → answe
 answer_done AllSent is = refl
 answer_done (ScriptFault number before) is = cc
 
-names_fault : (known : Option TapeInfo) (input : List ℕ) (came : pulses.Outcome) (answer : Answer) → PulsesOutcome known input came → came.answer ≡ answer →
+names_fault : (known : Option TapeInfo) (input : List ℕ) (came : pulses.PulseRun) (answer : Answer) → PulsesOutcome known input came → came.answer ≡ answer →
     NamesFault words.Pulses input (sent_status answer)
 names_fault known input came answer plain is =
-    let ends : came.answer ≡ answer_by plain.ending = ap (λ (o : pulses.Outcome). o.answer) plain.comes in record {
+    let ends : came.answer ≡ answer_by plain.ending = ap (λ (o : pulses.PulseRun). o.answer) plain.comes in record {
       named = λ line place same. (
         plain.trains,
         subst (IsPulses input plain.trains) (fault_ended plain.ending line place (sym ends ∙ is ∙ answer_named answer line place same)) plain.read,
@@ -82,10 +82,10 @@ answered (Err fault.Sink) = status.SinkFault
 answered (Err fault.Tape) = status.TapeFault
 
 -- an outcome over what the drive knows is the one that came
-same_acts : (known : Option TapeInfo) (held : Option Cartridge) (input : List ℕ) (came : pulses.Outcome) (outcome : Outcome) → known ≡ info_of held →
+same_acts : (known : Option TapeInfo) (held : Option Cartridge) (input : List ℕ) (came : pulses.PulseRun) (outcome : Outcome) → known ≡ info_of held →
     PulsesOutcome known input came → SentOutcome held input outcome → came.acts ≡ outcome.acts
 same_acts known held input came outcome same plain (other, rule, is) =
-    ap (λ (o : pulses.Outcome). o.acts) (one_outcome (info_of held) input came other (subst (λ (k : Option TapeInfo). PulsesOutcome k input came) same plain) rule)
+    ap (λ (o : pulses.PulseRun). o.acts) (one_outcome (info_of held) input came other (subst (λ (k : Option TapeInfo). PulsesOutcome k input came) same plain) rule)
     ∙ sym (ap (λ (o : Outcome). o.acts) is)
 
 module _ {T S K : Type 0} (t : tapes.Meaning T) (s : sources.Meaning S) (k : sinks.Meaning K) (old new : Outside T S K) (r : Record) where
@@ -93,9 +93,9 @@ module _ {T S K : Type 0} (t : tapes.Meaning T) (s : sources.Meaning S) (k : sin
   left_behind taken AllSent left = left
   left_behind taken (ScriptFault line place) left = (left.0, left.2)
 
-  ended : (answer : Answer) → runs.Ended t s k old new r answer → Ends t s k words.Pulses old new (sent_status answer)
+  ended : (answer : Answer) → runs.Ended t s k old new r answer → CommandEnds t s k words.Pulses old new (sent_status answer)
   ended answer run =
-      let levels : AreLevels (text_of run.outcome.acts) = (run.known, (run.plain.trains, ap (λ (o : pulses.Outcome). text_of o.acts) run.plain.comes)) in
+      let levels : AreLevels (text_of run.outcome.acts) = (run.known, (run.plain.trains, ap (λ (o : pulses.PulseRun). text_of o.acts) run.plain.comes)) in
       inl (record {
         outcome = sent run.outcome;
         answered = sym (ap sent_status run.answered);
@@ -114,7 +114,7 @@ module _ {T S K : Type 0} (t : tapes.Meaning T) (s : sources.Meaning S) (k : sin
       })
 
   cut_off : (failing : Failing) → runs.CutOff t s k old new failing → is_some (s.left new.source) ≡ is_some (s.left old.source) →
-      Ends t s k words.Pulses old new (fault_of failing)
+      CommandEnds t s k words.Pulses old new (fault_of failing)
   cut_off failing run tells = inr (
     failing,
     refl,
@@ -136,7 +136,7 @@ module _ {T S K : Type 0} (t : tapes.Meaning T) (s : sources.Meaning S) (k : sin
       front = (
         [],
         subst AreLevels (sym (append-nil (text_of run.outcome.acts)))
-            (run.known, (run.plain.trains, ap (λ (o : pulses.Outcome). text_of o.acts) run.plain.comes)),
+            (run.known, (run.plain.trains, ap (λ (o : pulses.PulseRun). text_of o.acts) run.plain.comes)),
       );
       silent = λ still other. absurd (cc);
       reads = λ same. refl;
@@ -144,14 +144,14 @@ module _ {T S K : Type 0} (t : tapes.Meaning T) (s : sources.Meaning S) (k : sin
     },
   )
 
-  pub pulses_end : (result : Result (Unit {0}) PulseFault) → runs.Ends t s k old new r result → is_some (s.left new.source) ≡ is_some (s.left old.source) →
-      Ends t s k words.Pulses old new (answered result)
+  pub pulses_end : (result : Result (Unit {0}) PulseFault) → runs.PulsesEnd t s k old new r result → is_some (s.left new.source) ≡ is_some (s.left old.source) →
+      CommandEnds t s k words.Pulses old new (answered result)
   pulses_end (Ok done) run tells = ended AllSent run
   pulses_end (Err (fault.Script line place)) run tells = ended (ScriptFault line place) run
   pulses_end (Err fault.Source) run tells = cut_off SourceFails run tells
   pulses_end (Err fault.Sink) run tells = cut_off SinkFails run tells
   pulses_end (Err fault.Tape) run tells = cut_off TapeFails run tells
 
-  pub pulses_failed : (f is : PulseFault) → f ≡ is → runs.Ends t s k old new r (of_unit (Err f)) → is_some (s.left new.source) ≡ is_some (s.left old.source) →
-      Ends t s k words.Pulses old new (answered (Err is))
-  pulses_failed f is same run tells = subst (λ (g : PulseFault). Ends t s k words.Pulses old new (answered (Err g))) same (pulses_end (Err f) run tells)
+  pub pulses_failed : (f is : PulseFault) → f ≡ is → runs.PulsesEnd t s k old new r (of_unit (Err f)) → is_some (s.left new.source) ≡ is_some (s.left old.source) →
+      CommandEnds t s k words.Pulses old new (answered (Err is))
+  pulses_failed f is same run tells = subst (λ (g : PulseFault). CommandEnds t s k words.Pulses old new (answered (Err g))) same (pulses_end (Err f) run tells)

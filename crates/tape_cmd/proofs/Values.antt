@@ -1,6 +1,6 @@
 -- The values that words give a command.
 use Rattle.std.proofs.lemmas.Bool.{eqb-true}
-use Rattle.std.proofs.Common.{codes, if◌then◌else◌, ◌≡◌, ℕ, ◌-◌, ◌<◌, ◌^◌, ◌==◌, Bool, true, false, List, [], ◌∷◌, refl, inl, inr, arith}
+use Rattle.std.proofs.Common.{codes, if◌then◌else◌, ◌≡◌, ℕ, ◌<◌, ◌^◌, ◌==◌, Bool, true, false, List, [], ◌∷◌, refl, inl, inr, arith}
 use Rattle.format_plan.specs.Fresh.{IsLabel}
 use Rattle.tape_script.specs.declared.words.Words.{Words}
 use Rattle.tape_script.specs.declared.words.Words.TheVariants as words

@@ -42,7 +42,7 @@ use Rattle.tape_cmd.specs.Place.{HasPlace}
 use Rattle.tape_cmd.specs.Format.{FormatOutcome}
 use Rattle.tape_cmd.specs.Traits.{traits_of}
 use Rattle.tape_cmd.specs.Machine.{HasValues, Yields, Spells}
-use Rattle.tape_cmd.specs.Runs.{is_fault, fault_of, may_come_from, IsOfBytes, IsCutOff, Finished, Ends}
+use Rattle.tape_cmd.specs.Runs.{is_fault, fault_of, may_come_from, IsOfBytes, IsCutOff, Finished, CommandEnds}
 use Rattle.tape_cmd.specs.Headline.{EachLeft, EachNow, StopLeaves, WordsLeave}
 use Rattle.tape_cmd.specs.Volumes.{KeepsVolumes, StillStands, VolumesStay, KeepsList, StillMounts, ListStays, StandsEmpty, FormatsOrNot, StopsFormat, AreBytes, StandsAppended, AppendedOrNot, StopsAppend, StandsFresh, IsCarriedOut, WasNotDone, IsChanged, IsBare}
 use Rattle.tape_cmd.proofs.Ends.{Laws, over_at, told_weaker, told_whole, after_steps, ends_finished}
@@ -359,7 +359,7 @@ module _ {T S K : Type 0} (t : tapes.Meaning T) (s : sources.Meaning S) (k : sin
   -- it was carried out, though its output may be cut off
   pub carried_out_did : (held : Option Cartridge) → IfSome held IsCartridge → HasValues command → (traits_of command).goes ≡ false →
       t.told old.tape ≡ Some held →
-      IsCarriedOut answer → Ends t s k command old new answer → Did t (s.left old.source) command old.tape new.tape held status.Done
+      IsCarriedOut answer → CommandEnds t s k command old new answer → Did t (s.left old.source) command old.tape new.tape held status.Done
   carried_out_did held whole values still told (inl done) (inl finished) = finished_did held status.Done told finished done
   carried_out_did held whole values still told (inr fault) (inl finished) =
       let no = ap (λ (a : Status). may_come_from a command) fault in let sound = finished.sound in absurd (cc)
@@ -418,7 +418,7 @@ cleared_is_bare label date front c outcome whole (inr (inr (free, none, (words, 
 
 -- an append that was refused, or whose input failed
 append_unchanged : {T S K : Type 0} (t : tapes.Meaning T) (s : sources.Meaning S) (k : sinks.Meaning K) (name : List ℕ) (date : ℕ) (old new : Outside T S K) (answer : Status) (c : Cartridge) (plain : Plain) →
-    Laws t s k old new → HasValues (commands.Append name date) → IsCartridge c → Stands c plain → t.told old.tape ≡ Some (Some c) → WasNotDone answer → Ends t s k (commands.Append name date) old new answer →
+    Laws t s k old new → HasValues (commands.Append name date) → IsCartridge c → Stands c plain → t.told old.tape ≡ Some (Some c) → WasNotDone answer → CommandEnds t s k (commands.Append name date) old new answer →
     EachNow t old.tape new.tape (λ left. IsSomeAnd left (λ d. Stands d plain))
 append_unchanged t s k name date old new answer c plain laws values whole stood told not (inl finished) =
     let d : Did t (s.left old.source) (commands.Append name date) old.tape new.tape (Some c) answer =
@@ -441,14 +441,14 @@ append_unchanged t s k name date old new answer c plain laws values whole stood 
     (done_now t old.tape new.tape (steps_of cut.front) (Some c) laws.after cut.did told)
 
 pub is_changed : {T S K : Type 0} (t : tapes.Meaning T) (s : sources.Meaning S) (k : sinks.Meaning K) (words : List (List ℕ)) (command : Words) (old new : Outside T S K) (answer : Status) →
-    Laws t s k old new → Spells words command → HasValues command → Ends t s k command old new answer → IsChanged t (s.left old.source) words old.tape new.tape answer
+    Laws t s k old new → Spells words command → HasValues command → CommandEnds t s k command old new answer → IsChanged t (s.left old.source) words old.tape new.tape answer
 is_changed t s k words command old new answer laws spelled values ends = record {
   renewed = λ segments held which spells told.
       let other : Words = commands.New segments in
       let same : command ≡ other = one_command words command other spelled spells in
       let d : Did t (s.left old.source) other old.tape new.tape held status.Done =
       carried_out_did t s k other old new answer held (told_whole held (t.told old.tape) (t.size old.tape) laws.right told)
-      (subst HasValues same values) refl told which (subst (λ (w : Words). Ends t s k w old new answer) same ends) in
+      (subst HasValues same values) refl told which (subst (λ (w : Words). CommandEnds t s k w old new answer) same ends) in
       now_weaker t old.tape new.tape
       (λ left is. is ∙ ap (λ (o : Outcome). effects (steps_of o.acts) held) d.plain ∙ renewed_effect segments held)
       (done_now t old.tape new.tape (steps_of d.outcome.acts) held laws.after d.did told);
@@ -458,7 +458,7 @@ is_changed t s k words command old new answer laws spelled values ends = record 
       let whole : IsCartridge c = told_whole (Some c) (t.told old.tape) (t.size old.tape) laws.right told in
       let d : Did t (s.left old.source) other old.tape new.tape (Some c) status.Done =
       carried_out_did t s k other old new answer (Some c) whole
-      (subst HasValues same values) refl told which (subst (λ (w : Words). Ends t s k w old new answer) same ends) in
+      (subst HasValues same values) refl told which (subst (λ (w : Words). CommandEnds t s k w old new answer) same ends) in
       let fresh : IsSomeAnd (effects (steps_of d.outcome.acts) (Some c)) (StandsFresh c label date) =
       formatted_fresh label date c d.outcome whole d.plain d.sound in
       now_weaker t old.tape new.tape
@@ -469,7 +469,7 @@ is_changed t s k words command old new answer laws spelled values ends = record 
       let same : command ≡ other = one_command words command other spelled spells in
       let whole : IsCartridge c = told_whole (Some c) (t.told old.tape) (t.size old.tape) laws.right told in
       let finished : Finished t s k other old new answer =
-      ends_finished t s k words other old new answer (subst (λ (w : Words). Ends t s k w old new answer) same ends) (ap is_fault front) in
+      ends_finished t s k words other old new answer (subst (λ (w : Words). CommandEnds t s k w old new answer) same ends) (ap is_fault front) in
       let d : Did t (s.left old.source) other old.tape new.tape (Some c) (status.DefectInFront segment) = finished_did t s k other old new answer (Some c) (status.DefectInFront segment) told finished front in
       let none : IsSomeAnd (effects (steps_of d.outcome.acts) (Some c)) IsBare =
       cleared_is_bare label date segment c d.outcome whole d.plain d.sound in
@@ -482,7 +482,7 @@ is_changed t s k words command old new answer laws spelled values ends = record 
       let whole : IsCartridge c = told_whole (Some c) (t.told old.tape) (t.size old.tape) laws.right told in
       let known : HasValues other = subst HasValues same values in
       let d : Did t (s.left old.source) other old.tape new.tape (Some c) status.Done =
-      carried_out_did t s k other old new answer (Some c) whole known refl told which (subst (λ (w : Words). Ends t s k w old new answer) same ends) in
+      carried_out_did t s k other old new answer (Some c) whole known refl told which (subst (λ (w : Words). CommandEnds t s k w old new answer) same ends) in
       let left : IsSomeAnd (effects (steps_of d.outcome.acts) (Some c)) (λ e. Stands e (new_plain c plain name date d.input)) =
       append_done name date d.input c plain d.outcome known.0 known.1 (of_bytes (s.left old.source) d.input bytes d.is_told (d.bytes refl)) whole stood d.plain d.sound in
       now_weaker t old.tape new.tape
@@ -493,7 +493,7 @@ is_changed t s k words command old new answer laws spelled values ends = record 
       let other : Words = commands.Append name date in
       let same : command ≡ other = one_command words command other spelled spells in
       let whole : IsCartridge c = told_whole (Some c) (t.told old.tape) (t.size old.tape) laws.right told in
-      append_unchanged t s k name date old new answer c plain laws (subst HasValues same values) whole stood told not (subst (λ (w : Words). Ends t s k w old new answer) same ends);
+      append_unchanged t s k name date old new answer c plain laws (subst HasValues same values) whole stood told not (subst (λ (w : Words). CommandEnds t s k w old new answer) same ends);
 }
 
 -- words of no command change nothing, and want of memory

@@ -61,7 +61,7 @@ pub record ListsLines {T K : Type 0} (t : tapes.Meaning T) (k : sinks.Meaning K)
 pub record ListsScripted {T K : Type 0} (t : tapes.Meaning T) (k : sinks.Meaning K) (told : Option (List ℕ)) (old new : T) (before behind : K) (answer : Status) (c : Cartridge) (header : Header) (words : List ℕ) (table : List (List ℕ)) (entries : List Entry) : Type 0 where
   pub input : List ℕ
   pub is_told : IsInput told input
-  pub lists : (outcome : scripts.Outcome) → (does : ScriptDoes (settled table c) words entries input outcome) →
+  pub lists : (outcome : scripts.ScriptRun) → (does : ScriptDoes (settled table c) words entries input outcome) →
       ListsLines t k old new before behind answer header words entries does.items does.dids
 
 -- When a run is over that no fault of the tape ended, the cartridge is mounted with the old list and the appends that were carried

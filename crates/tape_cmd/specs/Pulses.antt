@@ -16,7 +16,7 @@ abbrev pub sent_status : Answer → Status
 sent_status AllSent = status.Done
 sent_status (ScriptFault line place) = status.ScriptFault line place
 
-abbrev pub sent : pulses.Outcome → Outcome
+abbrev pub sent : pulses.PulseRun → Outcome
 sent came = record { acts = came.acts; taken = came.taken; status = sent_status came.answer }
 
 -- what the drive knows of its cartridge
@@ -25,7 +25,7 @@ info_of held = option_map (λ c. c.info) held
 
 -- `pulses` needs no cartridge
 abbrev pub SentOutcome : (held : Option Cartridge) (input : List ℕ) → Outcome → Type 0
-SentOutcome held input outcome = (came : pulses.Outcome) × PulsesOutcome (info_of held) input came × (outcome ≡ sent came)
+SentOutcome held input outcome = (came : pulses.PulseRun) × PulsesOutcome (info_of held) input came × (outcome ≡ sent came)
 
 -- the levels of some trains, over some cartridge or none
 abbrev pub AreLevels : List ℕ → Type 0

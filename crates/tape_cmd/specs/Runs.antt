@@ -151,8 +151,8 @@ pub record Stopped {T S K : Type 0} (t : tapes.Meaning T) (s : sources.Meaning S
   pub source_tells : is_some (s.left new.source) ≡ is_some (s.left old.source)
 
 -- how a command ended
-abbrev pub Ends : {T S K : Type 0} (t : tapes.Meaning T) (s : sources.Meaning S) (k : sinks.Meaning K) (command : Words) (old new : Outside T S K) → Status → Type 0
-Ends t s k command old new answer =
+abbrev pub CommandEnds : {T S K : Type 0} (t : tapes.Meaning T) (s : sources.Meaning S) (k : sinks.Meaning K) (command : Words) (old new : Outside T S K) → Status → Type 0
+CommandEnds t s k command old new answer =
     Finished t s k command old new answer
     ⊎ ((failing : Failing) × (answer ≡ fault_of failing) × Stopped t s k command old new failing)
 
@@ -160,4 +160,4 @@ Ends t s k command old new answer =
 
 -- how it ended, whatever the source is
 abbrev pub EndsBlind : {T K : Type 0} (t : tapes.Meaning T) (k : sinks.Meaning K) (command : Words) (old new : T) (sink printed : K) → Status → Type 0
-EndsBlind t k command old new sink printed answer = Ends t no_source k command (around old sink) (around new printed) answer
+EndsBlind t k command old new sink printed answer = CommandEnds t no_source k command (around old sink) (around new printed) answer

@@ -18,12 +18,12 @@ script_status AllDone = status.Done
 script_status (FaultIn number place) = status.ScriptFault number place
 
 -- the settling of the table, and then what the lines did
-abbrev pub scripted_on : (table : List (List ℕ)) → Cartridge → scripts.Outcome → Outcome
+abbrev pub scripted_on : (table : List (List ℕ)) → Cartridge → scripts.ScriptRun → Outcome
 scripted_on table c came = record { acts = settling_act table c ∷ came.acts; taken = came.taken; status = script_status came.answer }
 
 -- the lines of an input are carried out on the settled cartridge
 pub record ScriptsOn (input : List ℕ) (c : Cartridge) (words : List ℕ) (table : List (List ℕ)) (entries : List Entry) (outcome : Outcome) : Type 0 where
-  pub came : scripts.Outcome
+  pub came : scripts.ScriptRun
   pub does : ScriptDoes (settled table c) words entries input came
   pub is : outcome ≡ scripted_on table c came
 

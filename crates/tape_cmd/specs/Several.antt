@@ -56,7 +56,7 @@ pub record Scripted (told : Option (List ℕ)) (words : List (List ℕ)) (c : Ca
   pub is_told : told ≡ Some input
   pub bytes : All (λ b. b < 256) input
   pub stands : Stands c plain
-  pub outcome : scripts.Outcome
+  pub outcome : scripts.ScriptRun
   pub does : ScriptDoes (settled plain.table_area c) plain.words (entries_of plain) input outcome
   pub spares : ItemsSpare (settled plain.table_area c) plain does.items does.dids
 

@@ -1,9 +1,9 @@
 //! A volume appended to a cartridge.
 
-ghost use Rattle.std.specs.Prelude.{◌≡◌, ◌<◌, ◌^◌};
+ghost use Rattle.std.specs.Prelude.{◌<◌, ◌^◌};
 ghost use Rattle.format_plan.specs.Fresh.{IsLabel};
 ghost use Rattle.tape_script.specs.declared.words.Words.TheVariants.{Append};
-ghost use Rattle.tape_cmd.specs.Runs.{Ends};
+ghost use Rattle.tape_cmd.specs.Runs.{CommandEnds};
 
 use crate::Status;
 use crate::lines::printed;
@@ -26,7 +26,7 @@ pub fn append<T: Tape, S: Source, K: Sink>(
 ) -> Status
     requires name { IsLabel name.now }
     requires date { date < 2 ^ 32 }
-    ensures ends { Ends T.means S.means K.means (Append name.now date)
+    ensures ends { CommandEnds T.means S.means K.means (Append name.now date)
         record { tape = unit.old.tape; source = source.old; sink = sink.old }
         record { tape = unit.new.tape; source = source.new; sink = sink.new } result }
     ensures kept { S.means.keeps source.old source.new }

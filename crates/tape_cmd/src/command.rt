@@ -1,7 +1,7 @@
 ghost use Rattle.std.specs.Prelude.{◌≡◌, ◌≢◌, ◌⊎◌, ℕ, List, true, false, map, string_bytes};
 ghost use Rattle.tape_cmd.specs.Machine.{HasValues, Spells, ReadsCommand};
 ghost use Rattle.tape_cmd.specs.Promises.{Promises};
-ghost use Rattle.tape_cmd.specs.Runs.{Ends, EndsBlind};
+ghost use Rattle.tape_cmd.specs.Runs.{CommandEnds, EndsBlind};
 ghost use Rattle.tape_cmd.specs.Traits.{traits_of};
 
 use crate::Status;
@@ -86,7 +86,7 @@ fn carry_out_in<T: Tape, S: Source, K: Sink>(
 ) -> Status
     requires values { HasValues command.now }
     requires memory { (traits_of command.now).memory ≡ true }
-    ensures ends { Ends T.means S.means K.means command.now
+    ensures ends { CommandEnds T.means S.means K.means command.now
         record { tape = unit.old.tape; source = source.old; sink = sink.old }
         record { tape = unit.new.tape; source = source.new; sink = sink.new } result }
     ensures source { (traits_of command.now).reads ≡ false → source.new ≡ source.old }
@@ -111,7 +111,7 @@ fn carry_out<T: Tape, S: Source, K: Sink>(
 ) -> Status
     requires values { HasValues command.now }
     requires memory { (traits_of command.now).memory ≡ false }
-    ensures ends { Ends T.means S.means K.means command.now
+    ensures ends { CommandEnds T.means S.means K.means command.now
         record { tape = unit.old.tape; source = source.old; sink = sink.old }
         record { tape = unit.new.tape; source = source.new; sink = sink.new } result }
     ensures source { (traits_of command.now).reads ≡ false → source.new ≡ source.old }
@@ -149,7 +149,7 @@ pub fn run_ready<T: Tape, S: Source, K: Sink>(
     sink: &mut K,
 ) -> Status
     requires values { HasValues words.now }
-    ensures ends { Ends T.means S.means K.means words.now
+    ensures ends { CommandEnds T.means S.means K.means words.now
         record { tape = unit.old.tape; source = source.old; sink = sink.old }
         record { tape = unit.new.tape; source = source.new; sink = sink.new } result }
     ensures promises { (spelled : List (List ℕ)) → Spells spelled words.now →

@@ -1,6 +1,5 @@
 //! A new cartridge put in.
 
-ghost use Rattle.std.specs.Prelude.{◌≡◌};
 ghost use Rattle.qic_base.specs.Cartridge.{IsLength};
 ghost use Rattle.tape_script.specs.declared.words.Words.TheVariants.{New};
 ghost use Rattle.tape_cmd.specs.Runs.{EndsBlind};

@@ -1,7 +1,7 @@
 //! Trains of step pulses from a source, and the line level that each leaves.
 
 ghost use Rattle.tape_script.specs.declared.words.Words.TheVariants.{Pulses};
-ghost use Rattle.tape_cmd.specs.Runs.{Ends};
+ghost use Rattle.tape_cmd.specs.Runs.{CommandEnds};
 
 use crate::Status;
 use drive_states::Unit;
@@ -14,7 +14,7 @@ pub fn pulses<T: Tape, S: Source, K: Sink>(
     source: &mut S,
     sink: &mut K,
 ) -> Status
-    ensures ends { Ends T.means S.means K.means Pulses
+    ensures ends { CommandEnds T.means S.means K.means Pulses
         record { tape = unit.old.tape; source = source.old; sink = sink.old }
         record { tape = unit.new.tape; source = source.new; sink = sink.new } result }
     ensures kept { S.means.keeps source.old source.new }

@@ -2,7 +2,7 @@
 
 ghost use Rattle.std.specs.Prelude.{◌≡◌};
 ghost use Rattle.tape_script.specs.declared.words.Words.TheVariants.{Script};
-ghost use Rattle.tape_cmd.specs.Runs.{Ends};
+ghost use Rattle.tape_cmd.specs.Runs.{CommandEnds};
 ghost use Rattle.tape_cmd.specs.Script.{run_status};
 
 use crate::Status;
@@ -19,7 +19,7 @@ pub fn script<T: Tape, S: Source, K: Sink>(
     source: &mut S,
     sink: &mut K,
 ) -> Status
-    ensures ends { Ends T.means S.means K.means Script
+    ensures ends { CommandEnds T.means S.means K.means Script
         record { tape = unit.old.tape; source = source.old; sink = sink.old }
         record { tape = unit.new.tape; source = source.new; sink = sink.new } result }
     ensures kept { S.means.keeps source.old source.new }

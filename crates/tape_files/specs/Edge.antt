@@ -1,6 +1,6 @@
 -- What real files and streams mean to the code above them: they count their failures, and tell nothing else (this
 -- project's own).
-use Rattle.std.specs.Prelude.{◌≡◌, ℕ, false, true, None, List}
+use Rattle.std.specs.Prelude.{ℕ, false, None}
 use Rattle.qic_base.specs.Disk as disks
 use Rattle.qic_base.specs.Sink as sinks
 use Rattle.qic_base.specs.Source as sources

@@ -1,6 +1,5 @@
 -- A file meets the laws of a disk: it tells nothing.
-use Rattle.std.specs.Prelude.{◌≡◌, ℕ, List, false, true}
-use Rattle.qic_base.specs.Disk.{IsSettled, IsToldRight, IsLeftNow}
+use Rattle.qic_base.specs.Disk.{IsToldRight, IsLeftNow}
 use Rattle.tape_files.specs.Edge.{FileState, file_means}
 
 pub file_told_right : (f : FileState) → IsToldRight file_means f

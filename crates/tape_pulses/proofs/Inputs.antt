@@ -2,7 +2,7 @@
 use Rattle.std.proofs.Common.{◌≡◌, ℕ, ◌+◌, ◌≤◌, ◌<◌, List, [], ◌∷◌, ◌++◌, length, Option, Some, None, IfSome, codes, get_or, refl, sym, ap, ◌∙◌, subst, arith, append_assoc}
 use Rattle.std.specs.Option.{option_map}
 use Rattle.std.proofs.lemmas.List.{length-append, append_cancel_left, nil_from_length}
-use Rattle.tape_script.specs.Input.{IsTrain, IsPulse, Ending, AtEnd, AtStop, AtFault, HasStop, IsFault, Ends, HasItems, most_items}
+use Rattle.tape_script.specs.Input.{IsTrain, IsPulse, Ending, AtEnd, AtStop, AtFault, HasStop, IsFault, ItemsEnd, HasItems, most_items}
 use Rattle.tape_script.proofs.Decimals.{one_number}
 use Rattle.tape_script.proofs.Inputs as inputs
 use Rattle.tape_script.proofs.Lined.{one_before}
@@ -72,7 +72,7 @@ one_train a b r q x y first second e =
 
 -- where a train may begin the input, it doesn't end there
 no_ending : (line place p : ℕ) (input rest : List ℕ) (ending : Ending) → IsPulse (train_line p) p → line ≤ most_items →
-    input ≡ train_line p ++ rest → Ends IsPulse line place input ending → ⊥
+    input ≡ train_line p ++ rest → ItemsEnd IsPulse line place input ending → ⊥
 no_ending line place p input rest AtEnd is few e ends =
     inputs.pulses.some (train_line p) p is
     (nil_from_length (train_line p) (let l = ap length (sym ends ∙ e) in let m = length-append (train_line p) rest in omega arith))

@@ -13,7 +13,7 @@ use Rattle.acts.specs.Acts.{Act, Outside, Failing, TapeFails, SourceFails, SinkF
 use Rattle.acts.proofs.Joins.{went_both, went_then_cut, cut_is_longer}
 use Rattle.drive_states.specs.Record.{Record, power_on}
 use Rattle.drive_states.specs.Unit.{UnitView, IsInserted}
-use Rattle.tape_script.specs.Input.{IsPulse, Ending, AtEnd, AtStop, AtFault, Ends, HasItems, most_items}
+use Rattle.tape_script.specs.Input.{IsPulse, Ending, AtEnd, AtStop, AtFault, ItemsEnd, HasItems, most_items}
 use Rattle.tape_script.specs.Reading.{Gave}
 use Rattle.tape_script.proofs.Giving.{Gave-Gave, Gave-end, Gave-nothing}
 use Rattle.tape_script.proofs.Readings.{each_pulses}
@@ -142,7 +142,7 @@ module _ {T S K : Type 0} {t : tapes.Meaning T} {s : sources.Meaning S} {k : sin
 
     -- how the input ends behind the trains is how it ends
     ended_so : (rest : List ℕ) (ending : Ending) (answer : Answer) → lines ≤ most_items → Went t s k now new [] → after ≡ r →
-        IfSome (s.left now.source) (λ bytes. bytes ≡ rest) → Ends IsPulse (lines + 1) place rest ending → answer_by ending ≡ answer →
+        IfSome (s.left now.source) (λ bytes. bytes ≡ rest) → ItemsEnd IsPulse (lines + 1) place rest ending → answer_by ending ≡ answer →
         Leaves s start.source new.source (taken_by (train_lines far.trains ++ rest) far.trains ending) answer → Ended t s k start new after answer
     ended_so rest ending answer few none drive told ends answered left =
         let input : List ℕ = train_lines far.trains ++ rest in
@@ -211,7 +211,7 @@ module _ {T S K : Type 0} {t : tapes.Meaning T} {s : sources.Meaning S} {k : sin
         (subst (λ (x : Record). Cut t s k now new (train_act x heard.train ∷ []) failing) far.drive heard.came)))
 
     -- how a line ended it
-    pub line_failed : lines < most_items → (why : PulseFault) → Hears t s k now new r after (lines + 1) place (Err why) → runs.Ends t s k start new after (Err why)
+    pub line_failed : lines < most_items → (why : PulseFault) → Hears t s k now new r after (lines + 1) place (Err why) → runs.PulsesEnd t s k start new after (Err why)
     line_failed few (fault.Script number at) hears = faulty number at (omega arith) hears.0 hears.1 hears.2 hears.3 hears.4 (λ within. hears.5)
     line_failed few fault.Source hears = source_failed (omega arith) hears
     line_failed few fault.Sink hears = act_failed SinkFails few hears
@@ -220,7 +220,7 @@ module _ {T S K : Type 0} {t : tapes.Meaning T} {s : sources.Meaning S} {k : sin
   -- how the line behind the last train ended it
   pub end_came : TakesBoth k → (start now : Outside T S K) (r : Record) (source : S) (lines place : ℕ) (far : SoFar t s k start now r lines place) → lines ≡ most_items →
       k.took now.sink [] now.sink → s.faults now.source ≤ s.faults source → (result : Result (Unit {0}) PulseFault) →
-      HearsEnd s now.source source (most_items + 1) place result → runs.Ends t s k start (record now { source = source }) r result
+      HearsEnd s now.source source (most_items + 1) place result → runs.PulsesEnd t s k start (record now { source = source }) r result
   end_came both start now r source lines place far all nothing later (Ok done) hears =
       over both start now (record now { source = source }) r r lines place far (omega arith) (rests now source nothing later, refl, hears)
   end_came both start now r source lines place far all nothing later (Err (fault.Script number at)) hears =

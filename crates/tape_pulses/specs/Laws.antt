@@ -7,16 +7,16 @@ use Rattle.qic_base.specs.Stop.{Torn}
 use Rattle.acts.specs.Acts.{steps_of}
 use Rattle.drive_states.specs.Record.{Record}
 use Rattle.tape_script.specs.Input.{Ending, AtFault, IsPulses, most_items}
-use Rattle.tape_pulses.specs.Pulses.{Outcome, PulsesOutcome, train_acts, train_lines}
+use Rattle.tape_pulses.specs.Pulses.{PulseRun, PulsesOutcome, train_acts, train_lines}
 
 -- each input has an outcome, over each cartridge and none
 abbrev pub EachOutcome : Type 0
-EachOutcome = (known : Option TapeInfo) (input : List ℕ) → (outcome : Outcome) × PulsesOutcome known input outcome
+EachOutcome = (known : Option TapeInfo) (input : List ℕ) → (outcome : PulseRun) × PulsesOutcome known input outcome
 
 -- it has one
 abbrev pub OneOutcome : Type 0
 OneOutcome =
-    (known : Option TapeInfo) (input : List ℕ) (a b : Outcome) →
+    (known : Option TapeInfo) (input : List ℕ) (a b : PulseRun) →
     PulsesOutcome known input a → PulsesOutcome known input b → a ≡ b
 
 -- the input begins with the lines of its trains, of which there are at most 65,536

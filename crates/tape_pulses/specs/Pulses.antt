@@ -63,7 +63,7 @@ pub data Answer : Type 0 where
 
 -- the acts of its trains, what the drive is in then, how many bytes of the input were taken, at least so many where a
 -- line is none, and the answer
-pub record Outcome : Type 0 where
+pub record PulseRun : Type 0 where
   pub acts : List Act
   pub drive : Record
   pub taken : ℕ
@@ -81,7 +81,7 @@ answer_by AtStop = AllSent
 answer_by (AtFault line place) = ScriptFault line place
 
 -- what comes of an input with these trains and this ending, over a drive
-abbrev pub outcome_of : Record → (input trains : List ℕ) → Ending → Outcome
+abbrev pub outcome_of : Record → (input trains : List ℕ) → Ending → PulseRun
 outcome_of r input trains ending = record {
   acts = train_acts r trains;
   drive = after_trains r trains;
@@ -91,7 +91,7 @@ outcome_of r input trains ending = record {
 
 -- The plain machine: the outcome of an input, over what the drive knows of its cartridge once that was put in. At most
 -- 65,536 lines are trains.
-pub record PulsesOutcome (known : Option TapeInfo) (input : List ℕ) (outcome : Outcome) : Type 0 where
+pub record PulsesOutcome (known : Option TapeInfo) (input : List ℕ) (outcome : PulseRun) : Type 0 where
   pub trains : List ℕ
   pub ending : Ending
   pub read : IsPulses input trains ending

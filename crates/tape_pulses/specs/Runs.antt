@@ -9,7 +9,7 @@ use Rattle.acts.specs.Acts.{Outside, Failing, TapeFails, SourceFails, SinkFails,
 use Rattle.drive_states.specs.Record.{Record}
 use Rattle.tape_pulses.specs.declared.fault.PulseFault.{PulseFault}
 use Rattle.tape_pulses.specs.declared.fault.PulseFault.TheVariants as fault
-use Rattle.tape_pulses.specs.Pulses.{Outcome, PulsesOutcome, Answer, AllSent, ScriptFault}
+use Rattle.tape_pulses.specs.Pulses.{PulseRun, PulsesOutcome, Answer, AllSent, ScriptFault}
 
 -- What the drive learnt when the cartridge was put in, and the input: what the tape and the source told, or some where
 -- they tell none.
@@ -29,7 +29,7 @@ pub record Ended {T S K : Type 0} (t : tapes.Meaning T) (s : sources.Meaning S) 
   pub known : Option TapeInfo
   pub input : List ℕ
   pub over : Over t s old known input
-  pub outcome : Outcome
+  pub outcome : PulseRun
   pub plain : PulsesOutcome known input outcome
   pub answered : outcome.answer ≡ answer
   pub drive : r ≡ outcome.drive
@@ -41,14 +41,14 @@ pub record CutOff {T S K : Type 0} (t : tapes.Meaning T) (s : sources.Meaning S)
   pub known : Option TapeInfo
   pub input : List ℕ
   pub over : Over t s old known input
-  pub outcome : Outcome
+  pub outcome : PulseRun
   pub plain : PulsesOutcome known input outcome
   pub cut : Cut t s k old new outcome.acts failing
 
 -- how a run ended, and with which drive
-abbrev pub Ends : {T S K : Type 0} (t : tapes.Meaning T) (s : sources.Meaning S) (k : sinks.Meaning K) (old new : Outside T S K) (r : Record) → Result (Unit {0}) PulseFault → Type 0
-Ends t s k old new r (Ok done) = Ended t s k old new r AllSent
-Ends t s k old new r (Err (fault.Script line place)) = Ended t s k old new r (ScriptFault line place)
-Ends t s k old new r (Err fault.Source) = CutOff t s k old new SourceFails
-Ends t s k old new r (Err fault.Sink) = CutOff t s k old new SinkFails
-Ends t s k old new r (Err fault.Tape) = CutOff t s k old new TapeFails
+abbrev pub PulsesEnd : {T S K : Type 0} (t : tapes.Meaning T) (s : sources.Meaning S) (k : sinks.Meaning K) (old new : Outside T S K) (r : Record) → Result (Unit {0}) PulseFault → Type 0
+PulsesEnd t s k old new r (Ok done) = Ended t s k old new r AllSent
+PulsesEnd t s k old new r (Err (fault.Script line place)) = Ended t s k old new r (ScriptFault line place)
+PulsesEnd t s k old new r (Err fault.Source) = CutOff t s k old new SourceFails
+PulsesEnd t s k old new r (Err fault.Sink) = CutOff t s k old new SinkFails
+PulsesEnd t s k old new r (Err fault.Tape) = CutOff t s k old new TapeFails

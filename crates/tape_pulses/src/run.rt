@@ -2,7 +2,7 @@
 
 ghost use Rattle.std.specs.Prelude.{◌≡◌, ◌≤◌, Err, is_some};
 ghost use Rattle.qic_base.specs.Cause.{Rose};
-ghost use Rattle.tape_pulses.specs.Runs.{Ends};
+ghost use Rattle.tape_pulses.specs.Runs.{PulsesEnd};
 
 use crate::PulseFault;
 use crate::ending::end_input;
@@ -22,7 +22,7 @@ pub fn run_pulses<T: Tape, S: Source, K: Sink>(
     sink: &mut K,
 ) -> Result<(), PulseFault>
     // The outcome of the plain machine; where a fault of the outside cut it off, the acts up to that one and no more.
-    ensures ends { Ends T.means S.means K.means
+    ensures ends { PulsesEnd T.means S.means K.means
         record { tape = unit.old.tape; source = source.old; sink = sink.old }
         record { tape = unit.new.tape; source = source.new; sink = sink.new }
         unit.new.drive result }

@@ -1,5 +1,5 @@
 -- The forms of commands.
-use Rattle.std.proofs.Common.{◌≡◌, ◌⊎◌, inl, inr, ℕ, zero, suc, ◌+◌, ◌-◌, ◌*◌, ◌/◌, ◌%◌, ◌≤◌, ◌<◌, ◌==◌, true, false, List, [], ◌∷◌, ◌++◌, length, get_or, codes, if◌then◌else◌, decimal, refl, sym, ap, ◌∙◌, arith, subst}
+use Rattle.std.proofs.Common.{◌≡◌, ◌⊎◌, inl, inr, ℕ, zero, suc, ◌+◌, ◌-◌, ◌*◌, ◌/◌, ◌%◌, ◌≤◌, ◌==◌, true, false, List, [], ◌∷◌, ◌++◌, length, get_or, codes, if◌then◌else◌, refl, sym, ap, ◌∙◌, arith, subst}
 use Rattle.std.proofs.lemmas.Bool.Decides.{nat_tests}
 use Rattle.std.specs.Str.{bytes_eq}
 use Rattle.std.specs.Str.Parse.{digits_value}
@@ -8,7 +8,7 @@ use Rattle.qic_base.specs.Date.{date_word}
 use Rattle.qic_base.specs.Name.{filled}
 use Rattle.tape_script.specs.declared.words.Words.{Words}
 use Rattle.tape_script.specs.declared.words.Words.TheVariants as words
-use Rattle.tape_script.specs.Forms.{Part, Word, Number, Name, Date, IsNumber, IsDateWord, Spells, SpellsAll, HasForm, dated}
+use Rattle.tape_script.specs.Forms.{Part, Word, Name, Date, IsNumber, IsDateWord, SpellsPart, SpellsAll, HasForm, dated}
 use Rattle.tape_script.specs.Words.{IsCommand, IsNoCommand, OneCommand}
 use Rattle.tape_script.proofs.Dates.{HasPair, fields_of}
 
@@ -34,7 +34,7 @@ dated_cases ws form (suc date) (inr h) = let dated : (suc date == 0) ≡ false =
 pub record One (ws : List (List ℕ)) (p : Part) : Type 0 where
   pub first : List ℕ
   pub are : ws ≡ first ∷ []
-  pub one : Spells first p
+  pub one : SpellsPart first p
 
 pub one_word : (ws : List (List ℕ)) (p : Part) → SpellsAll ws (p ∷ []) → One ws p
 one_word [] p h = absurd h
@@ -45,8 +45,8 @@ pub record Two (ws : List (List ℕ)) (p q : Part) : Type 0 where
   pub first : List ℕ
   pub second : List ℕ
   pub are : ws ≡ first ∷ second ∷ []
-  pub one : Spells first p
-  pub two : Spells second q
+  pub one : SpellsPart first p
+  pub two : SpellsPart second q
 
 pub two_words : (ws : List (List ℕ)) (p q : Part) → SpellsAll ws (p ∷ q ∷ []) → Two ws p q
 two_words [] p q h = absurd h
@@ -59,9 +59,9 @@ pub record Three (ws : List (List ℕ)) (p q r : Part) : Type 0 where
   pub second : List ℕ
   pub third : List ℕ
   pub are : ws ≡ first ∷ second ∷ third ∷ []
-  pub one : Spells first p
-  pub two : Spells second q
-  pub three : Spells third r
+  pub one : SpellsPart first p
+  pub two : SpellsPart second q
+  pub three : SpellsPart third r
 
 pub three_words : (ws : List (List ℕ)) (p q r : Part) → SpellsAll ws (p ∷ q ∷ r ∷ []) → Three ws p q r
 three_words [] p q r h = absurd h

@@ -1,6 +1,6 @@
 -- The texts of dates.
 use Rattle.std.proofs.Common.{◌≡◌, ℕ, ◌+◌, ◌*◌, ◌/◌, ◌%◌, ◌<◌, ◌≤◌, List, length, get_or, refl, sym, ap, ◌∙◌, arith}
-use Rattle.std.proofs.lemmas.Slice.Eq.{HasBytesAt, text_from_reads}
+use Rattle.std.proofs.lemmas.Slice.Eq.{text_from_reads}
 use Rattle.tape_script.specs.Text.{digit, date_form}
 use Rattle.tape_script.specs.Forms.{IsDateWord}
 

@@ -1,17 +1,15 @@
 -- Words are those of a command or of none, and each input has a reading.
-use Rattle.std.proofs.Common.{◌≡◌, ◌≢◌, ◌⊎◌, inl, inr, ℕ, zero, suc, ◌+◌, ◌-◌, ◌*◌, ◌/◌, ◌%◌, ◌<◌, ◌≤◌, ◌==◌, Bool, true, false, List, [], ◌∷◌, ◌++◌, All, Option, Some, None, slice_get, length, take, drop, get_or, nat_lt, nat_le, nat_eq, codes, decimal, refl, sym, ap, ◌∙◌, arith, subst}
+use Rattle.std.proofs.Common.{◌≡◌, ◌≢◌, ◌⊎◌, inl, inr, ℕ, zero, suc, ◌+◌, ◌-◌, ◌*◌, ◌/◌, ◌%◌, ◌≤◌, ◌==◌, Bool, true, false, List, [], ◌∷◌, All, Option, Some, None, slice_get, length, nat_le, decimal, refl, sym, ap, arith, subst}
 use Rattle.std.specs.Str.{bytes_eq}
 use Rattle.std.proofs.lemmas.Bool.Decides.{nat_tests}
 use Rattle.std.proofs.lemmas.Slice.Eq.{bytes_eq-Decides}
 use Rattle.qic_base.specs.Date.{IsDate, date_word}
 use Rattle.qic_base.specs.Name.{IsNameText, IsPrintable, filled}
 use Rattle.tape_script.specs.declared.words.Words.{Words}
-use Rattle.tape_script.specs.declared.line.Line.{Line}
 use Rattle.tape_script.specs.Text.{date_form}
-use Rattle.tape_script.specs.Forms.{Part, Word, Number, Name, Date, IsNumber, IsDateWord, Spells, SpellsAll, HasForm}
+use Rattle.tape_script.specs.Forms.{Part, Word, Number, Name, Date, IsNumber, IsDateWord, SpellsPart, SpellsAll, HasForm}
 use Rattle.tape_script.specs.Words.{IsCommand, IsNoCommand, word_forms}
-use Rattle.tape_script.specs.Input.{HasLineForm, IsNoLine, line_forms}
-use Rattle.tape_script.proofs.Dates.{fields_of, HasPair}
+use Rattle.tape_script.proofs.Dates.{fields_of}
 use Rattle.tape_script.proofs.Commands.{pair_value, pair_is, guess, guess_is}
 
 -- a fact that holds or not
@@ -136,7 +134,7 @@ is_date_word word date =
     (both (IsDate y mo d h mi s) (F × N) (is_date y mo d h mi s)
     (both F N (same_bytes word (date_form y mo d h mi s)) (same_number date (date_word y mo d h mi s))))
 
-pub spelled : (word : List ℕ) (part : Part) → Decided (Spells word part)
+pub spelled : (word : List ℕ) (part : Part) → Decided (SpellsPart word part)
 spelled word (Word text) = same_bytes word text
 spelled word (Number least greatest n) =
     along (IsNumber word n × ((least ≤ n) × (n ≤ greatest))) (IsNumber word n × (least ≤ n) × (n ≤ greatest))
@@ -149,7 +147,7 @@ all_spelled : (words : List (List ℕ)) (parts : List Part) → Decided (SpellsA
 all_spelled [] [] = inl tt
 all_spelled [] (part ∷ parts) = inr (λ h. h)
 all_spelled (word ∷ words) [] = inr (λ h. h)
-all_spelled (word ∷ words) (part ∷ parts) = both (Spells word part) (SpellsAll words parts) (spelled word part) (all_spelled words parts)
+all_spelled (word ∷ words) (part ∷ parts) = both (SpellsPart word part) (SpellsAll words parts) (spelled word part) (all_spelled words parts)
 
 pub has_form : (words : List (List ℕ)) (forms : List (List Part)) → Decided (HasForm words forms)
 has_form words [] = inr (λ h. h)

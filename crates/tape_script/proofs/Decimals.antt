@@ -1,8 +1,8 @@
 -- Numbers in decimal digits.
-use Rattle.std.proofs.Common.{◌≡◌, ℕ, zero, suc, ◌+◌, ◌-◌, ◌*◌, ◌/◌, ◌%◌, ◌^◌, ◌<◌, ◌≤◌, ◌⊎◌, inl, inr, List, [], ◌∷◌, ◌++◌, All, length, take, get_or, decimal, refl, sym, ap, ◌∙◌, arith, add-one, lit≤, lit<}
+use Rattle.std.proofs.Common.{◌≡◌, ℕ, zero, suc, ◌+◌, ◌-◌, ◌*◌, ◌/◌, ◌%◌, ◌^◌, ◌<◌, ◌≤◌, ◌⊎◌, inl, inr, List, [], ◌∷◌, ◌++◌, All, length, take, get_or, decimal, refl, sym, ap, ◌∙◌, arith, add-one, lit<}
 use Rattle.std.proofs.Math.Nat.{pow-suc, pow-le-pow_right}
 use Rattle.std.proofs.lemmas.Fmt.{decimal_by_steps, decimal_digit, decimal_step, decimal_nonempty, decimal_is_IsNumeral, length-decimal-le, first_decimal}
-use Rattle.std.proofs.lemmas.List.{length_push, length-take-le, take_more, take_all, get_or-take}
+use Rattle.std.proofs.lemmas.List.{length_push, length-take-le, take_more, get_or-take}
 use Rattle.std.proofs.lemmas.List.Elements.{All-push, All-get_or}
 use Rattle.std.specs.Str.Parse.{digits_value}
 use Rattle.tape_script.specs.Forms.{IsNumber}

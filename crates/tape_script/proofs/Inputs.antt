@@ -1,10 +1,9 @@
 -- The inputs of `script` and of `pulses`: their items are unique.
-use Rattle.std.proofs.Common.{◌≡◌, ◌≢◌, ◌⊎◌, inl, inr, ℕ, zero, suc, ◌+◌, ◌≤◌, ◌<◌, List, [], ◌∷◌, ◌++◌, length, codes, refl, sym, ap, ◌∙◌, arith, subst, append_assoc, append-nil, lit<}
+use Rattle.std.proofs.Common.{◌≡◌, ◌≢◌, ◌⊎◌, inl, inr, ℕ, ◌+◌, ◌≤◌, ◌<◌, List, [], ◌∷◌, ◌++◌, length, codes, refl, sym, ap, ◌∙◌, arith, subst, append_assoc, append-nil, lit<}
 use Rattle.std.proofs.lemmas.List.{length-append, append_cancel_left, nil_from_length}
 use Rattle.tape_script.specs.declared.line.Line.{Line}
 use Rattle.tape_script.specs.declared.line.Line.TheVariants as line
-use Rattle.tape_script.specs.Reading.{NoNewline}
-use Rattle.tape_script.specs.Input.{IsLined, IsLine, IsTrain, words_of, promised, Item, IsItem, IsPulse, Ending, AtEnd, AtStop, AtFault, HasStop, IsFault, Ends, HasItems, NoItemBegins, OneReading, most_items}
+use Rattle.tape_script.specs.Input.{IsLined, IsLine, IsTrain, words_of, promised, Item, IsItem, IsPulse, Ending, AtEnd, AtStop, AtFault, HasStop, ItemsEnd, HasItems, NoItemBegins, OneReading, most_items}
 use Rattle.tape_script.proofs.Lines.{one_line}
 use Rattle.tape_script.proofs.Decimals.{one_number, all_digits}
 use Rattle.tape_script.proofs.Lined.{one_before, end_no_newline}
@@ -99,7 +98,7 @@ one_item {I} Spelled are s t r q x y a b e = elim (fronts s t r q e) [
   }
 ]
 
-one_ending : {I : Type 0} (Spelled : List ℕ → I → Type 0) (line place : ℕ) (input : List ℕ) (a b : Ending) → Ends Spelled line place input a → Ends Spelled line place input b → a ≡ b
+one_ending : {I : Type 0} (Spelled : List ℕ → I → Type 0) (line place : ℕ) (input : List ℕ) (a b : Ending) → ItemsEnd Spelled line place input a → ItemsEnd Spelled line place input b → a ≡ b
 one_ending Spelled line place input AtEnd AtEnd p q = refl
 one_ending Spelled line place input AtEnd AtStop p q = absurd (let e : [] ≡ codes "end\n" ++ q.0 = sym p ∙ q.1 in cc)
 one_ending Spelled line place input AtEnd (AtFault n m) p q = absurd (q.0.some p)
@@ -112,7 +111,7 @@ one_ending Spelled line place input (AtFault n m) (AtFault k l) p q = rw (p.1, p
 
 -- where an item begins the input, it doesn't end there
 pub no_ending : {I : Type 0} (Spelled : List ℕ → I → Type 0) → AreItems Spelled → (line place : ℕ) (input text rest : List ℕ) (x : I) (a : Ending) →
-    Ends Spelled line place input a → line ≤ most_items → input ≡ text ++ rest → Spelled text x → ⊥
+    ItemsEnd Spelled line place input a → line ≤ most_items → input ≡ text ++ rest → Spelled text x → ⊥
 no_ending Spelled are line place input text rest x AtEnd p le e spelled =
     are.some text x spelled (nil_from_length text (let l = ap length (sym p ∙ e) in let m = length-append text rest in omega arith))
 no_ending Spelled are line place input text rest x AtStop p le e spelled = are.no_stop text rest x spelled (p.0, sym e ∙ p.1)

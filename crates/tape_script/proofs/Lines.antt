@@ -1,17 +1,13 @@
 -- The forms of a script's lines, and the items that they begin.
-use Rattle.std.proofs.Common.{◌≡◌, ◌⊎◌, inl, inr, ℕ, zero, suc, ◌+◌, ◌≤◌, ◌<◌, true, false, List, [], ◌∷◌, ◌++◌, length, take, drop, codes, if◌then◌else◌, refl, sym, ap, ◌∙◌, arith, subst, append_assoc}
+use Rattle.std.proofs.Common.{◌≡◌, inl, inr, ℕ, ◌≤◌, List, [], ◌∷◌, length, codes, if◌then◌else◌, refl, sym, ap, ◌∙◌, arith, subst}
 use Rattle.std.specs.Str.{bytes_eq}
-use Rattle.std.specs.List.{slice_split}
-use Rattle.std.proofs.lemmas.List.{length-append, take_at, drop_at}
 use Rattle.qic_base.specs.Name.{filled}
 use Rattle.tape_script.specs.declared.line.Line.{Line}
 use Rattle.tape_script.specs.declared.line.Line.TheVariants as line
-use Rattle.tape_script.specs.Forms.{Part, Word, Name, IsDateWord, Spells, SpellsAll, HasForm, dated}
+use Rattle.tape_script.specs.Forms.{Part, Word, Name, IsDateWord, SpellsPart, SpellsAll}
 use Rattle.tape_script.specs.Words.{AnyNumber}
-use Rattle.tape_script.specs.Input.{IsLined, IsLine, IsTrain, HasLineForm, IsNoLine, OneLine, words_of, line_forms, promised, Item, IsItem, IsPulse, NoItemBegins}
-use Rattle.tape_script.proofs.Commands.{only, dated_cases, spelled_length, Two, one_word, two_words, three_words, number_value, date_value, IsNumber-value, IsDateWord-value}
-use Rattle.tape_script.proofs.Decimals.{one_number}
-use Rattle.tape_script.proofs.Lined.{one_before}
+use Rattle.tape_script.specs.Input.{HasLineForm, IsNoLine, OneLine}
+use Rattle.tape_script.proofs.Commands.{only, dated_cases, spelled_length, one_word, two_words, three_words, number_value, date_value, IsNumber-value, IsDateWord-value}
 
 pub record Four (ws : List (List ℕ)) (p q r s : Part) : Type 0 where
   pub first : List ℕ
@@ -19,10 +15,10 @@ pub record Four (ws : List (List ℕ)) (p q r s : Part) : Type 0 where
   pub third : List ℕ
   pub fourth : List ℕ
   pub are : ws ≡ first ∷ second ∷ third ∷ fourth ∷ []
-  pub one : Spells first p
-  pub two : Spells second q
-  pub three : Spells third r
-  pub four : Spells fourth s
+  pub one : SpellsPart first p
+  pub two : SpellsPart second q
+  pub three : SpellsPart third r
+  pub four : SpellsPart fourth s
 
 four_words : (ws : List (List ℕ)) (p q r s : Part) → SpellsAll ws (p ∷ q ∷ r ∷ s ∷ []) → Four ws p q r s
 four_words [] p q r s h = absurd h

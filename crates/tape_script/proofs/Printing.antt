@@ -1,13 +1,12 @@
 -- What is read is printed again.
-use Rattle.std.proofs.Common.{◌≡◌, ◌≢◌, ℕ, zero, suc, ◌+◌, ◌-◌, ◌<◌, ◌≤◌, ◌==◌, ◌&&◌, true, false, List, [], ◌∷◌, ◌++◌, All, Some, slice_get, map, length, take, replicate, get_or, nat_lt, nat_le, refl, sym, ap, ◌∙◌, arith, append_assoc, append-nil}
+use Rattle.std.proofs.Common.{◌≡◌, ◌≢◌, ℕ, zero, suc, ◌+◌, ◌-◌, ◌<◌, false, List, [], ◌∷◌, ◌++◌, Some, map, length, take, replicate, get_or, nat_lt, refl, sym, ap, ◌∙◌, arith, append_assoc, append-nil}
 use Rattle.std.proofs.lemmas.Bool.Decides.{nat_tests}
-use Rattle.std.proofs.lemmas.List.{take_more, take_all}
+use Rattle.std.proofs.lemmas.List.{take_all}
 use Rattle.std.proofs.lemmas.Option.{slice_get-get_or}
 use Rattle.qic_base.specs.Date.{low_part, greatest_low_part, date_word, ShowsDate}
-use Rattle.qic_base.specs.Name.{IsNameText, IsPrintable, filled}
+use Rattle.qic_base.specs.Name.{IsPrintable, filled}
 use Rattle.qic_base.proofs.DateLaws.{written_date_is_read_back}
-use Rattle.tape_script.specs.Forms.{IsDateWord}
-use Rattle.tape_script.specs.Text.{date_text, date_form, name_text, trimmed, printable, is_filler}
+use Rattle.tape_script.specs.Text.{date_text, name_text, trimmed, printable, is_filler}
 use Rattle.tape_script.specs.Laws.{DateIsPrintedAsRead, NameIsPrintedAsRead}
 use Rattle.tape_script.proofs.Texts.{trimmed-filler, trimmed-take-kept}
 

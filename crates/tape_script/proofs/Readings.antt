@@ -1,11 +1,11 @@
 -- Each input of `script` and of `pulses` has a reading.
 use Rattle.std.proofs.Common.{◌≡◌, ◌≢◌, ◌⊎◌, inl, inr, ℕ, zero, suc, ◌+◌, ◌≤◌, ◌<◌, List, [], ◌∷◌, ◌++◌, length, take, drop, get_or, codes, refl, sym, ap, ◌∙◌, arith, subst, append_assoc}
-use Rattle.std.proofs.lemmas.List.{length-append, take-append-drop, take_at, append_cancel_left, length-take-le, get_or_at, nil_from_length}
+use Rattle.std.proofs.lemmas.List.{length-append, take-append-drop, append_cancel_left, length-take-le, get_or_at}
 use Rattle.tape_script.specs.declared.line.Line.{Line}
 use Rattle.tape_script.specs.declared.line.Line.TheVariants as line
 use Rattle.tape_script.specs.Forms.{Number}
 use Rattle.tape_script.specs.Reading.{NoNewline}
-use Rattle.tape_script.specs.Input.{IsLined, IsLine, IsTrain, words_of, line_forms, promised, Item, IsItem, IsPulse, Ending, AtEnd, AtStop, AtFault, HasStop, HasItem, HasItems, IsFault, EachReading, most_items}
+use Rattle.tape_script.specs.Input.{IsLined, IsLine, IsTrain, words_of, line_forms, promised, IsItem, IsPulse, Ending, AtEnd, AtStop, AtFault, HasStop, HasItem, HasItems, EachReading, most_items}
 use Rattle.tape_script.proofs.Commands.{number_value, IsNumber-value}
 use Rattle.tape_script.proofs.Deciding.{Decided, along, both, at_most, same_bytes, same_number, has_form, spelled}
 use Rattle.tape_script.proofs.Lined.{one_before}

@@ -1,5 +1,5 @@
 -- What a word of a command or of a script's line may be, and when words have a form (this project's own).
-use Rattle.std.specs.Prelude.{◌≡◌, ◌⊎◌, ℕ, ◌≤◌, ◌==◌, List, [], ◌∷◌, ◌++◌, if◌then◌else◌, codes, decimal}
+use Rattle.std.specs.Prelude.{◌≡◌, ◌⊎◌, ℕ, ◌≤◌, ◌==◌, List, [], ◌∷◌, ◌++◌, if◌then◌else◌, decimal}
 use Rattle.qic_base.specs.Date.{IsDate, date_word}
 use Rattle.qic_base.specs.Name.{IsNameText, filled}
 use Rattle.tape_script.specs.Text.{date_form}
@@ -35,11 +35,11 @@ pub data Part : Type 0 where
   Date : ℕ → Part
 
 -- the word stands for the part
-abbrev pub Spells : List ℕ → Part → Type 0
-Spells word (Word text) = word ≡ text
-Spells word (Number least greatest n) = IsNumber word n × (least ≤ n) × (n ≤ greatest)
-Spells word (Name name) = IsNameText word × (name ≡ filled word)
-Spells word (Date date) = IsDateWord word date
+abbrev pub SpellsPart : List ℕ → Part → Type 0
+SpellsPart word (Word text) = word ≡ text
+SpellsPart word (Number least greatest n) = IsNumber word n × (least ≤ n) × (n ≤ greatest)
+SpellsPart word (Name name) = IsNameText word × (name ≡ filled word)
+SpellsPart word (Date date) = IsDateWord word date
 
 -- ---- words
 
@@ -48,7 +48,7 @@ abbrev pub SpellsAll : List (List ℕ) → List Part → Type 0
 SpellsAll [] [] = Unit {0}
 SpellsAll [] (part ∷ parts) = ⊥
 SpellsAll (word ∷ words) [] = ⊥
-SpellsAll (word ∷ words) (part ∷ parts) = Spells word part × SpellsAll words parts
+SpellsAll (word ∷ words) (part ∷ parts) = SpellsPart word part × SpellsAll words parts
 
 -- the words have one of the forms
 abbrev pub HasForm : List (List ℕ) → List (List Part) → Type 0

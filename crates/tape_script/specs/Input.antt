@@ -1,9 +1,9 @@
 -- The inputs of `script` and of `pulses`: items, and what ends them (this project's own).
-use Rattle.std.specs.Prelude.{◌≡◌, ◌≢◌, ℕ, ◌+◌, ◌≤◌, ◌==◌, Bool, List, [], ◌∷◌, ◌++◌, length, All, codes}
+use Rattle.std.specs.Prelude.{◌≡◌, ◌≢◌, ℕ, ◌+◌, ◌≤◌, ◌==◌, List, [], ◌∷◌, ◌++◌, length, All, codes}
 use Rattle.std.specs.List.{slice_split}
 use Rattle.tape_script.specs.declared.line.Line.{Line}
 use Rattle.tape_script.specs.declared.line.Line.TheVariants as line
-use Rattle.tape_script.specs.Forms.{Part, Word, Name, Spells, HasForm, dated, Number}
+use Rattle.tape_script.specs.Forms.{Part, Word, Name, SpellsPart, HasForm, dated, Number}
 use Rattle.tape_script.specs.Words.{AnyNumber}
 
 -- ---- lines
@@ -43,7 +43,7 @@ IsLine before line = HasLineForm (words_of before) line
 
 -- the bytes before a newline are a number of pulses
 abbrev pub IsTrain : List ℕ → ℕ → Type 0
-IsTrain before pulses = Spells before (Number 0 255 pulses)
+IsTrain before pulses = SpellsPart before (Number 0 255 pulses)
 
 -- ---- items
 
@@ -102,16 +102,16 @@ pub record IsFault {I : Type 0} (Spelled : List ℕ → I → Type 0) (line : �
   pub no_item : line ≤ most_items → ¬ (HasItem Spelled input)
 
 -- how the items end, in front of the line with this number
-abbrev pub Ends : {I : Type 0} → (List ℕ → I → Type 0) → (line place : ℕ) → List ℕ → Ending → Type 0
-Ends Spelled line place input AtEnd = input ≡ []
-Ends Spelled line place input AtStop = HasStop input
-Ends Spelled line place input (AtFault number before) =
+abbrev pub ItemsEnd : {I : Type 0} → (List ℕ → I → Type 0) → (line place : ℕ) → List ℕ → Ending → Type 0
+ItemsEnd Spelled line place input AtEnd = input ≡ []
+ItemsEnd Spelled line place input AtStop = HasStop input
+ItemsEnd Spelled line place input (AtFault number before) =
     IsFault Spelled line input × (number ≡ line) × (before ≡ place)
 
 -- the input is these items and then this ending, from the line with this number and the place with so many bytes
 -- before it
 abbrev pub HasItems : {I : Type 0} → (List ℕ → I → Type 0) → (line place : ℕ) → List ℕ → List I → Ending → Type 0
-HasItems Spelled line place input [] ending = Ends Spelled line place input ending
+HasItems Spelled line place input [] ending = ItemsEnd Spelled line place input ending
 HasItems Spelled line place input (item ∷ items) ending =
     (line ≤ most_items)
     × ((text : List ℕ) × ((rest : List ℕ) × ((input ≡ text ++ rest) × Spelled text item

@@ -9,7 +9,7 @@ use Rattle.tape_script.specs.declared.train.TrainRead.{TrainRead}
 use Rattle.tape_script.specs.declared.train.TrainRead.TheVariants as train
 use Rattle.tape_script.specs.declared.taking.Taken.{Taken}
 use Rattle.tape_script.specs.declared.taking.Taken.TheVariants as taken
-use Rattle.tape_script.specs.Input.{IsLined, IsLine, IsTrain, IsPulse, HasStop}
+use Rattle.tape_script.specs.Input.{IsLined, IsLine, IsPulse}
 
 -- from old to new the source gave these bytes
 abbrev pub Gave : {S : Type 0} → Meaning S → (old new : S) → List ℕ → Type 0

@@ -1,6 +1,6 @@
 //! Dates in words: `YYYY-MM-DDTHH:MM:SS`, all digits written.
 
-ghost use Rattle.std.specs.Prelude.{◌≡◌, ℕ, ◌+◌, ◌/◌, ◌<◌, ◌≤◌, ◌↔◌, ◌∷◌, [], IsTrue, MatchOption, length, slice_index};
+ghost use Rattle.std.specs.Prelude.{◌≡◌, ℕ, ◌+◌, ◌/◌, ◌<◌, ◌≤◌, ◌↔◌, IsTrue, MatchOption, length, slice_index};
 ghost use Rattle.tape_script.specs.Forms.{IsDateWord};
 ghost use Rattle.tape_script.specs.Text.{digit};
 

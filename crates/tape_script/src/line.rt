@@ -2,7 +2,7 @@
 
 ghost use Rattle.std.specs.Prelude.{◌≡◌, ◌+◌, ◌<◌, ◌≤◌, [], ◌∷◌, take, drop, length, codes, MatchOption, if◌then◌else◌, nat_lt};
 ghost use Rattle.qic_base.specs.Cause.{HasCause};
-ghost use Rattle.tape_script.specs.Input.{IsLine, HasLineForm, IsNoLine, words_of};
+ghost use Rattle.tape_script.specs.Input.{HasLineForm, IsNoLine, words_of};
 ghost use Rattle.tape_script.specs.Reading.{ReadsLine};
 
 use crate::date::read_date;

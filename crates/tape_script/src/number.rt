@@ -1,7 +1,7 @@
 //! Numbers in words: decimal digits as they are printed, at most nine of them.
 
-ghost use Rattle.std.specs.Prelude.{◌≡◌, ℕ, ◌<◌, ◌≤◌, MatchOption};
-ghost use Rattle.tape_script.specs.Forms.{IsNumber, Number, Spells};
+ghost use Rattle.std.specs.Prelude.{ℕ, ◌<◌, MatchOption};
+ghost use Rattle.tape_script.specs.Forms.{IsNumber, Number, SpellsPart};
 
 /// The greatest number that a word can be.
 pub const GREATEST: u32 = 999_999_999;
@@ -31,8 +31,8 @@ pub fn read_number(word: &[u8]) -> Option<u32>
 /// The number that the word is, if it is one from `least` to `greatest`.
 pub fn read_number_within(word: &[u8], least: u32, greatest: u32) -> Option<u32>
     ensures { MatchOption result
-        ((n : ℕ) → Spells word.now (Number least greatest n) → ⊥)
-        (λ n. Spells word.now (Number least greatest n)) }
+        ((n : ℕ) → SpellsPart word.now (Number least greatest n) → ⊥)
+        (λ n. SpellsPart word.now (Number least greatest n)) }
 {
     match read_number(word) {
         Some(number) if least <= number && number <= greatest => Some(number),

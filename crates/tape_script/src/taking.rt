@@ -1,6 +1,5 @@
 //! Bytes and lines are taken from a source: a line byte by byte, so that nothing behind it is read.
 
-ghost use Rattle.std.specs.Prelude.{◌≡◌};
 ghost use Rattle.qic_base.specs.Cause.{HasCause};
 ghost use Rattle.tape_script.specs.Reading.{TakesByte, TakesLine, Skips};
 

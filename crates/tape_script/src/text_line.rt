@@ -1,4 +1,4 @@
-ghost use Rattle.std.specs.Prelude.{◌≡◌, ◌+◌, ◌-◌, ◌≤◌, [], ◌∷◌, ◌++◌, length, map, take, decimal};
+ghost use Rattle.std.specs.Prelude.{◌≡◌, ◌+◌, ◌-◌, ◌≤◌, [], ◌++◌, length, map, take, decimal};
 ghost use Rattle.qic_base.specs.Date.{year_of, month_of, day_of, hour_of, minute_of, second_of};
 ghost use Rattle.tape_script.specs.Text.{date_form, date_text, digit, is_filler, trimmed, printable, name_text};
 

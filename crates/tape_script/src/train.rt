@@ -1,6 +1,5 @@
 //! The lines of `pulses`.
 
-ghost use Rattle.std.specs.Prelude.{◌≡◌};
 ghost use Rattle.qic_base.specs.Cause.{HasCause};
 ghost use Rattle.tape_script.specs.Reading.{ReadsTrain};
 

@@ -1,6 +1,6 @@
 //! The words behind the image's path.
 
-ghost use Rattle.std.specs.Prelude.{◌≡◌, [], ◌∷◌, map, string_bytes, codes, MatchOption, MatchResult};
+ghost use Rattle.std.specs.Prelude.{[], ◌∷◌, map, string_bytes, codes, MatchOption, MatchResult};
 ghost use Rattle.tape_script.specs.Words.{IsCommand, IsNoCommand};
 
 use crate::date::read_date;

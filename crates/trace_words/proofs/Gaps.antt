@@ -1,17 +1,17 @@
 -- What the matches of the command say of the words.
-use Rattle.std.proofs.Common.{◌≡◌, ◌≢◌, ◌<◌, ◌≤◌, ◌^◌, ◌∙◌, ap, ap₂, ℕ, Bool, true, false, List, [], ◌∷◌, length, Option, Some, None, Result, Ok, Err, IfOk, refl, sym, subst, codes, arith, inl, inr, slice_index}
-use Rattle.std.specs.Prelude.{pos, map, MatchResult}
+use Rattle.std.proofs.Common.{◌≡◌, ◌≢◌, ◌≤◌, ◌∙◌, ap, ap₂, ℕ, true, List, [], ◌∷◌, Option, Some, Result, Ok, refl, sym, subst, codes, arith, inl, inr, slice_index}
+use Rattle.std.specs.Prelude.{pos}
 use Rattle.std.specs.Str.Parse.{ParsesUnsigned, digits_value, without_leading_plus}
 use Rattle.clap.specs.Lexer.{without_minus}
-use Rattle.clap.specs.Facts.{args_of, groups_of, least_values, unwrap_or_range}
-use Rattle.clap.specs.Built.{IsParsedFrom, IsAuto}
+use Rattle.clap.specs.Facts.{least_values, unwrap_or_range}
+use Rattle.clap.specs.Built.{IsParsedFrom}
 use Rattle.clap.specs.Matches.{ReadsOne, found_of, one_text}
-use Rattle.clap.specs.Values.{Accepts, IsSignedIn}
-use Rattle.clap.specs.Walk.{Rule, Text, one_of, rows_of, rule_of}
-use Rattle.clap.specs.Simple.{App, HasMatchesOf, app_of, is_simple, matches_of, with_rule}
+use Rattle.clap.specs.Values.{IsSignedIn}
+use Rattle.clap.specs.Walk.{Rule, Text, one_of, rows_of}
+use Rattle.clap.specs.Simple.{HasMatchesOf, app_of, is_simple, matches_of, with_rule}
 use Rattle.clap.specs.Takes.{takes}
 use Rattle.clap.specs.Faults.{fault_of, is_simple_and_free}
-use Rattle.clap.specs.Kinds.{FailsBy, HasKind, IsAmong, Kinds}
+use Rattle.clap.specs.Kinds.{HasKind, IsAmong, Kinds}
 use Rattle.clap.specs.Values.{kind_of}
 use Rattle.clap.specs.declared.error.Error.{Error}
 use Rattle.clap.specs.declared.error.kind.ErrorKind.{ErrorKind}
@@ -23,8 +23,8 @@ use Rattle.clap.specs.declared.parser.matches.ArgMatches.{ArgMatches}
 use Rattle.clap.proofs.CallerReads.{signed_reads}
 use Rattle.clap.proofs.OnLiterals.{clap_on_literals}
 use Rattle.clap.proofs.WalkLemmas.{one_text-rows}
-use Rattle.trace_words.specs.Words.{gap_rule, trace_command, HasGap, IsRefused}
-use Rattle.trace_words.specs.Options.{IsGapOption, IsEmptyCommand, IsTraceCommand}
+use Rattle.trace_words.specs.Words.{trace_command, HasGap, IsRefused}
+use Rattle.trace_words.specs.Options.{IsTraceCommand}
 use Rattle.trace_words.proofs.Defaults.{one_default_read}
 
 pub app_is : (c : Command) → IsTraceCommand c → app_of c ≡ trace_command

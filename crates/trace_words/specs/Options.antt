@@ -1,5 +1,5 @@
 -- The option and the command as `clap` builds them (this project's own).
-use Rattle.std.specs.Prelude.{◌≡◌, ◌<◌, false, [], ◌∷◌, ◌++◌, length, None}
+use Rattle.std.specs.Prelude.{◌≡◌, ◌<◌, false, [], length, None}
 use Rattle.clap.specs.Texts.{items_of}
 use Rattle.clap.specs.Facts.{args_of, groups_of}
 use Rattle.clap.specs.Built.{AddsArg, IsPlainArg}

@@ -1,6 +1,6 @@
 //! One segment of a volume.
 
-ghost use Rattle.std.specs.Prelude.{◌≡◌, ◌<◌, ◌≤◌, length};
+ghost use Rattle.std.specs.Prelude.{◌<◌, ◌≤◌, length};
 ghost use Rattle.acts.specs.Around.{reading};
 ghost use Rattle.cartridge_spec.specs.Shape.{mask_at};
 ghost use Rattle.host_driver.specs.Calls.{IsReady, MayWrite, Keeps};

@@ -7,7 +7,7 @@ use Rattle.qic_base.specs.Step.{Step}
 use Rattle.acts.specs.Acts.{Act, steps_of, text_of}
 use Rattle.cartridge_spec.specs.Volumes.{carrying}
 use Rattle.append_plan.proofs.Segments.{carrying_carry}
-use Rattle.restore_plan.specs.Restoring.{Piece, Ending, Restored, LostIn, MismatchIn, Ends, Restores, bytes_held, framed}
+use Rattle.restore_plan.specs.Restoring.{Piece, Ending, Restored, LostIn, MismatchIn, PieceEnds, Restores, bytes_held, framed}
 use Rattle.restore_plan.proofs.Counts.{FitsIn, pieces_fit, read_count}
 use Rattle.volume_output.specs.Laws.{RestoredAreOf, PrintedInNoStep, TextOfFirst}
 use Rattle.volume_output.specs.Output.{AreOf, EndsAt}
@@ -23,7 +23,7 @@ are_of c words (piece ∷ needed) (act ∷ acts) ending fit h = (
   are_of c words needed acts ending (All-tail (FitsIn words) piece needed fit) h.1,
 )
 
-ends_first : (c : Cartridge) (words : List ℕ) (piece : Piece) (needed : List Piece) (ending : Ending) → Ends c words piece ending →
+ends_first : (c : Cartridge) (words : List ℕ) (piece : Piece) (needed : List Piece) (ending : Ending) → PieceEnds c words piece ending →
     EndsAt (piece ∷ needed) 0 ending
 ends_first c words piece needed Restored ends = absurd ends
 ends_first c words piece needed (LostIn segment lost) ends = (ends.1.1, sym ends.0)

@@ -10,7 +10,7 @@ use Rattle.acts.specs.Acts.{Act, steps_of, Outside, Failing, TapeFails, SinkFail
 use Rattle.acts.specs.Around.{no_source}
 use Rattle.acts.proofs.Joins.{nothing_went, went_both, went_then_cut, cut_is_longer}
 use Rattle.segment_io.proofs.Going.{tells_always, tells_then}
-use Rattle.restore_plan.specs.Restoring.{Piece, Ending, Restored, LostIn, MismatchIn, IsRead, Ends, Restores}
+use Rattle.restore_plan.specs.Restoring.{Piece, Ending, Restored, LostIn, MismatchIn, IsRead, PieceEnds, Restores}
 use Rattle.restore_plan.proofs.Endings.{restores_is_function}
 use Rattle.volume_output.specs.declared.fault.OutputFault.{OutputFault}
 use Rattle.volume_output.specs.declared.fault.OutputFault.TheVariants as fault
@@ -47,7 +47,7 @@ one_act c words piece x y read other =
     let same : x ∷ [] ≡ y ∷ [] =
     (restores_is_function c words (piece ∷ []) (x ∷ []) (y ∷ []) Restored Restored (read, (refl, refl)) (other, (refl, refl))).0 in cc
 
-goes_on : (c : Cartridge) (words : List ℕ) (piece : Piece) (act : Act) (ending : Ending) → IsRead c words piece act → Ends c words piece ending → ⊥
+goes_on : (c : Cartridge) (words : List ℕ) (piece : Piece) (act : Act) (ending : Ending) → IsRead c words piece act → PieceEnds c words piece ending → ⊥
 goes_on c words piece act ending read ends =
     let same : act ∷ [] ≡ [] =
     (restores_is_function c words (piece ∷ []) (act ∷ []) [] Restored ending (read, (refl, refl)) ends).0 in
@@ -156,7 +156,7 @@ module _ {T K : Type 0} (t : tapes.Meaning T) (k : sinks.Meaning K) (words : Lis
 
     -- no act went
     pub none_given : (ending : Ending) (xs : List Piece) → Went t no_source k a b (printed lined xs []) →
-        tapes.Tells t a.tape (λ c. Ends c words piece ending) → EndsAt (piece ∷ needed) 0 ending →
+        tapes.Tells t a.tape (λ c. PieceEnds c words piece ending) → EndsAt (piece ∷ needed) 0 ending →
         GaveVolume t k words (piece ∷ needed) lined a b ending
     none_given ending xs went told ends = record {
       acts = [];

@@ -15,7 +15,7 @@ use Rattle.cartridge_spec.proofs.Segments.{count_of_cells}
 use Rattle.append_plan.specs.NewVolume.{bytes_in}
 use Rattle.segment_io.specs.Reading.{HasSolved}
 use Rattle.segment_io.proofs.Going.{tells_always}
-use Rattle.restore_plan.specs.Restoring.{Piece, Ending, Restored, LostIn, MismatchIn, IsRead, Ends, Restores, act_of}
+use Rattle.restore_plan.specs.Restoring.{Piece, Ending, Restored, LostIn, MismatchIn, IsRead, PieceEnds, Restores, act_of}
 use Rattle.restore_plan.proofs.Endings.{restores_is_function}
 use Rattle.volume_output.specs.Output.{printed, GaveVolume, VolumeCut}
 use Rattle.volume_output.specs.Piece.{piece_of, printed_act, part_text}
@@ -82,7 +82,7 @@ module _ {T K : Type 0} (t : tapes.Meaning T) (k : sinks.Meaning K) (words : Lis
       GaveVolume t k words (piece ∷ []) lined (around old sink) (around new sink) (LostIn named n)
   lost sink none did named n same many told =
       none_given t k words lined piece [] (around old sink) (around new sink) (LostIn named n) [] (nothing_went sink none did)
-      (Tells-map t old (λ c. (named ≡ segment) × Says (cells_of c segment mask) (LostSectors n)) (λ c. Ends c words piece (LostIn named n))
+      (Tells-map t old (λ c. (named ≡ segment) × Says (cells_of c segment mask) (LostSectors n)) (λ c. PieceEnds c words piece (LostIn named n))
       (λ c said. (said.0, said_lost n c said.1)) told)
       (many, sym same)
 
@@ -91,7 +91,7 @@ module _ {T K : Type 0} (t : tapes.Meaning T) (k : sinks.Meaning K) (words : Lis
       GaveVolume t k words (piece ∷ []) lined (around old sink) (around new sink) (MismatchIn named)
   mismatch sink none did named same told =
       none_given t k words lined piece [] (around old sink) (around new sink) (MismatchIn named) [] (nothing_went sink none did)
-      (Tells-map t old (λ c. (named ≡ segment) × Says (cells_of c segment mask) saying.Mismatch) (λ c. Ends c words piece (MismatchIn named))
+      (Tells-map t old (λ c. (named ≡ segment) × Says (cells_of c segment mask) saying.Mismatch) (λ c. PieceEnds c words piece (MismatchIn named))
       (λ c said. (said.0, subst (λ (m : ℕ). Says (cells_of c segment m) saying.Mismatch) is said.1)) told)
       (sym same)
 

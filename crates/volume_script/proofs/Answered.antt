@@ -14,7 +14,7 @@ use Rattle.mount_laws.specs.Laws.{IsTableLive}
 use Rattle.store_laws.specs.Held.{IsHeld}
 use Rattle.store_laws.proofs.Keeping.{changed_by_acts}
 use Rattle.tape_script.specs.Input.{Ending, AtEnd, AtStop, AtFault, Item}
-use Rattle.volume_script.specs.Script.{Did, EndDoes, ItemsDo, Outcome, ScriptDoes, acts_of, cartridge_behind, entries_behind, place_behind}
+use Rattle.volume_script.specs.Script.{Did, EndDoes, ItemsDo, ScriptRun, ScriptDoes, acts_of, cartridge_behind, entries_behind, place_behind}
 use Rattle.volume_script.specs.Standing.{AnsweredBehind, AnsweredBetween, DoneScriptStands, HaveBytes, ItemsSpare, StandsAnswered, StoppedScriptStands, plain_after, plain_behind}
 use Rattle.volume_script.proofs.Reached.{AllLeave, Reached, reached_behind, reached_between, reached_none}
 use Rattle.volume_script.proofs.Reading.{cartridge_is}
@@ -77,7 +77,7 @@ end_stands d p rest AtStop last held is left torn =
     some_and (λ e. Stands e p) d left held.stands (subst (λ (xs : List Act). Torn (steps_of xs) (Some d) left) is torn)
 end_stands d p rest (AtFault number place) last held does left torn = fault_stands d p number rest last left held does torn
 
-ends_of : (c : Cartridge) (plain : Plain) (input : List ℕ) (outcome : Outcome) → IsHeld c plain → (does : ScriptDoes c plain.words (entries_of plain) input outcome) →
+ends_of : (c : Cartridge) (plain : Plain) (input : List ℕ) (outcome : ScriptRun) → IsHeld c plain → (does : ScriptDoes c plain.words (entries_of plain) input outcome) →
     All (λ b. b < 256) input → ItemsSpare c plain does.items does.dids → EndStands (cartridge_behind c does.dids) (plain_behind plain does.items does.dids) does.last
 ends_of c plain input outcome held does content spares =
     let has : HaveBytes does.items = items_have_bytes input does.items does.ending does.read content in
@@ -117,7 +117,7 @@ all_stand (item ∷ items) (did ∷ dids) c plain last held live has ran spares 
           (next_do (changed_by (steps_of did.acts) c) plain next items did.entries dids leaves.entries leaves.words ran.1) spares.1 ends,
     )
 
-script_stands : (c : Cartridge) (plain : Plain) (input : List ℕ) (outcome : Outcome) → IsHeld c plain → IsTableLive c → (does : ScriptDoes c plain.words (entries_of plain) input outcome) →
+script_stands : (c : Cartridge) (plain : Plain) (input : List ℕ) (outcome : ScriptRun) → IsHeld c plain → IsTableLive c → (does : ScriptDoes c plain.words (entries_of plain) input outcome) →
     All (λ b. b < 256) input → ItemsSpare c plain does.items does.dids → AllLeave Tears (StandsBehind plain does.items does.dids) c does.dids does.last
 script_stands c plain input outcome held live does content spares =
     all_stand does.items does.dids c plain does.last held live (items_have_bytes input does.items does.ending does.read content) does.did spares
@@ -139,17 +139,17 @@ pub answered_between : AnsweredBetween
 answered_between c plain input outcome front rest left held live does content spares parts torn =
     stands_answered c plain does.items does.dids (length (text_of front)) left does.did
     (reached_between Tears (StandsBehind plain does.items does.dids) does.dids c does.last front rest left (script_speaks c plain.words (entries_of plain) input outcome does)
-    (script_stands c plain input outcome held live does content spares) (parts ∙ ap (λ (o : Outcome). o.acts) does.is) torn)
+    (script_stands c plain input outcome held live does content spares) (parts ∙ ap (λ (o : ScriptRun). o.acts) does.is) torn)
 
 pub answered_behind : AnsweredBehind
 answered_behind c plain input outcome front act rest left printed held live does content spares parts is above below =
     stands_answered c plain does.items does.dids printed left does.did
     (reached_behind Tears (λ ss d. Torn-nothing ss (Some d)) (StandsBehind plain does.items does.dids) does.dids c does.last front act rest left printed
     (script_speaks c plain.words (entries_of plain) input outcome does) (script_stands c plain input outcome held live does content spares)
-    (parts ∙ ap (λ (o : Outcome). o.acts) does.is) is above below)
+    (parts ∙ ap (λ (o : ScriptRun). o.acts) does.is) is above below)
 
 -- where nothing was printed no item was answered
-pub none_answered : (c : Cartridge) (plain : Plain) (input : List ℕ) (outcome : Outcome) (left : Option Cartridge) → (does : ScriptDoes c plain.words (entries_of plain) input outcome) →
+pub none_answered : (c : Cartridge) (plain : Plain) (input : List ℕ) (outcome : ScriptRun) (left : Option Cartridge) → (does : ScriptDoes c plain.words (entries_of plain) input outcome) →
     All (λ b. b < 256) input → IsSomeAnd left (λ d. Stands d plain) → StandsAnswered plain does.items does.dids 0 left
 none_answered c plain input outcome left does content stands =
     stands_answered c plain does.items does.dids 0 left does.did
@@ -171,7 +171,7 @@ done_script_stands c plain input outcome held does content spares =
     let d : Cartridge = cartridge_behind c does.dids in
     let p : Plain = plain_behind plain does.items does.dids in
     let behind : changed_by (steps_of outcome.acts) c ≡ changed_by (steps_of does.last) d =
-    ap (λ (o : Outcome). changed_by (steps_of o.acts) c) does.is ∙ changed_by_acts (acts_of does.dids) does.last c
+    ap (λ (o : ScriptRun). changed_by (steps_of o.acts) c) does.is ∙ changed_by_acts (acts_of does.dids) does.last c
     ∙ ap (λ (e : Cartridge). changed_by (steps_of does.last) e) (sym (cartridge_is c does.dids)) in
     subst (λ (e : Cartridge). Stands e p) (sym behind)
     (ends_of c plain input outcome held does content spares (Some (changed_by (steps_of does.last) d))

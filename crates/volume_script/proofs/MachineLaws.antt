@@ -16,7 +16,7 @@ use Rattle.tape_script.proofs.Inputs.{one_reading}
 use Rattle.tape_script.proofs.Inputs as inputs
 use Rattle.volume_script.specs.Items.{EarlyDoes}
 use Rattle.volume_script.specs.Laws.{OneOutcome, StopsInOne}
-use Rattle.volume_script.specs.Script.{Did, EndDoes, FaultDoes, ItemsDo, Meeting, Outcome, acts_of, acts_on, answer_by, cartridge_behind, entries_behind, place_behind, taken_by}
+use Rattle.volume_script.specs.Script.{Did, EndDoes, FaultDoes, ItemsDo, Meeting, ScriptRun, acts_of, acts_on, answer_by, cartridge_behind, entries_behind, place_behind, taken_by}
 use Rattle.volume_script.proofs.Input.{early_lines}
 use Rattle.volume_script.proofs.Plain.{meets_one}
 use Rattle.volume_script.proofs.Reading.{Reads, place_is, split_doing}
@@ -88,7 +88,7 @@ one_doing c words entries items a b first second =
     nothing [] ran_so = append-nil a
     nothing (r ∷ rears) ran_so = absurd ran_so
 
-made : List Did → List Act → ℕ → Ending → Outcome
+made : List Did → List Act → ℕ → Ending → ScriptRun
 made dids last taken ending = record { acts = acts_of dids ++ last; taken = taken; answer = answer_by ending }
 
 pub one_outcome : OneOutcome

@@ -7,7 +7,7 @@ use Rattle.acts.proofs.Joins.{steps_of-append}
 use Rattle.cartridge_spec.specs.Table.{Entry}
 use Rattle.cartridge_spec.specs.Writes.{changed_by}
 use Rattle.format_plan.proofs.Writing.{changed_by-append}
-use Rattle.tape_script.specs.Input.{Item, IsItem, Ending, Ends, HasItems, most_items}
+use Rattle.tape_script.specs.Input.{Item, IsItem, Ending, ItemsEnd, HasItems, most_items}
 use Rattle.tape_script.proofs.Inputs as inputs
 use Rattle.volume_script.specs.Script.{Did, ItemDoes, ItemsDo, acts_of, cartridge_behind, entries_behind, place_behind}
 use Rattle.tape_script.proofs.Inputs.{one_item, no_ending}
@@ -29,11 +29,11 @@ reads_more texts text (first ∷ items) item (front, (behind, (parts, first_is, 
 
 -- how the input ends behind them is how it ends
 pub read_end : (items : List Item) (texts rest : List ℕ) (number place here at : ℕ) (ending : Ending) → Reads texts items → number + length items ≤ most_items + 1 →
-    here ≡ number + length items → at ≡ place + length texts → Ends IsItem here at rest ending → HasItems IsItem number place (texts ++ rest) items ending
+    here ≡ number + length items → at ≡ place + length texts → ItemsEnd IsItem here at rest ending → HasItems IsItem number place (texts ++ rest) items ending
 read_end [] texts rest number place here at ending reads few same equal ends =
-    let P : ℕ → Type 0 = λ n. Ends IsItem n place rest ending in
-    let Q : ℕ → Type 0 = λ n. Ends IsItem here n rest ending in
-    let R : List ℕ → Type 0 = λ l. Ends IsItem number place (l ++ rest) ending in
+    let P : ℕ → Type 0 = λ n. ItemsEnd IsItem n place rest ending in
+    let Q : ℕ → Type 0 = λ n. ItemsEnd IsItem here n rest ending in
+    let R : List ℕ → Type 0 = λ l. ItemsEnd IsItem number place (l ++ rest) ending in
     let now : here ≡ number = omega arith in
     let there : at ≡ place = (let l = ap length reads in omega arith) in
     subst R (sym reads) (subst P now (subst Q there ends))

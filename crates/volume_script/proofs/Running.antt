@@ -16,7 +16,7 @@ use Rattle.cartridge_spec.specs.Writes.{changed_by}
 use Rattle.segment_io.proofs.Going.{tells_always}
 use Rattle.tape_script.specs.declared.line.Line.{Line}
 use Rattle.tape_script.specs.declared.line.Line.TheVariants as line
-use Rattle.tape_script.specs.Input.{Item, IsItem, IsFault, Ending, AtEnd, AtStop, AtFault, Ends, HasItems, IsScript, most_items, promised}
+use Rattle.tape_script.specs.Input.{Item, IsItem, IsFault, Ending, AtEnd, AtStop, AtFault, ItemsEnd, HasItems, IsScript, most_items, promised}
 use Rattle.tape_script.specs.Reading.{Gave, IsLineText}
 use Rattle.tape_script.proofs.Giving.{Gave-Gave, Gave-end, Gave-nothing}
 use Rattle.tape_script.proofs.Inputs.{one_reading}
@@ -33,7 +33,7 @@ use Rattle.volume_script.specs.Items.{EarlyDoes}
 use Rattle.volume_script.specs.Lines.{end_line}
 use Rattle.volume_script.specs.Runs.{Leaves, Ended, CutOff}
 use Rattle.volume_script.specs.Runs as runs
-use Rattle.volume_script.specs.Script.{Answer, AllDone, FaultIn, Did, EndDoes, EndsEarly, FaultDoes, ItemDoes, ItemsDo, Outcome, ScriptDoes, acts_of, answer_by, cartridge_behind, entries_behind, place_behind, reply, taken_by}
+use Rattle.volume_script.specs.Script.{Answer, AllDone, FaultIn, Did, EndDoes, EndsEarly, FaultDoes, ItemDoes, ItemsDo, ScriptRun, ScriptDoes, acts_of, answer_by, cartridge_behind, entries_behind, place_behind, reply, taken_by}
 use Rattle.volume_script.proofs.Appended.{flip}
 use Rattle.volume_script.proofs.Hearing.{early_of}
 use Rattle.volume_script.proofs.Input.{no_line_fault, no_line_early, early_fault, none_rest, on_rest, stop_rest}
@@ -127,7 +127,7 @@ module _ {T S K : Type 0} {t : tapes.Meaning T} {s : sources.Meaning S} {k : sin
 
     -- how the input ends behind the items is how it ends
     ended_so : (rest : List ℕ) (ending : Ending) (answer : Answer) (last : List Act) → lines ≤ most_items → Went t s k now new last → IfSome (s.left now.source) (λ bytes. bytes ≡ rest) →
-        Ends IsItem (lines + 1) place rest ending → answer_by ending ≡ answer → tapes.Tells t now.tape (λ c. EndDoes c store.words store.entries rest ending last) →
+        ItemsEnd IsItem (lines + 1) place rest ending → answer_by ending ≡ answer → tapes.Tells t now.tape (λ c. EndDoes c store.words store.entries rest ending last) →
         (answer ≡ AllDone → last ≡ reply end_line ∷ []) →
         ((read : IsScript (far.texts ++ rest) far.items ending) → Leaves s start.source new.source (taken_by (far.texts ++ rest) far.items ending read) answer) →
         Ended t s k first start new answer
@@ -178,7 +178,7 @@ module _ {T S K : Type 0} {t : tapes.Meaning T} {s : sources.Meaning S} {k : sin
         record {
           input = input;
           is_told = whole_told (s.left start.source) (s.left now.source) far.texts heard.rest far.gave heard.is_told;
-          told = Tells-map t start.tape _ (λ c. (outcome : Outcome) → ScriptDoes c first.words first.entries input outcome → Cut t s k start new outcome.acts failing)
+          told = Tells-map t start.tape _ (λ c. (outcome : ScriptRun) → ScriptDoes c first.words first.entries input outcome → Cut t s k start new outcome.acts failing)
               (λ c both_told outcome does. by_outcome c both_told.0 both_told.1 outcome does)
               (at_start (λ c. (acts : List Act) → NextDoes c store.words store.entries (lines + 1) place heard.rest acts → Cut t s k now new acts failing) heard.told);
           acts = far.acts ++ heard.acts;
@@ -222,7 +222,7 @@ module _ {T S K : Type 0} {t : tapes.Meaning T} {s : sources.Meaning S} {k : sin
 
         by_outcome : (c : Cartridge) → Ran first store far.items far.acts c →
             ((acts : List Act) → NextDoes (changed_by (steps_of far.acts) c) store.words store.entries (lines + 1) place heard.rest acts → Cut t s k now new acts failing) →
-            (outcome : Outcome) → ScriptDoes c first.words first.entries (far.texts ++ heard.rest) outcome → Cut t s k start new outcome.acts failing
+            (outcome : ScriptRun) → ScriptDoes c first.words first.entries (far.texts ++ heard.rest) outcome → Cut t s k start new outcome.acts failing
         by_outcome c ran each outcome does =
             let input : List ℕ = far.texts ++ heard.rest in
             let reading = split_reading far.items far.texts heard.rest 1 0 (lines + 1) place input does.items does.ending far.reads refl
@@ -232,7 +232,7 @@ module _ {T S K : Type 0} {t : tapes.Meaning T} {s : sources.Meaning S} {k : sin
             let Q : List Did → Type 0 = λ ds. EndDoes (cartridge_behind c ds) first.words (entries_behind first.entries ds) (drop (place_behind 1 0 input does.items does.ending does.read) input) does.ending does.last in
             let R : List ℕ → Type 0 = λ bs. EndDoes (cartridge_behind c (ran.dids ++ doing.rears)) first.words (entries_behind first.entries (ran.dids ++ doing.rears)) bs does.ending does.last in
             let V : List Item → Type 0 = λ is. Reads far.texts is in
-            subst (λ (o : Outcome). Cut t s k start new o.acts failing) (sym does.is)
+            subst (λ (o : ScriptRun). Cut t s k start new o.acts failing) (sym does.is)
             (subst (λ (ds : List Did). Cut t s k start new (acts_of ds ++ does.last) failing) (sym doing.whole)
             (by_more c ran each reading.more doing.rears does.ending does.last reading.read doing.ran_so
             (λ none.
@@ -245,7 +245,7 @@ module _ {T S K : Type 0} {t : tapes.Meaning T} {s : sources.Meaning S} {k : sin
 
   module _ (both : TakesBoth k) (none : TakesNone k) (first store : StoreView) (start now : Outside T S K) (lines place : ℕ) (far : SoFar t s k first store start now lines place) (few : lines ≤ most_items) where
     -- the last acts are these alone
-    end_alone : (c : Cartridge) (rest : List ℕ) (ending : Ending) (acts last : List Act) → Ends IsItem (lines + 1) place rest ending →
+    end_alone : (c : Cartridge) (rest : List ℕ) (ending : Ending) (acts last : List Act) → ItemsEnd IsItem (lines + 1) place rest ending →
         (EndDoes c store.words store.entries rest ending acts → last ≡ acts) → NextDoes c store.words store.entries (lines + 1) place rest acts → last ≡ acts
     end_alone c rest ending acts last ends only (inl (below, (item, (text, (behind, (parts, is, did)))))) =
         absurd (no_ending IsItem inputs.items (lines + 1) place rest text behind item ending ends below parts is)
@@ -253,7 +253,7 @@ module _ {T S K : Type 0} {t : tapes.Meaning T} {s : sources.Meaning S} {k : sin
         let same : other ≡ ending = (one_reading IsItem inputs.items (lines + 1) place rest [] [] other ending again ends).1 in
         only (subst (λ (e : Ending). EndDoes c store.words store.entries rest e acts) same does)
 
-    module _ (tape : T) (source : S) (sink y : K) (rest : List ℕ) (ending : Ending) (told : IfSome (s.left now.source) (λ bytes. bytes ≡ rest)) (ends : Ends IsItem (lines + 1) place rest ending)
+    module _ (tape : T) (source : S) (sink y : K) (rest : List ℕ) (ending : Ending) (told : IfSome (s.left now.source) (λ bytes. bytes ≡ rest)) (ends : ItemsEnd IsItem (lines + 1) place rest ending)
         (went : Went t s k now (out tape source sink) []) (does : (c : Cartridge) → EndDoes c store.words store.entries rest ending (reply end_line ∷ []))
         (only : (c : Cartridge) (acts : List Act) → EndDoes c store.words store.entries rest ending acts → (reply end_line ∷ []) ≡ acts) where
       replied_end : sinks.Wrote k sink y end_line → answer_by ending ≡ AllDone →
@@ -280,7 +280,7 @@ module _ {T S K : Type 0} {t : tapes.Meaning T} {s : sources.Meaning S} {k : sin
     Rests tape source sink = Went t s k now (out tape source sink) []
 
     at_end : (tape : T) (source : S) (sink y : K) → Rests tape source sink → GaveEnd s now.source source → (r : Result (Unit {0}) ScriptFault) → RepliesEnd k sink y r →
-        runs.Ends t s k first start (out tape source y) r
+        runs.ScriptEnds t s k first start (out tape source y) r
     at_end tape source sink y went (inl end) (Ok done) wrote =
         let behind = ended_rest (s.left now.source) end.0 in
         replied_end tape source sink y behind.rest AtEnd behind.told behind.has went (λ c. refl) (λ c acts is. sym is) wrote refl
@@ -354,7 +354,7 @@ module _ {T S K : Type 0} {t : tapes.Meaning T} {s : sources.Meaning S} {k : sin
 
     -- ---- how a line ended it
 
-    pub line_failed : (new : Outside T S K) (after : StoreView) → lines < most_items → (why : ScriptFault) → Hears t s k store after now new (lines + 1) place (Err why) → runs.Ends t s k first start new (Err why)
+    pub line_failed : (new : Outside T S K) (after : StoreView) → lines < most_items → (why : ScriptFault) → Hears t s k store after now new (lines + 1) place (Err why) → runs.ScriptEnds t s k first start new (Err why)
     line_failed new after below (fault.Input number at) (same, equal, inl heard) = at_none new number at same equal heard
     line_failed new after below (fault.Input number at) (same, equal, inr heard) = at_short new number at (omega arith) same equal heard
     line_failed new after below fault.TableMismatch heard = record {
@@ -371,18 +371,18 @@ module _ {T S K : Type 0} {t : tapes.Meaning T} {s : sources.Meaning S} {k : sin
 
     -- the input was over at a line
     pub over : (mid : Outside T S K) (after : StoreView) (y : K) (r : Result (Unit {0}) ScriptFault) → Hears t s k store after now mid (lines + 1) place (Ok None) → RepliesEnd k mid.sink y r →
-        runs.Ends t s k first start (out mid.tape mid.source y) r
+        runs.ScriptEnds t s k first start (out mid.tape mid.source y) r
     over mid after y r (went, same, end) replies = at_end mid.tape mid.source mid.sink y went end r replies
 
     -- ---- the line behind the last that may be an item
 
     pub end_over : (source : S) (y : K) (r : Result (Unit {0}) ScriptFault) → s.faults now.source ≤ s.faults source → GaveEnd s now.source source → RepliesEnd k now.sink y r →
-        runs.Ends t s k first start (out now.tape source y) r
+        runs.ScriptEnds t s k first start (out now.tape source y) r
     end_over source y r later end replies =
         at_end now.tape source now.sink y (record { did = Done-nothing t now.tape; wrote = record { took = none now.sink; later = omega arith }; source_later = later }) end r replies
 
     pub end_failed : (source : S) (why : ScriptFault) → lines ≡ most_items → s.faults now.source ≤ s.faults source → HearsEnd s now.source source (most_items + 1) place (Err why) →
-        runs.Ends t s k first start (out now.tape source now.sink) (Err why)
+        runs.ScriptEnds t s k first start (out now.tape source now.sink) (Err why)
     end_failed source (fault.Input number at) all later (same, equal, on) =
         let behind = on_rest (lines + 1) (s.left now.source) (s.left source) on.n on.gave.0 (omega arith) on.some on.gave.1 on.gave.2 on.no_stop in
         faulty (out now.tape source now.sink) behind.rest on.gave.0 number at [] (let e = same in omega arith) equal behind.told behind.has

@@ -20,7 +20,7 @@ use Rattle.cartridge_spec.specs.Slots.{slot_sector}
 use Rattle.volume_script.specs.declared.refusal.Refusal.{Refusal}
 use Rattle.volume_script.specs.declared.refusal.Refusal.TheVariants as why
 use Rattle.volume_script.specs.Lines.{no_volume_line, refusal_line}
-use Rattle.volume_script.specs.Script.{Did, ItemsDo, LineDoes, Outcome, ScriptDoes, Meeting, Finds, Refuses, appended, given_as, kept_on, refused, reply, taken_as}
+use Rattle.volume_script.specs.Script.{Did, ItemsDo, LineDoes, ScriptRun, ScriptDoes, Meeting, Finds, Refuses, appended, given_as, kept_on, refused, reply, taken_as}
 use Rattle.volume_script.proofs.Acts.{fits_acts, front_acts, full_taking}
 
 -- ---- acts whose last one prints something
@@ -196,7 +196,7 @@ all_speak number place input (item ∷ items) ending (did ∷ dids) c words entr
   all_speak (number + 1) (place + length text) behind items ending dids (changed_by (steps_of did.acts) c) words did.entries read ran.1,
 )
 
-pub script_speaks : (c : Cartridge) (words : List ℕ) (entries : List Entry) (input : List ℕ) (outcome : Outcome) → (does : ScriptDoes c words entries input outcome) → AllSpeak does.dids
+pub script_speaks : (c : Cartridge) (words : List ℕ) (entries : List Entry) (input : List ℕ) (outcome : ScriptRun) → (does : ScriptDoes c words entries input outcome) → AllSpeak does.dids
 script_speaks c words entries input outcome does = all_speak 1 0 input does.items does.ending does.dids c words entries does.read does.did
 
 -- there are as many as there are lines

@@ -7,7 +7,7 @@ use Rattle.qic_base.specs.Tape as tapes
 use Rattle.acts.specs.Acts.{Act, Outside, Failing, TapeFails, SourceFails, SinkFails, Went, Cut}
 use Rattle.cartridge_spec.specs.Table.{Entry}
 use Rattle.tape_script.specs.declared.line.Line.{Line}
-use Rattle.tape_script.specs.Input.{Item, IsItem, Ending, Ends, most_items, promised}
+use Rattle.tape_script.specs.Input.{Item, IsItem, Ending, ItemsEnd, most_items, promised}
 use Rattle.tape_script.specs.Reading.{Gave, GaveSome, HasEnded, BeginsWithNo, IsLineText}
 use Rattle.volume_store.specs.Mounting.{StoreView}
 use Rattle.volume_script.specs.declared.fault.ScriptFault.{ScriptFault}
@@ -60,7 +60,7 @@ abbrev pub NextDoes : Cartridge → (words : List ℕ) → List Entry → (numbe
 NextDoes c words entries number place rest acts =
     ((number ≤ most_items) × ((item : Item) × ((text : List ℕ) × ((behind : List ℕ) × ((rest ≡ text ++ behind) × IsItem text item
     × ((did : Did) × (did.acts ≡ acts) × ItemDoes c words entries item did))))))
-    ⊎ ((ending : Ending) × Ends IsItem number place rest ending × EndDoes c words entries rest ending acts)
+    ⊎ ((ending : Ending) × ItemsEnd IsItem number place rest ending × EndDoes c words entries rest ending acts)
 
 -- a fault of the outside cut that off, whatever is left
 pub record HeardCut {T S K : Type 0} (t : tapes.Meaning T) (s : sources.Meaning S) (k : sinks.Meaning K) (store : StoreView) (old new : Outside T S K) (number place : ℕ) (failing : Failing) : Type 0 where

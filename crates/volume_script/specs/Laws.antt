@@ -5,19 +5,19 @@ use Rattle.qic_base.specs.Stop.{Torn}
 use Rattle.acts.specs.Acts.{Act, steps_of}
 use Rattle.cartridge_spec.specs.Table.{Entry}
 use Rattle.store_laws.specs.Listed.{IsListed}
-use Rattle.volume_script.specs.Script.{Did, Outcome, ScriptDoes, acts_of, cartridge_behind}
+use Rattle.volume_script.specs.Script.{Did, ScriptRun, ScriptDoes, acts_of, cartridge_behind}
 
 -- an input has at most one outcome over a cartridge with this map and these volumes
 abbrev pub OneOutcome : Type 0
 OneOutcome =
-    (c : Cartridge) (words : List ℕ) (entries : List Entry) (input : List ℕ) (a b : Outcome) →
+    (c : Cartridge) (words : List ℕ) (entries : List Entry) (input : List ℕ) (a b : ScriptRun) →
     ScriptDoes c words entries input a → ScriptDoes c words entries input b → a ≡ b
 
 -- .. and it has one, any list of numbers as the input, where a store knows the cartridge's volume table
 abbrev pub EachOutcome : Type 0
 EachOutcome =
     (c : Cartridge) (words : List ℕ) (entries : List Entry) (input : List ℕ) → IsListed c words entries →
-    (outcome : Outcome) × ScriptDoes c words entries input outcome
+    (outcome : ScriptRun) × ScriptDoes c words entries input outcome
 
 -- a stop in one of some items, with those before it done
 pub record StopsIn (c : Cartridge) (dids : List Did) (left : Option Cartridge) : Type 0 where

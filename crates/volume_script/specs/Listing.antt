@@ -10,7 +10,7 @@ use Rattle.store_laws.specs.Listing.{Lists}
 use Rattle.tape_script.specs.declared.line.Line.{Line}
 use Rattle.tape_script.specs.declared.line.Line.TheVariants as line
 use Rattle.tape_script.specs.Input.{Item}
-use Rattle.volume_script.specs.Script.{Did, Outcome, ScriptDoes, acts_of, entries_behind}
+use Rattle.volume_script.specs.Script.{Did, ScriptRun, ScriptDoes, acts_of, entries_behind}
 
 -- a sector that a line wears lies behind the table's segment; each cartridge has the segments in front
 abbrev pub WearsBehind : Line → Type 0
@@ -48,7 +48,7 @@ pub record ListsBroken (header : Header) (words : List ℕ) (entries : List Entr
 -- so it is behind each front of the acts, with their texts written, over any input
 abbrev pub ListedBetween : Type 0
 ListedBetween =
-    (c : Cartridge) (header : Header) (words : List ℕ) (entries : List Entry) (input : List ℕ) (outcome : Outcome)
+    (c : Cartridge) (header : Header) (words : List ℕ) (entries : List Entry) (input : List ℕ) (outcome : ScriptRun)
     (front rest : List Act) (left : Option Cartridge) → Lists c header words entries → IsListed c words entries →
     (does : ScriptDoes c words entries input outcome) → front ++ rest ≡ outcome.acts →
     left ≡ Some (changed_by (steps_of front) c) →
@@ -57,7 +57,7 @@ ListedBetween =
 -- .. behind the steps of the next act, with a part of its text written and not the whole
 abbrev pub ListedBehind : Type 0
 ListedBehind =
-    (c : Cartridge) (header : Header) (words : List ℕ) (entries : List Entry) (input : List ℕ) (outcome : Outcome)
+    (c : Cartridge) (header : Header) (words : List ℕ) (entries : List Entry) (input : List ℕ) (outcome : ScriptRun)
     (front : List Act) (act : Act) (rest : List Act) (left : Option Cartridge) (printed : ℕ) → Lists c header words entries →
     IsListed c words entries → (does : ScriptDoes c words entries input outcome) →
     front ++ act ∷ rest ≡ outcome.acts → left ≡ Some (changed_by (steps_of front ++ act.steps) c) →
@@ -67,7 +67,7 @@ ListedBehind =
 -- .. with the list behind all items, where all acts were done
 abbrev pub ListedDone : Type 0
 ListedDone =
-    (c : Cartridge) (header : Header) (words : List ℕ) (entries : List Entry) (input : List ℕ) (outcome : Outcome)
+    (c : Cartridge) (header : Header) (words : List ℕ) (entries : List Entry) (input : List ℕ) (outcome : ScriptRun)
     (left : Option Cartridge) → Lists c header words entries → IsListed c words entries →
     (does : ScriptDoes c words entries input outcome) → ItemsWearBehind does.items →
     left ≡ Some (changed_by (steps_of outcome.acts) c) →
@@ -76,6 +76,6 @@ ListedDone =
 -- .. and where nothing was done, nor printed
 abbrev pub ListedNone : Type 0
 ListedNone =
-    (c d : Cartridge) (header : Header) (words : List ℕ) (entries : List Entry) (input : List ℕ) (outcome : Outcome) →
+    (c d : Cartridge) (header : Header) (words : List ℕ) (entries : List Entry) (input : List ℕ) (outcome : ScriptRun) →
     (does : ScriptDoes c words entries input outcome) → Lists d header words entries →
     ListsAnswered header words entries does.items does.dids 0 (Some d)

@@ -10,7 +10,7 @@ use Rattle.volume_store.specs.Mounting.{StoreView}
 use Rattle.volume_script.specs.declared.fault.ScriptFault.{ScriptFault}
 use Rattle.volume_script.specs.declared.fault.ScriptFault.TheVariants as fault
 use Rattle.volume_script.specs.Lines.{end_line}
-use Rattle.volume_script.specs.Script.{Answer, AllDone, FaultIn, Outcome, ScriptDoes, answer_by}
+use Rattle.volume_script.specs.Script.{Answer, AllDone, FaultIn, ScriptRun, ScriptDoes, answer_by}
 
 -- What is left of the source: the bytes behind those taken; or, after a fault of the input, an end of the bytes from its
 -- place on.
@@ -23,7 +23,7 @@ Leaves s old new taken (FaultIn number place) = (more : ℕ) × (s.left new ≡ 
 pub record Ended {T S K : Type 0} (t : tapes.Meaning T) (s : sources.Meaning S) (k : sinks.Meaning K) (store : StoreView) (old new : Outside T S K) (answer : Answer) : Type 0 where
   pub input : List ℕ
   pub is_told : IfSome (s.left old.source) (λ bytes. input ≡ bytes)
-  pub outcome : Outcome
+  pub outcome : ScriptRun
   pub told : tapes.Tells t old.tape (λ c. ScriptDoes c store.words store.entries input outcome)
   pub answered : outcome.answer ≡ answer
   pub went : Went t s k old new outcome.acts
@@ -48,17 +48,17 @@ pub record Mismatched {T S K : Type 0} (t : tapes.Meaning T) (s : sources.Meanin
 pub record CutOff {T S K : Type 0} (t : tapes.Meaning T) (s : sources.Meaning S) (k : sinks.Meaning K) (store : StoreView) (old new : Outside T S K) (failing : Failing) : Type 0 where
   pub input : List ℕ
   pub is_told : IfSome (s.left old.source) (λ bytes. input ≡ bytes)
-  pub told : tapes.Tells t old.tape (λ c. (outcome : Outcome) → ScriptDoes c store.words store.entries input outcome →
+  pub told : tapes.Tells t old.tape (λ c. (outcome : ScriptRun) → ScriptDoes c store.words store.entries input outcome →
       Cut t s k old new outcome.acts failing)
   -- and over any tape
   pub acts : List Act
   pub cut : Cut t s k old new acts failing
 
 -- how a run ended
-abbrev pub Ends : {T S K : Type 0} (t : tapes.Meaning T) (s : sources.Meaning S) (k : sinks.Meaning K) (store : StoreView) (old new : Outside T S K) → Result (Unit {0}) ScriptFault → Type 0
-Ends t s k store old new (Ok done) = Ended t s k store old new AllDone
-Ends t s k store old new (Err (fault.Input line place)) = Ended t s k store old new (FaultIn line place)
-Ends t s k store old new (Err fault.TableMismatch) = Mismatched t s k old new
-Ends t s k store old new (Err fault.Source) = CutOff t s k store old new SourceFails
-Ends t s k store old new (Err fault.Sink) = CutOff t s k store old new SinkFails
-Ends t s k store old new (Err fault.Tape) = CutOff t s k store old new TapeFails
+abbrev pub ScriptEnds : {T S K : Type 0} (t : tapes.Meaning T) (s : sources.Meaning S) (k : sinks.Meaning K) (store : StoreView) (old new : Outside T S K) → Result (Unit {0}) ScriptFault → Type 0
+ScriptEnds t s k store old new (Ok done) = Ended t s k store old new AllDone
+ScriptEnds t s k store old new (Err (fault.Input line place)) = Ended t s k store old new (FaultIn line place)
+ScriptEnds t s k store old new (Err fault.TableMismatch) = Mismatched t s k old new
+ScriptEnds t s k store old new (Err fault.Source) = CutOff t s k store old new SourceFails
+ScriptEnds t s k store old new (Err fault.Sink) = CutOff t s k store old new SinkFails
+ScriptEnds t s k store old new (Err fault.Tape) = CutOff t s k store old new TapeFails

@@ -214,13 +214,13 @@ taken_by input items AtEnd read = length input
 taken_by input items AtStop read = place_behind 1 0 input items AtStop read + length (codes "end\n")
 taken_by input items (AtFault number place) read = place
 
-pub record Outcome : Type 0 where
+pub record ScriptRun : Type 0 where
   pub acts : List Act
   pub taken : ℕ
   pub answer : Answer
 
 -- The plain machine: an input over a mounted cartridge with this map and these volumes.
-pub record ScriptDoes (c : Cartridge) (words : List ℕ) (entries : List Entry) (input : List ℕ) (outcome : Outcome) : Type 0 where
+pub record ScriptDoes (c : Cartridge) (words : List ℕ) (entries : List Entry) (input : List ℕ) (outcome : ScriptRun) : Type 0 where
   pub items : List Item
   pub ending : Ending
   pub read : IsScript input items ending

@@ -12,7 +12,7 @@ use Rattle.store_laws.specs.Kept.{IsAppendable, with_bytes}
 use Rattle.tape_script.specs.declared.line.Line.{Line}
 use Rattle.tape_script.specs.declared.line.Line.TheVariants as line
 use Rattle.tape_script.specs.Input.{Item, Ending, IsScript}
-use Rattle.volume_script.specs.Script.{Did, ItemDoes, ItemsDo, FaultDoes, Outcome, ScriptDoes, acts_of, entries_behind, cartridge_behind}
+use Rattle.volume_script.specs.Script.{Did, ItemDoes, ItemsDo, FaultDoes, ScriptRun, ScriptDoes, acts_of, entries_behind, cartridge_behind}
 
 -- ---- the plain cartridge behind items
 
@@ -96,7 +96,7 @@ FaultStands =
 -- all of it done, the cartridge stands for the plain one behind all items, also where sectors of the table's segment take no write
 abbrev pub DoneScriptStands : Type 0
 DoneScriptStands =
-    (c : Cartridge) (plain : Plain) (input : List ℕ) (outcome : Outcome) → IsHeld c plain →
+    (c : Cartridge) (plain : Plain) (input : List ℕ) (outcome : ScriptRun) → IsHeld c plain →
     (does : ScriptDoes c plain.words (entries_of plain) input outcome) → All (λ b. b < 256) input →
     ItemsSpare c plain does.items does.dids →
     Stands (changed_by (steps_of outcome.acts) c) (plain_behind plain does.items does.dids)
@@ -104,7 +104,7 @@ DoneScriptStands =
 -- where each of these sectors takes a write, a stop in a script leaves the plain cartridge behind some of its items
 abbrev pub StoppedScriptStands : Type 0
 StoppedScriptStands =
-    (c : Cartridge) (plain : Plain) (input : List ℕ) (outcome : Outcome) (left : Option Cartridge) → IsHeld c plain → IsTableLive c →
+    (c : Cartridge) (plain : Plain) (input : List ℕ) (outcome : ScriptRun) (left : Option Cartridge) → IsHeld c plain → IsTableLive c →
     (does : ScriptDoes c plain.words (entries_of plain) input outcome) → All (λ b. b < 256) input →
     ItemsSpare c plain does.items does.dids → Torn (steps_of outcome.acts) (Some c) left →
     (n : ℕ) × (n ≤ length does.items) × IsSomeAnd left (λ d. Stands d (plain_behind plain (take n does.items) (take n does.dids)))
@@ -122,7 +122,7 @@ pub record StandsAnswered (plain : Plain) (items : List Item) (dids : List Did) 
 -- their texts written
 abbrev pub AnsweredBetween : Type 0
 AnsweredBetween =
-    (c : Cartridge) (plain : Plain) (input : List ℕ) (outcome : Outcome) (front rest : List Act) (left : Option Cartridge) →
+    (c : Cartridge) (plain : Plain) (input : List ℕ) (outcome : ScriptRun) (front rest : List Act) (left : Option Cartridge) →
     IsHeld c plain → IsTableLive c → (does : ScriptDoes c plain.words (entries_of plain) input outcome) → All (λ b. b < 256) input →
     ItemsSpare c plain does.items does.dids → front ++ rest ≡ outcome.acts →
     Torn (next_steps rest) (Some (changed_by (steps_of front) c)) left →
@@ -131,7 +131,7 @@ AnsweredBetween =
 -- and after an act's steps, with some of its text written
 abbrev pub AnsweredBehind : Type 0
 AnsweredBehind =
-    (c : Cartridge) (plain : Plain) (input : List ℕ) (outcome : Outcome) (front : List Act) (act : Act) (rest : List Act)
+    (c : Cartridge) (plain : Plain) (input : List ℕ) (outcome : ScriptRun) (front : List Act) (act : Act) (rest : List Act)
     (left : Option Cartridge) (printed : ℕ) →
     IsHeld c plain → IsTableLive c → (does : ScriptDoes c plain.words (entries_of plain) input outcome) → All (λ b. b < 256) input →
     ItemsSpare c plain does.items does.dids → front ++ act ∷ rest ≡ outcome.acts →

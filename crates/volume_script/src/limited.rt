@@ -1,7 +1,6 @@
 //! The bytes that one line of a script promises, as a source.
 
-ghost use Rattle.std.specs.Prelude.{◌≡◌, ◌+◌, ◌≤◌, ◌-◌, take, length};
-ghost use Rattle.std.specs.Option.{option_map};
+ghost use Rattle.std.specs.Prelude.{◌-◌};
 ghost use Rattle.volume_script.specs.Limited.{limited_means, lends_itself, lends_on};
 
 use qic_base::{Source, SourceFailed};

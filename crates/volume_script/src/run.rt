@@ -4,7 +4,7 @@ ghost use Rattle.std.specs.Prelude.{◌≡◌, ◌≢◌, ◌≤◌, Err, is_som
 ghost use Rattle.qic_base.specs.Cause.{Rose};
 ghost use Rattle.volume_store.specs.Appending.{KeepsFormat};
 ghost use Rattle.volume_store.specs.Mounting.{StoreFits};
-ghost use Rattle.volume_script.specs.Runs.{Ends};
+ghost use Rattle.volume_script.specs.Runs.{ScriptEnds};
 
 use crate::ending::{end_input, write_end};
 use crate::fault::ScriptFault;
@@ -28,7 +28,7 @@ pub fn run_script<T: Tape, S: Source, K: Sink>(
 ) -> Result<(), ScriptFault>
     requires fits { StoreFits T.means store.old unit.old }
     // The outcome of the plain machine; where a fault of the outside cut it off, the acts up to that one and no more.
-    ensures ends { Ends T.means S.means K.means store.old
+    ensures ends { ScriptEnds T.means S.means K.means store.old
         record { tape = unit.old.tape; source = source.old; sink = sink.old }
         record { tape = unit.new.tape; source = source.new; sink = sink.new } result }
     // The store is that of the cartridge as it stands, but after a fault of the tape.

@@ -1,6 +1,6 @@
 //! The header in force read.
 
-ghost use Rattle.std.specs.Prelude.{◌≡◌, ◌≢◌, ◌<◌, ◌≤◌, ◌*◌, [], true, length, take, Some, IfOk, OnOk};
+ghost use Rattle.std.specs.Prelude.{◌≡◌, ◌≢◌, ◌<◌, [], true, length, Some, IfOk, OnOk};
 ghost use Rattle.qic_base.specs.Tape.{Tells};
 ghost use Rattle.drive_states.specs.Deck.{is_referenced};
 ghost use Rattle.drive_states.specs.Reach.{reads_in};

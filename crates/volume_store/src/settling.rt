@@ -5,12 +5,9 @@ ghost use Rattle.std.specs.Prelude.{◌≡◌, ◌<◌, ◌^◌, ◌==◌, ◌&&
 ghost use Rattle.std.specs.Str.{bytes_eq};
 ghost use Rattle.qic_base.specs.Tape.{Does};
 ghost use Rattle.qic117_commands.specs.Views.{is_primary};
-ghost use Rattle.gf256_qic.specs.Code.{parity_sectors};
 ghost use Rattle.erasure_solve.specs.Lost.{is_lost};
 ghost use Rattle.drive_states.specs.Deck.{is_protected, is_referenced};
-ghost use Rattle.cartridge_spec.specs.Shape.{sectors_of};
-ghost use Rattle.mount_laws.specs.Settling.{block_writes};
-ghost use Rattle.host_driver.specs.Calls.{IsReady, MayWrite, Keeps};
+ghost use Rattle.host_driver.specs.Calls.{IsReady, Keeps};
 ghost use Rattle.volume_store.specs.Settling.{collected_block, is_stale, mending_steps};
 
 use crate::fault::StoreFault;
@@ -65,28 +62,6 @@ fn renew_parity(lost: LostSet, work: &mut Workspace) -> LostSet
     LostSet::from_mask(stale)
 }
 
-// Writes the sectors of the table's segment at these places, ascending, where there are any.
-fn write_some<T: Tape>(
-    host: &mut Host,
-    unit: &mut Unit<T>,
-    places: LostSet,
-    work: &Workspace,
-) -> Result<(), StoreFault>
-    requires ready { IsReady T.means host.old unit.old }
-    requires referenced { is_referenced unit.old.drive.deck ≡ true }
-    requires writable { MayWrite unit.old.drive.deck }
-    requires within { places < 2 ^ 32 }
-    ensures did { Does T.means unit.old.tape unit.new.tape
-        (block_writes work.now (sectors_of places)) result }
-    ensures fault { IsOkUnless result StoreFault.Tape }
-    ensures keeps { Keeps T.means host.new unit.old unit.new }
-{
-    if places.mask() == 0 {
-        return Ok(());
-    }
-    write_places(host, unit, places, work)
-}
-
 /// Settles the volume table's segment, whose sectors were read and solved: first the sector that was left out is written,
 /// and then the others that the tape doesn't hold so, ascending. Nothing is written on a protected cartridge. Where nothing
 /// is to be written the tape stays where it is.
@@ -110,6 +85,6 @@ pub(crate) fn settle<T: Tape>(
         return Ok(());
     }
     let stale = renew_parity(unread.lost, work);
-    write_some(host, unit, unread.left_out, work)?;
-    write_some(host, unit, stale, work)
+    write_places(host, unit, unread.left_out, work)?;
+    write_places(host, unit, stale, work)
 }

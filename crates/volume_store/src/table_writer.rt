@@ -74,7 +74,7 @@ fn put_entry(entry: &Entry, work: &mut Workspace, table: &mut Table) -> u8
     changed
 }
 
-/// Writes the sectors of the table's segment at these places, ascending.
+/// Writes the sectors of the table's segment at these places, ascending. Where there are none the tape stays where it is.
 pub(crate) fn write_places<T: Tape>(
     host: &mut Host,
     unit: &mut Unit<T>,
@@ -90,6 +90,9 @@ pub(crate) fn write_places<T: Tape>(
     ensures fault { IsOkUnless result StoreFault.Tape }
     ensures keeps { Keeps T.means host.new unit.old unit.new }
 {
+    if places.mask() == 0 {
+        return Ok(());
+    }
     match write_sectors(host, unit, TABLE_SEGMENT, WHOLE, places, work) {
         Ok(()) => Ok(()),
         Err(_) => Err(StoreFault::Tape),

@@ -4,7 +4,7 @@ use Rattle.std.proofs.lemmas.Bool.{eqb-true, ne_eqb}
 use Rattle.std.proofs.lemmas.Bool.Decides.{nat_tests}
 use Rattle.std.proofs.lemmas.Option.{unwrap_or-slice_get}
 use Rattle.qic_base.specs.Field.{number_at, little_endian}
-use Rattle.cartridge_spec.specs.Table.{slot, slot_fault, some_free_below, entry_in, is_free, is_used, has_bad_range, overlaps_before, TableFault, ForeignSlot, BadRange}
+use Rattle.cartridge_spec.specs.Table.{slot, slot_fault, some_free_below, entry_in, is_free, is_used, has_bad_range, overlaps_before, ForeignSlot, BadRange}
 use Rattle.cartridge_spec.specs.Table as table
 use Rattle.volume_table.specs.declared.entry.Entry.{Entry}
 use Rattle.volume_table.specs.Entry.{entry_of}

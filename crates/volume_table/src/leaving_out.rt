@@ -1,7 +1,7 @@
 //! Which sectors of the table's segment its reading leaves out of account, where a data sector is unreadable and no code
 //! block agrees with the readable ones (this project's profile).
 
-ghost use Rattle.std.specs.Prelude.{◌≡◌, ◌<◌, ◌≤◌, ◌↔◌, ◌+◌, ◌++◌, ◌∷◌, [], ℕ, List, length, map, slice_get, unwrap_or, IfSome};
+ghost use Rattle.std.specs.Prelude.{◌≡◌, ◌<◌, ◌≤◌, ◌↔◌, ◌+◌, ◌++◌, ℕ, List, length, map, slice_get, unwrap_or, IfSome};
 ghost use Rattle.qic_base.specs.LostSet.{lost_places};
 ghost use Rattle.qic_base.specs.declared.tape.SectorView.TheVariants.{Holds, Lost};
 ghost use Rattle.cartridge_spec.specs.Says.{hidden, LosesData};

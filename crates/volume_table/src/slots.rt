@@ -1,6 +1,6 @@
 //! The slots of a volume table's data, one by one.
 
-ghost use Rattle.std.specs.Prelude.{◌≡◌, ◌<◌, ◌≤◌, ◌||◌, ◌++◌, ◌∷◌, [], map, length, false, nat_le, nat_lt, IfOk, MatchResult, OnOk, IfErr};
+ghost use Rattle.std.specs.Prelude.{◌≡◌, ◌<◌, ◌≤◌, ◌||◌, [], map, length, false, nat_le, nat_lt, IfOk, MatchResult, OnOk, IfErr};
 ghost use Rattle.std.specs.Vec.{vec_len, vec_capacity};
 ghost use Rattle.cartridge_spec.specs.Table.{slot, slot_fault, some_free_below, entry_in, Shows, HasNoFault, IsFirstFault};
 ghost use Rattle.volume_table.specs.Entry.{entry_of};

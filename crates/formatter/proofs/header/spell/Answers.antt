@@ -1,5 +1,5 @@
 use Rattle.std.proofs.Common.{◌≡◌, ℕ, List, take, ap, subst, sym, ◌∙◌}
-use Rattle.cartridge_spec.specs.Header.{Spells}
+use Rattle.cartridge_spec.specs.Header.{SpellsHeader}
 use Rattle.cartridge_spec.specs.Says.{with_parity}
 use Rattle.format_plan.specs.Fresh.{fresh_header, IsFreshArea}
 use Rattle.formatter.proofs.Copies.{block_data}
@@ -18,5 +18,5 @@ returns-clause-fresh c =
     subst (λ (area : List (List ℕ)). IsFreshArea c.args.geometry c.args.label.now c.args.date c.args.map.now area) (sym data_sectors)
     (record {
       size = c.put_parity.ensures.area;
-      spells = subst (λ (n : ℕ). Spells (fresh_header n c.args.label.now c.args.date) c.args.map.now (take 29 c.put_header.new.sectors)) c.segments_per_track.ensures.value c.put_header.ensures;
+      spells = subst (λ (n : ℕ). SpellsHeader (fresh_header n c.args.label.now c.args.date) c.args.map.now (take 29 c.put_header.new.sectors)) c.segments_per_track.ensures.value c.put_header.ensures;
     })

@@ -3,7 +3,6 @@ use Rattle.std.proofs.lemmas.Result.{err_from_is_err_and}
 use Rattle.qic_base.specs.Step.{Step}
 use Rattle.qic_base.specs.Tape.{Done, Broke, Does}
 use Rattle.qic_base.proofs.Steps.{Broke-front}
-use Rattle.cartridge_spec.specs.Shape.{usable_count}
 use Rattle.format_plan.specs.Formatting.{copy_writes}
 use Rattle.cartridge_spec.specs.Writes.{named_writes}
 use Rattle.host_driver.proofs.Keeping.{cartridge_kept}

@@ -1,4 +1,4 @@
-use Rattle.std.proofs.Common.{◌≡◌, ℕ, ◌+◌, ◌*◌, ◌<◌, ◌≤◌, true, [], ap, subst, sym, ◌∙◌, refl, arith}
+use Rattle.std.proofs.Common.{◌≡◌, ℕ, ◌+◌, ◌*◌, ◌<◌, ◌≤◌, true, [], subst, sym, ◌∙◌, refl, arith}
 use Rattle.qic_base.specs.Tape.{Done, Tells}
 use Rattle.qic_base.proofs.Steps.{Done-after_reads, Tells-read}
 use Rattle.drive_states.specs.Deck.{segments_per_track, is_streaming}

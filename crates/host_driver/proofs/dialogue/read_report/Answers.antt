@@ -1,12 +1,12 @@
-use Rattle.std.proofs.Common.{◌≡◌, ℕ, ◌+◌, ◌<◌, ◌∷◌, [], List, Bool, false, length, get_or, take, ap, sym, subst, ◌∙◌, arith}
-use Rattle.report_bits.specs.Report.{Collected, levels_of, report_of, IsWidth}
+use Rattle.std.proofs.Common.{◌≡◌, ℕ, ◌+◌, ◌<◌, List, Bool, false, length, get_or, ap, sym, subst, ◌∙◌, arith}
+use Rattle.report_bits.specs.Report.{Collected, levels_of}
 use Rattle.qic117_commands.specs.Commands.{number_of}
 use Rattle.qic117_commands.specs.declared.command.Command.TheVariants.{ReportNextBit}
 use Rattle.drive_states.specs.Record.{Record}
 use Rattle.drive_states.specs.Unit.{UnitView}
-use Rattle.host_driver.specs.Reports.{command_of, width_of, reported_word, after_report}
+use Rattle.host_driver.specs.Reports.{command_of, width_of, reported_word}
 use Rattle.host_driver.specs.Train.{TakesTrain, train_steps, after_train}
-use Rattle.host_driver.proofs.Reporting.{reporting, reporting-none, reporting-next, reporting-all, takes-command, takes-next, reads-command, reads-next, is_width, reported-small, collected, collected-all, taken-room, next-level, length-levels_of}
+use Rattle.host_driver.proofs.Reporting.{reporting, reporting-none, reporting-next, reporting-all, takes-command, takes-next, reads-command, reads-next, reported-small, collected, collected-all, taken-room, next-level, length-levels_of}
 use Rattle.host_driver.proofs.dialogue.read_report.Goals as goal
 
 pub sample-requires-clause-taken : goal.sample-requires-clause-taken

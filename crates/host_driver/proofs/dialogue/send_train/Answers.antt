@@ -1,10 +1,10 @@
-use Rattle.std.proofs.Common.{◌≡◌, List, [], ◌∷◌, ap, sym, ◌∙◌, subst, OnOk, OnErr, arith}
+use Rattle.std.proofs.Common.{◌≡◌, List, [], ◌∷◌, ap, ◌∙◌, subst, OnOk, OnErr, arith}
 use Rattle.qic_base.specs.Step.{Step, SetReferenced}
 use Rattle.qic_base.specs.Tape.{Does}
 use Rattle.drive_states.specs.Record.{Record}
 use Rattle.drive_states.specs.Row.{after_gap, gap_steps}
 use Rattle.drive_states.specs.Unit.{UnitView}
-use Rattle.host_driver.specs.Train.{after_train, train_steps}
+use Rattle.host_driver.specs.Train.{train_steps}
 use Rattle.drive_states.specs.Row.{without_reference}
 use Rattle.host_driver.proofs.Trains.{sent, sent_steps, IsOk-reads, OnErr-second}
 use Rattle.host_driver.proofs.dialogue.send_train.Goals as goal

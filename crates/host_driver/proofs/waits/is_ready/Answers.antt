@@ -1,4 +1,4 @@
-use Rattle.std.proofs.Common.{◌≡◌, ◌==◌, ◌<◌, ◌^◌, ℕ, Ok, ap, ◌∙◌, bit_and, arith}
+use Rattle.std.proofs.Common.{◌≡◌, ◌==◌, ◌<◌, ℕ, Ok, ap, ◌∙◌, bit_and, arith}
 use Rattle.host_driver.proofs.Refusals.{status_taken}
 use Rattle.host_driver.proofs.Reporting.{reported-small}
 use Rattle.host_driver.proofs.Status.{status_word-stopped}

@@ -1,7 +1,6 @@
 use Rattle.std.proofs.Common.{ℕ, Err, sym, subst, arith}
 use Rattle.pulse_dialogue.specs.declared.teller.Teller.{Teller}
-use Rattle.pulse_dialogue.specs.Runs.{Outside}
-use Rattle.pulse_dialogue.specs.Steps.{Scene, Told}
+use Rattle.pulse_dialogue.specs.Steps.{Told}
 use Rattle.pulse_dialogue.proofs.Running.{SoFar, begin, has_room, next, over, line_failed, end_came, sink_rose, sink_later}
 use Rattle.pulse_dialogue.proofs.run.tell_recording.Goals as goal
 

@@ -1,6 +1,5 @@
-use Rattle.std.proofs.Common.{◌≡◌, ◌<◌, ◌≤◌, ◌+◌, ◌*◌, ◌/◌, ◌%◌, refl, sym, arith}
+use Rattle.std.proofs.Common.{◌≡◌, ◌+◌, ◌*◌, ◌/◌, ◌%◌, refl, arith}
 use Rattle.qic_base.specs.Date.{IsDate}
-use Rattle.tape_script.specs.Forms.{IsDateWord}
 use Rattle.tape_script.proofs.Dates.{HasFields, fields_of, one_pair, form_from_fields}
 use Rattle.tape_script.proofs.date.read_date.Goals as goal
 

@@ -1,4 +1,4 @@
-use Rattle.std.proofs.Common.{◌≡◌, ◌≤◌, ◌+◌, ◌∷◌, length, drop, arith}
+use Rattle.std.proofs.Common.{◌+◌, ◌∷◌, drop, arith}
 use Rattle.tape_script.specs.Input.{words_of}
 use Rattle.tape_script.proofs.Splits.{some_word, longer}
 use Rattle.tape_script.proofs.Lines.{line_length}

@@ -1,8 +1,7 @@
-use Rattle.std.proofs.Common.{◌≡◌, ◌<◌, ◌++◌, ◌∷◌, ◌+◌, ◌==◌, [], true, false, length, take, drop, nat_lt, get_or, ap, ◌∙◌, arith, sym}
+use Rattle.std.proofs.Common.{◌≡◌, ◌==◌, true, false, length, take, nat_lt, get_or, arith}
 use Rattle.std.proofs.lemmas.Bool.Decides.{nat_tests}
 use Rattle.std.proofs.lemmas.List.{take_more, take_all}
 use Rattle.std.proofs.lemmas.List.Elements.{All-push}
-use Rattle.tape_script.specs.Input.{words_of}
 use Rattle.tape_script.proofs.Splits.{words_at, words_none, NoSpace}
 use Rattle.tape_script.proofs.line.word_end.Goals as goal
 

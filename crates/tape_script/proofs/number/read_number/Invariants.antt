@@ -1,4 +1,4 @@
-use Rattle.std.proofs.Common.{◌≡◌, ◌<◌, ◌≤◌, take, decimal}
+use Rattle.std.proofs.Common.{◌≡◌, ◌<◌, take, decimal}
 use Rattle.tape_script.proofs.number.read_number.Given as goal
 
 abbrev pub invariant-loop-at : goal.invariant-loop-at

@@ -1,4 +1,4 @@
-use Rattle.std.proofs.Common.{◌≡◌, ◌≤◌, ◌-◌, ◌+◌, length, take, arith}
+use Rattle.std.proofs.Common.{◌≤◌, ◌-◌, arith}
 use Rattle.std.proofs.lemmas.List.{length-take}
 use Rattle.tape_script.proofs.Giving.{GaveSome-read, GaveSome-same}
 use Rattle.tape_script.proofs.taking.skip.Goals as goal

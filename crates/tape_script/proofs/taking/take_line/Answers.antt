@@ -1,4 +1,4 @@
-use Rattle.std.proofs.Common.{◌≡◌, ◌≢◌, ◌<◌, ◌≤◌, ◌+◌, ◌∷◌, ◌++◌, [], ℕ, List, inl, inr, length, take, drop, set, refl, arith}
+use Rattle.std.proofs.Common.{◌≡◌, ◌≢◌, ◌<◌, ◌+◌, ◌∷◌, ◌++◌, [], inl, inr, length, take, set, arith}
 use Rattle.std.proofs.lemmas.List.{take_more_set, length-set, length-take-le}
 use Rattle.std.proofs.lemmas.List.Elements.{All-push}
 use Rattle.tape_script.proofs.Giving.{Gave-Gave, Gave-end, HasEnded-Gave}

@@ -1,4 +1,4 @@
-use Rattle.std.proofs.Common.{◌≡◌, ◌≤◌, map, length, string_bytes, arith}
+use Rattle.std.proofs.Common.{map, string_bytes, arith}
 use Rattle.std.proofs.lemmas.List.{length-map}
 use Rattle.tape_script.proofs.Commands.{command_length}
 use Rattle.tape_script.proofs.words.read_command.Goals as goal

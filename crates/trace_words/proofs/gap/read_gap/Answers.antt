@@ -1,4 +1,4 @@
-use Rattle.std.proofs.Common.{◌≡◌, ◌∙◌, Global, ap, map}
+use Rattle.std.proofs.Common.{◌∙◌, Global, ap, map}
 use Rattle.std.specs.Prelude.{string_bytes}
 use Rattle.std.specs.Str.Parse.{ParsesUnsigned, ExplainsUnsignedError, HasUnsignedDigitsIfOk}
 use Rattle.trace_words.proofs.Gaps.{number_read, has_gap, is_refused}

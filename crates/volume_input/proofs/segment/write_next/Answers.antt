@@ -1,6 +1,6 @@
-use Rattle.std.proofs.Common.{◌≡◌, ◌⊎◌, inl, inr, ℕ, ◌-◌, ◌≤◌, min, true, All, subst, arith}
+use Rattle.std.proofs.Common.{◌≡◌, ◌⊎◌, inl, inr, ◌-◌, ◌≤◌, min, true, All, subst, arith}
 use Rattle.gf256_qic.specs.Code.{IsSector}
-use Rattle.volume_input.proofs.Next.{data_sectors, source_fault, came_short, none_came, next_written, next_broken}
+use Rattle.volume_input.proofs.Next.{data_sectors, source_fault, came_short, next_written, next_broken}
 use Rattle.volume_input.proofs.Places.{data_most}
 use Rattle.volume_input.proofs.segment.write_next.Goals as goal
 use Rattle.volume_input.proofs.segment.write_next.Goals.{else-exact-via-then-exact+else-read-min, else-exact-via-else-exact, else-read-eq0-via-then-read-eq0+else-before-gt0, else-read-eq0-via-else-read-eq0}

@@ -1,12 +1,9 @@
-use Rattle.std.proofs.Common.{◌≡◌, ℕ, [], ap, sym, subst, ◌∙◌}
-use Rattle.qic117_commands.specs.Commands.{number_of}
+use Rattle.std.proofs.Common.{◌≡◌, ℕ, ap, sym, subst, ◌∙◌}
 use Rattle.drive_states.specs.Record.{Record}
-use Rattle.drive_states.specs.Row.{obeying}
 use Rattle.host_driver.specs.Train.{TakesTrain, after_train, train_steps}
 use Rattle.host_driver.proofs.Sending.{commanded, steps-plain, takes-plain}
 use Rattle.host_driver.proofs.Taking.{done}
 use Rattle.host_driver.proofs.host.Host.command.Goals as goal
-use Rattle.host_driver.proofs.host.Host.command.Goals.{After-send}
 
 pub send-requires-clause-taken : goal.send-requires-clause-taken
 send-requires-clause-taken g c =

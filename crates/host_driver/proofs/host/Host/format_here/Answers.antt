@@ -1,4 +1,4 @@
-use Rattle.std.proofs.Common.{◌≡◌, [], ◌∷◌, ap, rules}
+use Rattle.std.proofs.Common.{[], ◌∷◌, ap, rules}
 use Rattle.qic_base.specs.Step.{FormatSegment}
 use Rattle.drive_states.specs.declared.deck.Deck.{Deck}
 use Rattle.drive_states.specs.Reach.{segment_of}

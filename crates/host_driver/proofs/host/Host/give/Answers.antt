@@ -1,9 +1,7 @@
-use Rattle.std.proofs.Common.{◌≡◌, ℕ, ◌+◌, [], ap, sym, subst, ◌∙◌, IfSome}
-use Rattle.drive_states.specs.Record.{Record}
-use Rattle.drive_states.specs.Row.{given_more, longer}
+use Rattle.std.proofs.Common.{◌≡◌, ℕ, ◌+◌, ap, sym, subst, ◌∙◌}
 use Rattle.host_driver.specs.Fits.{parameter_of}
 use Rattle.host_driver.specs.Train.{TakesTrain, after_train, train_steps}
-use Rattle.host_driver.proofs.Sending.{gives, given_as, Gives}
+use Rattle.host_driver.proofs.Sending.{gives, given_as}
 use Rattle.host_driver.proofs.Taking.{done}
 use Rattle.host_driver.proofs.host.Host.give.Goals as goal
 

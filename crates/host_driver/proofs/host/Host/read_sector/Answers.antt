@@ -1,4 +1,4 @@
-use Rattle.std.proofs.Common.{◌≡◌, ℕ, ◌*◌, ◌<◌, [], subst, ap, rules}
+use Rattle.std.proofs.Common.{ℕ, ◌*◌, ◌<◌, [], subst, ap, rules}
 use Rattle.drive_states.specs.declared.deck.Deck.{Deck}
 use Rattle.drive_states.specs.Reach.{reads_in}
 use Rattle.host_driver.proofs.Marks.{nothing_keeps, broke_agrees}

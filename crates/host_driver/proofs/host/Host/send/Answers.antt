@@ -3,7 +3,6 @@ use Rattle.drive_states.specs.declared.deck.Deck.{Deck}
 use Rattle.drive_states.specs.Deck.{unreferenced}
 use Rattle.host_driver.specs.declared.host.Host.{Host}
 use Rattle.host_driver.specs.Fits.{Fits}
-use Rattle.host_driver.specs.Followed.{followed}
 use Rattle.host_driver.specs.Train.{after_train}
 use Rattle.drive_states.specs.Row.{without_reference}
 use Rattle.host_driver.proofs.Fitting.{fits_after, fits_without, by_err, by_ok, takes_value}

@@ -1,9 +1,7 @@
-use Rattle.std.proofs.Common.{◌≡◌, ℕ, ◌*◌, ◌<◌, Bool, subst, ap, sym, [], ◌∷◌, rules}
+use Rattle.std.proofs.Common.{ℕ, ◌*◌, ◌<◌, subst, ap, [], ◌∷◌, rules}
 use Rattle.qic_base.specs.Step.{WriteSector}
 use Rattle.qic117_commands.specs.Views.{is_primary}
 use Rattle.drive_states.specs.declared.deck.Deck.{Deck}
-use Rattle.drive_states.specs.Reach.{Writes}
-use Rattle.drive_states.specs.Unit.{held}
 use Rattle.host_driver.proofs.Marks.{write_keeps, broke_agrees}
 use Rattle.host_driver.proofs.Reaching.{length_is, under_on_tape, reaches}
 use Rattle.host_driver.proofs.host.Host.write_sector.Goals as goal

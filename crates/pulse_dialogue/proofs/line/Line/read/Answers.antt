@@ -1,9 +1,9 @@
-use Rattle.std.proofs.Common.{◌≡◌, ◌⊎◌, inl, inr, ◌+◌, ◌∷◌, ◌++◌, [], List, ℕ, length, take, subst, refl, ap, ◌∙◌, arith}
+use Rattle.std.proofs.Common.{◌≡◌, ◌⊎◌, inl, inr, ◌+◌, ◌∷◌, ◌++◌, [], List, ℕ, length, take, ap, ◌∙◌, arith}
 use Rattle.std.proofs.lemmas.List.{length_push, length-take-le}
 use Rattle.tape_script.specs.Input.{IsLined}
-use Rattle.tape_script.specs.Reading.{Gave, HasEnded}
+use Rattle.tape_script.specs.Reading.{HasEnded}
 use Rattle.tape_script.proofs.Lined.{BeginsWithNo-line, BeginsWithNo-open, BeginsWithNo-by}
-use Rattle.pulse_dialogue.specs.Lines.{IsLine, line_text, line_bytes}
+use Rattle.pulse_dialogue.specs.Lines.{IsLine}
 use Rattle.pulse_dialogue.specs.Reading.{IsLineText}
 use Rattle.pulse_dialogue.proofs.Lines.{lined, line_given}
 use Rattle.pulse_dialogue.proofs.line.Line.read.Goals as goal

@@ -4,7 +4,7 @@ use Rattle.qic_base.proofs.Writing.{BrokeOff-longer}
 use Rattle.pulse_dialogue.specs.declared.context.Context.{Context}
 use Rattle.pulse_dialogue.specs.declared.teller.Teller.{Teller}
 use Rattle.pulse_dialogue.specs.Dialogue.{sample_line, heard_level}
-use Rattle.pulse_dialogue.specs.Telling.{ended_text, ended_context, told_at}
+use Rattle.pulse_dialogue.specs.Telling.{ended_text, ended_context}
 use Rattle.pulse_dialogue.proofs.Running.{writes_both}
 use Rattle.pulse_dialogue.proofs.teller.Teller.tell_sample.Goals as goal
 

@@ -1,4 +1,3 @@
-use Rattle.std.proofs.Common.{◌≡◌, ◌+◌, ◌*◌, ◌%◌, ap, ◌∙◌}
 use Rattle.tape_script.proofs.Making.{made_bytes_from}
 use Rattle.tape_script.proofs.made.Made.new.Goals as goal
 

@@ -1,6 +1,5 @@
-use Rattle.std.proofs.Common.{◌≡◌, ◌+◌, ◌-◌, ◌%◌, ◌<◌, ◌≤◌, min, List, ℕ, Some, length, take, drop, refl, sym, ap, ◌∙◌, arith}
+use Rattle.std.proofs.Common.{◌≡◌, List, ℕ, Some, length, take, drop, sym, ap, arith}
 use Rattle.std.proofs.lemmas.List.{length-take-le}
-use Rattle.tape_script.specs.Generator.{made_from}
 use Rattle.tape_script.proofs.Making.{made_gives, drop-made_from}
 use Rattle.tape_script.proofs.made.MadeSource.read.Goals as goal
 
