@@ -17,7 +17,7 @@ use Rattle.made_volumes.specs.Machine.{Done}
 use Rattle.made_volumes.specs.Runs.{HasRun, RunEnds}
 use Rattle.made_volumes.proofs.Joining.{run_none, ends_behind, ends_longer, ends_quietly}
 use Rattle.made_volumes.proofs.Loops.{appending_next, appending_whole, made_next, length-made, after_wearing, after_wearing_in, after_wearing_volumes, after_summing, ends_after, two_below, two_next, two_full, wearing_next, wearing_part, wearing_in_part, volumes_next, volumes_whole, summing_next, summing_whole}
-use Rattle.made_volumes.proofs.Segments.{carries, carrying_below, below_none, below_part, one_or_none, one_carries, none_carries}
+use Rattle.segment_mending.proofs.Looked.{carries, carrying_below, below_none, segments_part, one_more, one_carries, none_carries}
 
 -- a sink that is never asked takes two texts as one
 pub none_takes_both : TakesBoth no_sink
@@ -117,7 +117,7 @@ not_due words segment other false = refl
 -- a segment whose number is no multiple of 100
 pub segment_not_due : (words : List ℕ) (segment : ℕ) → segment % 100 ≢ 0 → wearing_in words (carrying words segment segment) ≡ []
 segment_not_due words segment other =
-    ap (wearing_in words) (one_or_none words segment) ∙ not_due words segment other (carries words segment)
+    ap (wearing_in words) (one_more words segment) ∙ not_due words segment other (carries words segment)
 
 -- one that carries no data
 pub segment_bare : (words : List ℕ) (segment : ℕ) → usable_count (mask_at words segment) < 4 → wearing_in words (carrying words segment segment) ≡ []
@@ -147,7 +147,7 @@ module _ {T : Type 0} (t : tapes.Meaning T) (words : List ℕ) (es : List Entry)
   segments_next seed r ran ends =
       subst (λ (items : List Item). RunEnds t no_sink seed words es items (around a tt) (around c tt) r)
       (sym (wearing_in_part words (carrying_below words start segment) (carrying words segment segment))
-      ∙ ap (wearing_in words) (below_part words start segment (segment + 1) low (omega arith)))
+      ∙ ap (wearing_in words) (sym (segments_part words start segment (segment + 1) low (omega arith))))
       (ends_after t no_sink seed words es none_takes_both (wearing_in words (carrying_below words start segment)) (wearing_in words (carrying words segment segment))
       (around a tt) (around b tt) (around c tt) r (after_wearing_in seed words es (carrying_below words start segment)) ran ends)
 
@@ -158,7 +158,7 @@ module _ {T : Type 0} (t : tapes.Meaning T) (words : List ℕ) (es : List Entry)
   segments_failed seed last f high ran ends =
       subst (λ (items : List Item). RunEnds t no_sink seed words es items (around a tt) (around c tt) (Err f))
       (sym (wearing_in_part words (carrying_below words start (segment + 1)) (carrying_below words (segment + 1) last))
-      ∙ ap (wearing_in words) (below_part words start (segment + 1) last (omega arith) (omega arith)))
+      ∙ ap (wearing_in words) (sym (segments_part words start (segment + 1) last (omega arith) (omega arith))))
       (ends_longer t no_sink seed words es (wearing_in words (carrying_below words start (segment + 1))) (wearing_in words (carrying_below words (segment + 1) last))
       (around a tt) (around c tt) f (segments_next seed (Err f) ran ends))
 

@@ -2,7 +2,6 @@ pub mod MachineLaws
 pub mod MayLaws
 pub mod MadeBytes
 pub mod Telling
-pub mod Segments
 pub mod Loops
 pub mod Joining
 pub mod Appends

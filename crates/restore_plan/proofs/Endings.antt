@@ -61,19 +61,17 @@ restores_is_function c words (piece ∷ needed) (a ∷ rest_a) (b ∷ rest_b) x 
 
 -- ---- at least one
 
-GivesSome : (c : Cartridge) (words : List ℕ) (needed : List Piece) → Type 0
+abbrev pub GivesSome : (c : Cartridge) (words : List ℕ) (needed : List Piece) → Type 0
 GivesSome c words needed = (acts : List Act) × (ending : Ending) × Restores c words needed acts ending
 
-by_saying : (c : Cartridge) (words : List ℕ) (piece : Piece) (needed : List Piece) (saying : Saying) →
+pub by_saying : (c : Cartridge) (words : List ℕ) (piece : Piece) (needed : List Piece) (saying : Saying) →
     Says (piece_cells c words piece) saying → GivesSome c words needed → GivesSome c words (piece ∷ needed)
-unfolding GivesSome
 by_saying c words piece needed (Data sectors) says rest =
     (act_of piece sectors ∷ rest.0, rest.1, (record { sectors = sectors; says = says; shown = refl }, rest.2))
 by_saying c words piece needed (LostSectors n) says rest = ([], LostIn piece.segment n, (refl, says))
 by_saying c words piece needed Mismatch says rest = ([], MismatchIn piece.segment, (refl, says))
 
 pub restores_always : RestoresAlways
-unfolding GivesSome
 restores_always c words [] whole = ([], Restored, (refl, refl))
 restores_always c words (piece ∷ needed) whole =
     let said = says_always (piece_cells c words piece) (cells_are_views c piece.segment (mask_at words piece.segment) whole) in

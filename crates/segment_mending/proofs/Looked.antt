@@ -25,7 +25,7 @@ range_part a (suc m) n =
     ∙ ap (λ (b : ℕ). a ∷ (range_with_len (a + 1) m ++ range_with_len b n)) here
 
 -- whether a segment carries data by the map
-abbrev carries : List ℕ → ℕ → Bool
+abbrev pub carries : List ℕ → ℕ → Bool
 carries words segment = nat_le 4 (usable_count (mask_at words segment))
 
 -- the carrying segments from one on, below another
@@ -47,7 +47,7 @@ segments_part words start segment last low high =
     ∙ filter-append (carries words) (range_with_len start (segment - start)) (range_with_len segment (last - segment))
 
 -- a segment alone
-one_more : (words : List ℕ) (segment : ℕ) → carrying words segment segment ≡ cond (carries words segment) (segment ∷ []) []
+pub one_more : (words : List ℕ) (segment : ℕ) → carrying words segment segment ≡ cond (carries words segment) (segment ∷ []) []
 one_more words segment =
     let one : segment + 1 - segment ≡ 1 = omega arith in ap (λ (n : ℕ). filter (carries words) (range_with_len segment n)) one
 

@@ -8,12 +8,12 @@ use Rattle.qic_base.specs.declared.tape.SectorView.TheVariants.{Blank, Defect, L
 use Rattle.qic_base.specs.Cartridge.{Cartridge, IsSector, IsView}
 use Rattle.gf256_qic.specs.Code.{IsCodeBlock}
 use Rattle.gf256_qic.specs.Code as code
-use Rattle.cartridge_spec.specs.Says.{Agrees, Saying, Data, LostSectors, Mismatch, Says, unreadable_count}
+use Rattle.cartridge_spec.specs.Says.{Agrees, Saying, LostSectors, Mismatch, Says, unreadable_count}
 use Rattle.cartridge_spec.specs.Writes.{changed_by}
 use Rattle.cartridge_spec.proofs.Blocks.{says_always}
 use Rattle.cartridge_spec.proofs.Sayings.{cartridge_sector}
-use Rattle.acts.specs.Acts.{Act}
-use Rattle.restore_plan.specs.Restoring.{Piece, Ending, Restored, LostIn, MismatchIn, Restores, piece_cells, act_of}
+use Rattle.restore_plan.specs.Restoring.{Restored, piece_cells}
+use Rattle.restore_plan.proofs.Endings.{by_saying}
 use Rattle.scrub_plan.specs.Scrubbing.{Looked, cells_at, looked_at, steps_in, SayInTurn, scrub_acts}
 use Rattle.store_laws.specs.Listed.{RestoresAnyway, ScrubsAnyway}
 
@@ -87,19 +87,7 @@ says_anyway cells =
 
 -- ---- a restore
 
-GivesSome : (c : Cartridge) (words : List ℕ) (needed : List Piece) → Type 0
-GivesSome c words needed = (acts : List Act) × (ending : Ending) × Restores c words needed acts ending
-
-by_saying : (c : Cartridge) (words : List ℕ) (piece : Piece) (needed : List Piece) (saying : Saying) →
-    Says (piece_cells c words piece) saying → GivesSome c words needed → GivesSome c words (piece ∷ needed)
-unfolding GivesSome
-by_saying c words piece needed (Data sectors) says rest =
-    (act_of piece sectors ∷ rest.0, rest.1, (record { sectors = sectors; says = says; shown = refl }, rest.2))
-by_saying c words piece needed (LostSectors n) says rest = ([], LostIn piece.segment n, (refl, says))
-by_saying c words piece needed Mismatch says rest = ([], MismatchIn piece.segment, (refl, says))
-
 pub restores_anyway : RestoresAnyway
-unfolding GivesSome
 restores_anyway c words [] = ([], Restored, (refl, refl))
 restores_anyway c words (piece ∷ needed) =
     let said = says_anyway (piece_cells c words piece) in

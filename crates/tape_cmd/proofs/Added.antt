@@ -44,7 +44,7 @@ use Rattle.tape_cmd.specs.declared.status.Status.TheVariants as status
 use Rattle.tape_cmd.specs.Append.{Appends, AppendOutcome, append_status, kept_on}
 use Rattle.tape_cmd.specs.Lines.{appended_line, reply_behind}
 use Rattle.tape_cmd.specs.Opening.{IsOpened, HasOpened, IsUnlocked, WritableEnds, is_opening, store_status}
-use Rattle.tape_cmd.specs.Outcome.{Outcome, refused, refused_behind, first_steps}
+use Rattle.tape_cmd.specs.Outcome.{CommandOutcome, refused, refused_behind, first_steps}
 use Rattle.tape_cmd.specs.Runs.{CommandEnds, InputLeft, IsOfBytes, IsCutOff, NamesFault, may_come_from}
 use Rattle.tape_cmd.specs.Machine.{CommandPrints, FrontPrints}
 use Rattle.append_plan.specs.Between.{table_writes}
@@ -189,14 +189,14 @@ left_by_opening (status.ScriptFault line place) taken before after none left = a
 left_by_opening why taken before after none left = left
 
 appends_first : (name : List ℕ) (date : ℕ) (input : List ℕ) → Settles (Appends name date input)
-appends_first name date input c header ws table entries outcome is = ap (λ (o : Outcome). first_steps o) is
+appends_first name date input c header ws table entries outcome is = ap (λ (o : CommandOutcome). first_steps o) is
 
 -- the outcome of acts
-abbrev with_acts : List Act → (taken : ℕ) → Status → Outcome
+abbrev with_acts : List Act → (taken : ℕ) → Status → CommandOutcome
 with_acts acts taken answer = record { acts = acts; taken = taken; status = answer }
 
 -- what an append does that goes by this
-abbrev going_by : Act → Kept → (name : List ℕ) (date : ℕ) (input : List ℕ) → Outcome
+abbrev going_by : Act → Kept → (name : List ℕ) (date : ℕ) (input : List ℕ) → CommandOutcome
 going_by first kept name date input =
     with_acts (first ∷ append_acts kept name date None (reply_behind (length kept.entries)) input) (bytes_taken None (taking (room_in kept) None input)) (append_status (room_in kept) input)
 
@@ -221,7 +221,7 @@ module _ {T S K : Type 0} (t : tapes.Meaning T) (s : sources.Meaning S) (k : sin
   })
 
   -- with the input that is told, or none, whatever it is
-  whatever : (outcome : Outcome) → IfSome (t.told a) (λ held. (input : List ℕ) → AppendOutcome name date held input outcome) →
+  whatever : (outcome : CommandOutcome) → IfSome (t.told a) (λ held. (input : List ℕ) → AppendOutcome name date held input outcome) →
       IfSome (t.told a) (λ held. (input : List ℕ) × IfSome (s.left i) (λ bytes. input ≡ bytes) × (IsOfBytes (words.Append name date) (s.left i) input × AppendOutcome name date held input outcome))
   whatever outcome told =
       told_map (t.told a) _ _ told (λ held each. (input_of (s.left i), input_told (s.left i), ((λ is. input_bytes (s.left i)), each (input_of (s.left i)))))
@@ -332,7 +332,7 @@ module _ {T S K : Type 0} (t : tapes.Meaning T) (s : sources.Meaning S) (k : sin
           o.1,
           (
             o.2.0,
-            subst (λ (w : Outcome). AppendOutcome name date held o.0 w)
+            subst (λ (w : CommandOutcome). AppendOutcome name date held o.0 w)
                 (ap (λ (n : ℕ). with_acts (quiet opening.steps ∷ acts) n (append_status (room_in kept) ran.input)) taken
                 ∙ ap (λ (why : Status). with_acts (quiet opening.steps ∷ acts) need why) answer) o.2.1,
           ),
@@ -363,7 +363,7 @@ module _ {T S K : Type 0} (t : tapes.Meaning T) (s : sources.Meaning S) (k : sin
       abbrev last_act : Act
       last_act = record { steps = table_writes (slot_sector (length store.entries)) (table_with kept entry); text = reply entry }
 
-      abbrev outcome : Outcome
+      abbrev outcome : CommandOutcome
       outcome = going_by (quiet opening.steps) kept name date ran.input
 
       line_is : appended_line added.number added.bytes added.start added.end ≡ reply entry
@@ -492,7 +492,7 @@ module _ {T S K : Type 0} (t : tapes.Meaning T) (s : sources.Meaning S) (k : sin
     }
 
     -- what the plain machine does over a cartridge that was opened and is not protected
-    plain_is : (c : Cartridge) (is : IsOpened c store opening.steps) → IsKnown (settled is.table c) store false → (input : List ℕ) (outcome : Outcome) → AppendOutcome name date (Some c) input outcome →
+    plain_is : (c : Cartridge) (is : IsOpened c store opening.steps) → IsKnown (settled is.table c) store false → (input : List ℕ) (outcome : CommandOutcome) → AppendOutcome name date (Some c) input outcome →
         outcome ≡ going_by (quiet opening.steps) (kept_by store is.table (settling_steps is.table (settled is.table c))) name date input
     plain_is c is known input outcome plain =
         plain_is_function (words.Append name date) (Some c) input outcome _ plain
@@ -531,7 +531,7 @@ module _ {T S K : Type 0} (t : tapes.Meaning T) (s : sources.Meaning S) (k : sin
                         (append_acts (kept_by store is.table (settling_steps is.table (settled is.table d))) name date None (reply_behind (length store.entries)) cut.input) =
                         each.1 is.table table (reply_behind (length store.entries)) in
                         let same = plain_is d is each.0 cut.input outcome plain in
-                        let all = ap (λ (xs : List Act). quiet opening.steps ∷ xs) off.parts ∙ sym (ap (λ (o : Outcome). o.acts) same) in record {
+                        let all = ap (λ (xs : List Act). quiet opening.steps ∷ xs) off.parts ∙ sym (ap (λ (o : CommandOutcome). o.acts) same) in record {
                           cut = tape_behind c j _ nothing off outcome.acts all;
                           done = λ sink still. absurd (cc);
                           silent = λ still. off.wrote.took;
@@ -579,7 +579,7 @@ module _ {T S K : Type 0} (t : tapes.Meaning T) (s : sources.Meaning S) (k : sin
                         (append_acts (kept_by store is.table (settling_steps is.table (settled is.table d))) name date None (reply_behind (length store.entries)) cut.input) =
                         each.1 is.table table (reply_behind (length store.entries)) in
                         let same = plain_is d is each.0 cut.input outcome plain in
-                        let all = ap (λ (xs : List Act). quiet opening.steps ∷ xs) off.parts ∙ sym (ap (λ (o : Outcome). o.acts) same) in record {
+                        let all = ap (λ (xs : List Act). quiet opening.steps ∷ xs) off.parts ∙ sym (ap (λ (o : CommandOutcome). o.acts) same) in record {
                           cut = source_behind c j _ nothing off outcome.acts off.rest all;
                           done = λ sink still. absurd (cc);
                           silent = λ still. off.wrote.took;

@@ -45,12 +45,12 @@ use Rattle.tape_cmd.specs.declared.status.Status.TheVariants as status
 use Rattle.tape_cmd.specs.Append.{kept_on, appended, Appends, AppendOutcome}
 use Rattle.tape_cmd.specs.Lines.{appended_line, reply_behind}
 use Rattle.tape_cmd.specs.Opening.{Opened, settling_act}
-use Rattle.tape_cmd.specs.Outcome.{Outcome, refused}
+use Rattle.tape_cmd.specs.Outcome.{CommandOutcome, refused}
 
 -- ---- what it comes to
 
 -- nothing is done, and this answered
-pub record WasRefused (outcome : Outcome) : Type 0 where
+pub record WasRefused (outcome : CommandOutcome) : Type 0 where
   pub why : Status
   pub acts : List Act
   pub is : outcome ≡ record { acts = acts; taken = 0; status = why }
@@ -58,15 +58,15 @@ pub record WasRefused (outcome : Outcome) : Type 0 where
   pub not_done : why ≢ status.Done
 
 -- the table is settled, and the input appended
-pub record WasRun (name : List ℕ) (date : ℕ) (input : List ℕ) (c : Cartridge) (plain : Plain) (outcome : Outcome) : Type 0 where
+pub record WasRun (name : List ℕ) (date : ℕ) (input : List ℕ) (c : Cartridge) (plain : Plain) (outcome : CommandOutcome) : Type 0 where
   pub unprotected : c.info.protected ≡ false
   pub table : TableIs c plain.table_area
   pub is : outcome ≡ appended name date input c plain.words plain.table_area (entries_of plain)
 
-refusal : (why : Status) (outcome : Outcome) → why ≢ status.Done → outcome ≡ refused why → WasRefused outcome
+refusal : (why : Status) (outcome : CommandOutcome) → why ≢ status.Done → outcome ≡ refused why → WasRefused outcome
 refusal why outcome other is = record { why = why; acts = []; is = is; none = refl; not_done = other }
 
-pub course : (name : List ℕ) (date : ℕ) (input : List ℕ) (c : Cartridge) (plain : Plain) (outcome : Outcome) → Stands c plain →
+pub course : (name : List ℕ) (date : ℕ) (input : List ℕ) (c : Cartridge) (plain : Plain) (outcome : CommandOutcome) → Stands c plain →
     AppendOutcome name date (Some c) input outcome → WasRefused outcome ⊎ WasRun name date input c plain outcome
 course name date input c plain outcome stood (inl (locked, is)) = inl (refusal status.Protected outcome (λ same. cc) is)
 course name date input c plain outcome stood (inr (free, (m, mounts, opened))) =
@@ -256,7 +256,7 @@ run_stopped name date input c plain left label word content whole stood live unp
     ]
 
 -- a stop leaves what stood, or that with the volume of the input
-pub append_stopped : (name : List ℕ) (date : ℕ) (input : List ℕ) (c : Cartridge) (plain : Plain) (outcome : Outcome) (left : Option Cartridge) →
+pub append_stopped : (name : List ℕ) (date : ℕ) (input : List ℕ) (c : Cartridge) (plain : Plain) (outcome : CommandOutcome) (left : Option Cartridge) →
     IsLabel name → date < 2 ^ 32 → All (λ b. b < 256) input → IsCartridge c → Stands c plain → IsTableLive c →
     AppendOutcome name date (Some c) input outcome → Torn (steps_of outcome.acts) (Some c) left →
     IsSomeAnd left (λ d. Stands d plain ⊎ Stands d (new_plain c plain name date input))
@@ -264,10 +264,10 @@ append_stopped name date input c plain outcome left label word content whole sto
     elim (course name date input c plain outcome stood machine) [
       | inl none ↦
           some_and (λ d. Stands d plain ⊎ Stands d (new_plain c plain name date input)) c left (inl stood)
-          (subst (λ (ss : List Step). Torn ss (Some c) left) (ap (λ (o : Outcome). steps_of o.acts) none.is ∙ none.none) torn)
+          (subst (λ (ss : List Step). Torn ss (Some c) left) (ap (λ (o : CommandOutcome). steps_of o.acts) none.is ∙ none.none) torn)
       | inr run ↦
           run_stopped name date input c plain left label word content whole stood live run.unprotected run.table
-          (subst (λ (o : Outcome). Torn (steps_of o.acts) (Some c) left) run.is torn)
+          (subst (λ (o : CommandOutcome). Torn (steps_of o.acts) (Some c) left) run.is torn)
     ]
 
 -- ---- done
@@ -277,19 +277,19 @@ done_fits true need have is = refl
 done_fits false need have is = absurd (cc)
 
 -- where it was done, it stands for that with the volume
-pub append_done : (name : List ℕ) (date : ℕ) (input : List ℕ) (c : Cartridge) (plain : Plain) (outcome : Outcome) →
+pub append_done : (name : List ℕ) (date : ℕ) (input : List ℕ) (c : Cartridge) (plain : Plain) (outcome : CommandOutcome) →
     IsLabel name → date < 2 ^ 32 → All (λ b. b < 256) input → IsCartridge c → Stands c plain →
     AppendOutcome name date (Some c) input outcome → outcome.status ≡ status.Done →
     IsSomeAnd (effects (steps_of outcome.acts) (Some c)) (λ d. Stands d (new_plain c plain name date input))
 append_done name date input c plain outcome label word content whole stood machine is_done =
     elim (course name date input c plain outcome stood machine) [
-      | inl none ↦ absurd (none.not_done (sym (ap (λ (o : Outcome). o.status) none.is) ∙ is_done))
+      | inl none ↦ absurd (none.not_done (sym (ap (λ (o : CommandOutcome). o.status) none.is) ∙ is_done))
       | inr run ↦
           let have : ℕ = room_in (kept_of c plain) in
           let enough : fits c plain input ≡ true =
-          done_fits (fits c plain input) (min (length input) (have + 1)) have (sym (ap (λ (o : Outcome). o.status) run.is) ∙ is_done) in
+          done_fits (fits c plain input) (min (length input) (have + 1)) have (sym (ap (λ (o : CommandOutcome). o.status) run.is) ∙ is_done) in
           some_and (λ d. Stands d (new_plain c plain name date input)) _ (effects (steps_of outcome.acts) (Some c)) (stands run.unprotected run.table enough)
-          (ap (λ (o : Outcome). effects (steps_of o.acts) (Some c)) run.is
+          (ap (λ (o : CommandOutcome). effects (steps_of o.acts) (Some c)) run.is
           ∙ ap (λ (steps : List Step). effects (behind_settling c plain steps) (Some c)) (steps_are name date input c plain run.table enough)
           ∙ done_behind c plain (appends.steps_of (settled plain.table_area c) plain name date input) run.table)
     ]
@@ -311,21 +311,21 @@ not_done_small true need have other = absurd (other refl)
 not_done_small false need have other = refl
 
 -- where it was refused, it stands for what it stood for
-pub append_refused : (name : List ℕ) (date : ℕ) (input : List ℕ) (c : Cartridge) (plain : Plain) (outcome : Outcome) →
+pub append_refused : (name : List ℕ) (date : ℕ) (input : List ℕ) (c : Cartridge) (plain : Plain) (outcome : CommandOutcome) →
     IsCartridge c → Stands c plain → AppendOutcome name date (Some c) input outcome → outcome.status ≢ status.Done →
     IsSomeAnd (effects (steps_of outcome.acts) (Some c)) (λ d. Stands d plain)
 append_refused name date input c plain outcome whole stood machine other =
     elim (course name date input c plain outcome stood machine) [
       | inl none ↦
           subst (λ (ss : List Step). IsSomeAnd (effects ss (Some c)) (λ d. Stands d plain))
-          (sym (ap (λ (o : Outcome). steps_of o.acts) none.is ∙ none.none)) stood
+          (sym (ap (λ (o : CommandOutcome). steps_of o.acts) none.is ∙ none.none)) stood
       | inr run ↦
           let have : ℕ = room_in (kept_of c plain) in
           let small : fits c plain input ≡ false =
-          not_done_small (fits c plain input) (min (length input) (have + 1)) have (λ is. other (ap (λ (o : Outcome). o.status) run.is ∙ is)) in
+          not_done_small (fits c plain input) (min (length input) (have + 1)) have (λ is. other (ap (λ (o : CommandOutcome). o.status) run.is ∙ is)) in
           let steps : List Step = behind_settling c plain (steps_of (segments_acts c plain input)) in
           let same : steps_of outcome.acts ≡ steps =
-          ap (λ (o : Outcome). steps_of o.acts) run.is
+          ap (λ (o : CommandOutcome). steps_of o.acts) run.is
           ∙ ap (λ (acts : List Act). behind_settling c plain (steps_of acts)) (no_table c plain name date input small) in
           subst (λ (ss : List Step). IsSomeAnd (effects ss (Some c)) (λ d. Stands d plain)) (sym same)
           (segments_stand c plain input (effects steps (Some c)) stood run.table (Torn-all steps (Some c)))
@@ -386,12 +386,12 @@ empty_front c plain front rest acts stood parts none =
     no_step (x ∷ xs) ys is = absurd (cc)
 
 -- a front of the acts in which nothing is printed leaves what stood: the table is not yet written
-pub append_unanswered : (name : List ℕ) (date : ℕ) (input : List ℕ) (c : Cartridge) (plain : Plain) (outcome : Outcome) (front rest : List Act) →
+pub append_unanswered : (name : List ℕ) (date : ℕ) (input : List ℕ) (c : Cartridge) (plain : Plain) (outcome : CommandOutcome) (front rest : List Act) →
     IsCartridge c → Stands c plain → AppendOutcome name date (Some c) input outcome → front ++ rest ≡ outcome.acts → text_of front ≡ [] →
     IsSomeAnd (effects (steps_of front) (Some c)) (λ d. Stands d plain)
 append_unanswered name date input c plain outcome front rest whole stood machine parts quiet =
     elim (course name date input c plain outcome stood machine) [
-      | inl none ↦ empty_front c plain front rest none.acts stood (parts ∙ ap (λ (o : Outcome). o.acts) none.is) none.none
+      | inl none ↦ empty_front c plain front rest none.acts stood (parts ∙ ap (λ (o : CommandOutcome). o.acts) none.is) none.none
       | inr run ↦
           let kept : Kept = kept_of c plain in
           let have : ℕ = room_in kept in
@@ -399,7 +399,7 @@ append_unanswered name date input c plain outcome front rest whole stood machine
           let first : Act = settling_act plain.table_area c in
           let again : Act = record { steps = kept.settling; text = [] } in
           let acts : front ++ rest ≡ first ∷ again ∷ (segments_acts c plain input ++ table_acts c plain name date input) =
-          parts ∙ ap (λ (o : Outcome). o.acts) run.is in
+          parts ∙ ap (λ (o : CommandOutcome). o.acts) run.is in
           elim (cases_Bool (fits c plain input)) [
             | inl enough ↦
                 let last : Act = record {

@@ -29,7 +29,7 @@ use Rattle.tape_cmd.specs.List.{listing}
 use Rattle.tape_cmd.specs.Lose.{LoseOutcome}
 use Rattle.tape_cmd.specs.Make.{Making, MakeOutcome, make_status}
 use Rattle.tape_cmd.specs.Opening.{Going, Opened, OpenOutcome, WritableOutcome, Printing, Shows}
-use Rattle.tape_cmd.specs.Outcome.{Outcome}
+use Rattle.tape_cmd.specs.Outcome.{CommandOutcome}
 use Rattle.tape_cmd.specs.Place.{HasPlace}
 use Rattle.tape_cmd.specs.Pulses.{SentOutcome, sent_status}
 use Rattle.tape_cmd.specs.Restore.{RestoreOutcome}
@@ -40,37 +40,37 @@ use Rattle.tape_cmd.proofs.GivenBack.{given, given_whole}
 -- ---- a cartridge that is mounted
 
 -- it is mounted as the plain one, and the command goes on
-record GoesOn (goes : Going) (c : Cartridge) (plain : Plain) (outcome : Outcome) : Type 0 where
+record GoesOn (goes : Going) (c : Cartridge) (plain : Plain) (outcome : CommandOutcome) : Type 0 where
   mounts : Mounts c (mounted_as plain)
   did : goes c plain.header plain.words plain.table_area (entries_of plain) outcome
 
-goes_on : (goes : Going) (c : Cartridge) (plain : Plain) (outcome : Outcome) → ReadsAs c plain → OpenOutcome goes (Some c) outcome → GoesOn goes c plain outcome
+goes_on : (goes : Going) (c : Cartridge) (plain : Plain) (outcome : CommandOutcome) → ReadsAs c plain → OpenOutcome goes (Some c) outcome → GoesOn goes c plain outcome
 goes_on goes c plain outcome there (m, mounts, opened) =
     let mounted : Mounts c (mounted_as plain) = standing_mounts c plain there.stands there.reads in
     let same : m ≡ mounted_as plain = mounts_is_function c m (mounted_as plain) mounts mounted in
     record { mounts = mounted; did = subst (λ (a : Mounting). Opened goes c a outcome) same opened }
 
 -- one that takes writes is opened
-is_opened : (goes : Going) (c : Cartridge) (outcome : Outcome) → IsUnprotected c → WritableOutcome goes (Some c) outcome → OpenOutcome goes (Some c) outcome
+is_opened : (goes : Going) (c : Cartridge) (outcome : CommandOutcome) → IsUnprotected c → WritableOutcome goes (Some c) outcome → OpenOutcome goes (Some c) outcome
 is_opened goes c outcome free (inl (locked, is)) = absurd (cc)
 is_opened goes c outcome free (inr (unlocked, opened)) = opened
 
-abbrev status_of : Outcome → Status
+abbrev status_of : CommandOutcome → Status
 status_of outcome = outcome.status
 
 -- ---- commands that change one thing
 
-defect_done : (segment sector : ℕ) (c : Cartridge) (outcome : Outcome) → HasPlace c segment sector → spoil_answer (view_at c segment sector) ≡ true →
+defect_done : (segment sector : ℕ) (c : Cartridge) (outcome : CommandOutcome) → HasPlace c segment sector → spoil_answer (view_at c segment sector) ≡ true →
     DefectOutcome segment sector (Some c) outcome → outcome.status ≡ status.Done
 defect_done segment sector c outcome place blank (inl no_place) = absurd (no_place.0 place)
 defect_done segment sector c outcome place blank (inr (inl filled)) = let p = filled.1 in absurd (cc)
 defect_done segment sector c outcome place blank (inr (inr done)) = ap status_of done.2
 
-lose_done : (segment sector : ℕ) (c : Cartridge) (outcome : Outcome) → HasPlace c segment sector → LoseOutcome segment sector (Some c) outcome → outcome.status ≡ status.Done
+lose_done : (segment sector : ℕ) (c : Cartridge) (outcome : CommandOutcome) → HasPlace c segment sector → LoseOutcome segment sector (Some c) outcome → outcome.status ≡ status.Done
 lose_done segment sector c outcome place (inl no_place) = absurd (no_place.0 place)
 lose_done segment sector c outcome place (inr done) = ap status_of done.1
 
-format_done : (label : List ℕ) (date : ℕ) (c : Cartridge) (outcome : Outcome) → IsUnprotected c → HasNoDefectInFront c → FormatOutcome label date (Some c) outcome → outcome.status ≡ status.Done
+format_done : (label : List ℕ) (date : ℕ) (c : Cartridge) (outcome : CommandOutcome) → IsUnprotected c → HasNoDefectInFront c → FormatOutcome label date (Some c) outcome → outcome.status ≡ status.Done
 format_done label date c outcome free none (inl (locked, is)) = absurd (cc)
 format_done label date c outcome free none (inr (inl (unlocked, (segment, first, is)))) =
     absurd (first_defect_is_none c (record { segment = segment; is_first = first }) none)
@@ -78,10 +78,10 @@ format_done label date c outcome free none (inr (inr (unlocked, clear, (map, (ar
 
 -- ---- commands that mount
 
-shows_done : (prints : Printing) (c : Cartridge) (plain : Plain) (outcome : Outcome) → ReadsAs c plain → OpenOutcome (Shows prints) (Some c) outcome → outcome.status ≡ status.Done
+shows_done : (prints : Printing) (c : Cartridge) (plain : Plain) (outcome : CommandOutcome) → ReadsAs c plain → OpenOutcome (Shows prints) (Some c) outcome → outcome.status ≡ status.Done
 shows_done prints c plain outcome there opened = ap status_of (goes_on (Shows prints) c plain outcome there opened).did
 
-append_goes : (name : List ℕ) (date : ℕ) (input : List ℕ) (c : Cartridge) (outcome : Outcome) → IsUnprotected c → CanTake c input → AppendOutcome name date (Some c) input outcome → outcome.status ≡ status.Done
+append_goes : (name : List ℕ) (date : ℕ) (input : List ℕ) (c : Cartridge) (outcome : CommandOutcome) → IsUnprotected c → CanTake c input → AppendOutcome name date (Some c) input outcome → outcome.status ≡ status.Done
 append_goes name date input c outcome free can does =
     let goes : Going = Appends name date input in
     let plain : Plain = can.plain in
@@ -89,16 +89,16 @@ append_goes name date input c outcome free can does =
     let have : ℕ = room_in (kept_on c plain.words plain.table_area (entries_of plain)) in
     ap status_of on.did ∙ ap (λ (b : Bool). cond b status.Done (status.Full (min (length input) (have + 1)) have)) can.room
 
-restore_goes : (number : ℕ) (c : Cartridge) (outcome : Outcome) → CanGive c number → RestoreOutcome number (Some c) outcome → outcome.status ≡ status.Done
+restore_goes : (number : ℕ) (c : Cartridge) (outcome : CommandOutcome) → CanGive c number → RestoreOutcome number (Some c) outcome → outcome.status ≡ status.Done
 restore_goes number c outcome can does =
     (given_whole number c can.plain can.volume outcome can.has (given number c can.plain can.volume outcome can.has does) can.few).0
 
-scrub_goes : (c : Cartridge) (plain : Plain) (outcome : Outcome) → IsUnprotected c → ReadsAs c plain → ScrubOutcome (Some c) outcome → outcome.status ≡ status.Done
+scrub_goes : (c : Cartridge) (plain : Plain) (outcome : CommandOutcome) → IsUnprotected c → ReadsAs c plain → ScrubOutcome (Some c) outcome → outcome.status ≡ status.Done
 scrub_goes c plain outcome free there does =
     let on = goes_on Mends c plain outcome there (is_opened Mends c outcome free does) in
     let did = on.did in ap status_of did.is
 
-make_goes : (seed count : ℕ) (c : Cartridge) (outcome : Outcome) → count ≤ 200 → IsCartridge c → IsUnprotected c → CanMake c seed count → MakeOutcome seed count (Some c) outcome → outcome.status ≡ status.Done
+make_goes : (seed count : ℕ) (c : Cartridge) (outcome : CommandOutcome) → count ≤ 200 → IsCartridge c → IsUnprotected c → CanMake c seed count → MakeOutcome seed count (Some c) outcome → outcome.status ≡ status.Done
 make_goes seed count c outcome small whole free can does =
     let plain : Plain = can.plain in
     let on = goes_on (Making seed count) c plain outcome can.mounts (is_opened (Making seed count) c outcome free does) in
@@ -109,7 +109,7 @@ make_goes seed count c outcome small whole free can does =
 
 -- ---- commands that read lines
 
-pulses_go : (held : Option Cartridge) (input : List ℕ) (outcome : Outcome) → IsOfTrains input → SentOutcome held input outcome → outcome.status ≡ status.Done
+pulses_go : (held : Option Cartridge) (input : List ℕ) (outcome : CommandOutcome) → IsOfTrains input → SentOutcome held input outcome → outcome.status ≡ status.Done
 pulses_go held input outcome (trains, reads) (came, plain, is) =
     ap status_of is ∙ ap (λ (o : pulses.PulseRun). sent_status o.answer) plain.comes ∙ by_ending reads
   where
@@ -119,7 +119,7 @@ pulses_go held input outcome (trains, reads) (came, plain, is) =
     by_ending (inr read) =
         ap (λ (e : Ending). sent_status (pulses.answer_by e)) (inputs.one_reading IsPulse inputs.pulses 1 0 input plain.trains trains plain.ending AtStop plain.read read).1
 
-script_goes : (input : List ℕ) (c : Cartridge) (plain : Plain) (outcome : Outcome) → ReadsAs c plain → IsOfLines input → ScriptOutcome (Some c) input outcome → outcome.status ≡ status.Done
+script_goes : (input : List ℕ) (c : Cartridge) (plain : Plain) (outcome : CommandOutcome) → ReadsAs c plain → IsOfLines input → ScriptOutcome (Some c) input outcome → outcome.status ≡ status.Done
 script_goes input c plain outcome there (items, reads) does =
     let on = goes_on (Scripting input) c plain outcome there does in
     let did = on.did in

@@ -16,7 +16,7 @@ use Rattle.tape_script.specs.declared.words.Words.TheVariants as words
 use Rattle.tape_cmd.specs.declared.status.Status.{Status}
 use Rattle.tape_cmd.specs.declared.status.Status.TheVariants as status
 use Rattle.tape_cmd.specs.Lines.{protected_line, lost_line, defect_line}
-use Rattle.tape_cmd.specs.Outcome.{Outcome, refused, refused_behind, acted, carried_out, first_steps}
+use Rattle.tape_cmd.specs.Outcome.{CommandOutcome, refused, refused_behind, acted, carried_out, first_steps}
 use Rattle.tape_cmd.specs.Traits.{traits_of}
 use Rattle.tape_cmd.specs.Defect.{DefectOutcome}
 use Rattle.tape_cmd.specs.Lose.{LoseOutcome}
@@ -36,11 +36,11 @@ pub record IsBlind (command : Words) : Type 0 where
   pub reads : (traits_of command).reads ≡ false
 
 -- what such a command does over what the drive holds, whatever the input
-abbrev pub Rules : Words → Option Cartridge → Outcome → Type 0
+abbrev pub Rules : Words → Option Cartridge → CommandOutcome → Type 0
 Rules command held outcome = (input : List ℕ) → Yields command held input outcome
 
 -- it does over one input what it does over any
-pub any_input : (command : Words) (held : Option Cartridge) (input : List ℕ) (outcome : Outcome) → (traits_of command).reads ≡ false →
+pub any_input : (command : Words) (held : Option Cartridge) (input : List ℕ) (outcome : CommandOutcome) → (traits_of command).reads ≡ false →
     Yields command held input outcome → Rules command held outcome
 any_input words.Pulses held input outcome blind plain other = absurd (cc)
 any_input (words.Append name date) held input outcome blind plain other = absurd (cc)
@@ -126,7 +126,7 @@ abbrev first_of : List Act → Act
 first_of [] = record { steps = []; text = [] }
 first_of (act ∷ acts) = act
 
-abbrev pub first_act : Outcome → Act
+abbrev pub first_act : CommandOutcome → Act
 first_act outcome = first_of outcome.acts
 
 -- no byte was taken of a source that is never asked
@@ -140,7 +140,7 @@ appends_none (words.Append name date) told input blind = absurd (cc)
 appends_none command told input blind = λ is. absurd (cc)
 
 -- its rule over what is told, with some input
-over_rules : (held : Option (Option Cartridge)) (command : Words) (outcome : Outcome) → IsBlind command → IfSome held (λ h. Rules command h outcome) →
+over_rules : (held : Option (Option Cartridge)) (command : Words) (outcome : CommandOutcome) → IsBlind command → IfSome held (λ h. Rules command h outcome) →
     IfSome held (λ h. (input : List ℕ) × Unit {0} × (IsOfBytes command None input × Yields command h input outcome))
 over_rules None command outcome blind known = tt
 over_rules (Some h) command outcome blind known = ([], tt, (appends_none command None [] blind.reads, known []))
@@ -156,7 +156,7 @@ module _ {T K : Type 0} (t : tapes.Meaning T) (k : sinks.Meaning K) where
   }
 
   -- it was carried out, and printed its output
-  done : (command : Words) → IsBlind command → (a b : T) (x y : K) (outcome : Outcome) →
+  done : (command : Words) → IsBlind command → (a b : T) (x y : K) (outcome : CommandOutcome) →
       outcome.status ≡ status.Done → outcome ≡ acted (first_act outcome).steps (first_act outcome).text → CommandPrints command (first_act outcome).text →
       IfSome (t.told a) (λ held. Rules command held outcome) →
       tapes.Done t a b (first_act outcome).steps → sinks.Wrote k x y (first_act outcome).text → EndsBlind t k command a b x y status.Done
@@ -166,7 +166,7 @@ module _ {T K : Type 0} (t : tapes.Meaning T) (k : sinks.Meaning K) where
         outcome = acted act.steps act.text;
         answered = refl;
         told = over_rules (t.told a) command (acted act.steps act.text) blind
-            (subst (λ (o : Outcome). IfSome (t.told a) (λ held. Rules command held o)) one told);
+            (subst (λ (o : CommandOutcome). IfSome (t.told a) (λ held. Rules command held o)) one told);
         went = went_one a b x y act.steps act.text did wrote;
         left = refl;
         sound = refl;
@@ -211,7 +211,7 @@ module _ {T K : Type 0} (t : tapes.Meaning T) (k : sinks.Meaning K) where
   })
 
   -- the sink broke its output off
-  unprinted : (command : Words) → IsBlind command → (a b : T) (x y : K) (outcome : Outcome) →
+  unprinted : (command : Words) → IsBlind command → (a b : T) (x y : K) (outcome : CommandOutcome) →
       outcome.status ≡ status.Done → outcome ≡ acted (first_act outcome).steps (first_act outcome).text → CommandPrints command (first_act outcome).text →
       IfSome (t.told a) (λ held. Rules command held outcome) →
       tapes.Done t a b (first_act outcome).steps → sinks.BrokeOff k x y (first_act outcome).text → EndsBlind t k command a b x y status.SinkFault
@@ -245,7 +245,7 @@ module _ {T K : Type 0} (t : tapes.Meaning T) (k : sinks.Meaning K) where
     where
       by_told : (o : Option (Option Cartridge)) → IfSome o (λ held. Rules command held outcome) →
           IsCutOff t no_source k command (around a x) (around b y) SinkFails outcome →
-          IfSome o (λ held. (input : List ℕ) × Unit {0} × (IsOfBytes command None input × ((other : Outcome) → Yields command held input other →
+          IfSome o (λ held. (input : List ℕ) × Unit {0} × (IsOfBytes command None input × ((other : CommandOutcome) → Yields command held input other →
           IsCutOff t no_source k command (around a x) (around b y) SinkFails other)))
       by_told None told off = tt
       by_told (Some held) told off = (
@@ -260,7 +260,7 @@ module _ {T K : Type 0} (t : tapes.Meaning T) (k : sinks.Meaning K) where
       )
 
   -- it was carried out, and its output written or broken off
-  pub printed : (command : Words) → IsBlind command → (a b : T) (x y : K) (outcome : Outcome) (r : Result (Unit {0}) SinkFailed) →
+  pub printed : (command : Words) → IsBlind command → (a b : T) (x y : K) (outcome : CommandOutcome) (r : Result (Unit {0}) SinkFailed) →
       outcome.status ≡ status.Done → outcome ≡ acted (first_act outcome).steps (first_act outcome).text → CommandPrints command (first_act outcome).text →
       IfSome (t.told a) (λ held. Rules command held outcome) →
       tapes.Done t a b (first_act outcome).steps → sinks.Writes k x y (first_act outcome).text r → EndsBlind t k command a b x y (printed_status r)
@@ -281,7 +281,7 @@ module _ {T K : Type 0} (t : tapes.Meaning T) (k : sinks.Meaning K) where
 
   -- the tape failed in a front of its steps
   pub cut_off : (command : Words) → IsBlind command → (a b : T) (x : K) (steps : List TapeStep) → ((z : K) → k.took z [] z) →
-      IfSome (t.told a) (λ held. (outcome : Outcome) → Rules command held outcome → (rest : List TapeStep) × (steps ++ rest ≡ first_steps outcome)) →
+      IfSome (t.told a) (λ held. (outcome : CommandOutcome) → Rules command held outcome → (rest : List TapeStep) × (steps ++ rest ≡ first_steps outcome)) →
       tapes.Broke t a b steps → EndsBlind t k command a b x x status.TapeFault
   cut_off command blind a b x steps nothing front broke =
       inr (
@@ -299,8 +299,8 @@ module _ {T K : Type 0} (t : tapes.Meaning T) (k : sinks.Meaning K) where
       )
     where
       by_told : (o : Option (Option Cartridge)) →
-          IfSome o (λ held. (outcome : Outcome) → Rules command held outcome → (rest : List TapeStep) × (steps ++ rest ≡ first_steps outcome)) →
-          IfSome o (λ held. (input : List ℕ) × Unit {0} × (IsOfBytes command None input × ((outcome : Outcome) → Yields command held input outcome →
+          IfSome o (λ held. (outcome : CommandOutcome) → Rules command held outcome → (rest : List TapeStep) × (steps ++ rest ≡ first_steps outcome)) →
+          IfSome o (λ held. (input : List ℕ) × Unit {0} × (IsOfBytes command None input × ((outcome : CommandOutcome) → Yields command held input outcome →
           IsCutOff t no_source k command (around a x) (around b x) TapeFails outcome)))
       by_told None front = tt
       by_told (Some held) front = (
@@ -324,7 +324,7 @@ module _ {T K : Type 0} (t : tapes.Meaning T) (k : sinks.Meaning K) where
   cut_off_first command blind a b x nothing broke = cut_off command blind a b x [] nothing (nothing_yet (t.told a)) broke
     where
       nothing_yet : (held : Option (Option Cartridge)) →
-          IfSome held (λ h. (outcome : Outcome) → Rules command h outcome → (rest : List TapeStep) × ([] ++ rest ≡ first_steps outcome))
+          IfSome held (λ h. (outcome : CommandOutcome) → Rules command h outcome → (rest : List TapeStep) × ([] ++ rest ≡ first_steps outcome))
       nothing_yet None = tt
       nothing_yet (Some h) = λ outcome plain. (first_steps outcome, refl)
 
@@ -347,9 +347,9 @@ pub protect_present : (on : Bool) (info : TapeInfo) (held : Option Cartridge) �
 protect_present on info None known = cc
 protect_present on info (Some c) known = refl
 
-pub protect_front : (on : Bool) (info : TapeInfo) (held : Option Cartridge) (outcome : Outcome) → Known (Some info) held → ProtectOutcome on held outcome → SetProtected on ∷ [] ≡ first_steps outcome
+pub protect_front : (on : Bool) (info : TapeInfo) (held : Option Cartridge) (outcome : CommandOutcome) → Known (Some info) held → ProtectOutcome on held outcome → SetProtected on ∷ [] ≡ first_steps outcome
 protect_front on info None outcome known plain = cc
-protect_front on info (Some c) outcome known plain = sym (ap (λ (o : Outcome). first_steps o) plain)
+protect_front on info (Some c) outcome known plain = sym (ap (λ (o : CommandOutcome). first_steps o) plain)
 
 pub lose_absent : (segment sector : ℕ) (held : Option Cartridge) → Known None held → LoseOutcome segment sector held (refused status.NoCartridge)
 lose_absent segment sector None known = refl
@@ -374,10 +374,10 @@ pub lose_placed : (segment sector : ℕ) (info : TapeInfo) (held : Option Cartri
 lose_placed segment sector info None known place = cc
 lose_placed segment sector info (Some c) known place = inr (place_known info c segment sector known place, refl)
 
-pub lose_front : (segment sector : ℕ) (info : TapeInfo) (held : Option Cartridge) (outcome : Outcome) → Known (Some info) held → IsPlace info.segments_per_track segment sector → LoseOutcome segment sector held outcome → Wear segment sector ∷ [] ≡ first_steps outcome
+pub lose_front : (segment sector : ℕ) (info : TapeInfo) (held : Option Cartridge) (outcome : CommandOutcome) → Known (Some info) held → IsPlace info.segments_per_track segment sector → LoseOutcome segment sector held outcome → Wear segment sector ∷ [] ≡ first_steps outcome
 lose_front segment sector info None outcome known place plain = cc
 lose_front segment sector info (Some c) outcome known place (inl plain) = absurd (plain.0 (place_known info c segment sector known place))
-lose_front segment sector info (Some c) outcome known place (inr plain) = sym (ap (λ (o : Outcome). first_steps o) plain.1)
+lose_front segment sector info (Some c) outcome known place (inr plain) = sym (ap (λ (o : CommandOutcome). first_steps o) plain.1)
 
 pub defect_absent : (segment sector : ℕ) (held : Option Cartridge) → Known None held → DefectOutcome segment sector held (refused status.NoCartridge)
 defect_absent segment sector None known = refl
@@ -395,8 +395,8 @@ pub defect_formatted : (segment sector : ℕ) (info : TapeInfo) (held : Option C
 defect_formatted segment sector info None known place kept = cc
 defect_formatted segment sector info (Some c) known place kept = inr (inl (place_known info c segment sector known place, kept, refl))
 
-pub defect_front : (segment sector : ℕ) (info : TapeInfo) (held : Option Cartridge) (outcome : Outcome) → Known (Some info) held → IsPlace info.segments_per_track segment sector → DefectOutcome segment sector held outcome → Spoil segment sector ∷ [] ≡ first_steps outcome
+pub defect_front : (segment sector : ℕ) (info : TapeInfo) (held : Option Cartridge) (outcome : CommandOutcome) → Known (Some info) held → IsPlace info.segments_per_track segment sector → DefectOutcome segment sector held outcome → Spoil segment sector ∷ [] ≡ first_steps outcome
 defect_front segment sector info None outcome known place plain = cc
 defect_front segment sector info (Some c) outcome known place (inl plain) = absurd (plain.0 (place_known info c segment sector known place))
-defect_front segment sector info (Some c) outcome known place (inr (inl plain)) = sym (ap (λ (o : Outcome). first_steps o) plain.2)
-defect_front segment sector info (Some c) outcome known place (inr (inr plain)) = sym (ap (λ (o : Outcome). first_steps o) plain.2)
+defect_front segment sector info (Some c) outcome known place (inr (inl plain)) = sym (ap (λ (o : CommandOutcome). first_steps o) plain.2)
+defect_front segment sector info (Some c) outcome known place (inr (inr plain)) = sym (ap (λ (o : CommandOutcome). first_steps o) plain.2)

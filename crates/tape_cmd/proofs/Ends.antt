@@ -14,7 +14,7 @@ use Rattle.acts.proofs.Outcomes.{cut_is_torn, cut_stops, cut_took_front, cut_fel
 use Rattle.tape_script.specs.declared.words.Words.{Words}
 use Rattle.tape_cmd.specs.declared.status.Status.{Status}
 use Rattle.tape_cmd.specs.declared.status.Status.TheVariants as status
-use Rattle.tape_cmd.specs.Outcome.{Outcome, output_of}
+use Rattle.tape_cmd.specs.Outcome.{CommandOutcome, output_of}
 use Rattle.tape_cmd.specs.Traits.{traits_of}
 use Rattle.tape_cmd.specs.Machine.{HasValues, Yields, Spells}
 use Rattle.tape_cmd.specs.Runs.{InputLeft, is_fault, fault_of, is_outcome, may_come_from, Finished, CommandEnds}
@@ -187,7 +187,7 @@ module _ {T S K : Type 0} (t : tapes.Meaning T) (s : sources.Meaning S) (k : sin
 
   -- over what is told there is an outcome
   has_outcome : Laws t s k old new → Spells words command → HasValues command → (held : Option Cartridge) (input : List ℕ) → t.told old.tape ≡ Some held →
-      (outcome : Outcome) × Yields command held input outcome
+      (outcome : CommandOutcome) × Yields command held input outcome
   has_outcome laws spelled values held input told =
       plain_answers command held input values (told_whole held (t.told old.tape) (t.size old.tape) laws.right told)
 

@@ -25,7 +25,7 @@ use Rattle.tape_script.specs.declared.words.Words.TheVariants.{Format}
 use Rattle.tape_cmd.specs.declared.status.Status.{Status}
 use Rattle.tape_cmd.specs.declared.status.Status.TheVariants as status
 use Rattle.tape_cmd.specs.Lines.{formatted_line}
-use Rattle.tape_cmd.specs.Outcome.{Outcome, refused, first_steps}
+use Rattle.tape_cmd.specs.Outcome.{CommandOutcome, refused, first_steps}
 use Rattle.tape_cmd.specs.Format.{cleared, formatted, FormatOutcome, format_status}
 use Rattle.tape_cmd.specs.Opening.{HasStarted, StartFails}
 use Rattle.tape_cmd.specs.Writing.{printed_status}
@@ -98,24 +98,24 @@ formatted_is label date info words area (Some c) mark fresh known marks =
 
 -- ---- fronts of their steps
 
-abbrev BeginsSteps : List TapeStep → Outcome → Type 0
+abbrev BeginsSteps : List TapeStep → CommandOutcome → Type 0
 BeginsSteps steps outcome = (rest : List TapeStep) × (steps ++ rest ≡ first_steps outcome)
 
-clearing_begins : (label : List ℕ) (date : ℕ) (info : TapeInfo) (held : Option Cartridge) (outcome : Outcome) → info.protected ≡ false → Knows (Some info) held →
+clearing_begins : (label : List ℕ) (date : ℕ) (info : TapeInfo) (held : Option Cartridge) (outcome : CommandOutcome) → info.protected ≡ false → Knows (Some info) held →
     FormatOutcome label date held outcome → BeginsSteps (clearing_steps info.segments_per_track) outcome
 clearing_begins label date info None outcome mark known plain = cc
 clearing_begins label date info (Some c) outcome mark known (inl plain) =
     let same : info ≡ c.info = cc in let other = ap (λ (i : TapeInfo). i.protected) same in let is = plain.0 in absurd (cc)
 clearing_begins label date info (Some c) outcome mark known (inr (inl (unlocked, (segment, first, is)))) =
     let same : info ≡ c.info = cc in
-    ([], append-nil (clearing_steps info.segments_per_track) ∙ ap (λ (i : TapeInfo). clearing_steps i.segments_per_track) same ∙ sym (ap (λ (o : Outcome). first_steps o) is))
+    ([], append-nil (clearing_steps info.segments_per_track) ∙ ap (λ (i : TapeInfo). clearing_steps i.segments_per_track) same ∙ sym (ap (λ (o : CommandOutcome). first_steps o) is))
 clearing_begins label date info (Some c) outcome mark known (inr (inr (unlocked, none, (words, (area, fresh, is))))) =
     let same : info ≡ c.info = cc in (
       copy_writes 0 (with_parity area) ++ copy_writes 1 (with_parity area),
-      sym (append_assoc (clearing_steps info.segments_per_track) (copy_writes 0 (with_parity area)) (copy_writes 1 (with_parity area))) ∙ ap (λ (i : TapeInfo). format_steps i.segments_per_track area) same ∙ sym (ap (λ (o : Outcome). first_steps o) is),
+      sym (append_assoc (clearing_steps info.segments_per_track) (copy_writes 0 (with_parity area)) (copy_writes 1 (with_parity area))) ∙ ap (λ (i : TapeInfo). format_steps i.segments_per_track area) same ∙ sym (ap (λ (o : CommandOutcome). first_steps o) is),
     )
 
-formatting_begins : (label : List ℕ) (date : ℕ) (info : TapeInfo) (words : List ℕ) (area : List (List ℕ)) (held : Option Cartridge) (outcome : Outcome) → info.protected ≡ false →
+formatting_begins : (label : List ℕ) (date : ℕ) (info : TapeInfo) (words : List ℕ) (area : List (List ℕ)) (held : Option Cartridge) (outcome : CommandOutcome) → info.protected ≡ false →
     IsFreshArea info.segments_per_track label date words area → Knows (Some info) held → IfSome held (AreMarks words) → FormatOutcome label date held outcome →
     BeginsSteps (format_steps info.segments_per_track area) outcome
 formatting_begins label date info words area None outcome mark fresh known marks plain = cc
@@ -128,7 +128,7 @@ formatting_begins label date info words area (Some c) outcome mark fresh known m
     let one = fresh_area_is_one c label date words others area other (fresh_with label date info words area c same fresh marks) news in (
       [],
       append-nil (format_steps info.segments_per_track area) ∙ ap (λ (i : TapeInfo). format_steps i.segments_per_track area) same
-          ∙ ap (format_steps c.info.segments_per_track) one.1 ∙ sym (ap (λ (o : Outcome). first_steps o) is),
+          ∙ ap (format_steps c.info.segments_per_track) one.1 ∙ sym (ap (λ (o : CommandOutcome). first_steps o) is),
     )
 
 -- ---- how it ends
@@ -166,12 +166,12 @@ format_faulted t k label date a b c x info words (fault.DefectInFront segment) n
 format_faulted t k label date a b c x info words fault.Tape nothing there marked (inl broke) =
     let unlocked : info.protected ≡ false = not_true info.protected (λ mark. let is = marked.1 mark in cc) in
     cut_off t k (Format label date) is_blind a c x (clearing_steps info.segments_per_track) nothing
-    (told_known (t.told a) (Some info) (λ h. (outcome : Outcome) → Rules (Format label date) h outcome → BeginsSteps (clearing_steps info.segments_per_track) outcome) there.known
+    (told_known (t.told a) (Some info) (λ h. (outcome : CommandOutcome) → Rules (Format label date) h outcome → BeginsSteps (clearing_steps info.segments_per_track) outcome) there.known
     (λ held known outcome rules. clearing_begins label date info held outcome unlocked known (rules []))) (Done-Broke there.did broke)
 format_faulted t k label date a b c x info words fault.Tape nothing there marked (inr came) =
     let unlocked : info.protected ≡ false = not_true info.protected (λ mark. let is = marked.1 mark in cc) in
     cut_off t k (Format label date) is_blind a c x (format_steps info.segments_per_track came.area) nothing
-    (told_known_beside (t.told a) (Some info) (AreMarks words) (λ h. (outcome : Outcome) → Rules (Format label date) h outcome → BeginsSteps (format_steps info.segments_per_track came.area) outcome) there.known
+    (told_known_beside (t.told a) (Some info) (AreMarks words) (λ h. (outcome : CommandOutcome) → Rules (Format label date) h outcome → BeginsSteps (format_steps info.segments_per_track came.area) outcome) there.known
     (told_at_start t a b there.did (AreMarks words) came.marks)
     (λ held known marks outcome rules. formatting_begins label date info words came.area held outcome unlocked came.fresh known marks (rules []))) (Done-Broke there.did came.broke)
 

@@ -37,7 +37,7 @@ use Rattle.tape_cmd.specs.declared.status.Status.TheVariants as status
 use Rattle.tape_cmd.specs.Headline.{Answers, Stepped, IsCut, WasCut}
 use Rattle.tape_cmd.specs.Machine.{Spells, Step, Yields}
 use Rattle.tape_cmd.specs.Opening.{Opened, settling_act}
-use Rattle.tape_cmd.specs.Outcome.{Outcome, output_of}
+use Rattle.tape_cmd.specs.Outcome.{CommandOutcome, output_of}
 use Rattle.tape_cmd.specs.Restore.{Gives, RestoreOutcome, ending_status}
 use Rattle.tape_cmd.specs.Runs.{is_fault, fault_of}
 use Rattle.tape_cmd.specs.Volumes.{HasNumber, CameToEnd, GivesBack}
@@ -120,14 +120,14 @@ lost_alike c d words needed first alike =
 
 -- ---- what the machine gives of it
 
-pub record IsGiven (number : ℕ) (c : Cartridge) (plain : Plain) (volume : Volume) (outcome : Outcome) : Type 0 where
+pub record IsGiven (number : ℕ) (c : Cartridge) (plain : Plain) (volume : Volume) (outcome : CommandOutcome) : Type 0 where
   pub table : TableIs c plain.table_area
   pub acts : List Act
   pub ending : Ending
   pub restores : Restores (settled plain.table_area c) plain.words (pieces_in plain volume) acts ending
   pub is : outcome ≡ record { acts = settling_act plain.table_area c ∷ acts; taken = 0; status = ending_status ending }
 
-pub given : (number : ℕ) (c : Cartridge) (plain : Plain) (volume : Volume) (outcome : Outcome) → HasNumber c plain number volume → RestoreOutcome number (Some c) outcome →
+pub given : (number : ℕ) (c : Cartridge) (plain : Plain) (volume : Volume) (outcome : CommandOutcome) → HasNumber c plain number volume → RestoreOutcome number (Some c) outcome →
     IsGiven number c plain volume outcome
 given number c plain volume outcome has (m, mounts, opened) =
     let mounted = standing_mounts c plain has.stands has.reads in
@@ -157,31 +157,31 @@ has_volume number c plain volume has table = record {
 }
 
 -- just its bytes
-abbrev pub WasWhole : Plain → Volume → Outcome → Type 0
+abbrev pub WasWhole : Plain → Volume → CommandOutcome → Type 0
 WasWhole plain volume outcome = (outcome.status ≡ status.Done) × (output_of outcome ≡ volume_bytes plain.words volume)
 
-pub given_whole : (number : ℕ) (c : Cartridge) (plain : Plain) (volume : Volume) (outcome : Outcome) → HasNumber c plain number volume → IsGiven number c plain volume outcome →
+pub given_whole : (number : ℕ) (c : Cartridge) (plain : Plain) (volume : Volume) (outcome : CommandOutcome) → HasNumber c plain number volume → IsGiven number c plain volume outcome →
     All (LosesFew c plain.words) (pieces_in plain volume) → WasWhole plain volume outcome
 given_whole number c plain volume outcome has g few =
     let d : Cartridge = settled plain.table_area c in
     let gives = restores_byte_for_byte d plain volume g.acts g.ending (has_volume number c plain volume has g.table)
     (few_alike c d plain.words (pieces_in plain volume) (pieces_alike number c plain volume has g.table) few) g.restores in
-    (ap (λ (o : Outcome). o.status) g.is ∙ ap ending_status gives.0, ap output_of g.is ∙ gives.1)
+    (ap (λ (o : CommandOutcome). o.status) g.is ∙ ap ending_status gives.0, ap output_of g.is ∙ gives.1)
 
 -- or those of the segments before the first that lost more
-abbrev WasLost : (c : Cartridge) (plain : Plain) (volume : Volume) → FirstLost c plain.words (pieces_in plain volume) → Outcome → Type 0
+abbrev WasLost : (c : Cartridge) (plain : Plain) (volume : Volume) → FirstLost c plain.words (pieces_in plain volume) → CommandOutcome → Type 0
 WasLost c plain volume first outcome =
     (outcome.status ≡ status.Lost first.piece.segment (unreadable_count (piece_cells c plain.words first.piece)))
     × (output_of outcome ≡ take (bytes_held first.front) (volume_bytes plain.words volume))
 
-given_lost : (number : ℕ) (c : Cartridge) (plain : Plain) (volume : Volume) (first : FirstLost c plain.words (pieces_in plain volume)) (outcome : Outcome) → HasNumber c plain number volume →
+given_lost : (number : ℕ) (c : Cartridge) (plain : Plain) (volume : Volume) (first : FirstLost c plain.words (pieces_in plain volume)) (outcome : CommandOutcome) → HasNumber c plain number volume →
     IsGiven number c plain volume outcome → WasLost c plain volume first outcome
 given_lost number c plain volume first outcome has g =
     let d : Cartridge = settled plain.table_area c in
     let alike = lost_alike c d plain.words (pieces_in plain volume) first (pieces_alike number c plain volume has g.table) in
     let gives : GivesFront d plain volume alike.there g.acts g.ending =
     restores_front d plain volume alike.there g.acts g.ending (has_volume number c plain volume has g.table) g.restores in (
-      ap (λ (o : Outcome). o.status) g.is ∙ ap ending_status gives.ends
+      ap (λ (o : CommandOutcome). o.status) g.is ∙ ap ending_status gives.ends
           ∙ ap (λ (p : Piece). status.Lost p.segment (unreadable_count (piece_cells d plain.words alike.there.piece))) alike.piece
           ∙ ap (status.Lost first.piece.segment) alike.count,
       ap output_of g.is ∙ gives.text ∙ ap (λ (front : List Piece). take (bytes_held front) (volume_bytes plain.words volume)) alike.front,
@@ -192,7 +192,7 @@ record IsFront (text bytes : List ℕ) : Type 0 where
   rest : List ℕ
   parts : text ++ rest ≡ bytes
 
-given_front : (number : ℕ) (c : Cartridge) (plain : Plain) (volume : Volume) (outcome : Outcome) → HasNumber c plain number volume → IsGiven number c plain volume outcome →
+given_front : (number : ℕ) (c : Cartridge) (plain : Plain) (volume : Volume) (outcome : CommandOutcome) → HasNumber c plain number volume → IsGiven number c plain volume outcome →
     IsFront (output_of outcome) (volume_bytes plain.words volume)
 given_front number c plain volume outcome has g =
     let bytes : List ℕ = volume_bytes plain.words volume in
@@ -217,7 +217,7 @@ given_front number c plain volume outcome has g =
 module _ {T S K : Type 0} (t : tapes.Meaning T) (s : sources.Meaning S) (k : sinks.Meaning K) (words : List (List ℕ)) (old new : Outside T S K) (answer : Status) (number : ℕ) (c : Cartridge) where
   -- the outcome over the cartridge that was told
   record WasStepped : Type 0 where
-    outcome : Outcome
+    outcome : CommandOutcome
     plain : RestoreOutcome number (Some c) outcome
     answered : answer ≡ outcome.status
     took : k.took old.sink (output_of outcome) new.sink

@@ -40,7 +40,7 @@ use Rattle.tape_cmd.specs.declared.status.Status.TheVariants as status
 use Rattle.tape_cmd.specs.Append.{Appends, AppendOutcome, append_status, appended, kept_on}
 use Rattle.tape_cmd.specs.Machine.{HasValues, Spells, Yields}
 use Rattle.tape_cmd.specs.Opening.{Going, Opened, OpenOutcome}
-use Rattle.tape_cmd.specs.Outcome.{Outcome}
+use Rattle.tape_cmd.specs.Outcome.{CommandOutcome}
 use Rattle.tape_cmd.specs.Runs.{CommandEnds, IsCutOff, fault_of}
 use Rattle.tape_cmd.specs.Headline.{EachNow}
 use Rattle.made_volumes.specs.Items.{made_list}
@@ -70,7 +70,7 @@ module _ (c : Cartridge) (header : Header) (words : List ℕ) (table : List (Lis
   settling = quiet (settling_steps table c)
 
   -- what a command does on it
-  went_on : (goes : Going) (outcome : Outcome) → OpenOutcome goes (Some c) outcome → goes c header words table entries outcome
+  went_on : (goes : Going) (outcome : CommandOutcome) → OpenOutcome goes (Some c) outcome → goes c header words table entries outcome
   went_on goes outcome (m, is, opened) =
       subst (λ (n : Mounting). Opened goes c n outcome) (mounts_is_function c m (Mounted header words table entries) is mounts) opened
 
@@ -128,35 +128,35 @@ module _ (c : Cartridge) (header : Header) (words : List ℕ) (table : List (Lis
     same_room = ap room_in same_kept
 
     -- carried out, it leaves the list with the volume
-    lists_with : (input : List ℕ) (outcome : Outcome) → AppendOutcome name date (Some c) input outcome → outcome.status ≡ status.Done →
+    lists_with : (input : List ℕ) (outcome : CommandOutcome) → AppendOutcome name date (Some c) input outcome → outcome.status ≡ status.Done →
         ListsNow (entries ++ entry_for (kept_in words entries) name date input ∷ []) (effects (steps_of outcome.acts) (Some c))
-    lists_with input outcome (inl (locked, is)) done = let other = ap (λ (o : Outcome). o.status) is in absurd (cc)
+    lists_with input outcome (inl (locked, is)) done = let other = ap (λ (o : CommandOutcome). o.status) is in absurd (cc)
     lists_with input outcome (inr (free, opened)) done =
         let is : outcome ≡ appended name date input c words table entries = went_on (Appends name date input) outcome opened in
         let took : taking (room_in (kept_of still words entries table)) None input ≡ Fits input =
-        ap (λ (have : ℕ). taking have None input) same_room ∙ fits_where_done (room_in (kept_on c words table entries)) input (sym (ap (λ (o : Outcome). o.status) is) ∙ done) in
+        ap (λ (have : ℕ). taking have None input) same_room ∙ fits_where_done (room_in (kept_on c words table entries)) input (sym (ap (λ (o : CommandOutcome). o.status) is) ∙ done) in
         let all : Lists (changed_by (steps_of (acts_by (kept_of still words entries table) input)) still) header words
         (listed_behind (kept_of still words entries table) name date (taking (room_in (kept_of still words entries table)) None input)) =
         append_lists still header words entries table name date None (reply_behind (length entries)) input lists_still listed (ap (λ (i : TapeInfo). i.protected) same_info ∙ free) reads_still label word in
         lists_as (entries ++ entry_for (kept_in words entries) name date input ∷ []) (changed_by (steps_of (acts_by (kept_of still words entries table) input)) still)
         (effects (steps_of outcome.acts) (Some c))
         (subst (λ (became : Taking). Lists (changed_by (steps_of (acts_by (kept_of still words entries table) input)) still) header words (listed_behind (kept_of still words entries table) name date became)) took all)
-        (ap (λ (o : Outcome). effects (steps_of o.acts) (Some c)) is ∙ ap (λ (k : Kept). effects (steps_of (settling ∷ acts_by k input)) (Some c)) (sym same_kept)
+        (ap (λ (o : CommandOutcome). effects (steps_of o.acts) (Some c)) is ∙ ap (λ (k : Kept). effects (steps_of (settling ∷ acts_by k input)) (Some c)) (sym same_kept)
         ∙ behind_acts (acts_by (kept_of still words entries table) input))
 
     -- and before its reply it leaves the list as it was
-    lists_without : (input : List ℕ) (outcome : Outcome) (front rest : List Act) → AppendOutcome name date (Some c) input outcome → front ++ rest ≡ outcome.acts →
+    lists_without : (input : List ℕ) (outcome : CommandOutcome) (front rest : List Act) → AppendOutcome name date (Some c) input outcome → front ++ rest ≡ outcome.acts →
         (outcome.status ≢ status.Done) ⊎ (text_of front ≡ []) → ListsNow entries (effects (steps_of front) (Some c))
     lists_without input outcome front rest (inl (locked, is)) parts before =
-        lists_before (effects (steps_of front) (Some c)) (ap (λ (xs : List Act). effects (steps_of xs) (Some c)) (no_acts front rest (parts ∙ ap (λ (o : Outcome). o.acts) is)))
+        lists_before (effects (steps_of front) (Some c)) (ap (λ (xs : List Act). effects (steps_of xs) (Some c)) (no_acts front rest (parts ∙ ap (λ (o : CommandOutcome). o.acts) is)))
       where
         no_acts : (xs ys : List Act) → xs ++ ys ≡ [] → xs ≡ []
         no_acts [] ys none = refl
         no_acts (x ∷ xs) ys none = cc
     lists_without input outcome front rest (inr (free, opened)) parts before =
         let is : outcome ≡ appended name date input c words table entries = went_on (Appends name date input) outcome opened in
-        by_front front (parts ∙ ap (λ (o : Outcome). o.acts) is ∙ ap (λ (k : Kept). settling ∷ acts_by k input) (sym same_kept))
-        (elim before [ inl other ↦ inl (λ done. other (ap (λ (o : Outcome). o.status) is ∙ done)) | inr quiet ↦ inr quiet ])
+        by_front front (parts ∙ ap (λ (o : CommandOutcome). o.acts) is ∙ ap (λ (k : Kept). settling ∷ acts_by k input) (sym same_kept))
+        (elim before [ inl other ↦ inl (λ done. other (ap (λ (o : CommandOutcome). o.status) is ∙ done)) | inr quiet ↦ inr quiet ])
       where
         -- an entry is written by the last act, which prints
         none_added : (front rest : List Act) → front ++ rest ≡ settling ∷ acts_by (kept_of still words entries table) input →
@@ -221,7 +221,7 @@ IsWhole acts text (inr p) = ⊥
 pub record RanDone {T S K : Type 0} (t : tapes.Meaning T) (s : sources.Meaning S) (k : sinks.Meaning K) (command : Words) (old new : Outside T S K) (answer : Status) (c : Cartridge) : Type 0 where
   pub input : List ℕ
   pub is_told : IfSome (s.left old.source) (λ bytes. input ≡ bytes)
-  pub outcome : Outcome
+  pub outcome : CommandOutcome
   pub plain : Yields command (Some c) input outcome
   pub text : List ℕ
   pub took : k.took old.sink text new.sink
@@ -352,13 +352,13 @@ module _ (c : Cartridge) (header : Header) (words : List ℕ) (table : List (Lis
   abbrev Broken : (text : List ℕ) → Option Cartridge → Type 0
   Broken text left = ListsBroken header words entries does.items does.dids (length text) left
 
-  module _ (outcome : Outcome) (opened : ScriptOutcome (Some c) input outcome) where
+  module _ (outcome : CommandOutcome) (opened : ScriptOutcome (Some c) input outcome) where
     did : ScriptsOn input c words table entries outcome
     did = went_on c header words table entries whole mounts (Scripting input) outcome opened
 
     acts : outcome.acts ≡ quiet (settling_steps table c) ∷ came.acts
     acts =
-        ap (λ (o : Outcome). o.acts) did.is
+        ap (λ (o : CommandOutcome). o.acts) did.is
         ∙ ap (λ (o : scripts.ScriptRun). quiet (settling_steps table c) ∷ o.acts) (one_script (settled table c) words entries input did.came came did.does does)
 
     -- once it was carried out those of all lines are there
@@ -444,9 +444,9 @@ module _ (seed count : ℕ) (few : count ≤ 200) (c : Cartridge) (header : Head
       ap (λ (a : Act). steps_of (a ∷ more) ++ act.steps) first ∙ append_assoc (settling_steps table c) (steps_of more) act.steps
       ∙ ap (λ (ss : List TapeStep). settling_steps table c ++ ss) (ap (λ (ss : List TapeStep). steps_of more ++ ss) (sym (append-nil act.steps)) ∙ sym (steps_of-append more (act ∷ [])))
 
-  make_lists_so : (outcome : Outcome) (text : List ℕ) (at : FrontDone outcome.acts text) → MakeOutcome seed count (Some c) outcome →
+  make_lists_so : (outcome : CommandOutcome) (text : List ℕ) (at : FrontDone outcome.acts text) → MakeOutcome seed count (Some c) outcome →
       HasSome (effects (done_of outcome.acts text at) (Some c)) × ((text ≢ []) ⊎ IsPart outcome.acts text at → HasMade count (effects (done_of outcome.acts text at) (Some c)))
-  make_lists_so outcome text at (inl (locked, is)) = by_none at (ap (λ (o : Outcome). o.acts) is)
+  make_lists_so outcome text at (inl (locked, is)) = by_none at (ap (λ (o : CommandOutcome). o.acts) is)
     where
       by_none : (at : FrontDone outcome.acts text) → outcome.acts ≡ [] →
           HasSome (effects (done_of outcome.acts text at) (Some c)) × ((text ≢ []) ⊎ IsPart outcome.acts text at → HasMade count (effects (done_of outcome.acts text at) (Some c)))
@@ -467,7 +467,7 @@ module _ (seed count : ℕ) (few : count ≤ 200) (c : Cartridge) (header : Head
       did = went_on c header words table entries whole mounts (Making seed count) outcome opened
 
       acts : outcome.acts ≡ quiet (settling_steps table c) ∷ did.acts
-      acts = ap (λ (o : Outcome). o.acts) did.is
+      acts = ap (λ (o : CommandOutcome). o.acts) did.is
 
       by_whole : (front rest : List Act) → front ++ rest ≡ quiet (settling_steps table c) ∷ did.acts → text ≡ text_of front →
           HasSome (effects (steps_of front) (Some c)) × ((text ≢ []) ⊎ ⊥ → HasMade count (effects (steps_of front) (Some c)))
@@ -507,12 +507,12 @@ module _ (seed count : ℕ) (few : count ≤ 200) (c : Cartridge) (header : Head
       by_at (inr p) = let so = by_part p.front p.act p.rest p.some p.more (p.parts ∙ acts) p.written p.lacks in (so.0, λ shown. so.1)
 
   -- once it was carried out all of them are there
-  make_lists_all : (outcome : Outcome) → MakeOutcome seed count (Some c) outcome → outcome.status ≡ status.Done → HasMade count (effects (steps_of outcome.acts) (Some c))
-  make_lists_all outcome (inl (locked, is)) done = let other = ap (λ (o : Outcome). o.status) is in absurd (cc)
+  make_lists_all : (outcome : CommandOutcome) → MakeOutcome seed count (Some c) outcome → outcome.status ≡ status.Done → HasMade count (effects (steps_of outcome.acts) (Some c))
+  make_lists_all outcome (inl (locked, is)) done = let other = ap (λ (o : CommandOutcome). o.status) is in absurd (cc)
   make_lists_all outcome (inr (free, opened)) done =
       let did : MakesOn seed count c words table entries outcome = went_on c header words table entries whole mounts (Making seed count) outcome opened in
-      let answered : did.answer ≡ made.Done = all_made did.answer (sym (ap (λ (o : Outcome). o.status) did.is) ∙ done) in
-      subst (HasMade count) (sym (ap (λ (o : Outcome). effects (steps_of o.acts) (Some c)) did.is))
+      let answered : did.answer ≡ made.Done = all_made did.answer (sym (ap (λ (o : CommandOutcome). o.status) did.is) ∙ done) in
+      subst (HasMade count) (sym (ap (λ (o : CommandOutcome). effects (steps_of o.acts) (Some c)) did.is))
       (behind_all did.acts did.answer did.acts [] did.makes (append-nil did.acts) (inl (refl, answered)))
     where
       all_made : (answer : made.Answer) → make_status answer ≡ status.Done → answer ≡ made.Done

@@ -7,7 +7,7 @@ use Rattle.tape_script.specs.Words.{IsCommand, IsNoCommand, OneCommand, EachWord
 use Rattle.tape_cmd.specs.declared.status.Status.{Status}
 use Rattle.tape_cmd.specs.declared.status.Status.TheVariants as status
 use Rattle.acts.specs.Acts.{steps_of}
-use Rattle.tape_cmd.specs.Outcome.{Outcome, output_of}
+use Rattle.tape_cmd.specs.Outcome.{CommandOutcome, output_of}
 use Rattle.tape_cmd.specs.Machine.{Yields, SpellsNone, Step}
 use Rattle.tape_cmd.specs.Laws.{IsSameOutcome, MachineIsFunction, MachineAnswers}
 use Rattle.tape_cmd.proofs.PlainLaws.{plain_is_function}
@@ -16,7 +16,7 @@ use Rattle.tape_cmd.proofs.Values.{has_values}
 
 -- what a command does, as a step does it
 pub record Does (command : Words) (held : Option Cartridge) (input : List ℕ) (held' : Option Cartridge) (output : List ℕ) (taken : ℕ) (answer : Status) : Type 0 where
-  pub outcome : Outcome
+  pub outcome : CommandOutcome
   pub plain : Yields command held input outcome
   pub after : held' ≡ effects (steps_of outcome.acts) held
   pub printed : output ≡ output_of outcome
@@ -28,10 +28,10 @@ same_outcome : (command : Words) (held : Option Cartridge) (input : List ℕ) (h
 same_outcome command held input held' other output printed taken read one two a b =
     let same = plain_is_function command held input a.outcome b.outcome a.plain b.plain in
     record {
-      same_held = a.after ∙ ap (λ (o : Outcome). effects (steps_of o.acts) held) same ∙ sym b.after;
-      same_output = a.printed ∙ ap (λ (o : Outcome). output_of o) same ∙ sym b.printed;
-      same_taken = a.took ∙ ap (λ (o : Outcome). o.taken) same ∙ sym b.took;
-      same_status = a.answered ∙ ap (λ (o : Outcome). o.status) same ∙ sym b.answered;
+      same_held = a.after ∙ ap (λ (o : CommandOutcome). effects (steps_of o.acts) held) same ∙ sym b.after;
+      same_output = a.printed ∙ ap (λ (o : CommandOutcome). output_of o) same ∙ sym b.printed;
+      same_taken = a.took ∙ ap (λ (o : CommandOutcome). o.taken) same ∙ sym b.took;
+      same_status = a.answered ∙ ap (λ (o : CommandOutcome). o.status) same ∙ sym b.answered;
     }
 
 pub machine_is_function_where : OneCommand → MachineIsFunction

@@ -30,7 +30,7 @@ use Rattle.tape_cmd.specs.declared.status.Status.TheVariants as status
 use Rattle.tape_cmd.specs.Make.{Making, make_status, run_status}
 use Rattle.tape_cmd.specs.Machine.{RefusedPrints}
 use Rattle.tape_cmd.specs.Opening.{Going, Opened, OpenOutcome, WritableOutcome, IsOpened, HasOpened, IsUnlocked, WritableEnds, is_opening}
-use Rattle.tape_cmd.specs.Outcome.{Outcome, first_steps}
+use Rattle.tape_cmd.specs.Outcome.{CommandOutcome, first_steps}
 use Rattle.tape_cmd.specs.Runs.{EndsBlind, IsCutOff, Prints, fault_of, may_come_from}
 use Rattle.tape_cmd.proofs.Endings.{IsBlind, none_taken, turned_down, cut_off, told_map}
 use Rattle.tape_cmd.proofs.Mounted.{Settles, no_outcome, told_both, locked_is, unlocked_refused_is, writable_begins}
@@ -111,11 +111,11 @@ run_prints seed count ws es text answer may = by_answer answer refl
 
 -- ---- a cartridge that is not protected
 
-pub unlocked_does : (goes : Going) (held : Option Cartridge) (outcome : Outcome) → IfSome held (λ c. c.info.protected ≡ false) → OpenOutcome goes held outcome → WritableOutcome goes held outcome
+pub unlocked_does : (goes : Going) (held : Option Cartridge) (outcome : CommandOutcome) → IfSome held (λ c. c.info.protected ≡ false) → OpenOutcome goes held outcome → WritableOutcome goes held outcome
 unlocked_does goes None outcome free plain = plain
 unlocked_does goes (Some c) outcome free plain = inr (free, plain)
 
-pub does_unlocked : (goes : Going) (held : Option Cartridge) (outcome : Outcome) → IfSome held (λ c. c.info.protected ≡ false) → WritableOutcome goes held outcome → OpenOutcome goes held outcome
+pub does_unlocked : (goes : Going) (held : Option Cartridge) (outcome : CommandOutcome) → IfSome held (λ c. c.info.protected ≡ false) → WritableOutcome goes held outcome → OpenOutcome goes held outcome
 does_unlocked goes None outcome free plain = plain
 does_unlocked goes (Some c) outcome free (inl locked) = let is = locked.0 in absurd (cc)
 does_unlocked goes (Some c) outcome free (inr plain) = plain.1
@@ -123,7 +123,7 @@ does_unlocked goes (Some c) outcome free (inr plain) = plain.1
 -- ---- the opening
 
 making_first : (seed count : ℕ) → Settles (Making seed count)
-making_first seed count c header ws table entries outcome found = ap (λ (o : Outcome). first_steps o) found.is
+making_first seed count c header ws table entries outcome found = ap (λ (o : CommandOutcome). first_steps o) found.is
 
 found_by_make : (seed count : ℕ) (why : Status) → is_opening why ≡ true → may_come_from why (words.Make seed count) ≡ true
 found_by_make seed count status.NoCartridge sound = refl
@@ -158,7 +158,7 @@ module _ {T K : Type 0} (t : tapes.Meaning T) (k : sinks.Meaning K) (seed count 
         HasRun t k seed store.words store.entries (making seed count store.words store.entries) (around b.tape x) (around c y) answer →
         EndsBlind t k (words.Make seed count) a c x y (make_status answer)
     ran c x y answer both nothing run =
-        let outcome : Outcome = record { acts = quiet opening.steps ∷ run.acts; taken = 0; status = make_status answer } in
+        let outcome : CommandOutcome = record { acts = quiet opening.steps ∷ run.acts; taken = 0; status = make_status answer } in
         inl (record {
           outcome = outcome;
           answered = refl;
@@ -187,7 +187,7 @@ module _ {T K : Type 0} (t : tapes.Meaning T) (k : sinks.Meaning K) (seed count 
     -- over a mounted cartridge the acts of the outcome were cut off
     making_cut : (c : T) (x y : K) (failing : Failing) → TakesBoth k → ((z : K) → k.took z [] z) → (d : Cartridge) → (is : IsOpened d store opening.steps) →
         ((acts : List Act) (answer : Answer) → Makes seed count (mounting.settled is.table d) store.words store.entries acts answer → Cut t no_source k (around b.tape x) (around c y) acts failing) →
-        (outcome : Outcome) → OpenOutcome (Making seed count) (Some d) outcome → IsCutOff t no_source k (words.Make seed count) (around a x) (around c y) failing outcome
+        (outcome : CommandOutcome) → OpenOutcome (Making seed count) (Some d) outcome → IsCutOff t no_source k (words.Make seed count) (around a x) (around c y) failing outcome
     making_cut c x y failing both nothing d is each outcome (m, mounts, does) =
         let same : m ≡ mounting.Mounted store.header store.words is.table store.entries = mounts_is_function d m _ mounts is.mounts in
         by_acts (subst (λ (n : Mounting). Opened (Making seed count) d n outcome) same does)
@@ -195,7 +195,7 @@ module _ {T K : Type 0} (t : tapes.Meaning T) (k : sinks.Meaning K) (seed count 
         by_acts : Making seed count d store.header store.words is.table store.entries outcome → IsCutOff t no_source k (words.Make seed count) (around a x) (around c y) failing outcome
         by_acts found =
             let all : quiet opening.steps ∷ found.acts ≡ outcome.acts =
-            ap (λ (ss : List TapeStep). quiet ss ∷ found.acts) is.settles ∙ sym (ap (λ (o : Outcome). o.acts) found.is) in record {
+            ap (λ (ss : List TapeStep). quiet ss ∷ found.acts) is.settles ∙ sym (ap (λ (o : CommandOutcome). o.acts) found.is) in record {
               cut = subst (λ (acts : List Act). Cut t no_source k (around a x) (around c y) acts failing) all
                   (cut_behind t no_source k both nothing a b.tape tt x (around c y) opening.steps found.acts failing opening.did (each found.acts found.answer found.makes));
               done = λ sink still. absurd (cc);
@@ -207,7 +207,7 @@ module _ {T K : Type 0} (t : tapes.Meaning T) (k : sinks.Meaning K) (seed count 
         RunCut t k seed store.words store.entries (making seed count store.words store.entries) (around b.tape x) (around c y) failing →
         EndsBlind t k (words.Make seed count) a c x y (fault_of failing)
     ran_cut c x y failing other both nothing cut =
-        let Cuts : Option Cartridge → Type 0 = λ held. (outcome : Outcome) → OpenOutcome (Making seed count) held outcome →
+        let Cuts : Option Cartridge → Type 0 = λ held. (outcome : CommandOutcome) → OpenOutcome (Making seed count) held outcome →
         IsCutOff t no_source k (words.Make seed count) (around a x) (around c y) failing outcome in
         inr (
           failing,

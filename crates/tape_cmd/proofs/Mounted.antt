@@ -32,7 +32,7 @@ use Rattle.tape_script.specs.declared.words.Words.TheVariants as words
 use Rattle.tape_cmd.specs.declared.status.Status.{Status}
 use Rattle.tape_cmd.specs.declared.status.Status.TheVariants as status
 use Rattle.tape_cmd.specs.Lines.{list_text, info_text}
-use Rattle.tape_cmd.specs.Outcome.{Outcome, refused, acted, first_steps}
+use Rattle.tape_cmd.specs.Outcome.{CommandOutcome, refused, acted, first_steps}
 use Rattle.tape_cmd.specs.Opening.{Going, Opened, OpenOutcome, WritableOutcome, IsRefusal, RefusesOpening, Printing, Shows, store_status, is_opening, is_refused, StartFails, IsOpened, HasOpened, OpeningEnds, IsUnlocked, WritableEnds}
 use Rattle.tape_cmd.specs.Info.{telling}
 use Rattle.tape_cmd.specs.List.{listing}
@@ -46,7 +46,7 @@ use Rattle.tape_cmd.proofs.Hands.{Knows, told_known_beside, told_at_start}
 -- ---- outcomes
 
 -- a cartridge was opened, and a command does this on it
-pub opened_is : (goes : Going) (outcome : Outcome) (store : StoreView) (steps : List TapeStep) (held : Option Cartridge) → IsSomeAnd held (λ c. IsOpened c store steps) →
+pub opened_is : (goes : Going) (outcome : CommandOutcome) (store : StoreView) (steps : List TapeStep) (held : Option Cartridge) → IsSomeAnd held (λ c. IsOpened c store steps) →
     ((c : Cartridge) (table : List (List ℕ)) → held ≡ Some c → mounting.Mounts c (mounting.Mounted store.header store.words table store.entries) → steps ≡ settling_steps table c →
     goes c store.header store.words table store.entries outcome) → OpenOutcome goes held outcome
 opened_is goes outcome store steps None is does = absurd is
@@ -65,17 +65,17 @@ pub refused_is : (goes : Going) (why : Status) (held : Option Cartridge) → Ref
 refused_is goes why None is = ap refused is
 refused_is goes why (Some c) (m, mounts, is) = (m, mounts, opened_refused goes c m why is)
 
-abbrev pub BeginsSteps : List TapeStep → Outcome → Type 0
+abbrev pub BeginsSteps : List TapeStep → CommandOutcome → Type 0
 BeginsSteps steps outcome = (rest : List TapeStep) × (steps ++ rest ≡ first_steps outcome)
 
 -- what is done on a mounted cartridge begins with its settling
 abbrev pub Settles : Going → Type 0
 Settles goes =
-    (c : Cartridge) (header : Header) (ws : List ℕ) (table : List (List ℕ)) (entries : List Entry) (outcome : Outcome) →
+    (c : Cartridge) (header : Header) (ws : List ℕ) (table : List (List ℕ)) (entries : List Entry) (outcome : CommandOutcome) →
     goes c header ws table entries outcome → first_steps outcome ≡ settling_steps table c
 
 pub begins_is : (goes : Going) → Settles goes → (steps : List TapeStep) (held : Option Cartridge) → (steps ≡ []) ⊎ IsSomeAnd held (λ c. IsSettling c steps) →
-    (outcome : Outcome) → OpenOutcome goes held outcome → BeginsSteps steps outcome
+    (outcome : CommandOutcome) → OpenOutcome goes held outcome → BeginsSteps steps outcome
 begins_is goes first steps held (inl none) outcome plain = (first_steps outcome, ap (λ (ss : List TapeStep). ss ++ first_steps outcome) none)
 begins_is goes first steps None (inr settling) outcome plain = absurd settling
 begins_is goes first steps (Some c) (inr settling) outcome (m, mounts, is) =
@@ -103,7 +103,7 @@ locked_steps : (table : List (List ℕ)) (c : Cartridge) → c.info.protected �
 locked_steps table c is = ap (λ (b : Bool). if b then [] else block_writes (with_parity table) (settling_places c table)) is
 
 pub writable_begins : (goes : Going) → Settles goes → (steps : List TapeStep) (held : Option Cartridge) → (steps ≡ []) ⊎ IsSomeAnd held (λ c. IsSettling c steps) →
-    (outcome : Outcome) → WritableOutcome goes held outcome → BeginsSteps steps outcome
+    (outcome : CommandOutcome) → WritableOutcome goes held outcome → BeginsSteps steps outcome
 writable_begins goes first steps None front outcome plain = begins_is goes first steps None front outcome plain
 writable_begins goes first steps (Some c) front outcome (inr (free, plain)) = begins_is goes first steps (Some c) front outcome plain
 writable_begins goes first steps (Some c) front outcome (inl (locked, is)) =
@@ -261,14 +261,14 @@ found_by_info why sound = cc
 
 -- the machine's rule for a command that reads no input is that of the mounting, with what it does then
 pub record Follows (command : Words) (goes : Going) : Type 1 where
-  pub rules : (held : Option Cartridge) (outcome : Outcome) → OpenOutcome goes held outcome → Rules command held outcome
-  pub plain : (held : Option Cartridge) (outcome : Outcome) → Rules command held outcome → OpenOutcome goes held outcome
+  pub rules : (held : Option Cartridge) (outcome : CommandOutcome) → OpenOutcome goes held outcome → Rules command held outcome
+  pub plain : (held : Option Cartridge) (outcome : CommandOutcome) → Rules command held outcome → OpenOutcome goes held outcome
   pub first : Settles goes
   pub blind : IsBlind command
   pub found : (why : Status) → is_opening why ≡ true → may_come_from why command ≡ true
 
 shows_first : (prints : Printing) → Settles (Shows prints)
-shows_first prints c header ws table entries outcome is = ap (λ (o : Outcome). first_steps o) is
+shows_first prints c header ws table entries outcome is = ap (λ (o : CommandOutcome). first_steps o) is
 
 list_follows : Follows words.List (Shows listing)
 list_follows = record {

@@ -30,7 +30,7 @@ use Rattle.table_reading.proofs.OneLoss.{before_reads_old_still}
 use Rattle.volume_store.specs.Appending.{room_in}
 use Rattle.tape_cmd.specs.declared.status.Status.TheVariants as status
 use Rattle.tape_cmd.specs.Append.{AppendOutcome}
-use Rattle.tape_cmd.specs.Outcome.{Outcome}
+use Rattle.tape_cmd.specs.Outcome.{CommandOutcome}
 use Rattle.tape_cmd.proofs.Appends.{course, behind_settling, segments_acts, table_acts, kept_of, fits, done_behind, segments_are_free, no_table, same_plain, steps_are, done_fits}
 
 -- ---- a table whose sectors are all there
@@ -157,7 +157,7 @@ nothing_torn c [] left same = same
 nothing_torn c (x ∷ xs) left same = inl same
 
 -- a stop leaves a table that is not yet settled, or what comes back
-pub append_comes_back : (name : List ℕ) (date : ℕ) (input : List ℕ) (c : Cartridge) (plain : Plain) (outcome : Outcome) (left : Option Cartridge) →
+pub append_comes_back : (name : List ℕ) (date : ℕ) (input : List ℕ) (c : Cartridge) (plain : Plain) (outcome : CommandOutcome) (left : Option Cartridge) →
     IsLabel name → date < 2 ^ 32 → All (λ b. b < 256) input → IsCartridge c → Stands c plain → IsTableLive c →
     AppendOutcome name date (Some c) input outcome → Torn (steps_of outcome.acts) (Some c) left →
     Torn (settling_steps plain.table_area c) (Some c) left ⊎ IsSomeAnd left (Either plain (new_plain c plain name date input))
@@ -165,30 +165,30 @@ append_comes_back name date input c plain outcome left label word content whole 
     elim (course name date input c plain outcome stood machine) [
       | inl none ↦
           inl (nothing_torn c (settling_steps plain.table_area c) left
-          (subst (λ (ss : List Step). Torn ss (Some c) left) (ap (λ (o : Outcome). steps_of o.acts) none.is ∙ none.none) torn))
+          (subst (λ (ss : List Step). Torn ss (Some c) left) (ap (λ (o : CommandOutcome). steps_of o.acts) none.is ∙ none.none) torn))
       | inr run ↦
           run_survives name date input c plain label word content whole stood live run.unprotected run.table left
-          (subst (λ (o : Outcome). Torn (steps_of o.acts) (Some c) left) run.is torn)
+          (subst (λ (o : CommandOutcome). Torn (steps_of o.acts) (Some c) left) run.is torn)
     ]
 
 -- where it was done, it comes back with the volume
-pub done_comes_back : (name : List ℕ) (date : ℕ) (input : List ℕ) (c : Cartridge) (plain : Plain) (outcome : Outcome) →
+pub done_comes_back : (name : List ℕ) (date : ℕ) (input : List ℕ) (c : Cartridge) (plain : Plain) (outcome : CommandOutcome) →
     IsLabel name → date < 2 ^ 32 → All (λ b. b < 256) input → IsCartridge c → Stands c plain → IsTableLive c →
     AppendOutcome name date (Some c) input outcome → outcome.status ≡ status.Done →
     IsSomeAnd (effects (steps_of outcome.acts) (Some c))
     (λ d. (f : Cartridge) (lost : ℕ) → LosesOneAlone d f lost → ComesBackAs f (new_plain c plain name date input))
 done_comes_back name date input c plain outcome label word content whole stood live machine is_done =
     elim (course name date input c plain outcome stood machine) [
-      | inl none ↦ absurd (none.not_done (sym (ap (λ (o : Outcome). o.status) none.is) ∙ is_done))
+      | inl none ↦ absurd (none.not_done (sym (ap (λ (o : CommandOutcome). o.status) none.is) ∙ is_done))
       | inr run ↦
           let have : ℕ = room_in (kept_of c plain) in
           let enough : fits c plain input ≡ true =
-          done_fits (fits c plain input) (min (length input) (have + 1)) have (sym (ap (λ (o : Outcome). o.status) run.is) ∙ is_done) in
+          done_fits (fits c plain input) (min (length input) (have + 1)) have (sym (ap (λ (o : CommandOutcome). o.status) run.is) ∙ is_done) in
           some_and (λ d. (f : Cartridge) (lost : ℕ) → LosesOneAlone d f lost → ComesBackAs f (new_plain c plain name date input))
           (changed_by (appends.steps_of (settled plain.table_area c) plain name date input) (settled plain.table_area c))
           (effects (steps_of outcome.acts) (Some c))
           (done_survives name date input c plain label word content whole stood live run.unprotected run.table enough)
-          (ap (λ (o : Outcome). effects (steps_of o.acts) (Some c)) run.is
+          (ap (λ (o : CommandOutcome). effects (steps_of o.acts) (Some c)) run.is
           ∙ ap (λ (steps : List Step). effects (behind_settling c plain steps) (Some c)) (steps_are name date input c plain run.table enough)
           ∙ done_behind c plain (appends.steps_of (settled plain.table_area c) plain name date input) run.table)
     ]

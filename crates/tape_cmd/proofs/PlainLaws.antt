@@ -29,7 +29,7 @@ use Rattle.format_plan.specs.Fresh.{IsFreshWith}
 use Rattle.cartridge_spec.specs.Header.{Header}
 use Rattle.cartridge_spec.specs.Table.{Entry}
 use Rattle.cartridge_spec.specs.Mounting.{Mounts}
-use Rattle.tape_cmd.specs.Outcome.{Outcome}
+use Rattle.tape_cmd.specs.Outcome.{CommandOutcome}
 use Rattle.tape_cmd.specs.Place.{HasPlace}
 use Rattle.tape_cmd.specs.Defect.{DefectOutcome}
 use Rattle.tape_cmd.specs.Lose.{LoseOutcome}
@@ -113,14 +113,14 @@ CommandLeaves (words.Make seed count) held left = AppendingLeaves held left
 -- ---- the machine is a function
 
 -- what a person's change of one sector does is determined
-lose_is_function : (segment sector : ℕ) (held : Option Cartridge) (a b : Outcome) → LoseOutcome segment sector held a → LoseOutcome segment sector held b → a ≡ b
+lose_is_function : (segment sector : ℕ) (held : Option Cartridge) (a b : CommandOutcome) → LoseOutcome segment sector held a → LoseOutcome segment sector held b → a ≡ b
 lose_is_function segment sector None a b one other = one ∙ sym other
 lose_is_function segment sector (Some c) a b (inl one) (inl other) = one.1 ∙ sym other.1
 lose_is_function segment sector (Some c) a b (inl one) (inr other) = absurd (one.0 other.0)
 lose_is_function segment sector (Some c) a b (inr one) (inl other) = absurd (other.0 one.0)
 lose_is_function segment sector (Some c) a b (inr one) (inr other) = one.1 ∙ sym other.1
 
-defect_is_function : (segment sector : ℕ) (held : Option Cartridge) (a b : Outcome) → DefectOutcome segment sector held a → DefectOutcome segment sector held b → a ≡ b
+defect_is_function : (segment sector : ℕ) (held : Option Cartridge) (a b : CommandOutcome) → DefectOutcome segment sector held a → DefectOutcome segment sector held b → a ≡ b
 defect_is_function segment sector None a b one other = one ∙ sym other
 defect_is_function segment sector (Some c) a b (inl one) (inl other) = one.1 ∙ sym other.1
 defect_is_function segment sector (Some c) a b (inl one) (inr (inl other)) = absurd (one.0 other.0)
@@ -132,25 +132,25 @@ defect_is_function segment sector (Some c) a b (inr (inl one)) (inr (inr other))
 defect_is_function segment sector (Some c) a b (inr (inr one)) (inr (inl other)) = let p = one.1 in let q = other.1 in absurd (cc)
 defect_is_function segment sector (Some c) a b (inr (inr one)) (inr (inr other)) = one.2 ∙ sym other.2
 
-protect_is_function : (on : Bool) (held : Option Cartridge) (a b : Outcome) → ProtectOutcome on held a → ProtectOutcome on held b → a ≡ b
+protect_is_function : (on : Bool) (held : Option Cartridge) (a b : CommandOutcome) → ProtectOutcome on held a → ProtectOutcome on held b → a ≡ b
 protect_is_function on None a b one other = one ∙ sym other
 protect_is_function on (Some c) a b one other = one ∙ sym other
 
 -- what a stop in the steps of an outcome leaves, a stop in the one step leaves
-only_step : (step : TapeStep) (held left : Option Cartridge) (a b : Outcome) → a ≡ b → steps_of b.acts ≡ step ∷ [] → Torn (steps_of a.acts) held left → Torn (step ∷ []) held left
-only_step step held left a b same one torn = subst (λ (steps : List TapeStep). Torn steps held left) (ap (λ (o : Outcome). steps_of o.acts) same ∙ one) torn
+only_step : (step : TapeStep) (held left : Option Cartridge) (a b : CommandOutcome) → a ≡ b → steps_of b.acts ≡ step ∷ [] → Torn (steps_of a.acts) held left → Torn (step ∷ []) held left
+only_step step held left a b same one torn = subst (λ (steps : List TapeStep). Torn steps held left) (ap (λ (o : CommandOutcome). steps_of o.acts) same ∙ one) torn
 
-no_step : (step : TapeStep) (held left : Option Cartridge) (a b : Outcome) → a ≡ b → steps_of b.acts ≡ [] → Torn (steps_of a.acts) held left → Torn (step ∷ []) held left
-no_step step held left a b same none torn = inl (subst (λ (steps : List TapeStep). Torn steps held left) (ap (λ (o : Outcome). steps_of o.acts) same ∙ none) torn)
+no_step : (step : TapeStep) (held left : Option Cartridge) (a b : CommandOutcome) → a ≡ b → steps_of b.acts ≡ [] → Torn (steps_of a.acts) held left → Torn (step ∷ []) held left
+no_step step held left a b same none torn = inl (subst (λ (steps : List TapeStep). Torn steps held left) (ap (λ (o : CommandOutcome). steps_of o.acts) same ∙ none) torn)
 
-one_act : (steps : List TapeStep) (held left : Option Cartridge) (a b : Outcome) → a ≡ b → steps_of b.acts ≡ steps ++ [] → Torn (steps_of a.acts) held left → Torn steps held left
+one_act : (steps : List TapeStep) (held left : Option Cartridge) (a b : CommandOutcome) → a ≡ b → steps_of b.acts ≡ steps ++ [] → Torn (steps_of a.acts) held left → Torn steps held left
 one_act steps held left a b same one torn =
-    subst (λ (ss : List TapeStep). Torn ss held left) (ap (λ (o : Outcome). steps_of o.acts) same ∙ one ∙ append-nil steps) torn
+    subst (λ (ss : List TapeStep). Torn ss held left) (ap (λ (o : CommandOutcome). steps_of o.acts) same ∙ one ∙ append-nil steps) torn
 
-stays : (held left : Option Cartridge) (a b : Outcome) → a ≡ b → steps_of b.acts ≡ [] → Torn (steps_of a.acts) held left → left ≡ held
-stays held left a b same none torn = subst (λ (steps : List TapeStep). Torn steps held left) (ap (λ (o : Outcome). steps_of o.acts) same ∙ none) torn
+stays : (held left : Option Cartridge) (a b : CommandOutcome) → a ≡ b → steps_of b.acts ≡ [] → Torn (steps_of a.acts) held left → left ≡ held
+stays held left a b same none torn = subst (λ (steps : List TapeStep). Torn steps held left) (ap (λ (o : CommandOutcome). steps_of o.acts) same ∙ none) torn
 
-opening_leaves : (prints : Printing) (held left : Option Cartridge) (outcome : Outcome) → OpenOutcome (Shows prints) held outcome → Torn (steps_of outcome.acts) held left → OpeningLeaves held left
+opening_leaves : (prints : Printing) (held left : Option Cartridge) (outcome : CommandOutcome) → OpenOutcome (Shows prints) held outcome → Torn (steps_of outcome.acts) held left → OpeningLeaves held left
 opening_leaves prints None left outcome plain torn = stays None left outcome _ plain refl torn
 opening_leaves prints (Some c) left outcome (mounting.NotFormatted, mounts, is) torn = inl (stays (Some c) left outcome _ is refl torn)
 opening_leaves prints (Some c) left outcome (mounting.Foreign fault, mounts, is) torn = inl (stays (Some c) left outcome _ is refl torn)
@@ -160,13 +160,13 @@ opening_leaves prints (Some c) left outcome (mounting.Mounted header words table
     inr (header, (words, (table, (entries, mounts, one_act (settling_steps table c) (Some c) left outcome _ is refl torn))))
 
 -- the steps of an act, and those of others behind it
-behind_leaves : (steps : List TapeStep) (acts : List Act) (held left : Option Cartridge) (a b : Outcome) → a ≡ b → steps_of b.acts ≡ steps ++ steps_of acts →
+behind_leaves : (steps : List TapeStep) (acts : List Act) (held left : Option Cartridge) (a b : CommandOutcome) → a ≡ b → steps_of b.acts ≡ steps ++ steps_of acts →
     Torn (steps_of a.acts) held left → Torn steps held left ⊎ Torn (steps_of acts) (effects steps held) left
 behind_leaves steps acts held left a b same one torn =
     Torn-append steps (steps_of acts) held left
-    (subst (λ (ss : List TapeStep). Torn ss held left) (ap (λ (o : Outcome). steps_of o.acts) same ∙ one) torn)
+    (subst (λ (ss : List TapeStep). Torn ss held left) (ap (λ (o : CommandOutcome). steps_of o.acts) same ∙ one) torn)
 
-restoring_leaves : (number : ℕ) (held left : Option Cartridge) (outcome : Outcome) → RestoreOutcome number held outcome → Torn (steps_of outcome.acts) held left → OpeningLeaves held left
+restoring_leaves : (number : ℕ) (held left : Option Cartridge) (outcome : CommandOutcome) → RestoreOutcome number held outcome → Torn (steps_of outcome.acts) held left → OpeningLeaves held left
 restoring_leaves number None left outcome plain torn = stays None left outcome _ plain refl torn
 restoring_leaves number (Some c) left outcome (mounting.NotFormatted, mounts, is) torn = inl (stays (Some c) left outcome _ is refl torn)
 restoring_leaves number (Some c) left outcome (mounting.Foreign fault, mounts, is) torn = inl (stays (Some c) left outcome _ is refl torn)
@@ -192,7 +192,7 @@ restoring_leaves number (Some c) left outcome (mounting.Mounted header words tab
       ),
     )
 
-scrubbing_leaves : (held left : Option Cartridge) (outcome : Outcome) → ScrubOutcome held outcome → Torn (steps_of outcome.acts) held left → ScrubbingLeaves held left
+scrubbing_leaves : (held left : Option Cartridge) (outcome : CommandOutcome) → ScrubOutcome held outcome → Torn (steps_of outcome.acts) held left → ScrubbingLeaves held left
 scrubbing_leaves None left outcome plain torn = stays None left outcome _ plain refl torn
 scrubbing_leaves (Some c) left outcome (inl (locked, is)) torn = inl (stays (Some c) left outcome _ is refl torn)
 scrubbing_leaves (Some c) left outcome (inr (free, (mounting.NotFormatted, mounts, is))) torn = inl (stays (Some c) left outcome _ is refl torn)
@@ -222,18 +222,18 @@ scrubbing_leaves (Some c) left outcome (inr (free, (mounting.Mounted header word
       ),
     )
 
-appending_leaves : (goes : Going) (held left : Option Cartridge) (outcome : Outcome) → WritableOutcome goes held outcome → Torn (steps_of outcome.acts) held left → AppendingLeaves held left
+appending_leaves : (goes : Going) (held left : Option Cartridge) (outcome : CommandOutcome) → WritableOutcome goes held outcome → Torn (steps_of outcome.acts) held left → AppendingLeaves held left
 appending_leaves goes None left outcome plain torn = stays None left outcome _ plain refl torn
 appending_leaves goes (Some c) left outcome (inl (locked, is)) torn = λ mark. stays (Some c) left outcome _ is refl torn
 appending_leaves goes (Some c) left outcome (inr (free, opened)) torn = λ mark. absurd (cc)
 
-sent_leaves : (held left : Option Cartridge) (input : List ℕ) (outcome : Outcome) → SentOutcome held input outcome → Torn (steps_of outcome.acts) held left → (left ≡ held) ⊎ (left ≡ effect SetReferenced held)
+sent_leaves : (held left : Option Cartridge) (input : List ℕ) (outcome : CommandOutcome) → SentOutcome held input outcome → Torn (steps_of outcome.acts) held left → (left ≡ held) ⊎ (left ≡ effect SetReferenced held)
 sent_leaves held left input outcome (came, plain, is) torn =
     let same : steps_of outcome.acts ≡ steps_of (train_acts (power_on (info_of held)) plain.trains) =
-    ap (λ (o : Outcome). steps_of o.acts) is ∙ ap (λ (o : pulses.PulseRun). steps_of o.acts) plain.comes in
+    ap (λ (o : CommandOutcome). steps_of o.acts) is ∙ ap (λ (o : pulses.PulseRun). steps_of o.acts) plain.comes in
     trains_leave (power_on (info_of held)) plain.trains held left (subst (λ (steps : List TapeStep). Torn steps held left) same torn)
 
-format_leaves : (label : List ℕ) (date : ℕ) (held left : Option Cartridge) (outcome : Outcome) → FormatOutcome label date held outcome → Torn (steps_of outcome.acts) held left → FormatLeaves label date held left
+format_leaves : (label : List ℕ) (date : ℕ) (held left : Option Cartridge) (outcome : CommandOutcome) → FormatOutcome label date held outcome → Torn (steps_of outcome.acts) held left → FormatLeaves label date held left
 format_leaves label date None left outcome plain torn = stays None left outcome _ plain refl torn
 format_leaves label date (Some c) left outcome (inl plain) torn = inl (plain.0, stays (Some c) left outcome _ plain.1 refl torn)
 format_leaves label date (Some c) left outcome (inr (inl (unlocked, (segment, first, is)))) torn =
@@ -242,7 +242,7 @@ format_leaves label date (Some c) left outcome (inr (inr (unlocked, none, (words
     inr (inr (unlocked, none, (words, (area, fresh, one_act (format_steps c.info.segments_per_track area) (Some c) left outcome _ is refl torn))))
 
 -- what a stop in a change of one sector leaves
-sector_leaves : (step : TapeStep) (segment sector : ℕ) (c : Cartridge) (left : Option Cartridge) (a b : Outcome) → HasPlace c segment sector → (Halfway step (Some c) left → ⊥) →
+sector_leaves : (step : TapeStep) (segment sector : ℕ) (c : Cartridge) (left : Option Cartridge) (a b : CommandOutcome) → HasPlace c segment sector → (Halfway step (Some c) left → ⊥) →
     a ≡ b → steps_of b.acts ≡ step ∷ [] → Torn (steps_of a.acts) (Some c) left → SectorLeaves step segment sector (Some c) left
 sector_leaves step segment sector c left a b place whole same one torn =
     elim (only_step step (Some c) left a b same one torn) [
@@ -252,7 +252,7 @@ sector_leaves step segment sector c left a b place whole same one torn =
     ]
 
 -- what a stop in a command's steps leaves
-pub plain_leaves : (command : Words) (held left : Option Cartridge) (input : List ℕ) (outcome : Outcome) → Yields command held input outcome → Torn (steps_of outcome.acts) held left → CommandLeaves command held left
+pub plain_leaves : (command : Words) (held left : Option Cartridge) (input : List ℕ) (outcome : CommandOutcome) → Yields command held input outcome → Torn (steps_of outcome.acts) held left → CommandLeaves command held left
 plain_leaves (words.New segments) held left input outcome plain torn = only_step (Renew segments) held left outcome _ plain refl torn
 plain_leaves (words.Defect segment sector) None left input outcome plain torn = stays None left outcome _ plain refl torn
 plain_leaves (words.Defect segment sector) (Some c) left input outcome (inl plain) torn = inl (stays (Some c) left outcome _ plain.1 refl torn)
@@ -278,23 +278,23 @@ plain_leaves (words.Make seed count) held left input outcome plain torn = append
 -- what is done on a mounted cartridge is one outcome
 abbrev IsOne : Going → Type 0
 IsOne goes =
-    (c : Cartridge) (header : Header) (ws : List ℕ) (table : List (List ℕ)) (entries : List Entry) (a b : Outcome) →
+    (c : Cartridge) (header : Header) (ws : List ℕ) (table : List (List ℕ)) (entries : List Entry) (a b : CommandOutcome) →
     goes c header ws table entries a → goes c header ws table entries b → a ≡ b
 
-opened_is_function : (goes : Going) → IsOne goes → (c : Cartridge) (m : Mounting) (a b : Outcome) → Opened goes c m a → Opened goes c m b → a ≡ b
+opened_is_function : (goes : Going) → IsOne goes → (c : Cartridge) (m : Mounting) (a b : CommandOutcome) → Opened goes c m a → Opened goes c m b → a ≡ b
 opened_is_function goes one c mounting.NotFormatted a b is was = is ∙ sym was
 opened_is_function goes one c (mounting.Foreign fault) a b is was = is ∙ sym was
 opened_is_function goes one c (mounting.TableLost lost) a b is was = is ∙ sym was
 opened_is_function goes one c mounting.TableMismatch a b is was = is ∙ sym was
 opened_is_function goes one c (mounting.Mounted header ws table entries) a b is was = one c header ws table entries a b is was
 
-open_is_function : (goes : Going) → IsOne goes → (held : Option Cartridge) (a b : Outcome) → OpenOutcome goes held a → OpenOutcome goes held b → a ≡ b
+open_is_function : (goes : Going) → IsOne goes → (held : Option Cartridge) (a b : CommandOutcome) → OpenOutcome goes held a → OpenOutcome goes held b → a ≡ b
 open_is_function goes one None a b is was = is ∙ sym was
 open_is_function goes one (Some c) a b (m, mounts, is) (n, gives, was) =
     opened_is_function goes one c m a b is
     (subst (λ (k : Mounting). Opened goes c k b) (sym (mounts_is_function c m n mounts gives)) was)
 
-writable_is_function : (goes : Going) → IsOne goes → (held : Option Cartridge) (a b : Outcome) → WritableOutcome goes held a → WritableOutcome goes held b → a ≡ b
+writable_is_function : (goes : Going) → IsOne goes → (held : Option Cartridge) (a b : CommandOutcome) → WritableOutcome goes held a → WritableOutcome goes held b → a ≡ b
 writable_is_function goes one None a b is was = is ∙ sym was
 writable_is_function goes one (Some c) a b (inl is) (inl was) = is.1 ∙ sym was.1
 writable_is_function goes one (Some c) a b (inl is) (inr was) = let p = is.0 in let q = was.0 in absurd (cc)
@@ -307,7 +307,7 @@ shows_one prints c header ws table entries a b is was = is ∙ sym was
 appends_one : (name : List ℕ) (date : ℕ) (input : List ℕ) → IsOne (Appends name date input)
 appends_one name date input c header ws table entries a b is was = is ∙ sym was
 
-abbrev given : (table : List (List ℕ)) (c : Cartridge) → List Act → Status → Outcome
+abbrev given : (table : List (List ℕ)) (c : Cartridge) → List Act → Status → CommandOutcome
 given table c acts answer = record { acts = settling_act table c ∷ acts; taken = 0; status = answer }
 
 gives_one : (number : ℕ) → IsOne (Gives number)
@@ -338,7 +338,7 @@ making_one seed count c header ws table entries a b is was =
 
 -- ---- formatting is a function
 
-format_is_function : (label : List ℕ) (date : ℕ) (held : Option Cartridge) (a b : Outcome) → FormatOutcome label date held a → FormatOutcome label date held b → a ≡ b
+format_is_function : (label : List ℕ) (date : ℕ) (held : Option Cartridge) (a b : CommandOutcome) → FormatOutcome label date held a → FormatOutcome label date held b → a ≡ b
 format_is_function label date None a b one other = one ∙ sym other
 format_is_function label date (Some c) a b (inl one) (inl other) = one.1 ∙ sym other.1
 format_is_function label date (Some c) a b (inl one) (inr (inl other)) = let p = one.0 in let q = other.0 in absurd (cc)
@@ -357,13 +357,13 @@ format_is_function label date (Some c) a b (inr (inr (unlocked, none, (words, (a
 
 -- ---- trains of pulses are one
 
-sent_is_function : (held : Option Cartridge) (input : List ℕ) (a b : Outcome) → SentOutcome held input a → SentOutcome held input b → a ≡ b
+sent_is_function : (held : Option Cartridge) (input : List ℕ) (a b : CommandOutcome) → SentOutcome held input a → SentOutcome held input b → a ≡ b
 sent_is_function held input a b (came, plain, is) (other, rule, was) =
     is ∙ ap sent (one_outcome (info_of held) input came other plain rule) ∙ sym was
 
 -- ---- every command is one
 
-pub plain_is_function : (command : Words) (held : Option Cartridge) (input : List ℕ) (a b : Outcome) → Yields command held input a → Yields command held input b → a ≡ b
+pub plain_is_function : (command : Words) (held : Option Cartridge) (input : List ℕ) (a b : CommandOutcome) → Yields command held input a → Yields command held input b → a ≡ b
 plain_is_function (words.New segments) held input a b one other = one ∙ sym other
 plain_is_function (words.Defect segment sector) held input a b one other = defect_is_function segment sector held a b one other
 plain_is_function (words.Lose segment sector) held input a b one other = lose_is_function segment sector held a b one other

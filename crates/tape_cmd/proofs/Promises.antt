@@ -13,7 +13,7 @@ use Rattle.tape_script.proofs.Commands.{one_command}
 use Rattle.tape_script.proofs.Deciding.{each_words}
 use Rattle.tape_cmd.specs.declared.status.Status.{Status}
 use Rattle.tape_cmd.specs.declared.status.Status.TheVariants as status
-use Rattle.tape_cmd.specs.Outcome.{Outcome, output_of}
+use Rattle.tape_cmd.specs.Outcome.{CommandOutcome, output_of}
 use Rattle.tape_cmd.specs.Traits.{traits_of}
 use Rattle.tape_cmd.specs.Laws.{MachineIsFunction, MachineAnswers}
 use Rattle.tape_cmd.specs.Machine.{HasValues, HasInputFault, Spells, SpellsNone}
@@ -105,7 +105,7 @@ module _ {T S K : Type 0} (t : tapes.Meaning T) (s : sources.Meaning S) (k : sin
   cut_over acts SourceFails cut = absurd (never_rose cut.cause)
   cut_over acts SinkFails cut = record { at = cut.at; did = cut.did; broke = cut.broke; source_later = omega arith }
 
-  off_over : (failing : Failing) (outcome : Outcome) → IsCutOff t no_source k command (around a x) (around b y) failing outcome →
+  off_over : (failing : Failing) (outcome : CommandOutcome) → IsCutOff t no_source k command (around a x) (around b y) failing outcome →
       IsCutOff t s k command before behind failing outcome
   off_over TapeFails outcome off = record { cut = cut_over outcome.acts TapeFails off.cut; done = off.done; silent = off.silent }
   off_over SourceFails outcome off = let cut = off.cut in absurd (never_rose cut.cause)

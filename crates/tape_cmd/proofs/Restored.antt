@@ -28,7 +28,7 @@ use Rattle.tape_cmd.specs.declared.status.Status.{Status}
 use Rattle.tape_cmd.specs.declared.status.Status.TheVariants as status
 use Rattle.tape_cmd.specs.Machine.{RefusedPrints}
 use Rattle.tape_cmd.specs.Opening.{Opened, IsOpened, HasOpened, OpeningEnds, is_opening, store_status}
-use Rattle.tape_cmd.specs.Outcome.{Outcome, refused_behind, first_steps}
+use Rattle.tape_cmd.specs.Outcome.{CommandOutcome, refused_behind, first_steps}
 use Rattle.tape_cmd.specs.Restore.{Gives, RestoreOutcome, ending_status}
 use Rattle.tape_cmd.specs.Runs.{EndsBlind, IsCutOff, fault_of, may_come_from, is_no_volume}
 use Rattle.tape_cmd.proofs.Endings.{none_taken, turned_behind, told_map}
@@ -37,8 +37,8 @@ use Rattle.tape_cmd.proofs.Opened.{quiet, went_behind, cut_behind, settled_told}
 
 -- a restore begins with the settling
 gives_first : (number : ℕ) → Settles (Gives number)
-gives_first number c header ws table entries outcome (inl none) = ap (λ (o : Outcome). first_steps o) none.1
-gives_first number c header ws table entries outcome (inr found) = ap (λ (o : Outcome). first_steps o) found.is
+gives_first number c header ws table entries outcome (inl none) = ap (λ (o : CommandOutcome). first_steps o) none.1
+gives_first number c header ws table entries outcome (inr found) = ap (λ (o : CommandOutcome). first_steps o) found.is
 
 left_of : (a b : Bool) → (a && b) ≡ true → a ≡ true
 left_of true b is = refl
@@ -87,7 +87,7 @@ refused_prints number (LostIn segment lost) text other = tt
 refused_prints number (MismatchIn segment) text other = tt
 
 -- the outcome of these acts
-abbrev given : List Act → Status → Outcome
+abbrev given : List Act → Status → CommandOutcome
 given acts answer = record { acts = acts; taken = 0; status = answer }
 
 module _ {T K : Type 0} (t : tapes.Meaning T) (k : sinks.Meaning K) (number : ℕ) (a : T) (b : UnitView T) (store : StoreView) (opening : HasOpened t a b store) where
@@ -107,7 +107,7 @@ module _ {T K : Type 0} (t : tapes.Meaning T) (k : sinks.Meaning K) (number : �
   pub restored : (c : T) (x y : K) (e : Entry) (ending : Ending) → TakesBoth k → ((z : K) → k.took z [] z) → volume_at store.entries number ≡ Some e →
       GaveVolume t k store.words (needed e) false (around b.tape x) (around c y) ending → EndsBlind t k (words.Restore number) a c x y (ending_status ending)
   restored c x y e ending both nothing numbered gave =
-      let outcome : Outcome = given (quiet opening.steps ∷ gave.acts) (ending_status ending) in
+      let outcome : CommandOutcome = given (quiet opening.steps ∷ gave.acts) (ending_status ending) in
       inl (record {
         outcome = outcome;
         answered = refl;
@@ -143,7 +143,7 @@ module _ {T K : Type 0} (t : tapes.Meaning T) (k : sinks.Meaning K) (number : �
   -- over a mounted cartridge the acts of the outcome were cut off
   restoring_cut : (c : T) (x y : K) (e : Entry) (failing : Failing) → TakesBoth k → ((z : K) → k.took z [] z) → volume_at store.entries number ≡ Some e → (d : Cartridge) → (is : IsOpened d store opening.steps) →
       ((acts : List Act) (ending : Ending) → Restores (mounting.settled is.table d) store.words (needed e) acts ending → Cut t no_source k (around b.tape x) (around c y) acts failing) →
-      (outcome : Outcome) → RestoreOutcome number (Some d) outcome → IsCutOff t no_source k (words.Restore number) (around a x) (around c y) failing outcome
+      (outcome : CommandOutcome) → RestoreOutcome number (Some d) outcome → IsCutOff t no_source k (words.Restore number) (around a x) (around c y) failing outcome
   restoring_cut c x y e failing both nothing numbered d is each outcome (m, mounts, does) =
       let same : m ≡ mounting.Mounted store.header store.words is.table store.entries = mounts_is_function d m _ mounts is.mounts in
       by_volume (subst (λ (n : Mounting). Opened (Gives number) d n outcome) same does)

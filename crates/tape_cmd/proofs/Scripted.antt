@@ -26,7 +26,7 @@ use Rattle.volume_store.specs.Mounting.{StoreView}
 use Rattle.tape_cmd.specs.declared.status.Status.{Status}
 use Rattle.tape_cmd.specs.declared.status.Status.TheVariants as status
 use Rattle.tape_cmd.specs.Opening.{Opened, IsOpened, HasOpened, OpeningEnds, is_opening}
-use Rattle.tape_cmd.specs.Outcome.{Outcome, refused, first_steps}
+use Rattle.tape_cmd.specs.Outcome.{CommandOutcome, refused, first_steps}
 use Rattle.tape_cmd.specs.Runs.{CommandEnds, InputLeft, IsCutOff, NamesFault, Prints, fault_of, may_come_from}
 use Rattle.tape_cmd.specs.Script.{Scripting, ScriptOutcome, script_status, run_status}
 use Rattle.tape_cmd.proofs.Endings.{told_map}
@@ -82,7 +82,7 @@ no_fault : (why : Status) → is_opening why ≡ true → (line place : ℕ) →
 no_fault why sound line place is = let no = ap is_opening is in cc
 
 scripting_first : (input : List ℕ) → Settles (Scripting input)
-scripting_first input c header ws table entries outcome found = ap (λ (o : Outcome). first_steps o) found.is
+scripting_first input c header ws table entries outcome found = ap (λ (o : CommandOutcome). first_steps o) found.is
 
 -- nothing was printed
 none_said : (why : Status) → is_opening why ≡ true → Prints words.Script why []
@@ -210,7 +210,7 @@ module _ {T S K : Type 0} (t : tapes.Meaning T) (s : sources.Meaning S) (k : sin
     -- over a mounted cartridge the acts of the outcome were cut off
     scripting_cut : (failing : Failing) (input : List ℕ) (d : Cartridge) → (is : IsOpened d store opening.steps) →
         ((came : scripts.ScriptRun) → ScriptDoes (mounting.settled is.table d) store.words store.entries input came → Cut t s k (outside b.tape i x) (outside c j y) came.acts failing) →
-        (outcome : Outcome) → ScriptOutcome (Some d) input outcome → IsCutOff t s k words.Script (outside a i x) (outside c j y) failing outcome
+        (outcome : CommandOutcome) → ScriptOutcome (Some d) input outcome → IsCutOff t s k words.Script (outside a i x) (outside c j y) failing outcome
     scripting_cut failing input d is each outcome (m, mounts, does) =
         let same : m ≡ mounting.Mounted store.header store.words is.table store.entries = mounts_is_function d m _ mounts is.mounts in
         by_acts (subst (λ (n : Mounting). Opened (Scripting input) d n outcome) same does)
@@ -219,7 +219,7 @@ module _ {T S K : Type 0} (t : tapes.Meaning T) (s : sources.Meaning S) (k : sin
         by_acts found =
             let came : scripts.ScriptRun = found.came in
             let all : quiet opening.steps ∷ came.acts ≡ outcome.acts =
-            ap (λ (ss : List TapeStep). quiet ss ∷ came.acts) is.settles ∙ sym (ap (λ (o : Outcome). o.acts) found.is) in record {
+            ap (λ (ss : List TapeStep). quiet ss ∷ came.acts) is.settles ∙ sym (ap (λ (o : CommandOutcome). o.acts) found.is) in record {
               cut = subst (λ (acts : List Act). Cut t s k (outside a i x) (outside c j y) acts failing) all
                   (cut_behind t s k both nothing a b.tape i x (outside c j y) opening.steps came.acts failing opening.did (each came found.does));
               done = λ sink still. absurd (cc);

@@ -25,7 +25,7 @@ use Rattle.volume_store.specs.Scrubbing.{MendEnds}
 use Rattle.tape_cmd.specs.declared.status.Status.{Status}
 use Rattle.tape_cmd.specs.declared.status.Status.TheVariants as status
 use Rattle.tape_cmd.specs.Opening.{Opened, IsOpened, HasOpened, IsUnlocked, WritableEnds, is_opening, store_status}
-use Rattle.tape_cmd.specs.Outcome.{Outcome, first_steps}
+use Rattle.tape_cmd.specs.Outcome.{CommandOutcome, first_steps}
 use Rattle.tape_cmd.specs.Scrub.{Mends, ScrubOutcome}
 use Rattle.tape_cmd.specs.Runs.{EndsBlind, IsCutOff, fault_of, may_come_from}
 use Rattle.tape_cmd.proofs.Endings.{IsBlind, turned_behind, turned_down, cut_off, told_map}
@@ -34,7 +34,7 @@ use Rattle.tape_cmd.proofs.Opened.{IsKnown, quiet, went_behind, cut_behind, sett
 
 -- scrubbing begins with the settling
 mends_first : Settles Mends
-mends_first c header ws table entries outcome found = ap (λ (o : Outcome). first_steps o) found.is
+mends_first c header ws table entries outcome found = ap (λ (o : CommandOutcome). first_steps o) found.is
 
 found_by_scrub : (why : Status) → is_opening why ≡ true → may_come_from why words.Scrub ≡ true
 found_by_scrub status.NoCartridge sound = refl
@@ -60,7 +60,7 @@ scrub_refused t k a b x why nothing (inr (inr cut)) =
     (told_map (t.told a) _ _ cut.front (λ held front outcome rules. writable_begins Mends mends_first cut.steps held front outcome (rules []))) cut.broke)
 
 -- the outcome of these acts
-abbrev mended : List Act → Outcome
+abbrev mended : List Act → CommandOutcome
 mended acts = record { acts = acts; taken = 0; status = status.Done }
 
 module _ {T K : Type 0} (t : tapes.Meaning T) (k : sinks.Meaning K) (a : T) (b : UnitView T) (store : StoreView) (opening : HasOpened t a b store) where
@@ -113,7 +113,7 @@ module _ {T K : Type 0} (t : tapes.Meaning T) (k : sinks.Meaning K) (a : T) (b :
   -- over a mounted cartridge the acts of the outcome were cut off
   scrubbing_cut : (c : T) (x y : K) (failing : Failing) → TakesBoth k → ((z : K) → k.took z [] z) → (d : Cartridge) → (is : IsOpened d store opening.steps) → d.info.protected ≡ false →
       ((acts : List Act) → Scrubs (mounting.settled is.table d) store.words store.entries acts → Cut t no_source k (around b.tape x) (around c y) acts failing) →
-      (outcome : Outcome) → ScrubOutcome (Some d) outcome → IsCutOff t no_source k words.Scrub (around a x) (around c y) failing outcome
+      (outcome : CommandOutcome) → ScrubOutcome (Some d) outcome → IsCutOff t no_source k words.Scrub (around a x) (around c y) failing outcome
   scrubbing_cut c x y failing both nothing d is free each outcome (inl locked) = let p = locked.0 in absurd (cc)
   scrubbing_cut c x y failing both nothing d is free each outcome (inr (unlocked, (m, mounts, does))) =
       let same : m ≡ mounting.Mounted store.header store.words is.table store.entries = mounts_is_function d m _ mounts is.mounts in

@@ -42,7 +42,7 @@ use Rattle.tape_cmd.specs.declared.status.Status.TheVariants as status
 use Rattle.tape_cmd.specs.Machine.{HasValues, Spells, Yields}
 use Rattle.tape_cmd.specs.Make.{Making, MakeOutcome, make_status}
 use Rattle.tape_cmd.specs.Opening.{Going, Opened, OpenOutcome}
-use Rattle.tape_cmd.specs.Outcome.{Outcome, refused}
+use Rattle.tape_cmd.specs.Outcome.{CommandOutcome, refused}
 use Rattle.tape_cmd.specs.Runs.{CommandEnds, fault_of, is_fault, may_come_from}
 use Rattle.tape_cmd.specs.Script.{Scripting, ScriptOutcome}
 use Rattle.tape_cmd.specs.Headline.{EachLeft, EachNow, StopLeaves, WordsLeave}
@@ -57,11 +57,11 @@ use Rattle.tape_cmd.proofs.Volumes.{done_now, each_weaker, now_weaker, whole_of}
 -- ---- a cartridge that stands for a plain one, mounted
 
 -- what is mounted as the plain cartridge, or refused
-pub record WasMounted (goes : Going) (c : Cartridge) (plain : Plain) (outcome : Outcome) : Type 0 where
+pub record WasMounted (goes : Going) (c : Cartridge) (plain : Plain) (outcome : CommandOutcome) : Type 0 where
   pub mounts : Mounts c (mounted_as plain)
   pub did : goes c plain.header plain.words plain.table_area (entries_of plain) outcome
 
-pub record WasTurned (outcome : Outcome) : Type 0 where
+pub record WasTurned (outcome : CommandOutcome) : Type 0 where
   pub why : Status
   pub is : outcome ≡ refused why
   pub unheard : IsHeard why → ⊥
@@ -70,7 +70,7 @@ never_heard : (lost : ℕ) → IsHeard (status.Lost 2 lost) → ⊥
 never_heard lost (inl done) = cc
 never_heard lost (inr (line, place, is)) = cc
 
-mounted_or_turned : (goes : Going) (c : Cartridge) (plain : Plain) (outcome : Outcome) → Stands c plain → OpenOutcome goes (Some c) outcome →
+mounted_or_turned : (goes : Going) (c : Cartridge) (plain : Plain) (outcome : CommandOutcome) → Stands c plain → OpenOutcome goes (Some c) outcome →
     WasTurned outcome ⊎ WasMounted goes c plain outcome
 mounted_or_turned goes c plain outcome stood (m, mounts, opened) =
     elim (standing_mounts_only_so c plain m stood mounts) [
@@ -252,7 +252,7 @@ module _ {T S K : Type 0} (t : tapes.Meaning T) (s : sources.Meaning S) (k : sin
 pub record Ran {T S K : Type 0} (t : tapes.Meaning T) (s : sources.Meaning S) (k : sinks.Meaning K) (command : Words) (old new : Outside T S K) (answer : Status) (c : Cartridge) (told : t.told old.tape ≡ Some (Some c)) (after : tapes.IsLeftNow t new.tape) : Type 0 where
   pub input : List ℕ
   pub is_told : IfSome (s.left old.source) (λ bytes. input ≡ bytes)
-  pub outcome : Outcome
+  pub outcome : CommandOutcome
   pub plain : Yields command (Some c) input outcome
   pub was : WasLeft t s k old new c told after outcome.acts
   pub heard : IsHeard answer → (outcome.status ≡ answer) × tapes.Done t old.tape new.tape (steps_of outcome.acts)
@@ -302,7 +302,7 @@ ends_ran t s k command old new answer laws values (inr (failing, is, stopped)) c
 
 module _ (seed count : ℕ) (few : count ≤ 200) (c : Cartridge) (plain : Plain) (whole : IsCartridge c) (stood : Stands c plain) where
   -- its steps were carried out on a settled cartridge that may be written
-  pub record MakeRan (outcome : Outcome) : Type 0 where
+  pub record MakeRan (outcome : CommandOutcome) : Type 0 where
     pub mounts : Mounts c (mounted_as plain)
     pub held : IsOpen (settled plain.table_area c) plain
     pub acts : List Act
@@ -314,7 +314,7 @@ module _ (seed count : ℕ) (few : count ≤ 200) (c : Cartridge) (plain : Plain
   never_protected (inl done) = cc
   never_protected (inr (line, place, is)) = cc
 
-  make_course : (outcome : Outcome) → MakeOutcome seed count (Some c) outcome → WasTurned outcome ⊎ MakeRan outcome
+  make_course : (outcome : CommandOutcome) → MakeOutcome seed count (Some c) outcome → WasTurned outcome ⊎ MakeRan outcome
   make_course outcome (inl (locked, is)) = inl (record { why = status.Protected; is = is; unheard = never_protected })
   make_course outcome (inr (free, opened)) =
       elim (mounted_or_turned (Making seed count) c plain outcome stood opened) [
@@ -331,7 +331,7 @@ module _ (seed count : ℕ) (few : count ≤ 200) (c : Cartridge) (plain : Plain
       ]
 
   -- .. and where each sector of the table's segment takes a write, it still did
-  kept_now : (outcome : Outcome) → IsTableLive c → MakeRan outcome → IsKept (settled plain.table_area c) plain
+  kept_now : (outcome : CommandOutcome) → IsTableLive c → MakeRan outcome → IsKept (settled plain.table_area c) plain
   kept_now outcome live run =
       live_kept (settled plain.table_area c) plain run.held (settled_live c plain.table_area run.mounts.reads live)
 
@@ -339,13 +339,13 @@ module _ (seed count : ℕ) (few : count ≤ 200) (c : Cartridge) (plain : Plain
   HasMade n left = IsSomeAnd left (λ d. Stands d (with_made seed plain 1 n))
 
   -- a stop leaves some of the volumes
-  make_stopped : (outcome : Outcome) (left : Option Cartridge) → IsTableLive c → MakeOutcome seed count (Some c) outcome → Torn (steps_of outcome.acts) (Some c) left →
+  make_stopped : (outcome : CommandOutcome) (left : Option Cartridge) → IsTableLive c → MakeOutcome seed count (Some c) outcome → Torn (steps_of outcome.acts) (Some c) left →
       (n : ℕ) × (n ≤ count) × HasMade n left
   make_stopped outcome left live does torn =
       elim (make_course outcome does) [
         | inl turned ↦
-            (0, omega arith, some_and (λ d. Stands d plain) c left stood (subst (λ (o : Outcome). Torn (steps_of o.acts) (Some c) left) turned.is torn))
-        | inr run ↦ elim (stopped_first c plain whole stood run.mounts run.acts left (subst (λ (o : Outcome). Torn (steps_of o.acts) (Some c) left) run.is torn)) [
+            (0, omega arith, some_and (λ d. Stands d plain) c left stood (subst (λ (o : CommandOutcome). Torn (steps_of o.acts) (Some c) left) turned.is torn))
+        | inr run ↦ elim (stopped_first c plain whole stood run.mounts run.acts left (subst (λ (o : CommandOutcome). Torn (steps_of o.acts) (Some c) left) run.is torn)) [
           | inl stands ↦ (0, omega arith, stands)
           | inr behind ↦
               let some = stopped_make_stands seed count (settled plain.table_area c) plain run.acts run.answer left few (kept_now outcome live run) run.makes behind in
@@ -395,21 +395,21 @@ module _ (seed count : ℕ) (few : count ≤ 200) (c : Cartridge) (plain : Plain
       by_front (x ∷ xs) act rest none = cc
 
   -- once the sink failed all of them are there, ..
-  make_broken : (outcome : Outcome) (text : List ℕ) (left : Option Cartridge) → IsTableLive c → MakeOutcome seed count (Some c) outcome → Behind c outcome.acts text left → HasMade count left
+  make_broken : (outcome : CommandOutcome) (text : List ℕ) (left : Option Cartridge) → IsTableLive c → MakeOutcome seed count (Some c) outcome → Behind c outcome.acts text left → HasMade count left
   make_broken outcome text left live does so =
       elim (make_course outcome does) [
-        | inl turned ↦ none_behind text left (subst (λ (o : Outcome). Behind c o.acts text left) turned.is so)
-        | inr run ↦ broken_run run.acts run.answer text left run.mounts (kept_now outcome live run) run.makes (subst (λ (o : Outcome). Behind c o.acts text left) run.is so)
+        | inl turned ↦ none_behind text left (subst (λ (o : CommandOutcome). Behind c o.acts text left) turned.is so)
+        | inr run ↦ broken_run run.acts run.answer text left run.mounts (kept_now outcome live run) run.makes (subst (λ (o : CommandOutcome). Behind c o.acts text left) run.is so)
       ]
 
   -- .. and once it has printed anything
-  make_printed : (outcome : Outcome) (text : List ℕ) (left : Option Cartridge) → IsTableLive c → MakeOutcome seed count (Some c) outcome → text ≢ [] →
+  make_printed : (outcome : CommandOutcome) (text : List ℕ) (left : Option Cartridge) → IsTableLive c → MakeOutcome seed count (Some c) outcome → text ≢ [] →
       IsLeftBy c outcome.acts text left → HasMade count left
   make_printed outcome text left live does some (inr so) = make_broken outcome text left live does so
   make_printed outcome text left live does some (inl so) =
       elim (make_course outcome does) [
-        | inl turned ↦ absurd (some (nothing_left text left (subst (λ (o : Outcome). Between c o.acts text left) turned.is so)))
-        | inr run ↦ printed_run run.acts run.answer text left run.mounts (kept_now outcome live run) run.makes some (subst (λ (o : Outcome). Between c o.acts text left) run.is so)
+        | inl turned ↦ absurd (some (nothing_left text left (subst (λ (o : CommandOutcome). Between c o.acts text left) turned.is so)))
+        | inr run ↦ printed_run run.acts run.answer text left run.mounts (kept_now outcome live run) run.makes some (subst (λ (o : CommandOutcome). Between c o.acts text left) run.is so)
       ]
     where
       nothing_left : (text : List ℕ) (left : Option Cartridge) → Between c [] text left → text ≡ []
@@ -420,16 +420,16 @@ module _ (seed count : ℕ) (few : count ≤ 200) (c : Cartridge) (plain : Plain
           by_front (x ∷ xs) rest none is = cc
 
   -- and once it was carried out, also where sectors of the table's segment take no write
-  make_done : (outcome : Outcome) → MakeOutcome seed count (Some c) outcome → outcome.status ≡ status.Done → HasMade count (effects (steps_of outcome.acts) (Some c))
+  make_done : (outcome : CommandOutcome) → MakeOutcome seed count (Some c) outcome → outcome.status ≡ status.Done → HasMade count (effects (steps_of outcome.acts) (Some c))
   make_done outcome does is_done =
       elim (make_course outcome does) [
-        | inl turned ↦ absurd (turned.unheard (inl (sym (ap (λ (o : Outcome). o.status) turned.is) ∙ is_done)))
+        | inl turned ↦ absurd (turned.unheard (inl (sym (ap (λ (o : CommandOutcome). o.status) turned.is) ∙ is_done)))
         | inr run ↦
-            let answered : run.answer ≡ made.Done = all_done run.answer (sym (ap (λ (o : Outcome). o.status) run.is) ∙ is_done) in
+            let answered : run.answer ≡ made.Done = all_done run.answer (sym (ap (λ (o : CommandOutcome). o.status) run.is) ∙ is_done) in
             some_and (λ d. Stands d (with_made seed plain 1 count)) (changed_by (steps_of run.acts) (settled plain.table_area c)) (effects (steps_of outcome.acts) (Some c))
             (done_make_stands seed count (settled plain.table_area c) plain run.acts few run.held
             (subst (λ (a : made.Answer). Makes seed count (settled plain.table_area c) plain.words (entries_of plain) run.acts a) answered run.makes))
-            (ap (λ (o : Outcome). effects (steps_of o.acts) (Some c)) run.is ∙ behind_front c plain whole stood run.mounts run.acts)
+            (ap (λ (o : CommandOutcome). effects (steps_of o.acts) (Some c)) run.is ∙ behind_front c plain whole stood run.mounts run.acts)
       ]
     where
       all_done : (answer : made.Answer) → make_status answer ≡ status.Done → answer ≡ made.Done
@@ -496,12 +496,12 @@ module _ (told : Option (List ℕ)) (words : List (List ℕ)) (c : Cartridge) (p
   dids = script.does.dids
 
   -- its lines were carried out on the settled cartridge
-  pub record ScriptRan (outcome : Outcome) : Type 0 where
+  pub record ScriptRan (outcome : CommandOutcome) : Type 0 where
     pub mounts : Mounts c (mounted_as plain)
     pub held : IsHeld (settled plain.table_area c) plain
     pub acts : outcome.acts ≡ quiet (settling_steps plain.table_area c) ∷ script.outcome.acts
 
-  script_course : (input : List ℕ) (outcome : Outcome) → input ≡ script.input → ScriptOutcome (Some c) input outcome → WasTurned outcome ⊎ ScriptRan outcome
+  script_course : (input : List ℕ) (outcome : CommandOutcome) → input ≡ script.input → ScriptOutcome (Some c) input outcome → WasTurned outcome ⊎ ScriptRan outcome
   script_course input outcome same opened =
       elim (mounted_or_turned (Scripting input) c plain outcome script.stands opened) [
         | inl turned ↦ inl turned
@@ -513,7 +513,7 @@ module _ (told : Option (List ℕ)) (words : List (List ℕ)) (c : Cartridge) (p
             inr (record {
               mounts = was.mounts;
               held = mounted_held c plain whole script.stands was.mounts;
-              acts = ap (λ (o : Outcome). o.acts) did.is ∙ ap (λ (o : scripts.ScriptRun). quiet (settling_steps plain.table_area c) ∷ o.acts) one;
+              acts = ap (λ (o : CommandOutcome). o.acts) did.is ∙ ap (λ (o : scripts.ScriptRun). quiet (settling_steps plain.table_area c) ∷ o.acts) one;
             })
       ]
 
@@ -521,12 +521,12 @@ module _ (told : Option (List ℕ)) (words : List (List ℕ)) (c : Cartridge) (p
   BehindSome left = (n : ℕ) × (n ≤ length items) × IsSomeAnd left (λ d. Stands d (plain_behind plain (take n items) (take n dids)))
 
   -- a stop leaves the plain cartridge behind some of the lines
-  script_stopped : (input : List ℕ) (outcome : Outcome) (left : Option Cartridge) → IsTableLive c → input ≡ script.input → ScriptOutcome (Some c) input outcome →
+  script_stopped : (input : List ℕ) (outcome : CommandOutcome) (left : Option Cartridge) → IsTableLive c → input ≡ script.input → ScriptOutcome (Some c) input outcome →
       Torn (steps_of outcome.acts) (Some c) left → BehindSome left
   script_stopped input outcome left live same does torn =
       elim (script_course input outcome same does) [
         | inl turned ↦
-            (0, omega arith, some_and (λ d. Stands d plain) c left script.stands (subst (λ (o : Outcome). Torn (steps_of o.acts) (Some c) left) turned.is torn))
+            (0, omega arith, some_and (λ d. Stands d plain) c left script.stands (subst (λ (o : CommandOutcome). Torn (steps_of o.acts) (Some c) left) turned.is torn))
         | inr run ↦
             elim (stopped_first c plain whole script.stands run.mounts script.outcome.acts left (subst (λ (acts : List Act). Torn (steps_of acts) (Some c) left) run.acts torn)) [
               | inl stands ↦ (0, omega arith, stands)
@@ -537,11 +537,11 @@ module _ (told : Option (List ℕ)) (words : List (List ℕ)) (c : Cartridge) (p
 
   -- once its input was carried out the plain cartridge behind all of the lines stands, also where sectors of the table's segment take
   -- no write
-  script_heard : (input : List ℕ) (outcome : Outcome) → input ≡ script.input → ScriptOutcome (Some c) input outcome → IsHeard outcome.status →
+  script_heard : (input : List ℕ) (outcome : CommandOutcome) → input ≡ script.input → ScriptOutcome (Some c) input outcome → IsHeard outcome.status →
       IsSomeAnd (effects (steps_of outcome.acts) (Some c)) (λ d. Stands d (plain_behind plain items dids))
   script_heard input outcome same does heard =
       elim (script_course input outcome same does) [
-        | inl turned ↦ absurd (turned.unheard (subst (λ (o : Outcome). IsHeard o.status) turned.is heard))
+        | inl turned ↦ absurd (turned.unheard (subst (λ (o : CommandOutcome). IsHeard o.status) turned.is heard))
         | inr run ↦
             some_and (λ d. Stands d (plain_behind plain items dids)) (changed_by (steps_of script.outcome.acts) (settled plain.table_area c)) (effects (steps_of outcome.acts) (Some c))
             (done_script_stands (settled plain.table_area c) plain script.input script.outcome run.held script.does script.bytes script.spares)
@@ -557,11 +557,11 @@ module _ (told : Option (List ℕ)) (words : List (List ℕ)) (c : Cartridge) (p
       subst (λ (xs : List ℕ). Answered xs left) (sym none)
       (none_answered (settled plain.table_area c) plain script.input script.outcome left script.does script.bytes stands)
 
-  script_answered : (input : List ℕ) (outcome : Outcome) (text : List ℕ) (left : Option Cartridge) → IsTableLive c → input ≡ script.input →
+  script_answered : (input : List ℕ) (outcome : CommandOutcome) (text : List ℕ) (left : Option Cartridge) → IsTableLive c → input ≡ script.input →
       ScriptOutcome (Some c) input outcome → IsLeftBy c outcome.acts text left → Answered text left
   script_answered input outcome text left live same does so =
       elim (script_course input outcome same does) [
-        | inl turned ↦ turned_down text left (subst (λ (o : Outcome). IsLeftBy c o.acts text left) turned.is so)
+        | inl turned ↦ turned_down text left (subst (λ (o : CommandOutcome). IsLeftBy c o.acts text left) turned.is so)
         | inr run ↦ ran run (subst (λ (acts : List Act). IsLeftBy c acts text left) run.acts so)
       ]
     where

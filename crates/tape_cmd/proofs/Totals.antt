@@ -14,7 +14,7 @@ use Rattle.tape_pulses.proofs.MachineLaws.{each_outcome}
 use Rattle.store_laws.proofs.Listed.{mounted_listed}
 use Rattle.volume_script.proofs.Outcomes.{each_outcome as each_script}
 use Rattle.made_volumes.proofs.Outcomes.{makes_something}
-use Rattle.tape_cmd.specs.Outcome.{Outcome}
+use Rattle.tape_cmd.specs.Outcome.{CommandOutcome}
 use Rattle.tape_cmd.specs.Place.{HasPlace}
 use Rattle.tape_cmd.specs.Defect.{DefectOutcome}
 use Rattle.tape_cmd.specs.Lose.{LoseOutcome}
@@ -41,27 +41,27 @@ use Rattle.tape_cmd.specs.Script.{Scripting}
 use Rattle.volume_script.proofs.Places.{place_or_not}
 use Rattle.tape_cmd.specs.Machine.{HasValues, Yields}
 
-lose_answers : (segment sector : ℕ) (held : Option Cartridge) → (outcome : Outcome) × LoseOutcome segment sector held outcome
+lose_answers : (segment sector : ℕ) (held : Option Cartridge) → (outcome : CommandOutcome) × LoseOutcome segment sector held outcome
 lose_answers segment sector None = (_, refl)
 lose_answers segment sector (Some c) = by_place (place_or_not c.info.segments_per_track segment sector)
   where
-    by_place : HasPlace c segment sector ⊎ ¬ (HasPlace c segment sector) → (outcome : Outcome) × LoseOutcome segment sector (Some c) outcome
+    by_place : HasPlace c segment sector ⊎ ¬ (HasPlace c segment sector) → (outcome : CommandOutcome) × LoseOutcome segment sector (Some c) outcome
     by_place (inl place) = (_, inr (place, refl))
     by_place (inr none) = (_, inl (none, refl))
 
-defect_answers : (segment sector : ℕ) (held : Option Cartridge) → (outcome : Outcome) × DefectOutcome segment sector held outcome
+defect_answers : (segment sector : ℕ) (held : Option Cartridge) → (outcome : CommandOutcome) × DefectOutcome segment sector held outcome
 defect_answers segment sector None = (_, refl)
 defect_answers segment sector (Some c) = by_place (place_or_not c.info.segments_per_track segment sector)
   where
-    by_view : HasPlace c segment sector → (b : Bool) → spoil_answer (view_at c segment sector) ≡ b → (outcome : Outcome) × DefectOutcome segment sector (Some c) outcome
+    by_view : HasPlace c segment sector → (b : Bool) → spoil_answer (view_at c segment sector) ≡ b → (outcome : CommandOutcome) × DefectOutcome segment sector (Some c) outcome
     by_view place true is = (_, inr (inr (place, is, refl)))
     by_view place false is = (_, inr (inl (place, is, refl)))
 
-    by_place : HasPlace c segment sector ⊎ ¬ (HasPlace c segment sector) → (outcome : Outcome) × DefectOutcome segment sector (Some c) outcome
+    by_place : HasPlace c segment sector ⊎ ¬ (HasPlace c segment sector) → (outcome : CommandOutcome) × DefectOutcome segment sector (Some c) outcome
     by_place (inl place) = by_view place (spoil_answer (view_at c segment sector)) refl
     by_place (inr none) = (_, inl (none, refl))
 
-protect_answers : (on : Bool) (held : Option Cartridge) → (outcome : Outcome) × ProtectOutcome on held outcome
+protect_answers : (on : Bool) (held : Option Cartridge) → (outcome : CommandOutcome) × ProtectOutcome on held outcome
 protect_answers on None = (_, refl)
 protect_answers on (Some c) = (_, refl)
 
@@ -69,27 +69,27 @@ protect_answers on (Some c) = (_, refl)
 abbrev Answers : Going → Type 0
 Answers goes =
     (c : Cartridge) (header : Header) (ws : List ℕ) (table : List (List ℕ)) (entries : List Entry) → IsCartridge c → Mounts c (mounting.Mounted header ws table entries) →
-    (outcome : Outcome) × goes c header ws table entries outcome
+    (outcome : CommandOutcome) × goes c header ws table entries outcome
 
-opened_answers : (goes : Going) → Answers goes → (c : Cartridge) (m : Mounting) → IsCartridge c → Mounts c m → (outcome : Outcome) × Opened goes c m outcome
+opened_answers : (goes : Going) → Answers goes → (c : Cartridge) (m : Mounting) → IsCartridge c → Mounts c m → (outcome : CommandOutcome) × Opened goes c m outcome
 opened_answers goes each c mounting.NotFormatted whole mounts = (_, refl)
 opened_answers goes each c (mounting.Foreign fault) whole mounts = (_, refl)
 opened_answers goes each c (mounting.TableLost lost) whole mounts = (_, refl)
 opened_answers goes each c mounting.TableMismatch whole mounts = (_, refl)
 opened_answers goes each c (mounting.Mounted header ws table entries) whole mounts = each c header ws table entries whole mounts
 
-open_answers : (goes : Going) → Answers goes → (held : Option Cartridge) → IfSome held IsCartridge → (outcome : Outcome) × OpenOutcome goes held outcome
+open_answers : (goes : Going) → Answers goes → (held : Option Cartridge) → IfSome held IsCartridge → (outcome : CommandOutcome) × OpenOutcome goes held outcome
 open_answers goes each None whole = (_, refl)
 open_answers goes each (Some c) whole =
     let some = mounts_always c whole in
     let outcome = opened_answers goes each c some.0 whole some.1 in
     (outcome.0, (some.0, some.1, outcome.1))
 
-writable_answers : (goes : Going) → Answers goes → (held : Option Cartridge) → IfSome held IsCartridge → (outcome : Outcome) × WritableOutcome goes held outcome
+writable_answers : (goes : Going) → Answers goes → (held : Option Cartridge) → IfSome held IsCartridge → (outcome : CommandOutcome) × WritableOutcome goes held outcome
 writable_answers goes each None whole = (_, refl)
 writable_answers goes each (Some c) whole = by_mark c.info.protected refl
   where
-    by_mark : (mark : Bool) → c.info.protected ≡ mark → (outcome : Outcome) × WritableOutcome goes (Some c) outcome
+    by_mark : (mark : Bool) → c.info.protected ≡ mark → (outcome : CommandOutcome) × WritableOutcome goes (Some c) outcome
     by_mark true is = (_, inl (is, refl))
     by_mark false is = let some = open_answers goes each (Some c) whole in (some.0, inr (is, some.1))
 
@@ -102,7 +102,7 @@ appends_answers name date input c header ws table entries whole reads = (_, refl
 gives_answers : (number : ℕ) → Answers (Gives number)
 gives_answers number c header ws table entries whole mounts = by_volume (volume_at entries number) refl
   where
-    by_volume : (found : Option Entry) → volume_at entries number ≡ found → (outcome : Outcome) × Gives number c header ws table entries outcome
+    by_volume : (found : Option Entry) → volume_at entries number ≡ found → (outcome : CommandOutcome) × Gives number c header ws table entries outcome
     by_volume None is = (_, inl (is, refl))
     by_volume (Some e) is =
         let some = restores_always (settled table c) ws (pieces ws e) (settled_is_cartridge c table whole mounts.reads) in
@@ -123,24 +123,24 @@ making_answers seed count few c header ws table entries whole mounts =
     let some = makes_something seed count (settled table c) ws entries (mounted_listed c header ws table entries whole mounts) few in
     (_, record { acts = some.0; answer = some.1; makes = some.2; is = refl })
 
-format_answers : (label : List ℕ) (date : ℕ) (held : Option Cartridge) → IsLabel label → date < 2 ^ 32 → IfSome held IsCartridge → (outcome : Outcome) × FormatOutcome label date held outcome
+format_answers : (label : List ℕ) (date : ℕ) (held : Option Cartridge) → IsLabel label → date < 2 ^ 32 → IfSome held IsCartridge → (outcome : CommandOutcome) × FormatOutcome label date held outcome
 format_answers label date None is few whole = (_, refl)
 format_answers label date (Some c) is few whole = by_mark c.info.protected refl
   where
-    by_front : c.info.protected ≡ false → HasDefectInFront c ⊎ HasNoDefectInFront c → (outcome : Outcome) × FormatOutcome label date (Some c) outcome
+    by_front : c.info.protected ≡ false → HasDefectInFront c ⊎ HasNoDefectInFront c → (outcome : CommandOutcome) × FormatOutcome label date (Some c) outcome
     by_front unlocked (inl found) = (_, inr (inl (unlocked, (found.segment, found.is_first, refl))))
     by_front unlocked (inr none) =
         let some = fresh_area_exists c label date whole is few in
         (_, inr (inr (unlocked, none, (some.words, (some.area, some.is_fresh, refl)))))
 
-    by_mark : (mark : Bool) → c.info.protected ≡ mark → (outcome : Outcome) × FormatOutcome label date (Some c) outcome
+    by_mark : (mark : Bool) → c.info.protected ≡ mark → (outcome : CommandOutcome) × FormatOutcome label date (Some c) outcome
     by_mark true is = (_, inl (is, refl))
     by_mark false is = by_front is (first_defect_or_none c)
 
-sent_answers : (held : Option Cartridge) (input : List ℕ) → (outcome : Outcome) × SentOutcome held input outcome
+sent_answers : (held : Option Cartridge) (input : List ℕ) → (outcome : CommandOutcome) × SentOutcome held input outcome
 sent_answers held input = let came = each_outcome (info_of held) input in (sent came.0, (came.0, came.1, refl))
 
-pub plain_answers : (command : Words) (held : Option Cartridge) (input : List ℕ) → HasValues command → IfSome held IsCartridge → (outcome : Outcome) × Yields command held input outcome
+pub plain_answers : (command : Words) (held : Option Cartridge) (input : List ℕ) → HasValues command → IfSome held IsCartridge → (outcome : CommandOutcome) × Yields command held input outcome
 plain_answers (words.New segments) held input values whole = (_, refl)
 plain_answers (words.Defect segment sector) held input values whole = defect_answers segment sector held
 plain_answers (words.Lose segment sector) held input values whole = lose_answers segment sector held

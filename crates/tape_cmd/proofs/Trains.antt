@@ -19,7 +19,7 @@ use Rattle.tape_pulses.specs.Runs as runs
 use Rattle.tape_pulses.proofs.MachineLaws.{one_outcome}
 use Rattle.tape_cmd.specs.declared.status.Status.{Status}
 use Rattle.tape_cmd.specs.declared.status.Status.TheVariants as status
-use Rattle.tape_cmd.specs.Outcome.{Outcome}
+use Rattle.tape_cmd.specs.Outcome.{CommandOutcome}
 use Rattle.tape_cmd.specs.Pulses.{sent_status, sent, info_of, SentOutcome, AreLevels}
 use Rattle.tape_cmd.specs.Runs.{InputLeft, fault_of, may_come_from, NamesFault, IsOfBytes, IsCutOff, CommandEnds}
 
@@ -82,11 +82,11 @@ answered (Err fault.Sink) = status.SinkFault
 answered (Err fault.Tape) = status.TapeFault
 
 -- an outcome over what the drive knows is the one that came
-same_acts : (known : Option TapeInfo) (held : Option Cartridge) (input : List ℕ) (came : pulses.PulseRun) (outcome : Outcome) → known ≡ info_of held →
+same_acts : (known : Option TapeInfo) (held : Option Cartridge) (input : List ℕ) (came : pulses.PulseRun) (outcome : CommandOutcome) → known ≡ info_of held →
     PulsesOutcome known input came → SentOutcome held input outcome → came.acts ≡ outcome.acts
 same_acts known held input came outcome same plain (other, rule, is) =
     ap (λ (o : pulses.PulseRun). o.acts) (one_outcome (info_of held) input came other (subst (λ (k : Option TapeInfo). PulsesOutcome k input came) same plain) rule)
-    ∙ sym (ap (λ (o : Outcome). o.acts) is)
+    ∙ sym (ap (λ (o : CommandOutcome). o.acts) is)
 
 module _ {T S K : Type 0} (t : tapes.Meaning T) (s : sources.Meaning S) (k : sinks.Meaning K) (old new : Outside T S K) (r : Record) where
   left_behind : (taken : ℕ) (answer : Answer) → runs.Leaves s old.source new.source taken answer → InputLeft (sent_status answer) taken (s.left old.source) (s.left new.source)
@@ -121,7 +121,7 @@ module _ {T S K : Type 0} (t : tapes.Meaning T) (s : sources.Meaning S) (k : sin
     record {
       told = over_known (t.told old.tape) (s.left old.source) run.known run.input
           (λ held input. IsOfBytes words.Pulses (s.left old.source) input
-          × ((outcome : Outcome) → SentOutcome held input outcome → IsCutOff t s k words.Pulses old new failing outcome))
+          × ((outcome : CommandOutcome) → SentOutcome held input outcome → IsCutOff t s k words.Pulses old new failing outcome))
           run.over.cartridge run.over.bytes
           (λ held same. (
             λ is. absurd (cc),

@@ -37,7 +37,7 @@ use Rattle.tape_script.proofs.Commands.{one_command}
 use Rattle.acts.specs.Acts.{steps_of, Outside, Failing, TapeFails, SourceFails, SinkFails}
 use Rattle.tape_cmd.specs.declared.status.Status.{Status}
 use Rattle.tape_cmd.specs.declared.status.Status.TheVariants as status
-use Rattle.tape_cmd.specs.Outcome.{Outcome}
+use Rattle.tape_cmd.specs.Outcome.{CommandOutcome}
 use Rattle.tape_cmd.specs.Place.{HasPlace}
 use Rattle.tape_cmd.specs.Format.{FormatOutcome}
 use Rattle.tape_cmd.specs.Traits.{traits_of}
@@ -330,7 +330,7 @@ pub record Did {T : Type 0} (t : tapes.Meaning T) (told : Option (List ℕ)) (co
   pub input : List ℕ
   pub is_told : IfSome told (λ bytes. input ≡ bytes)
   pub bytes : IsOfBytes command told input
-  pub outcome : Outcome
+  pub outcome : CommandOutcome
   pub sound : outcome.status ≡ is
   pub plain : Yields command held input outcome
   pub did : tapes.Done t a b (steps_of outcome.acts)
@@ -382,10 +382,10 @@ renewed_effect : (segments : ℕ) (held : Option Cartridge) → effects (Renew s
 renewed_effect segments None = refl
 renewed_effect segments (Some c) = refl
 
-formatted_fresh : (label : List ℕ) (date : ℕ) (c : Cartridge) (outcome : Outcome) → IsCartridge c → FormatOutcome label date (Some c) outcome → outcome.status ≡ status.Done →
+formatted_fresh : (label : List ℕ) (date : ℕ) (c : Cartridge) (outcome : CommandOutcome) → IsCartridge c → FormatOutcome label date (Some c) outcome → outcome.status ≡ status.Done →
     IsSomeAnd (effects (steps_of outcome.acts) (Some c)) (StandsFresh c label date)
-formatted_fresh label date c outcome whole (inl (locked, is)) done = let other = ap (λ (o : Outcome). o.status) is in absurd (cc)
-formatted_fresh label date c outcome whole (inr (inl (free, (segment, first, is)))) done = let other = ap (λ (o : Outcome). o.status) is in absurd (cc)
+formatted_fresh label date c outcome whole (inl (locked, is)) done = let other = ap (λ (o : CommandOutcome). o.status) is in absurd (cc)
+formatted_fresh label date c outcome whole (inr (inl (free, (segment, first, is)))) done = let other = ap (λ (o : CommandOutcome). o.status) is in absurd (cc)
 formatted_fresh label date c outcome whole (inr (inr (free, none, (words, (area, fresh, is))))) done =
     let n : ℕ = c.info.segments_per_track in
     let is_fresh : IsFreshFor c label date words area = fresh_for c label date words area none fresh in
@@ -396,7 +396,7 @@ formatted_fresh label date c outcome whole (inr (inr (free, none, (words, (area,
       fresh = is_fresh;
       stands = formatted_stands c (changed_by (format_steps n area) c) label date words area whole is_fresh (formatting_formats c area whole fresh.fresh.size none);
     })
-    (ap (λ (o : Outcome). effects (steps_of o.acts) (Some c)) is ∙ ap (λ (steps : List TapeStep). effects steps (Some c)) (append-nil (format_steps n area)) ∙ effects-some (format_steps n area) c)
+    (ap (λ (o : CommandOutcome). effects (steps_of o.acts) (Some c)) is ∙ ap (λ (steps : List TapeStep). effects steps (Some c)) (append-nil (format_steps n area)) ∙ effects-some (format_steps n area) c)
 
 cleared_bare : (c : Cartridge) → IsCartridge c → IsBare (changed_by (clearing_steps c.info.segments_per_track) c)
 cleared_bare c whole =
@@ -407,14 +407,14 @@ cleared_bare c whole =
     } in
     (bare, unformatted_from_bare d bare)
 
-cleared_is_bare : (label : List ℕ) (date front : ℕ) (c : Cartridge) (outcome : Outcome) → IsCartridge c → FormatOutcome label date (Some c) outcome → outcome.status ≡ status.DefectInFront front →
+cleared_is_bare : (label : List ℕ) (date front : ℕ) (c : Cartridge) (outcome : CommandOutcome) → IsCartridge c → FormatOutcome label date (Some c) outcome → outcome.status ≡ status.DefectInFront front →
     IsSomeAnd (effects (steps_of outcome.acts) (Some c)) IsBare
-cleared_is_bare label date front c outcome whole (inl (locked, is)) done = let other = ap (λ (o : Outcome). o.status) is in absurd (cc)
+cleared_is_bare label date front c outcome whole (inl (locked, is)) done = let other = ap (λ (o : CommandOutcome). o.status) is in absurd (cc)
 cleared_is_bare label date front c outcome whole (inr (inl (free, (segment, first, is)))) done =
     let n : ℕ = c.info.segments_per_track in
     some_and IsBare (changed_by (clearing_steps n) c) (effects (steps_of outcome.acts) (Some c)) (cleared_bare c whole)
-    (ap (λ (o : Outcome). effects (steps_of o.acts) (Some c)) is ∙ ap (λ (steps : List TapeStep). effects steps (Some c)) (append-nil (clearing_steps n)) ∙ effects-some (clearing_steps n) c)
-cleared_is_bare label date front c outcome whole (inr (inr (free, none, (words, (area, fresh, is))))) done = let other = ap (λ (o : Outcome). o.status) is in absurd (cc)
+    (ap (λ (o : CommandOutcome). effects (steps_of o.acts) (Some c)) is ∙ ap (λ (steps : List TapeStep). effects steps (Some c)) (append-nil (clearing_steps n)) ∙ effects-some (clearing_steps n) c)
+cleared_is_bare label date front c outcome whole (inr (inr (free, none, (words, (area, fresh, is))))) done = let other = ap (λ (o : CommandOutcome). o.status) is in absurd (cc)
 
 -- an append that was refused, or whose input failed
 append_unchanged : {T S K : Type 0} (t : tapes.Meaning T) (s : sources.Meaning S) (k : sinks.Meaning K) (name : List ℕ) (date : ℕ) (old new : Outside T S K) (answer : Status) (c : Cartridge) (plain : Plain) →
@@ -450,7 +450,7 @@ is_changed t s k words command old new answer laws spelled values ends = record 
       carried_out_did t s k other old new answer held (told_whole held (t.told old.tape) (t.size old.tape) laws.right told)
       (subst HasValues same values) refl told which (subst (λ (w : Words). CommandEnds t s k w old new answer) same ends) in
       now_weaker t old.tape new.tape
-      (λ left is. is ∙ ap (λ (o : Outcome). effects (steps_of o.acts) held) d.plain ∙ renewed_effect segments held)
+      (λ left is. is ∙ ap (λ (o : CommandOutcome). effects (steps_of o.acts) held) d.plain ∙ renewed_effect segments held)
       (done_now t old.tape new.tape (steps_of d.outcome.acts) held laws.after d.did told);
   formatted = λ label date c which spells told.
       let other : Words = commands.Format label date in

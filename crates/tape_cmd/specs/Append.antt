@@ -10,7 +10,7 @@ use Rattle.tape_cmd.specs.declared.status.Status.{Status}
 use Rattle.tape_cmd.specs.declared.status.Status.TheVariants as status
 use Rattle.tape_cmd.specs.Lines.{reply_behind}
 use Rattle.tape_cmd.specs.Opening.{Going, WritableOutcome, settling_act}
-use Rattle.tape_cmd.specs.Outcome.{Outcome}
+use Rattle.tape_cmd.specs.Outcome.{CommandOutcome}
 
 -- what it goes by once the table is settled: a sector that takes no write is written again
 abbrev pub kept_on : Cartridge → (words : List ℕ) → (table : List (List ℕ)) → List Entry → Kept
@@ -28,7 +28,7 @@ append_status have input =
     if nat_le 1 have && nat_le (length input) have then status.Done else status.Full (min (length input) (have + 1)) have
 
 -- the table is settled, and the whole input appended
-abbrev pub appended : (name : List ℕ) → (date : ℕ) → (input : List ℕ) → Cartridge → (words : List ℕ) → (table : List (List ℕ)) → List Entry → Outcome
+abbrev pub appended : (name : List ℕ) → (date : ℕ) → (input : List ℕ) → Cartridge → (words : List ℕ) → (table : List (List ℕ)) → List Entry → CommandOutcome
 appended name date input c words table entries =
     let kept : Kept = kept_on c words table entries in record {
       acts = settling_act table c ∷ append_acts kept name date None (reply_behind (length entries)) input;
@@ -39,5 +39,5 @@ appended name date input c words table entries =
 abbrev pub Appends : (name : List ℕ) → (date : ℕ) → (input : List ℕ) → Going
 Appends name date input c header words table entries outcome = outcome ≡ appended name date input c words table entries
 
-abbrev pub AppendOutcome : (name : List ℕ) → (date : ℕ) → Option Cartridge → (input : List ℕ) → Outcome → Type 0
+abbrev pub AppendOutcome : (name : List ℕ) → (date : ℕ) → Option Cartridge → (input : List ℕ) → CommandOutcome → Type 0
 AppendOutcome name date held input outcome = WritableOutcome (Appends name date input) held outcome

@@ -5,11 +5,11 @@ use Rattle.qic_base.specs.Step.{Spoil}
 use Rattle.qic_base.specs.Tape.{spoil_answer}
 use Rattle.tape_cmd.specs.declared.status.Status.TheVariants as status
 use Rattle.tape_cmd.specs.Lines.{defect_line}
-use Rattle.tape_cmd.specs.Outcome.{Outcome, refused, refused_behind, carried_out}
+use Rattle.tape_cmd.specs.Outcome.{CommandOutcome, refused, refused_behind, carried_out}
 use Rattle.tape_cmd.specs.Place.{HasPlace}
 
 -- a formatted sector stays as it is
-abbrev pub DefectOutcome : (segment sector : ℕ) → Option Cartridge → Outcome → Type 0
+abbrev pub DefectOutcome : (segment sector : ℕ) → Option Cartridge → CommandOutcome → Type 0
 DefectOutcome segment sector None outcome = outcome ≡ refused status.NoCartridge
 DefectOutcome segment sector (Some c) outcome =
     (¬ (HasPlace c segment sector) × (outcome ≡ refused status.BadPlace))

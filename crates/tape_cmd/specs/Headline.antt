@@ -11,7 +11,7 @@ use Rattle.acts.specs.Acts.{steps_of, Outside, Failing, NoneFell}
 use Rattle.tape_script.specs.declared.words.Words.{Words}
 use Rattle.tape_cmd.specs.declared.status.Status.{Status}
 use Rattle.tape_cmd.specs.declared.status.Status.TheVariants as status
-use Rattle.tape_cmd.specs.Outcome.{Outcome}
+use Rattle.tape_cmd.specs.Outcome.{CommandOutcome}
 use Rattle.tape_cmd.specs.Traits.{Traits, traits_of}
 use Rattle.tape_cmd.specs.Machine.{Yields, CommandPrints, FrontPrints, RefusedPrints, HasInputFault, Spells, Step}
 use Rattle.tape_cmd.specs.Runs.{OverTold, InputLeft, IsOfBytes, IsCutOff}
@@ -44,7 +44,7 @@ pub record NoneRose {T S K : Type 0} (t : tapes.Meaning T) (s : sources.Meaning 
 
 -- it cut off the acts of the plain machine's outcome
 pub record WasCut {T S K : Type 0} (t : tapes.Meaning T) (s : sources.Meaning S) (k : sinks.Meaning K) (command : Words) (held : Option Cartridge) (input : List ℕ) (old new : Outside T S K) (failing : Failing) : Type 0 where
-  pub outcome : Outcome
+  pub outcome : CommandOutcome
   pub plain : Yields command held input outcome
   pub off : IsCutOff t s k command old new failing outcome
 
@@ -74,7 +74,7 @@ pub record StopLeaves (told : Option (List ℕ)) (command : Words) (held left : 
   pub input : List ℕ
   pub is_told : IfSome told (λ bytes. input ≡ bytes)
   pub bytes : IsOfBytes command told input
-  pub outcome : Outcome
+  pub outcome : CommandOutcome
   pub plain : Yields command held input outcome
   pub torn : Torn (steps_of outcome.acts) held left
 

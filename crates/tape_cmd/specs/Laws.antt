@@ -5,7 +5,7 @@ use Rattle.tape_cmd.specs.declared.status.Status.{Status}
 use Rattle.tape_cmd.specs.declared.status.Status.TheVariants as status
 use Rattle.tape_script.specs.declared.words.Words.{Words}
 use Rattle.tape_cmd.specs.Complete.{CanBeDone}
-use Rattle.tape_cmd.specs.Outcome.{Outcome}
+use Rattle.tape_cmd.specs.Outcome.{CommandOutcome}
 use Rattle.tape_cmd.specs.Machine.{HasValues, Yields, Step}
 
 -- two outcomes of a step are one: what is held then, the output, how many bytes were taken, and the status
@@ -33,11 +33,11 @@ MachineAnswers =
 -- a command has one outcome over what the drive holds and an input
 abbrev pub OneOutcome : Type 0
 OneOutcome =
-    (command : Words) (held : Option Cartridge) (input : List ℕ) (one other : Outcome) →
+    (command : Words) (held : Option Cartridge) (input : List ℕ) (one other : CommandOutcome) →
     Yields command held input one → Yields command held input other → one ≡ other
 
 -- where all is there that a command needs it is carried out
 abbrev pub DoneWhereAllIsThere : Type 0
 DoneWhereAllIsThere =
-    (command : Words) (held : Option Cartridge) (input : List ℕ) (outcome : Outcome) → IfSome held IsCartridge → HasValues command →
+    (command : Words) (held : Option Cartridge) (input : List ℕ) (outcome : CommandOutcome) → IfSome held IsCartridge → HasValues command →
     CanBeDone command held input → Yields command held input outcome → outcome.status ≡ status.Done

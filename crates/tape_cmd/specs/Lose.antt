@@ -4,10 +4,10 @@ use Rattle.qic_base.specs.Cartridge.{Cartridge}
 use Rattle.qic_base.specs.Step.{Wear}
 use Rattle.tape_cmd.specs.declared.status.Status.TheVariants as status
 use Rattle.tape_cmd.specs.Lines.{lost_line}
-use Rattle.tape_cmd.specs.Outcome.{Outcome, refused, carried_out}
+use Rattle.tape_cmd.specs.Outcome.{CommandOutcome, refused, carried_out}
 use Rattle.tape_cmd.specs.Place.{HasPlace}
 
-abbrev pub LoseOutcome : (segment sector : ℕ) → Option Cartridge → Outcome → Type 0
+abbrev pub LoseOutcome : (segment sector : ℕ) → Option Cartridge → CommandOutcome → Type 0
 LoseOutcome segment sector None outcome = outcome ≡ refused status.NoCartridge
 LoseOutcome segment sector (Some c) outcome =
     (¬ (HasPlace c segment sector) × (outcome ≡ refused status.BadPlace))

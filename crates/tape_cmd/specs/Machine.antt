@@ -20,7 +20,7 @@ use Rattle.tape_script.specs.Words.{IsCommand}
 use Rattle.tape_cmd.specs.declared.status.Status.{Status}
 use Rattle.tape_cmd.specs.declared.status.Status.TheVariants as status
 use Rattle.tape_cmd.specs.Lines.{blank_line, defect_line, lost_line, protected_line, formatted_line, appended_line, list_text, info_text}
-use Rattle.tape_cmd.specs.Outcome.{Outcome, output_of}
+use Rattle.tape_cmd.specs.Outcome.{CommandOutcome, output_of}
 use Rattle.tape_cmd.specs.New.{NewOutcome}
 use Rattle.tape_cmd.specs.Defect.{DefectOutcome}
 use Rattle.tape_cmd.specs.Lose.{LoseOutcome}
@@ -47,7 +47,7 @@ HasValues (words.Make seed count) = count ≤ 200
 HasValues command = Unit {0}
 
 -- a command over what the drive holds and an input
-abbrev pub Yields : Words → (held : Option Cartridge) (input : List ℕ) → Outcome → Type 0
+abbrev pub Yields : Words → (held : Option Cartridge) (input : List ℕ) → CommandOutcome → Type 0
 Yields (words.New segments) held input outcome = NewOutcome segments outcome
 Yields (words.Defect segment sector) held input outcome = DefectOutcome segment sector held outcome
 Yields (words.Lose segment sector) held input outcome = LoseOutcome segment sector held outcome
@@ -134,5 +134,5 @@ ReadsCommand words (Some command) = Spells words command × HasValues command
 abbrev pub Step : (words : List (List ℕ)) (held : Option Cartridge) (input : List ℕ) (held' : Option Cartridge) (output : List ℕ) (taken : ℕ) → Status → Type 0
 Step words held input held' output taken answer =
     (SpellsNone words × (held' ≡ held) × (output ≡ []) × (taken ≡ 0) × (answer ≡ status.Usage))
-    ⊎ ((command : Words) × Spells words command × ((outcome : Outcome) × Yields command held input outcome
+    ⊎ ((command : Words) × Spells words command × ((outcome : CommandOutcome) × Yields command held input outcome
     × (held' ≡ effects (steps_of outcome.acts) held) × (output ≡ output_of outcome) × (taken ≡ outcome.taken) × (answer ≡ outcome.status)))

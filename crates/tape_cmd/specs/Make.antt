@@ -11,7 +11,7 @@ use Rattle.made_volumes.specs.Machine as made
 use Rattle.tape_cmd.specs.declared.status.Status.{Status}
 use Rattle.tape_cmd.specs.declared.status.Status.TheVariants as status
 use Rattle.tape_cmd.specs.Opening.{Going, WritableOutcome, settling_act}
-use Rattle.tape_cmd.specs.Outcome.{Outcome}
+use Rattle.tape_cmd.specs.Outcome.{CommandOutcome}
 
 -- how a run's answer is answered
 abbrev pub make_status : Answer → Status
@@ -23,11 +23,11 @@ make_status (made.Lost segment lost) = status.Lost segment lost
 make_status (made.Mismatch segment) = status.Mismatch segment
 
 -- the settling of the table, and then these acts
-abbrev pub made_on : (table : List (List ℕ)) → Cartridge → List Act → Answer → Outcome
+abbrev pub made_on : (table : List (List ℕ)) → Cartridge → List Act → Answer → CommandOutcome
 made_on table c acts answer = record { acts = settling_act table c ∷ acts; taken = 0; status = make_status answer }
 
 -- the steps of a run are carried out on the settled cartridge
-pub record MakesOn (seed count : ℕ) (c : Cartridge) (words : List ℕ) (table : List (List ℕ)) (entries : List Entry) (outcome : Outcome) : Type 0 where
+pub record MakesOn (seed count : ℕ) (c : Cartridge) (words : List ℕ) (table : List (List ℕ)) (entries : List Entry) (outcome : CommandOutcome) : Type 0 where
   pub acts : List Act
   pub answer : Answer
   pub makes : Makes seed count (settled table c) words entries acts answer
@@ -36,7 +36,7 @@ pub record MakesOn (seed count : ℕ) (c : Cartridge) (words : List ℕ) (table 
 abbrev pub Making : (seed count : ℕ) → Going
 Making seed count c header words table entries outcome = MakesOn seed count c words table entries outcome
 
-abbrev pub MakeOutcome : (seed count : ℕ) → Option Cartridge → Outcome → Type 0
+abbrev pub MakeOutcome : (seed count : ℕ) → Option Cartridge → CommandOutcome → Type 0
 MakeOutcome seed count held outcome = WritableOutcome (Making seed count) held outcome
 
 -- the answer that the end of a run makes

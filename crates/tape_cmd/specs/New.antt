@@ -2,7 +2,7 @@
 use Rattle.std.specs.Prelude.{◌≡◌, ℕ}
 use Rattle.qic_base.specs.Step.{Renew}
 use Rattle.tape_cmd.specs.Lines.{blank_line}
-use Rattle.tape_cmd.specs.Outcome.{Outcome, carried_out}
+use Rattle.tape_cmd.specs.Outcome.{CommandOutcome, carried_out}
 
-abbrev pub NewOutcome : (segments : ℕ) → Outcome → Type 0
+abbrev pub NewOutcome : (segments : ℕ) → CommandOutcome → Type 0
 NewOutcome segments outcome = outcome ≡ carried_out (Renew segments) (blank_line segments)

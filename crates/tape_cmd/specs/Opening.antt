@@ -21,7 +21,7 @@ use Rattle.volume_store.specs.Mounting.{StoreView, StoreFits, IsSettling}
 use Rattle.tape_cmd.specs.declared.status.Status.{Status}
 use Rattle.tape_cmd.specs.declared.status.Status.TheVariants as status
 use Rattle.acts.specs.Acts.{Act}
-use Rattle.tape_cmd.specs.Outcome.{Outcome, refused, acted}
+use Rattle.tape_cmd.specs.Outcome.{CommandOutcome, refused, acted}
 
 -- ---- the plain machine
 
@@ -31,10 +31,10 @@ foreign fault = status.Foreign fault.field fault.value
 
 -- what a command does on a cartridge that is mounted with this header, these words, these data of the table and these volumes
 abbrev pub Going : Type 1
-Going = Cartridge → Header → (words : List ℕ) → (table : List (List ℕ)) → List Entry → Outcome → Type 0
+Going = Cartridge → Header → (words : List ℕ) → (table : List (List ℕ)) → List Entry → CommandOutcome → Type 0
 
 -- what it does by what the mounting gives
-abbrev pub Opened : Going → Cartridge → Mounting → Outcome → Type 0
+abbrev pub Opened : Going → Cartridge → Mounting → CommandOutcome → Type 0
 Opened goes c mounting.NotFormatted outcome = outcome ≡ refused status.NotFormatted
 Opened goes c (mounting.Foreign fault) outcome = outcome ≡ refused (foreign fault)
 Opened goes c (mounting.TableLost lost) outcome = outcome ≡ refused (status.Lost 2 lost)
@@ -42,12 +42,12 @@ Opened goes c mounting.TableMismatch outcome = outcome ≡ refused status.TableM
 Opened goes c (mounting.Mounted header words table entries) outcome = goes c header words table entries outcome
 
 -- and by what the drive holds
-abbrev pub OpenOutcome : Going → Option Cartridge → Outcome → Type 0
+abbrev pub OpenOutcome : Going → Option Cartridge → CommandOutcome → Type 0
 OpenOutcome goes None outcome = outcome ≡ refused status.NoCartridge
 OpenOutcome goes (Some c) outcome = (m : Mounting) × Mounts c m × Opened goes c m outcome
 
 -- what a command does that writes on the cartridge: a protected one is refused, whether it mounts or not
-abbrev pub WritableOutcome : Going → Option Cartridge → Outcome → Type 0
+abbrev pub WritableOutcome : Going → Option Cartridge → CommandOutcome → Type 0
 WritableOutcome goes None outcome = outcome ≡ refused status.NoCartridge
 WritableOutcome goes (Some c) outcome =
     ((c.info.protected ≡ true) × (outcome ≡ refused status.Protected))

@@ -4,8 +4,8 @@ use Rattle.qic_base.specs.Cartridge.{Cartridge}
 use Rattle.qic_base.specs.Step.{SetProtected}
 use Rattle.tape_cmd.specs.declared.status.Status.TheVariants as status
 use Rattle.tape_cmd.specs.Lines.{protected_line}
-use Rattle.tape_cmd.specs.Outcome.{Outcome, refused, carried_out}
+use Rattle.tape_cmd.specs.Outcome.{CommandOutcome, refused, carried_out}
 
-abbrev pub ProtectOutcome : Bool → Option Cartridge → Outcome → Type 0
+abbrev pub ProtectOutcome : Bool → Option Cartridge → CommandOutcome → Type 0
 ProtectOutcome on None outcome = outcome ≡ refused status.NoCartridge
 ProtectOutcome on (Some c) outcome = outcome ≡ carried_out (SetProtected on) (protected_line on)

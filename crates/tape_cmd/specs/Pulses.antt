@@ -9,14 +9,14 @@ use Rattle.tape_pulses.specs.Pulses as pulses
 use Rattle.tape_pulses.specs.Pulses.{PulsesOutcome, Answer, AllSent, ScriptFault, train_acts}
 use Rattle.tape_cmd.specs.declared.status.Status.{Status}
 use Rattle.tape_cmd.specs.declared.status.Status.TheVariants as status
-use Rattle.tape_cmd.specs.Outcome.{Outcome}
+use Rattle.tape_cmd.specs.Outcome.{CommandOutcome}
 
 -- how the sending of an input's trains is answered
 abbrev pub sent_status : Answer → Status
 sent_status AllSent = status.Done
 sent_status (ScriptFault line place) = status.ScriptFault line place
 
-abbrev pub sent : pulses.PulseRun → Outcome
+abbrev pub sent : pulses.PulseRun → CommandOutcome
 sent came = record { acts = came.acts; taken = came.taken; status = sent_status came.answer }
 
 -- what the drive knows of its cartridge
@@ -24,7 +24,7 @@ abbrev pub info_of : Option Cartridge → Option TapeInfo
 info_of held = option_map (λ c. c.info) held
 
 -- `pulses` needs no cartridge
-abbrev pub SentOutcome : (held : Option Cartridge) (input : List ℕ) → Outcome → Type 0
+abbrev pub SentOutcome : (held : Option Cartridge) (input : List ℕ) → CommandOutcome → Type 0
 SentOutcome held input outcome = (came : pulses.PulseRun) × PulsesOutcome (info_of held) input came × (outcome ≡ sent came)
 
 -- the levels of some trains, over some cartridge or none

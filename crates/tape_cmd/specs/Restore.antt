@@ -10,7 +10,7 @@ use Rattle.volume_store.specs.Restoring.{volume_at}
 use Rattle.tape_cmd.specs.declared.status.Status.{Status}
 use Rattle.tape_cmd.specs.declared.status.Status.TheVariants as status
 use Rattle.tape_cmd.specs.Opening.{Going, OpenOutcome, settling_act}
-use Rattle.tape_cmd.specs.Outcome.{Outcome, refused_behind}
+use Rattle.tape_cmd.specs.Outcome.{CommandOutcome, refused_behind}
 
 -- the answer to how a restore ended
 abbrev pub ending_status : Ending → Status
@@ -19,7 +19,7 @@ ending_status (LostIn segment lost) = status.Lost segment lost
 ending_status (MismatchIn segment) = status.Mismatch segment
 
 -- there is such a volume, and the settled cartridge gives this of it
-pub record RestoresOn (c : Cartridge) (words : List ℕ) (table : List (List ℕ)) (entries : List Entry) (number : ℕ) (outcome : Outcome) : Type 0 where
+pub record RestoresOn (c : Cartridge) (words : List ℕ) (table : List (List ℕ)) (entries : List Entry) (number : ℕ) (outcome : CommandOutcome) : Type 0 where
   pub entry : Entry
   pub numbered : volume_at entries number ≡ Some entry
   pub acts : List Act
@@ -32,5 +32,5 @@ Gives number c header words table entries outcome =
     ((volume_at entries number ≡ None) × (outcome ≡ refused_behind (settling_steps table c) (status.NoVolume number (length entries))))
     ⊎ RestoresOn c words table entries number outcome
 
-abbrev pub RestoreOutcome : (number : ℕ) → Option Cartridge → Outcome → Type 0
+abbrev pub RestoreOutcome : (number : ℕ) → Option Cartridge → CommandOutcome → Type 0
 RestoreOutcome number held outcome = OpenOutcome (Gives number) held outcome

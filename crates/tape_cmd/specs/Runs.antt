@@ -12,7 +12,7 @@ use Rattle.tape_script.specs.declared.words.Words.TheVariants as words
 use Rattle.tape_cmd.specs.declared.status.Status.{Status}
 use Rattle.tape_cmd.specs.declared.status.Status.TheVariants as status
 use Rattle.tape_cmd.specs.Opening.{is_refused}
-use Rattle.tape_cmd.specs.Outcome.{Outcome, output_of}
+use Rattle.tape_cmd.specs.Outcome.{CommandOutcome, output_of}
 use Rattle.tape_cmd.specs.Traits.{traits_of}
 use Rattle.tape_cmd.specs.Machine.{Yields, CommandPrints, FrontPrints, RefusedPrints, HasInputFault}
 
@@ -108,7 +108,7 @@ pub record NamesFault (command : Words) (input : List ℕ) (answer : Status) : T
 
 -- It was carried out or refused: all acts of its outcome went.
 pub record Finished {T S K : Type 0} (t : tapes.Meaning T) (s : sources.Meaning S) (k : sinks.Meaning K) (command : Words) (old new : Outside T S K) (answer : Status) : Type 0 where
-  pub outcome : Outcome
+  pub outcome : CommandOutcome
   pub answered : answer ≡ outcome.status
   -- over what is told the plain machine's
   pub told : OverTold t s old (λ held input. IsOfBytes command (s.left old.source) input × Yields command held input outcome)
@@ -130,7 +130,7 @@ acts_before t s k old new acts SinkFails cut = cut.at.front
 
 -- A fault of an object cut the acts of an outcome off. A command that prints once all is done had printed nothing before;
 -- where it is the sink's, it was carried out, and all steps were done.
-pub record IsCutOff {T S K : Type 0} (t : tapes.Meaning T) (s : sources.Meaning S) (k : sinks.Meaning K) (command : Words) (old new : Outside T S K) (failing : Failing) (outcome : Outcome) : Type 0 where
+pub record IsCutOff {T S K : Type 0} (t : tapes.Meaning T) (s : sources.Meaning S) (k : sinks.Meaning K) (command : Words) (old new : Outside T S K) (failing : Failing) (outcome : CommandOutcome) : Type 0 where
   pub cut : Cut t s k old new outcome.acts failing
   pub done : failing ≡ SinkFails → (traits_of command).goes ≡ false →
       (outcome.status ≡ status.Done) × tapes.Done t old.tape new.tape (steps_of outcome.acts)
@@ -140,7 +140,7 @@ pub record IsCutOff {T S K : Type 0} (t : tapes.Meaning T) (s : sources.Meaning 
 pub record Stopped {T S K : Type 0} (t : tapes.Meaning T) (s : sources.Meaning S) (k : sinks.Meaning K) (command : Words) (old new : Outside T S K) (failing : Failing) : Type 0 where
   -- over what is told in the acts of the plain machine's outcome
   pub told : OverTold t s old (λ held input. IsOfBytes command (s.left old.source) input
-      × ((outcome : Outcome) → Yields command held input outcome → IsCutOff t s k command old new failing outcome))
+      × ((outcome : CommandOutcome) → Yields command held input outcome → IsCutOff t s k command old new failing outcome))
   -- and over any tape and source in some that print a front of the command's text
   pub acts : List Act
   pub cut : Cut t s k old new acts failing

@@ -7,10 +7,10 @@ use Rattle.cartridge_spec.specs.Table.{Entry}
 use Rattle.scrub_plan.specs.Scrubbing.{Scrubs}
 use Rattle.tape_cmd.specs.declared.status.Status.TheVariants as status
 use Rattle.tape_cmd.specs.Opening.{Going, WritableOutcome, settling_act}
-use Rattle.tape_cmd.specs.Outcome.{Outcome}
+use Rattle.tape_cmd.specs.Outcome.{CommandOutcome}
 
 -- the settled cartridge is scrubbed so
-pub record ScrubsOn (c : Cartridge) (words : List ℕ) (table : List (List ℕ)) (entries : List Entry) (outcome : Outcome) : Type 0 where
+pub record ScrubsOn (c : Cartridge) (words : List ℕ) (table : List (List ℕ)) (entries : List Entry) (outcome : CommandOutcome) : Type 0 where
   pub acts : List Act
   pub scrubs : Scrubs (settled table c) words entries acts
   pub is : outcome ≡ record { acts = settling_act table c ∷ acts; taken = 0; status = status.Done }
@@ -18,5 +18,5 @@ pub record ScrubsOn (c : Cartridge) (words : List ℕ) (table : List (List ℕ))
 abbrev pub Mends : Going
 Mends c header words table entries outcome = ScrubsOn c words table entries outcome
 
-abbrev pub ScrubOutcome : Option Cartridge → Outcome → Type 0
+abbrev pub ScrubOutcome : Option Cartridge → CommandOutcome → Type 0
 ScrubOutcome held outcome = WritableOutcome Mends held outcome

@@ -9,7 +9,7 @@ use Rattle.made_volumes.specs.Items.{wearing_in}
 use Rattle.made_volumes.specs.Machine.{Done}
 use Rattle.made_volumes.specs.Runs.{HasRun, RunEnds}
 use Rattle.made_volumes.proofs.Going.{segments_begun, segments_next, segments_failed, of_entry}
-use Rattle.made_volumes.proofs.Segments.{carrying_below}
+use Rattle.segment_mending.proofs.Looked.{carrying_below}
 use Rattle.made_volumes.proofs.Stores.{lies}
 use Rattle.made_volumes.proofs.wearing.wear_volume.Goals as goal
 

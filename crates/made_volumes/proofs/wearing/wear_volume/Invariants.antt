@@ -1,7 +1,7 @@
 -- The segments below the present one were gone through.
 use Rattle.std.proofs.Common.{◌≡◌, ℕ, ◌≤◌}
 use Rattle.acts.specs.Around.{around, no_sink}
-use Rattle.made_volumes.proofs.Segments.{carrying_below}
+use Rattle.segment_mending.proofs.Looked.{carrying_below}
 use Rattle.volume_store.specs.Mounting.{StoreFits}
 use Rattle.made_volumes.specs.Items.{wearing_in}
 use Rattle.made_volumes.specs.Machine.{Done}

@@ -10,7 +10,7 @@ use Rattle.drive_states.specs.declared.fault.HandFault.TheVariants as hand
 use Rattle.tape_script.specs.declared.words.Words.TheVariants.{Defect}
 use Rattle.tape_cmd.specs.declared.status.Status.TheVariants as status
 use Rattle.tape_cmd.specs.Lines.{defect_line}
-use Rattle.tape_cmd.specs.Outcome.{Outcome, carried_out, refused, refused_behind, first_steps}
+use Rattle.tape_cmd.specs.Outcome.{CommandOutcome, carried_out, refused, refused_behind, first_steps}
 use Rattle.tape_cmd.proofs.Endings.{IsBlind, Rules, printed, turned_down, turned_behind, cut_off, cut_off_first, defect_absent, defect_misplaced, defect_placed, defect_front, defect_formatted}
 use Rattle.tape_cmd.proofs.Hands.{told_at_start, known_before, told_known, told_known_beside, reached, unknown, no_place}
 use Rattle.tape_cmd.proofs.defect.spoil.Goals as goal
@@ -71,7 +71,7 @@ returns-in-Err-Tape g c =
     c.spoil.ensures.absent c.spoil.ensures.misplaced c.spoil.ensures.placed (λ is. let other = is in cc) (λ is. let other = is in cc) in
     let before = known_before g.T.Tape.means c.args.unit.now.tape c.insert.new.self.tape _ c.in_default.ensures.did c.in_default.ensures.inserted.known.told in
     cut_off g.T.Tape.means g.K.Sink.means (Defect c.args.segment c.args.sector) is_blind c.args.unit.now.tape c.spoil.new.self.tape c.args.sink.now (Spoil c.args.segment c.args.sector ∷ []) g.met.K.Sink.took_nothing
-    (told_known _ _ (λ h. (outcome : Outcome) → Rules (Defect c.args.segment c.args.sector) h outcome → (rest : List TapeStep) × ((Spoil c.args.segment c.args.sector ∷ []) ++ rest ≡ first_steps outcome)) before (λ held known. λ outcome rules. ([], defect_front c.args.segment c.args.sector came.info held outcome (sym came.known ∙ known) came.place (rules []))))
+    (told_known _ _ (λ h. (outcome : CommandOutcome) → Rules (Defect c.args.segment c.args.sector) h outcome → (rest : List TapeStep) × ((Spoil c.args.segment c.args.sector ∷ []) ++ rest ≡ first_steps outcome)) before (λ held known. λ outcome rules. ([], defect_front c.args.segment c.args.sector came.info held outcome (sym came.known ∙ known) came.place (rules []))))
     (Broke-after_reads c.in_default.ensures.did (rw is at came.fact))
 
 pub returns-in-Err : goal.returns-in-Err

@@ -8,7 +8,7 @@ use Rattle.drive_states.specs.declared.fault.HandFault.TheVariants as hand
 use Rattle.tape_script.specs.declared.words.Words.TheVariants.{Lose}
 use Rattle.tape_cmd.specs.declared.status.Status.TheVariants as status
 use Rattle.tape_cmd.specs.Lines.{lost_line}
-use Rattle.tape_cmd.specs.Outcome.{Outcome, carried_out, refused, first_steps}
+use Rattle.tape_cmd.specs.Outcome.{CommandOutcome, carried_out, refused, first_steps}
 use Rattle.tape_cmd.proofs.Endings.{IsBlind, Rules, printed, turned_down, cut_off, cut_off_first, lose_absent, lose_misplaced, lose_placed, lose_front}
 use Rattle.tape_cmd.proofs.Hands.{known_before, told_known, reached, unknown, no_place}
 use Rattle.tape_cmd.proofs.lose.lose.Goals as goal
@@ -56,7 +56,7 @@ returns-in-Err-Tape g c =
     c.wear.ensures.absent c.wear.ensures.misplaced c.wear.ensures.placed (λ is. let other = is in cc) (λ is. let other = is in cc) in
     let before = known_before g.T.Tape.means c.args.unit.now.tape c.insert.new.self.tape _ c.in_default.ensures.did c.in_default.ensures.inserted.known.told in
     cut_off g.T.Tape.means g.K.Sink.means (Lose c.args.segment c.args.sector) is_blind c.args.unit.now.tape c.wear.new.self.tape c.args.sink.now (Wear c.args.segment c.args.sector ∷ []) g.met.K.Sink.took_nothing
-    (told_known _ _ (λ h. (outcome : Outcome) → Rules (Lose c.args.segment c.args.sector) h outcome → (rest : List TapeStep) × ((Wear c.args.segment c.args.sector ∷ []) ++ rest ≡ first_steps outcome)) before (λ held known. λ outcome rules. ([], lose_front c.args.segment c.args.sector came.info held outcome (sym came.known ∙ known) came.place (rules []))))
+    (told_known _ _ (λ h. (outcome : CommandOutcome) → Rules (Lose c.args.segment c.args.sector) h outcome → (rest : List TapeStep) × ((Wear c.args.segment c.args.sector ∷ []) ++ rest ≡ first_steps outcome)) before (λ held known. λ outcome rules. ([], lose_front c.args.segment c.args.sector came.info held outcome (sym came.known ∙ known) came.place (rules []))))
     (Broke-after_reads c.in_default.ensures.did (rw is at came.fact))
 
 pub returns-in-Err : goal.returns-in-Err

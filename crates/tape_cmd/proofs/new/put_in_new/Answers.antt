@@ -3,7 +3,7 @@ use Rattle.qic_base.specs.Cartridge.{Cartridge}
 use Rattle.qic_base.specs.Step.{Renew}
 use Rattle.tape_script.specs.declared.words.Words.TheVariants.{New}
 use Rattle.tape_cmd.specs.Lines.{blank_line}
-use Rattle.tape_cmd.specs.Outcome.{Outcome, carried_out, first_steps}
+use Rattle.tape_cmd.specs.Outcome.{CommandOutcome, carried_out, first_steps}
 use Rattle.tape_cmd.proofs.Endings.{IsBlind, Rules, printed, cut_off}
 use Rattle.tape_cmd.proofs.new.put_in_new.Goals as goal
 
@@ -15,9 +15,9 @@ always : (segments : _) (held : Option (Option Cartridge)) → IfSome held (λ h
 always segments None = tt
 always segments (Some h) = λ input. refl
 
-front : (segments : _) (held : Option (Option Cartridge)) → IfSome held (λ h. (outcome : Outcome) → Rules (New segments) h outcome → (rest : List _) × ((Renew segments ∷ []) ++ rest ≡ first_steps outcome))
+front : (segments : _) (held : Option (Option Cartridge)) → IfSome held (λ h. (outcome : CommandOutcome) → Rules (New segments) h outcome → (rest : List _) × ((Renew segments ∷ []) ++ rest ≡ first_steps outcome))
 front segments None = tt
-front segments (Some h) = λ outcome rules. ([], sym (ap (λ (o : Outcome). first_steps o) (rules [])))
+front segments (Some h) = λ outcome rules. ([], sym (ap (λ (o : CommandOutcome). first_steps o) (rules [])))
 
 pub returns-in-Ok : goal.returns-in-Ok
 returns-in-Ok g c =

@@ -8,7 +8,7 @@ use Rattle.drive_states.specs.declared.fault.HandFault.TheVariants as hand
 use Rattle.tape_script.specs.declared.words.Words.TheVariants.{Protect}
 use Rattle.tape_cmd.specs.declared.status.Status.TheVariants as status
 use Rattle.tape_cmd.specs.Lines.{protected_line}
-use Rattle.tape_cmd.specs.Outcome.{Outcome, carried_out, refused, first_steps}
+use Rattle.tape_cmd.specs.Outcome.{CommandOutcome, carried_out, refused, first_steps}
 use Rattle.tape_cmd.proofs.Endings.{IsBlind, Rules, printed, turned_down, cut_off, cut_off_first, protect_absent, protect_present, protect_front}
 use Rattle.tape_cmd.proofs.Hands.{known_before, told_known, switched, no_switch}
 use Rattle.tape_cmd.proofs.protect.protect.Goals as goal
@@ -41,7 +41,7 @@ returns-in-Err-Tape g c =
     let came = switched _ c.protect.result (Replaces g.T.Tape.means c.insert.new.self c.protect.new.self (SetProtected c.args.on)) _ c.protect.ensures.absent c.protect.ensures.present (λ no. cc) in
     let before = known_before g.T.Tape.means c.args.unit.now.tape c.insert.new.self.tape _ c.in_default.ensures.did c.in_default.ensures.inserted.known.told in
     cut_off g.T.Tape.means g.K.Sink.means (Protect c.args.on) is_blind c.args.unit.now.tape c.protect.new.self.tape c.args.sink.now (SetProtected c.args.on ∷ []) g.met.K.Sink.took_nothing
-    (told_known _ _ (λ h. (outcome : Outcome) → Rules (Protect c.args.on) h outcome → (rest : List TapeStep) × ((SetProtected c.args.on ∷ []) ++ rest ≡ first_steps outcome)) before (λ held known. λ outcome rules. ([], protect_front c.args.on came.info held outcome (sym came.known ∙ known) (rules []))))
+    (told_known _ _ (λ h. (outcome : CommandOutcome) → Rules (Protect c.args.on) h outcome → (rest : List TapeStep) × ((SetProtected c.args.on ∷ []) ++ rest ≡ first_steps outcome)) before (λ held known. λ outcome rules. ([], protect_front c.args.on came.info held outcome (sym came.known ∙ known) (rules []))))
     (Broke-after_reads c.in_default.ensures.did (rw is at came.fact).1)
 
 pub returns-in-Err : goal.returns-in-Err
