@@ -1,12 +1,13 @@
 -- A segment says at most one thing, and what was written is said.
-use Rattle.std.proofs.Common.{◌≡◌, ℕ, ◌+◌, ◌-◌, ◌≤◌, refl, sym, ◌∙◌, ap, subst, arith, List, length, drop, ◌++◌, All}
-use Rattle.std.proofs.lemmas.List.{length-append, length-drop, length-take-le, take-append-drop, take_at}
+use Rattle.std.proofs.Common.{◌≡◌, ℕ, ◌+◌, ◌-◌, ◌≤◌, refl, sym, ◌∙◌, ap, subst, arith, List, length, take, drop, ◌++◌, All}
+use Rattle.std.proofs.Math.ListN.{drop_of_length-le}
+use Rattle.std.proofs.lemmas.List.{append-nil, length-append, length-drop, length-take-le, take-append-drop, take_at}
 use Rattle.std.proofs.lemmas.List.Elements.{All-take, All-weaker}
 use Rattle.qic_base.specs.declared.tape.SectorView.{SectorView}
 use Rattle.qic_base.specs.Cartridge as cartridges
 use Rattle.gf256_qic.specs.Code.{IsSector, IsCodeBlock, parity_sectors}
 use Rattle.gf256_qic.proofs.Parities.{block_count, parity_block, parity_block_only, length-parity_sectors}
-use Rattle.cartridge_spec.specs.Says.{Data, LostSectors, Mismatch, Agrees, HasBlock, unreadable_count, data_of}
+use Rattle.cartridge_spec.specs.Says.{Data, LostSectors, Mismatch, Agrees, HasBlock, unreadable_count, data_of, with_parity}
 use Rattle.cartridge_spec.specs.SayingLaws.{SaysIsFunction, SectorNotionsAgree, WrittenIsSaid, WrittenIsLost, SaidIsWritten, SaidAreSectors}
 use Rattle.cartridge_spec.proofs.Cells.{one_agreeing_block}
 
@@ -31,6 +32,15 @@ says_is_function cells (LostSectors m) Mismatch ha hb = absurd (omega (arith, hb
 says_is_function cells Mismatch (Data ys) ha hb = absurd (ha.1 hb.1.block hb.1.code hb.1.agrees)
 says_is_function cells Mismatch (LostSectors n) ha hb = absurd (omega (arith, ha.0, hb.0, hb.1))
 says_is_function cells Mismatch Mismatch ha hb = refl
+
+-- ---- the parity put behind the data of a whole segment
+
+pub parity_put : (old new : List (List ℕ)) → length old ≡ 32 →
+    new ≡ take 29 old ++ parity_sectors (take 29 old) ++ drop 32 old → new ≡ with_parity (take 29 old)
+parity_put old new long is =
+    is
+    ∙ ap (λ (l : List (List ℕ)). take 29 old ++ parity_sectors (take 29 old) ++ l) (drop_of_length-le old {i = 32} (omega (arith, long)))
+    ∙ ap (λ (l : List (List ℕ)). take 29 old ++ l) (append-nil (parity_sectors (take 29 old)))
 
 -- ---- the two notions of a sector
 

@@ -1,9 +1,7 @@
 -- The writes of a header copy, as parts of the block.
-use Rattle.std.proofs.Common.{◌≡◌, ℕ, ◌-◌, refl, sym, ◌∙◌, ap, arith, List, [], ◌++◌, length, take, drop}
+use Rattle.std.proofs.Common.{◌≡◌, ℕ, refl, sym, ◌∙◌, ap, List, ◌++◌, length, take, drop}
 use Rattle.std.specs.List.{range_with_len}
-use Rattle.std.proofs.Math.ListN.{drop_of_length-le}
-use Rattle.std.proofs.lemmas.List.{append-nil, length-drop, take_at}
-use borrow.Rule.Slice.PartMut.{put_mid, post_of}
+use Rattle.std.proofs.lemmas.List.{take_at}
 use Rattle.gf256_qic.specs.Code.{parity_sectors}
 use Rattle.qic_base.specs.LostSet.{lost_places}
 use Rattle.cartridge_spec.specs.Shape.{usable_places, usable_count}
@@ -25,12 +23,6 @@ pub copy_is : (copy : ℕ) (sectors : List (List ℕ)) → length sectors ≡ 32
 copy_is copy sectors size = sym (copy_writes_by_places copy sectors size)
 
 -- ---- the block
-
--- what is put behind the first 29 of 32
-pub put_last : (xs ys : List (List ℕ)) → length xs ≡ 32 → put_mid 29 (length xs - 29) xs ys ≡ take 29 xs ++ ys
-put_last xs ys size =
-    let rest : post_of 29 (length xs - 29) xs ≡ [] = drop_of_length-le (drop 29 xs) {i = length xs - 29} (omega (arith, length-drop 29 xs)) in
-    ap (λ (l : List (List ℕ)). take 29 xs ++ (ys ++ l)) rest ∙ ap (λ (l : List (List ℕ)). take 29 xs ++ l) (append-nil ys)
 
 -- the data sectors are the first 29 of the block
 pub block_data : (area : List (List ℕ)) → length area ≡ 29 → take 29 (with_parity area) ≡ area

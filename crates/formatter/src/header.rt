@@ -4,7 +4,6 @@ ghost use Rattle.std.specs.Prelude.{◌≡◌, ◌<◌, ◌*◌, true, false, le
 ghost use Rattle.qic_base.specs.Cartridge.{IsLength};
 ghost use Rattle.qic_base.specs.Tape.{Does};
 ghost use Rattle.cartridge_spec.specs.Header.{SpellsHeader};
-ghost use Rattle.cartridge_spec.specs.HeaderAndTable.{IsArea};
 ghost use Rattle.header_segments.specs.Header.{header_of};
 ghost use Rattle.drive_states.specs.Deck.{segments_per_track, is_stopped, is_protected, is_referenced};
 ghost use Rattle.host_driver.specs.Calls.{IsReady, MayWrite, Keeps};
@@ -23,7 +22,7 @@ use host_driver::Host;
 use qic_base::{LostSet, Name, Tape};
 use qic117_commands::Mode;
 use segment_io::{SegFault, Workspace, write_sectors};
-use segment_parity::parity_of;
+use segment_parity::put_parity;
 use tape_geometry::Geometry;
 
 /// The data sectors of a header copy.
@@ -75,10 +74,10 @@ fn spell(geometry: Geometry, label: &Name, date: u32, map: &BadMap, sectors: &mu
         label_date: date,
     };
     put_header(&header, map, sectors);
-    put_parity(sectors);
+    put_parity(sectors, DATA_SECTORS);
 }
 
-// SpellsHeader the header and the map in the data sectors.
+// Spells the header and the map in the data sectors.
 fn put_header(header: &Header, map: &BadMap, sectors: &mut [[u8; SECTOR]])
     requires long { IsLength header.now.segments_per_track }
     requires words { length map.now ≡ 28 * header.now.segments_per_track }
@@ -86,16 +85,6 @@ fn put_header(header: &Header, map: &BadMap, sectors: &mut [[u8; SECTOR]])
     ensures { SpellsHeader (header_of header.now) map.now (take 29 sectors.new) }
 {
     encode(header, map, &mut sectors[..DATA_SECTORS]);
-}
-
-// Puts the parity of the data sectors behind them.
-fn put_parity(sectors: &mut [[u8; SECTOR]])
-    requires { length sectors.old ≡ 32 }
-    ensures parity { sectors.new ≡ with_parity (take 29 sectors.old) }
-    ensures area { IsArea (take 29 sectors.old) }
-{
-    let parity = parity_of(&sectors[..DATA_SECTORS]);
-    sectors[DATA_SECTORS..].copy_from_slice(&parity);
 }
 
 // Writes the sectors of a header copy: 1 to 31, ascending, and then sector 0, without which the copy can't be read.

@@ -57,7 +57,7 @@ fn write_told(sector: &mut [u8; 1024], header: &Header)
     write_u32(sector, 74, label_date);
 }
 
-/// SpellsHeader the header and the map in a data area of 29 sectors. All other bytes become zero.
+/// Spells the header and the map in a data area of 29 sectors. All other bytes become zero.
 pub fn encode(header: &Header, map: &BadMap, into: &mut [[u8; 1024]])
     requires sectors { length into.old ≡ 29 }
     requires long { IsLength header.now.segments_per_track }

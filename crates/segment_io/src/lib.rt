@@ -3,7 +3,6 @@
 #![tactic(auto)]
 
 mod fault;
-mod parity;
 mod reading;
 mod shape;
 mod solving;

@@ -14,14 +14,13 @@ ghost use Rattle.segment_io.specs.Writes.{named_write, next_write, usable_write}
 ghost use Rattle.cartridge_spec.specs.Writes.{block_in, segment_writes, named_writes};
 
 use crate::fault::SegFault;
-use crate::parity::put_parity;
 use crate::shape::count_usable;
 use crate::workspace::Workspace;
 use crate::{SECTOR, SECTORS};
 use drive_states::Unit;
 use host_driver::Host;
 use qic_base::{LostSet, Tape};
-use segment_parity::Parity;
+use segment_parity::{Parity, put_parity};
 
 /// Writes all usable sectors of a segment, ascending: the data in the workspace, at the places before the last three, each
 /// of which goes into the register of the parity as it is written, and then the register's three sectors. The workspace has
@@ -46,7 +45,7 @@ pub fn write_segment<T: Tape>(
     match write_by_register(host, unit, segment, usable, count, &mut work.sectors) {
         Ok(()) => Ok(()),
         Err(fault) => {
-            put_parity(&mut work.sectors, count);
+            put_parity(&mut work.sectors, usize::from(count));
             Err(fault)
         }
     }

@@ -7,6 +7,9 @@ ghost use Rattle.gf256_qic.specs.Code.{parity_sectors, IsSector, IsCodeBlock};
 ghost use Rattle.segment_parity.specs.Register.{pushed, Holds, Shifted};
 
 use gf256_qic::{over_x, times_x};
+pub use putting::put_parity;
+
+mod putting;
 
 const SECTOR: usize = 1024;
 

@@ -36,7 +36,7 @@ fn with_stale(stale: u32, place: u8, held: &[u8; 1024], wanted: &[u8; 1024]) -> 
 
 // Puts the parity behind the data. The answer is the mask of the lost places, and of those of the parity that was
 // another.
-fn put_parity(sectors: &mut [[u8; 1024]], lost: u32, parity: &[[u8; 1024]; 3]) -> u32
+fn replace_parity(sectors: &mut [[u8; 1024]], lost: u32, parity: &[[u8; 1024]; 3]) -> u32
     requires { length sectors.old ≡ 32 }
     ensures sectors { sectors.new ≡ take 29 sectors.old ++ parity.now }
     ensures stale { (i : ℕ) → i < 32 →
@@ -58,7 +58,7 @@ fn renew_parity(lost: LostSet, work: &mut Workspace) -> LostSet
     ensures within { result < 2 ^ 32 }
 {
     let parity = parity_of(data_sectors(work));
-    let stale = put_parity(work.sectors_mut(), lost.mask(), &parity);
+    let stale = replace_parity(work.sectors_mut(), lost.mask(), &parity);
     LostSet::from_mask(stale)
 }
 

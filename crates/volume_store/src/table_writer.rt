@@ -18,7 +18,7 @@ use drive_states::Unit;
 use host_driver::Host;
 use qic_base::{LostSet, Tape};
 use segment_io::{Workspace, write_sectors};
-use segment_parity::parity_of;
+use segment_parity::put_parity;
 use volume_table::{Entry, Table, TableFull};
 
 /// The mask of the places of a whole segment's parity.
@@ -45,15 +45,6 @@ fn put_slot(entry: &Entry, sectors: &mut [[u8; 1024]], table: &mut Table) -> u8
     }
 }
 
-// Puts their parity behind the data.
-fn put_parity(sectors: &mut [[u8; 1024]])
-    requires { length sectors.old ≡ 32 }
-    ensures { sectors.new ≡ with_parity (take 29 sectors.old) }
-{
-    let parity = parity_of(&sectors[..DATA_SECTORS]);
-    sectors[DATA_SECTORS..].copy_from_slice(&parity);
-}
-
 // Puts the entry into the next slot of the data in the workspace, and their parity behind them. The answer is the sector
 // that has the slot.
 fn put_entry(entry: &Entry, work: &mut Workspace, table: &mut Table) -> u8
@@ -70,7 +61,7 @@ fn put_entry(entry: &Entry, work: &mut Workspace, table: &mut Table) -> u8
 {
     let sectors = work.sectors_mut();
     let changed = put_slot(entry, sectors, table);
-    put_parity(sectors);
+    put_parity(sectors, DATA_SECTORS);
     changed
 }
 

@@ -15,18 +15,18 @@ put_in old lent parity new left was is put long =
 
 pub returns-clause-block : goal.returns-clause-block
 returns-clause-block c =
-    put_in c.args.work.now c.sectors_mut.result.now c.parity_of-parity.result c.put_parity-stale.new.sectors (drop (length c.put_parity-stale.new.sectors) c.args.work.now)
-    c.sectors_mut.ensures.value (c.parity_of-parity.ensures.parity ∙ ap parity_sectors c.data_sectors.ensures.value) c.put_parity-stale.ensures.sectors
+    put_in c.args.work.now c.sectors_mut.result.now c.parity_of-parity.result c.replace_parity-stale.new.sectors (drop (length c.replace_parity-stale.new.sectors) c.args.work.now)
+    c.sectors_mut.ensures.value (c.parity_of-parity.ensures.parity ∙ ap parity_sectors c.data_sectors.ensures.value) c.replace_parity-stale.ensures.sectors
     (omega (arith, c.sectors_mut.ensures.size))
 
 pub returns-clause-stale : goal.returns-clause-stale
 returns-clause-stale c = λ i within.
-    let new : List (List ℕ) = c.put_parity-stale.new.sectors in
+    let new : List (List ℕ) = c.replace_parity-stale.new.sectors in
     let left : List (List ℕ) = drop (length new) c.args.work.now in
     let parity : List (List ℕ) = c.parity_of-parity.result in
     let long : length new ≡ 32 = omega (arith, c.sectors_mut.ensures.size) in
     ap (λ (m : ℕ). is_lost m i) c.from_mask.ensures
-    ∙ c.put_parity-stale.ensures.stale i within
+    ∙ c.replace_parity-stale.ensures.stale i within
     ∙ ap (λ (m : ℕ). is_stale m c.sectors_mut.result.now (take 29 c.sectors_mut.result.now ++ parity) i) c.mask.ensures
-    ∙ ap (λ (block : List (List ℕ)). is_stale c.args.lost c.sectors_mut.result.now block i) (sym c.put_parity-stale.ensures.sectors ∙ sym (take_at new left 32 long))
+    ∙ ap (λ (block : List (List ℕ)). is_stale c.args.lost c.sectors_mut.result.now block i) (sym c.replace_parity-stale.ensures.sectors ∙ sym (take_at new left 32 long))
     ∙ ap (λ (old : List (List ℕ)). is_stale c.args.lost old (take 32 (new ++ left)) i) c.sectors_mut.ensures.value

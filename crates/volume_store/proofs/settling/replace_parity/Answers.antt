@@ -1,7 +1,7 @@
 use Rattle.std.proofs.Common.{ℕ, ◌-◌, List, length, ap, ◌∙◌}
 use borrow.Rule.Slice.PartMut.{put_mid}
 use Rattle.volume_store.proofs.Stale.{put_stale_in, put_end}
-use Rattle.volume_store.proofs.settling.put_parity.Goals as goal
+use Rattle.volume_store.proofs.settling.replace_parity.Goals as goal
 
 pub returns-clause-sectors : goal.returns-clause-sectors
 returns-clause-sectors c =
