@@ -40,7 +40,7 @@ pub parity_put : (old new : List (List ℕ)) → length old ≡ 32 →
 parity_put old new long is =
     is
     ∙ ap (λ (l : List (List ℕ)). take 29 old ++ parity_sectors (take 29 old) ++ l) (drop_of_length-le old {i = 32} (omega (arith, long)))
-    ∙ ap (λ (l : List (List ℕ)). take 29 old ++ l) (append-nil (parity_sectors (take 29 old)))
+    ∙ append-nil (take 29 old ++ parity_sectors (take 29 old))
 
 -- ---- the two notions of a sector
 
