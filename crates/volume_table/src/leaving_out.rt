@@ -137,31 +137,32 @@ mod tests {
             let lost = LostSet::from_mask(mask);
             assert_eq!(rt; Table::reading(lost), TableReading::Solve);
             let tried = trials(lost, used);
-            assert_eq!(rt; tried.count, count, "at {mask}");
-            assert!(rt; tried.sets == sets.map(LostSet::from_mask), "at {mask}");
+            let sets = sets.map(LostSet::from_mask);
+            assert!(rt; (tried.count, tried.sets) == (count, sets), "at {mask}");
         }
+    }
+
+    fn last_without(area: &[[u8; 1024]], lost: u32) -> Option<u8>
+        requires { length area.now ≡ 29 }
+    {
+        last_used(area, LostSet::from_mask(lost))
     }
 
     #[test]
     fn the_last_sector_with_a_used_slot_is_found(rt: HostRuntime) -> Result<(), Fail> {
         let mut area = vec![in rt.alloc(); [0u8; 1024]; 29]?;
         assert_eq!(rt; area.len(), 29);
-        assert_eq!(rt; last_used(&area, LostSet::from_mask(0)), None);
+        let empty = last_without(&area, 0);
         write_u32(&mut area[0], 0, SIGNATURE);
         write_u32(&mut area[4], 896, SIGNATURE);
         write_u32(&mut area[6], 4, SIGNATURE);
-        for (lost, want) in [
-            (0, Some(4)),
-            (1 << 4, Some(0)),
-            (0x11, None),
-            (1 << 6, Some(4)),
-        ] {
-            assert_eq!(rt;
-                last_used(&area, LostSet::from_mask(lost)),
-                want,
-                "at {lost}"
-            );
-        }
+        let seen = [
+            last_without(&area, 0),
+            last_without(&area, 1 << 4),
+            last_without(&area, 0x11),
+            last_without(&area, 1 << 6),
+        ];
+        assert_eq!(rt; (empty, seen), (None, [Some(4), Some(0), None, Some(4)]));
         Ok(())
     }
 }

@@ -180,119 +180,129 @@ mod tests {
         }
     }
 
+    /// A data area of zeros.
+    fn zeros(alloc: Global) -> Result<Vec<[u8; 1024]>, Fail>
+        ensures { IfOk result (λ area. length area.items ≡ 29) }
+    {
+        Ok(vec![in alloc; [0u8; 1024]; 29]?)
+    }
+
+    /// A data area whose slot `i` below `volumes` names segment `3 + i` alone.
+    fn area_of(alloc: Global, volumes: u8) -> Result<Vec<[u8; 1024]>, Fail>
+        requires { volumes ≤ 232 }
+        ensures { IfOk result (λ area. length area.items ≡ 29) }
+    {
+        let mut area = zeros(alloc)?;
+        set_volumes(&mut area, volumes);
+        Ok(area)
+    }
+
+    /// The table that an area shows, of a cartridge whose last segment is `last`.
+    fn decoded(alloc: Global, area: &[[u8; 1024]], last: u32) -> Result<Table, Fail>
+        requires { length area.now ≡ 29 }
+        ensures { IfOk result (λ table. Shows area.now table) }
+    {
+        let mut table = Table::new(alloc)?;
+        table.decode(area, last)?;
+        Ok(table)
+    }
+
+    /// How many volumes a table lists, and the first of them.
+    fn first_of(table: &Table) -> (u8, Option<Entry>) {
+        let count = table.len();
+        if count == 0 {
+            return (0, None);
+        }
+        (count, Some(*table.entry(0)))
+    }
+
     #[test]
     fn a_slot_of_the_table_is_read(rt: HostRuntime) -> Result<(), Fail> {
-        let mut area = vec![in rt.alloc(); [0u8; 1024]; 29]?;
-        assert_eq!(rt; area.len(), 29);
-        let sector = &mut area[0];
-        sector[0..128].copy_from_slice(&first_slot());
+        let mut area = zeros(rt.alloc())?;
+        area[0][..128].copy_from_slice(&first_slot());
         let mut table = Table::new(rt.alloc())?;
-        assert!(rt; table.is_empty());
-        assert_eq!(rt; table.decode(&area, 83), Ok(()));
-        assert_eq!(rt; table.len(), 1);
-        assert_eq!(rt; *table.entry(0), first_entry());
+        let seen = (table.is_empty(), table.decode(&area, 83), first_of(&table));
+        assert_eq!(rt; seen, (true, Ok(()), (1, Some(first_entry()))));
         Ok(())
     }
 
     #[test]
     fn an_entry_is_put_and_read_again(rt: HostRuntime) -> Result<(), Fail> {
-        let mut area = vec![in rt.alloc(); [0u8; 1024]; 29]?;
-        assert_eq!(rt; area.len(), 29);
-        let sector = &mut area[0];
-        sector[4..128].copy_from_slice(&[0xAA; 124]);
-        let mut table = Table::new(rt.alloc())?;
-        assert_eq!(rt; table.decode(&area, 83), Ok(()));
-        assert_eq!(rt; table.put(&first_entry(), &mut area), Ok(0));
-        assert_eq!(rt; &area[0][..128], first_slot().as_slice());
-        assert_eq!(rt; &area[0][128..], [0; 896].as_slice());
-        assert_eq!(rt; table.len(), 1);
-        let mut again = Table::new(rt.alloc())?;
-        assert_eq!(rt; again.decode(&area, 83), Ok(()));
-        assert_eq!(rt; again.len(), 1);
-        assert_eq!(rt; *again.entry(0), first_entry());
+        let mut area = zeros(rt.alloc())?;
+        area[0][4..128].copy_from_slice(&[0xAA; 124]);
+        let mut table = decoded(rt.alloc(), &area, 83)?;
+        let put = table.put(&first_entry(), &mut area);
+        let again = decoded(rt.alloc(), &area, 83)?;
+        let sector = &area[0];
+        let mut want = [0; 1024];
+        want[..128].copy_from_slice(&first_slot());
+        assert_eq!(rt;
+            (put, table.len(), first_of(&again), sector),
+            (Ok(0), 1, (1, Some(first_entry())), &want)
+        );
         Ok(())
     }
 
     #[test]
     fn the_last_slot_fills_the_table(rt: HostRuntime) -> Result<(), Fail> {
-        let mut area = vec![in rt.alloc(); [0u8; 1024]; 29]?;
-        assert_eq!(rt; area.len(), 29);
-        set_volumes(&mut area, 231);
+        let mut area = area_of(rt.alloc(), 231)?;
         let mut entry = first_entry();
         entry.start = 234;
         entry.end = 234;
         let mut slot = first_slot();
         slot[4..8].copy_from_slice(b"\xEA\x00\xEA\x00");
-        let mut table = Table::new(rt.alloc())?;
-        assert_eq!(rt; table.decode(&area, 4199), Ok(()));
-        assert_eq!(rt; table.put(&entry, &mut area), Ok(28));
-        assert_eq!(rt; table.decode(&area, 4199), Ok(()));
-        assert_eq!(rt; table.put(&entry, &mut area), Err(TableFull));
-        assert_eq!(rt; &area[28][896..], slot.as_slice());
-        assert_eq!(rt; table.len(), 232);
-        Ok(())
-    }
-
-    #[test]
-    fn a_list_is_shown_by_its_data(rt: HostRuntime) -> Result<(), Fail> {
-        let mut area = vec![in rt.alloc(); [0u8; 1024]; 29]?;
-        assert_eq!(rt; area.len(), 29);
-        set_volumes(&mut area, 231);
-        let mut table = Table::new(rt.alloc())?;
-        assert_eq!(rt; table.decode(&area, 4199), Ok(()));
-        assert!(rt; table.is_shown_by(&area));
-        assert_eq!(rt; table.put(&first_entry(), &mut area), Ok(28));
-        assert!(rt; table.is_shown_by(&area));
+        let mut table = decoded(rt.alloc(), &area, 4199)?;
+        let shown = table.is_shown_by(&area);
+        let put = (table.put(&entry, &mut area), table.is_shown_by(&area));
+        table.decode(&area, 4199)?;
+        let full = (table.put(&entry, &mut area), table.len());
+        assert_eq!(rt;
+            (shown, put, full, &area[28][896..]),
+            (true, (Ok(28), true), (Err(TableFull), 232), slot.as_slice())
+        );
         Ok(())
     }
 
     #[test]
     fn a_list_is_not_shown_by_the_data_of_another(rt: HostRuntime) -> Result<(), Fail> {
-        let mut area = vec![in rt.alloc(); [0u8; 1024]; 29]?;
-        assert_eq!(rt; area.len(), 29);
-        set_volumes(&mut area, 100);
-        let mut table = Table::new(rt.alloc())?;
-        assert_eq!(rt; table.decode(&area, 4199), Ok(()));
+        let area = area_of(rt.alloc(), 100)?;
+        let table = decoded(rt.alloc(), &area, 4199)?;
         for (slot, signature, start, end) in [
             (99, 0, 102, 102),
             (100, SIGNATURE, 103, 103),
             (231, 1, 0, 0),
             (50, SIGNATURE, 53, 54),
         ] {
-            let mut other = vec![in rt.alloc(); [0u8; 1024]; 29]?;
-            assert_eq!(rt; other.len(), 29);
-            set_volumes(&mut other, 100);
+            let mut other = area_of(rt.alloc(), 100)?;
             set_slot(&mut other, slot, signature, start, end);
-            assert!(rt;
-                !table.is_shown_by(&other),
-                "slot {slot}: {signature} {start} {end}"
-            );
+            assert!(rt; !table.is_shown_by(&other), "slot {slot}");
         }
         Ok(())
     }
 
     #[test]
     fn a_full_table_is_read(rt: HostRuntime) -> Result<(), Fail> {
-        let mut area = vec![in rt.alloc(); [0u8; 1024]; 29]?;
-        assert_eq!(rt; area.len(), 29);
-        set_volumes(&mut area, 232);
-        let mut table = Table::new(rt.alloc())?;
-        assert_eq!(rt; table.decode(&area, 4199), Ok(()));
+        let area = area_of(rt.alloc(), 232)?;
+        let table = decoded(rt.alloc(), &area, 4199)?;
         assert_eq!(rt; table.len(), 232);
         for index in 0..232 {
             let entry = table.entry(index);
-            assert_eq!(rt;
-                (entry.start, entry.end),
-                (3 + u16::from(index), 3 + u16::from(index))
-            );
+            let segment = 3 + u16::from(index);
+            assert_eq!(rt; (entry.start, entry.end), (segment, segment));
         }
         Ok(())
     }
 
+    fn foreign(slot: u8) -> Result<(), TableFault> {
+        Err(TableFault::ForeignSlot { slot })
+    }
+
+    fn bad(slot: u8) -> Result<(), TableFault> {
+        Err(TableFault::BadRange { slot })
+    }
+
     #[test]
     fn the_first_fault_is_named(rt: HostRuntime) -> Result<(), Fail> {
-        let foreign = |slot: u8| Err(TableFault::ForeignSlot { slot });
-        let bad = |slot: u8| Err(TableFault::BadRange { slot });
         let used = SIGNATURE;
         let mut table = Table::new(rt.alloc())?;
         for (volumes, slot, signature, start, end, want) in [
@@ -312,17 +322,14 @@ mod tests {
             (232, 231, used, 234, 501, bad(231)),
             (232, 231, 0, 234, 234, Ok(())),
         ] {
-            let mut area = vec![in rt.alloc(); [0u8; 1024]; 29]?;
-            assert_eq!(rt; area.len(), 29);
             assert!(rt; volumes <= SLOTS && slot < SLOTS);
-            set_volumes(&mut area, volumes);
+            let mut area = area_of(rt.alloc(), volumes)?;
             set_slot(&mut area, slot, signature, start, end);
             assert_eq!(rt;
-                table.decode(&area, 500),
-                want,
+                (table.decode(&area, 500), table.is_empty()),
+                (want, want.is_err()),
                 "slot {slot}: {signature} {start} {end}"
             );
-            assert_eq!(rt; table.is_empty(), want.is_err());
         }
         Ok(())
     }
