@@ -117,37 +117,44 @@ mod tests {
     use qic_base::write_u32;
     use std::test::Fail;
 
+    /// A data area whose bytes are all the same.
+    fn area_of(alloc: Global, byte: u8) -> Result<Vec<[u8; 1024]>, Fail>
+        ensures { IfOk result (λ area. length area.items ≡ 29) }
+    {
+        Ok(vec![in alloc; [byte; 1024]; 29]?)
+    }
+
     #[test]
     fn marks_are_written_and_read(rt: HostRuntime) -> Result<(), Fail> {
-        let mut area = vec![in rt.alloc(); [0xAAu8; 1024]; 29]?;
-        assert_eq!(rt; area.len(), 29);
+        let mut area = area_of(rt.alloc(), 0xAA)?;
         let mut map = BadMap::new(rt.alloc())?;
         map.reset(2800);
         map.mark(0, 0);
         map.mark(1400, 9);
         map.mark(2799, 31);
-        assert_eq!(rt; map.marked(), 3);
         map.write(&mut area);
-        for (sector, at, want) in [
-            (1, 1023, 0xAA),
-            (2, 0, 1),
-            (2, 1, 0),
-            (7, 480, 0),
-            (7, 481, 2),
-            (7, 482, 0),
-            (12, 958, 0),
-            (12, 959, 0x80),
-            (12, 960, 0xAA),
-        ] {
-            assert_eq!(rt; area[sector][at], want, "sector {sector}, byte {at}");
-        }
+        let bytes = (
+            area[1][1023],
+            [area[2][0], area[2][1]],
+            [area[7][480], area[7][481], area[7][482]],
+            [area[12][958], area[12][959], area[12][960]],
+        );
+        assert_eq!(rt;
+            (map.marked(), bytes),
+            (3, (0xAA, [1, 0], [0, 2, 0], [0, 0x80, 0xAA]))
+        );
         let mut other = BadMap::new(rt.alloc())?;
         other.read(&area, 2800);
-        assert_eq!(rt; other.marked(), 3);
-        assert_eq!(rt; other.usable(0), 0xFFFF_FFFE);
-        assert_eq!(rt; other.usable(1400), 0xFFFF_FDFF);
-        assert_eq!(rt; other.usable(2799), 0x7FFF_FFFF);
-        assert_eq!(rt; other.usable(1401), 0xFFFF_FFFF);
+        let usable = [
+            other.usable(0),
+            other.usable(1400),
+            other.usable(2799),
+            other.usable(1401),
+        ];
+        assert_eq!(rt;
+            (other.marked(), usable),
+            (3, [0xFFFF_FFFE, 0xFFFF_FDFF, 0x7FFF_FFFF, 0xFFFF_FFFF])
+        );
         Ok(())
     }
 
@@ -163,29 +170,25 @@ mod tests {
 
     #[test]
     fn the_longest_map_ends_in_the_area(rt: HostRuntime) -> Result<(), Fail> {
-        let mut area = vec![in rt.alloc(); [0xAAu8; 1024]; 29]?;
-        assert_eq!(rt; area.len(), 29);
+        let mut area = area_of(rt.alloc(), 0xAA)?;
         let mut map = BadMap::new(rt.alloc())?;
         map.reset(6888);
         map.mark(6887, 0);
         map.mark(6887, 31);
         map.write(&mut area);
-        for (sector, at, want) in [
-            (28, 923, 0),
-            (28, 924, 1),
-            (28, 925, 0),
-            (28, 926, 0),
-            (28, 927, 0x80),
-            (28, 928, 0xAA),
-        ] {
-            assert_eq!(rt; area[sector][at], want, "sector {sector}, byte {at}");
-        }
         let mut other = BadMap::new(rt.alloc())?;
-        let last = read_back(&mut other, &area, 6888, 6887);
-        assert_eq!(rt; last, (0x7FFF_FFFE, 27_648));
-        let before = read_back(&mut other, &area, 6888, 6886);
-        assert_eq!(rt; before, (0xFFFF_FFFF, 29_696));
-        assert_eq!(rt; other.marked(), 2);
+        let read = [
+            read_back(&mut other, &area, 6888, 6887),
+            read_back(&mut other, &area, 6888, 6886),
+        ];
+        assert_eq!(rt;
+            (&area[28][923..929], read, other.marked()),
+            (
+                [0, 1, 0, 0, 0x80, 0xAA].as_slice(),
+                [(0x7FFF_FFFE, 27_648), (0xFFFF_FFFF, 29_696)],
+                2,
+            )
+        );
         Ok(())
     }
 
@@ -203,8 +206,7 @@ mod tests {
 
     #[test]
     fn three_usable_sectors_carry_nothing(rt: HostRuntime) -> Result<(), Fail> {
-        let mut area = vec![in rt.alloc(); [0u8; 1024]; 29]?;
-        assert_eq!(rt; area.len(), 29);
+        let mut area = area_of(rt.alloc(), 0)?;
         let mut map = BadMap::new(rt.alloc())?;
         for (word, marked, capacity) in [
             (0, 0, 29_696),
@@ -215,9 +217,11 @@ mod tests {
         ] {
             write_u32(&mut area[3], 16, word);
             map.read(&area, 2800);
-            assert_eq!(rt; map.marked(), marked);
-            assert_eq!(rt; map.capacity(260), capacity, "{word}");
-            assert_eq!(rt; map.capacity(259), 29_696);
+            assert_eq!(rt;
+                (map.marked(), map.capacity(260), map.capacity(259)),
+                (marked, capacity, 29_696),
+                "{word}"
+            );
         }
         Ok(())
     }
