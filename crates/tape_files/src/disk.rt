@@ -134,15 +134,21 @@ mod tests {
     fn a_file_is_a_disk(rt: HostRuntime) -> Result<(), Fail> {
         let path = "disk-of-a-test.img";
         let mut disk = open_image(&rt, path)?;
-        assert_eq!(rt; disk.set_len(10), Ok(()));
-        assert_eq!(rt; disk.write_at(4, b"tape"), Ok(()));
-        assert_eq!(rt; disk.sync(), Ok(()));
-        assert_eq!(rt; disk.write_at(0, b"a"), Ok(()));
-        assert_eq!(rt; disk.sync(), Ok(()));
-        let mut into = [1; 16];
-        assert_eq!(rt; disk.read_at(0, &mut into), Ok(10));
-        assert_eq!(rt; into[..11], *b"a\0\0\0tape\0\0\x01".as_slice());
-        assert!(rt; fs::remove_file(&rt, path).is_ok());
+        disk.set_len(10)?;
+        let done = [
+            disk.write_at(4, b"tape"),
+            disk.sync(),
+            disk.write_at(0, b"a"),
+            disk.sync(),
+        ];
+        let mut into = [1; 11];
+        let seen = (
+            done,
+            disk.read_at(0, &mut into),
+            into,
+            fs::remove_file(&rt, path).is_ok(),
+        );
+        assert_eq!(rt; seen, ([Ok(()); 4], Ok(10), *b"a\0\0\0tape\0\0\x01", true));
         Ok(())
     }
 
@@ -152,15 +158,31 @@ mod tests {
         let mut disk = open_image(&rt, path)?;
         let other = OpenOptions::new().write(true).open(&rt, path)?;
         let mut into = [1; 4];
-        assert_eq!(rt; disk.read_at(0, &mut into), Ok(0));
-        assert!(rt; other.write_all_at(b"grown", 0).is_ok());
-        assert_eq!(rt; disk.len(), Ok(5));
-        assert_eq!(rt; disk.read_at(2, &mut into), Ok(3));
-        assert_eq!(rt; into, *b"own\x01");
-        assert!(rt; other.set_len(3).is_ok());
-        assert_eq!(rt; disk.len(), Ok(3));
-        assert_eq!(rt; disk.read_at(2, &mut into), Ok(1));
-        assert!(rt; fs::remove_file(&rt, path).is_ok());
+        let seen = (
+            disk.read_at(0, &mut into),
+            other.write_all_at(b"grown", 0).is_ok(),
+            disk.len(),
+            disk.read_at(2, &mut into),
+            into,
+            other.set_len(3).is_ok(),
+            disk.len(),
+            disk.read_at(2, &mut into),
+            fs::remove_file(&rt, path).is_ok(),
+        );
+        assert_eq!(rt;
+            seen,
+            (
+                Ok(0),
+                true,
+                Ok(5),
+                Ok(3),
+                *b"own\x01",
+                true,
+                Ok(3),
+                Ok(1),
+                true
+            )
+        );
         Ok(())
     }
 }

@@ -150,13 +150,25 @@ mod tests {
     fn only_a_regular_file_that_nobody_has_is_an_image(rt: HostRuntime) -> Result<(), Fail> {
         let path = "image-of-a-test.img";
         let first = open_image(&rt, path)?;
-        assert_eq!(rt; refusal(&rt, path), Some(NoImage::Locked));
-        assert_eq!(rt; refusal(&rt, "."), Some(NoImage::NotRegular));
-        assert_eq!(rt; refusal(&rt, "/dev/null"), Some(NoImage::NotRegular));
-        assert_eq!(rt; refusal(&rt, "/dev/null/image"), Some(NoImage::NotOpened));
+        let refused = [
+            refusal(&rt, path),
+            refusal(&rt, "."),
+            refusal(&rt, "/dev/null"),
+            refusal(&rt, "/dev/null/image"),
+        ];
         drop(first);
-        assert_eq!(rt; refusal(&rt, path), None);
-        assert!(rt; fs::remove_file(&rt, path).is_ok());
+        let seen = (
+            refused,
+            refusal(&rt, path),
+            fs::remove_file(&rt, path).is_ok(),
+        );
+        let want = [
+            Some(NoImage::Locked),
+            Some(NoImage::NotRegular),
+            Some(NoImage::NotRegular),
+            Some(NoImage::NotOpened),
+        ];
+        assert_eq!(rt; seen, (want, None, true));
         Ok(())
     }
 }

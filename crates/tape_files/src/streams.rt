@@ -159,20 +159,14 @@ mod tests {
     use super::*;
 
     #[test]
-    fn an_input_that_ended_gives_nothing(rt: HostRuntime) {
-        let mut source = StdinSource::new(rt.stdin());
+    fn an_input_that_ended_gives_nothing_and_outputs_take_bytes(rt: HostRuntime) {
         let mut into = [0; 4];
-        assert_eq!(rt; source.read(&mut into), Ok(0));
-        assert_eq!(rt; into, [0; 4]);
-    }
-
-    #[test]
-    fn output_takes_bytes(rt: HostRuntime) {
-        assert_eq!(rt; StdoutSink::new(rt.stdout()).write(b"out\n"), Ok(4));
-    }
-
-    #[test]
-    fn standard_error_takes_bytes(rt: HostRuntime) {
-        assert_eq!(rt; StderrSink::new(rt.stderr()).write(b"error\n"), Ok(6));
+        let seen = (
+            StdinSource::new(rt.stdin()).read(&mut into),
+            into,
+            StdoutSink::new(rt.stdout()).write(b"out\n"),
+            StderrSink::new(rt.stderr()).write(b"error\n"),
+        );
+        assert_eq!(rt; seen, (Ok(0), [0; 4], Ok(4), Ok(6)));
     }
 }
