@@ -64,10 +64,11 @@ fn every_number_has_its_command(rt: HostRuntime) {
     for pulses in 0..=255u8 {
         let listed = COMMANDS.iter().find(|(number, _)| *number == pulses);
         let command = listed.map(|(_, command)| *command);
-        assert_eq!(rt; command_of(pulses), command, "{pulses} pulses");
-        if let Some(command) = command {
-            assert_eq!(rt; command.number(), pulses);
-        }
+        let number = match command {
+            Some(command) => command.number(),
+            None => pulses,
+        };
+        assert_eq!(rt; (pulses, command_of(pulses)), (number, command));
     }
 }
 
@@ -113,8 +114,7 @@ const CODES: [(ErrorCode, u8, &str); 16] = [
 #[test]
 fn codes_have_their_numbers_and_texts(rt: HostRuntime) {
     for (code, number, text) in CODES {
-        assert_eq!(rt; code.number(), number);
-        assert_eq!(rt; code.text(), text);
+        assert_eq!(rt; (code.number(), code.text()), (number, text));
     }
 }
 
@@ -220,9 +220,8 @@ fn each_row_refuses_its_commands(rt: HostRuntime) {
         for (number, command) in COMMANDS {
             let code = refusal(&view, command).map(|code| code.number());
             assert_eq!(rt;
-                code,
-                expected(refused, number),
-                "{number} of a drive {words}"
+                (words, number, code),
+                (words, number, expected(refused, number))
             );
         }
     }
@@ -242,10 +241,7 @@ const STATUS: [(&str, bool, bool, bool, u8); 7] = [
 #[test]
 fn a_status_word_has_its_bits(rt: HostRuntime) {
     for (words, error, at_bot, at_eot, word) in STATUS {
-        assert_eq!(rt;
-            status_word(&drive(words), error, at_bot, at_eot),
-            word,
-            "{words}"
-        );
+        let status = status_word(&drive(words), error, at_bot, at_eot);
+        assert_eq!(rt; (words, status), (words, word));
     }
 }
