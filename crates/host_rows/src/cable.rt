@@ -5,14 +5,13 @@ ghost use Rattle.drive_states.specs.Deck.{segments_per_track, is_protected, is_r
 ghost use Rattle.host_driver.specs.Fits.{Fits, IsAtRest};
 ghost use Rattle.qic_mem.specs.Tape.{tape_means};
 
-use crate::trains::{all_leave_0, report, write_one};
-use drive_states::{FdcFault, FloppyAddr, Unit};
+use crate::trains::{WRITTEN, report, train, write_one};
+use drive_states::{FdcFault, FloppyAddr, HandFault, Unit};
 use host_driver::{Host, HostFault};
 use qic_base::{NoMemory, Tape, TapeFailed};
 use qic_mem::MemTape;
 use qic117_commands::Mode;
 use std::alloc::Global;
-use std::process::Abort;
 use std::test::Fail;
 
 /// A tape with room for a cartridge of three segments per track. `fails` has the numbers of its calls that fail.
@@ -53,9 +52,36 @@ pub fn begun(unit: &mut Unit<MemTape>) -> Result<Host, HostFault>
     Ok(host)
 }
 
-/// Sends trains, each of which has to leave the level 0 on the line.
-pub fn sends(rt: &impl Abort, unit: &mut Unit<MemTape>, trains: &[u16]) {
-    assert!(rt; all_leave_0(unit, trains), "the trains {trains:?}");
+/// Something done to a drive past any host, with what has to come of it.
+#[derive(Clone, Copy)]
+pub enum Row {
+    /// A person takes the cartridge out and puts it in again.
+    Insert,
+    /// A person puts in a new cartridge of so many segments per track.
+    Load(u16, Result<(), HandFault>),
+    /// A person sets or clears the protect mark.
+    Protect(bool, Result<(), HandFault>),
+    /// A person wears a sector.
+    Wear(u32, u32, Result<(), HandFault>),
+    /// A person spoils a sector.
+    Spoil(u32, u32, Result<(), HandFault>),
+    /// A train of so many pulses, which leaves the level 0 on the line.
+    Train(u16),
+    /// A report of the status, a word of 8 bits.
+    Status(u16),
+    /// A report of the error word, 16 bits.
+    Error(u16),
+    /// Reports of the status until one shows that the tape stands: the last train began a seek of the load point. It takes
+    /// 160 gaps, and a report ten, of which the first loads the word, so it is the 17th.
+    AtLoadPoint,
+    /// A read of a sector each of whose bytes is this one.
+    Shows(FloppyAddr, u8),
+    /// A read that is refused, and leaves the bytes as they were.
+    Refuses(FloppyAddr, FdcFault),
+    /// A write of bytes `WRITTEN`.
+    Write(FloppyAddr, Result<(), FdcFault>),
+    /// The segment under the head is formatted.
+    Format,
 }
 
 // How many reports of the status come until one shows that the tape stands; 0 where none of 20 does.
@@ -68,44 +94,38 @@ fn reports_of_the_status(unit: &mut Unit<MemTape>) -> u8 {
     0
 }
 
-/// Waits for a seek of the load point that the last train began. It takes 160 gaps, and a report ten, of which the first
-/// loads the word.
-pub fn waits_for_load_point(rt: &impl Abort, unit: &mut Unit<MemTape>) {
-    assert_eq!(rt; reports_of_the_status(unit), 17);
-}
-
-/// Asks for a report of 8 or 16 bits, which has to show this word.
-pub fn tells(rt: &impl Abort, unit: &mut Unit<MemTape>, command: u16, bits: u8, word: u16)
-    requires { bits ≤ 16 }
-{
-    assert_eq!(rt;
-        report(unit, command, bits),
-        Some(word),
-        "the report of {command}"
-    );
-}
-
-/// A sector that the head reaches, past any host, and that was never formatted.
-pub fn lacks(rt: &impl Abort, unit: &mut Unit<MemTape>, addr: FloppyAddr) {
-    assert_eq!(rt;
-        unit.read_sector(addr, &mut [1; 1024]),
-        Err(FdcFault::NoAddress),
-        "a read at {addr:?}"
-    );
-}
-
-/// Formats the segment under the head past any host.
-pub fn formats(rt: &impl Abort, unit: &mut Unit<MemTape>) {
-    assert_eq!(rt; unit.format_segment(), Ok(()));
-}
-
-/// Reads a sector past any host; each of its bytes has to be this one.
-pub fn shows(rt: &impl Abort, unit: &mut Unit<MemTape>, addr: FloppyAddr, byte: u8) {
+// The answer to a read, and what the bytes 1 became.
+fn read(unit: &mut Unit<MemTape>, addr: FloppyAddr) -> (Result<(), FdcFault>, [u8; 1024]) {
     let mut into = [1; 1024];
-    assert_eq!(rt;
-        unit.read_sector(addr, &mut into),
-        Ok(()),
-        "a read at {addr:?}"
-    );
-    assert_eq!(rt; into, [byte; 1024]);
+    (unit.read_sector(addr, &mut into), into)
+}
+
+fn holds(unit: &mut Unit<MemTape>, row: Row) -> bool {
+    match row {
+        Row::Insert => unit.insert() == Ok(()),
+        Row::Load(length, answer) => {
+            3 <= length && length <= 246 && unit.load_blank(length) == answer
+        }
+        Row::Protect(on, answer) => unit.protect(on) == answer,
+        Row::Wear(segment, sector, answer) => unit.wear(segment, sector) == answer,
+        Row::Spoil(segment, sector, answer) => unit.spoil(segment, sector) == answer,
+        Row::Train(pulses) => train(unit, pulses) == Ok(false),
+        Row::Status(word) => report(unit, 6, 8) == Some(word),
+        Row::Error(word) => report(unit, 7, 16) == Some(word),
+        Row::AtLoadPoint => reports_of_the_status(unit) == 17,
+        Row::Shows(addr, byte) => read(unit, addr) == (Ok(()), [byte; 1024]),
+        Row::Refuses(addr, fault) => read(unit, addr) == (Err(fault), [1; 1024]),
+        Row::Write(addr, answer) => unit.write_sector(addr, &[WRITTEN; 1024]) == answer,
+        Row::Format => unit.format_segment() == Ok(()),
+    }
+}
+
+/// Goes through rows. Answers the number of the first from which something else comes, counted from 0.
+pub fn first_wrong(unit: &mut Unit<MemTape>, rows: &[Row]) -> Option<usize> {
+    for at in 0..rows.len() {
+        if !holds(unit, rows[at]) {
+            return Some(at);
+        }
+    }
+    None
 }

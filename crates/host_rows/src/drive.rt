@@ -1,157 +1,87 @@
 //! The drive alone: sector calls and a person's hand, past any host. These functions have no clause, so the proof of a test
 //! knows nothing of a drive but that it is one.
 
-ghost use Rattle.qic_base.specs.Cartridge.{IsLength};
-
-use crate::cable::{sends, shows, tape, tells, written};
+use crate::cable::{Row, first_wrong, tape, written};
 use crate::trains::{WRITTEN, front};
-use drive_states::{FdcFault, FloppyAddr, HandFault, Unit};
+use drive_states::{FdcFault, HandFault, Unit};
 use qic_base::Tape;
-use qic_mem::{MemTape, SureTape};
+use qic_mem::SureTape;
 use std::alloc::Global;
-use std::process::Abort;
 use std::test::Fail;
 
-/// A drive of `written` into which the cartridge was just put, by call 5 of the tape.
-fn inserted(alloc: Global, fails: &[u64]) -> Result<Unit<MemTape>, Fail> {
+/// The number of the first wrong one of these rows at a drive of `written`, into which the cartridge was put by call 5 of
+/// the tape. Call 6 puts it in again.
+fn first_wrong_inserted(alloc: Global, fails: &[u64], rows: &[Row]) -> Result<Option<usize>, Fail> {
     let mut unit = written(alloc, fails)?;
     unit.insert()?;
-    Ok(unit)
-}
-
-/// Takes the cartridge out and puts it in again.
-fn inserts(rt: &impl Abort, unit: &mut Unit<MemTape>) {
-    assert_eq!(rt; unit.insert(), Ok(()));
-}
-
-/// The same, and the error word is told, which clears the new cartridge flag.
-fn settles(rt: &impl Abort, unit: &mut Unit<MemTape>) {
-    inserts(rt, unit);
-    tells(rt, unit, 7, 16, 0);
-}
-
-/// A read that has to be refused, and to leave the bytes as they were.
-fn cannot_read(rt: &impl Abort, unit: &mut Unit<MemTape>, addr: FloppyAddr, fault: FdcFault) {
-    let mut into = [1; 1024];
-    assert_eq!(rt;
-        unit.read_sector(addr, &mut into),
-        Err(fault),
-        "a read at {addr:?}"
-    );
-    assert_eq!(rt; into, [1; 1024]);
-}
-
-/// A write of bytes 0xA5 with its answer.
-fn writes(
-    rt: &impl Abort,
-    unit: &mut Unit<MemTape>,
-    addr: FloppyAddr,
-    answer: Result<(), FdcFault>,
-) {
-    assert_eq!(rt;
-        unit.write_sector(addr, &[WRITTEN; 1024]),
-        answer,
-        "a write at {addr:?}"
-    );
-}
-
-/// A person puts in a new cartridge, with this answer.
-fn loads(
-    rt: &impl Abort,
-    unit: &mut Unit<MemTape>,
-    segments_per_track: u16,
-    answer: Result<(), HandFault>,
-)
-    requires { IsLength segments_per_track }
-{
-    assert_eq!(rt; unit.load_blank(segments_per_track), answer);
-}
-
-/// A person sets or clears the protect mark, with this answer.
-fn protects(rt: &impl Abort, unit: &mut Unit<MemTape>, on: bool, answer: Result<(), HandFault>) {
-    assert_eq!(rt; unit.protect(on), answer);
-}
-
-/// A person wears a sector, with this answer.
-fn wears(
-    rt: &impl Abort,
-    unit: &mut Unit<MemTape>,
-    segment: u32,
-    sector: u32,
-    answer: Result<(), HandFault>,
-) {
-    assert_eq!(rt; unit.wear(segment, sector), answer, "at {segment} {sector}");
-}
-
-/// A person spoils a sector, with this answer.
-fn spoils(
-    rt: &impl Abort,
-    unit: &mut Unit<MemTape>,
-    segment: u32,
-    sector: u32,
-    answer: Result<(), HandFault>,
-) {
-    assert_eq!(rt;
-        unit.spoil(segment, sector),
-        answer,
-        "at {segment} {sector}"
-    );
+    unit.insert()?;
+    Ok(first_wrong(&mut unit, rows))
 }
 
 #[test]
 fn an_empty_drive_takes_a_blank_cartridge_alone(rt: HostRuntime) -> Result<(), Fail> {
     let mut unit = Unit::new(tape(rt.alloc(), &[])?);
-    tells(&rt, &mut unit, 6, 8, 0x01);
-    protects(&rt, &mut unit, true, Err(HandFault::NoCartridge));
-    wears(&rt, &mut unit, 84, 32, Err(HandFault::NoCartridge));
-    spoils(&rt, &mut unit, 0, 0, Err(HandFault::NoCartridge));
-    loads(&rt, &mut unit, 3, Ok(()));
-    tells(&rt, &mut unit, 6, 8, 0x55);
-    // The tape has no room for a longer one, and the drive then knows of none.
-    loads(&rt, &mut unit, 4, Err(HandFault::Tape));
-    tells(&rt, &mut unit, 6, 8, 0x01);
+    let wrong = first_wrong(
+        &mut unit,
+        &[
+            Row::Status(0x01),
+            Row::Protect(true, Err(HandFault::NoCartridge)),
+            Row::Wear(84, 32, Err(HandFault::NoCartridge)),
+            Row::Spoil(0, 0, Err(HandFault::NoCartridge)),
+            Row::Load(3, Ok(())),
+            Row::Status(0x55),
+            // The tape has no room for a longer one, and the drive then knows of none.
+            Row::Load(4, Err(HandFault::Tape)),
+            Row::Status(0x01),
+        ],
+    );
+    assert_eq!(rt; wrong, None);
     Ok(())
 }
 
 #[test]
 fn the_count_of_pulses_stops_at_255(rt: HostRuntime) -> Result<(), Fail> {
-    let mut unit = inserted(rt.alloc(), &[])?;
     // The error word of a command that there isn't.
-    inserts(&rt, &mut unit);
-    sends(&rt, &mut unit, &[300]);
-    tells(&rt, &mut unit, 7, 16, 0xFF06);
+    let rows = [Row::Train(300), Row::Error(0xFF06)];
+    assert_eq!(rt; first_wrong_inserted(rt.alloc(), &[], &rows)?, None);
     Ok(())
 }
 
 #[test]
 fn sectors_are_written_as_they_pass(rt: HostRuntime) -> Result<(), Fail> {
-    let mut unit = inserted(rt.alloc(), &[])?;
-    settles(&rt, &mut unit);
-    sends(&rt, &mut unit, &[10]);
-    writes(&rt, &mut unit, front(6), Ok(()));
-    writes(&rt, &mut unit, front(6), Err(FdcFault::NoAddress));
-    // The tape stops before the segment, and comes to it again.
-    sends(&rt, &mut unit, &[18, 10]);
-    shows(&rt, &mut unit, front(5), 0);
-    shows(&rt, &mut unit, front(6), WRITTEN);
-    protects(&rt, &mut unit, true, Ok(()));
-    tells(&rt, &mut unit, 7, 16, 0);
-    sends(&rt, &mut unit, &[10]);
-    writes(&rt, &mut unit, front(5), Err(FdcFault::Protected));
-    shows(&rt, &mut unit, front(5), 0);
+    let rows = [
+        // The error word is told, which clears the new cartridge flag.
+        Row::Error(0),
+        Row::Train(10),
+        Row::Write(front(6), Ok(())),
+        Row::Write(front(6), Err(FdcFault::NoAddress)),
+        // The tape stops before the segment, and comes to it again.
+        Row::Train(18),
+        Row::Train(10),
+        Row::Shows(front(5), 0),
+        Row::Shows(front(6), WRITTEN),
+        Row::Protect(true, Ok(())),
+        Row::Error(0),
+        Row::Train(10),
+        Row::Write(front(5), Err(FdcFault::Protected)),
+        Row::Shows(front(5), 0),
+    ];
+    assert_eq!(rt; first_wrong_inserted(rt.alloc(), &[], &rows)?, None);
     Ok(())
 }
 
 #[test]
 fn a_fault_of_the_tape_leaves_the_head_where_it_was(rt: HostRuntime) -> Result<(), Fail> {
-    // Call 6 of the tape puts the cartridge in again; 7 is the first read, and 9 the first write.
-    let mut unit = inserted(rt.alloc(), &[7, 9])?;
-    settles(&rt, &mut unit);
-    sends(&rt, &mut unit, &[10]);
-    cannot_read(&rt, &mut unit, front(1), FdcFault::Tape);
-    shows(&rt, &mut unit, front(1), 0);
-    writes(&rt, &mut unit, front(2), Err(FdcFault::Tape));
-    writes(&rt, &mut unit, front(2), Ok(()));
+    // Call 7 is the first read, and 9 the first write.
+    let rows = [
+        Row::Error(0),
+        Row::Train(10),
+        Row::Refuses(front(1), FdcFault::Tape),
+        Row::Shows(front(1), 0),
+        Row::Write(front(2), Err(FdcFault::Tape)),
+        Row::Write(front(2), Ok(())),
+    ];
+    assert_eq!(rt; first_wrong_inserted(rt.alloc(), &[7, 9], &rows)?, None);
     Ok(())
 }
 
@@ -172,7 +102,7 @@ fn spoiled(alloc: Global, segment: u32) -> Result<Result<(), HandFault>, Fail> {
 
 #[test]
 fn a_formatted_sector_is_not_blank_though_no_call_fails(rt: HostRuntime) -> Result<(), Fail> {
-    assert_eq!(rt; spoiled(rt.alloc(), 0)?, Err(HandFault::NotBlank));
-    assert_eq!(rt; spoiled(rt.alloc(), 1)?, Ok(()));
+    let answers = [spoiled(rt.alloc(), 0)?, spoiled(rt.alloc(), 1)?];
+    assert_eq!(rt; answers, [Err(HandFault::NotBlank), Ok(())]);
     Ok(())
 }

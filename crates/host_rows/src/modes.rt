@@ -1,12 +1,11 @@
 //! The reference bursts and a segment formatted, where the tape fails at first.
 
-use crate::cable::{blank, formats, lacks, sends, shows, tells, waits_for_load_point};
+use crate::cable::{Row, blank, first_wrong};
 use crate::trains::front;
-use drive_states::Unit;
+use drive_states::{FdcFault, Unit};
 use host_driver::{Host, HostFault};
 use qic_mem::MemTape;
 use qic117_commands::Mode;
-use std::process::Abort;
 use std::test::Fail;
 
 /// Has a host write the reference bursts. The answer, and whether the host knows the cartridge as referenced then.
@@ -27,34 +26,50 @@ fn format_first(unit: &mut Unit<MemTape>) -> Result<(), HostFault> {
     host.format_here(unit)
 }
 
-/// Takes the tape from where it streams in Format mode to the start of track 0.
-fn returns_to_start(rt: &impl Abort, unit: &mut Unit<MemTape>) {
-    sends(rt, unit, &[18, 30, 14]);
-    waits_for_load_point(rt, unit);
-    sends(rt, unit, &[10]);
-}
-
 #[test]
 fn a_format_that_fails_leaves_the_head_at_its_segment(rt: HostRuntime) -> Result<(), Fail> {
     let mut unit = blank(rt.alloc(), &[3])?;
-    assert_eq!(rt; format_first(&mut unit), Err(HostFault::Tape));
-    tells(&rt, &mut unit, 6, 8, 0x24);
-    formats(&rt, &mut unit);
-    returns_to_start(&rt, &mut unit);
-    shows(&rt, &mut unit, front(32), 0);
-    sends(&rt, &mut unit, &[0]);
-    lacks(&rt, &mut unit, front(33));
+    let answer = format_first(&mut unit);
+    let rows = [
+        Row::Status(0x24),
+        Row::Format,
+        // The tape goes from where it streams in Format mode to the start of track 0.
+        Row::Train(18),
+        Row::Train(30),
+        Row::Train(14),
+        Row::AtLoadPoint,
+        Row::Train(10),
+        Row::Shows(front(32), 0),
+        Row::Train(0),
+        Row::Refuses(front(33), FdcFault::NoAddress),
+    ];
+    assert_eq!(rt;
+        (answer, first_wrong(&mut unit, &rows)),
+        (Err(HostFault::Tape), None)
+    );
     Ok(())
 }
 
 #[test]
 fn a_drive_without_its_bursts_is_on_its_way(rt: HostRuntime) -> Result<(), Fail> {
     let mut unit = blank(rt.alloc(), &[2])?;
-    assert_eq!(rt; reference(&mut unit), Ok((Err(HostFault::Tape), false)));
-    waits_for_load_point(&rt, &mut unit);
-    tells(&rt, &mut unit, 6, 8, 0x45);
-    // The next time it does not fail, and the cartridge is referenced.
-    assert_eq!(rt; reference(&mut unit), Ok((Ok(()), true)));
-    tells(&rt, &mut unit, 6, 8, 0x65);
+    let seen = [
+        (
+            reference(&mut unit),
+            first_wrong(&mut unit, &[Row::AtLoadPoint, Row::Status(0x45)]),
+        ),
+        // The next time it does not fail, and the cartridge is referenced.
+        (
+            reference(&mut unit),
+            first_wrong(&mut unit, &[Row::Status(0x65)]),
+        ),
+    ];
+    assert_eq!(rt;
+        seen,
+        [
+            (Ok((Err(HostFault::Tape), false)), None),
+            (Ok((Ok(()), true)), None),
+        ]
+    );
     Ok(())
 }

@@ -1,7 +1,7 @@
 //! The first sector of segment 4 read, written and worn through a host, where the tape fails. Call 5 of the tape puts the
 //! cartridge in; the way makes none, and 6 is the sector's.
 
-use crate::cable::{begun, shows, written};
+use crate::cable::{Row, begun, first_wrong, written};
 use crate::trains::{FIRST_OF_FOUR, WRITTEN};
 use drive_states::Unit;
 use host_driver::{HandFault, HostFault};
@@ -31,21 +31,29 @@ fn wear(
     Ok(host.wear(unit, segment, sector))
 }
 
+/// The sector still has its bytes, and the head comes to it next.
+const KEPT: [Row; 1] = [Row::Shows(FIRST_OF_FOUR, WRITTEN)];
+
 #[test]
 fn a_read_that_fails_leaves_the_head_where_it_was(rt: HostRuntime) -> Result<(), Fail> {
     let mut unit = written(rt.alloc(), &[6])?;
     let mut into = [1; 1024];
-    assert_eq!(rt; read(&mut unit, &mut into), Err(HostFault::Tape));
-    assert_eq!(rt; into, [1; 1024]);
-    shows(&rt, &mut unit, FIRST_OF_FOUR, WRITTEN);
+    let answer = read(&mut unit, &mut into);
+    assert_eq!(rt;
+        (answer, into, first_wrong(&mut unit, &KEPT)),
+        (Err(HostFault::Tape), [1; 1024], None)
+    );
     Ok(())
 }
 
 #[test]
 fn a_write_that_fails_leaves_the_head_where_it_was(rt: HostRuntime) -> Result<(), Fail> {
     let mut unit = written(rt.alloc(), &[6])?;
-    assert_eq!(rt; write(&mut unit, &[9; 1024]), Err(HostFault::Tape));
-    shows(&rt, &mut unit, FIRST_OF_FOUR, WRITTEN);
+    let answer = write(&mut unit, &[9; 1024]);
+    assert_eq!(rt;
+        (answer, first_wrong(&mut unit, &KEPT)),
+        (Err(HostFault::Tape), None)
+    );
     Ok(())
 }
 
@@ -53,11 +61,26 @@ fn a_write_that_fails_leaves_the_head_where_it_was(rt: HostRuntime) -> Result<()
 fn a_host_wears_the_sectors_of_its_cartridge(rt: HostRuntime) -> Result<(), Fail> {
     let mut unit = written(rt.alloc(), &[6])?;
     let mut into = [1; 1024];
-    assert_eq!(rt; wear(&mut unit, 4, 0), Ok(Err(HandFault::Tape)));
-    assert_eq!(rt; wear(&mut unit, 84, 0), Ok(Err(HandFault::BadPlace)));
-    assert_eq!(rt; wear(&mut unit, 0, 32), Ok(Err(HandFault::BadPlace)));
-    assert_eq!(rt; read(&mut unit, &mut into), Ok(SectorRead::Good));
-    assert_eq!(rt; wear(&mut unit, 4, 0), Ok(Ok(())));
-    assert_eq!(rt; read(&mut unit, &mut into), Ok(SectorRead::Lost));
+    let refused = [
+        wear(&mut unit, 4, 0),
+        wear(&mut unit, 84, 0),
+        wear(&mut unit, 0, 32),
+    ];
+    let seen = (
+        read(&mut unit, &mut into),
+        wear(&mut unit, 4, 0),
+        read(&mut unit, &mut into),
+    );
+    assert_eq!(rt;
+        (refused, seen),
+        (
+            [
+                Ok(Err(HandFault::Tape)),
+                Ok(Err(HandFault::BadPlace)),
+                Ok(Err(HandFault::BadPlace)),
+            ],
+            (Ok(SectorRead::Good), Ok(Ok(())), Ok(SectorRead::Lost)),
+        )
+    );
     Ok(())
 }

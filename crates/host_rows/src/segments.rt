@@ -3,12 +3,11 @@
 ghost use Rattle.std.specs.Prelude.{◌≤◌};
 
 use crate::cable::{begun, tape};
-use drive_states::Unit;
+use drive_states::{HandFault, Unit};
 use qic_base::{LostSet, Tape, TapeFailed};
 use qic_mem::MemTape;
 use segment_io::{SegFault, Workspace, collect, read_segment, write_sectors, write_segment};
 use std::alloc::Global;
-use std::process::Abort;
 use std::test::Fail;
 
 /// A segment amid a track.
@@ -66,11 +65,9 @@ fn gather(unit: &mut Unit<MemTape>, work: &mut Workspace) -> Result<u32, SegFaul
     mask_of(collect(&mut host, unit, SEGMENT, USABLE, work))
 }
 
-/// Wears sectors of the segment.
-fn wears(rt: &impl Abort, unit: &mut Unit<MemTape>, sectors: &[u32]) {
-    for &sector in sectors {
-        assert_eq!(rt; unit.wear(SEGMENT, sector), Ok(()), "at {sector}");
-    }
+/// Wears a sector of the segment.
+fn wear(unit: &mut Unit<MemTape>, sector: u32) -> Result<(), HandFault> {
+    unit.wear(SEGMENT, sector)
 }
 
 /// The bytes that `fill` puts at a place.
@@ -89,70 +86,54 @@ fn fill(work: &mut Workspace, first: u8) {
     }
 }
 
-/// The sectors from one place to another have the bytes that `fill` puts there.
-fn is_filled(rt: &impl Abort, work: &Workspace, from: u8, end: u8, first: u8)
+/// Whether the sectors from one place to another have the bytes that `fill` puts there.
+fn are_filled(work: &Workspace, from: u8, end: u8, first: u8) -> bool
     requires { end ≤ 32 }
 {
     for place in from..end {
-        assert_eq!(rt;
-            work.sectors()[place as usize],
-            bytes(place, first),
-            "at {place}"
-        );
+        if work.sectors()[place as usize] != bytes(place, first) {
+            return false;
+        }
     }
+    true
 }
 
-/// The sectors from one place to another are zero bytes.
-fn is_zero(rt: &impl Abort, work: &Workspace, from: u8, end: u8)
+/// Whether the sectors from one place to another are zero bytes.
+fn are_zero(work: &Workspace, from: u8, end: u8) -> bool
     requires { end ≤ 32 }
 {
     for place in from..end {
-        assert_eq!(rt; work.sectors()[place as usize], [0; 1024], "at {place}");
+        if work.sectors()[place as usize] != [0; 1024] {
+            return false;
+        }
     }
-}
-
-/// Writes the segment, which must not fail.
-fn writes(rt: &impl Abort, unit: &mut Unit<MemTape>, work: &mut Workspace, first: u8) {
-    fill(work, first);
-    assert_eq!(rt; write(unit, work), Ok(()));
-}
-
-/// Reads the segment, with this answer.
-fn reads(
-    rt: &impl Abort,
-    unit: &mut Unit<MemTape>,
-    work: &mut Workspace,
-    answer: Result<u32, SegFault>,
-) {
-    assert_eq!(rt; read(unit, work), answer);
-}
-
-/// Collects its sectors, with this answer.
-fn gathers(
-    rt: &impl Abort,
-    unit: &mut Unit<MemTape>,
-    work: &mut Workspace,
-    answer: Result<u32, SegFault>,
-) {
-    assert_eq!(rt; gather(unit, work), answer);
+    true
 }
 
 #[test]
 fn a_written_segment_is_read_without_three_sectors(rt: HostRuntime) -> Result<(), Fail> {
     let mut unit = marked(rt.alloc(), &[])?;
     let mut work = Workspace::new(rt.alloc())?;
-    writes(&rt, &mut unit, &mut work, 10);
+    fill(&mut work, 10);
+    let written = write(&mut unit, &mut work);
     // They are at the places 0, 16 and 27: the sectors 3 and 17 have none.
-    wears(&rt, &mut unit, &[0, 18, 29]);
+    let worn = [wear(&mut unit, 0), wear(&mut unit, 18), wear(&mut unit, 29)];
     fill(&mut work, 99);
-    reads(&rt, &mut unit, &mut work, Ok(0x0801_0001));
-    is_filled(&rt, &work, 0, 25, 10);
-    wears(&rt, &mut unit, &[4]);
+    let found = (read(&mut unit, &mut work), are_filled(&work, 0, 25, 10));
+    let lost = (wear(&mut unit, 4), read(&mut unit, &mut work));
     let fault = SegFault::Lost {
         segment: SEGMENT,
         lost: 4,
     };
-    reads(&rt, &mut unit, &mut work, Err(fault));
+    assert_eq!(rt;
+        (written, worn, found, lost),
+        (
+            Ok(()),
+            [Ok(()); 3],
+            (Ok(0x0801_0001), true),
+            (Ok(()), Err(fault))
+        )
+    );
     Ok(())
 }
 
@@ -162,11 +143,16 @@ fn a_fault_leaves_the_writes_before_it(rt: HostRuntime) -> Result<(), Fail> {
     let mut unit = marked(rt.alloc(), &[6, 10])?;
     let mut work = Workspace::new(rt.alloc())?;
     fill(&mut work, 10);
-    assert_eq!(rt; write(&mut unit, &mut work), Err(SegFault::Tape));
-    assert_eq!(rt; write(&mut unit, &mut work), Err(SegFault::Tape));
-    gathers(&rt, &mut unit, &mut work, Ok(0));
-    is_filled(&rt, &work, 0, 2, 10);
-    is_zero(&rt, &work, 2, 28);
+    let written = [write(&mut unit, &mut work), write(&mut unit, &mut work)];
+    let gathered = (
+        gather(&mut unit, &mut work),
+        are_filled(&work, 0, 2, 10),
+        are_zero(&work, 2, 28),
+    );
+    assert_eq!(rt;
+        (written, gathered),
+        ([Err(SegFault::Tape); 2], (Ok(0), true, true))
+    );
     Ok(())
 }
 
@@ -176,12 +162,17 @@ fn a_fault_leaves_the_named_writes_before_it(rt: HostRuntime) -> Result<(), Fail
     let mut unit = marked(rt.alloc(), &[6, 9])?;
     let mut work = Workspace::new(rt.alloc())?;
     fill(&mut work, 10);
-    assert_eq!(rt; write_three(&mut unit, &work), Err(SegFault::Tape));
-    assert_eq!(rt; write_three(&mut unit, &work), Err(SegFault::Tape));
-    gathers(&rt, &mut unit, &mut work, Ok(0));
-    is_zero(&rt, &work, 0, 1);
-    is_filled(&rt, &work, 1, 2, 10);
-    is_zero(&rt, &work, 2, 28);
+    let written = [write_three(&mut unit, &work), write_three(&mut unit, &work)];
+    let gathered = (
+        gather(&mut unit, &mut work),
+        are_zero(&work, 0, 1),
+        are_filled(&work, 1, 2, 10),
+        are_zero(&work, 2, 28),
+    );
+    assert_eq!(rt;
+        (written, gathered),
+        ([Err(SegFault::Tape); 2], (Ok(0), true, true, true))
+    );
     Ok(())
 }
 
@@ -191,12 +182,15 @@ fn a_fault_leaves_the_named_writes_before_it(rt: HostRuntime) -> Result<(), Fail
 fn a_fault_among_reads_is_told(rt: HostRuntime) -> Result<(), Fail> {
     let mut unit = marked(rt.alloc(), &[6, 8, 37])?;
     let mut work = Workspace::new(rt.alloc())?;
-    gathers(&rt, &mut unit, &mut work, Err(SegFault::Tape));
-    reads(&rt, &mut unit, &mut work, Err(SegFault::Tape));
-    reads(&rt, &mut unit, &mut work, Err(SegFault::Tape));
-    gathers(&rt, &mut unit, &mut work, Ok(0));
-    is_zero(&rt, &work, 0, 28);
-    reads(&rt, &mut unit, &mut work, Ok(0));
+    let told = [
+        gather(&mut unit, &mut work),
+        read(&mut unit, &mut work),
+        read(&mut unit, &mut work),
+        gather(&mut unit, &mut work),
+    ];
+    let seen = (are_zero(&work, 0, 28), read(&mut unit, &mut work));
+    let fault = Err(SegFault::Tape);
+    assert_eq!(rt; (told, seen), ([fault, fault, fault, Ok(0)], (true, Ok(0))));
     Ok(())
 }
 

@@ -1,6 +1,6 @@
 //! What a host learns at its start, and its reports.
 
-use crate::cable::{tells, written};
+use crate::cable::{Row, first_wrong, written};
 use drive_states::Unit;
 use host_driver::{Host, HostFault, Report};
 use qic_base::Tape;
@@ -18,10 +18,13 @@ fn learnt(unit: &mut Unit<MemTape>) -> Result<(u16, bool, bool), HostFault> {
 #[test]
 fn a_start_that_fails_may_be_tried_again(rt: HostRuntime) -> Result<(), Fail> {
     let mut unit = written(rt.alloc(), &[5])?;
-    assert_eq!(rt; learnt(&mut unit), Err(HostFault::Tape));
-    // The drive knows of no cartridge.
-    tells(&rt, &mut unit, 6, 8, 0x01);
-    assert_eq!(rt; learnt(&mut unit), Ok((3, false, true)));
+    let seen = (
+        learnt(&mut unit),
+        // The drive knows of no cartridge.
+        first_wrong(&mut unit, &[Row::Status(0x01)]),
+        learnt(&mut unit),
+    );
+    assert_eq!(rt; seen, (Err(HostFault::Tape), None, Ok((3, false, true))));
     Ok(())
 }
 

@@ -46,15 +46,6 @@ pub fn train(unit: &mut Unit<MemTape>, pulses: u16) -> Result<bool, TapeFailed> 
     Ok(unit.line())
 }
 
-/// Sends trains. Answers whether each leaves the level 0 on the line.
-pub fn all_leave_0(unit: &mut Unit<MemTape>, trains: &[u16]) -> bool {
-    let mut silent = true;
-    for &pulses in trains {
-        silent &= train(unit, pulses) == Ok(false);
-    }
-    silent
-}
-
 /// The word that a report shows; None where it is not acknowledged, or does not end, with the level 1.
 pub fn report(unit: &mut Unit<MemTape>, command: u16, bits: u8) -> Option<u16>
     requires { bits ≤ 16 }
