@@ -1,11 +1,14 @@
 //! The values of a segment's columns at the roots of the code's generator.
 
-ghost use Rattle.std.specs.Prelude.{◌≡◌, ◌↔◌, IsTrue, All};
+ghost use Rattle.std.specs.Prelude.{◌≡◌, ◌+◌, ◌≤◌, ◌↔◌, length, IsTrue, All};
 ghost use Rattle.gf256_qic.specs.Code.{IsSector};
-ghost use Rattle.erasure_solve.specs.Rows.{IsZero, AddSector, AreValues, AreZero};
+ghost use Rattle.erasure_solve.specs.Rows.{IsZero, AreValues, AreZero, PutsStrip, IsStrip, AddsToStrip};
 
 use crate::SECTOR;
-use gf256_qic::{over_x, times_x};
+use gf256_qic::{mul, mul_by_shifts, pow, times_x};
+
+/// How many columns are taken at once: so few that what is gathered of them stays in registers.
+const STRIP: usize = 64;
 
 /// The value of each column of a segment at each root: all 0 where the sectors are a code block.
 #[derive(Drop)]
@@ -16,20 +19,36 @@ pub struct Values {
 }
 
 impl Values {
-    /// The values of these sectors' columns.
+    /// The values of the columns of at most 32 sectors.
     pub fn of(sectors: &[[u8; SECTOR]]) -> Values
+        requires { length sectors.now ≤ 32 }
         ensures values { AreValues result sectors.now }
         ensures sectors { All IsSector sectors.now }
     {
+        are_sectors(sectors);
+        let scale = mul(0x02, pow(0xC3, sectors.len() as u8));
         let mut values = Values {
             at_inverse: [0; SECTOR],
             at_one: [0; SECTOR],
             at_generator: [0; SECTOR],
         };
-        for sector in sectors {
-            add_sector(&mut values, sector);
+        for strip in 0..SECTOR / STRIP {
+            let start = strip * STRIP;
+            values.put(&Strip::of(sectors, start), start, scale);
         }
         values
+    }
+
+    /// Puts the values of a strip's columns to their places.
+    fn put(&mut self, strip: &Strip, start: usize, scale: u8)
+        requires { start + 64 ≤ 1024 }
+        ensures { PutsStrip self.old strip.now start scale self.new }
+    {
+        for j in 0..STRIP {
+            self.at_inverse[start + j] = mul_by_shifts(scale, strip.reversed[j]);
+            self.at_one[start + j] = strip.at_one[j];
+            self.at_generator[start + j] = strip.at_generator[j];
+        }
     }
 
     /// Whether each value is 0.
@@ -47,15 +66,46 @@ pub fn is_zero(row: &[u8; SECTOR]) -> bool
     row.iter().all(|byte| *byte == 0)
 }
 
-/// The values at the three roots 0xC3, 0x01 and 0x02, one sector further.
-fn add_sector(values: &mut Values, sector: &[u8; SECTOR])
-    ensures values { AddSector values.old sector.now values.new }
-    ensures sector { IsSector sector.now }
-{
-    for (j, byte) in sector.iter().enumerate() {
-        values.at_inverse[j] = over_x(values.at_inverse[j]) ^ *byte;
-        values.at_one[j] ^= *byte;
-        values.at_generator[j] = times_x(values.at_generator[j]) ^ *byte;
+/// What is gathered of the columns from one on: their values at 0x01 and 0x02, and at 0x02 also the
+/// values of the columns read from the last byte to the first. Those are the values at 0xC3 times a
+/// power of 0x02, and take fewer instructions.
+#[derive(Drop)]
+struct Strip {
+    reversed: [u8; STRIP],
+    at_one: [u8; STRIP],
+    at_generator: [u8; STRIP],
+}
+
+impl Strip {
+    /// The strip of the columns from `start` on.
+    fn of(sectors: &[[u8; SECTOR]], start: usize) -> Strip
+        requires within { start + 64 ≤ 1024 }
+        requires few { length sectors.now ≤ 32 }
+        requires sectors { All IsSector sectors.now }
+        ensures { IsStrip result start sectors.now sectors.now }
+    {
+        let mut strip = Strip {
+            reversed: [0; STRIP],
+            at_one: [0; STRIP],
+            at_generator: [0; STRIP],
+        };
+        for (i, sector) in sectors.iter().enumerate() {
+            strip.add(start, sector, &sectors[sectors.len() - 1 - i]);
+        }
+        strip
+    }
+
+    /// Takes the next sector from the front and the next one from the end.
+    fn add(&mut self, start: usize, sector: &[u8; SECTOR], from_end: &[u8; SECTOR])
+        requires { start + 64 ≤ 1024 }
+        ensures { AddsToStrip self.old start sector.now from_end.now self.new }
+    {
+        for j in 0..STRIP {
+            let byte = sector[start + j];
+            self.reversed[j] = times_x(self.reversed[j]) ^ from_end[start + j];
+            self.at_one[j] ^= byte;
+            self.at_generator[j] = times_x(self.at_generator[j]) ^ byte;
+        }
     }
 }
 

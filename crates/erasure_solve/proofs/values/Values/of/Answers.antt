@@ -1,39 +1,23 @@
-use Rattle.std.proofs.Common.{ℕ, ◌+◌, ◌≡◌, sym, subst, arith, List, [], ◌∷◌, ◌++◌, take, get_or}
-use Rattle.std.proofs.lemmas.List.{take_more}
-use Rattle.std.proofs.lemmas.List.Elements.{All-nil, All-more}
-use Rattle.gf256_qic.specs.Code.{IsSector}
-use Rattle.erasure_solve.specs.Rows.{AreValues}
-use Rattle.erasure_solve.proofs.Columns.{zeros_are_values, values_more, values_more_one, zeros_are_zero}
+use Rattle.std.proofs.Common.{◌≡◌, ℕ, ◌+◌, ◌*◌, ◌∙◌, ap, subst, arith, List, length}
+use Rattle.gf256_qic.specs.Field.{product, power}
+use Rattle.erasure_solve.specs.Rows.{PutsStrip}
+use Rattle.erasure_solve.proofs.Columns.{AreFirst, values_more, none_first, all_first}
 use Rattle.erasure_solve.proofs.values.Values.of.Goals as goal
 
-pub loop-sector-init : goal.loop-sector-init
-loop-sector-init c = record {
-  values = record {
-    at_inverse = zeros_are_values 0xC3 _ (zeros_are_zero 1024);
-    at_one = zeros_are_values 1 _ (zeros_are_zero 1024);
-    at_generator = zeros_are_values 2 _ (zeros_are_zero 1024);
-  };
-  sectors = All-nil IsSector;
-}
+pub loop-strip-init : goal.loop-strip-init
+loop-strip-init c = none_first _ c.args.sectors.now
 
-pub loop-sector-preserved : goal.loop-sector-preserved
-loop-sector-preserved c =
+pub loop-strip-preserved : goal.loop-strip-preserved
+loop-strip-preserved c =
     let ss : List (List ℕ) = c.args.sectors.now in
-    let i : ℕ = c.loop-sector.sector-index in
-    let s : List ℕ = get_or ss i [] in
-    let more : take (i + 1) ss ≡ take i ss ++ s ∷ [] = take_more ss i [] c.loop-sector-test.true in
-    let all = c.loop-sector.invariant.sectors in
-    let one = c.add_sector.ensures.sector in
-    let adds = c.add_sector.ensures.values in
-    let before = c.loop-sector.invariant.values in
-    let old = c.loop-sector.values in
-    let new = c.add_sector.new.values in
-    record {
-      values = subst (λ (ts : List (List ℕ)). AreValues new ts) (sym more)
-          (record {
-            at_inverse = values_more 0xC3 (take i ss) s old.at_inverse new.at_inverse (omega arith) all one adds.at_inverse before.at_inverse;
-            at_one = values_more_one (take i ss) s old.at_one new.at_one all one adds.at_one before.at_one;
-            at_generator = values_more 2 (take i ss) s old.at_generator new.at_generator (omega arith) all one adds.at_generator before.at_generator;
-          });
-      sectors = All-more IsSector ss i [] c.loop-sector-test.true all one;
-    }
+    let i : ℕ = c.loop-strip.strip in
+    let scale : c.mul-scale.result ≡ product 2 (power 0xC3 (length ss)) = c.mul-scale.ensures ∙ ap (product 2) c.pow.ensures in
+    let next : i * 64 + 64 ≡ (i + 1) * 64 = omega arith in
+    subst (λ (n : ℕ). AreFirst n c.put.new.self ss) next
+    (values_more c.loop-strip.values c.put.new.self c.of.result (i * 64) ss (omega arith) c.requires c.are_sectors.ensures
+    (subst (λ (k : ℕ). PutsStrip c.loop-strip.values c.of.result (i * 64) k c.put.new.self) scale c.put.ensures)
+    c.of.ensures c.loop-strip.invariant)
+
+pub returns-clause-values : goal.returns-clause-values
+returns-clause-values c =
+    all_first (c.loop-strip.strip * 64) c.loop-strip.values c.args.sectors.now (omega arith) c.loop-strip.invariant
