@@ -11,12 +11,13 @@ use Rattle.gf256_qic.specs.Field.{product, power}
 use Rattle.gf256_qic.specs.Code.{value_at, column, IsSector, IsCodeBlock, AgreesOutside, IsSolvable}
 use Rattle.gf256_qic.proofs.Products.{product_zero_right}
 use Rattle.erasure_solve.specs.Lost.{is_lost, lost_count}
-use Rattle.erasure_solve.specs.Rows.{IsZero, AreValues, AreZero, weighed_row}
-use Rattle.erasure_solve.specs.Correction.{correction_factors, Corrections, AreDegrees, Found, Agree, Applied, AllApplied}
+use Rattle.erasure_solve.specs.Rows.{IsZero, AreValues, AreZero, Corrects, weighed_byte, weighed_row}
+use Rattle.erasure_solve.specs.Correction.{correction, correction_factors, Corrections, AreDegrees, Found, Agree, Applied, AllApplied}
 use Rattle.erasure_solve.specs.Plan.{planned_count, planned_lost, corrections_of, IsPlan, IsFull}
+use Rattle.erasure_solve.specs.declared.coefficients.Coefficients.{Coefficients}
 use Rattle.erasure_solve.specs.declared.values.Values.{Values}
 use Rattle.erasure_solve.specs.declared.plan.Plan.{Plan}
-use Rattle.erasure_solve.proofs.Blocks.{any_default_of, get_or-weighed_row, is_correction, made_block, must_agree, none_lost}
+use Rattle.erasure_solve.proofs.Blocks.{ThreeDegrees, three_degrees, third_from_others, any_default_of, get_or-weighed_row, is_correction, made_block, must_agree, none_lost}
 
 pub found_by :
     (plan : Plan) (values : Values) (ss : List (List ℕ)) → IsPlan plan → length ss ≡ planned_count plan →
@@ -155,20 +156,66 @@ factors_of factors x y z d e f same ed ee ef =
     ∙ ap (λ (v : ℕ). correction_factors (power 2 d) (power 2 v) (power 2 z)) (sym ee)
     ∙ ap (λ (v : ℕ). correction_factors (power 2 d) (power 2 e) (power 2 v)) (sym ef)
 
+-- another row of the same bytes
+applied_as : (degree : ℕ) (row other : List ℕ) (old new : List (List ℕ)) →
+    ((j : ℕ) → j < 1024 → get_or row j 0 ≡ get_or other j 0) → Applied degree row old new → Applied degree other old new
+applied_as degree row other old new same applied = record {
+  beyond = applied.beyond;
+  within = λ low.
+      let done = applied.within low in
+      let adds = done.2 in (
+        done.0,
+        done.1,
+        record {
+          size = adds.size;
+          each = λ j h. adds.each j h ∙ ap (bit_xor (get_or (get_or old (length old - 1 - degree) done.0) j 0)) (same j h);
+        },
+      );
+}
+
 pub filled :
-    (plan : Plan) (values : Values) (old once twice new : List (List ℕ)) → IsPlan plan → length old ≡ planned_count plan →
+    (plan : Plan) (values rows : Values) (old once twice new : List (List ℕ)) → IsPlan plan → length old ≡ planned_count plan →
     All IsSector old → AreValues values old → IsSolvable (is_lost (planned_lost plan)) old →
-    Applied plan.first.degree (weighed_row values plan.first.factors) old once →
-    Applied plan.second.degree (weighed_row values plan.second.factors) once twice →
-    Applied plan.third.degree (weighed_row values plan.third.factors) twice new →
+    Corrects values plan.first.factors plan.second.factors rows →
+    Applied plan.first.degree rows.at_inverse old once → Applied plan.second.degree rows.at_one once twice →
+    Applied plan.third.degree rows.at_generator twice new →
     IsCodeBlock new × AgreesOutside (is_lost (planned_lost plan)) old new
-filled plan values old once twice new is count all are solvable one two three =
+filled plan values rows old once twice new is count all are solvable made one two three =
     let least : 4 ≤ planned_count plan = is.least in
     let most : planned_count plan ≤ 32 = is.most in
+    let d : ℕ = plan.first.degree in
+    let e : ℕ = plan.second.degree in
+    let f : ℕ = plan.third.degree in
     let found : Found (planned_lost plan) old (corrections_of plan values) = found_by plan values old is count all are in
+    let places : ThreeDegrees d e f = three_degrees (planned_lost plan) (planned_count plan) d e f is.degrees in
+    let s : ℕ → ℕ = λ j. value_at 0xC3 (column j old) in
+    let t : ℕ → ℕ = λ j. value_at 1 (column j old) in
+    let u : ℕ → ℕ = λ j. value_at 2 (column j old) in
+    let a : ℕ → ℕ = λ j. correction (power 2 d) (power 2 e) (power 2 f) (s j) (t j) (u j) in
+    let b : ℕ → ℕ = λ j. correction (power 2 e) (power 2 d) (power 2 f) (s j) (t j) (u j) in
+    let first : (j : ℕ) → j < 1024 → weighed_byte values plan.first.factors j ≡ a j =
+    λ j h. sym (get_or-weighed_row values plan.first.factors j h) ∙ found.first.each j h in
+    let second : (j : ℕ) → j < 1024 → weighed_byte values plan.second.factors j ≡ b j =
+    λ j h. sym (get_or-weighed_row values plan.second.factors j h) ∙ found.second.each j h in
+    let row : Coefficients → List ℕ = λ own. weighed_row values own.factors in
     made_block (planned_lost plan) old new (corrections_of plan values) (omega arith) (omega arith) found
     (must_agree (planned_lost plan) old (corrections_of plan values) (omega arith) found solvable)
-    (record { once = once; twice = twice; first = one; second = two; third = three })
+    (record {
+      once = once;
+      twice = twice;
+      first = applied_as d rows.at_inverse (row plan.first) old once
+          (λ j h. made.at_first j h ∙ sym (get_or-weighed_row values plan.first.factors j h)) one;
+      second = applied_as e rows.at_one (row plan.second) once twice
+          (λ j h. made.at_second j h ∙ sym (get_or-weighed_row values plan.second.factors j h)) two;
+      third = applied_as f rows.at_generator (row plan.third) twice new
+          (λ j h.
+          made.at_third j h
+          ∙ ap (λ v. bit_xor (bit_xor v (weighed_byte values plan.second.factors j)) (get_or values.at_one j 0)) (first j h)
+          ∙ ap (λ v. bit_xor (bit_xor (a j) v) (get_or values.at_one j 0)) (second j h)
+          ∙ ap (bit_xor (bit_xor (a j) (b j))) (are.at_one.each j h)
+          ∙ third_from_others old d e f j places all h (s j) (t j) (u j) refl refl refl
+          ∙ sym (found.third.each j h)) three;
+    })
 
 pub plan_solvable : (plan : Plan) (values : Values) (ss : List (List ℕ)) → IsPlan plan → length ss ≡ planned_count plan →
     All IsSector ss → AreValues values ss → Agree (corrections_of plan values) → IsSolvable (is_lost (planned_lost plan)) ss

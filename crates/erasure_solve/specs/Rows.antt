@@ -66,6 +66,14 @@ weighed_byte values factors j =
 unfoldable pub weighed_row : Values → List ℕ → List ℕ
 weighed_row values factors = map (weighed_byte values factors) (range_with_len 0 1024)
 
+-- the values of each column were made what is added to its bytes at three places: the first two by their
+-- factors, and the third so that the three add up to the value at 1
+pub record Corrects (values : Values) (first second : List ℕ) (rows : Values) : Type 0 where
+  pub at_first : (j : ℕ) → j < 1024 → slice_index rows.at_inverse j ≡ weighed_byte values first j
+  pub at_second : (j : ℕ) → j < 1024 → slice_index rows.at_one j ≡ weighed_byte values second j
+  pub at_third : (j : ℕ) → j < 1024 → slice_index rows.at_generator j
+      ≡ bit_xor (bit_xor (weighed_byte values first j) (weighed_byte values second j)) (slice_index values.at_one j)
+
 -- the sum of a sector and a row
 pub record AddsRow (row old new : List ℕ) : Type 0 where
   pub size : length new ≡ 1024

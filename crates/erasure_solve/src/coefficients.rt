@@ -2,7 +2,7 @@
 
 ghost use Rattle.std.specs.Prelude.{◌≡◌, ◌≢◌, ◌<◌, ◌↔◌, length, IsTrue};
 ghost use Rattle.gf256_qic.specs.Field.{power};
-ghost use Rattle.erasure_solve.specs.Rows.{AddsRow, weighed_row};
+ghost use Rattle.erasure_solve.specs.Rows.{AddsRow, Corrects, weighed_row};
 ghost use Rattle.erasure_solve.specs.Correction.{correction_factors, FitsDegree, Applied};
 
 use crate::SECTOR;
@@ -61,17 +61,34 @@ impl Coefficients {
         self.degree < NO_PLACE || is_zero(&weighed(values, &self.factors))
     }
 
-    /// Changes the sector at the place, if the degree is that of one.
-    pub fn apply(&self, values: &Values, sectors: &mut [[u8; SECTOR]])
+    /// Adds the row to the sector at the place, if the degree is that of one.
+    pub fn apply(&self, row: &[u8; SECTOR], sectors: &mut [[u8; SECTOR]])
         requires { self.now.degree < 32 → self.now.degree < length sectors.old }
-        ensures { let row = weighed_row values.now self.now.factors in
-            Applied self.now.degree row sectors.old sectors.new }
+        ensures { Applied self.now.degree row.now sectors.old sectors.new }
     {
         if self.degree < NO_PLACE {
-            let row = weighed(values, &self.factors);
             let place = sectors.len() - 1 - self.degree as usize;
-            add_row(&mut sectors[place], &row);
+            add_row(&mut sectors[place], row);
         }
+    }
+}
+
+/// Makes of the values of each column what is added to its bytes at three places: at the first two by
+/// their factors, and at the third what these leave of the value at 1, the sum of all three.
+pub fn correct(values: &mut Values, first: &Coefficients, second: &Coefficients)
+    ensures { Corrects values.old first.now.factors second.now.factors values.new }
+{
+    let [p, q, r] = first.factors;
+    let [u, v, w] = second.factors;
+    for j in 0..SECTOR {
+        let inverse = values.at_inverse[j];
+        let one = values.at_one[j];
+        let generator = values.at_generator[j];
+        let at_first = mul_by_shifts(p, inverse) ^ mul_by_shifts(q, one) ^ mul_by_shifts(r, generator);
+        let at_second = mul_by_shifts(u, inverse) ^ mul_by_shifts(v, one) ^ mul_by_shifts(w, generator);
+        values.at_inverse[j] = at_first;
+        values.at_one[j] = at_second;
+        values.at_generator[j] = at_first ^ at_second ^ one;
     }
 }
 

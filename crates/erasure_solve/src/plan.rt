@@ -6,7 +6,7 @@ ghost use Rattle.erasure_solve.specs.Lost.{is_lost, lost_count, IsOnlyBlock};
 ghost use Rattle.erasure_solve.specs.Correction.{AreDegrees, Agree};
 ghost use Rattle.erasure_solve.specs.Plan.{planned_count, planned_lost, corrections_of, IsPlan, IsPlanFor, IsFull};
 
-use crate::coefficients::{Coefficients, NO_PLACE};
+use crate::coefficients::{Coefficients, NO_PLACE, correct};
 use crate::values::{Values, are_sectors};
 use crate::{SECTOR, SolveFault};
 use qic_base::LostSet;
@@ -94,10 +94,11 @@ impl Plan {
         ensures others { AgreesOutside (is_lost (planned_lost self.now)) sectors.old sectors.new }
         ensures only { IsOnlyBlock (is_lost (planned_lost self.now)) sectors.old sectors.new }
     {
-        let values = Values::of(sectors);
-        self.first.apply(&values, sectors);
-        self.second.apply(&values, sectors);
-        self.third.apply(&values, sectors);
+        let mut rows = Values::of(sectors);
+        correct(&mut rows, &self.first, &self.second);
+        self.first.apply(&rows.at_inverse, sectors);
+        self.second.apply(&rows.at_one, sectors);
+        self.third.apply(&rows.at_generator, sectors);
     }
 
     /// Whether three places are lost, so that no equation is left over.
