@@ -218,22 +218,22 @@ added_up a b c v h =
 
 -- the third correction is what the others leave of the value at 1
 pub third_from_others : (ss : List (List ℕ)) (d e f j : ℕ) → ThreeDegrees d e f → All IsSector ss → j < 1024 →
-    (s t u : ℕ) → s ≡ value_at 0xC3 (column j ss) → t ≡ value_at 1 (column j ss) → u ≡ value_at 2 (column j ss) →
-    bit_xor (bit_xor (correction (power 2 d) (power 2 e) (power 2 f) s t u) (correction (power 2 e) (power 2 d) (power 2 f) s t u)) t
-    ≡ correction (power 2 f) (power 2 d) (power 2 e) s t u
-third_from_others ss d e f j places all h s t u es et eu =
+    let Made : ℕ → ℕ → ℕ → ℕ = λ own other third. correction (power 2 own) (power 2 other) (power 2 third)
+    (value_at 0xC3 (column j ss)) (value_at 1 (column j ss)) (value_at 2 (column j ss)) in
+    bit_xor (bit_xor (Made d e f) (Made e d f)) (value_at 1 (column j ss)) ≡ Made f d e
+third_from_others ss d e f j places all h =
     let cs : List ℕ = column j ss in
     let bytes : AllBytes cs = bytes_of_column j ss h all in
-    let P : ℕ → Type 0 = λ v. v < 256 in
-    let hs : s < 256 = subst P (sym es) (value_at-byte 0xC3 cs (omega arith) bytes) in
-    let ht : t < 256 = subst P (sym et) (value_at-byte 1 cs (omega arith) bytes) in
-    let hu : u < 256 = subst P (sym eu) (value_at-byte 2 cs (omega arith) bytes) in
+    let s : ℕ = value_at 0xC3 cs in
+    let t : ℕ = value_at 1 cs in
+    let u : ℕ = value_at 2 cs in
     let a : ℕ = correction (power 2 d) (power 2 e) (power 2 f) s t u in
     let b : ℕ = correction (power 2 e) (power 2 d) (power 2 f) s t u in
     let c : ℕ = correction (power 2 f) (power 2 d) (power 2 e) s t u in
     let fit : AddUp (power 2 d) (power 2 e) (power 2 f) (power 0xC3 d) (power 0xC3 e) (power 0xC3 f) a b c s t u =
     corrections_fit (power 2 d) (power 2 e) (power 2 f) (power 0xC3 d) (power 0xC3 e) (power 0xC3 f) s t u
-    (powers_of d e f places) hs ht hu in
+    (powers_of d e f places) (value_at-byte 0xC3 cs (omega arith) bytes) (value_at-byte 1 cs (omega arith) bytes)
+    (value_at-byte 2 cs (omega arith) bytes) in
     ap (bit_xor (bit_xor a b)) (sym fit.at_one ∙ sym (xor_assoc a b c)) ∙ sum_cancel (bit_xor a b) c
 
 -- ---- made corrections give a code block

@@ -118,7 +118,7 @@ strip_none strip start ss reversed one generator =
     none root j = ap (value_at root) (column-none (start + j)) ∙ value_at-none root
 
 pub strip_more :
-    (old new : Strip) (start : ℕ) (front back : List (List ℕ)) (s t : List ℕ) → start + 64 ≤ 1024 →
+    (old new : Strip) (start : ℕ) (front back : List (List ℕ)) (s t : List ℕ) → start + 128 ≤ 1024 →
     All IsSector front → All IsSector back → IsSector s → IsSector t → length back < 35 →
     AddsToStrip old start s t new → IsStrip old start front back → IsStrip new start (front ++ s ∷ []) (t ∷ back)
 strip_more old new start front back s t inside hf hb hs ht few adds is = record {
@@ -160,7 +160,7 @@ strip_more old new start front back s t inside hf hb hs ht few adds is = record 
 
 -- the next sector from both ends
 pub strip_next :
-    (old new : Strip) (start i : ℕ) (ss : List (List ℕ)) → start + 64 ≤ 1024 → All IsSector ss → i < length ss → length ss ≤ 32 →
+    (old new : Strip) (start i : ℕ) (ss : List (List ℕ)) → start + 128 ≤ 1024 → All IsSector ss → i < length ss → length ss ≤ 32 →
     AddsToStrip old start (get_or ss i []) (get_or ss (length ss - 1 - i) []) new →
     IsStrip old start (take i ss) (drop (length ss - i) ss) →
     IsStrip new start (take (i + 1) ss) (drop (length ss - (i + 1)) ss)
@@ -188,8 +188,8 @@ pub record HasFirst (count root : ℕ) (row : List ℕ) (sectors : List (List �
 
 part_more :
     (root start : ℕ) (byte : ℕ → ℕ) (old new : List ℕ) (ss : List (List ℕ)) → PutsPart byte start old new →
-    ((j : ℕ) → j < 64 → byte j ≡ value_at root (column (start + j) ss)) →
-    HasFirst start root old ss → HasFirst (start + 64) root new ss
+    ((j : ℕ) → j < 128 → byte j ≡ value_at root (column (start + j) ss)) →
+    HasFirst start root old ss → HasFirst (start + 128) root new ss
 part_more root start byte old new ss puts values first = record {
   each = λ k h.
       elim (cases_lt k start) [
@@ -197,7 +197,7 @@ part_more root start byte old new ss puts values first = record {
         | inr high ↦
             let j : ℕ = k - start in
             let at : start + j ≡ k = omega arith in
-            let small : j < 64 = omega arith in
+            let small : j < 128 = omega arith in
             ap (λ (i : ℕ). get_or new i 0) (sym at) ∙ puts.part j small ∙ values j small
             ∙ ap (λ (i : ℕ). value_at root (column i ss)) at
       ];
@@ -209,10 +209,10 @@ pub record AreFirst (count : ℕ) (values : Values) (sectors : List (List ℕ)) 
   pub at_generator : HasFirst count 0x02 values.at_generator sectors
 
 pub values_more :
-    (old new : Values) (strip : Strip) (start : ℕ) (ss : List (List ℕ)) → start + 64 ≤ 1024 → length ss ≤ 32 →
+    (old new : Values) (strip : Strip) (start : ℕ) (ss : List (List ℕ)) → start + 128 ≤ 1024 → length ss ≤ 32 →
     All IsSector ss →
     PutsStrip old strip start (product 2 (power 0xC3 (length ss))) new → IsStrip strip start ss ss →
-    AreFirst start old ss → AreFirst (start + 64) new ss
+    AreFirst start old ss → AreFirst (start + 128) new ss
 values_more old new strip start ss inside few all puts is first = record {
   at_inverse = part_more 0xC3 start (λ j. product (product 2 (power 0xC3 (length ss))) (get_or strip.reversed j 0))
       old.at_inverse new.at_inverse ss puts.at_inverse

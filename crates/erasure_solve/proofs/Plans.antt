@@ -213,7 +213,7 @@ filled plan values rows old once twice new is count all are solvable made one tw
           ∙ ap (λ v. bit_xor (bit_xor v (weighed_byte values plan.second.factors j)) (get_or values.at_one j 0)) (first j h)
           ∙ ap (λ v. bit_xor (bit_xor (a j) v) (get_or values.at_one j 0)) (second j h)
           ∙ ap (bit_xor (bit_xor (a j) (b j))) (are.at_one.each j h)
-          ∙ third_from_others old d e f j places all h (s j) (t j) (u j) refl refl refl
+          ∙ third_from_others old d e f j places all h
           ∙ sym (found.third.each j h)) three;
     })
 

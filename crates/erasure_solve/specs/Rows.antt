@@ -24,27 +24,27 @@ pub record AreZero (values : Values) : Type 0 where
   pub at_one : IsZero values.at_one
   pub at_generator : IsZero values.at_generator
 
--- what is gathered of 64 columns: the values of the sectors `front` at 1 and 0x02, and the sum of d_i * 2^i
+-- what is gathered of 128 columns: the values of the sectors `front` at 1 and 0x02, and the sum of d_i * 2^i
 -- over the bytes d_0 to d_(n-1) of the sectors `back`, which is 2^(n-1) times their value at 0xC3
 pub record IsStrip (strip : Strip) (start : ℕ) (front back : List (List ℕ)) : Type 0 where
-  pub bytes : (j : ℕ) → j < 64 → slice_index strip.reversed j < 256
-  pub reversed : (j : ℕ) → j < 64 → product (slice_index strip.reversed j) 0x02
+  pub bytes : (j : ℕ) → j < 128 → slice_index strip.reversed j < 256
+  pub reversed : (j : ℕ) → j < 128 → product (slice_index strip.reversed j) 0x02
       ≡ product (value_at 0xC3 (column (start + j) back)) (power 0x02 (length back))
-  pub at_one : (j : ℕ) → j < 64 → slice_index strip.at_one j ≡ value_at 0x01 (column (start + j) front)
-  pub at_generator : (j : ℕ) → j < 64 → slice_index strip.at_generator j ≡ value_at 0x02 (column (start + j) front)
+  pub at_one : (j : ℕ) → j < 128 → slice_index strip.at_one j ≡ value_at 0x01 (column (start + j) front)
+  pub at_generator : (j : ℕ) → j < 128 → slice_index strip.at_generator j ≡ value_at 0x02 (column (start + j) front)
 
 -- one sector further from the front, and one from the end
 pub record AddsToStrip (old : Strip) (start : ℕ) (sector from_end : List ℕ) (new : Strip) : Type 0 where
-  pub reversed : (j : ℕ) → j < 64 → slice_index new.reversed j
+  pub reversed : (j : ℕ) → j < 128 → slice_index new.reversed j
       ≡ bit_xor (product (slice_index old.reversed j) 0x02) (slice_index from_end (start + j))
-  pub at_one : (j : ℕ) → j < 64 → slice_index new.at_one j
+  pub at_one : (j : ℕ) → j < 128 → slice_index new.at_one j
       ≡ bit_xor (slice_index old.at_one j) (slice_index sector (start + j))
-  pub at_generator : (j : ℕ) → j < 64 → slice_index new.at_generator j
+  pub at_generator : (j : ℕ) → j < 128 → slice_index new.at_generator j
       ≡ bit_xor (product (slice_index old.at_generator j) 0x02) (slice_index sector (start + j))
 
--- 64 bytes of a row were put in their place, and those before it are as they were
+-- 128 bytes of a row were put in their place, and those before it are as they were
 pub record PutsPart (byte : ℕ → ℕ) (start : ℕ) (old new : List ℕ) : Type 0 where
-  pub part : (j : ℕ) → j < 64 → slice_index new (start + j) ≡ byte j
+  pub part : (j : ℕ) → j < 128 → slice_index new (start + j) ≡ byte j
   pub before : (k : ℕ) → k < start → slice_index new k ≡ slice_index old k
 
 -- the values of a strip's columns were put in their places

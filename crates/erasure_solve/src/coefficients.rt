@@ -84,8 +84,12 @@ pub fn correct(values: &mut Values, first: &Coefficients, second: &Coefficients)
         let inverse = values.at_inverse[j];
         let one = values.at_one[j];
         let generator = values.at_generator[j];
-        let at_first = mul_by_shifts(p, inverse) ^ mul_by_shifts(q, one) ^ mul_by_shifts(r, generator);
-        let at_second = mul_by_shifts(u, inverse) ^ mul_by_shifts(v, one) ^ mul_by_shifts(w, generator);
+        let at_first = mul_by_shifts(p, inverse)
+            ^ mul_by_shifts(q, one)
+            ^ mul_by_shifts(r, generator);
+        let at_second = mul_by_shifts(u, inverse)
+            ^ mul_by_shifts(v, one)
+            ^ mul_by_shifts(w, generator);
         values.at_inverse[j] = at_first;
         values.at_one[j] = at_second;
         values.at_generator[j] = at_first ^ at_second ^ one;

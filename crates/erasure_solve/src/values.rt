@@ -8,7 +8,7 @@ use crate::SECTOR;
 use gf256_qic::{mul, mul_by_shifts, pow, times_x};
 
 /// How many columns are taken at once: so few that what is gathered of them stays in registers.
-const STRIP: usize = 64;
+const STRIP: usize = 128;
 
 /// The value of each column of a segment at each root: all 0 where the sectors are a code block.
 #[derive(Drop)]
@@ -41,7 +41,7 @@ impl Values {
 
     /// Puts the values of a strip's columns to their places.
     fn put(&mut self, strip: &Strip, start: usize, scale: u8)
-        requires { start + 64 ≤ 1024 }
+        requires { start + 128 ≤ 1024 }
         ensures { PutsStrip self.old strip.now start scale self.new }
     {
         for j in 0..STRIP {
@@ -79,7 +79,7 @@ struct Strip {
 impl Strip {
     /// The strip of the columns from `start` on.
     fn of(sectors: &[[u8; SECTOR]], start: usize) -> Strip
-        requires within { start + 64 ≤ 1024 }
+        requires within { start + 128 ≤ 1024 }
         requires few { length sectors.now ≤ 32 }
         requires sectors { All IsSector sectors.now }
         ensures { IsStrip result start sectors.now sectors.now }
@@ -97,7 +97,7 @@ impl Strip {
 
     /// Takes the next sector from the front and the next one from the end.
     fn add(&mut self, start: usize, sector: &[u8; SECTOR], from_end: &[u8; SECTOR])
-        requires { start + 64 ≤ 1024 }
+        requires { start + 128 ≤ 1024 }
         ensures { AddsToStrip self.old start sector.now from_end.now self.new }
     {
         for j in 0..STRIP {

@@ -3,7 +3,7 @@ use Rattle.erasure_solve.proofs.Columns.{zeros_are_zero, strip_none, strip_next}
 use Rattle.erasure_solve.proofs.values.Strip.of.Goals as goal
 
 pub loop-i-init : goal.loop-i-init
-loop-i-init c = strip_none _ c.args.start c.args.sectors.now (zeros_are_zero 64) (zeros_are_zero 64) (zeros_are_zero 64)
+loop-i-init c = strip_none _ c.args.start c.args.sectors.now (zeros_are_zero 128) (zeros_are_zero 128) (zeros_are_zero 128)
 
 pub loop-i-preserved : goal.loop-i-preserved
 loop-i-preserved c =

@@ -12,12 +12,12 @@ loop-strip-preserved c =
     let ss : List (List ℕ) = c.args.sectors.now in
     let i : ℕ = c.loop-strip.strip in
     let scale : c.mul-scale.result ≡ product 2 (power 0xC3 (length ss)) = c.mul-scale.ensures ∙ ap (product 2) c.pow.ensures in
-    let next : i * 64 + 64 ≡ (i + 1) * 64 = omega arith in
+    let next : i * 128 + 128 ≡ (i + 1) * 128 = omega arith in
     subst (λ (n : ℕ). AreFirst n c.put.new.self ss) next
-    (values_more c.loop-strip.values c.put.new.self c.of.result (i * 64) ss (omega arith) c.requires c.are_sectors.ensures
-    (subst (λ (k : ℕ). PutsStrip c.loop-strip.values c.of.result (i * 64) k c.put.new.self) scale c.put.ensures)
+    (values_more c.loop-strip.values c.put.new.self c.of.result (i * 128) ss (omega arith) c.requires c.are_sectors.ensures
+    (subst (λ (k : ℕ). PutsStrip c.loop-strip.values c.of.result (i * 128) k c.put.new.self) scale c.put.ensures)
     c.of.ensures c.loop-strip.invariant)
 
 pub returns-clause-values : goal.returns-clause-values
 returns-clause-values c =
-    all_first (c.loop-strip.strip * 64) c.loop-strip.values c.args.sectors.now (omega arith) c.loop-strip.invariant
+    all_first (c.loop-strip.strip * 128) c.loop-strip.values c.args.sectors.now (omega arith) c.loop-strip.invariant
