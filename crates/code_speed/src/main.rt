@@ -3,13 +3,13 @@
 //! standard output, and the time that each of the two took to standard error.
 #![tactic(auto)]
 
-ghost use Rattle.std.specs.Prelude.{◌++◌, ◌↔◌, IsOk, OnOk};
+ghost use Rattle.std.specs.Prelude.{◌≡◌, ◌↔◌, take, IsOk, OnOk};
 ghost use Rattle.gf256_qic.specs.Code.{IsCodeBlock, IsSolvable};
 ghost use Rattle.erasure_solve.specs.Lost.{is_lost};
 
 use erasure_solve::{SolveFault, solve};
 use qic_base::LostSet;
-use segment_parity::Parity;
+use segment_parity::parity_of;
 use std::env::Env;
 use std::process::ExitCode;
 use std::time::{Clock, Duration, Instant};
@@ -32,11 +32,11 @@ const LOST_MASK: u32 = 0x0200_4008;
 
 fn main(rt: HostRuntime) -> io::Result<ExitCode> {
     let times = repetitions(&rt)?;
-    let mut data = [[0x5A; SECTOR]; DATA];
-    let (parity, encoding) = timed_encoding(&rt, &mut data, times)?;
-    let mut segment = joined(&data, &parity);
+    let mut segment = [[0x5A; SECTOR]; WHOLE];
+    let encoding = timed_encoding(&rt, &mut segment, times)?;
+    let encoded = segment;
     let (whole, solving) = timed_solving(&rt, &mut segment, times)?;
-    if !whole || segment != joined(&data, &parity) {
+    if !whole || segment != encoded {
         return Ok(ExitCode::FAILURE);
     }
     let bytes = BYTES * u64::from(times);
@@ -58,19 +58,19 @@ fn repetitions<R: Env + AllocGlobal>(rt: &R) -> io::Result<u32> {
     }
 }
 
-/// The parity after the last encoding, each of which changes the data by the one before.
+/// Encodes the segment so many times, and changes the data by the parity before each but the first.
 fn timed_encoding(
     clock: &impl Clock,
-    data: &mut [[u8; SECTOR]; DATA],
+    segment: &mut [[u8; SECTOR]; WHOLE],
     times: u32,
-) -> io::Result<([[u8; SECTOR]; 3], Duration)> {
+) -> io::Result<Duration> {
     let start = Instant::now(clock)?;
-    let mut parity = encoded(data);
+    encode(segment);
     for i in 1..times {
-        data[i as usize % DATA][i as usize % SECTOR] ^= parity[2][0];
-        parity = encoded(data);
+        segment[i as usize % DATA][i as usize % SECTOR] ^= segment[WHOLE - 1][0];
+        encode(segment);
     }
-    Ok((parity, start.elapsed(clock)?))
+    start.elapsed(clock)
 }
 
 /// Whether each solving went well, after three sectors were overwritten.
@@ -95,15 +95,13 @@ fn overwrite(segment: &mut [[u8; SECTOR]; WHOLE], byte: u8) {
     }
 }
 
-/// The three parity sectors of 29 data sectors.
-fn encoded(sectors: &[[u8; SECTOR]; DATA]) -> [[u8; SECTOR]; 3]
-    ensures { IsCodeBlock (sectors.now ++ result) }
+/// Puts the parity behind the 29 data sectors.
+fn encode(segment: &mut [[u8; SECTOR]; WHOLE])
+    ensures block { IsCodeBlock segment.new }
+    ensures data { take 29 segment.new ≡ take 29 segment.old }
 {
-    let mut parity = Parity::new();
-    for sector in sectors {
-        parity.push(sector);
-    }
-    parity.finish()
+    let parity = parity_of(&segment[..DATA]);
+    segment[DATA..].copy_from_slice(&parity);
 }
 
 /// Finds the three lost sectors.
@@ -112,12 +110,4 @@ fn solved(segment: &mut [[u8; SECTOR]; WHOLE]) -> Result<(), SolveFault>
     ensures solved { IsOk result ↔ IsSolvable (is_lost 0x0200_4008) segment.old }
 {
     solve(segment, LostSet::from_mask(LOST_MASK))
-}
-
-/// The data sectors and the parity sectors behind them.
-fn joined(data: &[[u8; SECTOR]; DATA], parity: &[[u8; SECTOR]; 3]) -> [[u8; SECTOR]; WHOLE] {
-    let mut segment = [[0; SECTOR]; WHOLE];
-    segment[..DATA].copy_from_slice(data);
-    segment[DATA..].copy_from_slice(parity);
-    segment
 }

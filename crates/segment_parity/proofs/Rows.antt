@@ -40,7 +40,7 @@ bytes_of_lower =
     more_bytes 0xC0 (0xC0 ∷ 1 ∷ []) (omega arith) (more_bytes 0xC0 (1 ∷ []) (omega arith) (more_bytes 1 [] (omega arith) no_bytes))
 
 -- a column's register after one more byte, where f is the feedback
-abbrev shifted : ℕ → ℕ → ℕ → List ℕ
+abbrev pub shifted : ℕ → ℕ → ℕ → List ℕ
 shifted m l f = bit_xor m (product f 0xC0) ∷ bit_xor l (product f 0xC0) ∷ f ∷ []
 
 shifted-sum : (m l f : ℕ) → f < 256 → added (m ∷ l ∷ 0 ∷ []) (scaled f lower) ≡ shifted m l f
@@ -131,7 +131,7 @@ parity_more ds d h m l all hd same =
 pub sector_from : (s : List ℕ) → length s ≡ 1024 → ((i : ℕ) → get_or s i 0 < 256) → IsSector s
 sector_from s size fits = record { size = size; bytes = All-from_get_or (λ b. b < 256) s 0 (λ i h. fits i) }
 
-column-one : (j : ℕ) (s : List ℕ) → column j (s ∷ []) ≡ get_or s j 0 ∷ []
+pub column-one : (j : ℕ) (s : List ℕ) → column j (s ∷ []) ≡ get_or s j 0 ∷ []
 unfolding column
 column-one j s = refl
 
@@ -178,17 +178,17 @@ register_more old new s ss three rows all one shift same =
 
 -- ---- what the register stands for
 
-column-none : (j : ℕ) → column j [] ≡ []
+pub column-none : (j : ℕ) → column j [] ≡ []
 unfolding column
 column-none j = refl
 
 -- the parity of no data is 0, by computation
-parity_none : parity [] ≡ 0 ∷ 0 ∷ 0 ∷ []
+pub parity_none : parity [] ≡ 0 ∷ 0 ∷ 0 ∷ []
 unfolding parity through data_sum lagrange added product shifted_copies remainder power inverse
 parity_none = refl
 
 -- a row of zeros is 0 at each index, and past its end
-zeros_are_zero : (n j : ℕ) → get_or {A = ℕ} (replicate n 0) j 0 ≡ 0
+pub zeros_are_zero : (n j : ℕ) → get_or {A = ℕ} (replicate n 0) j 0 ≡ 0
 zeros_are_zero zero j = refl
 zeros_are_zero (suc n) zero = refl
 zeros_are_zero (suc n) (suc j) = zeros_are_zero n j

@@ -1,7 +1,7 @@
 -- What a `Parity` stands for, in the words of the code, and how its register takes a sector.
-use Rattle.std.specs.Prelude.{ℕ, ◌<◌, ◌≤◌, ◌≡◌, List, [], length, All, slice_index, slice_index_or, bit_xor}
+use Rattle.std.specs.Prelude.{ℕ, ◌+◌, ◌<◌, ◌≤◌, ◌≡◌, List, [], ◌∷◌, length, All, slice_index, slice_index_or, bit_xor}
 use Rattle.gf256_qic.specs.Field.{product}
-use Rattle.gf256_qic.specs.Code.{IsSector, parity_sectors}
+use Rattle.gf256_qic.specs.Code.{IsSector, column, parity, parity_sectors}
 use Rattle.segment_parity.specs.declared.Parity.{Parity}
 
 -- how many sectors were pushed
@@ -31,3 +31,17 @@ pub record Shifted (old : List (List ℕ)) (sector : List ℕ) (new : List (List
   pub middle : (j : ℕ) → j < n →
       at new 1 j ≡ bit_xor (at old 2 j) (product (feedback old sector j) 0xC0)
   pub low : (j : ℕ) → j < n → at new 2 j ≡ feedback old sector j
+
+-- so many columns of three rows are the parity of those of the sectors, from the column `start` on (QIC-80-MC)
+abbrev pub AreParity : List ℕ → List ℕ → List ℕ → List (List ℕ) → ℕ → ℕ → Type 0
+AreParity high middle low sectors start count =
+    (j : ℕ) → j < count →
+    slice_index high j ∷ slice_index middle j ∷ slice_index low j ∷ [] ≡ parity (column (start + j) sectors)
+
+-- the rows are whole, and so many of their columns, from the first on, are the parity of those of the sectors
+pub record HasColumns (rows : List (List ℕ)) (sectors : List (List ℕ)) (count : ℕ) : Type 0 where
+  pub high : length (slice_index_or rows 0 []) ≡ 1024
+  pub middle : length (slice_index_or rows 1 []) ≡ 1024
+  pub low : length (slice_index_or rows 2 []) ≡ 1024
+  pub columns :
+      AreParity (slice_index_or rows 0 []) (slice_index_or rows 1 []) (slice_index_or rows 2 []) sectors 0 count

@@ -1,10 +1,10 @@
 //! The parity of a segment, gathered sector by sector in a register of three bytes a column.
 #![tactic(auto)]
 
-ghost use Rattle.std.specs.Prelude.{◌≡◌, ℕ, ◌+◌, ◌<◌, ◌≤◌, List, [], ◌∷◌, ◌++◌, length, All};
+ghost use Rattle.std.specs.Prelude.{◌≡◌, ℕ, ◌+◌, ◌<◌, ◌≤◌, List, [], ◌∷◌, ◌++◌, length, All, slice_index};
 ghost use Rattle.gf256_qic.specs.Field.{product};
 ghost use Rattle.gf256_qic.specs.Code.{parity_sectors, IsSector, IsCodeBlock};
-ghost use Rattle.segment_parity.specs.Register.{pushed, Holds, Shifted};
+ghost use Rattle.segment_parity.specs.Register.{pushed, Holds, Shifted, AreParity, HasColumns};
 
 use gf256_qic::{over_x, times_x};
 pub use putting::put_parity;
@@ -12,6 +12,9 @@ pub use putting::put_parity;
 mod putting;
 
 const SECTOR: usize = 1024;
+
+/// The columns that `parity_of` takes at a time, few enough for the processor's registers.
+const BLOCK: usize = 128;
 
 /// The parity of the data sectors of a segment so far, 0 to 29 of them (QIC-80-MC).
 #[derive(Drop)]
@@ -82,11 +85,62 @@ pub fn parity_of(sectors: &[[u8; SECTOR]]) -> [[u8; SECTOR]; 3]
     ensures parity { result ≡ parity_sectors sectors.now }
     ensures block { IsCodeBlock (sectors.now ++ result) }
 {
-    let mut parity = Parity::new();
-    for sector in sectors {
-        parity.push(sector);
+    let mut rows = [[0; SECTOR]; 3];
+    for block in 0..SECTOR / BLOCK {
+        put_columns(&mut rows, sectors, BLOCK * block);
     }
-    parity.finish()
+    rows
+}
+
+/// Puts the parity of a block of columns, from `start` on, into the three parity sectors.
+fn put_columns(rows: &mut [[u8; SECTOR]; 3], sectors: &[[u8; SECTOR]], start: usize)
+    requires { start + 128 ≤ 1024 }
+    ensures sectors { All IsSector sectors.now }
+    ensures columns { HasColumns rows.old sectors.now start →
+        HasColumns rows.new sectors.now (start + 128) }
+{
+    let mut high = [0; BLOCK];
+    let mut middle = [0; BLOCK];
+    let mut low = [0; BLOCK];
+    for sector in sectors {
+        shift_block(&mut high, &mut middle, &mut low, sector, start);
+    }
+    put(&mut rows[0], &high, start);
+    put(&mut rows[1], &middle, start);
+    put(&mut rows[2], &low, start);
+}
+
+/// Puts a block into its place in a row.
+fn put(row: &mut [u8; SECTOR], block: &[u8; BLOCK], start: usize)
+    requires { start + 128 ≤ 1024 }
+    ensures size { length row.new ≡ 1024 }
+    ensures before { (j : ℕ) → j < start → slice_index row.new j ≡ slice_index row.old j }
+    ensures block { (j : ℕ) → j < 128 → slice_index row.new (start + j) ≡ slice_index block.now j }
+{
+    row[start..start + BLOCK].copy_from_slice(block);
+}
+
+/// As `shift_in`, on a block of columns alone, from `start` on.
+fn shift_block(
+    high: &mut [u8; BLOCK],
+    middle: &mut [u8; BLOCK],
+    low: &mut [u8; BLOCK],
+    sector: &[u8; SECTOR],
+    start: usize,
+)
+    requires { start + 128 ≤ 1024 }
+    ensures sector { IsSector sector.now }
+    ensures columns { (ss : List (List ℕ)) → All IsSector ss →
+        AreParity high.old middle.old low.old ss start 128 →
+        AreParity high.new middle.new low.new (ss ++ sector.now ∷ []) start 128 }
+{
+    for j in 0..BLOCK {
+        let feedback = high[j] ^ sector[start + j];
+        let multiple = times_0xc0(feedback);
+        high[j] = middle[j] ^ multiple;
+        middle[j] = low[j] ^ multiple;
+        low[j] = feedback;
+    }
 }
 
 /// Shifts each column of the register by one, and adds the feedback's multiples.
