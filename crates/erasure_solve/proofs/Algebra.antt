@@ -365,7 +365,7 @@ scale_from x y z i j hx hy hz hi hj xy xz ei ej =
     inverse_unique (bit_xor x z) j (sum_byte x z hx hz) hj (apart x z xz) ej in
     ap (λ v. product x (product v j)) first ∙ ap (λ v. product x (product (inverse (bit_xor x y)) v)) second
 
-scale_byte : (x y z : ℕ) → x < 256 → y < 256 → z < 256 → scale x y z < 256
+pub scale_byte : (x y z : ℕ) → x < 256 → y < 256 → z < 256 → scale x y z < 256
 unfolding scale
 scale_byte x y z hx hy hz =
     product_byte x (product (inverse (bit_xor x y)) (inverse (bit_xor x z))) hx

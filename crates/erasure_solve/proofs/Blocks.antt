@@ -12,17 +12,17 @@ use Rattle.std.proofs.lemmas.Option.{slice_get-get_or}
 use Rattle.gf256_qic.specs.Field.{product, power}
 use Rattle.gf256_qic.specs.Code.{value_at, column, IsSector, IsCodeword, IsCodeBlock, AgreesOutside, IsSolvable, lost_below}
 use Rattle.gf256_qic.proofs.Sums.{sum_byte, sum_cancel, equal_from_sum}
-use Rattle.gf256_qic.proofs.Products.{product_zero_left, product_one_right}
+use Rattle.gf256_qic.proofs.Products.{product_byte, product_assoc, product_zero_left, product_one_right}
 use Rattle.gf256_qic.proofs.Powers.{power_byte}
 use Rattle.gf256_qic.proofs.Values.{AllBytes, value_at-byte, value_at-set}
 use Rattle.gf256_qic.proofs.Distance.{power_apart, power_inverse, power_of_one}
 use Rattle.gf256_qic.proofs.Agreement.{length-column, get_or-column, any_default, columns_agree, one_block}
 use Rattle.gf256_qic.proofs.Parities.{bytes_of_column, block_count}
 use Rattle.erasure_solve.specs.Lost.{is_lost, lost_count}
-use Rattle.erasure_solve.specs.Rows.{AreValues, AddsRow, weighed_byte, weighed_row}
-use Rattle.erasure_solve.specs.Correction.{correction, correction_factors, Corrections, IsCorrection, AreDegrees, Found, FitsDegree, Agree, Applied, AllApplied}
+use Rattle.erasure_solve.specs.Rows.{AreValues, AddsRow, weighed_sum, weighed_byte, weighed_row}
+use Rattle.erasure_solve.specs.Correction.{scale, correction, correction_factors, Corrections, IsCorrection, AreDegrees, Found, FitsDegree, Agree, Applied, AllApplied}
 use Rattle.erasure_solve.specs.declared.values.Values.{Values}
-use Rattle.erasure_solve.proofs.Algebra.{Powers, AddUp, only_correction, corrections_fit, correction_byte, correction_from}
+use Rattle.erasure_solve.proofs.Algebra.{Powers, AddUp, scale_byte, only_correction, corrections_fit, correction_byte, correction_from}
 use Rattle.erasure_solve.proofs.Places.{lost_below-count}
 
 -- ---- the corrections from the values
@@ -35,6 +35,7 @@ get_or-weighed_row values factors j h = get_or-map-range_with_len (weighed_byte 
 pub is_correction :
     (values : Values) (ss : List (List ℕ)) (d e f : ℕ) (factors : List ℕ) → All IsSector ss → AreValues values ss →
     factors ≡ correction_factors (power 2 d) (power 2 e) (power 2 f) → IsCorrection ss d e f (weighed_row values factors)
+unfolding weighed_sum
 is_correction values ss d e f factors all are same = record {
   each = λ j h.
       let two : 2 < 256 = omega arith in
@@ -49,10 +50,16 @@ is_correction values ss d e f factors all are same = record {
       let k : ℕ = get_or (correction_factors x y z) 0 0 in
       let l : ℕ = get_or (correction_factors x y z) 1 0 in
       let m : ℕ = get_or (correction_factors x y z) 2 0 in
+      let hx : x < 256 = power_byte 2 d two in
+      let hy : y < 256 = power_byte 2 e two in
+      let hz : z < 256 = power_byte 2 f two in
+      let hk : k < 256 = product_byte (scale x y z) (product y z) (scale_byte x y z hx hy hz) (product_byte y z hy hz) in
+      let at_inverse : product (product k values.scale) (get_or values.reversed j 0) ≡ product k s =
+      product_assoc k values.scale (get_or values.reversed j 0) hk are.scale (are.bytes j h) ∙ ap (product k) (are.at_inverse j h) in
       get_or-weighed_row values factors j h
       ∙ ap (λ (fs : List ℕ). weighed_byte values fs j) same
-      ∙ ap (λ v. bit_xor (bit_xor (product k v) (product l (get_or values.at_one j 0))) (product m (get_or values.at_generator j 0)))
-      (are.at_inverse.each j h)
+      ∙ ap (λ v. bit_xor (bit_xor v (product l (get_or values.at_one j 0))) (product m (get_or values.at_generator j 0)))
+      at_inverse
       ∙ ap (λ v. bit_xor (bit_xor (product k s) (product l v)) (product m (get_or values.at_generator j 0))) (are.at_one.each j h)
       ∙ ap (λ v. bit_xor (bit_xor (product k s) (product l t)) (product m v)) (are.at_generator.each j h)
       ∙ correction_from x y z s t u k l m (power_byte 2 d two) (power_byte 2 e two) (power_byte 2 f two)

@@ -182,65 +182,82 @@ strip_next old new start i ss inside all lt few adds is =
     (All-get_or IsSector ss i [] lt all) (All-get_or IsSector ss k [] hk all) (omega arith) adds
     (subst (λ (m : ℕ). IsStrip old start (take i ss) (drop m ss)) (sym next) is)))
 
--- the values of the first columns
-pub record HasFirst (count root : ℕ) (row : List ℕ) (sectors : List (List ℕ)) : Type 0 where
-  pub each : (j : ℕ) → j < count → get_or row j 0 ≡ value_at root (column j sectors)
+-- the first bytes of a row are those of the first columns
+pub record HasFirst (count : ℕ) (Is : ℕ → ℕ → Type 0) (row : List ℕ) : Type 0 where
+  pub each : (j : ℕ) → j < count → Is j (get_or row j 0)
 
 part_more :
-    (root start : ℕ) (byte : ℕ → ℕ) (old new : List ℕ) (ss : List (List ℕ)) → PutsPart byte start old new →
-    ((j : ℕ) → j < 128 → byte j ≡ value_at root (column (start + j) ss)) →
-    HasFirst start root old ss → HasFirst (start + 128) root new ss
-part_more root start byte old new ss puts values first = record {
+    (start : ℕ) (Is : ℕ → ℕ → Type 0) (byte : ℕ → ℕ) (old new : List ℕ) → PutsPart byte start old new →
+    ((j : ℕ) → j < 128 → Is (start + j) (byte j)) → HasFirst start Is old → HasFirst (start + 128) Is new
+part_more start Is byte old new puts bytes first = record {
   each = λ k h.
       elim (cases_lt k start) [
-        | inl low ↦ puts.before k low ∙ first.each k low
+        | inl low ↦ subst (λ (v : ℕ). Is k v) (sym (puts.before k low)) (first.each k low)
         | inr high ↦
             let j : ℕ = k - start in
             let at : start + j ≡ k = omega arith in
             let small : j < 128 = omega arith in
-            ap (λ (i : ℕ). get_or new i 0) (sym at) ∙ puts.part j small ∙ values j small
-            ∙ ap (λ (i : ℕ). value_at root (column i ss)) at
+            subst (λ (i : ℕ). Is i (get_or new i 0)) at
+            (subst (λ (v : ℕ). Is (start + j) v) (sym (puts.part j small)) (bytes j small))
       ];
 }
 
+abbrev pub IsReversed : ℕ → List (List ℕ) → ℕ → ℕ → Type 0
+IsReversed scale ss j v = (v < 256) × (product scale v ≡ value_at 0xC3 (column j ss))
+
+abbrev pub IsValue : ℕ → List (List ℕ) → ℕ → ℕ → Type 0
+IsValue root ss j v = v ≡ value_at root (column j ss)
+
 pub record AreFirst (count : ℕ) (values : Values) (sectors : List (List ℕ)) : Type 0 where
-  pub at_inverse : HasFirst count 0xC3 values.at_inverse sectors
-  pub at_one : HasFirst count 0x01 values.at_one sectors
-  pub at_generator : HasFirst count 0x02 values.at_generator sectors
+  pub scale : values.scale ≡ product 2 (power 0xC3 (length sectors))
+  pub reversed : HasFirst count (IsReversed (product 2 (power 0xC3 (length sectors))) sectors) values.reversed
+  pub at_one : HasFirst count (IsValue 0x01 sectors) values.at_one
+  pub at_generator : HasFirst count (IsValue 0x02 sectors) values.at_generator
 
 pub values_more :
     (old new : Values) (strip : Strip) (start : ℕ) (ss : List (List ℕ)) → start + 128 ≤ 1024 → length ss ≤ 32 →
-    All IsSector ss →
-    PutsStrip old strip start (product 2 (power 0xC3 (length ss))) new → IsStrip strip start ss ss →
+    All IsSector ss → PutsStrip old strip start new → IsStrip strip start ss ss →
     AreFirst start old ss → AreFirst (start + 128) new ss
-values_more old new strip start ss inside few all puts is first = record {
-  at_inverse = part_more 0xC3 start (λ j. product (product 2 (power 0xC3 (length ss))) (get_or strip.reversed j 0))
-      old.at_inverse new.at_inverse ss puts.at_inverse
-      (λ j h.
-      let k : ℕ = start + j in
-      let hv : value_at 0xC3 (column k ss) < 256 =
-      value_at-byte 0xC3 (column k ss) (omega arith) (bytes_of_column k ss (omega arith) all) in
-      reversed_value (get_or strip.reversed j 0) (value_at 0xC3 (column k ss)) (length ss) (is.bytes j h) hv (omega arith) (is.reversed j h))
-      first.at_inverse;
-  at_one = part_more 1 start (λ j. get_or strip.at_one j 0) old.at_one new.at_one ss puts.at_one is.at_one first.at_one;
-  at_generator =
-      part_more 2 start (λ j. get_or strip.at_generator j 0) old.at_generator new.at_generator ss puts.at_generator
-      is.at_generator first.at_generator;
-}
+values_more old new strip start ss inside few all puts is first =
+    let scale : ℕ = product 2 (power 0xC3 (length ss)) in
+    record {
+      scale = puts.scale ∙ first.scale;
+      reversed = part_more start (IsReversed scale ss) (λ j. get_or strip.reversed j 0) old.reversed new.reversed puts.reversed
+          (λ j h.
+          let k : ℕ = start + j in
+          let hv : value_at 0xC3 (column k ss) < 256 =
+          value_at-byte 0xC3 (column k ss) (omega arith) (bytes_of_column k ss (omega arith) all) in (
+            is.bytes j h,
+            reversed_value (get_or strip.reversed j 0) (value_at 0xC3 (column k ss)) (length ss) (is.bytes j h) hv (omega arith)
+                (is.reversed j h),
+          ))
+          first.reversed;
+      at_one = part_more start (IsValue 1 ss) (λ j. get_or strip.at_one j 0) old.at_one new.at_one puts.at_one is.at_one first.at_one;
+      at_generator =
+          part_more start (IsValue 2 ss) (λ j. get_or strip.at_generator j 0) old.at_generator new.at_generator puts.at_generator
+          is.at_generator first.at_generator;
+    }
 
-pub none_first : (values : Values) (ss : List (List ℕ)) → AreFirst 0 values ss
-none_first values ss = record {
-  at_inverse = record { each = λ j h. absurd (omega arith) };
+pub none_first : (values : Values) (ss : List (List ℕ)) → values.scale ≡ product 2 (power 0xC3 (length ss)) → AreFirst 0 values ss
+none_first values ss scale = record {
+  scale = scale;
+  reversed = record { each = λ j h. absurd (omega arith) };
   at_one = record { each = λ j h. absurd (omega arith) };
   at_generator = record { each = λ j h. absurd (omega arith) };
 }
 
 pub all_first : (count : ℕ) (values : Values) (ss : List (List ℕ)) → 1024 ≤ count → AreFirst count values ss → AreValues values ss
-all_first count values ss most first = record {
-  at_inverse = record { each = λ j h. first.at_inverse.each j (omega arith) };
-  at_one = record { each = λ j h. first.at_one.each j (omega arith) };
-  at_generator = record { each = λ j h. first.at_generator.each j (omega arith) };
-}
+all_first count values ss most first =
+    let byte : product 2 (power 0xC3 (length ss)) < 256 =
+    product_byte 2 (power 0xC3 (length ss)) (omega arith) (power_byte 0xC3 (length ss) (omega arith)) in
+    record {
+      bytes = λ j h. (first.reversed.each j (omega arith)).0;
+      scale = subst (λ (v : ℕ). v < 256) (sym first.scale) byte;
+      at_inverse = λ j h.
+          ap (λ v. product v (get_or values.reversed j 0)) first.scale ∙ (first.reversed.each j (omega arith)).1;
+      at_one = record { each = λ j h. first.at_one.each j (omega arith) };
+      at_generator = record { each = λ j h. first.at_generator.each j (omega arith) };
+    }
 
 -- a row of zeros is 0 at each index, and past its end
 pub zeros_are_zero : (n j : ℕ) → get_or {A = ℕ} (replicate n 0) j 0 ≡ 0

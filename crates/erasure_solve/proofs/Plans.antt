@@ -9,9 +9,11 @@ use Rattle.qic_base.specs.LostSet.{lost_places}
 use Rattle.std.proofs.lemmas.Option.{slice_get-get_or}
 use Rattle.gf256_qic.specs.Field.{product, power}
 use Rattle.gf256_qic.specs.Code.{value_at, column, IsSector, IsCodeBlock, AgreesOutside, IsSolvable}
-use Rattle.gf256_qic.proofs.Products.{product_zero_right}
+use Rattle.gf256_qic.proofs.Products.{product_zero_right, product_one_left}
+use Rattle.gf256_qic.proofs.Values.{value_at-byte}
+use Rattle.gf256_qic.proofs.Parities.{bytes_of_column}
 use Rattle.erasure_solve.specs.Lost.{is_lost, lost_count}
-use Rattle.erasure_solve.specs.Rows.{IsZero, AreValues, AreZero, Corrects, weighed_byte, weighed_row}
+use Rattle.erasure_solve.specs.Rows.{IsZero, AreValues, AreZero, Corrects, weighed_sum, weighed_byte, weighed_row}
 use Rattle.erasure_solve.specs.Correction.{correction, correction_factors, Corrections, AreDegrees, Found, Agree, Applied, AllApplied}
 use Rattle.erasure_solve.specs.Plan.{planned_count, planned_lost, corrections_of, IsPlan, IsFull}
 use Rattle.erasure_solve.specs.declared.coefficients.Coefficients.{Coefficients}
@@ -99,14 +101,15 @@ agree_solvable mask old corrections least most found agree =
 
 -- values of 0 change nothing
 pub zero_row : (values : Values) (factors : List ℕ) → AreZero values → IsZero (weighed_row values factors)
+unfolding weighed_sum
 zero_row values factors zeros = record {
   each = λ j h.
-      let k : ℕ = get_or factors 0 0 in
+      let k : ℕ = product (get_or factors 0 0) values.scale in
       let l : ℕ = get_or factors 1 0 in
       let m : ℕ = get_or factors 2 0 in
       get_or-weighed_row values factors j h
       ∙ ap (λ v. bit_xor (bit_xor (product k v) (product l (get_or values.at_one j 0))) (product m (get_or values.at_generator j 0)))
-      (zeros.at_inverse.each j h)
+      (zeros.reversed.each j h)
       ∙ ap (λ v. bit_xor (bit_xor (product k 0) (product l v)) (product m (get_or values.at_generator j 0))) (zeros.at_one.each j h)
       ∙ ap (λ v. bit_xor (bit_xor (product k 0) (product l 0)) (product m v)) (zeros.at_generator.each j h)
       ∙ ap (λ v. bit_xor (bit_xor v (product l 0)) (product m 0)) (product_zero_right k)
@@ -177,7 +180,7 @@ pub filled :
     (plan : Plan) (values rows : Values) (old once twice new : List (List ℕ)) → IsPlan plan → length old ≡ planned_count plan →
     All IsSector old → AreValues values old → IsSolvable (is_lost (planned_lost plan)) old →
     Corrects values plan.first.factors plan.second.factors rows →
-    Applied plan.first.degree rows.at_inverse old once → Applied plan.second.degree rows.at_one once twice →
+    Applied plan.first.degree rows.reversed old once → Applied plan.second.degree rows.at_one once twice →
     Applied plan.third.degree rows.at_generator twice new →
     IsCodeBlock new × AgreesOutside (is_lost (planned_lost plan)) old new
 filled plan values rows old once twice new is count all are solvable made one two three =
@@ -203,7 +206,7 @@ filled plan values rows old once twice new is count all are solvable made one tw
     (record {
       once = once;
       twice = twice;
-      first = applied_as d rows.at_inverse (row plan.first) old once
+      first = applied_as d rows.reversed (row plan.first) old once
           (λ j h. made.at_first j h ∙ sym (get_or-weighed_row values plan.first.factors j h)) one;
       second = applied_as e rows.at_one (row plan.second) once twice
           (λ j h. made.at_second j h ∙ sym (get_or-weighed_row values plan.second.factors j h)) two;
@@ -260,20 +263,29 @@ none_counted = refl
 
 values_of : List (List ℕ) → Values
 values_of ss = record {
-  at_inverse = map (λ j. value_at 0xC3 (column j ss)) (range_with_len 0 1024);
+  reversed = map (λ j. value_at 0xC3 (column j ss)) (range_with_len 0 1024);
   at_one = map (λ j. value_at 0x01 (column j ss)) (range_with_len 0 1024);
   at_generator = map (λ j. value_at 0x02 (column j ss)) (range_with_len 0 1024);
+  scale = 1;
 }
 
-are_values_of : (ss : List (List ℕ)) → AreValues (values_of ss) ss
+are_values_of : (ss : List (List ℕ)) → All IsSector ss → AreValues (values_of ss) ss
 unfolding values_of
-are_values_of ss = record {
-  at_inverse = record { each = λ j h. get_or-map-range_with_len (λ i. value_at 0xC3 (column i ss)) 0 1024 j j 0 h (zero-add j) };
-  at_one = record { each = λ j h. get_or-map-range_with_len (λ i. value_at 0x01 (column i ss)) 0 1024 j j 0 h (zero-add j) };
-  at_generator = record { each = λ j h. get_or-map-range_with_len (λ i. value_at 0x02 (column i ss)) 0 1024 j j 0 h (zero-add j) };
-}
+are_values_of ss all =
+    let at : (root j : ℕ) → j < 1024 →
+    get_or (map (λ i. value_at root (column i ss)) (range_with_len 0 1024)) j 0 ≡ value_at root (column j ss) =
+    λ root j h. get_or-map-range_with_len (λ i. value_at root (column i ss)) 0 1024 j j 0 h (zero-add j) in
+    let byte : (j : ℕ) → j < 1024 → value_at 0xC3 (column j ss) < 256 =
+    λ j h. value_at-byte 0xC3 (column j ss) (omega arith) (bytes_of_column j ss h all) in
+    record {
+      bytes = λ j h. subst (λ (v : ℕ). v < 256) (sym (at 0xC3 j h)) (byte j h);
+      scale = omega arith;
+      at_inverse = λ j h. ap (product 1) (at 0xC3 j h) ∙ product_one_left (value_at 0xC3 (column j ss)) (byte j h);
+      at_one = record { each = at 1 };
+      at_generator = record { each = at 2 };
+    }
 
 pub full_solvable : (plan : Plan) (ss : List (List ℕ)) → IsPlan plan → length ss ≡ planned_count plan →
     All IsSector ss → IsFull plan → IsSolvable (is_lost (planned_lost plan)) ss
 full_solvable plan ss is count all full =
-    plan_solvable plan (values_of ss) ss is count all (are_values_of ss) (full_agree plan (values_of ss) full)
+    plan_solvable plan (values_of ss) ss is count all (are_values_of ss all) (full_agree plan (values_of ss) full)

@@ -15,12 +15,15 @@ pub record HasValues (root : ℕ) (row : List ℕ) (sectors : List (List ℕ)) :
 
 -- at the three roots
 pub record AreValues (values : Values) (sectors : List (List ℕ)) : Type 0 where
-  pub at_inverse : HasValues 0xC3 values.at_inverse sectors
+  pub bytes : (j : ℕ) → j < 1024 → slice_index values.reversed j < 256
+  pub scale : values.scale < 256
+  pub at_inverse : (j : ℕ) → j < 1024 →
+      product values.scale (slice_index values.reversed j) ≡ value_at 0xC3 (column j sectors)
   pub at_one : HasValues 0x01 values.at_one sectors
   pub at_generator : HasValues 0x02 values.at_generator sectors
 
 pub record AreZero (values : Values) : Type 0 where
-  pub at_inverse : IsZero values.at_inverse
+  pub reversed : IsZero values.reversed
   pub at_one : IsZero values.at_one
   pub at_generator : IsZero values.at_generator
 
@@ -48,19 +51,25 @@ pub record PutsPart (byte : ℕ → ℕ) (start : ℕ) (old new : List ℕ) : Ty
   pub before : (k : ℕ) → k < start → slice_index new k ≡ slice_index old k
 
 -- the values of a strip's columns were put in their places
-pub record PutsStrip (old : Values) (strip : Strip) (start scale : ℕ) (new : Values) : Type 0 where
-  pub at_inverse : PutsPart (λ j. product scale (slice_index strip.reversed j)) start old.at_inverse new.at_inverse
+pub record PutsStrip (old : Values) (strip : Strip) (start : ℕ) (new : Values) : Type 0 where
+  pub scale : new.scale ≡ old.scale
+  pub reversed : PutsPart (slice_index strip.reversed) start old.reversed new.reversed
   pub at_one : PutsPart (slice_index strip.at_one) start old.at_one new.at_one
   pub at_generator : PutsPart (slice_index strip.at_generator) start old.at_generator new.at_generator
 
+-- the sum of three bytes, each times its factor
+unfoldable pub weighed_sum : ℕ → ℕ → ℕ → ℕ → ℕ → ℕ → ℕ
+weighed_sum p q r a b c = bit_xor (bit_xor (product p a) (product q b)) (product r c)
+
+-- that of a column's bytes in the three rows
+abbrev pub weighed_by : ℕ → ℕ → ℕ → Values → ℕ → ℕ
+weighed_by p q r values j =
+    weighed_sum p q r (slice_index values.reversed j) (slice_index values.at_one j) (slice_index values.at_generator j)
+
 -- the values of column j, each times its factor
 abbrev pub weighed_byte : Values → List ℕ → ℕ → ℕ
-weighed_byte values factors j =
-    bit_xor
-    (bit_xor
-    (product (slice_index factors 0) (slice_index values.at_inverse j))
-    (product (slice_index factors 1) (slice_index values.at_one j)))
-    (product (slice_index factors 2) (slice_index values.at_generator j))
+weighed_byte values factors =
+    weighed_by (product (slice_index factors 0) values.scale) (slice_index factors 1) (slice_index factors 2) values
 
 -- that of each column
 unfoldable pub weighed_row : Values → List ℕ → List ℕ
@@ -69,7 +78,7 @@ weighed_row values factors = map (weighed_byte values factors) (range_with_len 0
 -- the values of each column were made what is added to its bytes at three places: the first two by their
 -- factors, and the third so that the three add up to the value at 1
 pub record Corrects (values : Values) (first second : List ℕ) (rows : Values) : Type 0 where
-  pub at_first : (j : ℕ) → j < 1024 → slice_index rows.at_inverse j ≡ weighed_byte values first j
+  pub at_first : (j : ℕ) → j < 1024 → slice_index rows.reversed j ≡ weighed_byte values first j
   pub at_second : (j : ℕ) → j < 1024 → slice_index rows.at_one j ≡ weighed_byte values second j
   pub at_third : (j : ℕ) → j < 1024 → slice_index rows.at_generator j
       ≡ bit_xor (bit_xor (weighed_byte values first j) (weighed_byte values second j)) (slice_index values.at_one j)

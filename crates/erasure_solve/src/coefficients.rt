@@ -2,7 +2,7 @@
 
 ghost use Rattle.std.specs.Prelude.{◌≡◌, ◌≢◌, ◌<◌, ◌↔◌, length, IsTrue};
 ghost use Rattle.gf256_qic.specs.Field.{power};
-ghost use Rattle.erasure_solve.specs.Rows.{AddsRow, Corrects, weighed_row};
+ghost use Rattle.erasure_solve.specs.Rows.{AddsRow, Corrects, weighed_sum, weighed_row};
 ghost use Rattle.erasure_solve.specs.Correction.{correction_factors, FitsDegree, Applied};
 
 use crate::SECTOR;
@@ -78,22 +78,27 @@ impl Coefficients {
 pub fn correct(values: &mut Values, first: &Coefficients, second: &Coefficients)
     ensures { Corrects values.old first.now.factors second.now.factors values.new }
 {
-    let [p, q, r] = first.factors;
-    let [u, v, w] = second.factors;
+    let [inverse, q, r] = first.factors;
+    let p = mul(inverse, values.scale);
+    let [inverse, v, w] = second.factors;
+    let u = mul(inverse, values.scale);
     for j in 0..SECTOR {
-        let inverse = values.at_inverse[j];
+        let reversed = values.reversed[j];
         let one = values.at_one[j];
         let generator = values.at_generator[j];
-        let at_first = mul_by_shifts(p, inverse)
-            ^ mul_by_shifts(q, one)
-            ^ mul_by_shifts(r, generator);
-        let at_second = mul_by_shifts(u, inverse)
-            ^ mul_by_shifts(v, one)
-            ^ mul_by_shifts(w, generator);
-        values.at_inverse[j] = at_first;
+        let at_first = weigh(p, q, r, reversed, one, generator);
+        let at_second = weigh(u, v, w, reversed, one, generator);
+        values.reversed[j] = at_first;
         values.at_one[j] = at_second;
         values.at_generator[j] = at_first ^ at_second ^ one;
     }
+}
+
+/// The sum of three bytes, each times its factor.
+fn weigh(p: u8, q: u8, r: u8, a: u8, b: u8, c: u8) -> u8
+    ensures { result ≡ weighed_sum p q r a b c }
+{
+    mul_by_shifts(p, a) ^ mul_by_shifts(q, b) ^ mul_by_shifts(r, c)
 }
 
 /// The factors of a column's values at the three roots in the correction at the place of power `x`,
@@ -111,12 +116,11 @@ fn factors(x: u8, y: u8, z: u8) -> [u8; 3]
 fn weighed(values: &Values, factors: &[u8; 3]) -> [u8; SECTOR]
     ensures { result ≡ weighed_row values.now factors.now }
 {
-    let [inverse, one, generator] = *factors;
+    let [inverse, q, r] = *factors;
+    let p = mul(inverse, values.scale);
     let mut row = [0; SECTOR];
     for (j, byte) in row.iter_mut().enumerate() {
-        *byte = mul_by_shifts(inverse, values.at_inverse[j])
-            ^ mul_by_shifts(one, values.at_one[j])
-            ^ mul_by_shifts(generator, values.at_generator[j]);
+        *byte = weigh(p, q, r, values.reversed[j], values.at_one[j], values.at_generator[j]);
     }
     row
 }

@@ -96,7 +96,7 @@ impl Plan {
     {
         let mut rows = Values::of(sectors);
         correct(&mut rows, &self.first, &self.second);
-        self.first.apply(&rows.at_inverse, sectors);
+        self.first.apply(&rows.reversed, sectors);
         self.second.apply(&rows.at_one, sectors);
         self.third.apply(&rows.at_generator, sectors);
     }

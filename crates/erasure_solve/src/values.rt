@@ -5,17 +5,19 @@ ghost use Rattle.gf256_qic.specs.Code.{IsSector};
 ghost use Rattle.erasure_solve.specs.Rows.{IsZero, AreValues, AreZero, PutsStrip, IsStrip, AddsToStrip};
 
 use crate::SECTOR;
-use gf256_qic::{mul, mul_by_shifts, pow, times_x};
+use gf256_qic::{mul, pow, times_x};
 
 /// How many columns are taken at once: so few that what is gathered of them stays in registers.
 const STRIP: usize = 128;
 
-/// The value of each column of a segment at each root: all 0 where the sectors are a code block.
+/// The value of each column of a segment at each root, all 0 where the sectors are a code block. That
+/// at 0xC3 is `scale` times the one at 0x02 of the column read from its last byte to its first.
 #[derive(Drop)]
 pub struct Values {
-    pub at_inverse: [u8; SECTOR],
+    pub reversed: [u8; SECTOR],
     pub at_one: [u8; SECTOR],
     pub at_generator: [u8; SECTOR],
+    pub scale: u8,
 }
 
 impl Values {
@@ -26,26 +28,26 @@ impl Values {
         ensures sectors { All IsSector sectors.now }
     {
         are_sectors(sectors);
-        let scale = mul(0x02, pow(0xC3, sectors.len() as u8));
         let mut values = Values {
-            at_inverse: [0; SECTOR],
+            reversed: [0; SECTOR],
             at_one: [0; SECTOR],
             at_generator: [0; SECTOR],
+            scale: mul(0x02, pow(0xC3, sectors.len() as u8)),
         };
         for strip in 0..SECTOR / STRIP {
             let start = strip * STRIP;
-            values.put(&Strip::of(sectors, start), start, scale);
+            values.put(&Strip::of(sectors, start), start);
         }
         values
     }
 
     /// Puts the values of a strip's columns to their places.
-    fn put(&mut self, strip: &Strip, start: usize, scale: u8)
+    fn put(&mut self, strip: &Strip, start: usize)
         requires { start + 128 ≤ 1024 }
-        ensures { PutsStrip self.old strip.now start scale self.new }
+        ensures { PutsStrip self.old strip.now start self.new }
     {
         for j in 0..STRIP {
-            self.at_inverse[start + j] = mul_by_shifts(scale, strip.reversed[j]);
+            self.reversed[start + j] = strip.reversed[j];
             self.at_one[start + j] = strip.at_one[j];
             self.at_generator[start + j] = strip.at_generator[j];
         }
@@ -55,7 +57,7 @@ impl Values {
     pub fn are_zero(&self) -> bool
         ensures { IsTrue result ↔ AreZero self.now }
     {
-        is_zero(&self.at_inverse) && is_zero(&self.at_one) && is_zero(&self.at_generator)
+        is_zero(&self.reversed) && is_zero(&self.at_one) && is_zero(&self.at_generator)
     }
 }
 

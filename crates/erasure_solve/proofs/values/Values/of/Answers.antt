@@ -1,22 +1,19 @@
-use Rattle.std.proofs.Common.{◌≡◌, ℕ, ◌+◌, ◌*◌, ◌∙◌, ap, subst, arith, List, length}
-use Rattle.gf256_qic.specs.Field.{product, power}
-use Rattle.erasure_solve.specs.Rows.{PutsStrip}
+use Rattle.std.proofs.Common.{◌≡◌, ℕ, ◌+◌, ◌*◌, ◌∙◌, ap, subst, arith, List}
+use Rattle.gf256_qic.specs.Field.{product}
 use Rattle.erasure_solve.proofs.Columns.{AreFirst, values_more, none_first, all_first}
 use Rattle.erasure_solve.proofs.values.Values.of.Goals as goal
 
 pub loop-strip-init : goal.loop-strip-init
-loop-strip-init c = none_first _ c.args.sectors.now
+loop-strip-init c = none_first _ c.args.sectors.now (c.mul.ensures ∙ ap (product 2) c.pow.ensures)
 
 pub loop-strip-preserved : goal.loop-strip-preserved
 loop-strip-preserved c =
     let ss : List (List ℕ) = c.args.sectors.now in
     let i : ℕ = c.loop-strip.strip in
-    let scale : c.mul-scale.result ≡ product 2 (power 0xC3 (length ss)) = c.mul-scale.ensures ∙ ap (product 2) c.pow.ensures in
     let next : i * 128 + 128 ≡ (i + 1) * 128 = omega arith in
     subst (λ (n : ℕ). AreFirst n c.put.new.self ss) next
     (values_more c.loop-strip.values c.put.new.self c.of.result (i * 128) ss (omega arith) c.requires c.are_sectors.ensures
-    (subst (λ (k : ℕ). PutsStrip c.loop-strip.values c.of.result (i * 128) k c.put.new.self) scale c.put.ensures)
-    c.of.ensures c.loop-strip.invariant)
+    c.put.ensures c.of.ensures c.loop-strip.invariant)
 
 pub returns-clause-values : goal.returns-clause-values
 returns-clause-values c =
