@@ -13,7 +13,7 @@ pub record IsZero (row : List ℕ) : Type 0 where
 pub record HasValues (root : ℕ) (row : List ℕ) (sectors : List (List ℕ)) : Type 0 where
   pub each : (j : ℕ) → j < 1024 → slice_index row j ≡ value_at root (column j sectors)
 
--- at the three roots
+-- at the three roots; that at 0xC3 is `scale` times what is kept
 pub record AreValues (values : Values) (sectors : List (List ℕ)) : Type 0 where
   pub bytes : (j : ℕ) → j < 1024 → slice_index values.reversed j < 256
   pub scale : values.scale < 256
@@ -50,7 +50,7 @@ pub record PutsPart (byte : ℕ → ℕ) (start : ℕ) (old new : List ℕ) : Ty
   pub part : (j : ℕ) → j < 128 → slice_index new (start + j) ≡ byte j
   pub before : (k : ℕ) → k < start → slice_index new k ≡ slice_index old k
 
--- the values of a strip's columns were put in their places
+-- what is gathered of a strip's columns was put in its place
 pub record PutsStrip (old : Values) (strip : Strip) (start : ℕ) (new : Values) : Type 0 where
   pub scale : new.scale ≡ old.scale
   pub reversed : PutsPart (slice_index strip.reversed) start old.reversed new.reversed
@@ -76,7 +76,7 @@ unfoldable pub weighed_row : Values → List ℕ → List ℕ
 weighed_row values factors = map (weighed_byte values factors) (range_with_len 0 1024)
 
 -- the values of each column were made what is added to its bytes at three places: the first two by their
--- factors, and the third so that the three add up to the value at 1
+-- factors, and the third so that the three add up to the value at 1; they stand in the rows of the values
 pub record Corrects (values : Values) (first second : List ℕ) (rows : Values) : Type 0 where
   pub at_first : (j : ℕ) → j < 1024 → slice_index rows.reversed j ≡ weighed_byte values first j
   pub at_second : (j : ℕ) → j < 1024 → slice_index rows.at_one j ≡ weighed_byte values second j

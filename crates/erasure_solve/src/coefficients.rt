@@ -74,7 +74,8 @@ impl Coefficients {
 }
 
 /// Makes of the values of each column what is added to its bytes at three places: at the first two by
-/// their factors, and at the third what these leave of the value at 1, the sum of all three.
+/// their factors, and at the third what these leave of the value at 1, which is the sum of the three.
+/// It stands in the rows of the values: `reversed`, `at_one` and `at_generator` in turn.
 pub fn correct(values: &mut Values, first: &Coefficients, second: &Coefficients)
     ensures { Corrects values.old first.now.factors second.now.factors values.new }
 {
@@ -94,7 +95,8 @@ pub fn correct(values: &mut Values, first: &Coefficients, second: &Coefficients)
     }
 }
 
-/// The sum of three bytes, each times its factor.
+/// The sum of three bytes, each times its factor. Inlined, the loops over rows become vector code.
+#[inline(always)]
 fn weigh(p: u8, q: u8, r: u8, a: u8, b: u8, c: u8) -> u8
     ensures { result ≡ weighed_sum p q r a b c }
 {
@@ -120,7 +122,14 @@ fn weighed(values: &Values, factors: &[u8; 3]) -> [u8; SECTOR]
     let p = mul(inverse, values.scale);
     let mut row = [0; SECTOR];
     for (j, byte) in row.iter_mut().enumerate() {
-        *byte = weigh(p, q, r, values.reversed[j], values.at_one[j], values.at_generator[j]);
+        *byte = weigh(
+            p,
+            q,
+            r,
+            values.reversed[j],
+            values.at_one[j],
+            values.at_generator[j],
+        );
     }
     row
 }

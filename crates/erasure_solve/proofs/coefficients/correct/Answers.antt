@@ -1,5 +1,4 @@
-use Rattle.std.proofs.Common.{◌≡◌, ℕ, ◌∙◌, ap, arith, bit_xor, get_or, List}
-use Rattle.gf256_qic.specs.Field.{product}
+use Rattle.std.proofs.Common.{ℕ, ◌∙◌, ap, arith, bit_xor, get_or, List}
 use Rattle.erasure_solve.specs.Rows.{weighed_by, weighed_byte}
 use Rattle.erasure_solve.proofs.coefficients.correct.Goals as goal
 

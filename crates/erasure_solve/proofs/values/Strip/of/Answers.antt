@@ -1,4 +1,3 @@
-use Rattle.std.proofs.Common.{arith}
 use Rattle.erasure_solve.proofs.Columns.{zeros_are_zero, strip_none, strip_next}
 use Rattle.erasure_solve.proofs.values.Strip.of.Goals as goal
 
