@@ -219,7 +219,8 @@ mod tests {
     #[test]
     fn a_slot_of_the_table_is_read(rt: HostRuntime) -> Result<(), Fail> {
         let mut area = zeros(rt.alloc())?;
-        area[0][..128].copy_from_slice(&first_slot());
+        let sector = &mut area[0];
+        sector[..128].copy_from_slice(&first_slot());
         let mut table = Table::new(rt.alloc())?;
         let seen = (table.is_empty(), table.decode(&area, 83), first_of(&table));
         assert_eq!(rt; seen, (true, Ok(()), (1, Some(first_entry()))));
@@ -229,7 +230,8 @@ mod tests {
     #[test]
     fn an_entry_is_put_and_read_again(rt: HostRuntime) -> Result<(), Fail> {
         let mut area = zeros(rt.alloc())?;
-        area[0][4..128].copy_from_slice(&[0xAA; 124]);
+        let sector = &mut area[0];
+        sector[4..128].copy_from_slice(&[0xAA; 124]);
         let mut table = decoded(rt.alloc(), &area, 83)?;
         let put = table.put(&first_entry(), &mut area);
         let again = decoded(rt.alloc(), &area, 83)?;
