@@ -44,17 +44,32 @@ fn a_failing_length_is_the_old_one(rt: HostRuntime) -> Result<(), Fail> {
     Ok(())
 }
 
+fn left_by_sync(alloc: Global) -> Result<(Result<(), DiskFailed>, Shown), Fail> {
+    let mut disk = about_to_fail(alloc)?;
+    Ok((disk.sync(), shown(&mut disk)))
+}
+
+fn left_by_len(alloc: Global) -> Result<(Result<u64, DiskFailed>, Shown), Fail> {
+    let mut disk = about_to_fail(alloc)?;
+    Ok((disk.len(), shown(&mut disk)))
+}
+
+fn left_by_read(alloc: Global) -> Result<(Result<usize, DiskFailed>, Shown), Fail> {
+    let mut disk = about_to_fail(alloc)?;
+    Ok((disk.read_at(0, &mut [0; 4]), shown(&mut disk)))
+}
+
 #[test]
 fn the_other_failing_calls_leave_all(rt: HostRuntime) -> Result<(), Fail> {
-    let mut disk = about_to_fail(rt.alloc())?;
-    let synced = (disk.sync(), shown(&mut disk));
-    let mut disk = about_to_fail(rt.alloc())?;
-    let measured = (disk.len(), shown(&mut disk));
-    let mut disk = about_to_fail(rt.alloc())?;
-    let read = (disk.read_at(0, &mut [0; 4]), shown(&mut disk));
+    let alloc = rt.alloc();
+    let left = (
+        left_by_sync(alloc)?,
+        left_by_len(alloc)?,
+        left_by_read(alloc)?,
+    );
     let four = (Ok(4), *b"abcd..");
     assert_eq!(rt;
-        (synced, measured, read),
+        left,
         (
             (Err(DiskFailed), four),
             (Err(DiskFailed), four),
@@ -101,12 +116,28 @@ fn a_record_without_room_for_its_bytes_refuses(rt: HostRuntime) -> Result<(), Fa
     Ok(())
 }
 
-/// A disk whose record has an entry of each kind. Its calls 2 and 3 fail.
-fn with_history(alloc: Global) -> Result<MemDisk, Fail> {
+/// A disk of four bytes that records. Its calls 2 and 3 fail.
+fn recorded(alloc: Global) -> Result<MemDisk, Fail>
+    ensures { IfOk result (λ disk. (disk_state disk).seen ≡ 4) }
+{
     let mut disk = MemDisk::recorded(alloc, 8, 4, 6, [2, 3].to_vec(alloc)?)?;
     disk.set_len(4)?;
+    Ok(disk)
+}
+
+/// Writes the four bytes, and asks for the length.
+fn write_four(disk: &mut MemDisk)
+    requires { (disk_state disk.old).seen ≡ 4 }
+    ensures { (disk_state disk.new).seen ≡ 4 }
+{
     let _ = disk.write_at(0, b"abcd");
     let _ = disk.len();
+}
+
+/// A disk whose record has an entry of each kind.
+fn with_history(alloc: Global) -> Result<MemDisk, Fail> {
+    let mut disk = recorded(alloc)?;
+    write_four(&mut disk);
     let _ = disk.write_at(1, b"xy");
     let _ = disk.sync();
     Ok(disk)
