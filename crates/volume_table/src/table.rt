@@ -220,7 +220,7 @@ mod tests {
     fn a_slot_of_the_table_is_read(rt: HostRuntime) -> Result<(), Fail> {
         let mut area = zeros(rt.alloc())?;
         let sector = &mut area[0];
-        sector[..128].copy_from_slice(&first_slot());
+        sector[0..128].copy_from_slice(&first_slot());
         let mut table = Table::new(rt.alloc())?;
         let seen = (table.is_empty(), table.decode(&area, 83), first_of(&table));
         assert_eq!(rt; seen, (true, Ok(()), (1, Some(first_entry()))));
