@@ -83,13 +83,13 @@ fn a_header_and_its_map_are_read(rt: HostRuntime) -> Result<(), Fail> {
 fn the_last_segment_gives_the_head_maximum(rt: HostRuntime) -> Result<(), Fail> {
     let mut map = BadMap::new(rt.alloc())?;
     let mut other = BadMap::new(rt.alloc())?;
-    let mut area = area_of(rt.alloc(), 0)?;
     for (segments_per_track, last, head_maximum) in [
         (21, [0x4B, 0x02], 0),
         (22, [0x67, 0x02], 1),
         (150, [0x67, 0x10], 6),
         (246, [0xE7, 0x1A], 11),
     ] {
+        let mut area = area_of(rt.alloc(), 0)?;
         assert!(rt; 3 <= segments_per_track && segments_per_track <= 246);
         map.reset(28 * u32::from(segments_per_track));
         let header = sample(segments_per_track);
@@ -114,7 +114,6 @@ fn the_first_foreign_field_is_named(rt: HostRuntime) -> Result<(), Fail> {
     let mut map = BadMap::new(rt.alloc())?;
     map.reset(84);
     let mut other = BadMap::new(rt.alloc())?;
-    let mut area = area_of(rt.alloc(), 0)?;
     for (sector, at, byte, want) in [
         (0, 0, 0x54, Err(HeaderFault::NoSignature)),
         (0, 3, 0, Err(HeaderFault::NoSignature)),
@@ -134,6 +133,7 @@ fn the_first_foreign_field_is_named(rt: HostRuntime) -> Result<(), Fail> {
         (2, 11, 0x80, foreign(ForeignField::Map, 2)),
         (2, 12, 1, Ok(header)),
     ] {
+        let mut area = area_of(rt.alloc(), 0)?;
         assert!(rt; sector < 29 && at < 1024);
         encode(&header, &map, &mut area);
         area[sector][at] = byte;
