@@ -51,6 +51,16 @@ fn begins_badly(rt: &HostRuntime, text: &str, rest: usize) -> Result<bool, Fail>
     Ok(bad && left(&mut source)? == rest)
 }
 
+/// The index of the first text that does not begin badly, or of which something is left.
+fn first_that_is_not_bad(rt: &HostRuntime, texts: &[&str]) -> Result<Option<usize>, Fail> {
+    for i in 0..texts.len() {
+        if !begins_badly(rt, texts[i], 0)? {
+            return Ok(Some(i));
+        }
+    }
+    Ok(None)
+}
+
 /// The line of an append, with the name filled up with spaces.
 fn append(text: &str, length: u32, date: u32) -> Line {
     let mut bytes = [b' '; 44];
@@ -161,9 +171,7 @@ fn no_lines(rt: HostRuntime) -> Result<(), Fail> {
         "make 1 1\n",
         "protect on\n",
     ];
-    for text in table {
-        assert!(rt; begins_badly(&rt, text, 0)?, "{text}");
-    }
+    assert_eq!(rt; first_that_is_not_bad(&rt, &table)?, None);
     Ok(())
 }
 
@@ -190,18 +198,14 @@ fn no_appends(rt: HostRuntime) -> Result<(), Fail> {
         "append a 10 1994-03-01T12:00:00 x\n",
         "append a 1994-03-01T12:00:00 10\n",
     ];
-    for text in table {
-        assert!(rt; begins_badly(&rt, text, 0)?, "{text}");
-    }
+    assert_eq!(rt; first_that_is_not_bad(&rt, &table)?, None);
     Ok(())
 }
 
 #[test]
 fn the_last_line_has_its_newline(rt: HostRuntime) -> Result<(), Fail> {
     let table = ["list", "end", "append a 10", "restore 1", "x"];
-    for text in table {
-        assert!(rt; begins_badly(&rt, text, 0)?, "{text}");
-    }
+    assert_eq!(rt; first_that_is_not_bad(&rt, &table)?, None);
     let mut empty = source(&rt, "")?;
     assert_eq!(rt; bad_bytes(&mut empty)?, None);
     Ok(())
