@@ -40,34 +40,32 @@ const RECORDINGS: [(u32, &str, &str, Option<(u32, u64)>); 12] = [
     ),
 ];
 
-/// How the telling of a recording ends, and what went to the sink. `reads` has the numbers of the reads of the source
-/// that are to fail, `writes` those of the writes.
-fn told(
+fn tell(
     rt: &HostRuntime,
     gap: u32,
-    input: &str,
-    reads: &[u64],
-    writes: &[u64],
-) -> Result<(Result<(), TraceFault>, Vec<u8>), Fail> {
-    let mut source = MemSource::new(
-        input.as_bytes().to_vec(rt.alloc())?,
-        reads.to_vec(rt.alloc())?,
-    );
-    let mut sink = MemSink::new(rt.alloc(), 2048, writes.to_vec(rt.alloc())?)?;
-    let answer = tell_recording(gap, &mut source, &mut sink);
-    Ok((answer, sink.bytes().to_vec(rt.alloc())?))
+    input: &[u8],
+    fails: Vec<u64>,
+    sink: &mut MemSink,
+) -> Result<Result<(), TraceFault>, Fail> {
+    let mut source = MemSource::new(input.to_vec(rt.alloc())?, fails);
+    Ok(tell_recording(gap, &mut source, sink))
+}
+
+fn sink(rt: &HostRuntime, fails: Vec<u64>) -> Result<MemSink, Fail> {
+    Ok(MemSink::new(rt.alloc(), 2048, fails)?)
 }
 
 #[test]
 fn recordings_have_their_dialogue(rt: HostRuntime) -> Result<(), Fail> {
     for (gap, input, output, fault) in RECORDINGS {
-        let (answer, told) = told(&rt, gap, input, &[], &[])?;
+        let mut sink = sink(&rt, Vec::new(rt.alloc()))?;
+        let answer = tell(&rt, gap, input.as_bytes(), Vec::new(rt.alloc()), &mut sink)?;
         let expected = match fault {
             Some((line, place)) => Err(TraceFault::Line { line, place }),
             None => Ok(()),
         };
         assert_eq!(rt;
-            (answer, told.as_slice()),
+            (answer, sink.bytes()),
             (expected, output.as_bytes()),
             "{input}"
         );
@@ -76,17 +74,23 @@ fn recordings_have_their_dialogue(rt: HostRuntime) -> Result<(), Fail> {
 }
 
 #[test]
-fn a_read_or_a_write_that_fails_leaves_a_front(rt: HostRuntime) -> Result<(), Fail> {
-    let none: &[u64] = &[];
-    for (reads, writes, fault) in [
-        ([7].as_slice(), none, TraceFault::Source),
-        (none, [1].as_slice(), TraceFault::Sink),
-    ] {
-        let (answer, told) = told(&rt, 10, "0\n50\n99\n", reads, writes)?;
-        assert_eq!(rt;
-            (answer, told.as_slice()),
-            (Err(fault), b"0 1 Reset\n".as_slice())
-        );
-    }
+fn a_read_that_fails_leaves_a_front(rt: HostRuntime) -> Result<(), Fail> {
+    let mut sink = sink(&rt, Vec::new(rt.alloc()))?;
+    let answer = tell(&rt, 10, b"0\n50\n99\n", [7].to_vec(rt.alloc())?, &mut sink)?;
+    assert_eq!(rt;
+        (answer, sink.bytes()),
+        (Err(TraceFault::Source), b"0 1 Reset\n".as_slice())
+    );
+    Ok(())
+}
+
+#[test]
+fn a_write_that_fails_leaves_a_front(rt: HostRuntime) -> Result<(), Fail> {
+    let mut sink = sink(&rt, [1].to_vec(rt.alloc())?)?;
+    let answer = tell(&rt, 10, b"0\n50\n99\n", Vec::new(rt.alloc()), &mut sink)?;
+    assert_eq!(rt;
+        (answer, sink.bytes()),
+        (Err(TraceFault::Sink), b"0 1 Reset\n".as_slice())
+    );
     Ok(())
 }

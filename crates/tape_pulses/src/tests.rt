@@ -12,50 +12,79 @@ fn with_cartridge(rt: &HostRuntime) -> Result<Unit<MemTape>, Fail> {
     Ok(Unit::new(tape))
 }
 
-/// How the trains of an input end, and the levels that go to the sink. `reads` has the numbers of the reads of the
-/// source that are to fail, `writes` those of the writes.
-fn sent(
+/// The levels go to the sink; the reads of the source with the numbers of `fails` are to fail.
+fn send(
     rt: &HostRuntime,
     input: &[u8],
-    reads: &[u64],
-    writes: &[u64],
-) -> Result<(Result<(), PulseFault>, Vec<u8>), Fail> {
+    fails: Vec<u64>,
+    sink: &mut MemSink,
+) -> Result<Result<(), PulseFault>, Fail> {
     let mut unit = with_cartridge(rt)?;
-    let mut source = MemSource::new(input.to_vec(rt.alloc())?, reads.to_vec(rt.alloc())?);
-    let mut sink = MemSink::new(rt.alloc(), 64, writes.to_vec(rt.alloc())?)?;
-    let answer = run_pulses(&mut unit, &mut source, &mut sink);
-    Ok((answer, sink.bytes().to_vec(rt.alloc())?))
+    let mut source = MemSource::new(input.to_vec(rt.alloc())?, fails);
+    Ok(run_pulses(&mut unit, &mut source, sink))
+}
+
+fn sink(rt: &HostRuntime, fails: Vec<u64>) -> Result<MemSink, Fail> {
+    Ok(MemSink::new(rt.alloc(), 64, fails)?)
 }
 
 #[test]
-fn trains_end_with_the_input_a_fault_or_a_failing_call(rt: HostRuntime) -> Result<(), Fail> {
-    let none: &[u64] = &[];
-    // The status of a new cartridge is 0x75, reported the least bit first, between two ones.
-    let status = b"6\n2\n2\n2\n2\n2\n2\n2\n2\n2\n".as_slice();
-    let levels = b"1\n1\n0\n1\n0\n1\n1\n1\n0\n1\n".as_slice();
-    let no_number = Err(PulseFault::Script { line: 2, place: 2 });
-    let one = b"1\n".as_slice();
-    for (input, reads, writes, answer, output) in [
-        (status, none, none, Ok(()), levels),
-        (b"6\nx\n".as_slice(), none, none, no_number, one),
-        (b"".as_slice(), none, none, Ok(()), b"".as_slice()),
+fn the_status_of_a_new_cartridge_is_reported_level_by_level(rt: HostRuntime) -> Result<(), Fail> {
+    let mut sink = sink(&rt, Vec::new(rt.alloc()))?;
+    let answer = send(
+        &rt,
+        b"6\n2\n2\n2\n2\n2\n2\n2\n2\n2\n",
+        Vec::new(rt.alloc()),
+        &mut sink,
+    )?;
+    // 0x75, the least bit first, between two ones
+    assert_eq!(rt;
+        (answer, sink.bytes()),
+        (Ok(()), b"1\n1\n0\n1\n0\n1\n1\n1\n0\n1\n".as_slice())
+    );
+    Ok(())
+}
+
+#[test]
+fn a_line_that_is_no_number_is_a_fault(rt: HostRuntime) -> Result<(), Fail> {
+    let mut sink = sink(&rt, Vec::new(rt.alloc()))?;
+    let answer = send(&rt, b"6\nx\n", Vec::new(rt.alloc()), &mut sink)?;
+    assert_eq!(rt;
+        (answer, sink.bytes()),
         (
-            b"6\n2\n".as_slice(),
-            [2].as_slice(),
-            none,
-            Err(PulseFault::Source),
-            one,
-        ),
-        (
-            b"6\n2\n2\n".as_slice(),
-            none,
-            [1].as_slice(),
-            Err(PulseFault::Sink),
-            one,
-        ),
-    ] {
-        let (ended, sent) = sent(&rt, input, reads, writes)?;
-        assert_eq!(rt; (ended, sent.as_slice()), (answer, output));
-    }
+            Err(PulseFault::Script { line: 2, place: 2 }),
+            b"1\n".as_slice()
+        )
+    );
+    Ok(())
+}
+
+#[test]
+fn an_empty_input_sends_nothing(rt: HostRuntime) -> Result<(), Fail> {
+    let mut sink = sink(&rt, Vec::new(rt.alloc()))?;
+    let answer = send(&rt, b"", Vec::new(rt.alloc()), &mut sink)?;
+    assert_eq!(rt; (answer, sink.bytes()), (Ok(()), b"".as_slice()));
+    Ok(())
+}
+
+#[test]
+fn a_read_that_fails_ends_the_trains(rt: HostRuntime) -> Result<(), Fail> {
+    let mut sink = sink(&rt, Vec::new(rt.alloc()))?;
+    let answer = send(&rt, b"6\n2\n", [2].to_vec(rt.alloc())?, &mut sink)?;
+    assert_eq!(rt;
+        (answer, sink.bytes()),
+        (Err(PulseFault::Source), b"1\n".as_slice())
+    );
+    Ok(())
+}
+
+#[test]
+fn a_write_that_fails_ends_the_trains(rt: HostRuntime) -> Result<(), Fail> {
+    let mut sink = sink(&rt, [1].to_vec(rt.alloc())?)?;
+    let answer = send(&rt, b"6\n2\n2\n", Vec::new(rt.alloc()), &mut sink)?;
+    assert_eq!(rt;
+        (answer, sink.bytes()),
+        (Err(PulseFault::Sink), b"1\n".as_slice())
+    );
     Ok(())
 }
