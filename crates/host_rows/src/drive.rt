@@ -9,12 +9,9 @@ use qic_mem::SureTape;
 use std::alloc::Global;
 use std::test::Fail;
 
-/// The number of the first wrong one of these rows at a drive of `written`, into which the cartridge was put by call 5 of
-/// the tape. Call 6 puts it in again.
-fn first_wrong_inserted(alloc: Global, fails: &[u64], rows: &[Row]) -> Result<Option<usize>, Fail> {
+/// The number of the first wrong one of these rows at a drive of `written`.
+fn first_wrong_written(alloc: Global, fails: &[u64], rows: &[Row]) -> Result<Option<usize>, Fail> {
     let mut unit = written(alloc, fails)?;
-    unit.insert()?;
-    unit.insert()?;
     Ok(first_wrong(&mut unit, rows))
 }
 
@@ -41,15 +38,22 @@ fn an_empty_drive_takes_a_blank_cartridge_alone(rt: HostRuntime) -> Result<(), F
 
 #[test]
 fn the_count_of_pulses_stops_at_255(rt: HostRuntime) -> Result<(), Fail> {
-    // The error word of a command that there isn't.
-    let rows = [Row::Train(300), Row::Error(0xFF06)];
-    assert_eq!(rt; first_wrong_inserted(rt.alloc(), &[], &rows)?, None);
+    let rows = [
+        Row::Insert,
+        Row::Insert,
+        // The error word of a command that there isn't.
+        Row::Train(300),
+        Row::Error(0xFF06),
+    ];
+    assert_eq!(rt; first_wrong_written(rt.alloc(), &[], &rows)?, None);
     Ok(())
 }
 
 #[test]
 fn sectors_are_written_as_they_pass(rt: HostRuntime) -> Result<(), Fail> {
     let rows = [
+        Row::Insert,
+        Row::Insert,
         // The error word is told, which clears the new cartridge flag.
         Row::Error(0),
         Row::Train(10),
@@ -66,14 +70,16 @@ fn sectors_are_written_as_they_pass(rt: HostRuntime) -> Result<(), Fail> {
         Row::Write(front(5), Err(FdcFault::Protected)),
         Row::Shows(front(5), 0),
     ];
-    assert_eq!(rt; first_wrong_inserted(rt.alloc(), &[], &rows)?, None);
+    assert_eq!(rt; first_wrong_written(rt.alloc(), &[], &rows)?, None);
     Ok(())
 }
 
 #[test]
 fn a_fault_of_the_tape_leaves_the_head_where_it_was(rt: HostRuntime) -> Result<(), Fail> {
-    // Call 7 is the first read, and 9 the first write.
+    // Calls 5 and 6 of the tape put the cartridge in; 7 is the first read, and 9 the first write.
     let rows = [
+        Row::Insert,
+        Row::Insert,
         Row::Error(0),
         Row::Train(10),
         Row::Refuses(front(1), FdcFault::Tape),
@@ -81,7 +87,7 @@ fn a_fault_of_the_tape_leaves_the_head_where_it_was(rt: HostRuntime) -> Result<(
         Row::Write(front(2), Err(FdcFault::Tape)),
         Row::Write(front(2), Ok(())),
     ];
-    assert_eq!(rt; first_wrong_inserted(rt.alloc(), &[7, 9], &rows)?, None);
+    assert_eq!(rt; first_wrong_written(rt.alloc(), &[7, 9], &rows)?, None);
     Ok(())
 }
 

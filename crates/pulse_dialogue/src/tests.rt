@@ -64,11 +64,8 @@ fn recordings_have_their_dialogue(rt: HostRuntime) -> Result<(), Fail> {
             Some((line, place)) => Err(TraceFault::Line { line, place }),
             None => Ok(()),
         };
-        assert_eq!(rt;
-            (answer, sink.bytes()),
-            (expected, output.as_bytes()),
-            "{input}"
-        );
+        let same = sink.bytes() == output.as_bytes();
+        assert_eq!(rt; (answer, same), (expected, true), "{input}");
     }
     Ok(())
 }
