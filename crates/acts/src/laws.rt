@@ -5,8 +5,8 @@ ghost use Rattle.acts.specs.Laws.{NothingWent, WentBoth, WentThenCut, CutIsLonge
 
 use qic_base::{Sink, Source, Tape};
 
-/// Acts that went one after the other went as one list; where some were cut off behind others, or before others, the whole
-/// list was.
+/// Acts that went one after the other went as one list; where some were cut off behind others, or before others, the
+/// whole list was.
 pub fn acts_join<T: Tape, S: Source, K: Sink>()
     ensures nothing { NothingWent T.means S.means K.means }
     ensures both { WentBoth T.means S.means K.means }
@@ -14,8 +14,8 @@ pub fn acts_join<T: Tape, S: Source, K: Sink>()
     ensures longer { CutIsLonger T.means S.means K.means }
 {}
 
-/// Acts that were cut off leave of the tape what a stop in their steps leaves, then and at any moment before, and of their
-/// text a front; no count of faults fell, and that of the object that failed rose.
+/// Acts that were cut off leave of the tape what a stop in their steps leaves, then and at any moment before, and of
+/// their text a front; no count of faults fell, and that of the object that failed rose.
 pub fn acts_cut_off<T: Tape, S: Source, K: Sink>()
     ensures torn { CutIsTorn T.means S.means K.means }
     ensures stops { CutStops T.means S.means K.means }

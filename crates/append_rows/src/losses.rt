@@ -13,8 +13,8 @@ const TABLE: u32 = 2;
 /// The sector with the ninth slot. Those of parity are 29, 30 and 31.
 const CHANGED: u32 = 1;
 
-/// What `list` has to print, also a second time, where so many of the table's four writes were done, the next one was torn
-/// or not, and then this sector was lost.
+/// What `list` has to print, also a second time, where so many of the table's four writes were done, the next one was
+/// torn or not, and then this sector was lost.
 fn volumes_left(done: u32, torn: bool, lost: u32) -> &'static [u8] {
     match done {
         0 => EIGHT,

@@ -55,8 +55,8 @@ volumes 9
 
 const OUTCOMES: [Outcome; 3] = [Outcome::Old, Outcome::Lost, Outcome::New];
 
-/// A drive with a formatted cartridge and eight volumes, which fill sector 0 of the table. The tape's call fails that comes so
-/// many calls later, and then leaves this.
+/// A drive with a formatted cartridge and eight volumes, which fill sector 0 of the table. The tape's call fails that
+/// comes so many calls later, and then leaves this.
 pub fn eight_before(
     rt: &impl Abort,
     alloc: Global,
@@ -82,8 +82,8 @@ pub fn lists(alloc: Global, unit: &mut Unit<MemTape>, text: &[u8]) -> bool {
     first == (Status::Done, true) && second == first
 }
 
-/// Whether `list` prints the volumes, also a second time, where this call of the ninth append fails. A further append has
-/// to add one volume more.
+/// Whether `list` prints the volumes, also a second time, where this call of the ninth append fails. A further append
+/// has to add one volume more.
 fn leaves(
     rt: &impl Abort,
     alloc: Global,

@@ -20,9 +20,10 @@ use qic_base::{Disk, DiskFailed, SectorRead, SectorWrite, Tape, TapeFailed, Tape
 pub struct ImageTape<D: Disk> {
     /// Nothing is pending in it, so a crash between two calls leaves the bytes that a read gives.
     disk: D,
-    /// The segments per track that the last `info` or `renew` told: None at first, where that `info` found no image, and
-    /// after a `renew` that failed; an `info` that failed changes nothing. Where it is some, it is 3 to `LONGEST`, the
-    /// disk was seen to be at least as long as an image of it, and bytes that the disk tells are an image of just it.
+    /// The segments per track that the last `info` or `renew` told: None at first, where that `info` found no image,
+    /// and after a `renew` that failed; an `info` that failed changes nothing. Where it is some, it is 3 to `LONGEST`,
+    /// the disk was seen to be at least as long as an image of it, and bytes that the disk tells are an image of just
+    /// it.
     segments_per_track: Option<u16>,
     /// What the planes say of the segment that was looked at last; None where that is not known.
     known: Option<SegmentStates>,

@@ -128,7 +128,8 @@ pub fn wear<D: Disk>(
     }
 }
 
-/// Makes a defect of a sector of which the planes say this, where it was never formatted. Answers whether it is a defect now.
+/// Makes a defect of a sector of which the planes say this, where it was never formatted. Answers whether it is a
+/// defect now.
 pub fn spoil<D: Disk>(
     disk: &mut D,
     segments_per_track: u16,

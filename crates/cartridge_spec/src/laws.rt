@@ -25,8 +25,8 @@ pub fn table_says_always()
     ensures { TableSaysAlways }
 {}
 
-/// What the code says of the table's segment where no readable sector is left out of account is what the segment says, but for a
-/// mismatch: then some are left out, by the sets.
+/// What the code says of the table's segment where no readable sector is left out of account is what the segment says,
+/// but for a mismatch: then some are left out, by the sets.
 pub fn said_is_table()
     ensures { SaidIsTable }
 {}

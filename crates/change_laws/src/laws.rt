@@ -3,8 +3,8 @@
 
 ghost use Rattle.change_laws.specs.Laws.{WornStands, WornMounts, WornIsClean, WornIsBare, FewLostIsInForce, SpoiledStands, SpoiledMounts, SpoiledIsClean, SpoiledIsBare, ProtectedStands, ProtectedMounts, ProtectedIsClean, ProtectedIsBare, ReferencedStands, ReferencedMounts, ReferencedIsClean, ReferencedIsBare};
 
-/// A cartridge with a worn sector stands for the same, where header and table are spared. It is mounted as before where the
-/// sector lies behind them.
+/// A cartridge with a worn sector stands for the same, where header and table are spared. It is mounted as before where
+/// the sector lies behind them.
 pub fn worn_sector()
     ensures stands { WornStands }
     ensures in_force { FewLostIsInForce }
@@ -25,8 +25,8 @@ pub fn marks()
     ensures referenced_mounts { ReferencedMounts }
 {}
 
-/// Header copies that formatting may begin over stay so: clean ones, where a worn sector spares header and table, and bare
-/// ones.
+/// Header copies that formatting may begin over stay so: clean ones, where a worn sector spares header and table, and
+/// bare ones.
 pub fn header_copies()
     ensures worn_is_clean { WornIsClean }
     ensures worn_is_bare { WornIsBare }

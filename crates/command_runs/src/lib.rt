@@ -59,9 +59,9 @@ pub fn formatted(alloc: Global) -> Result<Unit<MemTape>, NoMemory> {
     Ok(unit)
 }
 
-/// The calls of the tape in these commands. In `new 3`: the renewal, and the insertion; and in `format L`: the insertion;
-/// the reference bursts; each of the 84 segments formatted; each of their 2,688 sectors read; and 32 sectors of each copy
-/// written.
+/// The calls of the tape in these commands. In `new 3`: the renewal, and the insertion; and in `format L`: the
+/// insertion; the reference bursts; each of the 84 segments formatted; each of their 2,688 sectors read; and 32 sectors
+/// of each copy written.
 const FORMATTED: u64 = 2 + 2 + 84 + 2688 + 64;
 
 /// The same drive on a tape whose call fails that comes so many calls later, and then leaves this.

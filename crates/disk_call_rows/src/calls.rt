@@ -26,8 +26,8 @@ enum Call {
     Renew,
 }
 
-/// An entry of a disk's record: bytes that were written from a place on, so many of one value or of several; a length that
-/// was set; a sync that was done; or any other.
+/// An entry of a disk's record: bytes that were written from a place on, so many of one value or of several; a length
+/// that was set; a sync that was done; or any other.
 #[derive(Clone, Copy, Debug, PartialEq, Eq)]
 enum Row {
     Fill(u64, usize, u8),
@@ -218,7 +218,7 @@ fn a_segment_is_formatted_again_in_three_steps(rt: HostRuntime) -> Result<(), Fa
     Ok(())
 }
 
-// The defect byte of sector 3, which was never formatted, is 64 + 2 * 2,688 + 67 = 5,507.
+/// The defect byte of sector 3, which was never formatted, is 64 + 2 * 2,688 + 67 = 5,507.
 #[test]
 fn a_state_byte_or_a_mark_is_one_write_or_none(rt: HostRuntime) -> Result<(), Fail> {
     let table = [

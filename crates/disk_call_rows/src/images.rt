@@ -35,8 +35,8 @@ fn blank(alloc: Global, fails: Vec<u64>) -> Result<MemDisk, Fail>
     Ok(disk)
 }
 
-/// The same, with the sectors 64 to 66 formatted and holding bytes: their gates, their formed bytes at 64 + 2,688 + 64, and
-/// their bytes at 64 + 3 * 2,688 + 1,024 * 64. Seven calls of the disk make it.
+/// The same, with the sectors 64 to 66 formatted and holding bytes: their gates, their formed bytes at 64 + 2,688 + 64,
+/// and their bytes at 64 + 3 * 2,688 + 1,024 * 64. Seven calls of the disk make it.
 pub fn written(alloc: Global, fails: Vec<u64>) -> Result<MemDisk, Fail>
     ensures { IfOk result (IsSettled disk_means) }
 {

@@ -12,8 +12,8 @@ use qic_mem::MemDisk;
 use std::alloc::Global;
 use std::test::Fail;
 
-/// The image after a write of the sector, whose call of the disk with this number has to fail, counted behind the nine that
-/// made the image and looked at its head.
+/// The image after a write of the sector, whose call of the disk with this number has to fail, counted behind the nine
+/// that made the image and looked at its head.
 fn broken(alloc: Global, call: u16) -> Result<MemDisk, Fail>
     ensures { IfOk result (IsSettled disk_means) }
 {
@@ -74,8 +74,8 @@ fn kept(alloc: Global, call: u16) -> Result<u16, Fail> {
     all_alike(before, after)
 }
 
-// Three calls look at the sector's bytes in the planes. Then come the closed gate, the bytes and the open gate, each with
-// its sync. The cartridge has 2,688 sectors.
+/// Three calls look at the sector's bytes in the planes. Then come the closed gate, the bytes and the open gate, each
+/// with its sync. The cartridge has 2,688 sectors.
 #[test]
 fn a_write_that_breaks_off_leaves_every_other_sector(rt: HostRuntime) -> Result<(), Fail> {
     for call in 0..9 {

@@ -55,7 +55,7 @@ fn given<T: Tape>(drive: AnyDrive<T>, parameter: Parameter) -> (AnyDrive<T>, ())
 }
 
 impl<T: Tape> Dialogue<T> {
-    // An error is latched, and ends what is under way.
+    /// An error is latched, and ends what is under way.
     fn latch(&mut self, code: ErrorCode, command: u8)
         ensures { unit_of self.new ≡ record (unit_of self.old) {
           drive = latched (record_of self.old) code command;
@@ -66,7 +66,7 @@ impl<T: Tape> Dialogue<T> {
         self.under_way = UnderWay::Nothing;
     }
 
-    // A command that no row refuses is obeyed.
+    /// A command that no row refuses is obeyed.
     fn accept(&mut self, command: Command) -> Result<(), TapeFailed>
         requires { refusal_of (record_of self.old).deck command ≡ None }
         ensures did { Does T.means (unit_of self.old).tape (unit_of self.new).tape (steps_of command) result }
@@ -83,7 +83,7 @@ impl<T: Tape> Dialogue<T> {
         replace_with(&mut self.drive, command, AnyDrive::obey)
     }
 
-    // A command of its own, by its number.
+    /// A command of its own, by its number.
     fn command(&mut self, train: u8) -> Result<(), TapeFailed>
         ensures did { Does T.means (unit_of self.old).tape (unit_of self.new).tape
             (command_steps (record_of self.old).deck (command_at train)) result }
@@ -110,7 +110,7 @@ impl<T: Tape> Dialogue<T> {
         }
     }
 
-    // A value of a parameter.
+    /// A value of a parameter.
     fn take(&mut self, parameter: Parameter, value: u8)
         requires { IsUnderWay (record_of self.old).deck (UnderWay.Awaited parameter) }
         ensures { unit_of self.new ≡ record (unit_of self.old) {
@@ -130,7 +130,7 @@ impl<T: Tape> Dialogue<T> {
         }
     }
 
-    // The next level of a report.
+    /// The next level of a report.
     fn show(&mut self, mut report: Shifter)
         requires { report ≢ [] }
         ensures { unit_of self.new ≡ record (unit_of self.old) {
@@ -150,7 +150,7 @@ impl<T: Tape> Dialogue<T> {
         }
     }
 
-    // A train of one pulse or more.
+    /// A train of one pulse or more.
     fn obey(&mut self, train: u8) -> Result<(), TapeFailed>
         requires train { 1 ≤ train }
         requires sound { IsSoundRecord (record_of self.old) }
@@ -183,7 +183,7 @@ impl<T: Tape> Dialogue<T> {
         Ok(())
     }
 
-    // A gap after no pulse.
+    /// A gap after no pulse.
     fn idle(&mut self)
         requires { IsSoundRecord (record_of self.old) }
         ensures { unit_of self.new ≡ record (unit_of self.old) { drive = idled (record_of self.old) } }

@@ -23,7 +23,7 @@ pub fn error_word(code: ErrorCode, command: u8) -> u16
 }
 
 impl Deck {
-    // The tape begins to stream, where it stands before a segment of its track.
+    /// The tape begins to stream, where it stands before a segment of its track.
     fn streaming(self) -> Deck
         ensures { result ≡ streaming self }
     {
@@ -38,7 +38,7 @@ impl Deck {
         }
     }
 
-    // The drive seeks the start of track 0.
+    /// The drive seeks the start of track 0.
     fn home(self, at_load_point: bool) -> Deck
         ensures { result ≡ home at_load_point self }
     {
@@ -53,7 +53,7 @@ impl Deck {
         }
     }
 
-    // The drive enters a mode, and keeps track and offset.
+    /// The drive enters a mode, and keeps track and offset.
     fn entering(self, mode: Mode, at_load_point: bool) -> Deck
         ensures { result ≡ entering mode at_load_point self }
     {
@@ -64,7 +64,7 @@ impl Deck {
         }
     }
 
-    // The cartridge has its reference bursts, or has not.
+    /// The cartridge has its reference bursts, or has not.
     fn referenced_as(self, on: bool) -> Deck
         ensures { result ≡ referenced on self }
     {
@@ -113,7 +113,7 @@ impl Deck {
         self.referenced_as(false)
     }
 
-    // The head goes to a track.
+    /// The head goes to a track.
     fn sought(self, track: u8) -> Deck
         ensures { result ≡ sought track self }
     {
@@ -133,7 +133,7 @@ impl Deck {
         }
     }
 
-    // The tape skips so many segments of its track, at most to an end of it.
+    /// The tape skips so many segments of its track, at most to an end of it.
     fn skipped(self, forward: bool, count: u16) -> Deck
         ensures { result ≡ skipped forward count self }
     {

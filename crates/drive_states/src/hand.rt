@@ -27,7 +27,7 @@ pub fn empty<T: Tape>(tape: T) -> AnyDrive<T>
     AnyDrive::LoadPoint(Drive::of(Deck::power_on(None), tape))
 }
 
-// The drive learns what its cartridge is.
+/// The drive learns what its cartridge is.
 fn look<T: Tape>(mut tape: T) -> (AnyDrive<T>, Result<(), TapeFailed>)
     ensures did { Does T.means tape (drive_of result.0).tape [] result.1 }
     ensures learnt { OnOk result.1 (KnowsAll T.means (drive_of result.0)) }
@@ -96,7 +96,7 @@ impl<T: Tape> Dialogue<T> {
         replace_with(&mut self.drive, (), inserted)
     }
 
-    // The end of the cable as after power-on.
+    /// The end of the cable as after power-on.
     fn rest(&mut self)
         ensures drive { self.new.drive ≡ self.old.drive }
         ensures train { self.new.train ≡ 0 }

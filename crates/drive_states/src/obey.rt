@@ -28,7 +28,7 @@ macro_rules! obeyed {
 }
 
 impl<T: Tape> AnyDrive<T> {
-    // The tape streams.
+    /// The tape streams.
     fn forward(self) -> AnyDrive<T>
         requires { refusal_of (drive_of self).deck named.LogicalForward ≡ None }
         ensures { drive_of result ≡ record (drive_of self) {
@@ -44,7 +44,7 @@ impl<T: Tape> AnyDrive<T> {
         )
     }
 
-    // The drive seeks the start of track 0.
+    /// The drive seeks the start of track 0.
     fn seek_load_point(self) -> AnyDrive<T>
         requires { refusal_of (drive_of self).deck named.SeekLoadPoint ≡ None }
         ensures { drive_of result ≡ record (drive_of self) {
@@ -60,7 +60,7 @@ impl<T: Tape> AnyDrive<T> {
         )
     }
 
-    // The drive enters Format mode.
+    /// The drive enters Format mode.
     fn enter_format(self) -> AnyDrive<T>
         requires { refusal_of (drive_of self).deck named.EnterFormat ≡ None }
         ensures { drive_of result ≡ record (drive_of self) {
@@ -74,7 +74,7 @@ impl<T: Tape> AnyDrive<T> {
         )
     }
 
-    // The drive enters Verify mode.
+    /// The drive enters Verify mode.
     fn enter_verify(self) -> AnyDrive<T>
         requires { refusal_of (drive_of self).deck named.EnterVerify ≡ None }
         ensures { drive_of result ≡ record (drive_of self) {
@@ -89,7 +89,7 @@ impl<T: Tape> AnyDrive<T> {
         )
     }
 
-    // The drive enters Primary mode, where it is in another.
+    /// The drive enters Primary mode, where it is in another.
     fn enter_primary(self) -> AnyDrive<T>
         requires { refusal_of (drive_of self).deck named.EnterPrimary ≡ None }
         ensures { drive_of result ≡ record (drive_of self) {
@@ -106,7 +106,7 @@ impl<T: Tape> AnyDrive<T> {
         }
     }
 
-    // The tape stops.
+    /// The tape stops.
     fn stop(self) -> AnyDrive<T>
         requires { refusal_of (drive_of self).deck named.StopTape ≡ None }
         ensures { drive_of result ≡ record (drive_of self) {
@@ -123,7 +123,7 @@ impl<T: Tape> AnyDrive<T> {
         }
     }
 
-    // A command that does nothing to the cartridge.
+    /// A command that does nothing to the cartridge.
     fn obey_reading(mut self, command: Command) -> AnyDrive<T>
         requires taken { refusal_of (drive_of self).deck command ≡ None }
         requires reads { ¬ (command ≡ named.WriteReference) }
@@ -146,7 +146,7 @@ impl<T: Tape> AnyDrive<T> {
         }
     }
 
-    // The reference bursts are written, and the drive seeks the start of track 0.
+    /// The reference bursts are written, and the drive seeks the start of track 0.
     fn write_reference(self) -> (AnyDrive<T>, Result<(), TapeFailed>)
         requires { refusal_of (drive_of self).deck named.WriteReference ≡ None }
         ensures did { Does T.means (drive_of self).tape (drive_of result.0).tape
@@ -183,7 +183,7 @@ impl<T: Tape> AnyDrive<T> {
         }
     }
 
-    // The head goes to a track, 0 to 27.
+    /// The head goes to a track, 0 to 27.
     fn seek_track(self, track: u8) -> AnyDrive<T>
         requires taken { refusal_of (drive_of self).deck named.SeekTrack ≡ None }
         requires track { track < 28 }
@@ -200,7 +200,7 @@ impl<T: Tape> AnyDrive<T> {
         )
     }
 
-    // The tape skips so many segments of its track.
+    /// The tape skips so many segments of its track.
     fn skip(self, forward: bool, count: u8) -> AnyDrive<T>
         requires { refusal_of (drive_of self).deck (skip_command forward) ≡ None }
         ensures { drive_of result ≡ record (drive_of self) {
@@ -215,7 +215,7 @@ impl<T: Tape> AnyDrive<T> {
         )
     }
 
-    // The number of format segments is set, below 4,096.
+    /// The number of format segments is set, below 4,096.
     fn set_segments(self, count: u16) -> AnyDrive<T>
         requires taken { refusal_of (drive_of self).deck named.SetFormatSegments ≡ None }
         requires fits { count < 4096 }

@@ -16,7 +16,7 @@ use qic_base::{SectorRead, SectorWrite, Tape, TapeFailed};
 use tape_geometry::{FloppyAddr, Geometry};
 
 impl Deck {
-    // The segment and the sector index of an address that the head can still reach.
+    /// The segment and the sector index of an address that the head can still reach.
     fn reach(&self, addr: FloppyAddr) -> Option<(u32, u8)>
         requires { IsSound self.now }
         ensures reached { IfSome result (λ place. HasAddressIn self.now addr place.0 place.1) }
@@ -61,8 +61,8 @@ impl<M: Reads, T: Tape> Drive<M, T> {
 }
 
 impl<T: Tape> Drive<Primary, T> {
-    // Why a protected sector under the head isn't written: it was never formatted, the mark, or a fault of the tape
-    // that kept the drive from telling.
+    /// Why a protected sector under the head isn't written: it was never formatted, the mark, or a fault of the tape
+    /// that kept the drive from telling.
     fn refuse_write(&mut self, segment: u32, index: u8) -> FdcFault
         requires { IsPlaceOf T.means self.old.tape segment index }
         ensures refused { (bytes : List ℕ) →

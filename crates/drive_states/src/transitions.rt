@@ -15,7 +15,7 @@ use qic_base::{Tape, TapeFailed};
 use qic117_commands::Command;
 
 impl<S: State, T: Tape> Drive<S, T> {
-    // The drive after a command that no row refuses.
+    /// The drive after a command that no row refuses.
     fn accepted<N: State>(self, command: Command) -> Drive<N, T>
         requires taken { refusal_of self.deck command ≡ None }
         requires state { IsIn N.state (accepted command self.deck) }
@@ -25,7 +25,7 @@ impl<S: State, T: Tape> Drive<S, T> {
         Drive::of(deck.accepted(command), tape)
     }
 
-    // The drive after a command that no row refuses, and that has its parameter.
+    /// The drive after a command that no row refuses, and that has its parameter.
     fn given<N: State>(self, command: Command, parameter: u16) -> Drive<N, T>
         requires taken { refusal_of self.deck command ≡ None }
         requires parameter { IsParameter command parameter }

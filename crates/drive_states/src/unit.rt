@@ -20,7 +20,8 @@ use qic_base::{Tape, TapeFailed};
 use std::marker::Model;
 use tape_geometry::FloppyAddr;
 
-/// A drive with its tape: step pulses and gaps, the track-0 line, sector calls, and what a person does to the cartridge.
+/// A drive with its tape: step pulses and gaps, the track-0 line, sector calls, and what a person does to the
+/// cartridge.
 #[derive(Drop)]
 pub struct Unit<T: Tape> {
     dialogue: Dialogue<T>,
@@ -81,8 +82,8 @@ impl<T: Tape> Unit<T> {
         self.dialogue.train = self.dialogue.train.saturating_add(1);
     }
 
-    /// Ends the train of pulses and carries out its row. Each refusal of the drive is a latched error code; the Err is a
-    /// tape that failed to write the reference bursts.
+    /// Ends the train of pulses and carries out its row. Each refusal of the drive is a latched error code; the Err is
+    /// a tape that failed to write the reference bursts.
     pub fn gap(&mut self) -> Result<(), TapeFailed>
         ensures row { OnOk result (self.new.drive ≡ after_gap self.old.drive) }
         ensures failed { OnErr result ((gap_steps self.old.drive ≡ SetReferenced ∷ [])
@@ -219,7 +220,7 @@ impl<T: Tape> Unit<T> {
         }
     }
 
-    // The index of a sector that the cartridge has.
+    /// The index of a sector that the cartridge has.
     fn place(&self, segment: u32, sector: u32) -> Result<u8, HandFault>
         ensures placed { IsPlaced self.now.drive.deck.cartridge segment sector result }
         ensures here { IfOk result (λ index. IsPlaceOf T.means self.now.tape segment index) }

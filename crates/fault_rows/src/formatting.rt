@@ -114,7 +114,8 @@ fn left_by_first(
     left
 }
 
-/// What it has to leave. Sector 0 of copy 0 is the first that a mounting finds; lost, it is found again from the others.
+/// What it has to leave. Sector 0 of copy 0 is the first that a mounting finds; lost, it is found again from the
+/// others.
 fn kept(call: u64, outcome: Outcome) -> Left {
     if call < FIRST_COPY || (call == FIRST_COPY && outcome == Outcome::Old) {
         Left::No
@@ -148,8 +149,8 @@ fn a_first_format_leaves_no_header_or_its_own(rt: HostRuntime) -> Result<(), Fai
 /// What `format L` prints.
 const LINE: &[u8] = b"formatted 84 0\n";
 
-/// What `format L` answers over a sink with this room whose write with this number fails, and how many bytes of its line the
-/// sink took; nothing where they are no front of it.
+/// What `format L` answers over a sink with this room whose write with this number fails, and how many bytes of its
+/// line the sink took; nothing where they are no front of it.
 fn formats_into(
     alloc: Global,
     unit: &mut Unit<MemTape>,
@@ -162,8 +163,8 @@ fn formats_into(
     Ok((status, LINE.starts_with(printed).then_some(printed.len())))
 }
 
-/// Over a new cartridge it has to answer this status, and the sink to take so many bytes. The cartridge is formatted in any
-/// case.
+/// Over a new cartridge it has to answer this status, and the sink to take so many bytes. The cartridge is formatted in
+/// any case.
 fn ends_into(
     rt: &impl Abort,
     alloc: Global,

@@ -9,15 +9,15 @@ use std::alloc::Global;
 use std::test::Fail;
 use tape_cmd::Status;
 
-/// The calls of the tape that make a cartridge: a new one, its mark, three segments formatted, and eight for each of the
-/// header and the volume table.
+/// The calls of the tape that make a cartridge: a new one, its mark, three segments formatted, and eight for each of
+/// the header and the volume table.
 const MADE: u64 = 21;
 
 /// The number of no call.
 const NEVER: u64 = u64::MAX;
 
-/// The calls of a mounting that reads copy 0 of the header and writes nothing: one that looks, and 32 sectors of segment 0
-/// and of segment 2 read.
+/// The calls of a mounting that reads copy 0 of the header and writes nothing: one that looks, and 32 sectors of
+/// segment 0 and of segment 2 read.
 const READS: u64 = 65;
 
 /// The first 30 bytes of a header of three segments per track, of 1994-03-01T12:00:00.
@@ -89,8 +89,8 @@ fn lists_thrice(alloc: Global, tape: MemTape) -> Result<([(Status, bool); 3], u3
     Ok(([first, second, third], faults))
 }
 
-/// A cartridge with that table, of which two data sectors and one of parity are worn, by 6 calls more. The call with this
-/// number fails, counted from the first one behind these, and leaves this.
+/// A cartridge with that table, of which two data sectors and one of parity are worn, by 6 calls more. The call with
+/// this number fails, counted from the first one behind these, and leaves this.
 fn worn(alloc: Global, call: u64, outcome: Outcome) -> Result<MemTape, Fail> {
     let mut tape = cartridge(alloc, (MADE + 6).saturating_add(call), &one_volume())?;
     wear(&mut tape, 2, 0)?;
@@ -171,8 +171,8 @@ fn a_stop_in_settling_leaves_the_list(rt: HostRuntime) -> Result<(), Fail> {
     Ok(())
 }
 
-/// What these words answer over a sink with this room, one write of which fails, and whether the sink took so many bytes,
-/// the first ones of the text.
+/// What these words answer over a sink with this room, one write of which fails, and whether the sink took so many
+/// bytes, the first ones of the text.
 fn prints_into(
     alloc: Global,
     words: &[&str],

@@ -64,7 +64,8 @@ pub fn write_first(tape: &mut MemTape, segment: u32, first: &[u8; 1024]) -> Resu
     write(tape, segment, 31, &c)
 }
 
-/// Whether of the first 84 segments this one alone has sectors that were formatted and can't be read, those of the mask.
+/// Whether of the first 84 segments this one alone has sectors that were formatted and can't be read, those of the
+/// mask.
 pub fn is_lost_alone(tape: &mut MemTape, segment: u32, lost: u32) -> Result<bool, Fail> {
     let mut alone = true;
     for other in 0..84 {
@@ -73,7 +74,7 @@ pub fn is_lost_alone(tape: &mut MemTape, segment: u32, lost: u32) -> Result<bool
     Ok(alone)
 }
 
-// The mask of a segment's sectors that were formatted and can't be read.
+/// The mask of a segment's sectors that were formatted and can't be read.
 fn lost_of(tape: &mut MemTape, segment: u32) -> Result<u32, Fail>
     requires { segment < 84 }
 {
@@ -87,8 +88,8 @@ fn lost_of(tape: &mut MemTape, segment: u32) -> Result<u32, Fail>
     Ok(lost)
 }
 
-/// The mask of the sectors of segment 2 that are not readable, or do not hold their part of the data whose first sector is
-/// this one, with zero bytes behind it, and of their parity.
+/// The mask of the sectors of segment 2 that are not readable, or do not hold their part of the data whose first sector
+/// is this one, with zero bytes behind it, and of their parity.
 pub fn faults(tape: &mut MemTape, first: &[u8; 1024]) -> Result<u32, Fail> {
     let [a, b, c] = parity_of(first);
     let mut mask: u32 = 0;
@@ -107,7 +108,7 @@ pub fn faults(tape: &mut MemTape, first: &[u8; 1024]) -> Result<u32, Fail> {
     Ok(mask)
 }
 
-// Whether a sector of segment 2 holds these bytes.
+/// Whether a sector of segment 2 holds these bytes.
 fn holds(tape: &mut MemTape, sector: u8, wanted: &[u8; 1024]) -> Result<bool, Fail>
     requires { sector < 32 }
 {
@@ -115,7 +116,7 @@ fn holds(tape: &mut MemTape, sector: u8, wanted: &[u8; 1024]) -> Result<bool, Fa
     Ok(read(tape, 2, sector, &mut held)? == SectorRead::Good && held == *wanted)
 }
 
-// The parity of a segment's 29 data sectors, of which all but the first are zero bytes.
+/// The parity of a segment's 29 data sectors, of which all but the first are zero bytes.
 fn parity_of(first: &[u8; 1024]) -> [[u8; 1024]; 3] {
     let mut parity = Parity::new();
     parity.push(first);
@@ -124,7 +125,7 @@ fn parity_of(first: &[u8; 1024]) -> [[u8; 1024]; 3] {
     parity.finish()
 }
 
-// Pushes fourteen sectors of zero bytes.
+/// Pushes fourteen sectors of zero bytes.
 fn push_fourteen(parity: &mut Parity)
     requires { pushed parity.old ≤ 15 }
     ensures { pushed parity.new ≡ pushed parity.old + 14 }

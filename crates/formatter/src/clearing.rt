@@ -43,7 +43,7 @@ pub(crate) fn clear<T: Tape>(host: &mut Host, unit: &mut Unit<T>) -> Result<(), 
     Ok(())
 }
 
-// Formats the segments of all tracks, ascending.
+/// Formats the segments of all tracks, ascending.
 fn clear_tracks<T: Tape>(host: &mut Host, unit: &mut Unit<T>) -> Result<(), HostFault>
     requires ready { IsReady T.means host.old unit.old }
     requires format { is_format unit.old.drive.deck.mode ≡ true }
@@ -61,7 +61,7 @@ fn clear_tracks<T: Tape>(host: &mut Host, unit: &mut Unit<T>) -> Result<(), Host
     Ok(())
 }
 
-// Formats the segments of a track, ascending.
+/// Formats the segments of a track, ascending.
 fn clear_track<T: Tape>(host: &mut Host, unit: &mut Unit<T>, track: u32) -> Result<(), HostFault>
     requires ready { IsReady T.means host.old unit.old }
     requires format { is_format unit.old.drive.deck.mode ≡ true }

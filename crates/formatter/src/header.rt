@@ -59,7 +59,7 @@ pub(crate) fn write_header<T: Tape>(
     Ok(())
 }
 
-// Makes the sectors those of a header copy: the data and their parity.
+/// Makes the sectors those of a header copy: the data and their parity.
 fn spell(geometry: Geometry, label: &Name, date: u32, map: &BadMap, sectors: &mut [[u8; SECTOR]])
     requires words { length map.now ≡ 28 * geometry }
     requires room { length sectors.old ≡ 32 }
@@ -77,7 +77,7 @@ fn spell(geometry: Geometry, label: &Name, date: u32, map: &BadMap, sectors: &mu
     put_parity(sectors, DATA_SECTORS);
 }
 
-// Spells the header and the map in the data sectors.
+/// Spells the header and the map in the data sectors.
 fn put_header(header: &Header, map: &BadMap, sectors: &mut [[u8; SECTOR]])
     requires long { IsLength header.now.segments_per_track }
     requires words { length map.now ≡ 28 * header.now.segments_per_track }
@@ -87,7 +87,7 @@ fn put_header(header: &Header, map: &BadMap, sectors: &mut [[u8; SECTOR]])
     encode(header, map, &mut sectors[..DATA_SECTORS]);
 }
 
-// Writes the sectors of a header copy: 1 to 31, ascending, and then sector 0, without which the copy can't be read.
+/// Writes the sectors of a header copy: 1 to 31, ascending, and then sector 0, without which the copy can't be read.
 fn write_copy<T: Tape>(
     host: &mut Host,
     unit: &mut Unit<T>,

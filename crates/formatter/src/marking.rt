@@ -46,7 +46,7 @@ pub(crate) fn mark_all<T: Tape>(
     mark_tracks(host, unit, map, sectors)
 }
 
-// Marks the unreadable sectors of all tracks.
+/// Marks the unreadable sectors of all tracks.
 #[tactic(auto, using(qic_base::proofs::Steps::joins))]
 fn mark_tracks<T: Tape>(
     host: &mut Host,
@@ -74,7 +74,7 @@ fn mark_tracks<T: Tape>(
     Ok(())
 }
 
-// Marks the unreadable sectors of a track.
+/// Marks the unreadable sectors of a track.
 #[tactic(auto, using(qic_base::proofs::Steps::joins))]
 fn mark_track<T: Tape>(
     host: &mut Host,
@@ -108,7 +108,7 @@ fn mark_track<T: Tape>(
     Ok(())
 }
 
-// Marks the unreadable sectors of the segment in which the tape streams.
+/// Marks the unreadable sectors of the segment in which the tape streams.
 #[tactic(auto, using(qic_base::proofs::Steps::joins))]
 fn mark_segment<T: Tape>(
     host: &mut Host,
@@ -136,7 +136,7 @@ fn mark_segment<T: Tape>(
     Ok(())
 }
 
-// Marks the next sector of the segment in which the tape streams, where that can't be read.
+/// Marks the next sector of the segment in which the tape streams, where that can't be read.
 fn mark_sector<T: Tape>(
     host: &mut Host,
     unit: &mut Unit<T>,

@@ -38,7 +38,7 @@ pub fn send_train<T: Tape>(unit: &mut Unit<T>, pulses: u8) -> Result<(), TapeFai
     unit.gap()
 }
 
-// Sends a train that shows a level, and gives it.
+/// Sends a train that shows a level, and gives it.
 #[tactic(auto, using(crate::proofs::Trains::same_tape))]
 fn sample<T: Tape>(unit: &mut Unit<T>, pulses: u8) -> Result<bool, TapeFailed>
     requires no_pulse { unit.old.drive.train ≡ 0 }

@@ -40,7 +40,7 @@ impl Host {
         }
     }
 
-    // What it remembers after one more value of a parameter.
+    /// What it remembers after one more value of a parameter.
     fn follow_value(&mut self, parameter: Parameter)
         requires { parameter.taken ≡ parameter_trains parameter.command →
             IsParameter parameter.command parameter.value }

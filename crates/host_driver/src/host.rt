@@ -18,8 +18,8 @@ use qic_base::{Tape, TapeInfo};
 use qic117_commands::StatusBits;
 use tape_geometry::Geometry;
 
-/// What a host has learnt of a drive by reports, and what it remembers of the drive's place and mode. It doesn't hold the
-/// unit: each call is handed the unit that it drives.
+/// What a host has learnt of a drive by reports, and what it remembers of the drive's place and mode. It doesn't hold
+/// the unit: each call is handed the unit that it drives.
 #[derive(Clone, Copy, Debug)]
 pub struct Host {
     pub(crate) geometry: Geometry,
@@ -29,7 +29,8 @@ pub struct Host {
 }
 
 impl Host {
-    /// Puts the cartridge in, and learns by the reports of the status, the error word and the format segments what it is.
+    /// Puts the cartridge in, and learns by the reports of the status, the error word and the format segments what it
+    /// is.
     pub fn start<T: Tape>(unit: &mut Unit<T>) -> Result<Host, HostFault>
         ensures did { Starts T.means unit.old unit.new result }
         ensures ready { IfOk result (λ host. IsReady T.means host unit.new) }
@@ -57,7 +58,7 @@ impl Host {
         Ok(Host::learnt(geometry, protected, status.contains(StatusBits::REFERENCED)))
     }
 
-    // A host that has learnt a cartridge's length and its marks.
+    /// A host that has learnt a cartridge's length and its marks.
     fn learnt(geometry: Geometry, protected: bool, referenced: bool) -> Host
         ensures { result ≡ started_host geometry protected referenced }
     {
@@ -101,8 +102,8 @@ impl Host {
         }
     }
 
-    /// Sends a train of pulses and a gap. Each refusal of the drive is ruled out; the fault is a tape that failed to write
-    /// the reference bursts.
+    /// Sends a train of pulses and a gap. Each refusal of the drive is ruled out; the fault is a tape that failed to
+    /// write the reference bursts.
     pub fn send<T: Tape>(&mut self, unit: &mut Unit<T>, pulses: u8) -> Result<(), HostFault>
         requires fits { Fits T.means self.old unit.old }
         requires taken { TakesTrain unit.old.drive pulses }

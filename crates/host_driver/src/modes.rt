@@ -45,8 +45,8 @@ impl Host {
         self.command(unit, command)
     }
 
-    /// Has the drive write the reference bursts, in Format mode where the tape stands, and waits for it. After a failure the
-    /// drive still seeks, and knows the cartridge as not referenced.
+    /// Has the drive write the reference bursts, in Format mode where the tape stands, and waits for it. After a
+    /// failure the drive still seeks, and knows the cartridge as not referenced.
     pub fn reference<T: Tape>(&mut self, unit: &mut Unit<T>) -> Result<(), HostFault>
         requires ready { IsReady T.means self.old unit.old }
         requires format { is_format unit.old.drive.deck.mode ≡ true }

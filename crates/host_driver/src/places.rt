@@ -62,7 +62,7 @@ impl Host {
         self.command(unit, Command::StopTape)
     }
 
-    // Stops the tape where it streams.
+    /// Stops the tape where it streams.
     fn stand<T: Tape>(&mut self, unit: &mut Unit<T>) -> Result<(), HostFault>
         requires ready { IsReady T.means self.old unit.old }
         ensures ok { IsOk result }
@@ -76,7 +76,7 @@ impl Host {
         Ok(())
     }
 
-    // Has the head go to a track, where it isn't there.
+    /// Has the head go to a track, where it isn't there.
     fn align_track<T: Tape>(&mut self, unit: &mut Unit<T>, track: u8) -> Result<(), HostFault>
         requires ready { IsReady T.means self.old unit.old }
         requires stopped { is_stopped unit.old.drive.deck.motion ≡ true }
@@ -95,8 +95,8 @@ impl Host {
         Ok(())
     }
 
-    // Has the tape skip to an offset on its track, where it doesn't stand there. Format mode has no skips: there the drive
-    // does it in Primary mode.
+    /// Has the tape skip to an offset on its track, where it doesn't stand there. Format mode has no skips: there the
+    /// drive does it in Primary mode.
     fn align_offset<T: Tape>(&mut self, unit: &mut Unit<T>, offset: u16) -> Result<(), HostFault>
         requires ready { IsReady T.means self.old unit.old }
         requires stopped { is_stopped unit.old.drive.deck.motion ≡ true }
@@ -119,7 +119,7 @@ impl Host {
         self.enter(unit, Mode::Format)
     }
 
-    // Has the tape skip to an offset on its track.
+    /// Has the tape skip to an offset on its track.
     fn skip_to<T: Tape>(&mut self, unit: &mut Unit<T>, offset: u16) -> Result<(), HostFault>
         requires ready { IsReady T.means self.old unit.old }
         requires stopped { is_stopped unit.old.drive.deck.motion ≡ true }
@@ -140,7 +140,7 @@ impl Host {
         }
     }
 
-    // Has the tape skip so many segments of its track.
+    /// Has the tape skip so many segments of its track.
     fn skip<T: Tape>(
         &mut self,
         unit: &mut Unit<T>,
@@ -164,7 +164,7 @@ impl Host {
         Ok(())
     }
 
-    // Has the head go to a track.
+    /// Has the head go to a track.
     fn seek_track<T: Tape>(&mut self, unit: &mut Unit<T>, track: u8) -> Result<(), HostFault>
         requires ready { IsReady T.means self.old unit.old }
         requires stopped { is_stopped unit.old.drive.deck.motion ≡ true }
@@ -181,7 +181,7 @@ impl Host {
         Ok(())
     }
 
-    // Has the tape stream from before a segment of its track.
+    /// Has the tape stream from before a segment of its track.
     fn forward<T: Tape>(&mut self, unit: &mut Unit<T>) -> Result<(), HostFault>
         requires ready { IsReady T.means self.old unit.old }
         requires stopped { is_stopped unit.old.drive.deck.motion ≡ true }

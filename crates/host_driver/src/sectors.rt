@@ -52,8 +52,8 @@ impl Host {
         Ok(answer)
     }
 
-    /// Writes a sector of the segment in which the tape streams, one that the head has yet to reach, in Primary mode. The
-    /// cartridge is not protected.
+    /// Writes a sector of the segment in which the tape streams, one that the head has yet to reach, in Primary mode.
+    /// The cartridge is not protected.
     pub fn write_sector<T: Tape>(
         &mut self,
         unit: &mut Unit<T>,

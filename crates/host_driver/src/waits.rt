@@ -22,8 +22,8 @@ use qic_base::{Tape, TapeFailed};
 use qic117_commands::StatusBits;
 
 impl Host {
-    /// Has the drive report a word, and leaves it as it is. No row may refuse the report: a tape that streams reports its
-    /// status and its error word alone.
+    /// Has the drive report a word, and leaves it as it is. No row may refuse the report: a tape that streams reports
+    /// its status and its error word alone.
     #[tactic(auto, using(crate::proofs::Reporting::resting))]
     pub fn report<T: Tape>(&mut self, unit: &mut Unit<T>, kind: Report) -> Result<u16, HostFault>
         requires ready { IsReady T.means self.old unit.old }
@@ -57,7 +57,7 @@ impl Host {
     }
 }
 
-// Whether the drive is ready, by a report of its status.
+/// Whether the drive is ready, by a report of its status.
 fn is_ready<T: Tape>(unit: &mut Unit<T>) -> Result<bool, TapeFailed>
     requires no_pulse { unit.old.drive.train ≡ 0 }
     requires idle { unit.old.drive.under_way ≡ Nothing }

@@ -26,8 +26,8 @@ pub fn blank(alloc: Global, fails: &[u64]) -> Result<Unit<MemTape>, Fail> {
     Ok(Unit::new(tape))
 }
 
-/// A drive with a cartridge of three segments per track. It is referenced, segments 0 and 4 are formatted, and the first
-/// sector of segment 4 was written: calls 0 to 4 made all this.
+/// A drive with a cartridge of three segments per track. It is referenced, segments 0 and 4 are formatted, and the
+/// first sector of segment 4 was written: calls 0 to 4 made all this.
 pub fn written(alloc: Global, fails: &[u64]) -> Result<Unit<MemTape>, Fail> {
     let mut tape = tape(alloc, fails)?;
     write_one(&mut tape)?;
@@ -71,8 +71,8 @@ pub enum Row {
     Status(u16),
     /// A report of the error word, 16 bits.
     Error(u16),
-    /// Reports of the status until one shows that the tape stands: the last train began a seek of the load point. It takes
-    /// 160 gaps, and a report ten, of which the first loads the word, so it is the 17th.
+    /// Reports of the status until one shows that the tape stands: the last train began a seek of the load point. It
+    /// takes 160 gaps, and a report ten, of which the first loads the word, so it is the 17th.
     AtLoadPoint,
     /// A read of a sector each of whose bytes is this one.
     Shows(FloppyAddr, u8),
@@ -84,7 +84,7 @@ pub enum Row {
     Format,
 }
 
-// How many reports of the status come until one shows that the tape stands; 0 where none of 20 does.
+/// How many reports of the status come until one shows that the tape stands; 0 where none of 20 does.
 fn reports_of_the_status(unit: &mut Unit<MemTape>) -> u8 {
     for before in 0..20 {
         if report(unit, 6, 8).is_some_and(|status| status & 1 == 1) {
@@ -94,7 +94,7 @@ fn reports_of_the_status(unit: &mut Unit<MemTape>) -> u8 {
     0
 }
 
-// The answer to a read, and what the bytes 1 became.
+/// The answer to a read, and what the bytes 1 became.
 fn read(unit: &mut Unit<MemTape>, addr: FloppyAddr) -> (Result<(), FdcFault>, [u8; 1024]) {
     let mut into = [1; 1024];
     (unit.read_sector(addr, &mut into), into)

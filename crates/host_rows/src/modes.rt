@@ -16,8 +16,8 @@ fn reference(unit: &mut Unit<MemTape>) -> Result<(Result<(), HostFault>, bool), 
     Ok((answer, host.referenced()))
 }
 
-/// Has a host write the reference bursts and format segment 0. On a cartridge of `blank` call 1 of the tape puts it in, 2
-/// writes the bursts and 3 formats the segment: modes and the way there make none.
+/// Has a host write the reference bursts and format segment 0. On a cartridge of `blank` call 1 of the tape puts it in,
+/// 2 writes the bursts and 3 formats the segment: modes and the way there make none.
 fn format_first(unit: &mut Unit<MemTape>) -> Result<(), HostFault> {
     let mut host = Host::start(unit)?;
     host.enter(unit, Mode::Format)?;

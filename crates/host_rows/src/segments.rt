@@ -13,15 +13,15 @@ use std::test::Fail;
 /// A segment amid a track.
 const SEGMENT: u32 = 40;
 
-/// All its sectors but 3, 17, 30 and 31. Of the 28 usable ones 25 hold data, at the places 0 to 24, and the sectors 27, 28
-/// and 29 parity.
+/// All its sectors but 3, 17, 30 and 31. Of the 28 usable ones 25 hold data, at the places 0 to 24, and the sectors 27,
+/// 28 and 29 parity.
 const USABLE: u32 = 0x3FFD_FFF7;
 
 /// The places 1, 16 and 27, which are those of the sectors 1, 18 and 29.
 const THREE: u32 = 0x0801_0002;
 
-/// A drive with a referenced cartridge of three segments per track, of which the segment is formatted. Its sectors 3 and
-/// 30 are defects. Calls 0 to 4 of the tape made all this, and `begun` makes call 5.
+/// A drive with a referenced cartridge of three segments per track, of which the segment is formatted. Its sectors 3
+/// and 30 are defects. Calls 0 to 4 of the tape made all this, and `begun` makes call 5.
 fn marked(alloc: Global, fails: &[u64]) -> Result<Unit<MemTape>, Fail> {
     let mut tape = tape(alloc, fails)?;
     mark(&mut tape)?;
@@ -137,7 +137,8 @@ fn a_written_segment_is_read_without_three_sectors(rt: HostRuntime) -> Result<()
     Ok(())
 }
 
-// Call 6 is the first of 28 writes. Call 7 puts the cartridge in again, and call 10 is the third of those that come then.
+/// Call 6 is the first of 28 writes. Call 7 puts the cartridge in again, and call 10 is the third of those that come
+/// then.
 #[test]
 fn a_fault_leaves_the_writes_before_it(rt: HostRuntime) -> Result<(), Fail> {
     let mut unit = marked(rt.alloc(), &[6, 10])?;
@@ -156,7 +157,7 @@ fn a_fault_leaves_the_writes_before_it(rt: HostRuntime) -> Result<(), Fail> {
     Ok(())
 }
 
-// Here call 6 is the first of three, and call 9 the second of those that come then.
+/// Here call 6 is the first of three, and call 9 the second of those that come then.
 #[test]
 fn a_fault_leaves_the_named_writes_before_it(rt: HostRuntime) -> Result<(), Fail> {
     let mut unit = marked(rt.alloc(), &[6, 9])?;
@@ -176,8 +177,8 @@ fn a_fault_leaves_the_named_writes_before_it(rt: HostRuntime) -> Result<(), Fail
     Ok(())
 }
 
-// Call 6 is the first of 28 reads, and so is call 8 behind the insertion by call 7; call 37 is the last of those that come
-// behind the next insertion.
+/// Call 6 is the first of 28 reads, and so is call 8 behind the insertion by call 7; call 37 is the last of those that
+/// come behind the next insertion.
 #[test]
 fn a_fault_among_reads_is_told(rt: HostRuntime) -> Result<(), Fail> {
     let mut unit = marked(rt.alloc(), &[6, 8, 37])?;

@@ -42,7 +42,7 @@ fn word(unit: &mut Unit<MemTape>, kind: Report) -> Result<u16, HostFault> {
     host.report(unit, kind)
 }
 
-// At the start the drive is stopped, with a referenced cartridge at the beginning of the tape, which the host knows.
+/// At the start the drive is stopped, with a referenced cartridge at the beginning of the tape, which the host knows.
 const REPORTS: [(Report, u16); 7] = [
     (Report::Status, 0x65),
     (Report::Error, 0),

@@ -10,8 +10,8 @@ use qic_mem::MemTape;
 /// Each byte of the sector that `write_one` writes.
 pub const WRITTEN: u8 = 0xA5;
 
-/// Makes a cartridge of three segments per track that is referenced, with the segments 0 and 4 formatted, and writes the
-/// first sector of segment 4. Calls 0 to 4 of the tape make all this.
+/// Makes a cartridge of three segments per track that is referenced, with the segments 0 and 4 formatted, and writes
+/// the first sector of segment 4. Calls 0 to 4 of the tape make all this.
 pub fn write_one(tape: &mut MemTape) -> Result<(), TapeFailed> {
     tape.renew(3)?;
     tape.set_referenced()?;

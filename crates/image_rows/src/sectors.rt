@@ -32,7 +32,7 @@ fn written(alloc: Global, fails: Vec<u64>) -> Result<MemDisk, Fail>
     Ok(file)
 }
 
-// Their gates, their formed bytes at 64 + 2,688 + 64, and their bytes at 64 + 3 * 2,688 + 1,024 * 64.
+/// Their gates, their formed bytes at 64 + 2,688 + 64, and their bytes at 64 + 3 * 2,688 + 1,024 * 64.
 fn write_three(file: &mut MemDisk) -> Result<(), DiskFailed>
     requires { disk_means.seen_len file.old ≡ 2760640 }
     ensures { OnOk result (IsSettled disk_means file.new) }
@@ -115,8 +115,8 @@ fn is_worn_written(alloc: Global, call: u16) -> Result<bool, Fail> {
     Ok(is_written(worn(alloc, call)?))
 }
 
-// Three calls look at the segment's bytes in the planes. Then come the writes, each with its sync. Of a write that fails
-// the first half stands: nothing of a gate, and 512 bytes of a sector.
+/// Three calls look at the segment's bytes in the planes. Then come the writes, each with its sync. Of a write that
+/// fails the first half stands: nothing of a gate, and 512 bytes of a sector.
 #[test]
 fn a_gate_is_closed_and_the_bytes_written_and_it_is_opened(rt: HostRuntime) -> Result<(), Fail> {
     let left = [
@@ -137,7 +137,7 @@ fn a_gate_is_closed_and_the_bytes_written_and_it_is_opened(rt: HostRuntime) -> R
     Ok(())
 }
 
-// What the planes say is known since the sector was made unreadable, so no call looks at them.
+/// What the planes say is known since the sector was made unreadable, so no call looks at them.
 #[test]
 fn a_lost_sector_is_written_and_its_gate_opened(rt: HostRuntime) -> Result<(), Fail> {
     let left = [

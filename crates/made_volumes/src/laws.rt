@@ -19,9 +19,9 @@ pub fn a_stop_is_in_one_step()
     ensures { StopsAreInSteps }
 {}
 
-/// On a cartridge that stands for a plain one a run leaves it with all made volumes, also where sectors of the table's segment take
-/// no write; and where each of these takes one, a stop in it with some of them: the worn sectors lie behind the table, and each
-/// append leaves the old volumes or the new ones.
+/// On a cartridge that stands for a plain one a run leaves it with all made volumes, also where sectors of the table's
+/// segment take no write; and where each of these takes one, a stop in it with some of them: the worn sectors lie
+/// behind the table, and each append leaves the old volumes or the new ones.
 pub fn a_run_keeps_what_stands()
     ensures done { DoneMakeStands }
     ensures stopped { StoppedMakeStands }
@@ -32,14 +32,14 @@ pub fn made_volumes_are_answered()
     ensures { MadeAreAnswered }
 {}
 
-/// On a cartridge that stands for a plain one, and whose table reads, a run is carried out where each made volume has room,
-/// and where behind the scrub no segment of one has more than three unreadable sectors.
+/// On a cartridge that stands for a plain one, and whose table reads, a run is carried out where each made volume has
+/// room, and where behind the scrub no segment of one has more than three unreadable sectors.
 pub fn a_run_with_room_is_carried_out()
     ensures { MadeWhereThereIsRoom }
 {}
 
-/// A run leaves a mounted cartridge mounted with its list and some of the made volumes behind it, whatever the sectors of
-/// its volumes hold: all of them where all was carried out, or something was printed.
+/// A run leaves a mounted cartridge mounted with its list and some of the made volumes behind it, whatever the sectors
+/// of its volumes hold: all of them where all was carried out, or something was printed.
 pub fn made_volumes_are_listed()
     ensures lists { MakeLists }
     ensures all { MadeAreListed }

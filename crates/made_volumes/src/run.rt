@@ -16,7 +16,7 @@ use drive_states::Unit;
 use qic_base::{Sink, Tape};
 use volume_store::Store;
 
-// Scrubs the cartridge.
+/// Scrubs the cartridge.
 fn scrub<T: Tape, K: Sink>(
     store: &mut Store,
     unit: &mut Unit<T>,

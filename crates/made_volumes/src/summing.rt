@@ -29,7 +29,7 @@ fn sum_text(number: u32, bytes: u64, total: u32) -> TextLine
     line
 }
 
-// Restores a volume, counted from 1, and prints the line of its sum.
+/// Restores a volume, counted from 1, and prints the line of its sum.
 fn sum_volume<T: Tape, K: Sink>(
     store: &mut Store,
     unit: &mut Unit<T>,

@@ -22,7 +22,7 @@ const EACH: u32 = 100;
 /// How many sectors are worn in such a segment.
 const WORN: u32 = 2;
 
-// Wears a sector of a segment.
+/// Wears a sector of a segment.
 fn wear_sector<T: Tape>(
     store: &mut Store,
     unit: &mut Unit<T>,
@@ -47,7 +47,7 @@ fn wear_sector<T: Tape>(
     }
 }
 
-// Wears the first two usable sectors of a segment.
+/// Wears the first two usable sectors of a segment.
 fn wear_first_two<T: Tape>(
     store: &mut Store,
     unit: &mut Unit<T>,
@@ -73,7 +73,7 @@ fn wear_first_two<T: Tape>(
     Ok(())
 }
 
-// Wears the first two usable sectors of a segment that carries data, if its number is a multiple of 100.
+/// Wears the first two usable sectors of a segment that carries data, if its number is a multiple of 100.
 fn wear_if_due<T: Tape>(
     store: &mut Store,
     unit: &mut Unit<T>,
@@ -97,7 +97,7 @@ fn wear_if_due<T: Tape>(
     wear_first_two(store, unit, segment)
 }
 
-// Wears sectors of a volume, counted from 0.
+/// Wears sectors of a volume, counted from 0.
 fn wear_volume<T: Tape>(store: &mut Store, unit: &mut Unit<T>, index: u32) -> Result<(), MakeFault>
     requires fits { StoreFits T.means store.old unit.old }
     requires index { index < length store.old.entries }

@@ -19,7 +19,8 @@ pub fn table_is_area()
     ensures { TableIsArea }
 {}
 
-/// A cartridge that stands for a plain one is mounted as that one, or its table has lost more than the code finds again.
+/// A cartridge that stands for a plain one is mounted as that one, or its table has lost more than the code finds
+/// again.
 pub fn stands_mounts()
     ensures mounted { StandingMounts }
     ensures nothing_else { StandingMountsOnlySo }
@@ -42,8 +43,8 @@ pub fn stopped_settling()
     ensures whole { StoppedIsCartridge }
 {}
 
-/// A cartridge whose table was settled has the data that it had, and is mounted and stands as before. Nothing is left to
-/// be settled, and no readable sector is left out of account any more.
+/// A cartridge whose table was settled has the data that it had, and is mounted and stands as before. Nothing is left
+/// to be settled, and no readable sector is left out of account any more.
 pub fn settled_table()
     ensures table { SettledKeepsTable }
     ensures mounts { SettledMounts }

@@ -12,7 +12,8 @@ use qic_base::{Sink, SinkFailed};
 use std::mem::replace;
 use tape_script::{TextLine, write_text};
 
-/// A train that the next pulse may continue: the times of its first pulse and of its last, and the number of its pulses.
+/// A train that the next pulse may continue: the times of its first pulse and of its last, and the number of its
+/// pulses.
 #[derive(Clone, Copy, Debug)]
 pub struct OpenTrain {
     pub first: u32,

@@ -4,7 +4,7 @@ use crate::{TraceFault, tell_recording};
 use qic_mem::{MemSink, MemSource};
 use std::test::Fail;
 
-// A gap, a recording, its dialogue, and the line at fault with its place.
+/// A gap, a recording, its dialogue, and the line at fault with its place.
 const RECORDINGS: [(u32, &str, &str, Option<(u32, u64)>); 12] = [
     (
         1000,

@@ -33,8 +33,8 @@ fn left_of(source: &mut MemSource, text: &str) -> Result<Option<usize>, SourceFa
     Ok(text.as_bytes().ends_with(&into[..left]).then_some(left))
 }
 
-/// What `pulses` answers to an input, whether the sink then has just this text, and how many bytes of the input are left,
-/// of at most 256; none where they are no end of it.
+/// What `pulses` answers to an input, whether the sink then has just this text, and how many bytes of the input are
+/// left, of at most 256; none where they are no end of it.
 fn answer(
     alloc: Global,
     unit: &mut Unit<MemTape>,
@@ -81,8 +81,8 @@ fn blank(alloc: Global, fails: u64) -> Result<Unit<MemTape>, Fail> {
     Ok(Unit::new(tape))
 }
 
-/// What `pulses` answers to the lines `6`, `2` and `2` where the read with this number fails, and what to the bytes that
-/// are left then, and whether the first prints just `text`, and both together `whole`.
+/// What `pulses` answers to the lines `6`, `2` and `2` where the read with this number fails, and what to the bytes
+/// that are left then, and whether the first prints just `text`, and both together `whole`.
 fn with_broken_source(
     alloc: Global,
     unit: &mut Unit<MemTape>,

@@ -10,8 +10,9 @@ use qic_base::{Sink, Source};
 use std::alloc::Global;
 use trace_words::{BadWords, read_gap};
 
-/// Reads the words of the command line, the program's name the first of them, and then the recording of the source, whose
-/// dialogue it writes to the sink. Memory is taken for the words, before the first call of the source or the sink.
+/// Reads the words of the command line, the program's name the first of them, and then the recording of the source,
+/// whose dialogue it writes to the sink. Memory is taken for the words, before the first call of the source or the
+/// sink.
 pub fn run_trace<S: Source, K: Sink>(
     alloc: Global,
     words: &Vec<String>,

@@ -3,7 +3,7 @@ use crate::status::TraceStatus;
 use qic_mem::{MemSink, MemSource};
 use std::test::Fail;
 
-// The words of the command line, the dialogue of two pulses 100 microseconds apart, and how the run ends.
+/// The words of the command line, the dialogue of two pulses 100 microseconds apart, and how the run ends.
 const RUNS: [(&str, &str, TraceStatus); 11] = [
     ("pulse_trace", "0 2 ReportNextBit\n", TraceStatus::Done),
     (

@@ -46,7 +46,7 @@ pub fn refusal(view: &DriveView, command: Command) -> Option<ErrorCode>
     ])
 }
 
-// The code of the first row that covers the command and holds.
+/// The code of the first row that covers the command and holds.
 fn first_refusing(rows: &[(ErrorCode, bool, bool)]) -> Option<ErrorCode>
     ensures { result ≡ option_map (λ row. row.0) (find (λ row. row.1 && row.2) rows.now) }
 {

@@ -118,8 +118,8 @@ fn codes_have_their_numbers_and_texts(rt: HostRuntime) {
     }
 }
 
-// A drive with a referenced cartridge that the host knows, stopped at the start of a track in Primary
-// mode, but for what the words say.
+/// A drive with a referenced cartridge that the host knows, stopped at the start of a track in Primary
+/// mode, but for what the words say.
 fn drive(words: &str) -> DriveView {
     DriveView {
         present: !words.contains("empty"),
@@ -140,10 +140,10 @@ fn drive(words: &str) -> DriveView {
     }
 }
 
-// A code, and the numbers of the commands that get it.
+/// A code, and the numbers of the commands that get it.
 type Refused = &'static [(u8, &'static [u8])];
 
-// What each drive refuses beside the commands that no drive of this profile obeys.
+/// What each drive refuses beside the commands that no drive of this profile obeys.
 const REFUSED: [(&str, Refused); 16] = [
     ("", &[(14, &[16, 38])]),
     (
@@ -227,7 +227,7 @@ fn each_row_refuses_its_commands(rt: HostRuntime) {
     }
 }
 
-// A drive, whether its error word is not 0, whether it is at its beginning and its end, and its status.
+/// A drive, whether its error word is not 0, whether it is at its beginning and its end, and its status.
 const STATUS: [(&str, bool, bool, bool, u8); 7] = [
     ("fresh", false, true, false, 0x75),
     ("seeking", false, false, false, 0x24),

@@ -32,8 +32,8 @@ pub trait Disk {
         ensures did { Stores means self.old self.new (WriteAt place from.now) result }
         ensures seen { means.seen_len self.new ≡ means.seen_len self.old };
 
-    /// Makes the file this long; new bytes are zero. Until the next `sync` that succeeds a crash may leave the old length,
-    /// or the new one with any bytes past the old end.
+    /// Makes the file this long; new bytes are zero. Until the next `sync` that succeeds a crash may leave the old
+    /// length, or the new one with any bytes past the old end.
     fn set_len(&mut self, length: u64) -> Result<(), DiskFailed>
         ensures did { Stores means self.old self.new (SetLen length) result }
         ensures seen { OnOk result (means.seen_len self.new ≡ length) }

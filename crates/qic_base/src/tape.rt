@@ -128,7 +128,7 @@ pub trait Tape {
     /// A told cartridge is whole, and of the size.
     ghost told_right: { (s : Self) → IsToldRight (means.told s) (means.size s) };
 
-    /// A tape that tells its stops tells its cartridge, and a stop now leaves just that; earlier moments count what later
-    /// ones do.
+    /// A tape that tells its stops tells its cartridge, and a stop now leaves just that; earlier moments count what
+    /// later ones do.
     ghost left_now: { (s : Self) → IsLeftNow means s };
 }

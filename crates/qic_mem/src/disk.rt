@@ -48,8 +48,8 @@ impl MemDisk {
         })
     }
 
-    /// The same, with a record of its calls but `len` and `read_at`, by which it tells what a crash leaves. It takes the
-    /// room for `calls` of them and for `bytes` written bytes at once; such a call fails too where it finds none.
+    /// The same, with a record of its calls but `len` and `read_at`, by which it tells what a crash leaves. It takes
+    /// the room for `calls` of them and for `bytes` written bytes at once; such a call fails too where it finds none.
     pub fn recorded(
         alloc: Global,
         room: u64,

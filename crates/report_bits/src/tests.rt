@@ -2,7 +2,7 @@
 
 use crate::{Collector, Shifter, Shown};
 
-// A word, its width, and the levels between the acknowledgement and the final 1.
+/// A word, its width, and the levels between the acknowledgement and the final 1.
 const REPORTS: [(u16, u8, &str); 6] = [
     (0x75, 8, "10101110"),
     (0x24, 8, "00100100"),

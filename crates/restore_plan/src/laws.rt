@@ -26,8 +26,8 @@ pub fn restored_length()
     ensures whole { RestoredIsLong }
 {}
 
-/// A volume of what a cartridge stands for is restored byte for byte where each of its segments that holds some of it has at
-/// most three unreadable sectors.
+/// A volume of what a cartridge stands for is restored byte for byte where each of its segments that holds some of it
+/// has at most three unreadable sectors.
 pub fn byte_for_byte()
     ensures size { VolumeIsLong }
     ensures bytes { RestoresByteForByte }
@@ -42,8 +42,8 @@ pub fn lost_volume()
     ensures mismatch { NeverMismatch }
 {}
 
-/// A volume that was appended is one of what the cartridge stands for. As long as it is, on the same map, and each of its
-/// segments that holds some of it has at most three unreadable sectors, just its bytes are restored.
+/// A volume that was appended is one of what the cartridge stands for. As long as it is, on the same map, and each of
+/// its segments that holds some of it has at most three unreadable sectors, just its bytes are restored.
 pub fn appended_is_restored()
     ensures among { AppendedIsAmong }
     ensures bytes { AppendedIsRestored }

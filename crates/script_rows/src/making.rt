@@ -10,7 +10,8 @@ use tape_cmd::Status;
 /// What `list` prints of the volume.
 const LIST: &[u8] = b"1 3 7 139000 1970-01-01T00:00:00 made-1\nvolumes 1\n";
 
-/// What `make 1 1` answers over a sink whose write with this number fails, and whether the sink then has just this text.
+/// What `make 1 1` answers over a sink whose write with this number fails, and whether the sink then has just this
+/// text.
 fn made(
     alloc: Global,
     unit: &mut Unit<MemTape>,

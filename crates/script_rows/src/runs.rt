@@ -49,8 +49,8 @@ pub fn source(alloc: Global, fails: &[u64]) -> Result<MemSource, Fail> {
     Ok(MemSource::new(SCRIPT.to_vec(alloc)?, fails.to_vec(alloc)?))
 }
 
-/// How a script ended: the status; how many bytes it printed, and none where they are no front of the text; and how many
-/// volumes `list` then shows, none or that of the script, and nothing where it prints anything else.
+/// How a script ended: the status; how many bytes it printed, and none where they are no front of the text; and how
+/// many volumes `list` then shows, none or that of the script, and nothing where it prints anything else.
 pub type Ending = (Status, Option<usize>, Option<u32>);
 
 /// What `script` answers to a source, and how many bytes the sink then has.

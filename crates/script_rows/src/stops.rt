@@ -12,7 +12,8 @@ use tape_cmd::Status;
 // The calls of the tape in the script, counted from 0. A segment without a defect has 32 sectors, and each that is read or
 // written is a call. A table that is whole is not settled, and a list reads nothing of the tape.
 
-/// Puts the cartridge in. The next calls read copy 0 of the header, segment 2, which has the volume table, and that again.
+/// Puts the cartridge in. The next calls read copy 0 of the header, segment 2, which has the volume table, and that
+/// again.
 const INSERTION: u64 = 0;
 /// Writes sector 0 of the volume's segment.
 const VOLUME: u64 = INSERTION + 1 + 32 + 32 + 32;
@@ -45,7 +46,8 @@ fn ends(
     Ok(())
 }
 
-/// Tries each of these calls as the one that fails. The script has to print so many bytes, and to leave so many volumes.
+/// Tries each of these calls as the one that fails. The script has to print so many bytes, and to leave so many
+/// volumes.
 fn breaks_off(
     rt: &impl Abort,
     alloc: Global,

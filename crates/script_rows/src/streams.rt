@@ -27,8 +27,8 @@ fn ends_from(rt: &impl Abort, alloc: Global, read: u64, want: Ending) -> Result<
     Ok(())
 }
 
-/// How many bytes are printed before this read, and how many volumes are there. A line is read byte by byte, and the three
-/// bytes of the volume are one read.
+/// How many bytes are printed before this read, and how many volumes are there. A line is read byte by byte, and the
+/// three bytes of the volume are one read.
 fn before(read: u64) -> (usize, u32) {
     match read {
         0..=11 => (0, 0),

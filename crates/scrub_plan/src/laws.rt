@@ -3,9 +3,9 @@
 
 ghost use Rattle.scrub_plan.specs.Laws.{ScrubsIsFunction, ScrubsAlways, CopyIsLookedAt, LookedRise, ScrubsAtOnce, LookedCarry, OneMoreLook, StepsByPlaces, CountOfNamed, SettledTableReads, DoneScrub, DoneScrubStands, DoneScrubIsClean, DoneScrubMounts, DoneScrubTable, DoneScrubIsSettled, DoneScrubIsCartridge, SecondScrubWritesNothing, StoppedScrub, ReadableStays, StoppedScrubStands, StoppedScrubIsClean, StoppedScrubMounts, StoppedScrubTable, StoppedScrubIsSettled, StoppedScrubIsCartridge};
 
-/// Scrubbing a cartridge does one thing, and it does something. The segments that are looked at ascend, so no write touches one
-/// that is looked at later: what each says and what is done in it follows from the cartridge before the first write; and each
-/// of them carries data.
+/// Scrubbing a cartridge does one thing, and it does something. The segments that are looked at ascend, so no write
+/// touches one that is looked at later: what each says and what is done in it follows from the cartridge before the
+/// first write; and each of them carries data.
 pub fn scrubbing_is_one()
     ensures function { ScrubsIsFunction }
     ensures always { ScrubsAlways }
@@ -19,8 +19,8 @@ pub fn header_copies_read_alike()
     ensures { CopyIsLookedAt }
 {}
 
-/// One segment more adds its act, as the cartridge then stands; its writes are those to the places that a reading of it found
-/// unreadable.
+/// One segment more adds its act, as the cartridge then stands; its writes are those to the places that a reading of it
+/// found unreadable.
 pub fn look_by_look()
     ensures more { OneMoreLook }
     ensures places { StepsByPlaces }
@@ -32,8 +32,9 @@ pub fn settled_table_reads()
     ensures { SettledTableReads }
 {}
 
-/// After all steps of a scrub each unreadable usable sector of a segment that was looked at and reads holds its sector of the
-/// segment's block, where it takes a write, and nothing else has changed. So the cartridge stands for what it stood for.
+/// After all steps of a scrub each unreadable usable sector of a segment that was looked at and reads holds its sector
+/// of the segment's block, where it takes a write, and nothing else has changed. So the cartridge stands for what it
+/// stood for.
 pub fn done_scrub()
     ensures scrubbed { DoneScrub }
     ensures stands { DoneScrubStands }
@@ -44,13 +45,14 @@ pub fn done_scrub()
     ensures whole { DoneScrubIsCartridge }
 {}
 
-/// Where each usable sector of the segments that are looked at takes what is written to it, a second scrub writes nothing.
+/// Where each usable sector of the segments that are looked at takes what is written to it, a second scrub writes
+/// nothing.
 pub fn second_scrub()
     ensures { SecondScrubWritesNothing }
 {}
 
-/// A stop among the steps of a scrub leaves each sector as it was, but for lost ones of those, which may hold their sector of
-/// the block; each readable one is as it was. So the cartridge stands for what it stood for, at any moment.
+/// A stop among the steps of a scrub leaves each sector as it was, but for lost ones of those, which may hold their
+/// sector of the block; each readable one is as it was. So the cartridge stands for what it stood for, at any moment.
 pub fn stopped_scrub()
     ensures mending { StoppedScrub }
     ensures readable { ReadableStays }

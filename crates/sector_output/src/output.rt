@@ -5,8 +5,8 @@ ghost use Rattle.append_plan.specs.NewVolume.{bytes_in};
 use qic_base::{Sink, SinkFailed};
 use tape_script::write_text;
 
-/// Writes the first `bytes` bytes of the sectors, one behind the other. A failure leaves a front of them written. For no
-/// byte the sink isn't asked.
+/// Writes the first `bytes` bytes of the sectors, one behind the other. A failure leaves a front of them written. For
+/// no byte the sink isn't asked.
 pub fn write_bytes<K: Sink>(
     sectors: &[[u8; 1024]],
     bytes: u32,

@@ -46,7 +46,7 @@ pub fn collect<T: Tape>(
     collect_into(host, unit, segment, usable, &mut work.sectors)
 }
 
-// As `collect`, into 32 sectors.
+/// As `collect`, into 32 sectors.
 #[tactic(auto, using(qic_base::proofs::Steps::joins))]
 fn collect_into<T: Tape>(
     host: &mut Host,
@@ -82,7 +82,7 @@ struct Found {
 }
 
 impl Found {
-    // Reads the sector with this index into its place, where it is usable.
+    /// Reads the sector with this index into its place, where it is usable.
     #[tactic(auto, using(cartridge_spec::proofs::Places::count_below))]
     fn read<T: Tape>(
         &mut self,
@@ -115,7 +115,7 @@ impl Found {
         self.read_next(host, unit, segment, index, sectors)
     }
 
-    // Reads the next usable sector, which has this index, into its place.
+    /// Reads the next usable sector, which has this index, into its place.
     fn read_next<T: Tape>(
         &mut self,
         host: &mut Host,

@@ -46,7 +46,7 @@ pub fn solve_collected(
     }
 }
 
-// Solves the first 4 to 32 sectors.
+/// Solves the first 4 to 32 sectors.
 fn solve_first(sectors: &mut [[u8; SECTOR]], count: u8, lost: LostSet) -> Result<(), SolveFault>
     requires least { 4 ≤ count }
     requires most { count ≤ 32 }

@@ -22,9 +22,9 @@ use host_driver::Host;
 use qic_base::{LostSet, Tape};
 use segment_parity::{Parity, put_parity};
 
-/// Writes all usable sectors of a segment, ascending: the data in the workspace, at the places before the last three, each
-/// of which goes into the register of the parity as it is written, and then the register's three sectors. The workspace has
-/// them in those places, also where the tape failed.
+/// Writes all usable sectors of a segment, ascending: the data in the workspace, at the places before the last three,
+/// each of which goes into the register of the parity as it is written, and then the register's three sectors. The
+/// workspace has them in those places, also where the tape failed.
 pub fn write_segment<T: Tape>(
     host: &mut Host,
     unit: &mut Unit<T>,
@@ -51,8 +51,8 @@ pub fn write_segment<T: Tape>(
     }
 }
 
-// Writes all usable sectors, ascending: so many of data, and behind them their parity, which is put into its places once
-// the last of them was written.
+/// Writes all usable sectors, ascending: so many of data, and behind them their parity, which is put into its places
+/// once the last of them was written.
 fn write_by_register<T: Tape>(
     host: &mut Host,
     unit: &mut Unit<T>,
@@ -93,7 +93,7 @@ fn write_by_register<T: Tape>(
     Ok(())
 }
 
-// Writes the sector with this index from its place, where it is usable.
+/// Writes the sector with this index from its place, where it is usable.
 #[tactic(auto, using(cartridge_spec::proofs::Places::count_below))]
 fn write_next<T: Tape>(
     host: &mut Host,
@@ -134,8 +134,8 @@ fn write_next<T: Tape>(
     write_at(host, unit, segment, index, here, sectors)
 }
 
-// Makes the sector at a place ready to be written: one of data goes into the register, and at the first place behind the
-// data the register's parity is put in.
+/// Makes the sector at a place ready to be written: one of data goes into the register, and at the first place behind
+/// the data the register's parity is put in.
 fn make_ready(sectors: &mut [[u8; SECTOR]], count: u8, place: u8, parity: &mut Parity)
     requires least { 1 ≤ count }
     requires most { count ≤ 29 }
@@ -183,7 +183,7 @@ pub fn write_sectors<T: Tape>(
     Ok(())
 }
 
-// Writes the sector with this index from its place, where it is usable and the set has that place.
+/// Writes the sector with this index from its place, where it is usable and the set has that place.
 #[tactic(auto, using(cartridge_spec::proofs::Places::count_below))]
 fn write_usable<T: Tape>(
     host: &mut Host,
@@ -216,7 +216,7 @@ fn write_usable<T: Tape>(
     write_named(host, unit, segment, index, places, here, sectors)
 }
 
-// Writes the sector with this index from its place, where the set has that.
+/// Writes the sector with this index from its place, where the set has that.
 fn write_named<T: Tape>(
     host: &mut Host,
     unit: &mut Unit<T>,
@@ -243,7 +243,7 @@ fn write_named<T: Tape>(
     write_at(host, unit, segment, index, place, sectors)
 }
 
-// Writes the sector with this index from its place.
+/// Writes the sector with this index from its place.
 fn write_at<T: Tape>(
     host: &mut Host,
     unit: &mut Unit<T>,

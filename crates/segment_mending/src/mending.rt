@@ -31,7 +31,7 @@ pub(crate) fn is_header(work: &Workspace) -> bool
     read_u32(&work.sectors()[0], 0) == SIGNATURE
 }
 
-// Writes the sectors at the lost places again. Where there are none, the tape stays where it is.
+/// Writes the sectors at the lost places again. Where there are none, the tape stays where it is.
 fn write_lost<T: Tape>(
     host: &mut Host,
     unit: &mut Unit<T>,

@@ -27,7 +27,7 @@ use volume_table::Table;
 /// The segment of the volume table.
 const TABLE_SEGMENT: u32 = 2;
 
-// Looks at both header copies and the table's segment.
+/// Looks at both header copies and the table's segment.
 fn look_at_front<T: Tape, K: Sink>(
     host: &mut Host,
     unit: &mut Unit<T>,
@@ -52,8 +52,8 @@ fn look_at_front<T: Tape, K: Sink>(
 }
 
 /// Looks at both header copies, the table's segment and the carrying segments of all volumes, ascending. In each that
-/// reads, the usable sectors that can't be read are written again, ascending, and nothing else; a line is printed for each
-/// that doesn't. The last line has the counts.
+/// reads, the usable sectors that can't be read are written again, ascending, and nothing else; a line is printed for
+/// each that doesn't. The last line has the counts.
 pub fn scrub_segments<T: Tape, K: Sink>(
     host: &mut Host,
     unit: &mut Unit<T>,

@@ -24,7 +24,7 @@ use volume_table::Table;
 /// The fewest usable sectors with which a segment carries data.
 const FEWEST: u8 = 4;
 
-// Looks at a segment behind the table's if it carries data.
+/// Looks at a segment behind the table's if it carries data.
 fn look_if_carrying<T: Tape, K: Sink>(
     host: &mut Host,
     unit: &mut Unit<T>,
@@ -54,7 +54,7 @@ fn look_if_carrying<T: Tape, K: Sink>(
     look_at_segment(host, unit, segment, usable, work, sink, report)
 }
 
-// Looks at the segments of a volume that carry data, ascending.
+/// Looks at the segments of a volume that carry data, ascending.
 fn look_at_volume<T: Tape, K: Sink>(
     host: &mut Host,
     unit: &mut Unit<T>,

@@ -5,8 +5,8 @@ ghost use Rattle.store_laws.specs.Kept.{AppendsKeep, WearsKeep, ScrubsKeep, Appe
 ghost use Rattle.store_laws.specs.Listed.{MountedListed, ListedReads, AppendListed, WearListed, ScrubListed, RestoresAnyway, ScrubsAnyway};
 ghost use Rattle.store_laws.specs.Listing.{SettledLists, AppendLists, AppendFrontLists, WearLists, ScrubLists};
 
-/// An append of as many bytes as are promised, with room for them, leaves the plain cartridge with that volume; a stop in it that
-/// or the one before it.
+/// An append of as many bytes as are promised, with room for them, leaves the plain cartridge with that volume; a stop
+/// in it that or the one before it.
 pub fn an_append_keeps_what_stands()
     ensures { AppendsKeep }
 {}
@@ -17,15 +17,16 @@ pub fn wears_and_scrubs_keep_what_stands()
     ensures scrubs { ScrubsKeep }
 {}
 
-/// An append that is done, a sector that is worn behind the table's segment, and a scrub leave a cartridge whose table reads, also
-/// where sectors of the table's segment take no write.
+/// An append that is done, a sector that is worn behind the table's segment, and a scrub leave a cartridge whose table
+/// reads, also where sectors of the table's segment take no write.
 pub fn appends_wears_and_scrubs_leave_it_open()
     ensures appends { AppendsLeaveOpen }
     ensures wears { WearsLeaveOpen }
     ensures scrubs { ScrubsLeaveOpen }
 {}
 
-/// A mounted cartridge has the list that it was mounted with; its table shows that list, or has lost more than three sectors.
+/// A mounted cartridge has the list that it was mounted with; its table shows that list, or has lost more than three
+/// sectors.
 pub fn a_mounted_cartridge_has_its_list()
     ensures mounted { MountedListed }
     ensures reads { ListedReads }
@@ -44,8 +45,8 @@ pub fn restores_and_scrubs_come_to_something()
     ensures scrubs { ScrubsAnyway }
 {}
 
-/// A mounted cartridge is mounted with the same list once it is settled, and with the list behind an append, all of it done; a
-/// front of an append's acts that writes no entry leaves the list before it.
+/// A mounted cartridge is mounted with the same list once it is settled, and with the list behind an append, all of it
+/// done; a front of an append's acts that writes no entry leaves the list before it.
 pub fn an_append_leaves_what_is_mounted()
     ensures settled { SettledLists }
     ensures appends { AppendLists }

@@ -14,8 +14,8 @@ use qic_base::{Name, Sink, Source, Tape};
 use tape_script::write_text;
 use volume_lines::appended_text;
 
-/// Opens the cartridge, where it isn't protected, and appends the whole input as a volume. Prints its number, its length in bytes, and its first and
-/// its last segment.
+/// Opens the cartridge, where it isn't protected, and appends the whole input as a volume. Prints its number, its
+/// length in bytes, and its first and its last segment.
 pub fn append<T: Tape, S: Source, K: Sink>(
     unit: &mut Unit<T>,
     room: Room,

@@ -166,8 +166,8 @@ pub fn run_ready<T: Tape, S: Source, K: Sink>(
     }
 }
 
-/// Carries out the command that the words name. It reaches the tape by the unit's cable and its hand calls alone, reads the
-/// input from `source` and prints on `sink`. The memory that it takes it takes before it touches any of them.
+/// Carries out the command that the words name. It reaches the tape by the unit's cable and its hand calls alone, reads
+/// the input from `source` and prints on `sink`. The memory that it takes it takes before it touches any of them.
 pub fn run<T: Tape, S: Source, K: Sink>(
     alloc: Global,
     words: &Vec<String>,

@@ -17,8 +17,8 @@ pub fn a_command_has_one_outcome()
     ensures { OneOutcome }
 {}
 
-/// Where all is there that a command needs it is carried out: a cartridge that mounts, room, a volume that can be read, an
-/// input without a fault.
+/// Where all is there that a command needs it is carried out: a cartridge that mounts, room, a volume that can be read,
+/// an input without a fault.
 pub fn a_command_with_its_needs_is_done()
     ensures { DoneWhereAllIsThere }
 {}

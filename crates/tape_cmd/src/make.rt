@@ -12,8 +12,8 @@ use drive_states::Unit;
 use made_volumes::{MakeFault, make_volumes};
 use qic_base::{Sink, Tape};
 
-/// Opens the cartridge, where it isn't protected, appends so many volumes that are made from the seed, wears some of their
-/// sectors, scrubs the cartridge, and prints the sum of each volume's bytes.
+/// Opens the cartridge, where it isn't protected, appends so many volumes that are made from the seed, wears some of
+/// their sectors, scrubs the cartridge, and prints the sum of each volume's bytes.
 pub fn make<T: Tape, K: Sink>(
     unit: &mut Unit<T>,
     room: Room,

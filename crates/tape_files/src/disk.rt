@@ -9,8 +9,8 @@ use std::io;
 use std::marker::Model;
 use std::os::unix::fs::FileExt;
 
-/// A file as a disk, whose descriptor is none of the standard streams. A failure of the system is a failure of the call,
-/// and counted.
+/// A file as a disk, whose descriptor is none of the standard streams. A failure of the system is a failure of the
+/// call, and counted.
 #[derive(Drop)]
 pub struct FileDisk {
     file: File,

@@ -28,8 +28,8 @@ pub enum NoImage {
 /// The greatest descriptor of a standard stream.
 const LAST_STREAM: RawFd = 2;
 
-/// Opens the image at a path, which is created, empty, where there is none. Until it is dropped no other run can open it,
-/// where the system knows locks for it.
+/// Opens the image at a path, which is created, empty, where there is none. Until it is dropped no other run can open
+/// it, where the system knows locks for it.
 pub fn open_image<R: Files<File = File>>(files: &R, path: &str) -> Result<FileDisk, NoImage>
     ensures { IfOk result (λ disk. disk ≡ record { seen = 0; faults = 0 }) }
 {

@@ -33,8 +33,8 @@ pub(crate) fn write_some<W: Write>(writer: &mut W, from: &[u8]) -> io::Result<us
     Err(io::Error::from(ErrorKind::TimedOut))
 }
 
-/// Reads from a place on until `into` is full or the file ends, and answers how many bytes: a read that comes back short
-/// is read on, and one that a signal interrupts is tried again.
+/// Reads from a place on until `into` is full or the file ends, and answers how many bytes: a read that comes back
+/// short is read on, and one that a signal interrupts is tried again.
 pub(crate) fn read_from<F: FileExt>(file: &F, place: u64, into: &mut [u8]) -> io::Result<usize>
     ensures within { IfOk result (λ n. n ≤ length into.old) }
     ensures retried { IfErr result (λ error. error_kind error ≢ ErrorKind.Interrupted) }

@@ -9,8 +9,8 @@ use drive_states::Unit;
 use qic_base::{Sink, SinkFailed, Source, SourceFailed, Tape, TapeFailed};
 use tape_script::{Train, TrainRead, write_text};
 
-/// Reads a line and carries it out: the number of its bytes, or none where the input is over. `line` is the line's number
-/// and `place` the number of bytes before it.
+/// Reads a line and carries it out: the number of its bytes, or none where the input is over. `line` is the line's
+/// number and `place` the number of bytes before it.
 pub fn carry_out_line<T: Tape, S: Source, K: Sink>(
     unit: &mut Unit<T>,
     source: &mut S,

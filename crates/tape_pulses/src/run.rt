@@ -13,9 +13,9 @@ use qic_base::{Sink, Source, Tape, TapeFailed};
 /// The most lines that are trains.
 const MOST_LINES: u32 = 65536;
 
-/// Puts the cartridge in, and sends the trains of the source, each with a gap behind it. The sink gets the level that each
-/// leaves on the track-0 line, `0` or `1` and a newline. The source is read to its end or up to and with the line `end`,
-/// and nothing behind that. A failed call of the tape, the source or the sink ends the run with its fault.
+/// Puts the cartridge in, and sends the trains of the source, each with a gap behind it. The sink gets the level that
+/// each leaves on the track-0 line, `0` or `1` and a newline. The source is read to its end or up to and with the line
+/// `end`, and nothing behind that. A failed call of the tape, the source or the sink ends the run with its fault.
 pub fn run_pulses<T: Tape, S: Source, K: Sink>(
     unit: &mut Unit<T>,
     source: &mut S,

@@ -17,9 +17,10 @@ use host_driver::Host;
 use qic_base::{Source, Tape};
 use segment_io::Workspace;
 
-/// Writes the bytes of the source, at most `most`, into the carrying segments from `first` on, each segment once its bytes
-/// have come: all its usable sectors, with zero bytes behind the last byte, and their parity. One segment is written for no
-/// byte. With `exact` a source that ends before `most` bytes is a fault, and the segment that it doesn't fill is left.
+/// Writes the bytes of the source, at most `most`, into the carrying segments from `first` on, each segment once its
+/// bytes have come: all its usable sectors, with zero bytes behind the last byte, and their parity. One segment is
+/// written for no byte. With `exact` a source that ends before `most` bytes is a fault, and the segment that it doesn't
+/// fill is left.
 pub fn write_volume<T: Tape, S: Source>(
     host: &mut Host,
     unit: &mut Unit<T>,

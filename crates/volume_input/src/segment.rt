@@ -16,8 +16,8 @@ use qic_base::{Source, SourceFailed, Tape};
 use segment_io::{Workspace, write_segment};
 
 /// Writes a carrying segment with the next bytes of the source, as many as it carries, and no more than `most` with the
-/// `before` ones that stand in the segments in front of it. The answer is their number; None where none came behind some
-/// others, and the segment is left.
+/// `before` ones that stand in the segments in front of it. The answer is their number; None where none came behind
+/// some others, and the segment is left.
 pub fn write_next<T: Tape, S: Source>(
     host: &mut Host,
     unit: &mut Unit<T>,

@@ -8,7 +8,8 @@ pub fn restored_are_acts_of_pieces()
     ensures { RestoredAreOf }
 {}
 
-/// Acts of the first of some pieces take no step of the tape, in either form, and their text is as long as these pieces.
+/// Acts of the first of some pieces take no step of the tape, in either form, and their text is as long as these
+/// pieces.
 pub fn acts_of_pieces()
     ensures steps { PrintedInNoStep }
     ensures text { TextOfFirst }

@@ -74,8 +74,8 @@ pub fn refuse<S: Source, K: Sink>(
     }
 }
 
-/// Appends a volume of the bytes behind its line, and prints its number, its length in bytes, and its first and its last
-/// segment. Where it is refused its bytes are taken all the same, before the reply.
+/// Appends a volume of the bytes behind its line, and prints its number, its length in bytes, and its first and its
+/// last segment. Where it is refused its bytes are taken all the same, before the reply.
 pub fn append<T: Tape, S: Source, K: Sink>(
     store: &mut Store,
     unit: &mut Unit<T>,

@@ -1,8 +1,8 @@
 /// Why a script was broken off.
 #[derive(Clone, Copy, Debug, PartialEq, Eq)]
 pub enum ScriptFault {
-    /// A line, counted from 1, is none, stands behind the 65,536th, or is an append whose bytes end early; `place` bytes
-    /// stand before it.
+    /// A line, counted from 1, is none, stands behind the 65,536th, or is an append whose bytes end early; `place`
+    /// bytes stand before it.
     Input { line: u32, place: u64 },
     /// The volume table doesn't show the volumes that were mounted.
     TableMismatch,

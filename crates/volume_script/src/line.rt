@@ -24,8 +24,8 @@ fn promised(line: &Line) -> u32
     }
 }
 
-/// Reads a line and carries it out with what follows it: the number of its bytes and of those, or none where the input is
-/// over. `line` is the line's number and `place` the number of bytes before it.
+/// Reads a line and carries it out with what follows it: the number of its bytes and of those, or none where the input
+/// is over. `line` is the line's number and `place` the number of bytes before it.
 pub fn carry_out_line<T: Tape, S: Source, K: Sink>(
     store: &mut Store,
     unit: &mut Unit<T>,

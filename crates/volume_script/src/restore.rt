@@ -12,7 +12,8 @@ use drive_states::Unit;
 use qic_base::{Sink, Source, Tape};
 use volume_store::{Store, StoreFault};
 
-/// Gives a volume's bytes segment by segment, each behind a line with their number, and last the volume's number and length.
+/// Gives a volume's bytes segment by segment, each behind a line with their number, and last the volume's number and
+/// length.
 pub fn restore<T: Tape, S: Source, K: Sink>(
     store: &mut Store,
     unit: &mut Unit<T>,

@@ -16,10 +16,10 @@ use volume_store::Store;
 /// The most lines before the line `end`.
 const MOST_LINES: u32 = 65536;
 
-/// Carries out the lines of the source one after the other over the store of the unit's cartridge, and prints the reply of
-/// each; last `end`. A line that is refused is replied to, and the script goes on. The source is read to its end or up to
-/// and with the line `end`, and nothing behind that. A failed call of the tape, the source or the sink ends the script with
-/// its fault, and so does a line that is none.
+/// Carries out the lines of the source one after the other over the store of the unit's cartridge, and prints the reply
+/// of each; last `end`. A line that is refused is replied to, and the script goes on. The source is read to its end or
+/// up to and with the line `end`, and nothing behind that. A failed call of the tape, the source or the sink ends the
+/// script with its fault, and so does a line that is none.
 pub fn run_script<T: Tape, S: Source, K: Sink>(
     store: &mut Store,
     unit: &mut Unit<T>,

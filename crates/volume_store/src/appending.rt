@@ -28,7 +28,7 @@ const SLOTS: u8 = 232;
 /// The last segment in front of the volumes: that of the volume table.
 const IN_FRONT: u16 = 2;
 
-// The last segment that is taken.
+/// The last segment that is taken.
 fn last_taken(table: &Table) -> u16
     ensures { result ≡ last_end table.now }
 {
@@ -38,14 +38,14 @@ fn last_taken(table: &Table) -> u16
     }
 }
 
-// The first segment behind the last volume.
+/// The first segment behind the last volume.
 fn first_free(table: &Table) -> u32
     ensures { result ≡ last_end table.now + 1 }
 {
     u32::from(last_taken(table)) + 1
 }
 
-// The bytes that a new volume may have on a cartridge of so many segments.
+/// The bytes that a new volume may have on a cartridge of so many segments.
 fn free_room(map: &BadMap, table: &Table, segments: u32) -> u32
     requires map { length map.now ≡ segments }
     requires least { 84 ≤ segments }
@@ -59,7 +59,7 @@ fn free_room(map: &BadMap, table: &Table, segments: u32) -> u32
     capacity_between(map, first_free(table) as u16, (segments - 1) as u16) as u32
 }
 
-// Takes just so many bytes, where there is room for them.
+/// Takes just so many bytes, where there is room for them.
 fn take_promised<T: Tape, S: Source>(
     host: &mut Host,
     unit: &mut Unit<T>,
@@ -106,7 +106,7 @@ fn take_promised<T: Tape, S: Source>(
     }
 }
 
-// Takes all bytes, where there is room for any, and one more than there is room for where the source has it.
+/// Takes all bytes, where there is room for any, and one more than there is room for where the source has it.
 fn take_all<T: Tape, S: Source>(
     host: &mut Host,
     unit: &mut Unit<T>,
@@ -154,7 +154,7 @@ fn take_all<T: Tape, S: Source>(
     }
 }
 
-// Takes one byte at most, where there is no room for any.
+/// Takes one byte at most, where there is no room for any.
 fn take_none<S: Source>(source: &mut S) -> StoreFault
     ensures ends { TakesNone S.means source.old source.new result }
     ensures kept { S.means.keeps source.old source.new }

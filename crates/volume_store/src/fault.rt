@@ -17,8 +17,8 @@ pub enum StoreFault {
     /// segment, of the volume table a slot.
     #[error("the header or the volume table has the foreign value {value}")]
     Foreign { field: ForeignField, value: u32 },
-    /// A data sector of the volume table is unreadable, and no code block agrees with the sectors that can be read, nor with
-    /// those outside one of the further sets.
+    /// A data sector of the volume table is unreadable, and no code block agrees with the sectors that can be read, nor
+    /// with those outside one of the further sets.
     #[error("no code block agrees with the sectors of the volume table that can be read")]
     TableMismatch,
     /// There is room for `have` bytes, and `need` are asked for.

@@ -23,7 +23,7 @@ const FIRST_COPY: u32 = 0;
 
 const SECOND_COPY: u32 = 1;
 
-// The header and the map that a copy's data are, or None where they have no header's signature.
+/// The header and the map that a copy's data are, or None where they have no header's signature.
 fn decode_copy(
     area: &[[u8; 1024]],
     segments_per_track: u16,
@@ -42,7 +42,7 @@ fn decode_copy(
     }
 }
 
-// The header and the map of a copy, 0 or 1, or None where the copy can't be read.
+/// The header and the map of a copy, 0 or 1, or None where the copy can't be read.
 fn read_copy<T: Tape>(
     host: &mut Host,
     unit: &mut Unit<T>,

@@ -29,7 +29,7 @@ pub(crate) struct Learnt {
     pub unread: Unread,
 }
 
-// Has the drive stop the tape and enter Primary mode.
+/// Has the drive stop the tape and enter Primary mode.
 fn enter_primary<T: Tape>(host: &mut Host, unit: &mut Unit<T>) -> Result<(), StoreFault>
     requires ready { IsReady T.means host.old unit.old }
     ensures ok { IsOk result }

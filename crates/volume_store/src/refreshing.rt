@@ -22,7 +22,8 @@ use qic_base::Tape;
 use segment_io::Workspace;
 use volume_table::{Entry, Table};
 
-// Reads the table's segment, whose data have to show the list. The answer is the sectors that the tape may hold otherwise.
+/// Reads the table's segment, whose data have to show the list. The answer is the sectors that the tape may hold
+/// otherwise.
 fn read_list<T: Tape>(
     host: &mut Host,
     unit: &mut Unit<T>,
@@ -72,8 +73,8 @@ pub(crate) fn settle_again<T: Tape>(
     settle(host, unit, unread, work)
 }
 
-/// Reads the table's segment again, whose data have to show the list, and writes it with the entry in the next slot, which
-/// is added to the list.
+/// Reads the table's segment again, whose data have to show the list, and writes it with the entry in the next slot,
+/// which is added to the list.
 pub(crate) fn add_entry<T: Tape>(
     host: &mut Host,
     unit: &mut Unit<T>,

@@ -22,7 +22,7 @@ use segment_parity::parity_of;
 /// The places of a whole segment's parity.
 const PARITY: [u8; 3] = [29, 30, 31];
 
-// The mask with the bit of a place where its sector isn't the one that belongs there.
+/// The mask with the bit of a place where its sector isn't the one that belongs there.
 fn with_stale(stale: u32, place: u8, held: &[u8; 1024], wanted: &[u8; 1024]) -> u32
     requires { place < 32 }
     ensures { (i : ℕ) → is_lost result i ≡
@@ -34,8 +34,8 @@ fn with_stale(stale: u32, place: u8, held: &[u8; 1024], wanted: &[u8; 1024]) -> 
     stale | 1 << place
 }
 
-// Puts the parity behind the data. The answer is the mask of the lost places, and of those of the parity that was
-// another.
+/// Puts the parity behind the data. The answer is the mask of the lost places, and of those of the parity that was
+/// another.
 fn replace_parity(sectors: &mut [[u8; 1024]], lost: u32, parity: &[[u8; 1024]; 3]) -> u32
     requires { length sectors.old ≡ 32 }
     ensures sectors { sectors.new ≡ take 29 sectors.old ++ parity.now }
@@ -49,8 +49,8 @@ fn replace_parity(sectors: &mut [[u8; 1024]], lost: u32, parity: &[[u8; 1024]; 3
     stale
 }
 
-// Makes the workspace the code block of its data sectors. The answer is the lost places, and those of the parity that
-// was another.
+/// Makes the workspace the code block of its data sectors. The answer is the lost places, and those of the parity that
+/// was another.
 fn renew_parity(lost: LostSet, work: &mut Workspace) -> LostSet
     requires { length work.old ≡ 32 }
     ensures block { work.new ≡ collected_block work.old }
@@ -62,9 +62,9 @@ fn renew_parity(lost: LostSet, work: &mut Workspace) -> LostSet
     LostSet::from_mask(stale)
 }
 
-/// Settles the volume table's segment, whose sectors were read and solved: first the sector that was left out is written,
-/// and then the others that the tape doesn't hold so, ascending. Nothing is written on a protected cartridge. Where nothing
-/// is to be written the tape stays where it is.
+/// Settles the volume table's segment, whose sectors were read and solved: first the sector that was left out is
+/// written, and then the others that the tape doesn't hold so, ascending. Nothing is written on a protected cartridge.
+/// Where nothing is to be written the tape stays where it is.
 pub(crate) fn settle<T: Tape>(
     host: &mut Host,
     unit: &mut Unit<T>,

@@ -88,9 +88,9 @@ fn output_fault(fault: OutputFault) -> StoreFault
 }
 
 impl Store {
-    /// Mounts the cartridge of a drive: learns its header in force, its map and its volumes, and settles the volume table
-    /// where the cartridge isn't protected. The refusals come in this order: not formatted, a foreign value in the header,
-    /// a volume table that is lost or matches no code block, a foreign slot of the table.
+    /// Mounts the cartridge of a drive: learns its header in force, its map and its volumes, and settles the volume
+    /// table where the cartridge isn't protected. The refusals come in this order: not formatted, a foreign value in
+    /// the header, a volume table that is lost or matches no code block, a foreign slot of the table.
     pub fn mount<T: Tape>(
         unit: &mut Unit<T>,
         mut host: Host,
@@ -117,11 +117,12 @@ impl Store {
         })
     }
 
-    /// Appends a volume of this name and date word behind the others: with nothing promised the whole source, and with a
-    /// promise just as many of its bytes. In this order: `Protected`; the volume table is read again, which is refused as by
-    /// `mount`, and settled; `Full` where fewer bytes have room than are promised, or none, before a byte is read; the
-    /// volume's segments are written as the bytes come; `Full` where there are more, and just one more is taken; `Short`
-    /// where there are fewer than were promised; then the table is written. A refusal leaves the volumes as they were.
+    /// Appends a volume of this name and date word behind the others: with nothing promised the whole source, and with
+    /// a promise just as many of its bytes. In this order: `Protected`; the volume table is read again, which is
+    /// refused as by `mount`, and settled; `Full` where fewer bytes have room than are promised, or none, before a byte
+    /// is read; the volume's segments are written as the bytes come; `Full` where there are more, and just one more is
+    /// taken; `Short` where there are fewer than were promised; then the table is written. A refusal leaves the volumes
+    /// as they were.
     pub fn append<T: Tape, S: Source>(
         &mut self,
         unit: &mut Unit<T>,
@@ -183,10 +184,10 @@ impl Store {
         })
     }
 
-    /// Gives the bytes of a volume, counted from 1, segment by segment, each once the whole segment agrees; with `lined`
-    /// behind a line `part K`, where K is their number. The answer is the volume's length. `NoVolume` where there is none of
-    /// this number; `Lost` or `Mismatch` at the first segment that holds some of its length and doesn't read, and what was
-    /// given is then the data of the segments before it. The tape is only read.
+    /// Gives the bytes of a volume, counted from 1, segment by segment, each once the whole segment agrees; with
+    /// `lined` behind a line `part K`, where K is their number. The answer is the volume's length. `NoVolume` where
+    /// there is none of this number; `Lost` or `Mismatch` at the first segment that holds some of its length and
+    /// doesn't read, and what was given is then the data of the segments before it. The tape is only read.
     pub fn restore<T: Tape, K: Sink>(
         &mut self,
         unit: &mut Unit<T>,
@@ -224,9 +225,9 @@ impl Store {
         }
     }
 
-    /// Looks at both header copies, the volume table and the segments of all volumes, and writes the sectors again that can't
-    /// be read, where they can be found; prints a line for each segment that doesn't read, and last the counts. `Protected`
-    /// before anything.
+    /// Looks at both header copies, the volume table and the segments of all volumes, and writes the sectors again that
+    /// can't be read, where they can be found; prints a line for each segment that doesn't read, and last the counts.
+    /// `Protected` before anything.
     pub fn scrub<T: Tape, K: Sink>(
         &mut self,
         unit: &mut Unit<T>,

@@ -47,8 +47,8 @@ pub(crate) fn data_sectors(work: &Workspace) -> &[[u8; 1024]]
     &sectors[..DATA_SECTORS]
 }
 
-// Solves the collected sectors by the first of these sets for which a code block agrees with the sectors outside it. The
-// answer is that set; where there is none, the sectors stay as they were.
+/// Solves the collected sectors by the first of these sets for which a code block agrees with the sectors outside it.
+/// The answer is that set; where there is none, the sectors stay as they were.
 fn solve_first(tried: &Trials, work: &mut Workspace) -> Option<LostSet>
     requires few { tried.now.count ≤ 5 }
     requires room { length work.old ≡ 32 }
@@ -65,7 +65,7 @@ fn solve_first(tried: &Trials, work: &mut Workspace) -> Option<LostSet>
     None
 }
 
-// A copy of the parity sectors.
+/// A copy of the parity sectors.
 fn parity_of_table(work: &Workspace) -> [[u8; 1024]; 3]
     requires { length work.now ≡ 32 }
     ensures { result ≡ drop 29 work.now }
@@ -74,7 +74,7 @@ fn parity_of_table(work: &Workspace) -> [[u8; 1024]; 3]
     [sectors[29], sectors[30], sectors[31]]
 }
 
-// Puts parity sectors behind the data.
+/// Puts parity sectors behind the data.
 fn put_back(parity: &[[u8; 1024]; 3], work: &mut Workspace)
     requires { length work.old ≡ 32 }
     ensures { work.new ≡ take 29 work.old ++ parity.now }
@@ -83,7 +83,7 @@ fn put_back(parity: &[[u8; 1024]; 3], work: &mut Workspace)
     sectors[DATA_SECTORS..].copy_from_slice(parity);
 }
 
-// The last sector with a used slot, where the set has it.
+/// The last sector with a used slot, where the set has it.
 fn left_out(set: LostSet, used: Option<u8>) -> LostSet
     requires { IfSome used (λ k. k < 29) }
     ensures { (i : ℕ) → IsLost result i ↔ ((used ≡ Some i) × IsLost set i) }
@@ -94,8 +94,8 @@ fn left_out(set: LostSet, used: Option<u8>) -> LostSet
     }
 }
 
-// Finds the table's data in the collected sectors, by the code block that agrees with the readable ones or else with those
-// outside one of the further sets. The parity sectors stay as they were collected.
+/// Finds the table's data in the collected sectors, by the code block that agrees with the readable ones or else with
+/// those outside one of the further sets. The parity sectors stay as they were collected.
 fn solve_table(lost: LostSet, work: &mut Workspace) -> Result<Unread, SegFault>
     requires room { length work.old ≡ 32 }
     requires few { length (lost_places lost 32) ≤ 3 }

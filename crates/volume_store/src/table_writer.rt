@@ -24,8 +24,8 @@ use volume_table::{Entry, Table, TableFull};
 /// The mask of the places of a whole segment's parity.
 const PARITY: u32 = 0xE000_0000;
 
-// Puts the entry into the next slot of the data, the first 29 of a segment's sectors. The answer is the sector that has
-// the slot.
+/// Puts the entry into the next slot of the data, the first 29 of a segment's sectors. The answer is the sector that
+/// has the slot.
 fn put_slot(entry: &Entry, sectors: &mut [[u8; 1024]], table: &mut Table) -> u8
     requires room { length sectors.old ≡ 32 }
     requires listed { Shows (take 29 sectors.old) table.old }
@@ -45,8 +45,8 @@ fn put_slot(entry: &Entry, sectors: &mut [[u8; 1024]], table: &mut Table) -> u8
     }
 }
 
-// Puts the entry into the next slot of the data in the workspace, and their parity behind them. The answer is the sector
-// that has the slot.
+/// Puts the entry into the next slot of the data in the workspace, and their parity behind them. The answer is the
+/// sector that has the slot.
 fn put_entry(entry: &Entry, work: &mut Workspace, table: &mut Table) -> u8
     requires room { length work.old ≡ 32 }
     requires listed { Shows (take 29 work.old) table.old }
@@ -65,7 +65,8 @@ fn put_entry(entry: &Entry, work: &mut Workspace, table: &mut Table) -> u8
     changed
 }
 
-/// Writes the sectors of the table's segment at these places, ascending. Where there are none the tape stays where it is.
+/// Writes the sectors of the table's segment at these places, ascending. Where there are none the tape stays where it
+/// is.
 pub(crate) fn write_places<T: Tape>(
     host: &mut Host,
     unit: &mut Unit<T>,
@@ -90,8 +91,8 @@ pub(crate) fn write_places<T: Tape>(
     }
 }
 
-/// Adds an entry to the list, and writes it into the table's segment, whose data stand in the workspace: first the sector
-/// of data that has its slot, and then the sectors of parity.
+/// Adds an entry to the list, and writes it into the table's segment, whose data stand in the workspace: first the
+/// sector of data that has its slot, and then the sectors of parity.
 pub(crate) fn write_entry<T: Tape>(
     host: &mut Host,
     unit: &mut Unit<T>,

@@ -27,8 +27,8 @@ pub(crate) fn table_fault(fault: SegFault) -> StoreFault
     }
 }
 
-// The list of volumes that the table's data show, on a cartridge whose last segment is `last`, or the first slot at
-// fault.
+/// The list of volumes that the table's data show, on a cartridge whose last segment is `last`, or the first slot at
+/// fault.
 fn decode_table(table: &mut Table, area: &[[u8; 1024]], last: u32) -> Result<(), StoreFault>
     requires { length area.now ≡ 29 }
     ensures shown { DecodesTable area.now last table.new result }
@@ -48,8 +48,8 @@ fn decode_table(table: &mut Table, area: &[[u8; 1024]], last: u32) -> Result<(),
     }
 }
 
-/// Reads the volume table's segment and the list of volumes in its data. The answer is the sectors that the tape may hold
-/// otherwise.
+/// Reads the volume table's segment and the list of volumes in its data. The answer is the sectors that the tape may
+/// hold otherwise.
 pub(crate) fn read_volumes<T: Tape>(
     host: &mut Host,
     unit: &mut Unit<T>,

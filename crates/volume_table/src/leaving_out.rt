@@ -17,7 +17,7 @@ use qic_base::{LostSet, read_u32};
 /// The slots of a sector.
 const SLOTS_A_SECTOR: u8 = 8;
 
-// Whether a data sector has a used slot.
+/// Whether a data sector has a used slot.
 fn has_used_slot(area: &[[u8; 1024]], place: u8) -> bool
     requires sectors { length area.now ≡ 29 }
     requires within { place < 29 }
@@ -31,7 +31,7 @@ fn has_used_slot(area: &[[u8; 1024]], place: u8) -> bool
     false
 }
 
-// Whether a data sector is not lost and has a used slot.
+/// Whether a data sector is not lost and has a used slot.
 fn shows_used_slot(area: &[[u8; 1024]], lost: LostSet, place: u8) -> bool
     requires sectors { length area.now ≡ 29 }
     requires within { place < 29 }
@@ -58,7 +58,7 @@ pub fn last_used(area: &[[u8; 1024]], lost: LostSet) -> Option<u8>
     last
 }
 
-// The set with one place more.
+/// The set with one place more.
 fn with_place(set: LostSet, place: u8) -> LostSet
     ensures { place < 32 → result ≡ with_place set place }
 {
@@ -69,7 +69,7 @@ fn with_place(set: LostSet, place: u8) -> LostSet
     }
 }
 
-// The lost places with the last sector that has a used slot, where there is one.
+/// The lost places with the last sector that has a used slot, where there is one.
 fn add_used(trials: &mut Trials, lost: LostSet, last_used: Option<u8>)
     requires { trials.old.count < 5 }
     ensures more { IfSome last_used (λ k. k < 32) → (sets : List ℕ) → AreTrials trials.old sets →
@@ -81,9 +81,9 @@ fn add_used(trials: &mut Trials, lost: LostSet, last_used: Option<u8>)
     }
 }
 
-/// The sets of places that the reading of the table's segment leaves out of account, of which 1 to 3 sectors are lost, one
-/// of them of data: first those that are lost, and then, where one or two are, the sets with the parity sectors and with
-/// the last data sector that has a used slot. No set has a place from 32 on.
+/// The sets of places that the reading of the table's segment leaves out of account, of which 1 to 3 sectors are lost,
+/// one of them of data: first those that are lost, and then, where one or two are, the sets with the parity sectors and
+/// with the last data sector that has a used slot. No set has a place from 32 on.
 pub fn trials(lost: LostSet, last_used: Option<u8>) -> Trials
     requires few { length (lost_places lost 32) ≤ 3 }
     requires loses_data { LosesData lost }

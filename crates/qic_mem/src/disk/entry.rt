@@ -1,6 +1,7 @@
 ghost use Rattle.std.specs.Prelude.{◌≡◌};
 
-/// The change of a disk that a call was to make, without its bytes: a write has a place and a number of bytes, in bytes.
+/// The change of a disk that a call was to make, without its bytes: a write has a place and a number of bytes, in
+/// bytes.
 #[derive(Clone, Copy, Debug, PartialEq, Eq)]
 pub enum DiskChange {
     WriteAt(u64, usize),
@@ -8,8 +9,8 @@ pub enum DiskChange {
     Sync,
 }
 
-/// What a disk in memory records: a call that was done, one that failed, or that a call which is not recorded failed, and
-/// left nothing pending.
+/// What a disk in memory records: a call that was done, one that failed, or that a call which is not recorded failed,
+/// and left nothing pending.
 #[derive(Clone, Copy, Debug, PartialEq, Eq)]
 pub enum DiskEntry {
     Made(DiskChange),

@@ -4,7 +4,8 @@ ghost use Rattle.qic_mem.specs.Tape.{tape_state};
 use super::*;
 use std::test::Fail;
 
-/// A recorded tape with one formatted segment, whose sector 0 holds sevens. Its next call fails, and leaves the outcome.
+/// A recorded tape with one formatted segment, whose sector 0 holds sevens. Its next call fails, and leaves the
+/// outcome.
 fn about_to_fail(alloc: Global, outcome: Outcome) -> Result<MemTape, Fail>
     ensures { IfOk result (λ tape. (tape_state tape).size ≡ Some 3) }
 {
@@ -16,7 +17,8 @@ fn about_to_fail(alloc: Global, outcome: Outcome) -> Result<MemTape, Fail>
     Ok(tape)
 }
 
-/// What is found in a sector, or that the read failed, and the first and the last byte of what it read into, which were 1.
+/// What is found in a sector, or that the read failed, and the first and the last byte of what it read into, which were
+/// 1.
 type Found = (Result<SectorRead, TapeFailed>, u8, u8);
 
 const LOST: Found = (Ok(SectorRead::Lost), 1, 1);
