@@ -17,7 +17,9 @@ pub use tape::{MemTape, Outcome, SureTape};
 #[cfg(test)]
 mod tests {
     use super::*;
-    use qic_base::{SectorRead, SectorWrite, Sink, SinkFailed, Source, SourceFailed, Tape};
+    use qic_base::{
+        SectorRead, SectorWrite, Sink, SinkFailed, Source, SourceFailed, Tape, TapeFailed,
+    };
     use std::test::Fail;
 
     #[test]
@@ -71,21 +73,30 @@ mod tests {
         Ok(())
     }
 
-    #[test]
-    fn a_sure_tape_holds_the_longest_cartridge(rt: HostRuntime) -> Result<(), Fail> {
-        let mut tape = SureTape::new(rt.alloc())?;
+    /// The answers to a format, a write of sevens and a read at the end of the longest cartridge, and the last byte read.
+    type Last = (
+        Result<(), TapeFailed>,
+        Result<SectorWrite, TapeFailed>,
+        Result<SectorRead, TapeFailed>,
+        u8,
+    );
+
+    fn last_of_longest(tape: &mut SureTape) -> Result<Last, TapeFailed> {
         tape.renew(246)?;
         let mut into = [1; 1024];
-        let seen = (
+        Ok((
             tape.format_segment(6887),
             tape.write_sector(6887, 31, &[7; 1024]),
             tape.read_sector(6887, 31, &mut into),
             into[1023],
-        );
-        assert_eq!(rt;
-            seen,
-            (Ok(()), Ok(SectorWrite::Taken), Ok(SectorRead::Good), 7)
-        );
+        ))
+    }
+
+    #[test]
+    fn a_sure_tape_holds_the_longest_cartridge(rt: HostRuntime) -> Result<(), Fail> {
+        let mut tape = SureTape::new(rt.alloc())?;
+        let good = (Ok(()), Ok(SectorWrite::Taken), Ok(SectorRead::Good), 7);
+        assert_eq!(rt; last_of_longest(&mut tape), Ok(good));
         Ok(())
     }
 }
