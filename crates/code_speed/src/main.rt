@@ -1,15 +1,15 @@
-//! A measure of the code: it encodes a segment of 29 data and 3 parity sectors, and solves one of which
-//! three are lost, as many times as its one argument says, or once. The bytes that it went through go to
-//! standard output, and the time that each of the two took to standard error.
+//! A measure of the code: it encodes a segment of 29 data and 3 parity sectors, all at once and sector by sector, and
+//! solves one of which three are lost, as many times as its one argument says, or once. The bytes that it went through
+//! go to standard output, and the time that each of the three took to standard error.
 #![tactic(auto)]
 
-ghost use Rattle.std.specs.Prelude.{◌≡◌, ◌↔◌, take, IsOk, OnOk};
+ghost use Rattle.std.specs.Prelude.{◌≡◌, ◌↔◌, ◌++◌, take, IsOk, OnOk};
 ghost use Rattle.gf256_qic.specs.Code.{IsCodeBlock, IsSolvable};
 ghost use Rattle.erasure_solve.specs.Lost.{is_lost};
 
 use erasure_solve::{SolveFault, solve};
 use qic_base::LostSet;
-use segment_parity::parity_of;
+use segment_parity::{Parity, parity_of};
 use std::env::Env;
 use std::process::ExitCode;
 use std::time::{Clock, Duration, Instant};
@@ -21,7 +21,7 @@ const DATA: usize = 29;
 
 const WHOLE: usize = 32;
 
-/// The bytes of a segment's data sectors, which both ways go through.
+/// The bytes of a segment's data sectors, which each way goes through.
 const BYTES: u64 = 29_696;
 
 /// The three places that are lost.
@@ -35,14 +35,17 @@ fn main(rt: HostRuntime) -> io::Result<ExitCode> {
     let mut segment = [[0x5A; SECTOR]; WHOLE];
     let encoding = timed_encoding(&rt, &mut segment, times)?;
     let encoded = segment;
+    let mut data = [[0x5A; SECTOR]; DATA];
+    let (parity, pushing) = timed_pushing(&rt, &mut data, times)?;
     let (whole, solving) = timed_solving(&rt, &mut segment, times)?;
-    if !whole || segment != encoded {
+    if !whole || segment != encoded || segment[DATA..] != parity[..] {
         return Ok(ExitCode::FAILURE);
     }
     let bytes = BYTES * u64::from(times);
     println!(rt; "encoded {bytes} bytes")?;
     println!(rt; "solved {bytes} bytes")?;
     eprintln!(rt; "encoding {} ns", encoding.as_nanos())?;
+    eprintln!(rt; "pushing {} ns", pushing.as_nanos())?;
     eprintln!(rt; "solving {} ns", solving.as_nanos())?;
     Ok(ExitCode::SUCCESS)
 }
@@ -71,6 +74,21 @@ fn timed_encoding(
         encode(segment);
     }
     start.elapsed(clock)
+}
+
+/// The same sector by sector, and the parity after the last encoding.
+fn timed_pushing(
+    clock: &impl Clock,
+    data: &mut [[u8; SECTOR]; DATA],
+    times: u32,
+) -> io::Result<([[u8; SECTOR]; 3], Duration)> {
+    let start = Instant::now(clock)?;
+    let mut parity = by_register(data);
+    for i in 1..times {
+        data[i as usize % DATA][i as usize % SECTOR] ^= parity[2][0];
+        parity = by_register(data);
+    }
+    Ok((parity, start.elapsed(clock)?))
 }
 
 /// Whether each solving went well, after three sectors were overwritten.
@@ -102,6 +120,17 @@ fn encode(segment: &mut [[u8; SECTOR]; WHOLE])
 {
     let parity = parity_of(&segment[..DATA]);
     segment[DATA..].copy_from_slice(&parity);
+}
+
+/// The parity of 29 data sectors, from the register that an append gives each sector as it writes it.
+fn by_register(sectors: &[[u8; SECTOR]; DATA]) -> [[u8; SECTOR]; 3]
+    ensures { IsCodeBlock (sectors.now ++ result) }
+{
+    let mut parity = Parity::new();
+    for sector in sectors {
+        parity.push(sector);
+    }
+    parity.finish()
 }
 
 /// Finds the three lost sectors.
