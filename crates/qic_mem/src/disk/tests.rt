@@ -116,30 +116,14 @@ fn a_record_without_room_for_its_bytes_refuses(rt: HostRuntime) -> Result<(), Fa
     Ok(())
 }
 
-/// A disk of four bytes that records. Its calls 2 and 3 fail.
-fn recorded(alloc: Global) -> Result<MemDisk, Fail>
-    ensures { IfOk result (λ disk. (disk_state disk).seen ≡ 4) }
-{
+/// A disk whose record has an entry of each kind. Its calls 2 and 3 fail.
+fn with_history(alloc: Global) -> Result<MemDisk, Fail> {
     let mut disk = MemDisk::recorded(alloc, 8, 4, 6, [2, 3].to_vec(alloc)?)?;
     disk.set_len(4)?;
-    Ok(disk)
-}
-
-/// Writes the four bytes, and asks for the length.
-fn write_four(disk: &mut MemDisk)
-    requires { (disk_state disk.old).seen ≡ 4 }
-    ensures { (disk_state disk.new).seen ≡ 4 }
-{
-    let _ = disk.write_at(0, b"abcd");
+    disk.write_at(0, b"abcd")?;
     let _ = disk.len();
-}
-
-/// A disk whose record has an entry of each kind.
-fn with_history(alloc: Global) -> Result<MemDisk, Fail> {
-    let mut disk = recorded(alloc)?;
-    write_four(&mut disk);
     let _ = disk.write_at(1, b"xy");
-    let _ = disk.sync();
+    disk.sync()?;
     Ok(disk)
 }
 
