@@ -129,7 +129,8 @@ fn with_history(alloc: Global) -> Result<MemDisk, Fail> {
 
 #[test]
 fn a_record_has_its_entries_and_their_bytes(rt: HostRuntime) -> Result<(), Fail> {
-    let recorded = with_history(rt.alloc())?;
+    let alloc = rt.alloc();
+    let recorded = with_history(alloc)?;
     let entries = [
         DiskEntry::Made(DiskChange::SetLen(4)),
         DiskEntry::Made(DiskChange::WriteAt(0, 4)),
@@ -137,11 +138,10 @@ fn a_record_has_its_entries_and_their_bytes(rt: HostRuntime) -> Result<(), Fail>
         DiskEntry::Broke(DiskChange::WriteAt(1, 2)),
         DiskEntry::Made(DiskChange::Sync),
     ];
-    assert_eq!(rt;
-        recorded.history(),
-        (entries.as_slice(), b"abcdxy".as_slice())
-    );
-    let unrecorded = about_to_fail(rt.alloc())?;
+    let (shown, bytes) = recorded.history();
+    assert_eq!(rt; shown, entries.as_slice());
+    assert_eq!(rt; bytes, b"abcdxy".as_slice());
+    let unrecorded = about_to_fail(alloc)?;
     let (shown, bytes) = unrecorded.history();
     assert_eq!(rt; shown.len() + bytes.len(), 0);
     Ok(())
