@@ -6,6 +6,7 @@ ghost use Rattle.tape_cmd.specs.Lines.{status_code};
 
 use cart_image::ImageTape;
 use drive_states::Unit;
+use read_ahead::{MOST, ReadAhead};
 use std::env::Env;
 use std::process::ExitCode;
 use std::{env, io};
@@ -52,7 +53,8 @@ fn run_over_image(rt: &HostRuntime, arguments: &Arguments) -> u8 {
         Ok(image) => image,
         Err(cause) => return refuse(cause, &mut errors),
     };
-    let mut unit = Unit::new(ImageTape::open(image));
+    let mut room = [0; MOST];
+    let mut unit = Unit::new(ImageTape::open(ReadAhead::new(image, &mut room)));
     let mut source = StdinSource::new(rt.stdin());
     let mut sink = StdoutSink::new(rt.stdout());
     let status = run(

@@ -1,0 +1,30 @@
+-- A disk that is read ahead means what the disk under it means (this project's own).
+use Rattle.std.specs.Prelude.{◌≡◌, ℕ, List}
+use Rattle.qic_base.specs.declared.disk.Disk.{Ghosts}
+use Rattle.qic_base.specs.Disk.{Meaning, IsToldRight, IsLeftNow}
+use Rattle.read_ahead.specs.declared.ReadAhead.{ReadAhead}
+
+-- the disk under it
+abbrev pub disk_of : {D : Type 0} {g : Ghosts D} → ReadAhead D g → D
+disk_of ahead = ahead.disk
+
+abbrev pub ahead_means : {D : Type 0} {g : Ghosts D} → Meaning (ReadAhead D g)
+ahead_means {g = g} = record {
+  told = λ s. g.means.told s.disk;
+  seen_len = λ s. g.means.seen_len s.disk;
+  faults = λ s. g.means.faults s.disk;
+  tells_stops = λ s. g.means.tells_stops s.disk;
+  may_leave = λ s. g.means.may_leave s.disk;
+  moment = λ s. g.means.moment s.disk;
+  left_since = λ s. g.means.left_since s.disk;
+}
+
+pub ahead_told_right : {D : Type 0} {g : Ghosts D} → ((d : D) → IsToldRight g.means d) → (s : ReadAhead D g) → IsToldRight (ahead_means {g = g}) s
+ahead_told_right right s =
+    let r = right s.disk in
+    record { bytes = r.bytes; seen = r.seen; may_leave = r.may_leave; untold = λ quiet. record { only = (r.untold quiet).only } }
+
+pub ahead_left_now : {D : Type 0} {g : Ghosts D} → ((d : D) → IsLeftNow g.means d) → (s : ReadAhead D g) → IsLeftNow (ahead_means {g = g}) s
+ahead_left_now now s =
+    let n = now s.disk in
+    record { telling = n.telling; counts = n.counts; only = n.only; earlier = n.earlier }
