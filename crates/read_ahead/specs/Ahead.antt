@@ -1,5 +1,4 @@
 -- A disk that is read ahead means what the disk under it means (this project's own).
-use Rattle.std.specs.Prelude.{◌≡◌, ℕ, List}
 use Rattle.qic_base.specs.declared.disk.Disk.{Ghosts}
 use Rattle.qic_base.specs.Disk.{Meaning, IsToldRight, IsLeftNow}
 use Rattle.read_ahead.specs.declared.ReadAhead.{ReadAhead}
