@@ -1,0 +1,8 @@
+//! Scripts over a source, a sink or a tape that fails, and over inputs that end early or never. A made volume over such a
+//! sink.
+
+mod inputs;
+mod making;
+mod runs;
+mod stops;
+mod streams;
