@@ -150,7 +150,7 @@ impl Disk for MemDisk {
             return Err(DiskFailed);
         }
         if failed {
-            self.bytes.write_at(place, &from[..from.len() / 2]);
+            self.bytes.write_half(place, from);
             add_entry(&mut self.log, DiskEntry::Broke(change), from);
             return Err(DiskFailed);
         }
@@ -210,6 +210,3 @@ impl Disk for MemDisk {
         Ok(())
     }
 }
-
-#[cfg(test)]
-mod tests;

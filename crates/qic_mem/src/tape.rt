@@ -272,6 +272,3 @@ impl Tape for MemTape {
         Ok(answer)
     }
 }
-
-#[cfg(test)]
-mod tests;

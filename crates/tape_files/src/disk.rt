@@ -45,6 +45,15 @@ impl FileDisk {
         }
     }
 
+    /// Counts a failure of the system.
+    fn count_fault(&mut self)
+        ensures failed { Rose self.old.faults self.new.faults }
+        ensures later { self.old.faults ≤ self.new.faults }
+        ensures seen { self.new.seen ≡ self.old.seen }
+    {
+        self.faults = self.faults.saturating_add(1);
+    }
+
     /// The answer of the system; a failure is counted.
     fn counted<T: Drop>(&mut self, answer: io::Result<T>) -> Result<T, DiskFailed>
         ensures value { IfOk result (λ value. answer ≡ Ok value) }
@@ -56,7 +65,7 @@ impl FileDisk {
         match answer {
             Ok(value) => Ok(value),
             Err(_) => {
-                self.faults = self.faults.saturating_add(1);
+                self.count_fault();
                 Err(DiskFailed)
             }
         }
@@ -118,71 +127,6 @@ impl Disk for FileDisk {
         };
         self.counted(answer)?;
         self.resized = false;
-        Ok(())
-    }
-}
-
-#[cfg(test)]
-mod tests {
-    use super::*;
-    use crate::open_image;
-    use std::fs;
-    use std::fs::OpenOptions;
-    use std::test::Fail;
-
-    #[test]
-    fn a_file_is_a_disk(rt: HostRuntime) -> Result<(), Fail> {
-        let path = "disk-of-a-test.img";
-        let mut disk = open_image(&rt, path)?;
-        disk.set_len(10)?;
-        let done = [
-            disk.write_at(4, b"tape"),
-            disk.sync(),
-            disk.write_at(0, b"a"),
-            disk.sync(),
-        ];
-        let mut into = [1; 11];
-        let seen = (
-            done,
-            disk.read_at(0, &mut into),
-            into,
-            fs::remove_file(&rt, path).is_ok(),
-        );
-        assert_eq!(rt; seen, ([Ok(()); 4], Ok(10), *b"a\0\0\0tape\0\0\x01", true));
-        Ok(())
-    }
-
-    #[test]
-    fn a_file_that_others_grow_and_cut_is_seen(rt: HostRuntime) -> Result<(), Fail> {
-        let path = "file-of-a-test.img";
-        let mut disk = open_image(&rt, path)?;
-        let other = OpenOptions::new().write(true).open(&rt, path)?;
-        let mut into = [1; 4];
-        let seen = (
-            disk.read_at(0, &mut into),
-            other.write_all_at(b"grown", 0).is_ok(),
-            disk.len(),
-            disk.read_at(2, &mut into),
-            into,
-            other.set_len(3).is_ok(),
-            disk.len(),
-            disk.read_at(2, &mut into),
-            fs::remove_file(&rt, path).is_ok(),
-        );
-        assert_eq!(rt;
-            seen,
-            (
-                Ok(0),
-                true,
-                Ok(5),
-                Ok(3),
-                *b"own\x01",
-                true,
-                Ok(3),
-                Ok(1),
-                true
-            )
-        );
         Ok(())
     }
 }

@@ -136,39 +136,3 @@ fn sync_folder<R: Files<File = File>>(files: &R, path: &str) {
         let _synced = folder.sync_all();
     }
 }
-
-#[cfg(test)]
-mod tests {
-    use super::*;
-    use std::test::Fail;
-
-    fn refusal(rt: &HostRuntime, path: &str) -> Option<NoImage> {
-        open_image(rt, path).err()
-    }
-
-    #[test]
-    fn only_a_regular_file_that_nobody_has_is_an_image(rt: HostRuntime) -> Result<(), Fail> {
-        let path = "image-of-a-test.img";
-        let first = open_image(&rt, path)?;
-        let refused = [
-            refusal(&rt, path),
-            refusal(&rt, "."),
-            refusal(&rt, "/dev/null"),
-            refusal(&rt, "/dev/null/image"),
-        ];
-        drop(first);
-        let seen = (
-            refused,
-            refusal(&rt, path),
-            fs::remove_file(&rt, path).is_ok(),
-        );
-        let want = [
-            Some(NoImage::Locked),
-            Some(NoImage::NotRegular),
-            Some(NoImage::NotRegular),
-            Some(NoImage::NotOpened),
-        ];
-        assert_eq!(rt; seen, (want, None, true));
-        Ok(())
-    }
-}

@@ -153,20 +153,3 @@ impl Sink for StderrSink {
         }
     }
 }
-
-#[cfg(test)]
-mod tests {
-    use super::*;
-
-    #[test]
-    fn an_input_that_ended_gives_nothing_and_outputs_take_bytes(rt: HostRuntime) {
-        let mut into = [0; 4];
-        let seen = (
-            StdinSource::new(rt.stdin()).read(&mut into),
-            into,
-            StdoutSink::new(rt.stdout()).write(b"out\n"),
-            StderrSink::new(rt.stderr()).write(b"error\n"),
-        );
-        assert_eq!(rt; seen, (Ok(0), [0; 4], Ok(4), Ok(6)));
-    }
-}

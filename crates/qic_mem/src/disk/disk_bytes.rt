@@ -1,4 +1,4 @@
-ghost use Rattle.std.specs.Prelude.{◌≡◌, ◌≤◌, ◌+◌, ◌-◌, [], length, take, drop, min, IfOk};
+ghost use Rattle.std.specs.Prelude.{◌≡◌, ◌≤◌, ◌+◌, ◌-◌, ◌/◌, [], length, take, drop, min, IfOk};
 ghost use Rattle.std.specs.Vec.{vec_capacity};
 ghost use Rattle.qic_base.specs.Disk.{AreBytes, resized};
 ghost use Rattle.qic_base.specs.Field.{overwritten};
@@ -74,6 +74,16 @@ impl DiskBytes {
         } }
     {
         overwrite(&mut self.bytes, place as usize, from);
+    }
+
+    /// Writes the first half of the bytes from a place on, as a write that fails does.
+    pub(crate) fn write_half(&mut self, place: u64, from: &[u8])
+        requires { place + length from.now ≤ length (bytes_state self.old).bytes }
+        ensures { bytes_state self.new ≡ record (bytes_state self.old) {
+          bytes = overwritten (bytes_state self.old).bytes place (take (length from.now / 2) from.now);
+        } }
+    {
+        self.write_at(place, &from[..from.len() / 2]);
     }
 
     /// Makes the bytes this many; new ones are zero.

@@ -17,28 +17,28 @@ returns-then-full-2-clause-did c =
     (nothing-torn (bytes_state c.args.self.now.bytes).bytes c.args.place (length c.args.from.now) (disk_bytes-bytes c.args.self.now.bytes))
     c.count.ensures.never_falls (counted-rose _ _ _ c.count.ensures.counted failed)
 
-pub write_at-requires : goal.write_at-requires
+pub write_half-requires : goal.write_half-requires
 unfolding disk_state
-write_at-requires c = omega (arith, disk_bytes-seen c.args.self.now.bytes, length-take {A = ℕ})
+write_half-requires c = omega (arith, disk_bytes-seen c.args.self.now.bytes)
 
 pub returns-then-failed-clause-did : goal.returns-then-failed-clause-did
 unfolding disk_state
 returns-then-failed-clause-did c =
-    let is : (bytes_state c.write_at.new.self).bytes ≡ overwritten (bytes_state c.args.self.now.bytes).bytes c.args.place (take (length c.args.from.now / 2) c.args.from.now) =
-    ap (λ (s : BytesState). s.bytes) c.write_at.ensures in
+    let is : (bytes_state c.write_half.new.self).bytes ≡ overwritten (bytes_state c.args.self.now.bytes).bytes c.args.place (take (length c.args.from.now / 2) c.args.from.now) =
+    ap (λ (s : BytesState). s.bytes) c.write_half.ensures in
     disk-broke _ _ (WriteAt c.args.place c.args.from.now) c.add_entry.ensures is
-    (write-torn _ _ c.args.place (length c.args.from.now) (omega (arith, length-take {A = ℕ})) (omega (arith, disk_bytes-seen c.args.self.now.bytes)) (subst AreBytes is (disk_bytes-bytes c.write_at.new.self)))
+    (write-torn _ _ c.args.place (length c.args.from.now) (omega (arith, length-take {A = ℕ})) (omega (arith, disk_bytes-seen c.args.self.now.bytes)) (subst AreBytes is (disk_bytes-bytes c.write_half.new.self)))
     c.count.ensures.never_falls (counted-rose _ _ _ c.count.ensures.counted c.if-failed.true)
 
-pub write_at-requires-2 : goal.write_at-requires-2
+pub write_at-requires : goal.write_at-requires
 unfolding disk_state
-write_at-requires-2 c = omega (arith, disk_bytes-seen c.args.self.now.bytes)
+write_at-requires c = omega (arith, disk_bytes-seen c.args.self.now.bytes)
 
 pub returns-clause-did : goal.returns-clause-did
 unfolding disk_state
 returns-clause-did c =
-    let is : (bytes_state c.write_at-2.new.self).bytes ≡ overwritten (bytes_state c.args.self.now.bytes).bytes c.args.place c.args.from.now =
-    ap (λ (s : BytesState). s.bytes) c.write_at-2.ensures in
+    let is : (bytes_state c.write_at.new.self).bytes ≡ overwritten (bytes_state c.args.self.now.bytes).bytes c.args.place c.args.from.now =
+    ap (λ (s : BytesState). s.bytes) c.write_at.ensures in
     disk-written _ _ c.args.place c.args.from.now c.add_entry-2.ensures is
-    (write-torn (bytes_state c.args.self.now.bytes).bytes c.args.from.now c.args.place (length c.args.from.now) (omega arith) (omega (arith, disk_bytes-seen c.args.self.now.bytes)) (subst AreBytes is (disk_bytes-bytes c.write_at-2.new.self)))
+    (write-torn (bytes_state c.args.self.now.bytes).bytes c.args.from.now c.args.place (length c.args.from.now) (omega arith) (omega (arith, disk_bytes-seen c.args.self.now.bytes)) (subst AreBytes is (disk_bytes-bytes c.write_at.new.self)))
     c.count.ensures.never_falls
