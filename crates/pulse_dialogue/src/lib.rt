@@ -13,6 +13,3 @@ mod teller;
 
 pub use fault::TraceFault;
 pub use run::tell_recording;
-
-#[cfg(test)]
-mod tests;

@@ -11,9 +11,6 @@ use std::process::ExitCode;
 use std::{env, io};
 use tape_files::{StdinSource, StdoutSink};
 
-#[cfg(test)]
-mod tests;
-
 fn main(rt: HostRuntime) -> ExitCode {
     let status = match read_words(&rt) {
         Ok(words) => {

@@ -12,6 +12,3 @@ pub use error_code::ErrorCode;
 pub use refusals::refusal;
 pub use status::{StatusBits, status_word};
 pub use view::{DriveView, Mode, Motion};
-
-#[cfg(test)]
-mod tests;

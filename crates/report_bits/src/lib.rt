@@ -8,6 +8,3 @@ mod shift;
 pub use collect::Collector;
 pub use laws::round_trip;
 pub use shift::{Shifter, Shown};
-
-#[cfg(test)]
-mod tests;

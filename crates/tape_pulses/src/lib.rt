@@ -10,6 +10,3 @@ mod sending;
 
 pub use fault::PulseFault;
 pub use run::run_pulses;
-
-#[cfg(test)]
-mod tests;

@@ -1,6 +1,8 @@
-// The tables of numbers, codes, refusals and status words, read off by hand.
+//! The tables of numbers, codes, refusals and status words, read off by hand.
 
-use crate::{Command, DriveView, ErrorCode, Mode, Motion, command_of, refusal, status_word};
+use qic117_commands::{
+    Command, DriveView, ErrorCode, Mode, Motion, command_of, refusal, status_word,
+};
 
 const COMMANDS: [(u8, Command); 38] = [
     (1, Command::Reset),
@@ -206,10 +208,14 @@ fn expected(refused: Refused, number: u8) -> Option<u8> {
     match number {
         3 | 4 | 5 | 11 | 12 | 21 | 22 | 23 | 24 | 27 | 31 | 34 | 35 | 36 | 46 | 47 => Some(6),
         28 | 29 => Some(9),
-        _ => refused
-            .iter()
-            .find(|(_, numbers)| numbers.contains(&number))
-            .map(|(code, _)| *code),
+        _ => {
+            for (code, numbers) in refused {
+                if numbers.contains(&number) {
+                    return Some(*code);
+                }
+            }
+            None
+        }
     }
 }
 

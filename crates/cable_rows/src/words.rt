@@ -2,6 +2,7 @@
 //! words beside them that are no command. Those of the others are shown by the transcripts.
 
 use qic_base::Name;
+use std::alloc::{AllocError, Global};
 use std::test::Fail;
 use tape_script::Words;
 
@@ -11,14 +12,42 @@ const NOON: u32 = 0x3052_65C0;
 /// The last second that a date word holds.
 const LAST: u32 = 0xFFEA_6DFF;
 
-/// The command that the words are, if they are one.
-fn read(rt: &HostRuntime, text: &[&str]) -> Result<Option<Words>, Fail> {
-    let alloc = rt.alloc();
+fn owned(alloc: Global, text: &[&str]) -> Result<Vec<String>, AllocError> {
     let mut words = Vec::new(alloc);
     for word in text {
         words.push(String::from_str(alloc, word)?)?;
     }
+    Ok(words)
+}
+
+/// The command that the words are, if they are one.
+fn read(alloc: Global, text: &[&str]) -> Result<Option<Words>, AllocError> {
+    let words = owned(alloc, text)?;
     Ok(Words::read(&words).ok())
+}
+
+/// The index of the first words that are not the command beside them.
+fn first_that_is_other(
+    alloc: Global,
+    rows: &[(&[&str], Words)],
+) -> Result<Option<usize>, AllocError> {
+    for i in 0..rows.len() {
+        let (text, command) = rows[i];
+        if read(alloc, text)? != Some(command) {
+            return Ok(Some(i));
+        }
+    }
+    Ok(None)
+}
+
+/// The index of the first words that are a command.
+fn first_command(alloc: Global, rows: &[&[&str]]) -> Result<Option<usize>, AllocError> {
+    for i in 0..rows.len() {
+        if read(alloc, rows[i])?.is_some() {
+            return Ok(Some(i));
+        }
+    }
+    Ok(None)
 }
 
 /// The longest name, of 44 bytes.
@@ -62,9 +91,7 @@ fn words_have_their_values(rt: HostRuntime) -> Result<(), Fail> {
         (&["append", "a", "1970-01-01T00:00:00"], append("a", 0)),
         (&["append", "a", "2097-12-31T23:59:59"], append("a", LAST)),
     ];
-    for (text, command) in table {
-        assert_eq!(rt; read(&rt, text)?, Some(command), "{text:?}");
-    }
+    assert_eq!(rt; first_that_is_other(rt.alloc(), &table)?, None);
     Ok(())
 }
 
@@ -98,8 +125,6 @@ fn other_words_are_no_command(rt: HostRuntime) -> Result<(), Fail> {
         &["make", "1000000000", "3"],
         &["make", "1", "3", "3"],
     ];
-    for text in table {
-        assert_eq!(rt; read(&rt, text)?, None, "{text:?}");
-    }
+    assert_eq!(rt; first_command(rt.alloc(), &table)?, None);
     Ok(())
 }

@@ -1,60 +1,61 @@
 //! Each form of a script's line with its value, and bytes beside each that are no line.
 
-use qic_base::{Name, Source};
+use crate::memory::source;
+use qic_base::{Name, Source, SourceFailed};
 use qic_mem::MemSource;
+use std::alloc::Global;
 use std::test::Fail;
 use tape_script::{Line, LineRead};
 
 /// 1994-03-01T12:00:00.
 const NOON: u32 = 0x3052_65C0;
 
-/// A source of these bytes.
-fn source(rt: &HostRuntime, text: &str) -> Result<MemSource, Fail> {
-    let alloc = rt.alloc();
-    Ok(MemSource::new(text.as_bytes().to_vec(alloc)?, Vec::new(alloc)))
-}
-
 /// How many bytes the source has left, of at most 256.
-fn left(source: &mut MemSource) -> Result<usize, Fail> {
-    let mut into = [0; 256];
-    Ok(source.read(&mut into)?)
+fn left(source: &mut MemSource) -> Result<usize, SourceFailed> {
+    source.read(&mut [0; 256])
 }
 
-/// Whether a text begins with this line, and all of it but `rest` bytes is read.
-fn begins(rt: &HostRuntime, text: &str, line: Line, rest: usize) -> Result<bool, Fail> {
-    let mut source = source(rt, text)?;
-    let taken = text.len().saturating_sub(rest);
-    let found = match Line::read(&mut source, &mut [0; 128])? {
-        LineRead::Line { line: found, read } => found == line && usize::from(read) == taken,
-        LineRead::End | LineRead::Bad { .. } => false,
+/// The line with which a source begins, if it is one, how many bytes were read in its place, and how many are left. At
+/// the end of the source there is nothing.
+type Seen = Option<(Option<Line>, usize, usize)>;
+
+/// What is read of a source.
+fn seen_of(source: &mut MemSource) -> Result<Seen, SourceFailed> {
+    let (line, read) = match Line::read(source, &mut [0; 128])? {
+        LineRead::Line { line, read } => (Some(line), read),
+        LineRead::Bad { read } => (None, read),
+        LineRead::End => return Ok(None),
     };
-    Ok(found && left(&mut source)? == rest)
+    Ok(Some((line, usize::from(read), left(source)?)))
 }
 
-/// How many bytes were read that begin with no line; none at the end of the source.
-fn bad_bytes(source: &mut MemSource) -> Result<Option<u8>, Fail> {
-    match Line::read(source, &mut [0; 128])? {
-        LineRead::Bad { read } => Ok(Some(read)),
-        LineRead::End => Ok(None),
-        LineRead::Line { line, .. } => Err(Fail::from(line)),
-    }
+/// What is read of a text.
+fn seen(alloc: Global, text: &[u8]) -> Result<Seen, Fail> {
+    let mut source = source(alloc, text, &[])?;
+    Ok(seen_of(&mut source)?)
 }
 
-/// Whether a text begins with no line, and all of it but `rest` bytes is read.
-fn begins_badly(rt: &HostRuntime, text: &str, rest: usize) -> Result<bool, Fail> {
-    let mut source = source(rt, text)?;
+/// Whether a text begins with this line, or with none, and all of it but `rest` bytes is read.
+fn begins(alloc: Global, text: &str, line: Option<Line>, rest: usize) -> Result<bool, Fail> {
     let taken = text.len().saturating_sub(rest);
-    let bad = match bad_bytes(&mut source)? {
-        Some(read) => usize::from(read) == taken,
-        None => false,
-    };
-    Ok(bad && left(&mut source)? == rest)
+    Ok(seen(alloc, text.as_bytes())? == Some((line, taken, rest)))
 }
 
-/// The index of the first text that does not begin badly, or of which something is left.
-fn first_that_is_not_bad(rt: &HostRuntime, texts: &[&str]) -> Result<Option<usize>, Fail> {
+/// The index of the first text that begins with a line, or of which something is left.
+fn first_that_is_not_bad(alloc: Global, texts: &[&str]) -> Result<Option<usize>, Fail> {
     for i in 0..texts.len() {
-        if !begins_badly(rt, texts[i], 0)? {
+        if !begins(alloc, texts[i], None, 0)? {
+            return Ok(Some(i));
+        }
+    }
+    Ok(None)
+}
+
+/// The index of the first text that does not begin with its line, or of which something is left.
+fn first_that_is_other(alloc: Global, rows: &[(&str, Line)]) -> Result<Option<usize>, Fail> {
+    for i in 0..rows.len() {
+        let (text, line) = rows[i];
+        if !begins(alloc, text, Some(line), 0)? {
             return Ok(Some(i));
         }
     }
@@ -85,9 +86,7 @@ fn appends(rt: HostRuntime) -> Result<(), Fail> {
             append("an-evening-of-forty-four-bytes-all-of-them--", 3, 0),
         ),
     ];
-    for (text, line) in table {
-        assert!(rt; begins(&rt, text, line, 0)?, "{text}");
-    }
+    assert_eq!(rt; first_that_is_other(rt.alloc(), &table)?, None);
     Ok(())
 }
 
@@ -120,18 +119,20 @@ fn other_lines(rt: HostRuntime) -> Result<(), Fail> {
             },
         ),
     ];
-    for (text, line) in table {
-        assert!(rt; begins(&rt, text, line, 0)?, "{text}");
-    }
+    assert_eq!(rt; first_that_is_other(rt.alloc(), &table)?, None);
     Ok(())
 }
 
 #[test]
 fn nothing_behind_a_line_is_read(rt: HostRuntime) -> Result<(), Fail> {
-    assert!(rt; begins(&rt, "list\nscrub\n", Line::List, 6)?);
-    assert!(rt; begins(&rt, "append a 3\nabclist\n", append("a", 3, 0), 8)?);
-    assert!(rt; begins(&rt, "end\nno line", Line::End, 7)?);
-    assert!(rt; begins_badly(&rt, "no line\nlist\n", 5)?);
+    let alloc = rt.alloc();
+    let found = [
+        begins(alloc, "list\nscrub\n", Some(Line::List), 6)?,
+        begins(alloc, "append a 3\nabclist\n", Some(append("a", 3, 0)), 8)?,
+        begins(alloc, "end\nno line", Some(Line::End), 7)?,
+        begins(alloc, "no line\nlist\n", None, 5)?,
+    ];
+    assert_eq!(rt; found, [true; 4]);
     Ok(())
 }
 
@@ -171,7 +172,7 @@ fn no_lines(rt: HostRuntime) -> Result<(), Fail> {
         "make 1 1\n",
         "protect on\n",
     ];
-    assert_eq!(rt; first_that_is_not_bad(&rt, &table)?, None);
+    assert_eq!(rt; first_that_is_not_bad(rt.alloc(), &table)?, None);
     Ok(())
 }
 
@@ -198,35 +199,45 @@ fn no_appends(rt: HostRuntime) -> Result<(), Fail> {
         "append a 10 1994-03-01T12:00:00 x\n",
         "append a 1994-03-01T12:00:00 10\n",
     ];
-    assert_eq!(rt; first_that_is_not_bad(&rt, &table)?, None);
+    assert_eq!(rt; first_that_is_not_bad(rt.alloc(), &table)?, None);
     Ok(())
 }
 
 #[test]
 fn the_last_line_has_its_newline(rt: HostRuntime) -> Result<(), Fail> {
     let table = ["list", "end", "append a 10", "restore 1", "x"];
-    assert_eq!(rt; first_that_is_not_bad(&rt, &table)?, None);
-    let mut empty = source(&rt, "")?;
-    assert_eq!(rt; bad_bytes(&mut empty)?, None);
+    let found = first_that_is_not_bad(rt.alloc(), &table)?;
+    let is_ended = seen(rt.alloc(), b"")?.is_none();
+    assert_eq!(rt; (found, is_ended), (None, true));
     Ok(())
 }
 
 /// How many bytes are read of so many `a` and a newline, which are no line, and how many are left.
-fn of_long(rt: &HostRuntime, long: usize) -> Result<(Option<u8>, usize), Fail> {
-    let alloc = rt.alloc();
-    let mut bytes = vec![in alloc; b'a'; long]?;
-    bytes.push(b'\n')?;
-    let mut source = MemSource::new(bytes, Vec::new(alloc));
-    let read = bad_bytes(&mut source)?;
-    Ok((read, left(&mut source)?))
+fn of_long(alloc: Global, long: usize) -> Result<Option<(usize, usize)>, Fail> {
+    let mut bytes = [b'a'; 201];
+    bytes[200] = b'\n';
+    match seen(alloc, &bytes[200 - long.min(200)..])? {
+        Some((None, read, left)) => Ok(Some((read, left))),
+        _ => Ok(None),
+    }
 }
 
 #[test]
 fn long_lines(rt: HostRuntime) -> Result<(), Fail> {
-    assert_eq!(rt; of_long(&rt, 126)?, (Some(127), 0));
-    assert_eq!(rt; of_long(&rt, 127)?, (Some(128), 0));
-    // No place is left for the newline.
-    assert_eq!(rt; of_long(&rt, 128)?, (Some(128), 1));
-    assert_eq!(rt; of_long(&rt, 200)?, (Some(128), 73));
+    let alloc = rt.alloc();
+    let found = [
+        of_long(alloc, 126)?,
+        of_long(alloc, 127)?,
+        // No place is left for the newline.
+        of_long(alloc, 128)?,
+        of_long(alloc, 200)?,
+    ];
+    let all = [
+        Some((127, 0)),
+        Some((128, 0)),
+        Some((128, 1)),
+        Some((128, 73)),
+    ];
+    assert_eq!(rt; found, all);
     Ok(())
 }
