@@ -10,7 +10,7 @@ use Rattle.drive_states.specs.declared.deck.Deck.{Deck}
 use Rattle.drive_states.specs.declared.deck.Motion.{Motion}
 use Rattle.drive_states.specs.declared.deck.Motion.TheVariants.{Stopped, Streaming, Seeking}
 use Rattle.drive_states.specs.Deck.{seen_motion, is_stopped, is_seeking, view_of, refusal_of, accepted}
-use Rattle.drive_states.specs.Row.{parameter_trains, steps_of}
+use Rattle.drive_states.specs.Row.{parameter_trains, parameter_values, steps_of}
 use Rattle.drive_states.proofs.Bounds.{while_stopped, with_cartridge}
 use Rattle.drive_states.proofs.Taken.{is_taken}
 
@@ -78,6 +78,11 @@ no_parameter SkipReverse trains n0 n1 n2 n3 = n1 refl
 no_parameter SkipForward trains n0 n1 n2 n3 = n2 refl
 no_parameter SetFormatSegments trains n0 n1 n2 n3 = n3 refl
 no_parameter c trains n0 n1 n2 n3 = absurd (omega arith)
+
+-- each value of another parameter than a track is a nibble
+pub values_else : (c : Command) → Not c SeekTrack → parameter_values c ≡ 16
+values_else SeekTrack n = absurd (n refl)
+values_else c n = refl
 
 -- what the typed calls ask besides
 pub primary_stopped : (d : Deck) → refusal_of d EnterPrimary ≡ None → is_stopped d.motion ≡ true

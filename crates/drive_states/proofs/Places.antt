@@ -14,12 +14,12 @@ use Rattle.tape_geometry.specs.Geometry.{HasAddress}
 use Rattle.drive_states.specs.declared.deck.Deck.{Deck}
 use Rattle.drive_states.specs.declared.deck.Motion.{Motion}
 use Rattle.drive_states.specs.declared.deck.Motion.TheVariants.{Stopped, Streaming, Seeking}
-use Rattle.drive_states.specs.Deck.{segments_per_track, limit, is_stopped, is_streaming, is_seeking, refusal_of, accepted, ticked, run_on}
-use Rattle.drive_states.specs.Reach.{segment_of, Writes}
+use Rattle.drive_states.specs.Deck.{segments_per_track, limit, is_stopped, is_streaming, is_seeking, refusal_of, accepted, ticked, run_on, passed}
+use Rattle.drive_states.specs.Reach.{StreamsTo, segment_of, Writes}
 use Rattle.drive_states.specs.Sound.{HasLength, IsSound}
 use Rattle.drive_states.specs.Typed.{TypedState, IsIn, moved, seeking}
 use Rattle.drive_states.specs.Unit.{Knows, DeckAndTape}
-use Rattle.drive_states.proofs.Bounds.{with_cartridge, before_limit, limit_within}
+use Rattle.drive_states.proofs.Bounds.{with_cartridge, before_limit, limit_within, IsSound-passed}
 
 neither : (m : Motion) → is_streaming m ≡ false → is_seeking m ≡ false → m ≡ Stopped
 neither Stopped a b = refl
@@ -113,3 +113,19 @@ IsIn-run_on p d here streams = record {
     by_test : (b : Bool) → is_seeking (if b then Streaming 0 else Stopped) ≡ false
     by_test true = refl
     by_test false = refl
+
+streams_to : (m : Motion) (index : ℕ) → StreamsTo m index → is_streaming m ≡ true
+streams_to Stopped index under = absurd under
+streams_to (Streaming next) index under = refl
+streams_to (Seeking left) index under = absurd under
+
+-- the head passes a sector that it can reach
+pub IsSound-reached : (d : Deck) (index : ℕ) → IsSound d → StreamsTo d.motion index → index < 32 → IsSound (passed d index)
+IsSound-reached d index s under fits = IsSound-passed d index s (streams_to d.motion index under) fits
+
+pub IsIn-reached : (p : TypedState) (d : Deck) (index : ℕ) → IsIn p d → StreamsTo d.motion index → IsIn p (passed d index)
+IsIn-reached p d index here under = record {
+  mode = here.mode;
+  at_load_point = here.at_load_point;
+  seeks = sym (streams_still d.motion (streams_to d.motion index under)) ∙ here.seeks;
+}

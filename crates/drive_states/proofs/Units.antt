@@ -12,7 +12,7 @@ use Rattle.drive_states.specs.Reach.{StreamsTo, ReachesNone, IsFormatting}
 use Rattle.drive_states.specs.Record.{Record}
 use Rattle.drive_states.specs.Row.{after_gap, moved_on, without_reference}
 use Rattle.drive_states.specs.Sound.{IsSound, IsSoundRecord}
-use Rattle.drive_states.specs.Unit.{UnitView, Knows, IsSoundUnit}
+use Rattle.drive_states.specs.Unit.{DeckAndTape, UnitView, Knows, IsSoundUnit}
 use Rattle.drive_states.proofs.Rows.{IsSoundRecord-row, IsSoundRecord-moved_on, IsUnderWay-moved}
 
 -- after a gap
@@ -38,6 +38,14 @@ pub IsSoundUnit-moved : {T : Type 0} (m : Meaning T) (r : Record) (d : Deck) (ta
 IsSoundUnit-moved m r d tape s same sound known = record {
   drive = record { deck = sound; train = s.train; under_way = IsUnderWay-moved r.deck d r.under_way same s.under_way };
   known = known;
+}
+
+-- after a call that leaves the record as it was, and the size of the cartridge
+pub IsSoundUnit-kept : {T : Type 0} (m : Meaning T) (r : Record) (tape : T) (new : DeckAndTape T) → IsSoundUnit m record { drive = r; tape = tape } →
+    new.deck ≡ r.deck → m.size new.tape ≡ m.size tape → IsSoundUnit m record { drive = record r { deck = new.deck }; tape = new.tape }
+IsSoundUnit-kept m r tape new s deck size = record {
+  drive = record { deck = rw deck s.drive.deck; train = s.drive.train; under_way = rw deck s.drive.under_way };
+  known = rw (deck, size) s.known;
 }
 
 -- a tape that stands reaches no sector

@@ -1,6 +1,7 @@
 pub mod AnyDrive
 pub mod Cable
 pub mod Deck
+pub mod Errors
 pub mod Hand
 pub mod Laws
 pub mod Reach

@@ -7,6 +7,7 @@ ghost use Rattle.qic_base.specs.Tape.{Does, Tells, IsPlaceOf, spoil_answer};
 ghost use Rattle.qic117_commands.specs.Views.{is_primary};
 ghost use Rattle.drive_states.specs.AnyDrive.{drive_of, state_of};
 ghost use Rattle.drive_states.specs.Deck.{ticked, reset, run_on, is_streaming, is_protected};
+ghost use Rattle.drive_states.specs.Errors.{with_error};
 ghost use Rattle.drive_states.specs.Reach.{reads_in, Reaches, ReachesNone, IsFormatting, Finds, Writes, Formats};
 ghost use Rattle.drive_states.specs.Sound.{IsSound};
 ghost use Rattle.drive_states.specs.Typed.{IsIn};
@@ -68,7 +69,7 @@ impl<T: Tape> AnyDrive<T> {
         ensures known { Knows (drive_of self.now).deck.cartridge
             (T.means.size (drive_of self.now).tape) }
     {
-        in_each_state!(self, drive => drive.reveal())
+        let _ = self.deck();
     }
 
     /// The tape.
@@ -81,7 +82,7 @@ impl<T: Tape> AnyDrive<T> {
     /// Sets the error word and the new cartridge flag.
     pub fn set_error(&mut self, error: u16, fresh: bool)
         ensures { drive_of self.new ≡ record (drive_of self.old) {
-          deck = record (drive_of self.old).deck { error = error; fresh = fresh };
+          deck = with_error error fresh (drive_of self.old).deck;
         } }
     {
         in_each_state!(self, drive => drive.set_error(error, fresh))

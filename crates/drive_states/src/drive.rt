@@ -5,6 +5,7 @@ ghost use Rattle.qic_base.specs.Cartridge.{view_at};
 ghost use Rattle.qic_base.specs.Step.{Wear, Spoil};
 ghost use Rattle.qic_base.specs.Tape.{Does, Tells, IsPlaceOf, spoil_answer};
 ghost use Rattle.drive_states.specs.Deck.{is_streaming, run_on};
+ghost use Rattle.drive_states.specs.Errors.{with_error};
 ghost use Rattle.drive_states.specs.Sound.{IsSound};
 ghost use Rattle.drive_states.specs.Typed.{IsIn};
 ghost use Rattle.drive_states.specs.Unit.{Knows};
@@ -109,9 +110,7 @@ impl<S: State, T: Tape> Drive<S, T> {
 
     /// Sets the error word and the new cartridge flag.
     pub(crate) fn set_error(&mut self, error: u16, fresh: bool)
-        ensures { self.new ≡ record self.old {
-          deck = record self.old.deck { error = error; fresh = fresh };
-        } }
+        ensures { self.new ≡ record self.old { deck = with_error error fresh self.old.deck } }
     {
         self.deck.error = error;
         self.deck.fresh = fresh;

@@ -3,7 +3,6 @@ use Rattle.std.proofs.Common.{◌≡◌, ℕ, ◌+◌, ◌*◌, ◌^◌, ◌<◌
 use Rattle.std.proofs.lemmas.Bool.Decides.{nat_tests}
 use Rattle.qic_base.specs.declared.tape.TapeInfo.{TapeInfo}
 use Rattle.qic117_commands.specs.Views.{is_format, is_verify}
-use Rattle.qic117_commands.specs.declared.command.Command.{Command}
 use Rattle.qic117_commands.specs.declared.command.Command.TheVariants.{LogicalForward, SeekTrack, EnterFormat, EnterVerify, SkipReverse, SkipForward, EnterPrimary}
 use Rattle.qic117_commands.specs.declared.view.Mode.{Mode}
 use Rattle.qic117_commands.specs.declared.view.Mode.TheVariants.{Primary, Format, Verify}
@@ -21,7 +20,7 @@ use Rattle.drive_states.proofs.Taken.{primary_taken}
 use Rattle.drive_states.specs.Unit.{UnitView}
 use Rattle.qic_base.specs.Tape.{Meaning}
 use Rattle.host_driver.specs.declared.host.Host.{Host}
-use Rattle.host_driver.specs.Commands.{TakesValue, entry_of}
+use Rattle.host_driver.specs.Commands.{is_plain, TakesValue, entry_of}
 use Rattle.host_driver.specs.Fits.{Fits, GeneratesAll, parameter_of, segments_of}
 use Rattle.host_driver.specs.Place.{StandsAt}
 use Rattle.host_driver.proofs.Refusals.{seek_taken, skip_forward_taken, skip_reverse_taken, forward_taken, format_taken, verify_taken}
@@ -101,6 +100,11 @@ given_track r s d track deck awaits given =
       deck = ap (λ (x : Record). x.deck) is ∙ ap (λ (n : ℕ). sought n r.deck) value ∙ ap (sought track) deck;
       under_way = ap (λ (x : Record). x.under_way) is;
     }
+
+-- a skip awaits its count
+pub skip_awaits : (forward : Bool) (d : Deck) → accepted (skip_command forward) d ≡ d
+skip_awaits true d = refl
+skip_awaits false d = refl
 
 -- the first of two nibbles came
 pub record IsHalf (r : Record) (d : Deck) (forward : Bool) (low : ℕ) : Type 0 where
@@ -184,27 +188,25 @@ OnOk-of (Err e) P h = tt
 pub record IsEntered (mode : Mode) (old new : Deck) : Type 0 where
   pub mode_is : new.mode ≡ mode
   pub place : StandsAt old.track old.offset new
+  pub cartridge : new.cartridge ≡ old.cartridge
+  pub still : is_seeking new.motion ≡ false
 
-pub entered : (mode : Mode) (d : Deck) → is_stopped d.motion ≡ true → IsEntered mode d (accepted (entry_of mode) d)
-entered Primary d stopped = record { mode_is = refl; place = record { motion = stopped_is d.motion stopped; on_track = refl; at_offset = refl } }
-entered Format d stopped = record { mode_is = refl; place = record { motion = stopped_is d.motion stopped; on_track = refl; at_offset = refl } }
-entered Verify d stopped = record { mode_is = refl; place = record { motion = stopped_is d.motion stopped; on_track = refl; at_offset = refl } }
+entered : (mode : Mode) (d : Deck) → d.motion ≡ Stopped → IsEntered mode d (accepted (entry_of mode) d)
+entered Primary d stopped = record { mode_is = refl; place = record { motion = stopped; on_track = refl; at_offset = refl }; cartridge = refl; still = ap is_seeking stopped }
+entered Format d stopped = record { mode_is = refl; place = record { motion = stopped; on_track = refl; at_offset = refl }; cartridge = refl; still = ap is_seeking stopped }
+entered Verify d stopped = record { mode_is = refl; place = record { motion = stopped; on_track = refl; at_offset = refl }; cartridge = refl; still = ap is_seeking stopped }
 
-pub entered_as : (mode : Mode) (old new : Deck) (command : Command) → command ≡ entry_of mode → new ≡ accepted command old → is_stopped old.motion ≡ true → IsEntered mode old new
-entered_as mode old new command is deck stopped =
-    subst (λ (d : Deck). IsEntered mode old d) (sym (deck ∙ ap (λ (k : Command). accepted k old) is)) (entered mode old stopped)
+pub entered_as : (mode : Mode) (old new : Deck) → new ≡ accepted (entry_of mode) old → is_stopped old.motion ≡ true → IsEntered mode old new
+entered_as mode old new deck stopped =
+    subst (λ (d : Deck). IsEntered mode old d) (sym deck) (entered mode old (stopped_is old.motion stopped))
 
--- from another mode than Primary, by Primary
-pub entered_by : (mode : Mode) (old between new : Deck) (command : Command) → command ≡ entry_of mode → between ≡ accepted EnterPrimary old → new ≡ accepted command between →
-    is_stopped old.motion ≡ true → IsEntered mode old new
-entered_by mode old between new command is primary deck stopped =
-    let stops : is_stopped between.motion ≡ true = ap (λ (d : Deck). is_stopped d.motion) primary ∙ stopped in
-    let e = entered_as mode between new command is deck stops in
-    record {
-      mode_is = e.mode_is;
-      place = record {
-        motion = e.place.motion;
-        on_track = e.place.on_track ∙ ap (λ (d : Deck). d.track) primary;
-        at_offset = e.place.at_offset ∙ ap (λ (d : Deck). d.offset) primary;
-      };
-    }
+-- its command is whole, and leaves nothing under way
+pub entry_plain : (mode : Mode) → is_plain (entry_of mode) ≡ true
+entry_plain Primary = refl
+entry_plain Format = refl
+entry_plain Verify = refl
+
+pub entry_idle : (mode : Mode) (d : Deck) → begun (entry_of mode) d ≡ Nothing
+entry_idle Primary d = refl
+entry_idle Format d = refl
+entry_idle Verify d = refl

@@ -1,10 +1,10 @@
 //! Modes, and the reference bursts.
 
-ghost use Rattle.std.specs.Prelude.{◌≡◌, ◌↔◌, [], ◌∷◌, true, false, OnOk, OnErr, IsOkUnless};
+ghost use Rattle.std.specs.Prelude.{◌≡◌, ◌↔◌, [], ◌∷◌, None, true, false, IsOk, OnOk, OnErr, IsOkUnless};
 ghost use Rattle.qic_base.specs.Step.{SetReferenced};
 ghost use Rattle.qic_base.specs.Tape.{Does};
 ghost use Rattle.qic117_commands.specs.Views.{is_format};
-ghost use Rattle.drive_states.specs.Deck.{is_stopped, is_protected, is_referenced, referenced_as};
+ghost use Rattle.drive_states.specs.Deck.{is_stopped, is_protected, is_referenced, referenced_as, refusal_of, accepted};
 ghost use Rattle.host_driver.specs.Calls.{IsReady};
 ghost use Rattle.host_driver.specs.Commands.{entry_of};
 ghost use Rattle.host_driver.specs.Fits.{Fits, IsAtRest, AgreesWithTape};
@@ -37,12 +37,28 @@ impl Host {
         if mode == Mode::Format && self.protected() {
             return Err(HostFault::Protected);
         }
-        let command = entry_of(mode);
-        if self.deck.refusal(command).is_none() {
-            return self.command(unit, command);
+        if self.deck.refusal(entry_of(mode)).is_none() {
+            return self.enter_at_once(unit, mode);
         }
-        self.command(unit, Command::EnterPrimary)?;
-        self.command(unit, command)
+        self.enter_at_once(unit, Mode::Primary)?;
+        self.enter_at_once(unit, mode)
+    }
+
+    /// Has the drive enter a mode from the present one, where no row refuses that.
+    fn enter_at_once<T: Tape>(&mut self, unit: &mut Unit<T>, mode: Mode) -> Result<(), HostFault>
+        requires ready { IsReady T.means self.old unit.old }
+        requires stopped { is_stopped unit.old.drive.deck.motion ≡ true }
+        requires taken { refusal_of unit.old.drive.deck (entry_of mode) ≡ None }
+        ensures ok { IsOk result }
+        ensures deck { unit.new.drive.deck ≡ accepted (entry_of mode) unit.old.drive.deck }
+        ensures mode { unit.new.drive.deck.mode ≡ mode }
+        ensures place { StandsAt unit.old.drive.deck.track unit.old.drive.deck.offset
+            unit.new.drive.deck }
+        ensures cartridge { unit.new.drive.deck.cartridge ≡ unit.old.drive.deck.cartridge }
+        ensures tape { unit.new.tape ≡ unit.old.tape }
+        ensures ready { IsReady T.means self.new unit.new }
+    {
+        self.command(unit, entry_of(mode))
     }
 
     /// Has the drive write the reference bursts, in Format mode where the tape stands, and waits for it. After a

@@ -1,12 +1,13 @@
 //! Sectors under the head, and what a person does to one.
 
-ghost use Rattle.std.specs.Prelude.{◌≡◌, ◌≢◌, ◌<◌, ◌+◌, [], ◌∷◌, true, IsOkUnless, IfOk, OnOk, OnErr, MatchResult};
+ghost use Rattle.std.specs.Prelude.{◌≡◌, ◌≢◌, ◌<◌, ◌+◌, [], ◌∷◌, true, false, IsOkUnless, IfOk, OnOk, OnErr, MatchResult};
 ghost use Rattle.qic_base.specs.Cartridge.{IsPlace, view_at};
 ghost use Rattle.qic_base.specs.Step.{WriteSector, FormatSegment};
 ghost use Rattle.qic_base.specs.Tape.{Does, Tells, Reads, write_answer};
 ghost use Rattle.drive_states.specs.Deck.{segments_per_track, run_on};
 ghost use Rattle.drive_states.specs.Hand.{Wears};
-ghost use Rattle.drive_states.specs.Reach.{reads_in, IsUnder, IsFormatting, segment_of};
+ghost use Rattle.drive_states.specs.Reach.{reads_in, IsUnder, IsFormatting, Finds, Writes, segment_of};
+ghost use Rattle.drive_states.specs.Unit.{IsSoundUnit, held};
 ghost use Rattle.host_driver.specs.Calls.{IsReady, MayWrite, Keeps};
 ghost use Rattle.host_driver.specs.Place.{RunsOn};
 ghost use Rattle.host_driver.specs.Sectors.{deck_after_read, deck_after_write};
@@ -41,7 +42,7 @@ impl Host {
         ensures under { IsUnder unit.new.drive.deck segment (sector + 1) }
         ensures keeps { Keeps T.means self.new unit.old unit.new }
     {
-        let answer = match unit.read_sector(self.geometry.address(segment, sector), into) {
+        let answer = match self.read_under(unit, segment, sector, into) {
             Ok(()) => SectorRead::Good,
             Err(FdcFault::Unreadable) => SectorRead::Lost,
             Err(FdcFault::NoAddress) => return Ok(SectorRead::Blank),
@@ -50,6 +51,26 @@ impl Host {
         };
         self.deck = self.deck.passed(sector);
         Ok(answer)
+    }
+
+    /// Has the drive read a sector that its head has yet to reach.
+    fn read_under<T: Tape>(
+        &self,
+        unit: &mut Unit<T>,
+        segment: u32,
+        sector: u8,
+        into: &mut [u8; 1024],
+    ) -> Result<(), FdcFault>
+        requires ready { IsReady T.means self.now unit.old }
+        requires mode { reads_in unit.old.drive.deck.mode ≡ true }
+        requires under { IsUnder unit.old.drive.deck segment sector }
+        requires sector { sector < 32 }
+        ensures found { Finds T.means (held unit.old) (held unit.new) segment sector into.old into.new result }
+        ensures cable { unit.new.drive ≡ record unit.old.drive { deck = unit.new.drive.deck } }
+        ensures size { T.means.size unit.new.tape ≡ T.means.size unit.old.tape }
+        ensures sound { IsSoundUnit T.means unit.new }
+    {
+        unit.read_sector(self.geometry.address(segment, sector), into)
     }
 
     /// Writes a sector of the segment in which the tape streams, one that the head has yet to reach, in Primary mode.
@@ -76,7 +97,7 @@ impl Host {
         ensures under { IsUnder unit.new.drive.deck segment (sector + 1) }
         ensures keeps { Keeps T.means self.new unit.old unit.new }
     {
-        match unit.write_sector(self.geometry.address(segment, sector), from) {
+        match self.write_under(unit, segment, sector, from) {
             Ok(()) => {
                 self.deck = self.deck.passed(sector);
                 Ok(SectorWrite::Taken)
@@ -87,6 +108,26 @@ impl Host {
             }
             Err(FdcFault::Tape) => Err(HostFault::Tape),
         }
+    }
+
+    /// Has the drive write a sector that its head has yet to reach.
+    fn write_under<T: Tape>(
+        &self,
+        unit: &mut Unit<T>,
+        segment: u32,
+        sector: u8,
+        from: &[u8; 1024],
+    ) -> Result<(), FdcFault>
+        requires ready { IsReady T.means self.now unit.old }
+        requires writable { MayWrite unit.old.drive.deck }
+        requires under { IsUnder unit.old.drive.deck segment sector }
+        requires sector { sector < 32 }
+        ensures written { Writes T.means (held unit.old) (held unit.new) segment sector from.now false result }
+        ensures cable { unit.new.drive ≡ record unit.old.drive { deck = unit.new.drive.deck } }
+        ensures size { T.means.size unit.new.tape ≡ T.means.size unit.old.tape }
+        ensures sound { IsSoundUnit T.means unit.new }
+    {
+        unit.write_sector(self.geometry.address(segment, sector), from)
     }
 
     /// Formats the segment in which the tape streams, in Format mode, and the tape runs on.

@@ -1,4 +1,4 @@
-use Rattle.std.proofs.Common.{◌≡◌, true, false, is_err, sym, ap, subst, ◌∙◌}
+use Rattle.std.proofs.Common.{◌≡◌, sym, ap, subst, ◌∙◌}
 use Rattle.drive_states.specs.declared.deck.Deck.{Deck}
 use Rattle.drive_states.specs.Deck.{unreferenced}
 use Rattle.host_driver.specs.declared.host.Host.{Host}

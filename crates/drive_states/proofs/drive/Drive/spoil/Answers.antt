@@ -1,0 +1,6 @@
+use Rattle.drive_states.proofs.drive.Drive.spoil.Goals as goal
+
+pub invariant_of-self : goal.invariant_of-self
+invariant_of-self g c =
+    let here = c.self.invariant in
+    (here.0, here.1, rw c.spoil.ensures.size here.2)

@@ -1,0 +1,15 @@
+use Rattle.std.proofs.Common.{ℕ, ◌*◌, ◌<◌, subst}
+use Rattle.qic117_commands.specs.Views.{is_primary}
+use Rattle.host_driver.proofs.Reaching.{length_is, under_on_tape, reaches}
+use Rattle.host_driver.proofs.host.Host.write_under.Goals as goal
+
+pub address-requires-clause-on_tape : goal.address-requires-clause-on_tape
+address-requires-clause-on_tape g c =
+    subst (λ (n : ℕ). c.args.segment < 28 * n)
+    (length_is c.args.self.now.geometry c.args.unit.now.drive.deck.cartridge c.requires.ready.fits.cartridge)
+    (under_on_tape c.args.unit.now.drive.deck c.args.segment c.args.sector c.requires.ready.fits.sound.drive.deck c.requires.under)
+
+pub returns-clause-written : goal.returns-clause-written
+returns-clause-written g c =
+    rw c.requires.writable.writable at (c.write_sector.ensures.reached c.args.segment c.args.sector
+    (reaches is_primary c.args.unit.now.drive.deck c.args.self.now.geometry c.args.segment c.args.sector c.address.result c.requires.ready.fits.cartridge c.requires.writable.mode c.requires.under c.address.ensures))
