@@ -1,5 +1,6 @@
 //! Files on disks in memory, written by hand, and what stands in them. Only the calls of a disk fail that a test chooses,
-//! counted from 0 over all calls of that disk.
+//! counted from 0 over all calls of that disk. Segment 2 of an image of three segments per track has the sectors with the
+//! numbers 64 to 95.
 
 ghost use Rattle.std.specs.Prelude.{◌≡◌, IfOk, OnOk, Some};
 ghost use Rattle.qic_base.specs.Disk.{IsSettled};
@@ -20,6 +21,16 @@ pub const LONGER: u64 = 3_680_832;
 
 /// The head of an image of three segments per track with neither mark, as far as a head is read.
 pub const HEAD: &[u8; 14] = b"QIC80IMG\x01\0\x03\0\0\0";
+
+/// Each byte of the sectors 64 to 66 in an image that holds them.
+pub const OLD: u8 = 0x11;
+
+/// Each byte that a test writes over them.
+pub const NEW: u8 = 0xEE;
+
+pub const OPEN: u8 = 0x5A;
+
+pub const CLOSED: u8 = 0xC1;
 
 /// A call that no test comes to.
 pub const NEVER: u16 = 60_000;
@@ -43,14 +54,33 @@ fn begin(file: &mut MemDisk, length: u64, head: &[u8; 14]) -> Result<(), DiskFai
     file.sync()
 }
 
-/// The tape in a file that is an image of three segments per track. Two calls of the disk tell of it.
-pub fn tape_of_three(file: MemDisk) -> Result<ImageTape<MemDisk>, Fail>
-    requires { IsSettled disk_means file }
-    ensures { IfOk result (λ tape. image_means.size tape ≡ Some 3) }
+/// Makes a file an image of three segments per track whose sectors 64 to 66 hold bytes: their gates, their formed bytes at
+/// 64 + 2,688 + 64, and their bytes at 64 + 3 * 2,688 + 1,024 * 64. Seven calls of the disk make it.
+pub fn write_image(file: &mut MemDisk) -> Result<(), DiskFailed>
+    ensures { OnOk result (IsSettled disk_means file.new) }
 {
-    let mut tape = ImageTape::open(file);
+    begin(file, LENGTH, HEAD)?;
+    file.write_at(128, &[OPEN; 3])?;
+    file.write_at(2_816, &[0xF0; 3])?;
+    file.write_at(73_664, &[OLD; 3_072])?;
+    file.sync()
+}
+
+/// Such an image.
+pub fn image(alloc: Global, fails: Vec<u64>) -> Result<MemDisk, Fail>
+    ensures { IfOk result (IsSettled disk_means) }
+{
+    let mut file = MemDisk::new(alloc, LONGER, fails)?;
+    write_image(&mut file)?;
+    Ok(file)
+}
+
+/// Sees that a tape has a cartridge of three segments per track. Two calls of the disk tell of it.
+pub fn sees_three(tape: &mut ImageTape<MemDisk>) -> Result<(), Fail>
+    ensures { OnOk result (image_means.size tape.new ≡ Some 3) }
+{
     match tape.info()? {
-        Some(info) if info.segments_per_track == 3 => Ok(tape),
+        Some(info) if info.segments_per_track == 3 => Ok(()),
         _ => Err(Fail::from("another cartridge")),
     }
 }

@@ -72,7 +72,10 @@ fn a_new_cartridge_that_breaks_off_leaves_the_old_none_or_the_new(
     for (call, info) in (0..).zip(left) {
         assert_eq!(rt; info_after_broken(rt.alloc(), call)?, info, "call {call}");
     }
-    assert!(rt; is_put_in_before(rt.alloc(), 12)?);
-    assert_eq!(rt; info_after_new(rt.alloc())?, new);
+    let put_in = (
+        is_put_in_before(rt.alloc(), 12)?,
+        info_after_new(rt.alloc())?,
+    );
+    assert_eq!(rt; put_in, (true, new));
     Ok(())
 }

@@ -1,9 +1,14 @@
-//! Images whose disk fails, as tests: what each call that fails leaves of the file.
+//! Images on a disk in memory, as tests: what each call of a tape writes to the disk and where a sync stands, and what is
+//! left of an image where a call of the disk fails.
 #![tactic(auto)]
 
+#[cfg(test)]
+mod calls;
 #[cfg(test)]
 mod files;
 #[cfg(test)]
 mod heads;
 #[cfg(test)]
 mod sectors;
+#[cfg(test)]
+mod stops;

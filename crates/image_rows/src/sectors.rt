@@ -1,54 +1,27 @@
 //! What a write of a sector leaves in an image, whichever of its calls of the disk fails. It is sector 1 of segment 2, which
 //! has the number 65: its gate is byte 64 + 65 = 129, and its bytes begin at 64 + 3 * 2,688 + 1,024 * 65 = 74,688.
 
-ghost use Rattle.std.specs.Prelude.{◌≡◌, ◌<◌, IfOk, OnOk, Some};
+ghost use Rattle.std.specs.Prelude.{◌≡◌, ◌<◌, IfOk, Some};
 ghost use Rattle.qic_base.specs.Disk.{IsSettled};
 ghost use Rattle.qic_mem.specs.Disk.{disk_means};
 ghost use Rattle.cart_image.specs.ImageTape.{image_means};
 
-use crate::files::{HEAD, LENGTH, NEVER, byte_at, file, tape_of_three};
+use crate::files::{CLOSED, NEVER, NEW, OLD, OPEN, byte_at, image, sees_three};
 use cart_image::ImageTape;
 use qic_base::{Disk, DiskFailed, SectorRead, SectorWrite, Tape, TapeFailed};
 use qic_mem::MemDisk;
 use std::alloc::Global;
 use std::test::Fail;
 
-/// Each byte of the sector and of its neighbours before the write.
-const OLD: u8 = 0x11;
-
-/// Each byte that is written.
-const NEW: u8 = 0xEE;
-
-const OPEN: u8 = 0x5A;
-
-const CLOSED: u8 = 0xC1;
-
-/// An image whose sectors 64 to 66 hold bytes. Seven calls of the disk make it.
-fn written(alloc: Global, fails: Vec<u64>) -> Result<MemDisk, Fail>
-    ensures { IfOk result (IsSettled disk_means) }
-{
-    let mut file = file(alloc, LENGTH, HEAD, fails)?;
-    write_three(&mut file)?;
-    Ok(file)
-}
-
-/// Their gates, their formed bytes at 64 + 2,688 + 64, and their bytes at 64 + 3 * 2,688 + 1,024 * 64.
-fn write_three(file: &mut MemDisk) -> Result<(), DiskFailed>
-    requires { disk_means.seen_len file.old ≡ 2760640 }
-    ensures { OnOk result (IsSettled disk_means file.new) }
-{
-    file.write_at(128, &[OPEN; 3])?;
-    file.write_at(2_816, &[0xF0; 3])?;
-    file.write_at(73_664, &[OLD; 3_072])?;
-    file.sync()
-}
-
-/// The tape in it. The disk fails at this call, counted behind the nine that made the file and told of it.
-fn held(alloc: Global, call: u16) -> Result<ImageTape<MemDisk>, Fail>
+/// The tape in an image whose sectors 64 to 66 hold bytes. The disk fails at this call, counted behind the nine that made
+/// the file and told of it.
+pub fn held(alloc: Global, call: u16) -> Result<ImageTape<MemDisk>, Fail>
     ensures { IfOk result (λ tape. image_means.size tape ≡ Some 3) }
 {
     let fails = [9 + u64::from(call)].to_vec(alloc)?;
-    tape_of_three(written(alloc, fails)?)
+    let mut tape = ImageTape::open(image(alloc, fails)?);
+    sees_three(&mut tape)?;
+    Ok(tape)
 }
 
 /// The same, with the sector lost. Five more calls looked at the segment's bytes in the planes and closed the gate.
@@ -60,59 +33,58 @@ fn worn(alloc: Global, call: u16) -> Result<ImageTape<MemDisk>, Fail>
     Ok(tape)
 }
 
-/// Writes the sector, which has to fail.
-fn broken(mut tape: ImageTape<MemDisk>) -> Result<MemDisk, Fail>
+/// The one or the other.
+fn tape(alloc: Global, is_lost: bool, call: u16) -> Result<ImageTape<MemDisk>, Fail>
+    ensures { IfOk result (λ tape. image_means.size tape ≡ Some 3) }
+{
+    if is_lost {
+        worn(alloc, call)
+    } else {
+        held(alloc, call)
+    }
+}
+
+/// The file after a write of the sector, which has to fail, or else to be taken.
+pub fn after_write(mut tape: ImageTape<MemDisk>, fails: bool) -> Result<MemDisk, Fail>
     requires { image_means.size tape ≡ Some 3 }
     ensures { IfOk result (IsSettled disk_means) }
 {
     match tape.write_sector(2, 1, &[NEW; 1024]) {
-        Err(TapeFailed) => Ok(tape.into_disk()),
-        Ok(write) => Err(Fail::from(write)),
-    }
-}
-
-/// Writes the sector, which has to be taken.
-fn taken(mut tape: ImageTape<MemDisk>) -> Result<MemDisk, Fail>
-    requires { image_means.size tape ≡ Some 3 }
-    ensures { IfOk result (IsSettled disk_means) }
-{
-    match tape.write_sector(2, 1, &[NEW; 1024])? {
-        SectorWrite::Taken => Ok(tape.into_disk()),
-        SectorWrite::Blank => Err(Fail::from("a blank sector")),
+        Err(TapeFailed) if fails => Ok(tape.into_disk()),
+        Ok(SectorWrite::Taken) if !fails => Ok(tape.into_disk()),
+        _ => Err(Fail::from("another answer")),
     }
 }
 
 /// Whether the write is taken, and the next call of the disk is the one that fails.
-fn is_written(mut tape: ImageTape<MemDisk>) -> bool
-    requires { image_means.size tape ≡ Some 3 }
-{
-    tape.write_sector(2, 1, &[NEW; 1024]) == Ok(SectorWrite::Taken)
-        && tape.into_disk().len().is_err()
+fn is_taken_before(alloc: Global, is_lost: bool, call: u16) -> Result<bool, Fail> {
+    let mut file = after_write(tape(alloc, is_lost, call)?, false)?;
+    Ok(file.len().is_err())
 }
 
 /// The gate, and the first and the last byte of the sector.
-fn shown(mut file: MemDisk) -> Result<[u8; 3], DiskFailed> {
+fn shown(file: &mut MemDisk) -> Result<[u8; 3], DiskFailed> {
     Ok([
-        byte_at(&mut file, 129)?,
-        byte_at(&mut file, 74_688)?,
-        byte_at(&mut file, 75_711)?,
+        byte_at(file, 129)?,
+        byte_at(file, 74_688)?,
+        byte_at(file, 75_711)?,
     ])
 }
 
-fn left_of_held(alloc: Global, call: u16) -> Result<[u8; 3], Fail> {
-    Ok(shown(broken(held(alloc, call)?)?)?)
+/// Whether the write fails at this call and leaves these.
+fn leaves(alloc: Global, is_lost: bool, call: u16, bytes: [u8; 3]) -> Result<bool, Fail> {
+    let mut file = after_write(tape(alloc, is_lost, call)?, true)?;
+    Ok(shown(&mut file)? == bytes)
 }
 
-fn left_of_worn(alloc: Global, call: u16) -> Result<[u8; 3], Fail> {
-    Ok(shown(broken(worn(alloc, call)?)?)?)
-}
-
-fn is_held_written(alloc: Global, call: u16) -> Result<bool, Fail> {
-    Ok(is_written(held(alloc, call)?))
-}
-
-fn is_worn_written(alloc: Global, call: u16) -> Result<bool, Fail> {
-    Ok(is_written(worn(alloc, call)?))
+/// The first call at which the write fails and leaves others than these; None where there is none.
+fn first_other(alloc: Global, is_lost: bool, left: &[[u8; 3]]) -> Result<Option<u16>, Fail> {
+    for (call, bytes) in (0..).zip(left) {
+        if !leaves(alloc, is_lost, call, *bytes)? {
+            return Ok(Some(call));
+        }
+    }
+    Ok(None)
 }
 
 /// Three calls look at the segment's bytes in the planes. Then come the writes, each with its sync. Of a write that
@@ -130,10 +102,11 @@ fn a_gate_is_closed_and_the_bytes_written_and_it_is_opened(rt: HostRuntime) -> R
         [CLOSED, NEW, NEW],
         [OPEN, NEW, NEW],
     ];
-    for (call, bytes) in (0..).zip(left) {
-        assert_eq!(rt; left_of_held(rt.alloc(), call)?, bytes, "call {call}");
-    }
-    assert!(rt; is_held_written(rt.alloc(), 9)?);
+    let seen = (
+        first_other(rt.alloc(), false, &left)?,
+        is_taken_before(rt.alloc(), false, 9)?,
+    );
+    assert_eq!(rt; seen, (None, true));
     Ok(())
 }
 
@@ -146,19 +119,19 @@ fn a_lost_sector_is_written_and_its_gate_opened(rt: HostRuntime) -> Result<(), F
         [CLOSED, NEW, NEW],
         [OPEN, NEW, NEW],
     ];
-    for (call, bytes) in (0..).zip(left) {
-        assert_eq!(rt; left_of_worn(rt.alloc(), call)?, bytes, "call {call}");
-    }
-    assert!(rt; is_worn_written(rt.alloc(), 4)?);
+    let seen = (
+        first_other(rt.alloc(), true, &left)?,
+        is_taken_before(rt.alloc(), true, 4)?,
+    );
+    assert_eq!(rt; seen, (None, true));
     Ok(())
 }
 
 /// The byte that a sector of segment 2 has 1,024 times; None where it is lost.
 fn filled(tape: &mut ImageTape<MemDisk>, sector: u8) -> Result<Option<u8>, Fail>
-    requires size { image_means.size tape.old ≡ Some 3 }
-    requires place { sector < 32 }
-    ensures { image_means.size tape.new ≡ Some 3 }
+    requires { sector < 32 }
 {
+    sees_three(tape)?;
     let mut into = [0; 1024];
     match tape.read_sector(2, sector, &mut into)? {
         SectorRead::Good if into == [into[0]; 1024] => Ok(Some(into[0])),
@@ -167,31 +140,18 @@ fn filled(tape: &mut ImageTape<MemDisk>, sector: u8) -> Result<Option<u8>, Fail>
     }
 }
 
-/// The same of the sectors 0 to 2, read from a file.
-fn all_filled(file: MemDisk) -> Result<[Option<u8>; 3], Fail>
-    requires { IsSettled disk_means file }
-{
-    let mut tape = tape_of_three(file)?;
-    let before = filled(&mut tape, 0)?;
-    let written = filled(&mut tape, 1)?;
-    let behind = filled(&mut tape, 2)?;
+/// The same of the sectors 0 to 2.
+fn three_filled(tape: &mut ImageTape<MemDisk>) -> Result<[Option<u8>; 3], Fail> {
+    let before = filled(tape, 0)?;
+    let written = filled(tape, 1)?;
+    let behind = filled(tape, 2)?;
     Ok([before, written, behind])
 }
 
-fn broken_held(alloc: Global, call: u16) -> Result<[Option<u8>; 3], Fail> {
-    all_filled(broken(held(alloc, call)?)?)
-}
-
-fn broken_worn(alloc: Global, call: u16) -> Result<[Option<u8>; 3], Fail> {
-    all_filled(broken(worn(alloc, call)?)?)
-}
-
-fn taken_held(alloc: Global) -> Result<[Option<u8>; 3], Fail> {
-    all_filled(taken(held(alloc, NEVER)?)?)
-}
-
-fn taken_worn(alloc: Global) -> Result<[Option<u8>; 3], Fail> {
-    all_filled(taken(worn(alloc, NEVER)?)?)
+/// The same of the file after a write that fails at this call, or is taken where no call fails.
+fn filled_after(alloc: Global, is_lost: bool, call: u16) -> Result<[Option<u8>; 3], Fail> {
+    let file = after_write(tape(alloc, is_lost, call)?, call != NEVER)?;
+    three_filled(&mut ImageTape::open(file))
 }
 
 #[test]
@@ -200,21 +160,29 @@ fn a_write_that_breaks_off_leaves_the_old_bytes_none_or_the_new(
 ) -> Result<(), Fail> {
     let old = Some(OLD);
     let new = Some(NEW);
-    for (call, middle) in (0..).zip([old, old, old, old, None, None, None, None, new]) {
+    let table = [
+        (false, 0, old),
+        (false, 1, old),
+        (false, 2, old),
+        (false, 3, old),
+        (false, 4, None),
+        (false, 5, None),
+        (false, 6, None),
+        (false, 7, None),
+        (false, 8, new),
+        (false, NEVER, new),
+        (true, 0, None),
+        (true, 1, None),
+        (true, 2, None),
+        (true, 3, new),
+        (true, NEVER, new),
+    ];
+    for (is_lost, call, middle) in table {
         assert_eq!(rt;
-            broken_held(rt.alloc(), call)?,
+            filled_after(rt.alloc(), is_lost, call)?,
             [old, middle, old],
             "call {call}"
         );
     }
-    assert_eq!(rt; taken_held(rt.alloc())?, [old, new, old]);
-    for (call, middle) in (0..).zip([None, None, None, new]) {
-        assert_eq!(rt;
-            broken_worn(rt.alloc(), call)?,
-            [old, middle, old],
-            "call {call}"
-        );
-    }
-    assert_eq!(rt; taken_worn(rt.alloc())?, [old, new, old]);
     Ok(())
 }

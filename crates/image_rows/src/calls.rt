@@ -2,10 +2,11 @@
 //! 129, and its bytes begin at 64 + 3 * 2,688 + 1,024 * 65 = 74,688. The gates of segment 2 begin at 128, its formed bytes at
 //! 64 + 2,688 + 64 = 2,816, and its sectors at 73,664.
 
+ghost use Rattle.std.specs.Prelude.{IfOk};
 ghost use Rattle.qic_base.specs.Disk.{IsSettled};
 ghost use Rattle.qic_mem.specs.Disk.{disk_means};
 
-use crate::images::{LENGTH, empty, sees_three, written};
+use crate::files::{CLOSED, LENGTH, NEW, OPEN, sees_three, write_image};
 use cart_image::ImageTape;
 use qic_base::Tape;
 use qic_mem::{DiskChange, DiskEntry, MemDisk};
@@ -13,7 +14,7 @@ use std::alloc::Global;
 use std::test::Fail;
 
 /// A call of a tape, of a sector of segment 2 or of that segment.
-#[derive(Clone, Copy, Debug)]
+#[derive(Clone, Copy)]
 enum Call {
     Info,
     Read(u8),
@@ -28,7 +29,7 @@ enum Call {
 
 /// An entry of a disk's record: bytes that were written from a place on, so many of one value or of several; a length
 /// that was set; a sync that was done; or any other.
-#[derive(Clone, Copy, Debug, PartialEq, Eq)]
+#[derive(Clone, Copy, PartialEq, Eq)]
 enum Row {
     Fill(u64, usize, u8),
     Write(u64, usize),
@@ -48,7 +49,7 @@ fn make(tape: &mut ImageTape<MemDisk>, call: Call) -> Result<(), Fail> {
             let _ = tape.read_sector(2, sector, &mut [0; 1024])?;
         }
         Call::Write(sector) if sector < 32 => {
-            let _ = tape.write_sector(2, sector, &[0xEE; 1024])?;
+            let _ = tape.write_sector(2, sector, &[NEW; 1024])?;
         }
         Call::Wear(sector) if sector < 32 => tape.wear(2, sector)?,
         Call::Spoil(sector) if sector < 32 => {
@@ -63,14 +64,27 @@ fn make(tape: &mut ImageTape<MemDisk>, call: Call) -> Result<(), Fail> {
     Ok(())
 }
 
-/// A disk after these calls of the tape in it.
-fn after(disk: MemDisk, calls: &[Call]) -> Result<MemDisk, Fail>
-    requires { IsSettled disk_means disk }
-{
-    let mut tape = ImageTape::open(disk);
+/// Makes these calls, one after the other.
+fn make_all(tape: &mut ImageTape<MemDisk>, calls: &[Call]) -> Result<(), Fail> {
     for call in calls {
-        make(&mut tape, *call)?;
+        make(tape, *call)?;
     }
+    Ok(())
+}
+
+/// An empty disk with room for one image, and for so many calls and bytes as no row comes to.
+fn empty(alloc: Global) -> Result<MemDisk, Fail>
+    ensures { IfOk result (IsSettled disk_means) }
+{
+    Ok(MemDisk::recorded(alloc, LENGTH, 99, 199_999, Vec::new(alloc))?)
+}
+
+/// The disk of an image whose sectors 64 to 66 hold bytes, after these calls.
+fn after(alloc: Global, calls: &[Call]) -> Result<MemDisk, Fail> {
+    let mut disk = empty(alloc)?;
+    write_image(&mut disk)?;
+    let mut tape = ImageTape::open(disk);
+    make_all(&mut tape, calls)?;
     Ok(tape.into_disk())
 }
 
@@ -82,11 +96,11 @@ fn written_row(place: u64, bytes: &[u8]) -> Row {
     }
 }
 
-/// What the record of a disk has behind so many entries.
-fn rows_behind(alloc: Global, disk: &MemDisk, count: usize) -> Result<Vec<Row>, Fail> {
+/// Whether the record of a disk has these rows behind so many entries, and no other.
+fn has_behind(disk: &MemDisk, count: usize, rows: &[Row]) -> bool {
     let (entries, bytes) = disk.history();
     let mut rest = bytes;
-    let mut rows = Vec::new(alloc);
+    let mut wanted = rows.iter();
     for (i, entry) in entries.iter().enumerate() {
         let row = match *entry {
             DiskEntry::Made(DiskChange::WriteAt(place, size)) if size <= rest.len() => {
@@ -98,157 +112,132 @@ fn rows_behind(alloc: Global, disk: &MemDisk, count: usize) -> Result<Vec<Row>, 
             DiskEntry::Made(DiskChange::Sync) => Row::Sync,
             _ => Row::Other,
         };
-        if i >= count {
-            rows.push(row)?;
+        if i >= count && wanted.next() != Some(&row) {
+            return false;
         }
     }
-    Ok(rows)
+    wanted.next().is_none()
 }
 
 /// How many entries the record of an image's disk has after these calls.
 fn entries_after(alloc: Global, calls: &[Call]) -> Result<usize, Fail> {
-    let disk = after(written(alloc, Vec::new(alloc))?, calls)?;
+    let disk = after(alloc, calls)?;
     let (entries, _) = disk.history();
     Ok(entries.len())
 }
 
-/// What the last of these calls does to the disk of an image whose sectors 64 to 66 hold bytes.
-fn rows_of(alloc: Global, calls: &[Call]) -> Result<Vec<Row>, Fail> {
+/// Whether the last of these calls does this to the disk of an image whose sectors 64 to 66 hold bytes, and nothing else.
+fn does(alloc: Global, calls: &[Call], rows: &[Row]) -> Result<bool, Fail> {
     let before = entries_after(alloc, &calls[..calls.len().saturating_sub(1)])?;
-    let disk = after(written(alloc, Vec::new(alloc))?, calls)?;
-    rows_behind(alloc, &disk, before)
+    Ok(has_behind(&after(alloc, calls)?, before, rows))
 }
 
-/// Whether the last of these calls does this one write with a sync behind, or nothing.
-fn is_of(alloc: Global, calls: &[Call], write: Option<Row>) -> Result<bool, Fail> {
-    let rows = rows_of(alloc, calls)?;
-    Ok(match write {
-        Some(write) => rows.as_slice() == [write, Row::Sync].as_slice(),
-        None => rows.is_empty(),
-    })
+/// Which of these runs of calls is the first whose last call does not do the rows beside it; None where there is none.
+fn first_other(alloc: Global, table: &[(&[Call], &[Row])]) -> Result<Option<usize>, Fail> {
+    for (i, (calls, rows)) in table.iter().enumerate() {
+        if !does(alloc, calls, rows)? {
+            return Ok(Some(i));
+        }
+    }
+    Ok(None)
 }
 
-/// What a new cartridge does to an empty disk.
-fn rows_of_first(alloc: Global) -> Result<Vec<Row>, Fail> {
-    let mut tape = ImageTape::open(empty(alloc, Vec::new(alloc))?);
+/// Whether a new cartridge does this to an empty disk, and nothing else.
+fn first_does(alloc: Global, rows: &[Row]) -> Result<bool, Fail> {
+    let mut tape = ImageTape::open(empty(alloc)?);
     tape.renew(3)?;
-    rows_behind(alloc, &tape.into_disk(), 0)
+    Ok(has_behind(&tape.into_disk(), 0, rows))
 }
 
 #[test]
 fn a_sector_is_written_in_three_steps_or_two_or_none(rt: HostRuntime) -> Result<(), Fail> {
-    let close = Row::Fill(129, 1, 0xC1);
-    let bytes = Row::Fill(74_688, 1024, 0xEE);
-    let open = Row::Fill(129, 1, 0x5A);
+    let close = Row::Fill(129, 1, CLOSED);
+    let bytes = Row::Fill(74_688, 1024, NEW);
+    let open = Row::Fill(129, 1, OPEN);
     let three = [close, Row::Sync, bytes, Row::Sync, open, Row::Sync];
     let two = [bytes, Row::Sync, open, Row::Sync];
-    assert_eq!(rt;
-        rows_of(rt.alloc(), &[Call::Write(1)])?.as_slice(),
-        three.as_slice()
-    );
-    assert_eq!(rt;
-        rows_of(rt.alloc(), &[Call::Wear(1), Call::Write(1)])?.as_slice(),
-        two.as_slice()
-    );
-    assert_eq!(rt; rows_of(rt.alloc(), &[Call::Write(3)])?.len(), 0);
-    assert_eq!(rt;
-        rows_of(rt.alloc(), &[Call::Spoil(3), Call::Write(3)])?.len(),
-        0
-    );
+    let table: [(&[Call], &[Row]); 4] = [
+        (&[Call::Write(1)], &three),
+        (&[Call::Wear(1), Call::Write(1)], &two),
+        (&[Call::Write(3)], &[]),
+        (&[Call::Spoil(3), Call::Write(3)], &[]),
+    ];
+    assert_eq!(rt; first_other(rt.alloc(), &table)?, None);
     Ok(())
 }
 
 /// The 32 sectors of segment 2 with zero bytes, and their open gates.
 const CLEAN: Row = Row::Fill(73_664, 32_768, 0);
 
-const OPEN: Row = Row::Fill(128, 32, 0x5A);
+const OPENED: Row = Row::Fill(128, 32, OPEN);
 
 /// The 29 formed bytes of the sectors of segment 2 that were never formatted.
 const FORM: Row = Row::Fill(2_819, 29, 0xF0);
 
 #[test]
-fn a_segment_is_formatted_in_four_steps(rt: HostRuntime) -> Result<(), Fail> {
+fn a_segment_is_formatted_in_four_steps_and_again_in_three(rt: HostRuntime) -> Result<(), Fail> {
     let first = [
-        Row::Fill(128, 3, 0xC1),
+        Row::Fill(128, 3, CLOSED),
         Row::Sync,
         CLEAN,
         Row::Sync,
         FORM,
         Row::Sync,
-        OPEN,
+        OPENED,
         Row::Sync,
     ];
     // Each run of gates that are open goes as one write, and one sync stands behind them.
     let in_runs = [
-        Row::Fill(128, 1, 0xC1),
-        Row::Fill(130, 1, 0xC1),
+        Row::Fill(128, 1, CLOSED),
+        Row::Fill(130, 1, CLOSED),
         Row::Sync,
         CLEAN,
         Row::Sync,
         FORM,
         Row::Sync,
-        OPEN,
+        OPENED,
         Row::Sync,
     ];
-    assert_eq!(rt;
-        rows_of(rt.alloc(), &[Call::Format])?.as_slice(),
-        first.as_slice()
-    );
-    assert_eq!(rt;
-        rows_of(rt.alloc(), &[Call::Wear(1), Call::Format])?.as_slice(),
-        in_runs.as_slice()
-    );
-    Ok(())
-}
-
-#[test]
-fn a_segment_is_formatted_again_in_three_steps(rt: HostRuntime) -> Result<(), Fail> {
     let again = [
-        Row::Fill(128, 32, 0xC1),
+        Row::Fill(128, 32, CLOSED),
         Row::Sync,
         CLEAN,
         Row::Sync,
-        OPEN,
+        OPENED,
         Row::Sync,
     ];
-    assert_eq!(rt;
-        rows_of(rt.alloc(), &[Call::Format, Call::Format])?.as_slice(),
-        again.as_slice()
-    );
+    let table: [(&[Call], &[Row]); 3] = [
+        (&[Call::Format], &first),
+        (&[Call::Wear(1), Call::Format], &in_runs),
+        (&[Call::Format, Call::Format], &again),
+    ];
+    assert_eq!(rt; first_other(rt.alloc(), &table)?, None);
     Ok(())
 }
 
 /// The defect byte of sector 3, which was never formatted, is 64 + 2 * 2,688 + 67 = 5,507.
 #[test]
 fn a_state_byte_or_a_mark_is_one_write_or_none(rt: HostRuntime) -> Result<(), Fail> {
-    let table = [
-        ([Call::Info, Call::Wear(1)], Some(Row::Fill(129, 1, 0xC1))),
-        ([Call::Wear(1), Call::Wear(1)], None),
-        ([Call::Info, Call::Wear(3)], None),
+    let table: [(&[Call], &[Row]); 14] = [
+        (&[Call::Wear(1)], &[Row::Fill(129, 1, CLOSED), Row::Sync]),
+        (&[Call::Wear(1), Call::Wear(1)], &[]),
+        (&[Call::Wear(3)], &[]),
+        (&[Call::Spoil(3)], &[Row::Fill(5_507, 1, 0xBD), Row::Sync]),
+        (&[Call::Spoil(3), Call::Spoil(3)], &[]),
+        (&[Call::Spoil(1)], &[]),
+        (&[Call::Protect(true)], &[Row::Fill(12, 1, 0x5A), Row::Sync]),
+        (&[Call::Protect(true), Call::Protect(true)], &[]),
         (
-            [Call::Info, Call::Spoil(3)],
-            Some(Row::Fill(5_507, 1, 0xBD)),
+            &[Call::Protect(true), Call::Protect(false)],
+            &[Row::Fill(12, 1, 0), Row::Sync],
         ),
-        ([Call::Spoil(3), Call::Spoil(3)], None),
-        ([Call::Info, Call::Spoil(1)], None),
-        (
-            [Call::Info, Call::Protect(true)],
-            Some(Row::Fill(12, 1, 0x5A)),
-        ),
-        ([Call::Protect(true), Call::Protect(true)], None),
-        (
-            [Call::Protect(true), Call::Protect(false)],
-            Some(Row::Fill(12, 1, 0)),
-        ),
-        ([Call::Info, Call::Protect(false)], None),
-        ([Call::Info, Call::Reference], Some(Row::Fill(13, 1, 0x5A))),
-        ([Call::Reference, Call::Reference], None),
-        ([Call::Info, Call::Info], None),
-        ([Call::Info, Call::Read(1)], None),
+        (&[Call::Protect(false)], &[]),
+        (&[Call::Reference], &[Row::Fill(13, 1, 0x5A), Row::Sync]),
+        (&[Call::Reference, Call::Reference], &[]),
+        (&[Call::Info], &[]),
+        (&[Call::Read(1)], &[]),
     ];
-    for (calls, write) in table {
-        assert!(rt; is_of(rt.alloc(), &calls, write)?, "{calls:?}");
-    }
+    assert_eq!(rt; first_other(rt.alloc(), &table)?, None);
     Ok(())
 }
 
@@ -266,10 +255,6 @@ fn a_new_cartridge_is_five_steps_or_four(rt: HostRuntime) -> Result<(), Fail> {
         Row::Fill(0, 1, 0x51),
         Row::Sync,
     ];
-    assert_eq!(rt;
-        rows_of(rt.alloc(), &[Call::Renew])?.as_slice(),
-        rows.as_slice()
-    );
-    assert_eq!(rt; rows_of_first(rt.alloc())?.as_slice(), &rows[2..]);
+    assert!(rt; does(rt.alloc(), &[Call::Renew], &rows)? && first_does(rt.alloc(), &rows[2..])?);
     Ok(())
 }

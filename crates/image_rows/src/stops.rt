@@ -1,29 +1,15 @@
 //! What a write of a sector leaves of the other sectors, whichever of its calls of the disk fails. It is sector 1 of segment
 //! 2, which has the number 65.
 
-ghost use Rattle.std.specs.Prelude.{◌<◌, IfOk};
-ghost use Rattle.qic_base.specs.Disk.{IsSettled};
-ghost use Rattle.qic_mem.specs.Disk.{disk_means};
+ghost use Rattle.std.specs.Prelude.{◌<◌};
 
-use crate::images::{sees_three, written};
+use crate::files::{image, sees_three};
+use crate::sectors::{after_write, held};
 use cart_image::ImageTape;
 use qic_base::{SectorRead, Tape};
 use qic_mem::MemDisk;
 use std::alloc::Global;
 use std::test::Fail;
-
-/// The image after a write of the sector, whose call of the disk with this number has to fail, counted behind the nine
-/// that made the image and looked at its head.
-fn broken(alloc: Global, call: u16) -> Result<MemDisk, Fail>
-    ensures { IfOk result (IsSettled disk_means) }
-{
-    let mut tape = ImageTape::open(written(alloc, [9 + u64::from(call)].to_vec(alloc)?)?);
-    sees_three(&mut tape)?;
-    match tape.write_sector(2, 1, &[0xEE; 1024]) {
-        Err(_) => Ok(tape.into_disk()),
-        Ok(write) => Err(Fail::from(write)),
-    }
-}
 
 /// What a read of a sector finds, and its bytes.
 fn view(
@@ -59,19 +45,19 @@ fn alike(
 }
 
 /// How many sectors two tapes have alike, but for that one.
-fn all_alike(mut one: ImageTape<MemDisk>, mut other: ImageTape<MemDisk>) -> Result<u16, Fail> {
+fn all_alike(one: &mut ImageTape<MemDisk>, other: &mut ImageTape<MemDisk>) -> Result<u16, Fail> {
     let mut count: u16 = 0;
     for segment in 0..84 {
-        count = count.saturating_add(alike(&mut one, &mut other, segment)?);
+        count = count.saturating_add(alike(one, other, segment)?);
     }
     Ok(count)
 }
 
 /// The same of the image before the write and after it.
 fn kept(alloc: Global, call: u16) -> Result<u16, Fail> {
-    let before = ImageTape::open(written(alloc, Vec::new(alloc))?);
-    let after = ImageTape::open(broken(alloc, call)?);
-    all_alike(before, after)
+    let mut before = ImageTape::open(image(alloc, Vec::new(alloc))?);
+    let mut after = ImageTape::open(after_write(held(alloc, call)?, true)?);
+    all_alike(&mut before, &mut after)
 }
 
 /// Three calls look at the sector's bytes in the planes. Then come the closed gate, the bytes and the open gate, each
