@@ -30,17 +30,3 @@ pub fn stamp(
     let seconds = 60 * minutes + u32::from(second);
     Ok((u32::from(year) - 1970) * (1 << 25) + seconds)
 }
-
-#[cfg(test)]
-mod tests {
-    use super::*;
-
-    #[test]
-    fn dates_are_stamped_within_their_ranges(rt: HostRuntime) {
-        assert_eq!(rt; stamp(1994, 3, 1, 12, 0, 0), Ok(0x3052_65C0));
-        assert_eq!(rt; stamp(2097, 12, 31, 23, 59, 59), Ok(0xFFEA_6DFF));
-        assert_eq!(rt; stamp(1994, 3, 32, 12, 0, 0), Err(BadDate));
-        assert_eq!(rt; stamp(1994, 13, 1, 12, 0, 0), Err(BadDate));
-        assert_eq!(rt; stamp(1994, 3, 0, 12, 0, 0), Err(BadDate));
-    }
-}

@@ -55,24 +55,3 @@ pub fn write_u64(bytes: &mut [u8], at: usize, value: u64)
 {
     LittleEndian::write_u64(&mut bytes[at..at + 8], value);
 }
-
-#[cfg(test)]
-mod tests {
-    use super::*;
-
-    #[test]
-    fn a_table_slot_is_written_and_read(rt: HostRuntime) {
-        let mut slot = [0xAAu8; 18];
-        write_u16(&mut slot, 1, 83);
-        write_u32(&mut slot, 4, 0x3052_65C0);
-        write_u64(&mut slot, 9, 2_405_376);
-        let want = [
-            0xAA, 0x53, 0x00, 0xAA, 0xC0, 0x65, 0x52, 0x30, 0xAA, 0x00, 0xB4, 0x24, 0x00, 0x00,
-            0x00, 0x00, 0x00, 0xAA,
-        ];
-        assert_eq!(rt; slot, want);
-        assert_eq!(rt; read_u16(&slot, 1), 83);
-        assert_eq!(rt; read_u32(&slot, 4), 0x3052_65C0);
-        assert_eq!(rt; read_u64(&slot, 9), 2_405_376);
-    }
-}

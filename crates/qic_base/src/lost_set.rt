@@ -53,29 +53,3 @@ impl LostSet {
         self.bits.count_ones() as u8
     }
 }
-
-#[cfg(test)]
-mod tests {
-    use super::*;
-
-    #[test]
-    fn a_mask_names_its_places(rt: HostRuntime) {
-        let lost = LostSet::from_mask(0x8000_0021);
-        assert_eq!(rt; lost.mask(), 0x8000_0021);
-        assert_eq!(rt; lost.count(), 3);
-        for (place, want) in [
-            (0, true),
-            (1, false),
-            (5, true),
-            (30, false),
-            (31, true),
-            (32, false),
-            (37, false),
-            (255, false),
-        ] {
-            assert_eq!(rt; lost.contains(place), want, "at {place}");
-        }
-        assert_eq!(rt; LostSet::from_mask(0).count(), 0);
-        assert_eq!(rt; LostSet::from_mask(u32::MAX).count(), 32);
-    }
-}

@@ -60,38 +60,3 @@ impl Name {
         &self.text
     }
 }
-
-#[cfg(test)]
-mod tests {
-    use super::*;
-
-    #[test]
-    fn a_name_keeps_its_bytes(rt: HostRuntime) {
-        let mut bytes = [b' '; 44];
-        bytes[0] = 0;
-        bytes[43] = 0xFF;
-        let name = Name::from_bytes(&bytes);
-        assert_eq!(rt; *name.bytes(), bytes);
-        assert_ne!(rt; name, Name::from_bytes(&[b' '; 44]));
-    }
-
-    #[test]
-    fn a_name_is_made_from_text(rt: HostRuntime) {
-        let mut evening = [b' '; 44];
-        evening[..8].copy_from_slice(b"made - 1");
-        assert_eq!(rt;
-            Name::from_text(b"made - 1"),
-            Some(Name::from_bytes(&evening))
-        );
-        assert_eq!(rt;
-            Name::from_text(&[b'~'; 44]),
-            Some(Name::from_bytes(&[b'~'; 44]))
-        );
-        assert_eq!(rt; Name::from_text(&[b'~'; 45]), None);
-        assert_eq!(rt; Name::from_text(b""), None);
-        assert_eq!(rt; Name::from_text(b" a"), None);
-        assert_eq!(rt; Name::from_text(b"a "), None);
-        assert_eq!(rt; Name::from_text(&[b'a', 0x1F, b'a']), None);
-        assert_eq!(rt; Name::from_text(&[b'a', 0x7F, b'a']), None);
-    }
-}

@@ -3,7 +3,5 @@
 
 mod filling;
 mod flat;
-#[cfg(test)]
-mod tests;
 
 pub use filling::fill_sectors;

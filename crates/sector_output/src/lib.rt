@@ -2,7 +2,5 @@
 #![tactic(auto)]
 
 mod output;
-#[cfg(test)]
-mod tests;
 
 pub use output::write_bytes;

@@ -85,7 +85,7 @@ impl Sectors {
         ensures formatted { self.new.views.items ≡ changed_from self.old.views.items first formatted_view }
         ensures len { length self.new.views.items ≡ length self.old.views.items }
     {
-        format_views(&mut self.views[first..first + 32]);
+        format_from(&mut self.views, first);
     }
 
     /// Makes each readable one of the 32 sectors from the first on unreadable.
@@ -94,7 +94,7 @@ impl Sectors {
         ensures worn { self.new.views.items ≡ changed_from self.old.views.items first worn_view }
         ensures len { length self.new.views.items ≡ length self.old.views.items }
     {
-        wear_views(&mut self.views[first..first + 32]);
+        wear_from(&mut self.views, first);
     }
 
     /// Makes the first `count` sectors new ones.
@@ -164,6 +164,16 @@ fn spoil_view(view: &mut SectorView)
     }
 }
 
+/// Formats the 32 sectors from a place on.
+fn format_from(views: &mut [SectorView], first: usize)
+    requires { first + 32 ≤ length views.old }
+    ensures formatted { views.new ≡ changed_from views.old first formatted_view }
+    ensures len { length views.new ≡ length views.old }
+    ensures whole { All IsView views.old → All IsView views.new }
+{
+    format_views(&mut views[first..first + 32]);
+}
+
 /// Formats sectors.
 fn format_views(views: &mut [SectorView])
     ensures formatted { views.new ≡ map formatted_view views.old }
@@ -192,6 +202,16 @@ fn zero_view() -> SectorView
     ensures whole { IsView result }
 {
     holding(&[0; 1024])
+}
+
+/// Makes each readable one of the 32 sectors from a place on unreadable.
+fn wear_from(views: &mut [SectorView], first: usize)
+    requires { first + 32 ≤ length views.old }
+    ensures worn { views.new ≡ changed_from views.old first worn_view }
+    ensures len { length views.new ≡ length views.old }
+    ensures whole { All IsView views.old → All IsView views.new }
+{
+    wear_views(&mut views[first..first + 32]);
 }
 
 /// Makes sectors unreadable, where they hold bytes.
