@@ -1,10 +1,14 @@
 -- How a run of the program ends (this project's own).
-use Rattle.std.specs.Prelude.{◌≡◌, ℕ, List}
+use Rattle.std.specs.Prelude.{◌≡◌, ℕ, List, Result, Ok, Err}
 use Rattle.qic_base.specs.Sink as sinks
 use Rattle.qic_base.specs.Source as sources
+use Rattle.pulse_dialogue.specs.declared.fault.TraceFault.{TraceFault as Fault}
+use Rattle.pulse_dialogue.specs.declared.fault.TraceFault.TheVariants as fault
 use Rattle.pulse_dialogue.specs.Lines.{AtEnd, AtFault}
 use Rattle.pulse_dialogue.specs.Runs.{Streams, Ended, Unread, Unwritten}
 use Rattle.trace_words.specs.Words.{HasGap, IsRefused}
+use Rattle.trace_words.specs.declared.gap.BadWords.{BadWords}
+use Rattle.trace_words.specs.declared.gap.BadWords.TheVariants as bad
 use Rattle.pulse_trace.specs.declared.status.TraceStatus.{TraceStatus}
 use Rattle.pulse_trace.specs.declared.status.TraceStatus.TheVariants.{Done, Usage, TraceFault, SourceFault, SinkFault, NoMemory}
 
@@ -16,6 +20,18 @@ status_code (TraceFault line place) = 3
 status_code SourceFault = 16
 status_code SinkFault = 17
 status_code NoMemory = 19
+
+-- the status of a run whose telling ended so
+abbrev pub status_told : Result (Unit {0}) Fault → TraceStatus
+status_told (Ok done) = Done
+status_told (Err (fault.Line line place)) = TraceFault line place
+status_told (Err fault.Source) = SourceFault
+status_told (Err fault.Sink) = SinkFault
+
+-- the status of a run whose words gave no gap
+abbrev pub status_refused : BadWords → TraceStatus
+status_refused bad.Refused = Usage
+status_refused bad.NoMemory = NoMemory
 
 -- with the gap that the words give
 abbrev pub WithGap : List (List ℕ) → (ℕ → Type 0) → Type 0

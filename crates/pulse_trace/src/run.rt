@@ -2,13 +2,35 @@
 
 ghost use Rattle.std.specs.Prelude.{◌≡◌, ◌≤◌, map, string_bytes};
 ghost use Rattle.qic_base.specs.Cause.{Rose};
-ghost use Rattle.pulse_trace.specs.Runs.{Runs};
+ghost use Rattle.pulse_trace.specs.Runs.{Runs, status_told, status_refused};
 
 use crate::status::TraceStatus;
 use pulse_dialogue::{TraceFault, tell_recording};
 use qic_base::{Sink, Source};
 use std::alloc::Global;
 use trace_words::{BadWords, read_gap};
+
+/// The status of a run whose telling ended so.
+fn told(answer: Result<(), TraceFault>) -> TraceStatus
+    ensures { result ≡ status_told answer }
+{
+    match answer {
+        Ok(()) => TraceStatus::Done,
+        Err(TraceFault::Line { line, place }) => TraceStatus::TraceFault { line, place },
+        Err(TraceFault::Source) => TraceStatus::SourceFault,
+        Err(TraceFault::Sink) => TraceStatus::SinkFault,
+    }
+}
+
+/// The status of a run whose words gave no gap.
+fn refused(bad: BadWords) -> TraceStatus
+    ensures { result ≡ status_refused bad }
+{
+    match bad {
+        BadWords::Refused => TraceStatus::Usage,
+        BadWords::NoMemory => TraceStatus::NoMemory,
+    }
+}
 
 /// Reads the words of the command line, the program's name the first of them, and then the recording of the source,
 /// whose dialogue it writes to the sink. Memory is taken for the words, before the first call of the source or the
@@ -37,13 +59,7 @@ pub fn run_trace<S: Source, K: Sink>(
     ensures kept { S.means.keeps source.old source.new }
 {
     match read_gap(alloc, words) {
-        Ok(gap) => match tell_recording(gap, source, sink) {
-            Ok(()) => TraceStatus::Done,
-            Err(TraceFault::Line { line, place }) => TraceStatus::TraceFault { line, place },
-            Err(TraceFault::Source) => TraceStatus::SourceFault,
-            Err(TraceFault::Sink) => TraceStatus::SinkFault,
-        },
-        Err(BadWords::Refused) => TraceStatus::Usage,
-        Err(BadWords::NoMemory) => TraceStatus::NoMemory,
+        Ok(gap) => told(tell_recording(gap, source, sink)),
+        Err(bad) => refused(bad),
     }
 }

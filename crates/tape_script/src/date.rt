@@ -32,13 +32,28 @@ fn read_pair_at(word: &[u8], at: usize) -> Option<u8>
     read_pair(word[at], word[at + 1])
 }
 
+fn has_dashes(word: &[u8]) -> bool
+    requires { 8 ≤ length word.now }
+    ensures { IsTrue result ↔ ((slice_index word.now 4 ≡ 45) × (slice_index word.now 7 ≡ 45)) }
+{
+    word[4] == b'-' && word[7] == b'-'
+}
+
+fn has_time_marks(word: &[u8]) -> bool
+    requires { 17 ≤ length word.now }
+    ensures { IsTrue result ↔ ((slice_index word.now 10 ≡ 84) × (slice_index word.now 13 ≡ 58)
+        × (slice_index word.now 16 ≡ 58)) }
+{
+    word[10] == b'T' && word[13] == b':' && word[16] == b':'
+}
+
 fn is_parted(word: &[u8]) -> bool
     requires { 17 ≤ length word.now }
     ensures { IsTrue result ↔ ((slice_index word.now 4 ≡ 45) × (slice_index word.now 7 ≡ 45)
         × (slice_index word.now 10 ≡ 84) × (slice_index word.now 13 ≡ 58)
         × (slice_index word.now 16 ≡ 58)) }
 {
-    word[4] == b'-' && word[7] == b'-' && word[10] == b'T' && word[13] == b':' && word[16] == b':'
+    has_dashes(word) && has_time_marks(word)
 }
 
 /// The date word of the date that the word is, if it is one.
