@@ -74,34 +74,3 @@ fn mask(a: u8) -> u8
 {
     0u8.wrapping_sub(a & 1)
 }
-
-#[cfg(test)]
-mod tests {
-    use super::*;
-
-    #[test]
-    fn field_has_its_known_values(rt: HostRuntime) {
-        assert_eq!(rt; mul(0xC0, 0xC0), 0xA7);
-        assert_eq!(rt; mul(0x80, 0x02), 0x87);
-        assert_eq!(rt; pow(0x02, 8), 0x87);
-        assert_eq!(rt; pow(0x02, 255), 0x01);
-        assert_eq!(rt; pow(0x05, 0), 0x01);
-        assert_eq!(rt; inv(0x02), 0xC3);
-        assert_eq!(rt; inv(0x01), 0x01);
-        assert_eq!(rt; mul_by_shifts(0xC0, 0xC0), 0xA7);
-        assert_eq!(rt; times_x(0x80), 0x87);
-        assert_eq!(rt; over_x(0x01), 0xC3);
-    }
-
-    #[test]
-    fn generator_is_a_codeword(rt: HostRuntime) {
-        let column = [0x01, 0xC0, 0xC0, 0x01];
-        for root in [0xC3, 0x01, 0x02] {
-            let mut value = 0;
-            for byte in &column {
-                value = mul(value, root) ^ *byte;
-            }
-            assert_eq!(rt; value, 0, "at {root}");
-        }
-    }
-}

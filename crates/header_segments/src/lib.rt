@@ -6,8 +6,6 @@ mod fields;
 mod header;
 pub mod laws;
 mod reading;
-#[cfg(test)]
-mod tests;
 mod writing;
 
 pub use fault::HeaderFault;

@@ -164,37 +164,3 @@ fn times_0xc0(a: u8) -> u8
 {
     times_x(a) ^ a ^ over_x(a)
 }
-
-#[cfg(test)]
-mod tests {
-    use super::*;
-
-    #[test]
-    fn one_sector_gives_the_generator(rt: HostRuntime) {
-        let mut sector = [0; SECTOR];
-        sector[700] = 0x01;
-        let mut parity = Parity::new();
-        assert_eq!(rt; parity.count(), 0);
-        parity.push(&sector);
-        assert_eq!(rt; parity.count(), 1);
-        let [high, middle, low] = parity.finish();
-        assert_eq!(rt; [high[700], middle[700], low[700]], [0xC0, 0xC0, 0x01]);
-        assert_eq!(rt; [high[699], middle[699], low[699]], [0; 3]);
-    }
-
-    #[test]
-    fn a_second_sector_shifts_the_first(rt: HostRuntime) {
-        let mut parity = Parity::new();
-        parity.push(&[0x01; SECTOR]);
-        let [high, middle, low] = parity.so_far();
-        assert_eq!(rt; [high[0], middle[0], low[0]], [0xC0, 0xC0, 0x01]);
-        parity.push(&[0x00; SECTOR]);
-        let [high, middle, low] = parity.so_far();
-        assert_eq!(rt; [high[9], middle[9], low[9]], [0x67, 0xA6, 0xC0]);
-        let [high, middle, low] = parity.finish();
-        assert_eq!(rt; [high[0], middle[0], low[0]], [0x67, 0xA6, 0xC0]);
-        assert_eq!(rt; [high[1023], middle[1023], low[1023]], [0x67, 0xA6, 0xC0]);
-        let [high, middle, low] = parity_of(&[[0x01; SECTOR], [0x00; SECTOR]]);
-        assert_eq!(rt; [high[9], middle[9], low[9]], [0x67, 0xA6, 0xC0]);
-    }
-}

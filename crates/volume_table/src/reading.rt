@@ -52,23 +52,3 @@ impl Table {
         }
     }
 }
-
-#[cfg(test)]
-mod tests {
-    use super::*;
-
-    #[test]
-    fn unreadable_sectors_decide_the_reading(rt: HostRuntime) {
-        for (mask, want) in [
-            (0, TableReading::AsRead),
-            (0xE000_0000, TableReading::AsRead),
-            (0x1000_0000, TableReading::Solve),
-            (0x8000_0021, TableReading::Solve),
-            (0xE000_0001, TableReading::TooMany { lost: 4 }),
-            (u32::MAX, TableReading::TooMany { lost: 32 }),
-        ] {
-            let lost = LostSet::from_mask(mask);
-            assert_eq!(rt; Table::reading(lost), want, "at {mask}");
-        }
-    }
-}

@@ -1,0 +1,19 @@
+//! Worked values of the formats and of the code, as tests: a module for each library that has them.
+#![tactic(auto)]
+
+#[cfg(test)]
+mod addresses;
+#[cfg(test)]
+mod field;
+#[cfg(test)]
+mod headers;
+#[cfg(test)]
+mod locating;
+#[cfg(test)]
+mod maps;
+#[cfg(test)]
+mod parity;
+#[cfg(test)]
+mod solving;
+#[cfg(test)]
+mod tables;
