@@ -1,6 +1,7 @@
 -- Where the head stands on its way over the segments of a track.
-use Rattle.std.proofs.Common.{◌≡◌, ℕ, ◌+◌, ◌*◌, ◌%◌, ◌<◌, ◌≤◌, Bool, true, false, if◌then◌else◌, min, refl, sym, ◌∙◌, ap, arith, Option, Some, None, IsSomeAnd}
+use Rattle.std.proofs.Common.{◌≡◌, ℕ, ◌+◌, ◌*◌, ◌%◌, ◌<◌, ◌≤◌, Bool, true, false, if◌then◌else◌, min, refl, sym, ◌∙◌, ap, subst, arith, Option, Some, None, IsSomeAnd}
 use Rattle.std.specs.Option.{option_map_or}
+use Rattle.std.proofs.Math.Nat.{mul-le-mul_right}
 use Rattle.std.proofs.lemmas.Nat.{mod-mul-add}
 use Rattle.qic_base.specs.Tape.{Meaning}
 use Rattle.qic_base.specs.declared.tape.TapeInfo.{TapeInfo}
@@ -63,6 +64,26 @@ before_first n first d some at = record {
   streams = λ within. record { motion = at.motion; here = let same : first + 0 ≡ first = omega arith in same ∙ at.here };
   stops = λ past. absurd (omega arith);
 }
+
+-- a segment of a track lies on the tape
+pub segment_within : (track offset count long n : ℕ) → count ≡ n → offset < count → track < 28 → long ≡ 28 * n → track * count + offset < long
+segment_within track offset count long n same within on_tape size =
+    let next : track + 1 ≤ 28 = omega arith in
+    let most : (track + 1) * count ≤ 28 * count = mul-le-mul_right count next in
+    let all : long ≡ 28 * count = size ∙ ap (λ (k : ℕ). 28 * k) (sym same) in
+    omega arith
+
+-- and so does the first one, ..
+pub first_within : (track count n : ℕ) → count ≡ n → 0 < count → track < 28 → track * count < 28 * n
+first_within track count n same some on_tape =
+    let here : track * count + 0 < 28 * n = segment_within track 0 count (28 * n) n same some on_tape refl in
+    omega arith
+
+-- .. which no other one comes before
+pub none_before : (track count n : ℕ) → count ≡ n → 0 < count → (track * count) % n ≡ 0
+none_before track count n same some =
+    let here : track * count ≡ track * count + 0 = omega arith in
+    subst (λ (k : ℕ). (track * count) % k ≡ 0) same (ap (λ (s : ℕ). s % count) here ∙ mod-mul-add track count 0 some)
 
 pub streaming_under : (segment index : ℕ) (d : Deck) → IsUnder d segment index → is_streaming d.motion ≡ true
 streaming_under segment index d under = by_motion d.motion under.streams

@@ -29,7 +29,6 @@ use tape_geometry::Geometry;
 const DATA_SECTORS: usize = 29;
 
 /// Writes both header copies of a cartridge that was just formatted, copy 0 first.
-#[tactic(auto, using(crate::proofs::Copies::lent_room))]
 pub(crate) fn write_header<T: Tape>(
     host: &mut Host,
     unit: &mut Unit<T>,

@@ -47,7 +47,6 @@ pub(crate) fn mark_all<T: Tape>(
 }
 
 /// Marks the unreadable sectors of all tracks.
-#[tactic(auto, using(qic_base::proofs::Steps::joins))]
 fn mark_tracks<T: Tape>(
     host: &mut Host,
     unit: &mut Unit<T>,
@@ -75,7 +74,6 @@ fn mark_tracks<T: Tape>(
 }
 
 /// Marks the unreadable sectors of a track.
-#[tactic(auto, using(qic_base::proofs::Steps::joins))]
 fn mark_track<T: Tape>(
     host: &mut Host,
     unit: &mut Unit<T>,
@@ -109,7 +107,6 @@ fn mark_track<T: Tape>(
 }
 
 /// Marks the unreadable sectors of the segment in which the tape streams.
-#[tactic(auto, using(qic_base::proofs::Steps::joins))]
 fn mark_segment<T: Tape>(
     host: &mut Host,
     unit: &mut Unit<T>,

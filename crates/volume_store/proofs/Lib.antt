@@ -8,6 +8,7 @@ pub mod Ending
 pub mod Fitting
 pub mod Mending
 pub mod Mounts
+pub mod Passing
 pub mod Restored
 pub mod Scrubs
 pub mod Settled

@@ -1,13 +1,14 @@
-use Rattle.std.proofs.Common.{◌≡◌, ℕ, ◌+◌, ◌*◌, ◌<◌, ◌≤◌, true, [], subst, sym, ◌∙◌, refl, arith}
+use Rattle.std.proofs.Common.{◌≡◌, ℕ, ◌+◌, ◌*◌, ◌<◌, ◌≤◌, true, [], length, subst, sym, ap, ◌∙◌, refl, arith}
+use Rattle.std.proofs.lemmas.Result.{err_from_is_err_and}
 use Rattle.qic_base.specs.Tape.{Done, Tells}
-use Rattle.qic_base.proofs.Steps.{Done-after_reads, Tells-read}
+use Rattle.qic_base.proofs.Steps.{Done-after_reads, Broke-after_reads, Tells-read}
 use Rattle.drive_states.specs.Deck.{segments_per_track, is_streaming}
 use Rattle.drive_states.specs.Reach.{reads_in, segment_of}
 use Rattle.host_driver.proofs.Keeping.{keeps_both, mode_kept}
-use Rattle.segment_io.proofs.Going.{done_moved, tells_always}
+use Rattle.segment_io.proofs.Going.{done_moved, tells_always, under_first}
 use Rattle.formatter.specs.Marking.{MarksBelow}
 use Rattle.formatter.proofs.Marks.{tells_chain}
-use Rattle.formatter.proofs.Places.{length_known, length_kept, before_first, before_next, streaming_under}
+use Rattle.formatter.proofs.Places.{length_known, length_kept, before_first, before_next, streaming_under, segment_within, first_within, none_before}
 use Rattle.formatter.proofs.marking.mark_track.Goals as goal
 
 pub loop-offset-init : goal.loop-offset-init
@@ -59,3 +60,93 @@ loop-offset-preserved g c =
       mode = mode_kept reads_in true c.args.unit.now.drive.deck c.next_segment.new.unit.drive.deck (keeps_both both idle.keeps).same c.requires.mode;
       keeps = keeps_both both idle.keeps;
     }
+
+pub go_to-requires-clause-on_tape : goal.go_to-requires-clause-on_tape
+go_to-requires-clause-on_tape g c =
+    let count : c.from-count.result ≡ segments_per_track c.args.unit.now.drive.deck =
+    c.from-count.ensures ∙ c.segments_per_track.ensures.value ∙ c.geometry.ensures ∙ length_known c.requires.ready.fits in
+    let some : 0 < c.from-count.result = omega (arith, c.segments_per_track.ensures.length.shortest, c.from-count.ensures) in
+    first_within c.args.track c.from-count.result (segments_per_track c.args.unit.now.drive.deck) count some c.requires.track
+
+pub go_to-requires-clause-first : goal.go_to-requires-clause-first
+go_to-requires-clause-first g c = λ formats.
+    let count : c.from-count.result ≡ segments_per_track c.args.unit.now.drive.deck =
+    c.from-count.ensures ∙ c.segments_per_track.ensures.value ∙ c.geometry.ensures ∙ length_known c.requires.ready.fits in
+    let some : 0 < c.from-count.result = omega (arith, c.segments_per_track.ensures.length.shortest, c.from-count.ensures) in
+    none_before c.args.track c.from-count.result (segments_per_track c.args.unit.now.drive.deck) count some
+
+pub returns-in_err-go_to : goal.returns-in_err-go_to
+returns-in_err-go_to g c = let no = c.in_err-go_to.ensures.ok in absurd (cc)
+
+pub mark_segment-requires-clause-ready : goal.mark_segment-requires-clause-ready
+mark_segment-requires-clause-ready g c = c.loop-offset.invariant.keeps.ready
+
+pub mark_segment-requires-clause-mode : goal.mark_segment-requires-clause-mode
+mark_segment-requires-clause-mode g c = c.loop-offset.invariant.mode
+
+pub mark_segment-requires-clause-under : goal.mark_segment-requires-clause-under
+mark_segment-requires-clause-under g c =
+    under_first (c.args.track * c.from-count.result + c.loop-offset.offset) c.loop-offset.unit.drive.deck
+    (c.loop-offset.invariant.before.streams c.loop-offset-test.true)
+
+pub mark_segment-requires-clause-segment : goal.mark_segment-requires-clause-segment
+mark_segment-requires-clause-segment g c =
+    let count : c.from-count.result ≡ segments_per_track c.args.unit.now.drive.deck =
+    c.from-count.ensures ∙ c.segments_per_track.ensures.value ∙ c.geometry.ensures ∙ length_known c.requires.ready.fits in
+    segment_within c.args.track c.loop-offset.offset c.from-count.result (length c.loop-offset.map) (segments_per_track c.args.unit.now.drive.deck)
+    count c.loop-offset-test.true c.requires.track (c.loop-offset.invariant.words ∙ c.requires.words)
+
+pub mark_segment-requires-clause-room : goal.mark_segment-requires-clause-room
+mark_segment-requires-clause-room g c = omega (arith, c.loop-offset.invariant.room, c.requires.room)
+
+pub returns-in_err-next_segment : goal.returns-in_err-next_segment
+returns-in_err-next_segment g c = let no = c.in_err-next_segment.ensures.ok in absurd (cc)
+
+pub returns-in_err-mark_segment-clause-did : goal.returns-in_err-mark_segment-clause-did
+returns-in_err-mark_segment-clause-did g c =
+    let p = err_from_is_err_and c.from_residual-in_err-mark_segment.result c.from_residual-in_err-mark_segment.ensures.1 in
+    rw p.1 (Broke-after_reads c.loop-offset.invariant.read c.in_err-mark_segment.ensures.did)
+
+pub returns-in_err-mark_segment-clause-fault : goal.returns-in_err-mark_segment-clause-fault
+returns-in_err-mark_segment-clause-fault g c =
+    let p = err_from_is_err_and c.from_residual-in_err-mark_segment.result c.from_residual-in_err-mark_segment.ensures.1 in
+    rw p.1 (p.2 ∙ c.in_err-mark_segment.ensures.fault)
+
+pub returns-in_err-mark_segment-clause-marks : goal.returns-in_err-mark_segment-clause-marks
+returns-in_err-mark_segment-clause-marks g c =
+    let p = err_from_is_err_and c.from_residual-in_err-mark_segment.result c.from_residual-in_err-mark_segment.ensures.1 in
+    rw p.1 tt
+
+pub returns-in_err-mark_segment-clause-stopped : goal.returns-in_err-mark_segment-clause-stopped
+returns-in_err-mark_segment-clause-stopped g c =
+    let p = err_from_is_err_and c.from_residual-in_err-mark_segment.result c.from_residual-in_err-mark_segment.ensures.1 in
+    rw p.1 tt
+
+pub returns-in_err-mark_segment-clause-words : goal.returns-in_err-mark_segment-clause-words
+returns-in_err-mark_segment-clause-words g c = c.in_err-mark_segment.ensures.words ∙ c.loop-offset.invariant.words
+
+pub returns-in_err-mark_segment-clause-keeps : goal.returns-in_err-mark_segment-clause-keeps
+returns-in_err-mark_segment-clause-keeps g c = keeps_both c.loop-offset.invariant.keeps c.in_err-mark_segment.ensures.keeps
+
+pub returns-clause-did : goal.returns-clause-did
+returns-clause-did g c = c.loop-offset.invariant.read
+
+pub returns-clause-marks : goal.returns-clause-marks
+returns-clause-marks g c =
+    let n : ℕ = c.from-count.result in
+    let count : c.from-count.result ≡ segments_per_track c.args.unit.now.drive.deck =
+    c.from-count.ensures ∙ c.segments_per_track.ensures.value ∙ c.geometry.ensures ∙ length_known c.requires.ready.fits in
+    let all : c.loop-offset.offset ≡ n = omega arith in
+    let next : 32 * (c.args.track * n + c.loop-offset.offset) ≡ 32 * ((c.args.track + 1) * n) = omega arith in
+    subst (λ (k : ℕ). Tells g.T.Tape.means c.args.unit.now.tape (λ d. MarksBelow d c.args.map.now (32 * (c.args.track * k)) → MarksBelow d c.loop-offset.map (32 * ((c.args.track + 1) * k)))) count
+    (subst (λ (k : ℕ). Tells g.T.Tape.means c.args.unit.now.tape (λ d. MarksBelow d c.args.map.now (32 * (c.args.track * n)) → MarksBelow d c.loop-offset.map k)) next
+    c.loop-offset.invariant.marks)
+
+pub returns-clause-words : goal.returns-clause-words
+returns-clause-words g c = c.loop-offset.invariant.words
+
+pub returns-clause-stopped : goal.returns-clause-stopped
+returns-clause-stopped g c = c.loop-offset.invariant.before.stops c.loop-offset-test.false
+
+pub returns-clause-keeps : goal.returns-clause-keeps
+returns-clause-keeps g c = c.loop-offset.invariant.keeps

@@ -1,9 +1,10 @@
-use Rattle.std.proofs.Common.{◌≡◌, ℕ, ◌+◌, ◌*◌, true, subst, ◌∙◌, refl, arith}
+use Rattle.std.proofs.Common.{◌≡◌, ℕ, ◌+◌, ◌*◌, true, length, subst, sym, ap, ◌∙◌, refl, arith}
+use Rattle.std.proofs.lemmas.Result.{err_from_is_err_and}
 use Rattle.qic_base.specs.Tape.{Tells}
-use Rattle.qic_base.proofs.Steps.{Done-after_reads, Done-nothing, Tells-read}
+use Rattle.qic_base.proofs.Steps.{Done-after_reads, Broke-after_reads, Done-nothing, Tells-read}
 use Rattle.drive_states.specs.Deck.{segments_per_track}
 use Rattle.drive_states.specs.Reach.{reads_in}
-use Rattle.host_driver.proofs.Keeping.{keeps_none, keeps_both, mode_kept}
+use Rattle.host_driver.proofs.Keeping.{keeps_none, keeps_both, mode_kept, cartridge_kept}
 use Rattle.segment_io.proofs.Going.{tells_always}
 use Rattle.formatter.specs.Marking.{MarksBelow}
 use Rattle.formatter.proofs.Marks.{tells_chain}
@@ -44,3 +45,68 @@ loop-track-preserved g c =
       mode = mode_kept reads_in true c.loop-track.unit.drive.deck c.mark_track.new.unit.drive.deck more.keeps.same before.mode;
       keeps = keeps_both before.keeps more.keeps;
     }
+
+pub mark_track-requires-clause-ready : goal.mark_track-requires-clause-ready
+mark_track-requires-clause-ready g c = c.loop-track.invariant.keeps.ready
+
+pub mark_track-requires-clause-mode : goal.mark_track-requires-clause-mode
+mark_track-requires-clause-mode g c = c.loop-track.invariant.mode
+
+pub mark_track-requires-clause-referenced : goal.mark_track-requires-clause-referenced
+mark_track-requires-clause-referenced g c =
+    cartridge_kept (λ info. info.referenced) true c.args.unit.now.drive.deck c.loop-track.unit.drive.deck c.loop-track.invariant.keeps.same c.requires.referenced
+
+pub mark_track-requires-clause-words : goal.mark_track-requires-clause-words
+mark_track-requires-clause-words g c =
+    c.loop-track.invariant.words ∙ c.requires.words
+    ∙ ap (λ (k : ℕ). 28 * k) (sym (length_kept c.args.unit.now.drive.deck c.loop-track.unit.drive.deck c.loop-track.invariant.keeps.same.cartridge))
+
+pub mark_track-requires-clause-room : goal.mark_track-requires-clause-room
+mark_track-requires-clause-room g c = omega (arith, c.loop-track.invariant.room, c.requires.room)
+
+pub returns-in_err-mark_track-clause-did : goal.returns-in_err-mark_track-clause-did
+returns-in_err-mark_track-clause-did g c =
+    let p = err_from_is_err_and c.from_residual.result c.from_residual.ensures.1 in
+    rw p.1 (Broke-after_reads c.loop-track.invariant.read c.in_err-mark_track.ensures.did)
+
+pub returns-in_err-mark_track-clause-fault : goal.returns-in_err-mark_track-clause-fault
+returns-in_err-mark_track-clause-fault g c =
+    let p = err_from_is_err_and c.from_residual.result c.from_residual.ensures.1 in
+    rw p.1 (p.2 ∙ c.in_err-mark_track.ensures.fault)
+
+pub returns-in_err-mark_track-clause-marks : goal.returns-in_err-mark_track-clause-marks
+returns-in_err-mark_track-clause-marks g c =
+    let p = err_from_is_err_and c.from_residual.result c.from_residual.ensures.1 in
+    rw p.1 tt
+
+pub returns-in_err-mark_track-clause-stopped : goal.returns-in_err-mark_track-clause-stopped
+returns-in_err-mark_track-clause-stopped g c =
+    let p = err_from_is_err_and c.from_residual.result c.from_residual.ensures.1 in
+    rw p.1 tt
+
+pub returns-in_err-mark_track-clause-words : goal.returns-in_err-mark_track-clause-words
+returns-in_err-mark_track-clause-words g c = c.in_err-mark_track.ensures.words ∙ c.loop-track.invariant.words
+
+pub returns-in_err-mark_track-clause-keeps : goal.returns-in_err-mark_track-clause-keeps
+returns-in_err-mark_track-clause-keeps g c = keeps_both c.loop-track.invariant.keeps c.in_err-mark_track.ensures.keeps
+
+pub returns-clause-did : goal.returns-clause-did
+returns-clause-did g c = c.loop-track.invariant.read
+
+pub returns-clause-marks : goal.returns-clause-marks
+returns-clause-marks g c =
+    let n : ℕ = segments_per_track c.args.unit.now.drive.deck in
+    let all : c.loop-track.track ≡ 28 = omega arith in
+    let whole : 32 * (c.loop-track.track * n) ≡ 32 * length c.args.map.now =
+    ap (λ (k : ℕ). 32 * (k * n)) all ∙ ap (λ (k : ℕ). 32 * k) (sym c.requires.words) in
+    subst (λ (k : ℕ). Tells g.T.Tape.means c.args.unit.now.tape (λ d. MarksBelow d c.args.map.now 0 → MarksBelow d c.loop-track.map k)) whole
+    c.loop-track.invariant.marks
+
+pub returns-clause-words : goal.returns-clause-words
+returns-clause-words g c = c.loop-track.invariant.words
+
+pub returns-clause-stopped : goal.returns-clause-stopped
+returns-clause-stopped g c = c.loop-track.invariant.stopped
+
+pub returns-clause-keeps : goal.returns-clause-keeps
+returns-clause-keeps g c = c.loop-track.invariant.keeps

@@ -1,5 +1,4 @@
 use Rattle.std.proofs.Common.{◌≡◌, [], ◌∷◌, true, arith, Err}
-use Rattle.std.proofs.lemmas.Grind.{common_steps}
 use Rattle.acts.specs.Around.{around}
 use Rattle.scrub_plan.specs.Scrubbing.{whole_segment}
 use Rattle.host_driver.proofs.Keeping.{cartridge_kept}
@@ -8,6 +7,7 @@ use Rattle.segment_mending.specs.declared.fault.ScrubFault.{ScrubFault}
 use Rattle.segment_mending.specs.Looking.{HasLooked, Looks}
 use Rattle.segment_mending.specs.Mending.{reported}
 use Rattle.segment_mending.proofs.Joining.{looked_both, looks_then, looks_longer}
+use Rattle.segment_mending.proofs.Passing.{passed}
 use Rattle.segment_mending.proofs.scrubbing.look_at_front.Goals as goal
 
 pub look_at_segment-requires-clause-segment : goal.look_at_segment-requires-clause-segment
@@ -25,7 +25,7 @@ returns-in_err-look_at_copy-clause-looks g c =
     let b = around c.look_at_copy.new.unit.tape c.look_at_copy.new.sink in
     let after = reported c.look_at_copy.new.report in
     let fault : ScrubFault = c.in_err-look_at_copy.field-0.0 in
-    let is : c.from_residual.result ≡ Err fault = grind (arith, common_steps, c.from_residual.ensures) in
+    let is : c.from_residual.result ≡ Err fault = passed c.from_residual.result fault c.from_residual.ensures.1 in
     rw is (looks_longer g.T.Tape.means g.K.Sink.means (whole_segment 0 ∷ []) (whole_segment 1 ∷ whole_segment 2 ∷ []) a b (reported c.args.report.now) after after fault
     c.in_err-look_at_copy.ensures.looks)
 
@@ -36,7 +36,7 @@ returns-in_err-look_at_copy-2-clause-looks g c =
     let d = around c.look_at_copy-2.new.unit.tape c.look_at_copy-2.new.sink in
     let after = reported c.look_at_copy-2.new.report in
     let fault : ScrubFault = c.in_err-look_at_copy-2.field-0.0 in
-    let is : c.from_residual-in_err-look_at_copy-2.result ≡ Err fault = grind (arith, common_steps, c.from_residual-in_err-look_at_copy-2.ensures) in
+    let is : c.from_residual-in_err-look_at_copy-2.result ≡ Err fault = passed c.from_residual-in_err-look_at_copy-2.result fault c.from_residual-in_err-look_at_copy-2.ensures.1 in
     let front : Looks g.T.Tape.means g.K.Sink.means (whole_segment 0 ∷ whole_segment 1 ∷ []) a d (reported c.args.report.now) after (Err fault) =
     looks_then g.T.Tape.means g.K.Sink.means g.met.K.Sink.took_both (whole_segment 0 ∷ []) (whole_segment 1 ∷ []) a b d (reported c.args.report.now)
     (reported c.look_at_copy.new.report) after (Err fault) c.in_ok-look_at_copy.ensures.looks c.in_err-look_at_copy-2.ensures.looks in

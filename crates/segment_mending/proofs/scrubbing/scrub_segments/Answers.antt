@@ -1,5 +1,4 @@
-use Rattle.std.proofs.Common.{◌≡◌, ℕ, List, [], ◌∷◌, subst, arith, Err, ◌∙◌}
-use Rattle.std.proofs.lemmas.Grind.{common_steps}
+use Rattle.std.proofs.Common.{◌≡◌, ℕ, List, [], ◌∷◌, subst, Err, ◌∙◌}
 use Rattle.qic_base.specs.Sink as sinks
 use Rattle.acts.specs.Around.{around}
 use Rattle.cartridge_spec.specs.Table.{Entry}
@@ -9,6 +8,7 @@ use Rattle.segment_mending.specs.declared.report.ScrubReport.{ScrubReport}
 use Rattle.segment_mending.specs.Looking.{HasLooked}
 use Rattle.segment_mending.specs.Mending.{reported}
 use Rattle.segment_mending.proofs.Joining.{looked_both, looks_then, looks_longer}
+use Rattle.segment_mending.proofs.Passing.{passed}
 use Rattle.segment_mending.proofs.Scrubbed.{none_counted, line_written, line_cut, ends_cut}
 use Rattle.segment_mending.proofs.scrubbing.scrub_segments.Goals as goal
 
@@ -20,7 +20,7 @@ returns-in_err-look_at_front-clause-ends g c =
     let b = around c.look_at_front.new.unit.tape c.look_at_front.new.sink in
     let after = reported c.look_at_front.new.report in
     let fault : ScrubFault = c.in_err-look_at_front.field-0.0 in
-    let is : c.from_residual.result ≡ Err fault = grind (arith, common_steps, c.from_residual.ensures) in
+    let is : c.from_residual.result ≡ Err fault = passed c.from_residual.result fault c.from_residual.ensures.1 in
     rw is (ends_cut g.T.Tape.means g.K.Sink.means words entries a b none_counted after fault
     (looks_longer g.T.Tape.means g.K.Sink.means (whole_segment 0 ∷ whole_segment 1 ∷ whole_segment 2 ∷ []) (looked_volumes words entries) a b none_counted after
     after fault c.in_err-look_at_front.ensures.looks))
@@ -34,7 +34,7 @@ returns-in_err-look_at_volumes-clause-ends g c =
     let d = around c.look_at_volumes.new.unit.tape c.look_at_volumes.new.sink in
     let after = reported c.look_at_volumes.new.report in
     let fault : ScrubFault = c.in_err-look_at_volumes.field-0.0 in
-    let is : c.from_residual-in_err-look_at_volumes.result ≡ Err fault = grind (arith, common_steps, c.from_residual-in_err-look_at_volumes.ensures) in
+    let is : c.from_residual-in_err-look_at_volumes.result ≡ Err fault = passed c.from_residual-in_err-look_at_volumes.result fault c.from_residual-in_err-look_at_volumes.ensures.1 in
     rw is (ends_cut g.T.Tape.means g.K.Sink.means words entries a d none_counted after fault
     (looks_then g.T.Tape.means g.K.Sink.means g.met.K.Sink.took_both (whole_segment 0 ∷ whole_segment 1 ∷ whole_segment 2 ∷ []) (looked_volumes words entries) a b d
     none_counted (reported c.look_at_front.new.report) after (Err fault) c.in_ok-look_at_front.ensures.looks c.in_err-look_at_volumes.ensures.looks))

@@ -1,5 +1,4 @@
 use Rattle.std.proofs.Common.{◌≡◌, ℕ, ◌+◌, ◌-◌, ◌≤◌, ◌++◌, List, [], length, sym, ap, subst, ◌∙◌, arith, Err}
-use Rattle.std.proofs.lemmas.Grind.{common_steps}
 use Rattle.acts.specs.Around.{around}
 use Rattle.cartridge_spec.specs.Volumes.{carrying}
 use Rattle.scrub_plan.specs.Scrubbing.{Looked, looked_segments}
@@ -9,6 +8,7 @@ use Rattle.segment_mending.specs.Looking.{HasLooked, Looks}
 use Rattle.segment_mending.specs.Mending.{reported}
 use Rattle.segment_mending.proofs.Joining.{looked_none, looked_both, looks_then, looks_longer, few_after, few_more}
 use Rattle.segment_mending.proofs.Looked.{carrying_below, below_none, segments_next, segments_whole, length-below}
+use Rattle.segment_mending.proofs.Passing.{passed}
 use Rattle.segment_mending.proofs.volumes.look_at_volume.Goals as goal
 
 pub loop-segment-init : goal.loop-segment-init
@@ -45,7 +45,7 @@ returns-in_err-look_if_carrying-clause-looks g c =
     let d = around c.look_if_carrying.new.unit.tape c.look_if_carrying.new.sink in
     let after = reported c.look_if_carrying.new.report in
     let fault : ScrubFault = c.in_err-look_if_carrying.field-0.0 in
-    let is : c.from_residual.result ≡ Err fault = grind (arith, common_steps, c.from_residual.ensures) in
+    let is : c.from_residual.result ≡ Err fault = passed c.from_residual.result fault c.from_residual.ensures.1 in
     let xs : List Looked = looked_segments words (carrying_below words start segment) in
     let ys : List Looked = looked_segments words (carrying words segment segment) in
     let zs : List Looked = looked_segments words (carrying_below words (segment + 1) last) in

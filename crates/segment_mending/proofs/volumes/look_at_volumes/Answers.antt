@@ -1,5 +1,4 @@
 use Rattle.std.proofs.Common.{◌≡◌, ℕ, ◌+◌, ◌-◌, ◌++◌, List, take, drop, length, sym, ap, subst, ◌∙◌, arith, Err}
-use Rattle.std.proofs.lemmas.Grind.{common_steps}
 use Rattle.acts.specs.Around.{around}
 use Rattle.cartridge_spec.specs.Table.{Entry}
 use Rattle.cartridge_spec.specs.Volumes.{carrying_segments}
@@ -11,6 +10,7 @@ use Rattle.segment_mending.specs.Looking.{HasLooked, Looks, HasFew}
 use Rattle.segment_mending.specs.Mending.{reported}
 use Rattle.segment_mending.proofs.Joining.{looked_none, looked_both, looks_then, looks_longer, few_after}
 use Rattle.segment_mending.proofs.Looked.{volumes_more, volumes_part, LiesOn, lies_on}
+use Rattle.segment_mending.proofs.Passing.{passed}
 use Rattle.segment_mending.proofs.volumes.look_at_volumes.Goals as goal
 
 pub loop-index-init : goal.loop-index-init
@@ -58,7 +58,7 @@ returns-in_err-look_at_volume-clause-looks g c =
     let d = around c.look_at_volume.new.unit.tape c.look_at_volume.new.sink in
     let after = reported c.look_at_volume.new.report in
     let fault : ScrubFault = c.in_err-look_at_volume.field-0.0 in
-    let is : c.from_residual.result ≡ Err fault = grind (arith, common_steps, c.from_residual.ensures) in
+    let is : c.from_residual.result ≡ Err fault = passed c.from_residual.result fault c.from_residual.ensures.1 in
     let xs : List Looked = looked_volumes words (take i entries) in
     let ys : List Looked = looked_segments words (carrying_segments words e) in
     let zs : List Looked = looked_volumes words (drop (i + 1) entries) in

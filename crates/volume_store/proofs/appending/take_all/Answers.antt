@@ -62,3 +62,12 @@ returns-in-Err-clause-ends g c =
     (let some = c.requires.some in omega arith) c.in-Ok.written has
     (all_full g.T.Tape.means g.S.Source.means words entries old mid c.in-Ok.written has (let least = c.if-written-have.false in omega arith))
     c.in-Err.ensures.cause.later c.in-Err.ensures.cause.failed c.in-Err.ensures.skipped
+
+pub returns-in-Ok-eq0-clause-kept : goal.returns-in-Ok-eq0-clause-kept
+returns-in-Ok-eq0-clause-kept g c = g.met.S.Source.keeps_on c.args.source.now c.write_volume.new.source c.skip.new.source c.in-Ok.ensures.kept c.in-Ok-eq0.ensures.kept
+
+pub returns-in-Ok-skip-clause-kept : goal.returns-in-Ok-skip-clause-kept
+returns-in-Ok-skip-clause-kept g c = g.met.S.Source.keeps_on c.args.source.now c.write_volume.new.source c.skip.new.source c.in-Ok.ensures.kept c.in-Ok-skip.ensures.kept
+
+pub returns-in-Err-clause-kept : goal.returns-in-Err-clause-kept
+returns-in-Err-clause-kept g c = g.met.S.Source.keeps_on c.args.source.now c.write_volume.new.source c.skip.new.source c.in-Ok.ensures.kept c.in-Err.ensures.kept

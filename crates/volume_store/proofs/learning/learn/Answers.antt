@@ -1,5 +1,4 @@
-use Rattle.std.proofs.Common.{◌≡◌, ◌≢◌, ℕ, ◌-◌, ◌*◌, List, [], Result, Err, sym, ap, ◌∙◌, subst, arith}
-use Rattle.std.proofs.lemmas.Grind.{common_steps}
+use Rattle.std.proofs.Common.{◌≡◌, ◌≢◌, ℕ, ◌-◌, ◌*◌, List, [], Result, Err, sym, ap, ◌∙◌, subst}
 use Rattle.qic_base.specs.Tape.{Done, Tells}
 use Rattle.qic_base.proofs.Steps.{Done-after_reads, Tells-read}
 use Rattle.cartridge_spec.specs.Table.{Entry}
@@ -14,6 +13,7 @@ use Rattle.volume_store.specs.Finding.{HasFormat, FindsVolumes}
 use Rattle.volume_store.specs.Mounting.{Learns}
 use Rattle.volume_store.proofs.Copies.{leaves_after, leaves_on, tells_two, IsLearnt, told_learnt}
 use Rattle.volume_store.proofs.Mounts.{refuses_table}
+use Rattle.volume_store.proofs.Passing.{passed}
 use Rattle.volume_store.proofs.learning.learn.Goals as goal
 
 pub returns-clause-did : goal.returns-clause-did
@@ -25,8 +25,7 @@ returns-clause-did g c =
 pub returns-in_err-unread-clause-did : goal.returns-in_err-unread-clause-did
 returns-in_err-unread-clause-did g c =
     let fault : StoreFault = c.in_err-unread.field-0.0 in
-    let is : c.from_residual-in_err-unread.result ≡ Err fault =
-    grind (arith, common_steps, c.from_residual-in_err-unread.ensures) in
+    let is : c.from_residual-in_err-unread.result ≡ Err fault = passed c.from_residual-in_err-unread.result fault c.from_residual-in_err-unread.ensures.1 in
     let first : Done g.T.Tape.means c.args.unit.now.tape c.read_header.new.unit.tape [] =
     subst (λ tape. Done g.T.Tape.means tape c.read_header.new.unit.tape []) c.in_ok-enter_primary.ensures.tape c.in_ok-header.ensures.did in
     leaves_after g.T.Tape.means c.args.unit.now.tape c.read_header.new.unit.tape c.read_volumes.new.unit.tape [] c.from_residual-in_err-unread.result first
@@ -36,8 +35,7 @@ pub returns-in_err-unread-clause-found : goal.returns-in_err-unread-clause-found
 returns-in_err-unread-clause-found g c = λ sound.
     let m = g.T.Tape.means in
     let fault : StoreFault = c.in_err-unread.field-0.0 in
-    let is : c.from_residual-in_err-unread.result ≡ Err fault =
-    grind (arith, common_steps, c.from_residual-in_err-unread.ensures) in
+    let is : c.from_residual-in_err-unread.result ≡ Err fault = passed c.from_residual-in_err-unread.result fault c.from_residual-in_err-unread.ensures.1 in
     let apart : fault ≢ Tape = λ same. sound (is ∙ ap Err same) in
     let host : Host = c.read_header.new.host in
     let header : Header = c.in_ok-header.header in

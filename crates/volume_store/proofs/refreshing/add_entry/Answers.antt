@@ -1,5 +1,4 @@
 use Rattle.std.proofs.Common.{◌≡◌, ◌++◌, ◌∷◌, [], ℕ, List, take, Err, refl, inl, inr, subst, arith}
-use Rattle.std.proofs.lemmas.Grind.{common_steps}
 use Rattle.std.proofs.lemmas.List.{length-take-le}
 use Rattle.qic_base.specs.Tape.{Tells}
 use Rattle.volume_store.specs.declared.table_reader.Unread.{Unread}
@@ -11,6 +10,7 @@ use Rattle.volume_store.specs.declared.fault.StoreFault.{StoreFault}
 use Rattle.segment_io.proofs.Going.{OnOk-always}
 use Rattle.volume_store.specs.Again.{HasTable, data_with}
 use Rattle.volume_store.proofs.Again.{added_by, adds_refused, reads_unless, reads_on, kept_unless}
+use Rattle.volume_store.proofs.Passing.{passed}
 use Rattle.volume_store.proofs.refreshing.add_entry.Goals as goal
 
 pub returns-clause-did : goal.returns-clause-did
@@ -40,14 +40,14 @@ returns-clause-kept g c = λ sound. kept_unless (c.write_entry.new.table ≡ c.a
 pub returns-in_err-read_list-clause-did : goal.returns-in_err-read_list-clause-did
 returns-in_err-read_list-clause-did g c =
     let fault : StoreFault = c.in_err-read_list.field-0.0 in
-    let is : c.from_residual.result ≡ Err fault = grind (arith, common_steps, c.from_residual.ensures) in
+    let is : c.from_residual.result ≡ Err fault = passed c.from_residual.result fault c.from_residual.ensures.1 in
     adds_refused g.T.Tape.means c.args.unit.now.tape c.read_list.new.unit.tape c.args.table.now (entry_of c.args.entry.now) c.read_list.new.work fault c.from_residual.result is
     c.in_err-read_list.ensures.did (λ apart. c.in_err-read_list.ensures.found (λ same. apart (cc))) c.in_err-read_list.ensures.kind
 
 pub returns-in_err-read_list-clause-kind : goal.returns-in_err-read_list-clause-kind
 returns-in_err-read_list-clause-kind g c =
     let fault : StoreFault = c.in_err-read_list.field-0.0 in
-    let is : c.from_residual.result ≡ Err fault = grind (arith, common_steps, c.from_residual.ensures) in
+    let is : c.from_residual.result ≡ Err fault = passed c.from_residual.result fault c.from_residual.ensures.1 in
     reads_on Unread fault c.from_residual.result is c.in_err-read_list.ensures.kind
 
 pub returns-clause-either : goal.returns-clause-either

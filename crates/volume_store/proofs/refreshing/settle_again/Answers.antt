@@ -1,5 +1,4 @@
-use Rattle.std.proofs.Common.{◌≡◌, ℕ, List, take, Err, inr, arith}
-use Rattle.std.proofs.lemmas.Grind.{common_steps}
+use Rattle.std.proofs.Common.{◌≡◌, ℕ, List, take, Err, inr}
 use Rattle.volume_store.specs.declared.table_reader.Unread.{Unread}
 use Rattle.qic_base.proofs.Steps.{Tells-map}
 use Rattle.cartridge_spec.specs.HeaderAndTable.{TableIs}
@@ -8,6 +7,7 @@ use Rattle.drive_states.specs.Deck.{is_protected}
 use Rattle.volume_store.specs.declared.fault.StoreFault.{StoreFault}
 use Rattle.volume_store.specs.Settling.{mending_steps}
 use Rattle.volume_store.proofs.Again.{broke_reading, fault_unread, settled_by, settles_refused, told_mending, reads_unless, reads_on}
+use Rattle.volume_store.proofs.Passing.{passed}
 use Rattle.volume_store.proofs.refreshing.settle_again.Goals as goal
 
 pub returns-clause-did : goal.returns-clause-did
@@ -26,14 +26,14 @@ returns-clause-kind g c = reads_unless c.settle.result c.settle.ensures.fault
 pub returns-in_err-unread-clause-did : goal.returns-in_err-unread-clause-did
 returns-in_err-unread-clause-did g c =
     let fault : StoreFault = c.in_err-unread.field-0.0 in
-    let is : c.from_residual.result ≡ Err fault = grind (arith, common_steps, c.from_residual.ensures) in
+    let is : c.from_residual.result ≡ Err fault = passed c.from_residual.result fault c.from_residual.ensures.1 in
     settles_refused g.T.Tape.means c.args.unit.now.tape c.read_list.new.unit.tape c.args.table.now c.read_list.new.work c.read_list.new.work fault c.from_residual.result is
     c.in_err-unread.ensures.did (λ apart. c.in_err-unread.ensures.found (λ same. apart (cc))) c.in_err-unread.ensures.kind
 
 pub returns-in_err-unread-clause-kind : goal.returns-in_err-unread-clause-kind
 returns-in_err-unread-clause-kind g c =
     let fault : StoreFault = c.in_err-unread.field-0.0 in
-    let is : c.from_residual.result ≡ Err fault = grind (arith, common_steps, c.from_residual.ensures) in
+    let is : c.from_residual.result ≡ Err fault = passed c.from_residual.result fault c.from_residual.ensures.1 in
     reads_on Unread fault c.from_residual.result is c.in_err-unread.ensures.kind
 
 pub returns-clause-unread : goal.returns-clause-unread
@@ -47,6 +47,6 @@ returns-clause-unread g c =
 pub returns-in_err-unread-clause-unread : goal.returns-in_err-unread-clause-unread
 returns-in_err-unread-clause-unread g c =
     let fault : StoreFault = c.in_err-unread.field-0.0 in
-    let is : c.from_residual.result ≡ Err fault = grind (arith, common_steps, c.from_residual.ensures) in
+    let is : c.from_residual.result ≡ Err fault = passed c.from_residual.result fault c.from_residual.ensures.1 in
     fault_unread g.T.Tape.means c.args.unit.now.tape c.read_list.new.unit.tape c.from_residual.result
     (broke_reading g.T.Tape.means c.args.unit.now.tape c.read_list.new.unit.tape fault c.from_residual.result is c.in_err-unread.ensures.did)

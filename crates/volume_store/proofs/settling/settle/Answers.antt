@@ -1,5 +1,4 @@
-use Rattle.std.proofs.Common.{◌≡◌, ℕ, ◌++◌, Bool, List, Err, sym, ap, ◌∙◌, arith}
-use Rattle.std.proofs.lemmas.Grind.{common_steps}
+use Rattle.std.proofs.Common.{◌≡◌, ℕ, ◌++◌, Bool, List, Err, sym, ap, ◌∙◌}
 use Rattle.cartridge_spec.specs.Shape.{sectors_of}
 use Rattle.drive_states.specs.Deck.{is_protected}
 use Rattle.mount_laws.specs.Settling.{block_writes}
@@ -7,6 +6,7 @@ use Rattle.volume_store.specs.declared.fault.StoreFault.{StoreFault}
 use Rattle.volume_store.specs.Settling.{mending_steps}
 use Rattle.volume_store.proofs.Adding.{does_after, broke_front}
 use Rattle.volume_store.proofs.Mending.{mend_both, data_kept}
+use Rattle.volume_store.proofs.Passing.{passed}
 use Rattle.volume_store.proofs.settling.settle.Goals as goal
 
 pub returns-clause-did : goal.returns-clause-did
@@ -27,7 +27,7 @@ returns-in_err-write_places-clause-did g c =
     mend_both c.args.unread c.renew_parity-stale.result c.args.work.now new c.renew_parity-stale.ensures.block c.renew_parity-stale.ensures.stale
     ∙ ap (λ (b : Bool). mending_steps b c.args.unread c.args.work.now) (c.if-protected.ensures ∙ sym (ap is_protected c.requires.ready.fits.deck)) in
     let fault : StoreFault = c.in_err-write_places.field-0.0 in
-    let is : c.from_residual.result ≡ Err fault = grind (arith, common_steps, c.from_residual.ensures) in
+    let is : c.from_residual.result ≡ Err fault = passed c.from_residual.result fault c.from_residual.ensures.1 in
     broke_front g.T.Tape.means c.args.unit.now.tape c.write_places.new.unit.tape
     (block_writes new (sectors_of c.args.unread.left_out)) (block_writes new (sectors_of c.renew_parity-stale.result))
     (mending_steps (is_protected c.args.unit.now.drive.deck) c.args.unread c.args.work.now) fault c.from_residual.result is steps c.in_err-write_places.ensures.did

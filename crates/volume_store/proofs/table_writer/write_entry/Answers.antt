@@ -1,5 +1,4 @@
 use Rattle.std.proofs.Common.{◌≡◌, ℕ, ◌<◌, ◌∷◌, [], List, length, take, Err, ap, ◌∙◌, subst, arith}
-use Rattle.std.proofs.lemmas.Grind.{common_steps}
 use Rattle.qic_base.specs.Tape.{Done, Broke, Does}
 use Rattle.qic_base.specs.Step.{Step}
 use Rattle.append_plan.specs.Between.{table_writes}
@@ -10,6 +9,7 @@ use Rattle.mount_laws.specs.Settling.{block_writes}
 use Rattle.volume_table.specs.Entry.{entry_of}
 use Rattle.volume_store.specs.declared.fault.StoreFault.{StoreFault}
 use Rattle.volume_store.proofs.Adding.{slot_writes, parity_writes, both_writes, does_after, broke_front}
+use Rattle.volume_store.proofs.Passing.{passed}
 use Rattle.volume_store.proofs.table_writer.write_entry.Goals as goal
 
 pub returns-clause-did : goal.returns-clause-did
@@ -41,7 +41,7 @@ returns-in_err-write_places-clause-did g c =
     let one : block_writes block (sectors_of c.from_mask.result) ≡ block_writes (with_parity area) (sector ∷ []) =
     ap (λ (places : ℕ). block_writes block (sectors_of places)) c.from_mask.ensures ∙ slot_writes block area sector c.put_entry-changed.ensures.block within in
     let fault : StoreFault = c.in_err-write_places.field-0.0 in
-    let is : c.from_residual.result ≡ Err fault = grind (arith, common_steps, c.from_residual.ensures) in
+    let is : c.from_residual.result ≡ Err fault = passed c.from_residual.result fault c.from_residual.ensures.1 in
     broke_front m c.args.unit.now.tape c.write_places.new.unit.tape
     (block_writes (with_parity area) (sector ∷ [])) (block_writes (with_parity area) (29 ∷ 30 ∷ 31 ∷ [])) (table_writes (slot_sector (length c.args.table.now)) area)
     fault c.from_residual.result is (both_writes area sector ∙ ap (λ (k : ℕ). table_writes k area) c.put_entry-changed.ensures.sector)

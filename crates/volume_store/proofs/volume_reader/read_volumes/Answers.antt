@@ -1,26 +1,24 @@
-use Rattle.std.proofs.Common.{◌≡◌, ℕ, ◌-◌, ◌*◌, List, take, Err, subst, sym, ap, ◌∙◌, arith}
-use Rattle.std.proofs.lemmas.Grind.{common_steps}
+use Rattle.std.proofs.Common.{◌≡◌, ℕ, ◌-◌, ◌*◌, List, take, Err, subst, sym, ap, ◌∙◌}
 use Rattle.host_driver.specs.Fits.{segments_of}
 use Rattle.volume_store.specs.declared.fault.StoreFault.{StoreFault}
 use Rattle.qic_base.proofs.Steps.{Tells-map}
 use Rattle.cartridge_spec.specs.HeaderAndTable.{TableIs}
 use Rattle.volume_store.specs.Finding.{NamesCause, FindsVolumes}
+use Rattle.volume_store.proofs.Passing.{passed}
 use Rattle.volume_store.proofs.TableSegment.{finds_bad}
 use Rattle.volume_store.proofs.volume_reader.read_volumes.Goals as goal
 
 pub returns-in_err-decode_table-in-Ok-clause-cause : goal.returns-in_err-decode_table-in-Ok-clause-cause
 returns-in_err-decode_table-in-Ok-clause-cause g c =
     let fault : StoreFault = c.in_err-decode_table-in-Ok.field-0.0 in
-    let is : c.from_residual.result ≡ Err fault =
-    grind (arith, common_steps, c.from_residual.ensures) in
+    let is : c.from_residual.result ≡ Err fault = passed c.from_residual.result fault c.from_residual.ensures.1 in
     subst (λ r. NamesCause (segments_of c.args.host.now) r) (sym is)
     (c.in_err-decode_table-in-Ok.ensures.cause (segments_of c.args.host.now))
 
 pub returns-in_err-decode_table-in-Ok-clause-found : goal.returns-in_err-decode_table-in-Ok-clause-found
 returns-in_err-decode_table-in-Ok-clause-found g c = λ sound.
     let fault : StoreFault = c.in_err-decode_table-in-Ok.field-0.0 in
-    let is : c.from_residual.result ≡ Err fault =
-    grind (arith, common_steps, c.from_residual.ensures) in
+    let is : c.from_residual.result ≡ Err fault = passed c.from_residual.result fault c.from_residual.ensures.1 in
     let sectors : List (List ℕ) = c.read_table.new.work in
     let last : 28 * c.from.result - 1 ≡ 28 * segments_of c.args.host.now - 1 =
     ap (λ (n : ℕ). 28 * n - 1) (c.from.ensures ∙ c.segments_per_track.ensures.value ∙ c.geometry.ensures) in

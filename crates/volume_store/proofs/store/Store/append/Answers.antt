@@ -1,11 +1,11 @@
-use Rattle.std.proofs.Common.{◌≡◌, Err, Ok, refl, sym, ap, ◌∙◌, arith}
-use Rattle.std.proofs.lemmas.Grind.{common_steps}
+use Rattle.std.proofs.Common.{◌≡◌, Err, Ok, refl, sym, ap, ◌∙◌}
 use Rattle.header_segments.specs.Header.{header_of}
 use Rattle.volume_store.specs.Mounting.{StoreView}
 use Rattle.volume_store.specs.declared.fault.StoreFault.{StoreFault}
 use Rattle.volume_store.specs.declared.fault.StoreFault.TheVariants.{Tape}
 use Rattle.volume_store.proofs.BrokenUnread.{unread_first, unread_known}
 use Rattle.volume_store.proofs.Ending.{answered}
+use Rattle.volume_store.proofs.Passing.{passed}
 use Rattle.volume_store.proofs.Stages.{writable, settling_ends, settling_fits, input_ends, input_fits, either_order, entry_ends, entry_fits, added_ends, added_fits}
 use Rattle.volume_store.proofs.store.Store.append.Goals as goal
 
@@ -15,7 +15,7 @@ returns-in_err-settle_again-clause-ends g c =
     let view : StoreView = record { host = c.self.inside.host; header = header_of c.self.inside.header; words = c.self.inside.map; entries = c.self.inside.table } in
     let may = writable m view _ c.args.unit.now c.self.view_is c.requires.fits (sym c.protected.ensures ∙ c.if-protected.false) in
     let why : StoreFault = c.in_err-settle_again.field-0.0 in
-    let is : c.from_residual.result ≡ Err why = grind (arith, common_steps, c.from_residual.ensures) in
+    let is : c.from_residual.result ≡ Err why = passed c.from_residual.result why c.from_residual.ensures.1 in
     answered _ _ m g.S.Source.means _ _ view _ _ c.args.name.now c.args.date c.args.promised (Err why) c.from_residual.result c.self.view_is is
     (settling_ends m g.S.Source.means may c.in_err-settle_again.ensures.keeps c.settle_again.new.work why c.in_err-settle_again.ensures.did
     c.args.name.now c.args.date c.args.promised c.args.source.now c.in_err-settle_again.ensures.kind)
@@ -26,7 +26,7 @@ returns-in_err-written-clause-ends g c =
     let view : StoreView = record { host = c.self.inside.host; header = header_of c.self.inside.header; words = c.self.inside.map; entries = c.self.inside.table } in
     let may = writable m view _ c.args.unit.now c.self.view_is c.requires.fits (sym c.protected.ensures ∙ c.if-protected.false) in
     let why : StoreFault = c.in_err-written.field-0.0 in
-    let is : c.from_residual-in_err-written.result ≡ Err why = grind (arith, common_steps, c.from_residual-in_err-written.ensures) in
+    let is : c.from_residual-in_err-written.result ≡ Err why = passed c.from_residual-in_err-written.result why c.from_residual-in_err-written.ensures.1 in
     answered _ _ m g.S.Source.means _ _ view _ _ c.args.name.now c.args.date c.args.promised (Err why) c.from_residual-in_err-written.result c.self.view_is is
     (input_ends m g.S.Source.means may c.in_ok-settle_again.ensures.did c.in_ok-settle_again.ensures.keeps c.in_err-written.ensures.keeps (g.met.T.Tape.told_right c.take_input.new.unit.tape)
     c.args.name.now c.args.date c.args.promised c.args.source.now c.take_input.new.source why c.in_err-written.ensures.ends)
@@ -59,7 +59,7 @@ returns-in_err-add_entry-clause-ends g c =
     let view : StoreView = record { host = c.self.inside.host; header = header_of c.self.inside.header; words = c.self.inside.map; entries = c.self.inside.table } in
     let may = writable m view _ c.args.unit.now c.self.view_is c.requires.fits (sym c.protected.ensures ∙ c.if-protected.false) in
     let why : StoreFault = c.in_err-add_entry.field-0.0 in
-    let is : c.from_residual-in_err-add_entry.result ≡ Err why = grind (arith, common_steps, c.from_residual-in_err-add_entry.ensures) in
+    let is : c.from_residual-in_err-add_entry.result ≡ Err why = passed c.from_residual-in_err-add_entry.result why c.from_residual-in_err-add_entry.ensures.1 in
     answered _ _ m g.S.Source.means _ _ view _ _ c.args.name.now c.args.date c.args.promised (Err why) c.from_residual-in_err-add_entry.result c.self.view_is is
     (entry_ends m g.S.Source.means may c.in_ok-settle_again.ensures.did c.in_ok-settle_again.ensures.keeps c.in_ok-written.ensures.keeps (g.met.T.Tape.told_right c.take_input.new.unit.tape)
     c.args.name.now c.args.date c.args.promised c.args.source.now c.take_input.new.source c.in_ok-written.written c.from.result c.from.ensures c.in_ok-written.ensures.ends
@@ -81,7 +81,7 @@ returns-in_err-settle_again-clause-fits g c =
     let view : StoreView = record { host = c.self.inside.host; header = header_of c.self.inside.header; words = c.self.inside.map; entries = c.self.inside.table } in
     let may = writable m view _ c.args.unit.now c.self.view_is c.requires.fits (sym c.protected.ensures ∙ c.if-protected.false) in
     let why : StoreFault = c.in_err-settle_again.field-0.0 in
-    let is : c.from_residual.result ≡ Err why = grind (arith, common_steps, c.from_residual.ensures) in
+    let is : c.from_residual.result ≡ Err why = passed c.from_residual.result why c.from_residual.ensures.1 in
     λ sound. settling_fits m g.S.Source.means may c.in_err-settle_again.ensures.keeps c.settle_again.new.work why c.in_err-settle_again.ensures.did (λ e. sound (is ∙ ap Err e))
 
 pub returns-in_err-written-clause-fits : goal.returns-in_err-written-clause-fits
@@ -90,7 +90,7 @@ returns-in_err-written-clause-fits g c =
     let view : StoreView = record { host = c.self.inside.host; header = header_of c.self.inside.header; words = c.self.inside.map; entries = c.self.inside.table } in
     let may = writable m view _ c.args.unit.now c.self.view_is c.requires.fits (sym c.protected.ensures ∙ c.if-protected.false) in
     let why : StoreFault = c.in_err-written.field-0.0 in
-    let is : c.from_residual-in_err-written.result ≡ Err why = grind (arith, common_steps, c.from_residual-in_err-written.ensures) in
+    let is : c.from_residual-in_err-written.result ≡ Err why = passed c.from_residual-in_err-written.result why c.from_residual-in_err-written.ensures.1 in
     λ sound. input_fits m g.S.Source.means may c.in_ok-settle_again.ensures.did c.in_ok-settle_again.ensures.keeps c.in_err-written.ensures.keeps (g.met.T.Tape.told_right c.take_input.new.unit.tape)
     c.args.promised c.args.source.now c.take_input.new.source why c.in_err-written.ensures.ends (λ e. sound (is ∙ ap Err e))
 
@@ -100,7 +100,7 @@ returns-in_err-add_entry-clause-fits g c =
     let view : StoreView = record { host = c.self.inside.host; header = header_of c.self.inside.header; words = c.self.inside.map; entries = c.self.inside.table } in
     let may = writable m view _ c.args.unit.now c.self.view_is c.requires.fits (sym c.protected.ensures ∙ c.if-protected.false) in
     let why : StoreFault = c.in_err-add_entry.field-0.0 in
-    let is : c.from_residual-in_err-add_entry.result ≡ Err why = grind (arith, common_steps, c.from_residual-in_err-add_entry.ensures) in
+    let is : c.from_residual-in_err-add_entry.result ≡ Err why = passed c.from_residual-in_err-add_entry.result why c.from_residual-in_err-add_entry.ensures.1 in
     λ sound. entry_fits m g.S.Source.means may c.in_ok-settle_again.ensures.did c.in_ok-settle_again.ensures.keeps c.in_ok-written.ensures.keeps (g.met.T.Tape.told_right c.take_input.new.unit.tape)
     c.args.name.now c.args.date c.args.promised c.args.source.now c.take_input.new.source c.in_ok-written.written c.from.result c.from.ensures c.in_ok-written.ensures.ends
     c.in_err-add_entry.ensures.keeps c.add_entry.new.table why c.in_err-add_entry.ensures.did (λ e. sound (is ∙ ap Err e))
@@ -118,7 +118,7 @@ returns-clause-fits g c =
 pub returns-in_err-settle_again-clause-unread : goal.returns-in_err-settle_again-clause-unread
 returns-in_err-settle_again-clause-unread g c =
     let why : StoreFault = c.in_err-settle_again.field-0.0 in
-    let is : c.from_residual.result ≡ Err why = grind (arith, common_steps, c.from_residual.ensures) in
+    let is : c.from_residual.result ≡ Err why = passed c.from_residual.result why c.from_residual.ensures.1 in
     unread_first g.T.Tape.means g.S.Source.means c.args.unit.now.tape c.settle_again.new.unit.tape c.args.source.now why c.from_residual.result is
     c.in_err-settle_again.ensures.unread c.in_err-settle_again.ensures.kind
 

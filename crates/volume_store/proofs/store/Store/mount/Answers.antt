@@ -1,5 +1,4 @@
-use Rattle.std.proofs.Common.{◌≡◌, ◌⊎◌, ℕ, ◌-◌, ◌*◌, List, [], length, take, Result, Err, sym, ap, ◌∙◌, subst, inr, arith}
-use Rattle.std.proofs.lemmas.Grind.{common_steps}
+use Rattle.std.proofs.Common.{◌≡◌, ◌⊎◌, ℕ, ◌-◌, ◌*◌, List, [], length, take, Result, Err, sym, ap, ◌∙◌, subst, inr}
 use Rattle.qic_base.specs.Step.{Step}
 use Rattle.qic_base.proofs.Steps.{Done-after_reads, Broke-after_reads, Tells-map}
 use Rattle.cartridge_spec.specs.Table.{IsSoundList}
@@ -11,6 +10,7 @@ use Rattle.volume_store.specs.declared.fault.StoreFault.{StoreFault}
 use Rattle.volume_store.specs.declared.fault.StoreFault.TheVariants.{Tape}
 use Rattle.volume_store.specs.Mounting.{StoreView, Settles, IsSettling, MountBreaks, MountDoes}
 use Rattle.volume_store.specs.Settling.{mending_steps}
+use Rattle.volume_store.proofs.Passing.{passed}
 use Rattle.volume_store.proofs.Storing.{sound_volumes, told_settles, told_lists, none_mended, one_length, still_primary, still_referenced}
 use Rattle.volume_store.proofs.store.Store.mount.Goals as goal
 
@@ -60,8 +60,7 @@ pub returns-in_err-settle-clause-did : goal.returns-in_err-settle-clause-did
 returns-in_err-settle-clause-did g c =
     let m = g.T.Tape.means in
     let fault : StoreFault = c.in_err-settle.field-0.0 in
-    let is : c.from_residual-in_err-settle.result ≡ Err fault =
-    grind (arith, common_steps, c.from_residual-in_err-settle.ensures) in
+    let is : c.from_residual-in_err-settle.result ≡ Err fault = passed c.from_residual-in_err-settle.result fault c.from_residual-in_err-settle.ensures.1 in
     let tape : fault ≡ Tape = c.in_err-settle.ensures.fault in
     let steps : List Step = mending_steps (is_protected c.learn.new.unit.drive.deck) c.in_ok-learnt.learnt.unread c.learn.new.work in
     let broken : MountBreaks m c.args.unit.now.tape c.settle.new.unit.tape = record {
