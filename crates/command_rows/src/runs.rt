@@ -38,7 +38,23 @@ pub fn run_words(
     run_over(rt, alloc, text, unit, &mut source, sink)
 }
 
-/// Runs the words with no input. Answers the status, and whether this text was printed and no other.
+/// Runs the words with no input over a sink with this room, whose write with this number fails. Answers the status, and
+/// whether the sink took this text and no other.
+pub fn told_into(
+    rt: &impl Abort,
+    alloc: Global,
+    text: &[&str],
+    unit: &mut Unit<MemTape>,
+    room: usize,
+    write: u64,
+    printed: &[u8],
+) -> (Status, bool) {
+    let mut out = sink(rt, alloc, room, write);
+    let status = run_words(rt, alloc, text, unit, &mut out);
+    (status, out.bytes() == printed)
+}
+
+/// The same over a sink that has room for the text and does not fail.
 pub fn told(
     rt: &impl Abort,
     alloc: Global,
@@ -46,9 +62,7 @@ pub fn told(
     unit: &mut Unit<MemTape>,
     printed: &[u8],
 ) -> (Status, bool) {
-    let mut out = sink(rt, alloc, ROOM, NEVER);
-    let status = run_words(rt, alloc, text, unit, &mut out);
-    (status, out.bytes() == printed)
+    told_into(rt, alloc, text, unit, ROOM, NEVER, printed)
 }
 
 /// Runs the words with no input. They have to answer this status and to print this text.

@@ -1,5 +1,5 @@
-//! Scripts over a source, a sink or a tape that fails, and over inputs that end early or never. A made volume over such a
-//! sink.
+//! Scripts over a source, a sink or a tape that fails, and over inputs that end early or never. A made volume over such
+//! a sink.
 
 mod inputs;
 mod making;

@@ -50,6 +50,6 @@ pub fn formatted(rt: &impl Abort, alloc: Global) -> Unit<MemTape> {
     formatted_before(rt, alloc, NEVER, Outcome::Old)
 }
 
-/// Takes a drive away, with its tape. The functions that hand their drive over here have none to drop, which makes their
-/// proofs short.
+/// Takes a drive away, with its tape. The functions that hand their drive over here have none to drop, which keeps
+/// their proofs short.
 pub fn put_away(_unit: Unit<MemTape>) {}

@@ -2,8 +2,8 @@
 
 use crate::faults::mounting::{LIST, one_volume};
 use crate::faults::sectors::{is_lost_alone, write_first};
-use crate::runs::{breaks_off, prints, run_words, told};
-use crate::streams::{NEVER, ROOM, sink};
+use crate::runs::{breaks_off, prints, told, told_into};
+use crate::streams::{NEVER, ROOM};
 use crate::units::{FORMATTING, OUTCOMES, blank_before, formatted_before, put_away};
 use drive_states::Unit;
 use qic_mem::{MemTape, Outcome};
@@ -117,35 +117,20 @@ fn a_first_format_leaves_no_header_or_its_own(rt: HostRuntime) {
 /// What `format L` prints.
 const LINE: &[u8] = b"formatted 84 0\n";
 
-/// What `format L` answers over a sink with this room whose write with this number fails, and how many bytes of its
-/// line the sink took; nothing where they are no front of it.
-fn formats_into(
-    rt: &impl Abort,
-    alloc: Global,
-    unit: &mut Unit<MemTape>,
-    room: usize,
-    write: u64,
-) -> (Status, Option<usize>) {
-    let mut out = sink(rt, alloc, room, write);
-    let status = run_words(rt, alloc, &["format", "L"], unit, &mut out);
-    let printed = out.bytes();
-    (status, LINE.starts_with(printed).then_some(printed.len()))
-}
-
-/// Over a new cartridge it has to answer this status, and the sink to take so many bytes. The cartridge is formatted in
-/// any case.
+/// `format L` over a new cartridge has to answer this status, where the sink with this room takes so many bytes of its
+/// line, since its write with this number fails. The cartridge is formatted in any case.
 fn ends_into(
     rt: &impl Abort,
     alloc: Global,
     room: usize,
     write: u64,
     status: Status,
-    taken: usize,
+    taken: &[u8],
 ) {
     let mut unit = blank_before(rt, alloc, NEVER, Outcome::Old);
     assert_eq!(rt;
-        formats_into(rt, alloc, &mut unit, room, write),
-        (status, Some(taken)),
+        told_into(rt, alloc, &["format", "L"], &mut unit, room, write, taken),
+        (status, true),
         "room {room}, write {write}"
     );
     prints(rt, alloc, &mut unit, &["list"], b"volumes 0\n");
@@ -155,14 +140,13 @@ fn ends_into(
 #[test]
 fn a_format_stands_where_its_line_is_cut_short(rt: HostRuntime) {
     let alloc = rt.alloc();
-    let whole = LINE.len();
-    for room in 0..whole {
-        ends_into(&rt, alloc, room, NEVER, Status::SinkFault, room);
+    for room in 0..LINE.len() {
+        ends_into(&rt, alloc, room, NEVER, Status::SinkFault, &LINE[..room]);
     }
-    ends_into(&rt, alloc, whole, NEVER, Status::Done, whole);
+    ends_into(&rt, alloc, LINE.len(), NEVER, Status::Done, LINE);
     // The line is one write.
-    ends_into(&rt, alloc, ROOM, 0, Status::SinkFault, 0);
-    ends_into(&rt, alloc, ROOM, 1, Status::Done, whole);
+    ends_into(&rt, alloc, ROOM, 0, Status::SinkFault, b"");
+    ends_into(&rt, alloc, ROOM, 1, Status::Done, LINE);
 }
 
 /// A cartridge with the label `L` over which `format M` was cut short: this call of it failed.

@@ -1,7 +1,7 @@
 //! `info` and `list` over a tape or a sink that fails, and the settling of a volume table that breaks off.
 
 use crate::faults::sectors::{faults, wear, write, write_first};
-use crate::runs::run_words;
+use crate::runs::{run_words, told_into};
 use crate::streams::{NEVER, ROOM, sink};
 use crate::units::{OUTCOMES, put_away, tape};
 use drive_states::Unit;
@@ -170,44 +170,42 @@ fn a_stop_in_settling_leaves_the_list(rt: HostRuntime) {
     }
 }
 
-/// What these words answer over a sink with this room, one write of which fails, and whether the sink took so many
-/// bytes, the first ones of the text.
+/// What these words answer over a sink with this room, whose write with this number fails, and whether the sink took
+/// this text and no other.
 fn prints_into(
     rt: &impl Abort,
     alloc: Global,
     words: &[&str],
-    text: &[u8],
     room: usize,
     write: u64,
-    taken: usize,
+    taken: &[u8],
 ) -> (Status, bool) {
     let mut unit = Unit::new(made_before(rt, alloc, &one_volume(), NEVER, Outcome::Old));
-    let mut out = sink(rt, alloc, room, write);
-    let status = run_words(rt, alloc, words, &mut unit, &mut out);
+    let told = told_into(rt, alloc, words, &mut unit, room, write, taken);
     put_away(unit);
-    (status, text.get(..taken) == Some(out.bytes()))
+    told
 }
 
 #[test]
 fn a_sink_that_fails_took_the_front(rt: HostRuntime) {
     let alloc = rt.alloc();
     let fault = (Status::SinkFault, true);
-    let whole = INFO.len();
-    for room in 0..whole {
-        let info = prints_into(&rt, alloc, &["info"], INFO, room, NEVER, room);
-        assert_eq!(rt; info, fault, "room {room}");
+    let done = (Status::Done, true);
+    for room in 0..INFO.len() {
+        let told = prints_into(&rt, alloc, &["info"], room, NEVER, &INFO[..room]);
+        assert_eq!(rt; told, fault, "room {room}");
     }
     let rows = [
-        (["info"], INFO, whole, NEVER, whole, (Status::Done, true)),
+        ("info", INFO.len(), NEVER, done, INFO),
         // The label's and the date's line, 38 bytes, are written at once, and then the other three.
-        (["info"], INFO, ROOM, 0, 0, fault),
-        (["info"], INFO, ROOM, 1, 38, fault),
+        ("info", ROOM, 0, fault, b"".as_slice()),
+        ("info", ROOM, 1, fault, &INFO[..38]),
         // The volume's line, 31 bytes, and then the count.
-        (["list"], LIST, ROOM, 0, 0, fault),
-        (["list"], LIST, ROOM, 1, 31, fault),
+        ("list", ROOM, 0, fault, b"".as_slice()),
+        ("list", ROOM, 1, fault, &LIST[..31]),
     ];
-    for (words, text, room, write, taken, want) in rows {
-        let told = prints_into(&rt, alloc, &words, text, room, write, taken);
-        assert_eq!(rt; told, want, "{words:?}, room {room}, write {write}");
+    for (word, room, write, want, taken) in rows {
+        let told = prints_into(&rt, alloc, &[word], room, write, taken);
+        assert_eq!(rt; told, want, "{word}, room {room}, write {write}");
     }
 }

@@ -73,8 +73,8 @@ pub fn ending<S: Source>(
     (status, front, volumes(rt, alloc, unit))
 }
 
-/// How the script of these bytes ends where the source's read with this number fails, or the write with this number of a
-/// sink with this room.
+/// How the script of these bytes ends where the source's read with this number fails, or the write with this number of
+/// a sink with this room.
 pub fn broken(
     rt: &impl Abort,
     alloc: Global,
