@@ -9,7 +9,7 @@ use Rattle.qic117_commands.specs.Views.{is_format}
 use Rattle.drive_states.specs.declared.deck.Deck.{Deck}
 use Rattle.drive_states.specs.declared.deck.Motion.{Motion}
 use Rattle.drive_states.specs.declared.deck.Motion.TheVariants.{Stopped, Streaming, Seeking}
-use Rattle.drive_states.specs.Deck.{segments_per_track, is_stopped, is_streaming, limit, referenced_as}
+use Rattle.drive_states.specs.Deck.{segments_per_track, is_stopped, is_streaming, is_protected, is_referenced, limit, referenced_as}
 use Rattle.drive_states.specs.Reach.{segment_of, StreamsTo, IsUnder}
 use Rattle.drive_states.specs.Sound.{IsSound, IsInMotion}
 use Rattle.drive_states.specs.Unit.{UnitView, Knows}
@@ -124,3 +124,28 @@ size_known {m = m} {h = h} {u = u} f = by_cartridge u.drive.deck.cartridge f.car
     by_cartridge : (o : Option TapeInfo) → IsSomeAnd o (λ info. info.segments_per_track ≡ segments_of h) → Knows o (m.size u.tape) → m.size u.tape ≡ Some (option_map_or (λ (c : TapeInfo). c.segments_per_track) o 0)
     by_cartridge None there known = absurd there
     by_cartridge (Some info) there known = known
+
+-- a cartridge that gets the reference bursts is referenced, ..
+pub referenced_by : (h : Host) (a b : Deck) → IsSomeAnd a.cartridge (λ info. info.segments_per_track ≡ segments_of h) → b.cartridge ≡ referenced_as true a.cartridge → is_referenced b ≡ true
+referenced_by h a b there marks = ap (λ (o : Option TapeInfo). option_map_or (λ (c : TapeInfo). c.referenced) o false) marks ∙ by_cartridge a.cartridge there
+  where
+    by_cartridge : (o : Option TapeInfo) → IsSomeAnd o (λ info. info.segments_per_track ≡ segments_of h) → option_map_or (λ (c : TapeInfo). c.referenced) (referenced_as true o) false ≡ true
+    by_cartridge None none = absurd none
+    by_cartridge (Some info) some = refl
+
+-- .. stays so where the drive knows the same of it, ..
+pub mark_kept : (a b : Deck) → b.cartridge ≡ a.cartridge → is_referenced a ≡ true → is_referenced b ≡ true
+mark_kept a b same was = ap (λ (o : Option TapeInfo). option_map_or (λ (c : TapeInfo). c.referenced) o false) same ∙ was
+
+-- .. and may be written where it could be before them
+pub unmarked : (a b c : Deck) → b.cartridge ≡ referenced_as true a.cartridge → c.cartridge ≡ b.cartridge → (is_protected a ≡ true → ⊥) → is_protected c ≡ false
+unmarked a b c marks same writable =
+    ap (λ (o : Option TapeInfo). option_map_or (λ (i : TapeInfo). i.protected) o false) (same ∙ marks) ∙ by_cartridge a.cartridge writable
+  where
+    by_mark : (b : Bool) → (b ≡ true → ⊥) → b ≡ false
+    by_mark true other = absurd (other refl)
+    by_mark false other = refl
+
+    by_cartridge : (o : Option TapeInfo) → (option_map_or (λ (i : TapeInfo). i.protected) o false ≡ true → ⊥) → option_map_or (λ (i : TapeInfo). i.protected) (referenced_as true o) false ≡ false
+    by_cartridge None other = refl
+    by_cartridge (Some info) other = by_mark info.protected other

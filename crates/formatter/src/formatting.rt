@@ -27,7 +27,6 @@ pub struct FormatReport {
 
 /// Makes the cartridge an empty one with this label and this date word, and the map that of its defects. What was on it
 /// is lost; a tape that fails leaves a front of the steps done.
-#[tactic(auto, using(crate::proofs::Copies::lent_room))]
 pub fn format<T: Tape>(
     host: &mut Host,
     unit: &mut Unit<T>,

@@ -1,11 +1,12 @@
-use Rattle.std.proofs.Common.{◌≡◌, ℕ, ◌*◌, inl, inr, length, ap, subst, ◌∙◌}
+use Rattle.std.proofs.Common.{◌≡◌, ℕ, ◌*◌, inl, inr, length, ap, subst, sym, ◌∙◌, arith}
 use Rattle.std.proofs.lemmas.Result.{err_from_is_err_and}
 use Rattle.qic_base.specs.Tape.{Done, Broke}
 use Rattle.qic_base.proofs.Steps.{Done-before_reads, Broke-before_reads}
 use Rattle.drive_states.specs.Deck.{segments_per_track}
 use Rattle.format_plan.specs.Formatting.{clearing_steps}
 use Rattle.format_plan.specs.Fresh.{IsFreshArea}
-use Rattle.formatter.proofs.Places.{size_known, length_known, length_kept, length_referenced}
+use Rattle.formatter.proofs.Copies.{lent_room}
+use Rattle.formatter.proofs.Places.{size_known, length_known, length_kept, length_referenced, referenced_by, mark_kept, unmarked}
 use Rattle.formatter.proofs.Told.{marks_formattable, first_defect, all_done, all_broken}
 use Rattle.formatter.proofs.formatting.format.Goals as goal
 
@@ -75,3 +76,137 @@ returns-clause-did g c =
       segments = c.segments.ensures.value ∙ ap (λ (k : ℕ). 28 * k) (c.geometry.ensures ∙ length_known c.write_header.ensures.ready.fits ∙ whole);
       bad = c.marked.ensures;
     }
+
+pub mark_all-requires-clause-ready : goal.mark_all-requires-clause-ready
+mark_all-requires-clause-ready g c = record { fits = c.clear.ensures.fits; rest = c.in_ok-clear.ensures.rest (λ is. cc) }
+
+pub mark_all-requires-clause-stopped : goal.mark_all-requires-clause-stopped
+mark_all-requires-clause-stopped g c = c.in_ok-clear.ensures.stopped
+
+pub mark_all-requires-clause-referenced : goal.mark_all-requires-clause-referenced
+mark_all-requires-clause-referenced g c = referenced_by c.args.host.now c.args.unit.now.drive.deck c.clear.new.unit.drive.deck c.requires.ready.fits.cartridge c.in_ok-clear.ensures.marks
+
+pub mark_all-requires-clause-room : goal.mark_all-requires-clause-room
+mark_all-requires-clause-room g c = omega (arith, c.sectors_mut-sectors.ensures.size)
+
+pub write_header-requires-clause-ready : goal.write_header-requires-clause-ready
+write_header-requires-clause-ready g c = c.in_ok-mark_all.ensures.ready
+
+pub write_header-requires-clause-stopped : goal.write_header-requires-clause-stopped
+write_header-requires-clause-stopped g c = c.in_ok-mark_all.ensures.stopped
+
+pub write_header-requires-clause-words : goal.write_header-requires-clause-words
+write_header-requires-clause-words g c =
+    c.in_ok-mark_all.ensures.words
+    ∙ ap (λ (n : ℕ). 28 * n) (sym (length_kept c.clear.new.unit.drive.deck c.mark_all.new.unit.drive.deck c.in_ok-mark_all.ensures.cartridge))
+
+pub write_header-requires-clause-referenced : goal.write_header-requires-clause-referenced
+write_header-requires-clause-referenced g c =
+    mark_kept c.clear.new.unit.drive.deck c.mark_all.new.unit.drive.deck c.in_ok-mark_all.ensures.cartridge
+    (referenced_by c.args.host.now c.args.unit.now.drive.deck c.clear.new.unit.drive.deck c.requires.ready.fits.cartridge c.in_ok-clear.ensures.marks)
+
+pub write_header-requires-clause-writable : goal.write_header-requires-clause-writable
+write_header-requires-clause-writable g c =
+    unmarked c.args.unit.now.drive.deck c.clear.new.unit.drive.deck c.mark_all.new.unit.drive.deck c.in_ok-clear.ensures.marks c.in_ok-mark_all.ensures.cartridge
+    (λ marked. let no = c.in_ok-clear.ensures.protected.1 marked in absurd (cc))
+
+pub returns-in_err-clear-clause-fits : goal.returns-in_err-clear-clause-fits
+returns-in_err-clear-clause-fits g c = c.clear.ensures.fits
+
+pub returns-in_err-clear-clause-size : goal.returns-in_err-clear-clause-size
+returns-in_err-clear-clause-size g c = c.clear.ensures.size
+
+pub returns-in_err-clear-clause-room : goal.returns-in_err-clear-clause-room
+returns-in_err-clear-clause-room g c = lent_room c.sectors_mut-sectors.result.now c.args.work.now c.sectors_mut-sectors.ensures.size
+
+pub returns-in_err-mark_all-clause-protected : goal.returns-in_err-mark_all-clause-protected
+returns-in_err-mark_all-clause-protected g c =
+    let p = err_from_is_err_and c.from_residual-in_err-mark_all.result c.from_residual-in_err-mark_all.ensures.1 in
+    rw (p.1, p.2) (λ is. absurd (cc), λ marked. let no = c.in_ok-clear.ensures.protected.1 marked in absurd (cc))
+
+pub returns-in_err-mark_all-clause-untouched : goal.returns-in_err-mark_all-clause-untouched
+returns-in_err-mark_all-clause-untouched g c =
+    let p = err_from_is_err_and c.from_residual-in_err-mark_all.result c.from_residual-in_err-mark_all.ensures.1 in
+    rw (p.1, p.2) (λ is. absurd (cc))
+
+pub returns-in_err-mark_all-clause-fits : goal.returns-in_err-mark_all-clause-fits
+returns-in_err-mark_all-clause-fits g c = c.in_err-mark_all.ensures.ready.fits
+
+pub returns-in_err-mark_all-clause-rest : goal.returns-in_err-mark_all-clause-rest
+returns-in_err-mark_all-clause-rest g c = λ other. c.in_err-mark_all.ensures.ready.rest
+
+pub returns-in_err-mark_all-clause-size : goal.returns-in_err-mark_all-clause-size
+returns-in_err-mark_all-clause-size g c = c.in_err-mark_all.ensures.size ∙ c.clear.ensures.size
+
+pub returns-in_err-mark_all-clause-agrees : goal.returns-in_err-mark_all-clause-agrees
+returns-in_err-mark_all-clause-agrees g c = λ other was. c.in_err-mark_all.ensures.agrees (c.in_ok-clear.ensures.agrees (λ is. cc) was)
+
+pub returns-in_err-mark_all-clause-room : goal.returns-in_err-mark_all-clause-room
+returns-in_err-mark_all-clause-room g c = lent_room c.mark_all.new.sectors c.args.work.now (c.mark_all.auto.sectors ∙ c.sectors_mut-sectors.ensures.size)
+
+pub returns-in-Some-clause-protected : goal.returns-in-Some-clause-protected
+returns-in-Some-clause-protected g c = (λ is. absurd (cc), λ marked. let no = c.in_ok-clear.ensures.protected.1 marked in absurd (cc))
+
+pub returns-in-Some-clause-untouched : goal.returns-in-Some-clause-untouched
+returns-in-Some-clause-untouched g c = (λ is. absurd (cc))
+
+pub returns-in-Some-clause-fits : goal.returns-in-Some-clause-fits
+returns-in-Some-clause-fits g c = c.in_ok-mark_all.ensures.ready.fits
+
+pub returns-in-Some-clause-rest : goal.returns-in-Some-clause-rest
+returns-in-Some-clause-rest g c = λ other. c.in_ok-mark_all.ensures.ready.rest
+
+pub returns-in-Some-clause-size : goal.returns-in-Some-clause-size
+returns-in-Some-clause-size g c = c.in_ok-mark_all.ensures.size ∙ c.clear.ensures.size
+
+pub returns-in-Some-clause-agrees : goal.returns-in-Some-clause-agrees
+returns-in-Some-clause-agrees g c = λ other was. c.in_ok-mark_all.ensures.agrees (c.in_ok-clear.ensures.agrees (λ is. cc) was)
+
+pub returns-in-Some-clause-room : goal.returns-in-Some-clause-room
+returns-in-Some-clause-room g c = lent_room c.mark_all.new.sectors c.args.work.now (c.mark_all.auto.sectors ∙ c.sectors_mut-sectors.ensures.size)
+
+pub returns-in_err-write_header-clause-protected : goal.returns-in_err-write_header-clause-protected
+returns-in_err-write_header-clause-protected g c =
+    let p = err_from_is_err_and c.from_residual-in_err-write_header.result c.from_residual-in_err-write_header.ensures.1 in
+    rw (p.1, p.2, c.in_err-write_header.ensures.fault) (λ is. absurd (cc), λ marked. let no = c.in_ok-clear.ensures.protected.1 marked in absurd (cc))
+
+pub returns-in_err-write_header-clause-untouched : goal.returns-in_err-write_header-clause-untouched
+returns-in_err-write_header-clause-untouched g c =
+    let p = err_from_is_err_and c.from_residual-in_err-write_header.result c.from_residual-in_err-write_header.ensures.1 in
+    rw (p.1, p.2, c.in_err-write_header.ensures.fault) (λ is. absurd (cc))
+
+pub returns-in_err-write_header-clause-fits : goal.returns-in_err-write_header-clause-fits
+returns-in_err-write_header-clause-fits g c = c.in_err-write_header.ensures.ready.fits
+
+pub returns-in_err-write_header-clause-rest : goal.returns-in_err-write_header-clause-rest
+returns-in_err-write_header-clause-rest g c = λ other. c.in_err-write_header.ensures.ready.rest
+
+pub returns-in_err-write_header-clause-size : goal.returns-in_err-write_header-clause-size
+returns-in_err-write_header-clause-size g c = c.in_err-write_header.ensures.size ∙ c.in_ok-mark_all.ensures.size ∙ c.clear.ensures.size
+
+pub returns-in_err-write_header-clause-agrees : goal.returns-in_err-write_header-clause-agrees
+returns-in_err-write_header-clause-agrees g c = λ other was. c.in_err-write_header.ensures.agrees (c.in_ok-mark_all.ensures.agrees (c.in_ok-clear.ensures.agrees (λ is. cc) was))
+
+pub returns-in_err-write_header-clause-room : goal.returns-in_err-write_header-clause-room
+returns-in_err-write_header-clause-room g c = c.in_err-write_header.ensures.room
+
+pub returns-clause-protected : goal.returns-clause-protected
+returns-clause-protected g c = (λ is. absurd (cc), λ marked. let no = c.in_ok-clear.ensures.protected.1 marked in absurd (cc))
+
+pub returns-clause-untouched : goal.returns-clause-untouched
+returns-clause-untouched g c = (λ is. absurd (cc))
+
+pub returns-clause-fits : goal.returns-clause-fits
+returns-clause-fits g c = c.in_ok-write_header.ensures.ready.fits
+
+pub returns-clause-rest : goal.returns-clause-rest
+returns-clause-rest g c = λ other. c.in_ok-write_header.ensures.ready.rest
+
+pub returns-clause-size : goal.returns-clause-size
+returns-clause-size g c = c.in_ok-write_header.ensures.size ∙ c.in_ok-mark_all.ensures.size ∙ c.clear.ensures.size
+
+pub returns-clause-agrees : goal.returns-clause-agrees
+returns-clause-agrees g c = λ other was. c.in_ok-write_header.ensures.agrees (c.in_ok-mark_all.ensures.agrees (c.in_ok-clear.ensures.agrees (λ is. cc) was))
+
+pub returns-clause-room : goal.returns-clause-room
+returns-clause-room g c = c.in_ok-write_header.ensures.room

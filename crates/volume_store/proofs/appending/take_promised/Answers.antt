@@ -3,6 +3,7 @@ use Rattle.acts.specs.Around.{reading}
 use Rattle.append_plan.specs.Room.{room}
 use Rattle.cartridge_spec.specs.Volumes.{carrying}
 use Rattle.volume_input.specs.Input.{HasWritten, EndedShort}
+use Rattle.host_driver.proofs.Keeping.{keeps_none}
 use Rattle.volume_store.specs.Appending.{InputWent, TooLong}
 use Rattle.volume_store.proofs.Taking.{promise_refused, promised_written, promised_ends_short}
 use Rattle.volume_store.proofs.appending.take_promised.Goals as goal
@@ -46,3 +47,9 @@ returns-in-Err-Short-clause-ends g c =
     (let is = c.requires.have in let some = c.if-have-eq0.false in omega arith) (let is = c.requires.have in let most = c.if-count-have.false in omega arith) c.in-Err-Short.read
     (subst (λ (first : ℕ). EndedShort g.T.Tape.means g.S.Source.means words (carrying words first (length words - 1)) c.args.count true old new c.in-Err-Short.read)
     c.first_free.ensures (rw c.in-Err-Short.field-0-is at c.in-Err-Short.ensures.ends))
+
+pub returns-then-have-eq0-clause-kept : goal.returns-then-have-eq0-clause-kept
+returns-then-have-eq0-clause-kept g c = g.met.S.Source.keeps_itself c.args.source.now
+
+pub returns-then-have-eq0-clause-keeps : goal.returns-then-have-eq0-clause-keeps
+returns-then-have-eq0-clause-keeps g c = keeps_none c.requires.ready

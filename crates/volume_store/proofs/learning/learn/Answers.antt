@@ -5,7 +5,7 @@ use Rattle.cartridge_spec.specs.Table.{Entry}
 use Rattle.header_segments.specs.declared.header.Header.{Header}
 use Rattle.host_driver.specs.declared.host.Host.{Host}
 use Rattle.host_driver.specs.Fits.{AgreesWithTape, segments_of}
-use Rattle.host_driver.proofs.Keeping.{agrees_tape}
+use Rattle.host_driver.proofs.Keeping.{agrees_tape, mode_kept, cartridge_kept}
 use Rattle.volume_store.specs.declared.fault.StoreFault.{StoreFault}
 use Rattle.volume_store.specs.declared.fault.StoreFault.TheVariants.{Tape}
 use Rattle.volume_store.specs.declared.learning.Learnt.{Learnt}
@@ -58,3 +58,33 @@ returns-in_err-unread-clause-found g c = λ sound.
     (λ c'. Learns c' words sectors entries c.from_residual-in_err-unread.result)
     (λ c' known found. subst (λ (answer : Result Learnt StoreFault). Learns c' words sectors entries answer) (sym is)
     (refuses_table host c' words header sectors entries fault known.0 known.1 found)) both table
+
+pub returns-in_err-enter_primary : goal.returns-in_err-enter_primary
+returns-in_err-enter_primary g c = let no = c.in_err-enter_primary.ensures.ok in absurd (cc)
+
+pub returns-in_err-header-clause-agrees : goal.returns-in_err-header-clause-agrees
+returns-in_err-header-clause-agrees g c = c.in_err-header.ensures.keeps.agrees (agrees_tape g.T.Tape.means c.args.unit.now c.enter_primary.new.unit c.in_ok-enter_primary.ensures.cartridge c.in_ok-enter_primary.ensures.tape c.requires.agrees)
+
+pub returns-in_err-header-clause-size : goal.returns-in_err-header-clause-size
+returns-in_err-header-clause-size g c = c.in_err-header.ensures.keeps.size ∙ ap g.T.Tape.means.size c.in_ok-enter_primary.ensures.tape
+
+pub returns-in_err-header-clause-ready : goal.returns-in_err-header-clause-ready
+returns-in_err-header-clause-ready g c = c.in_err-header.ensures.keeps.ready
+
+pub returns-in_err-unread-clause-agrees : goal.returns-in_err-unread-clause-agrees
+returns-in_err-unread-clause-agrees g c = c.in_err-unread.ensures.keeps.agrees (c.in_ok-header.ensures.keeps.agrees (agrees_tape g.T.Tape.means c.args.unit.now c.enter_primary.new.unit c.in_ok-enter_primary.ensures.cartridge c.in_ok-enter_primary.ensures.tape c.requires.agrees))
+
+pub returns-in_err-unread-clause-size : goal.returns-in_err-unread-clause-size
+returns-in_err-unread-clause-size g c = c.in_err-unread.ensures.keeps.size ∙ c.in_ok-header.ensures.keeps.size ∙ ap g.T.Tape.means.size c.in_ok-enter_primary.ensures.tape
+
+pub returns-in_err-unread-clause-ready : goal.returns-in_err-unread-clause-ready
+returns-in_err-unread-clause-ready g c = c.in_err-unread.ensures.keeps.ready
+
+pub returns-clause-agrees : goal.returns-clause-agrees
+returns-clause-agrees g c = c.in_ok-unread.ensures.keeps.agrees (c.in_ok-header.ensures.keeps.agrees (agrees_tape g.T.Tape.means c.args.unit.now c.enter_primary.new.unit c.in_ok-enter_primary.ensures.cartridge c.in_ok-enter_primary.ensures.tape c.requires.agrees))
+
+pub returns-clause-size : goal.returns-clause-size
+returns-clause-size g c = c.in_ok-unread.ensures.keeps.size ∙ c.in_ok-header.ensures.keeps.size ∙ ap g.T.Tape.means.size c.in_ok-enter_primary.ensures.tape
+
+pub returns-clause-ready : goal.returns-clause-ready
+returns-clause-ready g c = c.in_ok-unread.ensures.keeps.ready

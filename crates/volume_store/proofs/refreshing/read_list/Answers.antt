@@ -32,3 +32,6 @@ returns-in-Err-clause-found g c = λ sound.
     subst (λ (f : StoreFault). Tells m c.args.unit.now.tape (λ c'. FindsList c' sectors entries (Err f))) (sym c.table_fault.ensures)
     (Tells-map m c.args.unit.now.tape (λ c'. FindsTable {A = Unread} c' sectors (Err fault)) (λ c'. FindsList c' sectors entries (Err (refusal_of fault)))
     (λ c' found. finds_fault c' sectors entries fault found) (c.in-Err.ensures.found (λ same. apart (cc))))
+
+pub returns-else-is_shown_by-clause-shown : goal.returns-else-is_shown_by-clause-shown
+returns-else-is_shown_by-clause-shown g c = tt
