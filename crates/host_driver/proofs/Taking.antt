@@ -180,10 +180,6 @@ stopped_is Stopped e = refl
 stopped_is (Streaming next) e = cc
 stopped_is (Seeking left) e = cc
 
-pub OnOk-of : {T E : Type 0} (r : Result T E) (P : Type 0) → P → OnOk r P
-OnOk-of (Ok x) P h = h
-OnOk-of (Err e) P h = tt
-
 -- the mode is entered where the tape stands
 pub record IsEntered (mode : Mode) (old new : Deck) : Type 0 where
   pub mode_is : new.mode ≡ mode
