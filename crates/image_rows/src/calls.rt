@@ -1,6 +1,6 @@
-//! What each call of a tape writes to the disk under it. Sector 1 of segment 2 has the number 65: its gate is byte 64 + 65 =
-//! 129, and its bytes begin at 64 + 3 * 2,688 + 1,024 * 65 = 74,688. The gates of segment 2 begin at 128, its formed bytes at
-//! 64 + 2,688 + 64 = 2,816, and its sectors at 73,664.
+//! What each call of a tape writes to the disk under it. Sector 1 of segment 2 has the number 65: its gate is byte 64 +
+//! 65 = 129, and its bytes begin at 64 + 3 * 2,688 + 1,024 * 65 = 74,688. The gates of segment 2 begin at 128, its
+//! formed bytes at 64 + 2,688 + 64 = 2,816, and its sectors at 73,664.
 
 ghost use Rattle.std.specs.Prelude.{IfOk};
 ghost use Rattle.qic_base.specs.Disk.{IsSettled};
@@ -126,7 +126,8 @@ fn entries_after(alloc: Global, calls: &[Call]) -> Result<usize, Fail> {
     Ok(entries.len())
 }
 
-/// Whether the last of these calls does this to the disk of an image whose sectors 64 to 66 hold bytes, and nothing else.
+/// Whether the last of these calls does this to the disk of an image whose sectors 64 to 66 hold bytes, and nothing
+/// else.
 fn does(alloc: Global, calls: &[Call], rows: &[Row]) -> Result<bool, Fail> {
     let before = entries_after(alloc, &calls[..calls.len().saturating_sub(1)])?;
     Ok(has_behind(&after(alloc, calls)?, before, rows))

@@ -1,6 +1,6 @@
-//! Files on disks in memory, written by hand, and what stands in them. Only the calls of a disk fail that a test chooses,
-//! counted from 0 over all calls of that disk. Segment 2 of an image of three segments per track has the sectors with the
-//! numbers 64 to 95.
+//! Files on disks in memory, written by hand, and what stands in them. Only the calls of a disk fail that a test
+//! chooses, counted from 0 over all calls of that disk. Segment 2 of an image of three segments per track has the
+//! sectors with the numbers 64 to 95.
 
 ghost use Rattle.std.specs.Prelude.{◌≡◌, IfOk, OnOk, Some};
 ghost use Rattle.qic_base.specs.Disk.{IsSettled};
@@ -54,8 +54,8 @@ fn begin(file: &mut MemDisk, length: u64, head: &[u8; 14]) -> Result<(), DiskFai
     file.sync()
 }
 
-/// Makes a file an image of three segments per track whose sectors 64 to 66 hold bytes: their gates, their formed bytes at
-/// 64 + 2,688 + 64, and their bytes at 64 + 3 * 2,688 + 1,024 * 64. Seven calls of the disk make it.
+/// Makes a file an image of three segments per track whose sectors 64 to 66 hold bytes: their gates, their formed bytes
+/// at 64 + 2,688 + 64, and their bytes at 64 + 3 * 2,688 + 1,024 * 64. Seven calls of the disk make it.
 pub fn write_image(file: &mut MemDisk) -> Result<(), DiskFailed>
     ensures { OnOk result (IsSettled disk_means file.new) }
 {

@@ -64,8 +64,9 @@ fn a_new_cartridge_that_breaks_off_leaves_the_old_none_or_the_new(
 ) -> Result<(), Fail> {
     let old = cartridge(4, true);
     let new = cartridge(3, false);
-    // Two calls look at the first byte. Then come a write or a length, and its sync: byte 0 is cleared, the length is 64,
-    // the length is the new one, bytes 1 to 63 are written, and byte 0 is. A write of one byte that fails leaves the old.
+    // Two calls look at the first byte. Then come a write or a length, and its sync: byte 0 is cleared, the length is
+    // 64, the length is the new one, bytes 1 to 63 are written, and byte 0 is. A write of one byte that fails leaves
+    // the old.
     let left = [
         old, old, old, None, None, None, None, None, None, None, None, new,
     ];

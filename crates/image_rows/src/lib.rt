@@ -1,5 +1,5 @@
-//! Images on a disk in memory, as tests: what each call of a tape writes to the disk and where a sync stands, and what is
-//! left of an image where a call of the disk fails.
+//! Images on a disk in memory, as tests: what each call of a tape writes to the disk and where a sync stands, and what
+//! is left of an image where a call of the disk fails.
 #![tactic(auto)]
 
 #[cfg(test)]

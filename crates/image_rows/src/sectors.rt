@@ -1,5 +1,6 @@
-//! What a write of a sector leaves in an image, whichever of its calls of the disk fails. It is sector 1 of segment 2, which
-//! has the number 65: its gate is byte 64 + 65 = 129, and its bytes begin at 64 + 3 * 2,688 + 1,024 * 65 = 74,688.
+//! What a write of a sector leaves in an image, whichever of its calls of the disk fails. It is sector 1 of segment 2,
+//! which has the number 65: its gate is byte 64 + 65 = 129, and its bytes begin at 64 + 3 * 2,688 + 1,024 * 65 =
+//! 74,688.
 
 ghost use Rattle.std.specs.Prelude.{◌≡◌, ◌<◌, IfOk, Some};
 ghost use Rattle.qic_base.specs.Disk.{IsSettled};
@@ -13,8 +14,8 @@ use qic_mem::MemDisk;
 use std::alloc::Global;
 use std::test::Fail;
 
-/// The tape in an image whose sectors 64 to 66 hold bytes. The disk fails at this call, counted behind the nine that made
-/// the file and told of it.
+/// The tape in an image whose sectors 64 to 66 hold bytes. The disk fails at this call, counted behind the nine that
+/// made the file and told of it.
 pub fn held(alloc: Global, call: u16) -> Result<ImageTape<MemDisk>, Fail>
     ensures { IfOk result (λ tape. image_means.size tape ≡ Some 3) }
 {

@@ -1,5 +1,5 @@
-//! What a write of a sector leaves of the other sectors, whichever of its calls of the disk fails. It is sector 1 of segment
-//! 2, which has the number 65.
+//! What a write of a sector leaves of the other sectors, whichever of its calls of the disk fails. It is sector 1 of
+//! segment 2, which has the number 65.
 
 ghost use Rattle.std.specs.Prelude.{◌<◌};
 
