@@ -5,7 +5,7 @@ use Rattle.cartridge_spec.specs.Table.{Entry}
 use Rattle.header_segments.specs.declared.header.Header.{Header}
 use Rattle.host_driver.specs.declared.host.Host.{Host}
 use Rattle.host_driver.specs.Fits.{AgreesWithTape, segments_of}
-use Rattle.host_driver.proofs.Keeping.{agrees_tape, mode_kept, cartridge_kept}
+use Rattle.host_driver.proofs.Keeping.{agrees_tape}
 use Rattle.volume_store.specs.declared.fault.StoreFault.{StoreFault}
 use Rattle.volume_store.specs.declared.fault.StoreFault.TheVariants.{Tape}
 use Rattle.volume_store.specs.declared.learning.Learnt.{Learnt}
