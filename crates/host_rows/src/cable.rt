@@ -8,31 +8,36 @@ ghost use Rattle.qic_mem.specs.Tape.{tape_means};
 use crate::trains::{WRITTEN, report, train, write_one};
 use drive_states::{FdcFault, FloppyAddr, HandFault, Unit};
 use host_driver::{Host, HostFault};
-use qic_base::{NoMemory, Tape, TapeFailed};
+use qic_base::Tape;
 use qic_mem::MemTape;
 use qic117_commands::Mode;
 use std::alloc::Global;
-use std::test::Fail;
+use std::process::Abort;
 
 /// A tape with room for a cartridge of three segments per track. `fails` has the numbers of its calls that fail.
-pub fn tape(alloc: Global, fails: &[u64]) -> Result<MemTape, NoMemory> {
-    MemTape::new(alloc, 3, fails.to_vec(alloc)?)
+pub fn tape(rt: &impl Abort, alloc: Global, fails: &[u64]) -> MemTape {
+    let fails = fails.to_vec(alloc).expect(rt, "memory");
+    MemTape::new(alloc, 3, fails).expect(rt, "memory")
 }
 
 /// A drive with a new cartridge of three segments per track, put there by call 0 of the tape.
-pub fn blank(alloc: Global, fails: &[u64]) -> Result<Unit<MemTape>, Fail> {
-    let mut tape = tape(alloc, fails)?;
-    tape.renew(3)?;
-    Ok(Unit::new(tape))
+pub fn blank(rt: &impl Abort, alloc: Global, fails: &[u64]) -> Unit<MemTape> {
+    let mut tape = tape(rt, alloc, fails);
+    tape.renew(3).expect(rt, "a cartridge");
+    Unit::new(tape)
 }
 
 /// A drive with a cartridge of three segments per track. It is referenced, segments 0 and 4 are formatted, and the
 /// first sector of segment 4 was written: calls 0 to 4 made all this.
-pub fn written(alloc: Global, fails: &[u64]) -> Result<Unit<MemTape>, Fail> {
-    let mut tape = tape(alloc, fails)?;
-    write_one(&mut tape)?;
-    Ok(Unit::new(tape))
+pub fn written(rt: &impl Abort, alloc: Global, fails: &[u64]) -> Unit<MemTape> {
+    let mut tape = tape(rt, alloc, fails);
+    write_one(&mut tape).expect(rt, "a cartridge");
+    Unit::new(tape)
 }
+
+/// Takes a drive away, with its tape. The functions that hand their drive over here have none to drop, which keeps
+/// their proofs short.
+pub fn put_away(_unit: Unit<MemTape>) {}
 
 /// A host that knows a referenced cartridge of three segments per track, which may be written; any other is answered
 /// `NoCartridge`. It puts the cartridge in by one call of the tape.

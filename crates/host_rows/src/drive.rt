@@ -1,23 +1,31 @@
 //! The drive alone: sector calls and a person's hand, past any host. These functions have no clause, so the proof of a test
 //! knows nothing of a drive but that it is one.
 
-use crate::cable::{Row, first_wrong, tape, written};
+use crate::cable::{Row, first_wrong, put_away, tape, written};
 use crate::trains::{WRITTEN, front};
 use drive_states::{FdcFault, HandFault, Unit};
 use qic_base::Tape;
 use qic_mem::SureTape;
 use std::alloc::Global;
+use std::process::Abort;
 use std::test::Fail;
 
 /// The number of the first wrong one of these rows at a drive of `written`.
-fn first_wrong_written(alloc: Global, fails: &[u64], rows: &[Row]) -> Result<Option<usize>, Fail> {
-    let mut unit = written(alloc, fails)?;
-    Ok(first_wrong(&mut unit, rows))
+fn first_wrong_written(
+    rt: &impl Abort,
+    alloc: Global,
+    fails: &[u64],
+    rows: &[Row],
+) -> Option<usize> {
+    let mut unit = written(rt, alloc, fails);
+    let wrong = first_wrong(&mut unit, rows);
+    put_away(unit);
+    wrong
 }
 
 #[test]
-fn an_empty_drive_takes_a_blank_cartridge_alone(rt: HostRuntime) -> Result<(), Fail> {
-    let mut unit = Unit::new(tape(rt.alloc(), &[])?);
+fn an_empty_drive_takes_a_blank_cartridge_alone(rt: HostRuntime) {
+    let mut unit = Unit::new(tape(&rt, rt.alloc(), &[]));
     let wrong = first_wrong(
         &mut unit,
         &[
@@ -32,12 +40,12 @@ fn an_empty_drive_takes_a_blank_cartridge_alone(rt: HostRuntime) -> Result<(), F
             Row::Status(0x01),
         ],
     );
+    put_away(unit);
     assert_eq!(rt; wrong, None);
-    Ok(())
 }
 
 #[test]
-fn the_count_of_pulses_stops_at_255(rt: HostRuntime) -> Result<(), Fail> {
+fn the_count_of_pulses_stops_at_255(rt: HostRuntime) {
     let rows = [
         Row::Insert,
         Row::Insert,
@@ -45,12 +53,11 @@ fn the_count_of_pulses_stops_at_255(rt: HostRuntime) -> Result<(), Fail> {
         Row::Train(300),
         Row::Error(0xFF06),
     ];
-    assert_eq!(rt; first_wrong_written(rt.alloc(), &[], &rows)?, None);
-    Ok(())
+    assert_eq!(rt; first_wrong_written(&rt, rt.alloc(), &[], &rows), None);
 }
 
 #[test]
-fn sectors_are_written_as_they_pass(rt: HostRuntime) -> Result<(), Fail> {
+fn sectors_are_written_as_they_pass(rt: HostRuntime) {
     let rows = [
         Row::Insert,
         Row::Insert,
@@ -70,12 +77,11 @@ fn sectors_are_written_as_they_pass(rt: HostRuntime) -> Result<(), Fail> {
         Row::Write(front(5), Err(FdcFault::Protected)),
         Row::Shows(front(5), 0),
     ];
-    assert_eq!(rt; first_wrong_written(rt.alloc(), &[], &rows)?, None);
-    Ok(())
+    assert_eq!(rt; first_wrong_written(&rt, rt.alloc(), &[], &rows), None);
 }
 
 #[test]
-fn a_fault_of_the_tape_leaves_the_head_where_it_was(rt: HostRuntime) -> Result<(), Fail> {
+fn a_fault_of_the_tape_leaves_the_head_where_it_was(rt: HostRuntime) {
     // Calls 5 and 6 of the tape put the cartridge in; 7 is the first read, and 9 the first write.
     let rows = [
         Row::Insert,
@@ -87,8 +93,7 @@ fn a_fault_of_the_tape_leaves_the_head_where_it_was(rt: HostRuntime) -> Result<(
         Row::Write(front(2), Err(FdcFault::Tape)),
         Row::Write(front(2), Ok(())),
     ];
-    assert_eq!(rt; first_wrong_written(rt.alloc(), &[7, 9], &rows)?, None);
-    Ok(())
+    assert_eq!(rt; first_wrong_written(&rt, rt.alloc(), &[7, 9], &rows), None);
 }
 
 /// A drive whose tape never fails, with a cartridge of three segments per track whose segment 0 is formatted.

@@ -1,12 +1,11 @@
 //! The reference bursts and a segment formatted, where the tape fails at first.
 
-use crate::cable::{Row, blank, first_wrong};
+use crate::cable::{Row, blank, first_wrong, put_away};
 use crate::trains::front;
 use drive_states::{FdcFault, Unit};
 use host_driver::{Host, HostFault};
 use qic_mem::MemTape;
 use qic117_commands::Mode;
-use std::test::Fail;
 
 /// Has a host write the reference bursts. The answer, and whether the host knows the cartridge as referenced then.
 fn reference(unit: &mut Unit<MemTape>) -> Result<(Result<(), HostFault>, bool), HostFault> {
@@ -27,8 +26,8 @@ fn format_first(unit: &mut Unit<MemTape>) -> Result<(), HostFault> {
 }
 
 #[test]
-fn a_format_that_fails_leaves_the_head_at_its_segment(rt: HostRuntime) -> Result<(), Fail> {
-    let mut unit = blank(rt.alloc(), &[3])?;
+fn a_format_that_fails_leaves_the_head_at_its_segment(rt: HostRuntime) {
+    let mut unit = blank(&rt, rt.alloc(), &[3]);
     let answer = format_first(&mut unit);
     let rows = [
         Row::Status(0x24),
@@ -43,16 +42,14 @@ fn a_format_that_fails_leaves_the_head_at_its_segment(rt: HostRuntime) -> Result
         Row::Train(0),
         Row::Refuses(front(33), FdcFault::NoAddress),
     ];
-    assert_eq!(rt;
-        (answer, first_wrong(&mut unit, &rows)),
-        (Err(HostFault::Tape), None)
-    );
-    Ok(())
+    let seen = (answer, first_wrong(&mut unit, &rows));
+    put_away(unit);
+    assert_eq!(rt; seen, (Err(HostFault::Tape), None));
 }
 
 #[test]
-fn a_drive_without_its_bursts_is_on_its_way(rt: HostRuntime) -> Result<(), Fail> {
-    let mut unit = blank(rt.alloc(), &[2])?;
+fn a_drive_without_its_bursts_is_on_its_way(rt: HostRuntime) {
+    let mut unit = blank(&rt, rt.alloc(), &[2]);
     let seen = [
         (
             reference(&mut unit),
@@ -64,6 +61,7 @@ fn a_drive_without_its_bursts_is_on_its_way(rt: HostRuntime) -> Result<(), Fail>
             first_wrong(&mut unit, &[Row::Status(0x65)]),
         ),
     ];
+    put_away(unit);
     assert_eq!(rt;
         seen,
         [
@@ -71,5 +69,4 @@ fn a_drive_without_its_bursts_is_on_its_way(rt: HostRuntime) -> Result<(), Fail>
             (Ok((Ok(()), true)), None),
         ]
     );
-    Ok(())
 }

@@ -1,11 +1,10 @@
 //! The way to a segment, and a halt there.
 
-use crate::cable::{Row, begun, first_wrong, written};
+use crate::cable::{Row, begun, first_wrong, put_away, written};
 use crate::trains::{FIRST_OF_FOUR, WRITTEN};
 use drive_states::Unit;
 use host_driver::HostFault;
 use qic_mem::MemTape;
-use std::test::Fail;
 
 /// Has a host go to segment 4 by way of segment 82, on the way back, and stop there.
 fn halt_at_four(unit: &mut Unit<MemTape>) -> Result<(), HostFault> {
@@ -16,8 +15,8 @@ fn halt_at_four(unit: &mut Unit<MemTape>) -> Result<(), HostFault> {
 }
 
 #[test]
-fn a_halted_tape_comes_to_its_segment_again(rt: HostRuntime) -> Result<(), Fail> {
-    let mut unit = written(rt.alloc(), &[])?;
+fn a_halted_tape_comes_to_its_segment_again(rt: HostRuntime) {
+    let mut unit = written(&rt, rt.alloc(), &[]);
     let answer = halt_at_four(&mut unit);
     let rows = [
         Row::Status(0x25),
@@ -28,6 +27,7 @@ fn a_halted_tape_comes_to_its_segment_again(rt: HostRuntime) -> Result<(), Fail>
         Row::Train(18),
         Row::Status(0x25),
     ];
-    assert_eq!(rt; (answer, first_wrong(&mut unit, &rows)), (Ok(()), None));
-    Ok(())
+    let seen = (answer, first_wrong(&mut unit, &rows));
+    put_away(unit);
+    assert_eq!(rt; seen, (Ok(()), None));
 }

@@ -1,13 +1,12 @@
 //! The first sector of segment 4 read, written and worn through a host, where the tape fails. Call 5 of the tape puts the
 //! cartridge in; the way makes none, and 6 is the sector's.
 
-use crate::cable::{Row, begun, first_wrong, written};
+use crate::cable::{Row, begun, first_wrong, put_away, written};
 use crate::trains::{FIRST_OF_FOUR, WRITTEN};
 use drive_states::Unit;
 use host_driver::{HandFault, HostFault};
 use qic_base::{SectorRead, SectorWrite};
 use qic_mem::MemTape;
-use std::test::Fail;
 
 fn read(unit: &mut Unit<MemTape>, into: &mut [u8; 1024]) -> Result<SectorRead, HostFault> {
     let mut host = begun(unit)?;
@@ -35,31 +34,27 @@ fn wear(
 const KEPT: [Row; 1] = [Row::Shows(FIRST_OF_FOUR, WRITTEN)];
 
 #[test]
-fn a_read_that_fails_leaves_the_head_where_it_was(rt: HostRuntime) -> Result<(), Fail> {
-    let mut unit = written(rt.alloc(), &[6])?;
+fn a_read_that_fails_leaves_the_head_where_it_was(rt: HostRuntime) {
+    let mut unit = written(&rt, rt.alloc(), &[6]);
     let mut into = [1; 1024];
     let answer = read(&mut unit, &mut into);
-    assert_eq!(rt;
-        (answer, into, first_wrong(&mut unit, &KEPT)),
-        (Err(HostFault::Tape), [1; 1024], None)
-    );
-    Ok(())
+    let seen = (answer, into, first_wrong(&mut unit, &KEPT));
+    put_away(unit);
+    assert_eq!(rt; seen, (Err(HostFault::Tape), [1; 1024], None));
 }
 
 #[test]
-fn a_write_that_fails_leaves_the_head_where_it_was(rt: HostRuntime) -> Result<(), Fail> {
-    let mut unit = written(rt.alloc(), &[6])?;
+fn a_write_that_fails_leaves_the_head_where_it_was(rt: HostRuntime) {
+    let mut unit = written(&rt, rt.alloc(), &[6]);
     let answer = write(&mut unit, &[9; 1024]);
-    assert_eq!(rt;
-        (answer, first_wrong(&mut unit, &KEPT)),
-        (Err(HostFault::Tape), None)
-    );
-    Ok(())
+    let seen = (answer, first_wrong(&mut unit, &KEPT));
+    put_away(unit);
+    assert_eq!(rt; seen, (Err(HostFault::Tape), None));
 }
 
 #[test]
-fn a_host_wears_the_sectors_of_its_cartridge(rt: HostRuntime) -> Result<(), Fail> {
-    let mut unit = written(rt.alloc(), &[6])?;
+fn a_host_wears_the_sectors_of_its_cartridge(rt: HostRuntime) {
+    let mut unit = written(&rt, rt.alloc(), &[6]);
     let mut into = [1; 1024];
     let refused = [
         wear(&mut unit, 4, 0),
@@ -71,6 +66,7 @@ fn a_host_wears_the_sectors_of_its_cartridge(rt: HostRuntime) -> Result<(), Fail
         wear(&mut unit, 4, 0),
         read(&mut unit, &mut into),
     );
+    put_away(unit);
     assert_eq!(rt;
         (refused, seen),
         (
@@ -82,5 +78,4 @@ fn a_host_wears_the_sectors_of_its_cartridge(rt: HostRuntime) -> Result<(), Fail
             (Ok(SectorRead::Good), Ok(Ok(())), Ok(SectorRead::Lost)),
         )
     );
-    Ok(())
 }

@@ -2,12 +2,13 @@
 
 ghost use Rattle.std.specs.Prelude.{◌≤◌};
 
-use crate::cable::{begun, tape};
+use crate::cable::{begun, put_away, tape};
 use drive_states::{HandFault, Unit};
 use qic_base::{LostSet, Tape, TapeFailed};
 use qic_mem::MemTape;
 use segment_io::{SegFault, Workspace, collect, read_segment, write_sectors, write_segment};
 use std::alloc::Global;
+use std::process::Abort;
 use std::test::Fail;
 
 /// A segment amid a track.
@@ -22,10 +23,15 @@ const THREE: u32 = 0x0801_0002;
 
 /// A drive with a referenced cartridge of three segments per track, of which the segment is formatted. Its sectors 3
 /// and 30 are defects. Calls 0 to 4 of the tape made all this, and `begun` makes call 5.
-fn marked(alloc: Global, fails: &[u64]) -> Result<Unit<MemTape>, Fail> {
-    let mut tape = tape(alloc, fails)?;
-    mark(&mut tape)?;
-    Ok(Unit::new(tape))
+fn marked(rt: &impl Abort, alloc: Global, fails: &[u64]) -> Unit<MemTape> {
+    let mut tape = tape(rt, alloc, fails);
+    mark(&mut tape).expect(rt, "a cartridge");
+    Unit::new(tape)
+}
+
+/// Takes away what a test worked with.
+fn put_both_away(unit: Unit<MemTape>, _work: Workspace) {
+    put_away(unit);
 }
 
 fn mark(tape: &mut MemTape) -> Result<(), TapeFailed> {
@@ -111,9 +117,9 @@ fn are_zero(work: &Workspace, from: u8, end: u8) -> bool
 }
 
 #[test]
-fn a_written_segment_is_read_without_three_sectors(rt: HostRuntime) -> Result<(), Fail> {
-    let mut unit = marked(rt.alloc(), &[])?;
-    let mut work = Workspace::new(rt.alloc())?;
+fn a_written_segment_is_read_without_three_sectors(rt: HostRuntime) {
+    let mut unit = marked(&rt, rt.alloc(), &[]);
+    let mut work = Workspace::new(rt.alloc()).expect(&rt, "memory");
     fill(&mut work, 10);
     let written = write(&mut unit, &mut work);
     // They are at the places 0, 16 and 27: the sectors 3 and 17 have none.
@@ -125,6 +131,7 @@ fn a_written_segment_is_read_without_three_sectors(rt: HostRuntime) -> Result<()
         segment: SEGMENT,
         lost: 4,
     };
+    put_both_away(unit, work);
     assert_eq!(rt;
         (written, worn, found, lost),
         (
@@ -134,15 +141,14 @@ fn a_written_segment_is_read_without_three_sectors(rt: HostRuntime) -> Result<()
             (Ok(()), Err(fault))
         )
     );
-    Ok(())
 }
 
 /// Call 6 is the first of 28 writes. Call 7 puts the cartridge in again, and call 10 is the third of those that come
 /// then.
 #[test]
-fn a_fault_leaves_the_writes_before_it(rt: HostRuntime) -> Result<(), Fail> {
-    let mut unit = marked(rt.alloc(), &[6, 10])?;
-    let mut work = Workspace::new(rt.alloc())?;
+fn a_fault_leaves_the_writes_before_it(rt: HostRuntime) {
+    let mut unit = marked(&rt, rt.alloc(), &[6, 10]);
+    let mut work = Workspace::new(rt.alloc()).expect(&rt, "memory");
     fill(&mut work, 10);
     let written = [write(&mut unit, &mut work), write(&mut unit, &mut work)];
     let gathered = (
@@ -150,18 +156,18 @@ fn a_fault_leaves_the_writes_before_it(rt: HostRuntime) -> Result<(), Fail> {
         are_filled(&work, 0, 2, 10),
         are_zero(&work, 2, 28),
     );
+    put_both_away(unit, work);
     assert_eq!(rt;
         (written, gathered),
         ([Err(SegFault::Tape); 2], (Ok(0), true, true))
     );
-    Ok(())
 }
 
 /// Here call 6 is the first of three, and call 9 the second of those that come then.
 #[test]
-fn a_fault_leaves_the_named_writes_before_it(rt: HostRuntime) -> Result<(), Fail> {
-    let mut unit = marked(rt.alloc(), &[6, 9])?;
-    let mut work = Workspace::new(rt.alloc())?;
+fn a_fault_leaves_the_named_writes_before_it(rt: HostRuntime) {
+    let mut unit = marked(&rt, rt.alloc(), &[6, 9]);
+    let mut work = Workspace::new(rt.alloc()).expect(&rt, "memory");
     fill(&mut work, 10);
     let written = [write_three(&mut unit, &work), write_three(&mut unit, &work)];
     let gathered = (
@@ -170,19 +176,19 @@ fn a_fault_leaves_the_named_writes_before_it(rt: HostRuntime) -> Result<(), Fail
         are_filled(&work, 1, 2, 10),
         are_zero(&work, 2, 28),
     );
+    put_both_away(unit, work);
     assert_eq!(rt;
         (written, gathered),
         ([Err(SegFault::Tape); 2], (Ok(0), true, true, true))
     );
-    Ok(())
 }
 
 /// Call 6 is the first of 28 reads, and so is call 8 behind the insertion by call 7; call 37 is the last of those that
 /// come behind the next insertion.
 #[test]
-fn a_fault_among_reads_is_told(rt: HostRuntime) -> Result<(), Fail> {
-    let mut unit = marked(rt.alloc(), &[6, 8, 37])?;
-    let mut work = Workspace::new(rt.alloc())?;
+fn a_fault_among_reads_is_told(rt: HostRuntime) {
+    let mut unit = marked(&rt, rt.alloc(), &[6, 8, 37]);
+    let mut work = Workspace::new(rt.alloc()).expect(&rt, "memory");
     let told = [
         gather(&mut unit, &mut work),
         read(&mut unit, &mut work),
@@ -191,8 +197,8 @@ fn a_fault_among_reads_is_told(rt: HostRuntime) -> Result<(), Fail> {
     ];
     let seen = (are_zero(&work, 0, 28), read(&mut unit, &mut work));
     let fault = Err(SegFault::Tape);
+    put_both_away(unit, work);
     assert_eq!(rt; (told, seen), ([fault, fault, fault, Ok(0)], (true, Ok(0))));
-    Ok(())
 }
 
 #[test]

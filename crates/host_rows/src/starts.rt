@@ -1,12 +1,12 @@
 //! What a host learns at its start, and its reports.
 
-use crate::cable::{Row, first_wrong, written};
+use crate::cable::{Row, first_wrong, put_away, written};
 use drive_states::Unit;
 use host_driver::{Host, HostFault, Report};
 use qic_base::Tape;
 use qic_mem::MemTape;
 use std::alloc::Global;
-use std::test::Fail;
+use std::process::Abort;
 
 /// What a host learns: the segments per track, and whether the cartridge is protected, and referenced.
 fn learnt(unit: &mut Unit<MemTape>) -> Result<(u16, bool, bool), HostFault> {
@@ -16,24 +16,24 @@ fn learnt(unit: &mut Unit<MemTape>) -> Result<(u16, bool, bool), HostFault> {
 }
 
 #[test]
-fn a_start_that_fails_may_be_tried_again(rt: HostRuntime) -> Result<(), Fail> {
-    let mut unit = written(rt.alloc(), &[5])?;
+fn a_start_that_fails_may_be_tried_again(rt: HostRuntime) {
+    let mut unit = written(&rt, rt.alloc(), &[5]);
     let seen = (
         learnt(&mut unit),
         // The drive knows of no cartridge.
         first_wrong(&mut unit, &[Row::Status(0x01)]),
         learnt(&mut unit),
     );
+    put_away(unit);
     assert_eq!(rt; seen, (Err(HostFault::Tape), None, Ok((3, false, true))));
-    Ok(())
 }
 
 /// A drive with a referenced cartridge of 100 segments per track.
-fn hundred(alloc: Global) -> Result<Unit<MemTape>, Fail> {
-    let mut tape = MemTape::new(alloc, 100, Vec::new(alloc))?;
-    tape.renew(100)?;
-    tape.set_referenced()?;
-    Ok(Unit::new(tape))
+fn hundred(rt: &impl Abort, alloc: Global) -> Unit<MemTape> {
+    let mut tape = MemTape::new(alloc, 100, Vec::new(alloc)).expect(rt, "memory");
+    tape.renew(100).expect(rt, "a cartridge");
+    tape.set_referenced().expect(rt, "its bursts");
+    Unit::new(tape)
 }
 
 /// The word that a host has the drive report after its start.
@@ -54,10 +54,9 @@ const REPORTS: [(Report, u16); 7] = [
 ];
 
 #[test]
-fn reports_of_every_kind_are_read(rt: HostRuntime) -> Result<(), Fail> {
-    let mut unit = hundred(rt.alloc())?;
-    for (kind, want) in REPORTS {
-        assert_eq!(rt; word(&mut unit, kind), Ok(want), "{kind:?}");
-    }
-    Ok(())
+fn reports_of_every_kind_are_read(rt: HostRuntime) {
+    let mut unit = hundred(&rt, rt.alloc());
+    let seen = REPORTS.map(|(kind, _)| word(&mut unit, kind));
+    put_away(unit);
+    assert_eq!(rt; seen, REPORTS.map(|(_, want)| Ok(want)));
 }
