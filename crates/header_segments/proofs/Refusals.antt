@@ -98,13 +98,19 @@ refusal-signed area n signed = ap (λ (b : Bool). cond b (option_map foreign (he
 pub refusal-unsigned : (area : List (List ℕ)) (n : ℕ) → has_signature area ≡ false → refusal area n ≡ Some NoSignature
 refusal-unsigned area n unsigned = ap (λ (b : Bool). cond b (option_map foreign (header_fault area n)) (Some NoSignature)) unsigned
 
--- data that are not refused have the drive's segments per track
-pub refusal-segments : (area : List (List ℕ)) (n : ℕ) → refusal area n ≡ None → number_in area 24 2 ≡ n
-refusal-segments area n none = by_signature (has_signature area) refl
+-- data of which no test fails have the drive's segments per track
+pub fault-segments : (area : List (List ℕ)) (n : ℕ) → header_fault area n ≡ None → number_in area 24 2 ≡ n
+fault-segments area n none =
+    let fields : first_fault area (profile_fields n) ≡ None = or-none-left (first_fault area (profile_fields n)) (map_fault area) none in
+    tested-sound area SegmentsPerTrack 24 2 n (first_fault-none (profile_fields n) area fields 7 any (omega arith))
   where
     any : Field
     any = number 0 0 0
 
+-- and so have data that are not refused
+pub refusal-segments : (area : List (List ℕ)) (n : ℕ) → refusal area n ≡ None → number_in area 24 2 ≡ n
+refusal-segments area n none = by_signature (has_signature area) refl
+  where
     mapped : (o : Option HeaderFault) → option_map foreign o ≡ None → o ≡ None
     mapped None h = refl
     mapped (Some x) h = absurd (cc)
@@ -112,8 +118,7 @@ refusal-segments area n none = by_signature (has_signature area) refl
     by_signature : (b : Bool) → has_signature area ≡ b → number_in area 24 2 ≡ n
     by_signature true signed =
         let foreign_none : option_map foreign (header_fault area n) ≡ None = sym (refusal-signed area n signed) ∙ none in
-        let fields : first_fault area (profile_fields n) ≡ None = or-none-left (first_fault area (profile_fields n)) (map_fault area) (mapped (header_fault area n) foreign_none) in
-        tested-sound area SegmentsPerTrack 24 2 n (first_fault-none (profile_fields n) area fields 7 any (omega arith))
+        fault-segments area n (mapped (header_fault area n) foreign_none)
     by_signature false unsigned =
         let some : refusal area n ≡ Some NoSignature = refusal-unsigned area n unsigned in
         absurd (cc)

@@ -24,8 +24,7 @@ use Rattle.cartridge_spec.proofs.SlotBytes.{length-slot_bytes, slot_are_bytes}
 use Rattle.cartridge_spec.proofs.Slots.{slot_area}
 use Rattle.format_plan.specs.Fresh.{IsLabel}
 use Rattle.format_plan.proofs.Writing.{changed_by-append}
-use Rattle.header_segments.specs.Refusal.{foreign, refusal}
-use Rattle.header_segments.proofs.Refusals.{length-words_in, refusal-segments, refusal-signed}
+use Rattle.header_segments.proofs.Refusals.{length-words_in, fault-segments}
 use Rattle.mount_laws.specs.Settling.{settling_steps}
 use Rattle.mount_laws.proofs.Parts.{code_block}
 use Rattle.mount_laws.proofs.Settled.{settled_keeps_table}
@@ -102,10 +101,8 @@ forced c area (inr second) = second.1.signature
 mounted_last : (c : Cartridge) (area : List (List ℕ)) (header : Header) (words : List ℕ) → IsFormatted c area header words → length words - 1 ≡ last_segment c
 mounted_last c area header words formatted =
     let n : ℕ = c.info.segments_per_track in
-    let none : refusal area n ≡ None =
-    refusal-signed area n (forced c area formatted.has_header.in_force) ∙ ap (λ (fault : Option HeaderFault). option_map foreign fault) formatted.sound in
     let there : number_in area 24 2 ≡ header.segments_per_track = formatted.shown.header 2 (number 24 2 0) (omega arith) in
-    let told : header.segments_per_track ≡ n = sym there ∙ refusal-segments area n none in
+    let told : header.segments_per_track ≡ n = sym there ∙ fault-segments area n formatted.sound in
     ap (λ (k : ℕ). k - 1) (length-words_in area words (28 * header.segments_per_track) formatted.shown.map)
     ∙ ap (λ (k : ℕ). 28 * k - 1) told
 

@@ -19,7 +19,7 @@ use Rattle.header_segments.specs.declared.header.Header.{Header}
 use Rattle.header_segments.specs.Header.{header_of}
 use Rattle.header_segments.specs.Laws.{AreTaken}
 use Rattle.header_segments.specs.Refusal.{refusal, foreign}
-use Rattle.header_segments.proofs.Refusals.{refusal-signed, refusal-segments, length-words_in}
+use Rattle.header_segments.proofs.Refusals.{fault-segments, length-words_in}
 use Rattle.segment_io.specs.Reading.{HasSolved}
 use Rattle.volume_store.specs.declared.fault.StoreFault.{StoreFault}
 use Rattle.volume_store.specs.declared.fault.StoreFault.TheVariants as fault
@@ -121,9 +121,8 @@ finds_copy c copy n words sectors (Err fault.Tape) room solved taken = taken
 
 taken_words : (area : List (List ℕ)) (n : ℕ) (words : List ℕ) (header : Header) → AreTaken area n (header_of header) words → HasWords n words header
 taken_words area n words header taken =
-    let none : refusal area n ≡ None = refusal-signed area n taken.signature ∙ ap (λ (fault : Option HeaderFault). option_map foreign fault) taken.sound in
     let there : number_in area 24 2 ≡ header.segments_per_track = taken.shown.header 2 (number 24 2 0) (omega arith) in
-    let told : header.segments_per_track ≡ n = sym there ∙ refusal-segments area n none in
+    let told : header.segments_per_track ≡ n = sym there ∙ fault-segments area n taken.sound in
     record {
       length_told = told;
       size = length-words_in area words (28 * header.segments_per_track) taken.shown.map ∙ ap (λ (k : ℕ). 28 * k) told;
