@@ -7,12 +7,12 @@ use Rattle.qic117_commands.specs.Commands.{command_at, commands}
 use Rattle.qic117_commands.specs.declared.command.Command.{Command}
 use Rattle.qic117_commands.specs.declared.command.Command.TheVariants.{Reset, SkipReverse, SkipForward}
 use Rattle.qic117_commands.specs.Refusals.{waits_for_seek, illegal_in_primary, illegal_in_format, illegal_in_verify}
+use Rattle.drive_spec.specs.Deck.{refusal_of}
+use Rattle.drive_spec.specs.Record.{Record}
+use Rattle.drive_spec.specs.Steps.{command_steps, train_steps, is_idle}
 use Rattle.drive_states.specs.declared.any_drive.AnyDrive.{AnyDrive}
 use Rattle.drive_states.specs.declared.any_drive.AnyDrive.TheVariants.{LoadPoint, Primary, Format, Verify, SeekingLoadPoint, SeekingPrimary, SeekingFormat, SeekingVerify}
 use Rattle.drive_states.specs.AnyDrive.{drive_of, state_of}
-use Rattle.drive_states.specs.Deck.{refusal_of}
-use Rattle.drive_states.specs.Record.{Record}
-use Rattle.drive_states.specs.Row.{command_steps, train_steps, is_idle}
 use Rattle.drive_states.specs.Typed.{IsIn, skip_command}
 use Rattle.drive_states.specs.Unit.{DeckAndTape}
 use Rattle.drive_states.proofs.Obeying.{refused_in_seek, legal_in_primary, legal_in_format, legal_in_verify}

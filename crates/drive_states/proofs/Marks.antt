@@ -9,14 +9,17 @@ use Rattle.qic117_commands.specs.declared.command.Command.{Command}
 use Rattle.qic117_commands.specs.declared.command.Command.TheVariants.{Reset, ReportNextBit, LogicalForward, SeekTrack, SkipReverse, SkipForward, SetFormatSegments, WriteReference}
 use Rattle.qic117_commands.specs.declared.error_code.ErrorCode.{ErrorCode}
 use Rattle.qic117_commands.specs.declared.error_code.ErrorCode.TheVariants.{IllegalInReport}
-use Rattle.drive_states.specs.declared.deck.Deck.{Deck}
-use Rattle.drive_states.specs.declared.deck.Motion.TheVariants.{Streaming}
-use Rattle.drive_states.specs.declared.under_way.Parameter.{Parameter}
-use Rattle.drive_states.specs.declared.under_way.UnderWay.{UnderWay}
-use Rattle.drive_states.specs.declared.under_way.UnderWay.TheVariants.{Nothing, Report, Awaited}
-use Rattle.drive_states.specs.Deck.{is_stopped, is_streaming, limit, refusal_of, accepted, given, reset, ticked}
-use Rattle.drive_states.specs.Record.{Record}
-use Rattle.drive_states.specs.Row.{latched, parameter_trains, parameter_values, parameter_code, longer, given_more, taking, showing, by_refusal, by_command, heard, obeyed, moved_on, idled, is_idle, steps_of, command_steps, gap_steps, after_gap}
+use Rattle.drive_spec.specs.declared.deck.Deck.{Deck}
+use Rattle.drive_spec.specs.declared.deck.Motion.TheVariants.{Streaming}
+use Rattle.drive_spec.specs.declared.under_way.Parameter.{Parameter}
+use Rattle.drive_spec.specs.declared.under_way.UnderWay.{UnderWay}
+use Rattle.drive_spec.specs.declared.under_way.UnderWay.TheVariants.{Nothing, Report, Awaited}
+use Rattle.drive_spec.specs.Deck.{is_stopped, is_streaming, limit, refusal_of}
+use Rattle.drive_spec.specs.Effects.{accepted, given, reset, ticked}
+use Rattle.drive_spec.specs.Record.{Record}
+use Rattle.drive_spec.specs.Parameters.{parameter_trains, parameter_values, parameter_code, longer}
+use Rattle.drive_spec.specs.Row.{latched, given_more, taking, showing, by_refusal, by_command, heard, obeyed, moved_on, idled, after_gap}
+use Rattle.drive_spec.specs.Steps.{is_idle, steps_of, command_steps, gap_steps}
 use Rattle.drive_states.specs.Laws.{marked_by}
 
 -- no other train writes the reference bursts

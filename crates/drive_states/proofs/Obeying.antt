@@ -6,11 +6,14 @@ use Rattle.qic117_commands.specs.declared.view.Mode.TheVariants.{Primary, Format
 use Rattle.qic117_commands.specs.Refusals.{needs_cartridge, waits_for_seek, waits_for_stop, illegal_in_primary, illegal_in_format, illegal_in_verify}
 use Rattle.qic117_commands.specs.Views.{is_primary, is_format, is_verify}
 use Rattle.qic117_commands.specs.Views.{is_seeking as sees_seek}
-use Rattle.drive_states.specs.declared.deck.Deck.{Deck}
-use Rattle.drive_states.specs.declared.deck.Motion.{Motion}
-use Rattle.drive_states.specs.declared.deck.Motion.TheVariants.{Stopped, Streaming, Seeking}
-use Rattle.drive_states.specs.Deck.{seen_motion, is_stopped, is_seeking, view_of, refusal_of, accepted}
-use Rattle.drive_states.specs.Row.{parameter_trains, parameter_values, steps_of}
+use Rattle.drive_spec.specs.declared.deck.Deck.{Deck}
+use Rattle.drive_spec.specs.declared.deck.Motion.{Motion}
+use Rattle.drive_spec.specs.declared.deck.Motion.TheVariants.{Stopped, Streaming, Seeking}
+use Rattle.drive_spec.specs.Deck.{seen_motion, is_stopped, view_of, refusal_of}
+use Rattle.drive_spec.specs.Effects.{accepted}
+use Rattle.drive_spec.specs.Parameters.{parameter_trains, parameter_values}
+use Rattle.drive_spec.specs.Steps.{steps_of}
+use Rattle.drive_states.specs.Typed.{is_seeking}
 use Rattle.drive_states.proofs.Bounds.{while_stopped, with_cartridge}
 use Rattle.drive_states.proofs.Taken.{is_taken}
 

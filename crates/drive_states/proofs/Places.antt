@@ -11,13 +11,14 @@ use Rattle.qic117_commands.specs.declared.command.Command.TheVariants.{LogicalFo
 use Rattle.qic117_commands.specs.Refusals.{needs_cartridge}
 use Rattle.tape_geometry.specs.declared.geometry.FloppyAddr.{FloppyAddr}
 use Rattle.tape_geometry.specs.Geometry.{HasAddress}
-use Rattle.drive_states.specs.declared.deck.Deck.{Deck}
-use Rattle.drive_states.specs.declared.deck.Motion.{Motion}
-use Rattle.drive_states.specs.declared.deck.Motion.TheVariants.{Stopped, Streaming, Seeking}
-use Rattle.drive_states.specs.Deck.{segments_per_track, limit, is_stopped, is_streaming, is_seeking, refusal_of, accepted, ticked, run_on, passed}
-use Rattle.drive_states.specs.Reach.{StreamsTo, segment_of, Writes}
+use Rattle.drive_spec.specs.declared.deck.Deck.{Deck}
+use Rattle.drive_spec.specs.declared.deck.Motion.{Motion}
+use Rattle.drive_spec.specs.declared.deck.Motion.TheVariants.{Stopped, Streaming, Seeking}
+use Rattle.drive_spec.specs.Deck.{segments_per_track, limit, is_stopped, is_streaming, refusal_of}
+use Rattle.drive_spec.specs.Effects.{accepted, ticked, run_on}
+use Rattle.drive_states.specs.Typed.{is_seeking, TypedState, IsIn, moved, seeking}
+use Rattle.drive_states.specs.Reach.{passed, StreamsTo, segment_of, Writes}
 use Rattle.drive_states.specs.Sound.{HasLength, IsSound}
-use Rattle.drive_states.specs.Typed.{TypedState, IsIn, moved, seeking}
 use Rattle.drive_states.specs.Unit.{Knows, DeckAndTape}
 use Rattle.drive_states.proofs.Bounds.{with_cartridge, before_limit, limit_within, IsSound-passed}
 

@@ -8,16 +8,19 @@ use Rattle.qic117_commands.specs.declared.error_code.ErrorCode.{ErrorCode}
 use Rattle.qic117_commands.specs.declared.error_code.ErrorCode.TheVariants.{UndefinedCommand, IllegalInReport}
 use Rattle.report_bits.specs.Digits.{digits}
 use Rattle.report_bits.specs.Report.{levels_of}
-use Rattle.drive_states.specs.declared.deck.Deck.{Deck}
-use Rattle.drive_states.specs.declared.deck.Motion.{Motion}
-use Rattle.drive_states.specs.declared.deck.Motion.TheVariants.{Stopped}
-use Rattle.drive_states.specs.declared.under_way.Parameter.{Parameter}
-use Rattle.drive_states.specs.declared.under_way.UnderWay.{UnderWay}
-use Rattle.drive_states.specs.declared.under_way.UnderWay.TheVariants.{Nothing, Report, Awaited}
-use Rattle.drive_states.specs.Deck.{is_streaming, refusal_of, error_word, accepted, given, IsParameter, reset, ticked, ticked_motion, ends_early, run_on}
-use Rattle.drive_states.specs.Record.{Record}
-use Rattle.drive_states.specs.Row.{latched, begun, is_report, report_width, report_word, parameter_trains, parameter_values, parameter_code, longer, given_more, taking, showing, by_refusal, by_command, heard, obeyed, moved_on, idled, row}
-use Rattle.drive_states.specs.Sound.{IsUnderWay, IsSoundRecord}
+use Rattle.drive_spec.specs.declared.deck.Deck.{Deck}
+use Rattle.drive_spec.specs.declared.deck.Motion.{Motion}
+use Rattle.drive_spec.specs.declared.deck.Motion.TheVariants.{Stopped}
+use Rattle.drive_spec.specs.declared.under_way.Parameter.{Parameter}
+use Rattle.drive_spec.specs.declared.under_way.UnderWay.{UnderWay}
+use Rattle.drive_spec.specs.declared.under_way.UnderWay.TheVariants.{Nothing, Report, Awaited}
+use Rattle.drive_spec.specs.Deck.{is_streaming, refusal_of}
+use Rattle.drive_spec.specs.Effects.{error_word, accepted, given, reset, ticked, ticked_motion, ends_early, run_on}
+use Rattle.drive_spec.specs.Record.{Record}
+use Rattle.drive_spec.specs.Reports.{is_report, report_width, report_word}
+use Rattle.drive_spec.specs.Parameters.{parameter_trains, parameter_values, parameter_code, longer}
+use Rattle.drive_spec.specs.Row.{latched, begun, given_more, taking, showing, by_refusal, by_command, heard, obeyed, moved_on, idled, row}
+use Rattle.drive_states.specs.Sound.{IsParameter, IsUnderWay, IsSoundRecord}
 use Rattle.drive_states.proofs.Bounds.{IsSound-accepted, IsSound-given, IsSound-ticked, IsSound-reset, IsSound-run_on, IsSound-error}
 use Rattle.drive_states.proofs.Obeying.{parameter_stopped}
 

@@ -3,14 +3,15 @@ use Rattle.std.proofs.Common.{◌≡◌, Bool, true, false, Result, Ok, Err, OnO
 use Rattle.qic_base.specs.Tape.{Meaning}
 use Rattle.qic117_commands.specs.declared.view.Mode.{Mode}
 use Rattle.tape_geometry.specs.declared.geometry.FloppyAddr.{FloppyAddr}
-use Rattle.drive_states.specs.declared.deck.Deck.{Deck}
-use Rattle.drive_states.specs.declared.deck.Motion.{Motion}
-use Rattle.drive_states.specs.declared.deck.Motion.TheVariants.{Stopped}
-use Rattle.drive_states.specs.declared.under_way.UnderWay.TheVariants.{Nothing}
-use Rattle.drive_states.specs.Deck.{is_streaming}
+use Rattle.drive_spec.specs.declared.deck.Deck.{Deck}
+use Rattle.drive_spec.specs.declared.deck.Motion.{Motion}
+use Rattle.drive_spec.specs.declared.deck.Motion.TheVariants.{Stopped}
+use Rattle.drive_spec.specs.declared.under_way.UnderWay.TheVariants.{Nothing}
+use Rattle.drive_spec.specs.Deck.{is_streaming}
+use Rattle.drive_spec.specs.Record.{Record}
+use Rattle.drive_spec.specs.Row.{after_gap, moved_on}
 use Rattle.drive_states.specs.Reach.{StreamsTo, ReachesNone, IsFormatting}
-use Rattle.drive_states.specs.Record.{Record}
-use Rattle.drive_states.specs.Row.{after_gap, moved_on, without_reference}
+use Rattle.drive_states.specs.Unreferenced.{without_reference}
 use Rattle.drive_states.specs.Sound.{IsSound, IsSoundRecord}
 use Rattle.drive_states.specs.Unit.{DeckAndTape, UnitView, Knows, IsSoundUnit}
 use Rattle.drive_states.proofs.Rows.{IsSoundRecord-row, IsSoundRecord-moved_on, IsUnderWay-moved}

@@ -1,7 +1,7 @@
 -- The record that a drive and its end of the cable stand for.
+use Rattle.drive_spec.specs.Record.{Record}
 use Rattle.drive_states.specs.declared.dialogue.Dialogue.{Dialogue}
 use Rattle.drive_states.specs.AnyDrive.{drive_of}
-use Rattle.drive_states.specs.Record.{Record}
 use Rattle.drive_states.specs.Unit.{UnitView}
 
 abbrev pub record_of : {T : Type 0} → Dialogue T → Record

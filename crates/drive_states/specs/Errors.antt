@@ -1,6 +1,6 @@
 -- An error word on a deck.
 use Rattle.std.specs.Prelude.{ℕ, Bool}
-use Rattle.drive_states.specs.declared.deck.Deck.{Deck}
+use Rattle.drive_spec.specs.declared.deck.Deck.{Deck}
 
 -- another error word and new cartridge flag
 abbrev pub with_error : (error : ℕ) (fresh : Bool) → Deck → Deck

@@ -4,9 +4,9 @@ use Rattle.qic_base.specs.Cartridge.{view_at, IsPlace}
 use Rattle.qic_base.specs.Step.{Step, Wear, Spoil}
 use Rattle.qic_base.specs.Tape.{Meaning, Done, Broke, Tells, spoil_answer}
 use Rattle.qic_base.specs.declared.tape.TapeInfo.{TapeInfo}
+use Rattle.drive_spec.specs.Record.{power_on}
 use Rattle.drive_states.specs.declared.fault.HandFault.{HandFault}
 use Rattle.drive_states.specs.declared.fault.HandFault.TheVariants.{NoCartridge, BadPlace, Tape, NotBlank}
-use Rattle.drive_states.specs.Record.{power_on}
 use Rattle.drive_states.specs.Unit.{UnitView, IsInserted}
 
 -- A change of the cartridge after which it is put in again. After a fault of the tape the drive knows of none.

@@ -4,9 +4,10 @@ use Rattle.qic_base.specs.declared.tape.TapeInfo.{TapeInfo}
 use Rattle.qic_base.specs.Step.{Step}
 use Rattle.qic117_commands.specs.Commands.{number_of}
 use Rattle.qic117_commands.specs.declared.command.Command.TheVariants.{WriteReference}
-use Rattle.drive_states.specs.Deck.{referenced_as}
-use Rattle.drive_states.specs.Record.{Record}
-use Rattle.drive_states.specs.Row.{row, after_gap, gap_steps}
+use Rattle.drive_spec.specs.Effects.{referenced_as}
+use Rattle.drive_spec.specs.Record.{Record}
+use Rattle.drive_spec.specs.Row.{row, after_gap}
+use Rattle.drive_spec.specs.Steps.{gap_steps}
 use Rattle.drive_states.specs.Sound.{IsSoundRecord}
 
 -- a gap after any train keeps the bounds of the record

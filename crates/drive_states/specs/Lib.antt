@@ -1,13 +1,11 @@
 pub mod AnyDrive
 pub mod Cable
-pub mod Deck
 pub mod Errors
 pub mod Hand
 pub mod Laws
 pub mod Reach
-pub mod Record
-pub mod Row
 pub mod Sound
 pub mod Ticks
 pub mod Typed
 pub mod Unit
+pub mod Unreferenced

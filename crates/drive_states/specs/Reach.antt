@@ -9,12 +9,13 @@ use Rattle.qic117_commands.specs.declared.view.Mode.TheVariants.{Primary, Format
 use Rattle.qic117_commands.specs.Views.{is_format}
 use Rattle.tape_geometry.specs.declared.geometry.FloppyAddr.{FloppyAddr}
 use Rattle.tape_geometry.specs.Geometry.{HasAddress}
-use Rattle.drive_states.specs.declared.deck.Deck.{Deck}
-use Rattle.drive_states.specs.declared.deck.Motion.{Motion}
-use Rattle.drive_states.specs.declared.deck.Motion.TheVariants.{Stopped, Streaming, Seeking}
+use Rattle.drive_spec.specs.declared.deck.Deck.{Deck}
+use Rattle.drive_spec.specs.declared.deck.Motion.{Motion}
+use Rattle.drive_spec.specs.declared.deck.Motion.TheVariants.{Stopped, Streaming, Seeking}
+use Rattle.drive_spec.specs.Deck.{segments_per_track, is_streaming}
+use Rattle.drive_spec.specs.Effects.{run_on}
 use Rattle.drive_states.specs.declared.fault.FdcFault.{FdcFault}
 use Rattle.drive_states.specs.declared.fault.FdcFault.TheVariants.{NoAddress, Protected, Unreadable, Tape}
-use Rattle.drive_states.specs.Deck.{segments_per_track, is_streaming, passed, run_on}
 use Rattle.drive_states.specs.Unit.{DeckAndTape}
 
 -- which calls a mode has: sectors are read in Primary and Verify, written in Primary, and formatted in Format
@@ -60,6 +61,10 @@ ReachesNone has_call d addr = (segment index : ℕ) → Reaches has_call d addr 
 pub record IsFormatting (d : Deck) : Type 0 where
   pub mode : is_format d.mode ≡ true
   pub streams : is_streaming d.motion ≡ true
+
+-- the head has passed a sector of the segment under it
+abbrev pub passed : Deck → (index : ℕ) → Deck
+passed d index = record d { motion = Streaming (index + 1) }
 
 -- the head passed the sector, and the tape was only read
 pub record Passes {T : Type 0} (m : Meaning T) (old new : DeckAndTape T) (index : ℕ) : Type 0 where

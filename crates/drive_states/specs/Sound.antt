@@ -2,16 +2,18 @@
 use Rattle.std.specs.Prelude.{◌≡◌, ℕ, ◌^◌, ◌<◌, ◌≤◌, true, false, [], ◌∷◌, Option, Some, None, is_some}
 use Rattle.qic_base.specs.Cartridge.{IsLength}
 use Rattle.qic_base.specs.declared.tape.TapeInfo.{TapeInfo}
+use Rattle.qic117_commands.specs.declared.command.Command.{Command}
+use Rattle.qic117_commands.specs.declared.command.Command.TheVariants.{SeekTrack, SkipReverse, SkipForward, SetFormatSegments}
 use Rattle.qic117_commands.specs.declared.view.Mode.TheVariants.{Primary}
 use Rattle.qic117_commands.specs.Views.{is_primary}
-use Rattle.drive_states.specs.declared.deck.Deck.{Deck}
-use Rattle.drive_states.specs.declared.deck.Motion.{Motion}
-use Rattle.drive_states.specs.declared.deck.Motion.TheVariants.{Stopped, Streaming, Seeking}
-use Rattle.drive_states.specs.declared.under_way.UnderWay.{UnderWay}
-use Rattle.drive_states.specs.declared.under_way.UnderWay.TheVariants.{Nothing, Report, Awaited}
-use Rattle.drive_states.specs.Deck.{segments_per_track, limit, is_streaming, refusal_of}
-use Rattle.drive_states.specs.Record.{Record}
-use Rattle.drive_states.specs.Row.{parameter_trains}
+use Rattle.drive_spec.specs.declared.deck.Deck.{Deck}
+use Rattle.drive_spec.specs.declared.deck.Motion.{Motion}
+use Rattle.drive_spec.specs.declared.deck.Motion.TheVariants.{Stopped, Streaming, Seeking}
+use Rattle.drive_spec.specs.declared.under_way.UnderWay.{UnderWay}
+use Rattle.drive_spec.specs.declared.under_way.UnderWay.TheVariants.{Nothing, Report, Awaited}
+use Rattle.drive_spec.specs.Deck.{segments_per_track, limit, is_streaming, refusal_of}
+use Rattle.drive_spec.specs.Record.{Record}
+use Rattle.drive_spec.specs.Parameters.{parameter_trains}
 
 -- a cartridge that is present has 3 segments per track or more, up to the greatest number
 abbrev pub HasLength : Option TapeInfo → Type 0
@@ -40,6 +42,14 @@ pub record IsSound (d : Deck) : Type 0 where
   pub offset : d.offset ≤ segments_per_track d
   pub motion : IsInMotion (limit d) d.offset d.motion
   pub format_segments : d.format_segments < 4096
+
+-- a whole parameter: a track, or two nibbles, or three
+abbrev pub IsParameter : Command → ℕ → Type 0
+IsParameter SeekTrack track = track < 28
+IsParameter SkipReverse count = count < 256
+IsParameter SkipForward count = count < 256
+IsParameter SetFormatSegments count = count < 4096
+IsParameter command parameter = Unit {0}
 
 -- a report has more to show; a parameter's command was accepted, it is not whole, and its nibbles are what was sent
 abbrev pub IsUnderWay : Deck → UnderWay → Type 0

@@ -1,10 +1,10 @@
 -- What a gap does to a drive that seeks.
 use Rattle.std.specs.Prelude.{◌≡◌, ◌<◌, ℕ}
-use Rattle.drive_states.specs.declared.deck.Motion.{Motion}
-use Rattle.drive_states.specs.declared.deck.Motion.TheVariants.{Stopped, Streaming, Seeking}
+use Rattle.drive_spec.specs.declared.deck.Motion.{Motion}
+use Rattle.drive_spec.specs.declared.deck.Motion.TheVariants.{Stopped, Streaming, Seeking}
+use Rattle.drive_spec.specs.Effects.{ticked}
 use Rattle.drive_states.specs.declared.drive.Ticked.{Ticked}
 use Rattle.drive_states.specs.declared.drive.Ticked.TheVariants.{Still, There}
-use Rattle.drive_states.specs.Deck.{ticked}
 use Rattle.drive_states.specs.Unit.{DeckAndTape}
 
 -- so many gaps are left

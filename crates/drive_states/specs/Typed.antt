@@ -8,9 +8,16 @@ use Rattle.qic117_commands.specs.declared.error_code.ErrorCode.{ErrorCode}
 use Rattle.qic117_commands.specs.declared.view.Mode.{Mode}
 use Rattle.qic117_commands.specs.declared.view.Mode.TheVariants.{Primary}
 use Rattle.qic117_commands.specs.Views.{is_primary}
-use Rattle.drive_states.specs.declared.deck.Deck.{Deck}
-use Rattle.drive_states.specs.Deck.{is_seeking, refusal_of}
+use Rattle.drive_spec.specs.declared.deck.Deck.{Deck}
+use Rattle.drive_spec.specs.declared.deck.Motion.{Motion}
+use Rattle.drive_spec.specs.declared.deck.Motion.TheVariants.{Stopped, Streaming, Seeking}
+use Rattle.drive_spec.specs.Deck.{refusal_of}
 use Rattle.drive_states.specs.Unit.{DeckAndTape}
+
+abbrev pub is_seeking : Motion → Bool
+is_seeking Stopped = false
+is_seeking (Streaming next) = false
+is_seeking (Seeking left) = true
 
 -- what a typed state is: a mode, whether the drive stands at the load point or seeks it, and whether it seeks
 pub record TypedState : Type 0 where

@@ -1,11 +1,11 @@
 -- A drive as contracts see it: what it is in, and the tape that it owns.
-use Rattle.std.specs.Prelude.{◌≡◌, ℕ, Option, Some, None, IfSome}
+use Rattle.std.specs.Prelude.{◌≡◌, ℕ, ◌+◌, min, Option, Some, None, IfSome}
 use Rattle.std.specs.Option.{option_map}
 use Rattle.qic_base.specs.Tape.{Meaning}
 use Rattle.qic_base.specs.declared.tape.TapeInfo.{TapeInfo}
-use Rattle.drive_states.specs.declared.deck.Deck.{Deck}
-use Rattle.drive_states.specs.Deck.{power_on_deck}
-use Rattle.drive_states.specs.Record.{Record, power_on}
+use Rattle.drive_spec.specs.declared.deck.Deck.{Deck}
+use Rattle.drive_spec.specs.Deck.{power_on_deck}
+use Rattle.drive_spec.specs.Record.{Record, power_on}
 use Rattle.drive_states.specs.Sound.{HasLength, IsSoundRecord}
 
 -- a typed drive
@@ -17,6 +17,10 @@ pub record DeckAndTape (T : Type 0) : Type 0 where
 pub record UnitView (T : Type 0) : Type 0 where
   pub drive : Record
   pub tape : T
+
+-- a pulse; the count stops at 255
+abbrev pub stepped : Record → Record
+stepped r = record r { train = min (r.train + 1) 255 }
 
 -- the typed drive of a unit
 abbrev pub held : {T : Type 0} → UnitView T → DeckAndTape T

@@ -5,18 +5,19 @@ ghost use Rattle.qic_base.specs.Cartridge.{view_at};
 ghost use Rattle.qic_base.specs.Step.{Wear, Spoil};
 ghost use Rattle.qic_base.specs.Tape.{Does, Tells, IsPlaceOf, spoil_answer};
 ghost use Rattle.qic117_commands.specs.Views.{is_primary};
+ghost use Rattle.drive_spec.specs.Deck.{is_streaming, is_protected};
+ghost use Rattle.drive_spec.specs.Effects.{ticked, reset, run_on};
 ghost use Rattle.drive_states.specs.AnyDrive.{drive_of, state_of};
-ghost use Rattle.drive_states.specs.Deck.{ticked, reset, run_on, is_streaming, is_protected};
 ghost use Rattle.drive_states.specs.Errors.{with_error};
 ghost use Rattle.drive_states.specs.Reach.{reads_in, Reaches, ReachesNone, IsFormatting, Finds, Writes, Formats};
 ghost use Rattle.drive_states.specs.Sound.{IsSound};
 ghost use Rattle.drive_states.specs.Typed.{IsIn};
 ghost use Rattle.drive_states.specs.Unit.{Knows};
 
-use crate::deck::Deck;
 use crate::drive::{Drive, Ticked};
 use crate::fault::FdcFault;
 use crate::states::{Format, LoadPoint, Primary, Seeking, Verify};
+use drive_spec::Deck;
 use qic_base::{Tape, TapeFailed};
 use tape_geometry::FloppyAddr;
 

@@ -4,18 +4,24 @@ ghost use Rattle.std.specs.Prelude.{◌≡◌, ◌≢◌, ◌<◌, ◌≤◌, �
 ghost use Rattle.qic_base.specs.Step.{SetReferenced};
 ghost use Rattle.qic_base.specs.Tape.{Does};
 ghost use Rattle.qic117_commands.specs.Commands.{command_at};
+ghost use Rattle.drive_spec.specs.Deck.{refusal_of, is_streaming};
+ghost use Rattle.drive_spec.specs.Effects.{ticked, reset, given};
+ghost use Rattle.drive_spec.specs.Parameters.{parameter_trains};
+ghost use Rattle.drive_spec.specs.Row.{obeying, by_command, taking, showing, obeyed, moved_on, idled, after_gap, latched};
+ghost use Rattle.drive_spec.specs.Steps.{steps_of, command_steps, train_steps, gap_steps};
 ghost use Rattle.drive_states.specs.AnyDrive.{drive_of};
 ghost use Rattle.drive_states.specs.Cable.{record_of, unit_of};
-ghost use Rattle.drive_states.specs.Deck.{ticked, reset, given, IsParameter, refusal_of, is_streaming};
+ghost use Rattle.drive_states.specs.Sound.{IsParameter, IsUnderWay, IsSoundRecord};
 ghost use Rattle.drive_states.specs.Reach.{IsFormatting, Formats};
-ghost use Rattle.drive_states.specs.Row.{obeying, by_command, taking, showing, obeyed, moved_on, idled, after_gap, latched, parameter_trains, steps_of, command_steps, train_steps, gap_steps, without_reference};
-ghost use Rattle.drive_states.specs.Sound.{IsUnderWay, IsSoundRecord};
+ghost use Rattle.drive_states.specs.Unreferenced.{without_reference};
 
 use crate::any_drive::AnyDrive;
+use crate::deck::{ends_early, is_streaming, refusal};
 use crate::effects::error_word;
 use crate::fault::FdcFault;
-use crate::under_way::{Parameter, UnderWay, report_width};
+use crate::under_way::{admits, begun, fault, is_whole, longer, report_width};
 use core::mem::{replace, replace_with};
+use drive_spec::{Parameter, UnderWay};
 use qic_base::{Tape, TapeFailed};
 use qic117_commands::{Command, ErrorCode, command_of};
 use report_bits::{Shifter, Shown};
@@ -79,7 +85,7 @@ impl<T: Tape> Dialogue<T> {
     {
         let deck = self.drive.deck();
         self.line = report_width(command) > 0;
-        self.under_way = UnderWay::begun(command, &deck);
+        self.under_way = begun(command, &deck);
         replace_with(&mut self.drive, command, AnyDrive::obey)
     }
 
@@ -101,7 +107,7 @@ impl<T: Tape> Dialogue<T> {
             self.latch(ErrorCode::UndefinedCommand, train);
             return Ok(());
         };
-        match self.drive.deck().refusal(command) {
+        match refusal(&self.drive.deck(), command) {
             Some(code) => {
                 self.latch(code, command.number());
                 Ok(())
@@ -117,12 +123,12 @@ impl<T: Tape> Dialogue<T> {
           drive = taking (record_of self.old) parameter value;
         } }
     {
-        if !parameter.admits(value) {
-            self.latch(parameter.fault(), parameter.command.number());
+        if !admits(&parameter, value) {
+            self.latch(fault(&parameter), parameter.command.number());
             return;
         }
-        let parameter = parameter.longer(value);
-        if parameter.is_whole() {
+        let parameter = longer(parameter, value);
+        if is_whole(&parameter) {
             replace_with(&mut self.drive, parameter, given);
             self.under_way = UnderWay::Nothing;
         } else {
@@ -188,7 +194,7 @@ impl<T: Tape> Dialogue<T> {
         requires { IsSoundRecord (record_of self.old) }
         ensures { unit_of self.new ≡ record (unit_of self.old) { drive = idled (record_of self.old) } }
     {
-        if self.drive.deck().is_streaming() {
+        if is_streaming(&self.drive.deck()) {
             self.move_on();
         }
     }
@@ -198,7 +204,7 @@ impl<T: Tape> Dialogue<T> {
         requires { is_streaming (record_of self.old).deck.motion ≡ true }
         ensures { unit_of self.new ≡ record (unit_of self.old) { drive = moved_on (record_of self.old) } }
     {
-        if self.drive.deck().ends_early() {
+        if ends_early(&self.drive.deck()) {
             self.under_way = UnderWay::Nothing;
         }
         self.drive.run_on();
@@ -237,7 +243,7 @@ impl<T: Tape> Dialogue<T> {
         ensures failed { OnErr result (record_of self.new ≡ record_of self.old) }
         ensures size { T.means.size (unit_of self.new).tape ≡ T.means.size (unit_of self.old).tape }
     {
-        let early = self.drive.deck().ends_early();
+        let early = ends_early(&self.drive.deck());
         self.drive.format_segment()?;
         if early {
             self.under_way = UnderWay::Nothing;

@@ -4,14 +4,16 @@ ghost use Rattle.std.specs.Prelude.{◌≡◌, [], ◌∷◌, IfOk, true};
 ghost use Rattle.qic_base.specs.Cartridge.{view_at};
 ghost use Rattle.qic_base.specs.Step.{Wear, Spoil};
 ghost use Rattle.qic_base.specs.Tape.{Does, Tells, IsPlaceOf, spoil_answer};
-ghost use Rattle.drive_states.specs.Deck.{is_streaming, run_on};
+ghost use Rattle.drive_spec.specs.Deck.{is_streaming};
+ghost use Rattle.drive_spec.specs.Effects.{run_on};
 ghost use Rattle.drive_states.specs.Errors.{with_error};
 ghost use Rattle.drive_states.specs.Sound.{IsSound};
 ghost use Rattle.drive_states.specs.Typed.{IsIn};
 ghost use Rattle.drive_states.specs.Unit.{Knows};
 
-use crate::deck::Deck;
+use crate::effects::run_on;
 use crate::states::{Format, Seeking, State};
+use drive_spec::Deck;
 use qic_base::{Tape, TapeFailed};
 use qic117_commands::ErrorCode;
 use std::marker::{Model, PhantomData};
@@ -121,7 +123,7 @@ impl<S: State, T: Tape> Drive<S, T> {
         requires { is_streaming self.old.deck.motion ≡ true }
         ensures { self.new ≡ record self.old { deck = run_on self.old.deck } }
     {
-        self.deck = self.deck.run_on();
+        self.deck = run_on(self.deck);
     }
 
     /// Makes a readable sector of the cartridge unreadable.

@@ -4,27 +4,27 @@ ghost use Rattle.std.specs.Prelude.{◌≡◌, [], ◌∷◌, None, IsSome, OnOk
 ghost use Rattle.qic_base.specs.Cartridge.{IsLength};
 ghost use Rattle.qic_base.specs.Step.{Renew, SetProtected};
 ghost use Rattle.qic_base.specs.Tape.{Does};
+ghost use Rattle.drive_spec.specs.Deck.{power_on_deck};
+ghost use Rattle.drive_spec.specs.Record.{power_on};
 ghost use Rattle.drive_states.specs.AnyDrive.{drive_of};
 ghost use Rattle.drive_states.specs.Cable.{unit_of, record_of};
-ghost use Rattle.drive_states.specs.Deck.{power_on_deck};
 ghost use Rattle.drive_states.specs.Hand.{Replaces};
-ghost use Rattle.drive_states.specs.Record.{power_on};
 ghost use Rattle.drive_states.specs.Unit.{IsInserted, KnowsAll};
 
 use crate::any_drive::AnyDrive;
-use crate::deck::Deck;
+use crate::deck::power_on_deck;
 use crate::dialogue::Dialogue;
 use crate::drive::Drive;
 use crate::fault::HandFault;
-use crate::under_way::UnderWay;
 use core::mem::replace_with;
+use drive_spec::UnderWay;
 use qic_base::{Tape, TapeFailed};
 
 /// A drive that knows of no cartridge.
 pub fn empty<T: Tape>(tape: T) -> AnyDrive<T>
     ensures { drive_of result ≡ record { deck = power_on_deck None; tape = tape } }
 {
-    AnyDrive::LoadPoint(Drive::of(Deck::power_on(None), tape))
+    AnyDrive::LoadPoint(Drive::of(power_on_deck(None), tape))
 }
 
 /// The drive learns what its cartridge is.
@@ -36,7 +36,7 @@ fn look<T: Tape>(mut tape: T) -> (AnyDrive<T>, Result<(), TapeFailed>)
 {
     match tape.info() {
         Ok(cartridge) => (
-            AnyDrive::LoadPoint(Drive::of(Deck::power_on(cartridge), tape)),
+            AnyDrive::LoadPoint(Drive::of(power_on_deck(cartridge), tape)),
             Ok(()),
         ),
         Err(failed) => (empty(tape), Err(failed)),

@@ -2,10 +2,10 @@
 #![tactic(auto)]
 
 mod any_drive;
-mod deck;
+pub mod deck;
 mod dialogue;
 mod drive;
-mod effects;
+pub mod effects;
 mod fault;
 mod hand;
 pub mod laws;
@@ -13,16 +13,16 @@ mod obey;
 mod sectors;
 mod states;
 mod transitions;
-mod under_way;
+pub mod under_way;
 mod unit;
 
-pub use deck::{Deck, Motion};
 pub use drive::{Drive, ReferenceFailed, Refused, Ticked};
+pub use drive_spec::{Deck, Motion, Parameter};
 pub use fault::{FdcFault, HandFault};
 pub use states::{
     EntersFormat, EntersPrimary, EntersVerify, Format, LoadPoint, Primary, Reads, Resets, Seeking,
     Skips, Standing, State, Verify,
 };
 pub use tape_geometry::FloppyAddr;
-pub use under_way::{Parameter, parameter_trains, report_width, report_word};
+pub use under_way::{parameter_trains, report_width, report_word};
 pub use unit::Unit;

@@ -4,9 +4,13 @@ ghost use Rattle.std.specs.Prelude.{◌≡◌, ◌<◌, [], ◌∷◌, OnOk, OnE
 ghost use Rattle.qic117_commands.specs.declared.command.Command.TheVariants as named;
 ghost use Rattle.qic_base.specs.Step.{SetReferenced};
 ghost use Rattle.qic_base.specs.Tape.{Does};
+ghost use Rattle.drive_spec.specs.Deck.{refusal_of};
+ghost use Rattle.drive_spec.specs.Effects.{accepted, given};
+ghost use Rattle.drive_spec.specs.Parameters.{parameter_trains};
+ghost use Rattle.drive_spec.specs.Steps.{steps_of};
 ghost use Rattle.drive_states.specs.AnyDrive.{drive_of};
-ghost use Rattle.drive_states.specs.Deck.{accepted, given, refusal_of, unreferenced, IsParameter};
-ghost use Rattle.drive_states.specs.Row.{steps_of, parameter_trains};
+ghost use Rattle.drive_states.specs.Unreferenced.{unreferenced};
+ghost use Rattle.drive_states.specs.Sound.{IsParameter};
 ghost use Rattle.drive_states.specs.Typed.{skip_command};
 
 use crate::any_drive::AnyDrive;

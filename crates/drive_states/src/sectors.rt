@@ -3,37 +3,37 @@
 ghost use Rattle.std.specs.Prelude.{◌≡◌, ℕ, List, true, IfNone, IfSome};
 ghost use Rattle.qic117_commands.specs.Views.{is_primary};
 ghost use Rattle.qic_base.specs.Tape.{IsPlaceOf};
-ghost use Rattle.drive_states.specs.Deck.{is_protected};
+ghost use Rattle.drive_spec.specs.Deck.{is_protected};
 ghost use Rattle.drive_states.specs.Reach.{reads_in, Reaches, ReachesNone, IsFormatting, Finds, Writes, Formats};
 ghost use Rattle.drive_states.specs.Reach.{HasAddressIn, HasNoAddressIn};
 ghost use Rattle.drive_states.specs.Sound.{IsSound};
 
-use crate::deck::{Deck, Motion};
+use crate::deck::{is_protected, is_streaming, segment_of};
 use crate::drive::Drive;
+use crate::effects::{passed, run_on};
 use crate::fault::FdcFault;
 use crate::states::{Format, Primary, Reads};
+use drive_spec::{Deck, Motion};
 use qic_base::{SectorRead, SectorWrite, Tape, TapeFailed};
 use tape_geometry::{FloppyAddr, Geometry};
 
-impl Deck {
-    /// The segment and the sector index of an address that the head can still reach.
-    fn reach(&self, addr: FloppyAddr) -> Option<(u32, u8)>
-        requires { IsSound self.now }
-        ensures reached { IfSome result (λ place. HasAddressIn self.now addr place.0 place.1) }
-        ensures none { IfNone result (HasNoAddressIn self.now addr) }
-    {
-        let info = self.cartridge?;
-        let Motion::Streaming { next } = self.motion else {
-            return None;
-        };
-        let Ok(geometry) = Geometry::new(info.segments_per_track) else {
-            return None;
-        };
-        let Some((segment, index)) = geometry.place(addr) else {
-            return None;
-        };
-        (segment == self.segment() && next <= index).then_some((segment, index))
-    }
+/// The segment and the sector index of an address that the head can still reach.
+fn reach(deck: &Deck, addr: FloppyAddr) -> Option<(u32, u8)>
+    requires { IsSound deck.now }
+    ensures reached { IfSome result (λ place. HasAddressIn deck.now addr place.0 place.1) }
+    ensures none { IfNone result (HasNoAddressIn deck.now addr) }
+{
+    let info = deck.cartridge?;
+    let Motion::Streaming { next } = deck.motion else {
+        return None;
+    };
+    let Ok(geometry) = Geometry::new(info.segments_per_track) else {
+        return None;
+    };
+    let Some((segment, index)) = geometry.place(addr) else {
+        return None;
+    };
+    (segment == segment_of(deck) && next <= index).then_some((segment, index))
 }
 
 impl<M: Reads, T: Tape> Drive<M, T> {
@@ -46,7 +46,7 @@ impl<M: Reads, T: Tape> Drive<M, T> {
             Finds T.means self.old self.new segment index into.old into.new result }
         ensures size { T.means.size self.new.tape ≡ T.means.size self.old.tape }
     {
-        let Some((segment, index)) = self.deck.reach(addr) else {
+        let Some((segment, index)) = reach(&self.deck, addr) else {
             return Err(FdcFault::NoAddress);
         };
         let answer = match self.tape.read_sector(segment, index, into) {
@@ -55,7 +55,7 @@ impl<M: Reads, T: Tape> Drive<M, T> {
             Ok(SectorRead::Blank) => return Err(FdcFault::NoAddress),
             Err(TapeFailed) => return Err(FdcFault::Tape),
         };
-        self.deck = self.deck.passed(index);
+        self.deck = passed(self.deck, index);
         answer
     }
 }
@@ -85,15 +85,15 @@ impl<T: Tape> Drive<Primary, T> {
             Writes T.means self.old self.new segment index from.now (is_protected self.old.deck) result }
         ensures size { T.means.size self.new.tape ≡ T.means.size self.old.tape }
     {
-        let Some((segment, index)) = self.deck.reach(addr) else {
+        let Some((segment, index)) = reach(&self.deck, addr) else {
             return Err(FdcFault::NoAddress);
         };
-        if self.deck.is_protected() {
+        if is_protected(&self.deck) {
             return Err(self.refuse_write(segment, index));
         }
         match self.tape.write_sector(segment, index, from) {
             Ok(SectorWrite::Taken) => {
-                self.deck = self.deck.passed(index);
+                self.deck = passed(self.deck, index);
                 Ok(())
             }
             Ok(SectorWrite::Blank) => Err(FdcFault::NoAddress),
@@ -110,12 +110,12 @@ impl<T: Tape> Drive<Format, T> {
         ensures reached { IsFormatting self.old.deck → Formats T.means self.old self.new result }
         ensures size { T.means.size self.new.tape ≡ T.means.size self.old.tape }
     {
-        if !self.deck.is_streaming() {
+        if !is_streaming(&self.deck) {
             return Err(FdcFault::NoAddress);
         }
-        match self.tape.format_segment(self.deck.segment()) {
+        match self.tape.format_segment(segment_of(&self.deck)) {
             Ok(()) => {
-                self.deck = self.deck.run_on();
+                self.deck = run_on(self.deck);
                 Ok(())
             }
             Err(TapeFailed) => Err(FdcFault::Tape),

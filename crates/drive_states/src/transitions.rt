@@ -2,11 +2,16 @@
 
 ghost use Rattle.std.specs.Prelude.{◌≡◌, ◌<◌, IfOk, IfErr, IsSome, None, true};
 ghost use Rattle.qic117_commands.specs.declared.command.Command.TheVariants as command;
-ghost use Rattle.drive_states.specs.Deck.{accepted, given, reset, is_stopped, refusal_of, unreferenced, IsParameter};
+ghost use Rattle.drive_spec.specs.Deck.{is_stopped, refusal_of};
+ghost use Rattle.drive_spec.specs.Effects.{accepted, given, reset};
+ghost use Rattle.drive_states.specs.Unreferenced.{unreferenced};
+ghost use Rattle.drive_states.specs.Sound.{IsParameter};
 ghost use Rattle.drive_states.specs.Ticks.{Ticks};
 ghost use Rattle.drive_states.specs.Typed.{IsIn, Obeyed, Refuses, References, FailsToReference, skip_command};
 
+use crate::deck::{is_stopped, refusal};
 use crate::drive::{Drive, ReferenceFailed, Refused, Ticked};
+use crate::effects::{accepted, given, reset, ticked, unreferenced};
 use crate::states::{
     EntersFormat, EntersPrimary, EntersVerify, Format, Primary, Resets, Seeking, Skips, Standing,
     State, Verify,
@@ -22,7 +27,7 @@ impl<S: State, T: Tape> Drive<S, T> {
         ensures { Obeyed self result command (accepted command self.deck) }
     {
         let (deck, tape) = self.into_parts();
-        Drive::of(deck.accepted(command), tape)
+        Drive::of(accepted(deck, command), tape)
     }
 
     /// The drive after a command that no row refuses, and that has its parameter.
@@ -33,7 +38,7 @@ impl<S: State, T: Tape> Drive<S, T> {
         ensures { Obeyed self result command (given command parameter self.deck) }
     {
         let (deck, tape) = self.into_parts();
-        Drive::of(deck.given(command, parameter), tape)
+        Drive::of(given(deck, command, parameter), tape)
     }
 }
 
@@ -45,7 +50,7 @@ impl<M: Standing, T: Tape> Drive<M, T> {
         ensures refused { IfErr result (λ refused.
             Refuses self refused.drive command.LogicalForward refused.code) }
     {
-        if let Some(code) = self.deck.refusal(Command::LogicalForward) {
+        if let Some(code) = refusal(&self.deck, Command::LogicalForward) {
             return Err(Refused { drive: self, code });
         }
         Ok(self.accepted(Command::LogicalForward))
@@ -68,7 +73,7 @@ impl<M: Standing, T: Tape> Drive<M, T> {
         ensures refused { IfErr result (λ refused.
             Refuses self refused.drive command.SeekTrack refused.code) }
     {
-        if let Some(code) = self.deck.refusal(Command::SeekTrack) {
+        if let Some(code) = refusal(&self.deck, Command::SeekTrack) {
             return Err(Refused { drive: self, code });
         }
         Ok(self.given(Command::SeekTrack, u16::from(track)))
@@ -81,7 +86,7 @@ impl<M: Standing, T: Tape> Drive<M, T> {
         ensures refused { IfErr result (λ refused.
             Refuses self refused.drive command.SeekLoadPoint refused.code) }
     {
-        if let Some(code) = self.deck.refusal(Command::SeekLoadPoint) {
+        if let Some(code) = refusal(&self.deck, Command::SeekLoadPoint) {
             return Err(Refused { drive: self, code });
         }
         Ok(self.accepted(Command::SeekLoadPoint))
@@ -105,7 +110,7 @@ impl<M: Skips, T: Tape> Drive<M, T> {
         } else {
             Command::SkipReverse
         };
-        if let Some(code) = self.deck.refusal(command) {
+        if let Some(code) = refusal(&self.deck, command) {
             return Err(Refused { drive: self, code });
         }
         Ok(self.given(command, u16::from(count)))
@@ -120,7 +125,7 @@ impl<M: EntersFormat, T: Tape> Drive<M, T> {
         ensures refused { IfErr result (λ refused.
             Refuses self refused.drive command.EnterFormat refused.code) }
     {
-        if let Some(code) = self.deck.refusal(Command::EnterFormat) {
+        if let Some(code) = refusal(&self.deck, Command::EnterFormat) {
             return Err(Refused { drive: self, code });
         }
         Ok(self.accepted(Command::EnterFormat))
@@ -135,7 +140,7 @@ impl<M: EntersVerify, T: Tape> Drive<M, T> {
         ensures refused { IfErr result (λ refused.
             Refuses self refused.drive command.EnterVerify refused.code) }
     {
-        if let Some(code) = self.deck.refusal(Command::EnterVerify) {
+        if let Some(code) = refusal(&self.deck, Command::EnterVerify) {
             return Err(Refused { drive: self, code });
         }
         Ok(self.accepted(Command::EnterVerify))
@@ -164,11 +169,11 @@ impl<T: Tape> Drive<Format, T> {
             (unreferenced (accepted command.WriteReference self.deck))) }
     {
         let (deck, mut tape) = self.into_parts();
-        let deck = deck.accepted(Command::WriteReference);
+        let deck = accepted(deck, Command::WriteReference);
         match tape.set_referenced() {
             Ok(()) => Ok(Drive::of(deck, tape)),
             Err(TapeFailed) => Err(ReferenceFailed {
-                drive: Drive::of(deck.unreferenced(), tape),
+                drive: Drive::of(unreferenced(deck), tape),
             }),
         }
     }
@@ -191,7 +196,7 @@ impl<S: Resets, T: Tape> Drive<S, T> {
         ensures { result ≡ record self { deck = reset self.deck } }
     {
         let (deck, tape) = self.into_parts();
-        Drive::of(deck.reset(), tape)
+        Drive::of(reset(deck), tape)
     }
 }
 
@@ -201,8 +206,8 @@ impl<M: Standing, T: Tape> Drive<Seeking<M>, T> {
         ensures { Ticks self result }
     {
         let (deck, tape) = self.into_parts();
-        let deck = deck.ticked();
-        if deck.is_stopped() {
+        let deck = ticked(deck);
+        if is_stopped(&deck) {
             Ticked::There(Drive::of(deck, tape))
         } else {
             Ticked::Still(Drive::of(deck, tape))

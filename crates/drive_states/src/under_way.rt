@@ -1,28 +1,14 @@
 //! What the drive's end of the cable is in the middle of.
 
 ghost use Rattle.std.specs.Prelude.{◌≡◌, ◌<◌, ◌^◌, ◌==◌, nat_lt};
-ghost use Rattle.drive_states.specs.Row.{begun, report_width, report_word, tape_status, parameter_trains, parameter_values, parameter_code, longer};
+ghost use Rattle.drive_spec.specs.Reports.{report_width, report_word, tape_status};
+ghost use Rattle.drive_spec.specs.Parameters.{parameter_trains, parameter_values, parameter_code, longer};
+ghost use Rattle.drive_spec.specs.Row.{begun};
 
-use crate::deck::Deck;
+use crate::deck::{segments_per_track, status_word, told_segments};
+use drive_spec::{Deck, Parameter, UnderWay};
 use qic117_commands::{Command, ErrorCode};
 use report_bits::Shifter;
-
-/// A parameter awaited: the command that awaits it, the values that came, 0 to 2, and the number that they make so
-/// far, the first of them lowest (QIC-117).
-#[derive(Clone, Copy, Debug)]
-pub struct Parameter {
-    pub command: Command,
-    pub taken: u8,
-    pub value: u16,
-}
-
-/// What the next train belongs to: a command of its own, a report that shows its levels, or a parameter.
-#[derive(Debug, Drop)]
-pub enum UnderWay {
-    Nothing,
-    Report(Shifter),
-    Awaited(Parameter),
-}
 
 /// How many bits the report of a command has, 8 or 16; 0 where the command asks for none (QIC-117).
 pub fn report_width(command: Command) -> u8
@@ -55,12 +41,12 @@ pub fn report_word(command: Command, deck: &Deck) -> u16
     ensures fits { result < 2 ^ report_width command }
 {
     match command {
-        Command::ReportStatus => u16::from(deck.status_word()),
-        Command::ReportError => deck.error(),
+        Command::ReportStatus => u16::from(status_word(deck)),
+        Command::ReportError => deck.error,
         Command::ReportRom => 0x01,
         Command::ReportVendor => 0x0080,
-        Command::ReportTapeStatus => u16::from(tape_status(deck.segments_per_track())),
-        Command::ReportFormatSegments => deck.told_segments(),
+        Command::ReportTapeStatus => u16::from(tape_status(segments_per_track(deck))),
+        Command::ReportFormatSegments => told_segments(deck),
         _ => 0x00,
     }
 }
@@ -77,70 +63,66 @@ pub fn parameter_trains(command: Command) -> u8
     }
 }
 
-impl Parameter {
-    /// Whether a train may have this value: a track below 28, or a nibble.
-    pub fn admits(&self, value: u8) -> bool
-        ensures { result ≡ nat_lt value (parameter_values self.now.command) }
-    {
-        match self.command {
-            Command::SeekTrack => value < 28,
-            _ => value < 16,
-        }
-    }
-
-    /// The code of a value that none may have.
-    pub fn fault(&self) -> ErrorCode
-        ensures { result ≡ parameter_code self.now.command }
-    {
-        match self.command {
-            Command::SeekTrack => ErrorCode::IllegalTrack,
-            _ => ErrorCode::UndefinedCommand,
-        }
-    }
-
-    /// The parameter with one more value, of which the first is the lowest.
-    pub fn longer(self, value: u8) -> Parameter
-        requires taken { self.taken < 3 }
-        requires nibbles { self.value < 16 ^ self.taken }
-        requires value { value < 28 }
-        ensures { result ≡ longer self value }
-    {
-        let place = match self.taken {
-            0 => 1,
-            1 => 16,
-            _ => 256,
-        };
-        Parameter {
-            taken: self.taken + 1,
-            value: self.value + u16::from(value) * place,
-            ..self
-        }
-    }
-
-    /// Whether all of it came.
-    pub fn is_whole(&self) -> bool
-        ensures { result ≡ (self.now.taken == parameter_trains self.now.command) }
-    {
-        self.taken == parameter_trains(self.command)
+/// Whether a train may have this value: a track below 28, or a nibble.
+pub(crate) fn admits(parameter: &Parameter, value: u8) -> bool
+    ensures { result ≡ nat_lt value (parameter_values parameter.now.command) }
+{
+    match parameter.command {
+        Command::SeekTrack => value < 28,
+        _ => value < 16,
     }
 }
 
-impl UnderWay {
-    /// What an accepted command leaves under way.
-    pub fn begun(command: Command, deck: &Deck) -> UnderWay
-        ensures { result ≡ begun command deck.now }
-    {
-        let width = report_width(command);
-        if width > 0 {
-            UnderWay::Report(Shifter::load(report_word(command, deck), width))
-        } else if parameter_trains(command) > 0 {
-            UnderWay::Awaited(Parameter {
-                command,
-                taken: 0,
-                value: 0,
-            })
-        } else {
-            UnderWay::Nothing
-        }
+/// The code of a value that none may have.
+pub(crate) fn fault(parameter: &Parameter) -> ErrorCode
+    ensures { result ≡ parameter_code parameter.now.command }
+{
+    match parameter.command {
+        Command::SeekTrack => ErrorCode::IllegalTrack,
+        _ => ErrorCode::UndefinedCommand,
+    }
+}
+
+/// The parameter with one more value, of which the first is the lowest.
+pub fn longer(parameter: Parameter, value: u8) -> Parameter
+    requires taken { parameter.taken < 3 }
+    requires nibbles { parameter.value < 16 ^ parameter.taken }
+    requires value { value < 28 }
+    ensures { result ≡ longer parameter value }
+{
+    let place = match parameter.taken {
+        0 => 1,
+        1 => 16,
+        _ => 256,
+    };
+    Parameter {
+        taken: parameter.taken + 1,
+        value: parameter.value + u16::from(value) * place,
+        ..parameter
+    }
+}
+
+/// Whether all of it came.
+pub fn is_whole(parameter: &Parameter) -> bool
+    ensures { result ≡ (parameter.now.taken == parameter_trains parameter.now.command) }
+{
+    parameter.taken == parameter_trains(parameter.command)
+}
+
+/// What an accepted command leaves under way.
+pub(crate) fn begun(command: Command, deck: &Deck) -> UnderWay
+    ensures { result ≡ begun command deck.now }
+{
+    let width = report_width(command);
+    if width > 0 {
+        UnderWay::Report(Shifter::load(report_word(command, deck), width))
+    } else if parameter_trains(command) > 0 {
+        UnderWay::Awaited(Parameter {
+            command,
+            taken: 0,
+            value: 0,
+        })
+    } else {
+        UnderWay::Nothing
     }
 }

@@ -6,10 +6,11 @@ use Rattle.std.proofs.lemmas.Nat.{mod-mul-add}
 use Rattle.qic_base.specs.Tape.{Meaning}
 use Rattle.qic_base.specs.declared.tape.TapeInfo.{TapeInfo}
 use Rattle.qic117_commands.specs.Views.{is_format}
-use Rattle.drive_states.specs.declared.deck.Deck.{Deck}
-use Rattle.drive_states.specs.declared.deck.Motion.{Motion}
-use Rattle.drive_states.specs.declared.deck.Motion.TheVariants.{Stopped, Streaming, Seeking}
-use Rattle.drive_states.specs.Deck.{segments_per_track, is_stopped, is_streaming, is_protected, is_referenced, limit, referenced_as}
+use Rattle.drive_spec.specs.declared.deck.Deck.{Deck}
+use Rattle.drive_spec.specs.declared.deck.Motion.{Motion}
+use Rattle.drive_spec.specs.declared.deck.Motion.TheVariants.{Stopped, Streaming, Seeking}
+use Rattle.drive_spec.specs.Deck.{segments_per_track, is_stopped, is_streaming, is_protected, is_referenced, limit}
+use Rattle.drive_spec.specs.Effects.{referenced_as}
 use Rattle.drive_states.specs.Reach.{segment_of, StreamsTo, IsUnder}
 use Rattle.drive_states.specs.Sound.{IsSound, IsInMotion}
 use Rattle.drive_states.specs.Unit.{UnitView, Knows}

@@ -5,7 +5,7 @@ ghost use Rattle.qic_base.specs.Cartridge.{IsLength};
 ghost use Rattle.qic_base.specs.Tape.{Does};
 ghost use Rattle.cartridge_spec.specs.Header.{SpellsHeader};
 ghost use Rattle.header_segments.specs.Header.{header_of};
-ghost use Rattle.drive_states.specs.Deck.{segments_per_track, is_stopped, is_protected, is_referenced};
+ghost use Rattle.drive_spec.specs.Deck.{segments_per_track, is_stopped, is_protected, is_referenced};
 ghost use Rattle.host_driver.specs.Calls.{IsReady, MayWrite, Keeps};
 ghost use Rattle.host_driver.specs.Fits.{AgreesWithTape};
 ghost use Rattle.format_plan.specs.Formatting.{copy_writes};

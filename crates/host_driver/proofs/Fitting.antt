@@ -6,19 +6,21 @@ use Rattle.qic_base.specs.Tape.{Meaning}
 use Rattle.qic_base.specs.declared.tape.TapeInfo.{TapeInfo}
 use Rattle.qic117_commands.specs.Commands.{number_of}
 use Rattle.qic117_commands.specs.Views.{is_format}
-use Rattle.drive_states.specs.declared.deck.Deck.{Deck}
-use Rattle.drive_states.specs.declared.under_way.Parameter.{Parameter}
-use Rattle.drive_states.specs.declared.under_way.UnderWay.{UnderWay}
-use Rattle.drive_states.specs.declared.under_way.UnderWay.TheVariants.{Nothing, Report, Awaited}
-use Rattle.drive_states.specs.Deck.{unreferenced, segments_per_track}
-use Rattle.drive_states.specs.Record.{Record}
-use Rattle.drive_states.specs.Row.{given_more, longer, heard, latched, parameter_code, parameter_values}
+use Rattle.drive_spec.specs.declared.deck.Deck.{Deck}
+use Rattle.drive_spec.specs.declared.under_way.Parameter.{Parameter}
+use Rattle.drive_spec.specs.declared.under_way.UnderWay.{UnderWay}
+use Rattle.drive_spec.specs.declared.under_way.UnderWay.TheVariants.{Nothing, Report, Awaited}
+use Rattle.drive_spec.specs.Deck.{segments_per_track}
+use Rattle.drive_spec.specs.Record.{Record}
+use Rattle.drive_spec.specs.Parameters.{longer, parameter_code, parameter_values}
+use Rattle.drive_spec.specs.Row.{given_more, heard, latched}
+use Rattle.drive_states.specs.Unreferenced.{unreferenced}
 use Rattle.drive_states.specs.Unit.{UnitView, IsSoundUnit}
 use Rattle.host_driver.specs.declared.host.Host.{Host}
 use Rattle.host_driver.specs.Fits.{Fits, parameter_of}
 use Rattle.host_driver.specs.Followed.{followed}
 use Rattle.host_driver.specs.Train.{TakesTrain, after_train}
-use Rattle.drive_states.specs.Row.{without_reference}
+use Rattle.drive_states.specs.Unreferenced.{without_reference}
 use Rattle.host_driver.proofs.Follows.{remembered, followed-remembered, after_train-heard, counted, latches, some_number}
 use Rattle.host_driver.proofs.Kept.{Kept, Kept-unreferenced, after_train-kept}
 

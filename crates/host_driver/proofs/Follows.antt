@@ -8,13 +8,15 @@ use Rattle.qic117_commands.specs.declared.command.Command.TheVariants.{ReportNex
 use Rattle.qic117_commands.specs.declared.error_code.ErrorCode.{ErrorCode}
 use Rattle.qic117_commands.specs.declared.error_code.ErrorCode.TheVariants.{UndefinedCommand, IllegalInReport}
 use Rattle.qic117_commands.proofs.Numbers.{command_at-number_of}
-use Rattle.drive_states.specs.declared.deck.Deck.{Deck}
-use Rattle.drive_states.specs.declared.under_way.Parameter.{Parameter}
-use Rattle.drive_states.specs.declared.under_way.UnderWay.{UnderWay}
-use Rattle.drive_states.specs.declared.under_way.UnderWay.TheVariants.{Nothing, Report, Awaited}
-use Rattle.drive_states.specs.Deck.{refusal_of, accepted, ticked, run_on, is_streaming, ends_early}
-use Rattle.drive_states.specs.Record.{Record}
-use Rattle.drive_states.specs.Row.{heard, by_command, by_refusal, given_more, longer, idled, begun, parameter_trains, parameter_values, latched, showing, parameter_code}
+use Rattle.drive_spec.specs.declared.deck.Deck.{Deck}
+use Rattle.drive_spec.specs.declared.under_way.Parameter.{Parameter}
+use Rattle.drive_spec.specs.declared.under_way.UnderWay.{UnderWay}
+use Rattle.drive_spec.specs.declared.under_way.UnderWay.TheVariants.{Nothing, Report, Awaited}
+use Rattle.drive_spec.specs.Deck.{refusal_of, is_streaming}
+use Rattle.drive_spec.specs.Effects.{accepted, ticked, run_on, ends_early}
+use Rattle.drive_spec.specs.Record.{Record}
+use Rattle.drive_spec.specs.Parameters.{longer, parameter_trains, parameter_values, parameter_code}
+use Rattle.drive_spec.specs.Row.{heard, by_command, by_refusal, given_more, idled, begun, latched, showing}
 use Rattle.host_driver.specs.declared.host.Host.{Host}
 use Rattle.host_driver.specs.Fits.{parameter_of}
 use Rattle.host_driver.specs.Followed.{followed, after_command, after_value, after_pulses}

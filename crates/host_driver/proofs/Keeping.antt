@@ -5,7 +5,7 @@ use Rattle.qic_base.specs.Tape.{Meaning}
 use Rattle.qic_base.specs.declared.tape.TapeInfo.{TapeInfo}
 use Rattle.qic117_commands.specs.declared.view.Mode.{Mode}
 use Rattle.qic117_commands.specs.Views.{is_primary}
-use Rattle.drive_states.specs.declared.deck.Deck.{Deck}
+use Rattle.drive_spec.specs.declared.deck.Deck.{Deck}
 use Rattle.drive_states.specs.Unit.{UnitView}
 use Rattle.host_driver.specs.declared.host.Host.{Host}
 use Rattle.host_driver.specs.Calls.{IsReady, MayWrite, Keeps}

@@ -9,14 +9,17 @@ use Rattle.qic117_commands.specs.declared.command.Command.{Command}
 use Rattle.qic117_commands.specs.declared.command.Command.TheVariants.{ReportNextBit, ReportError, LogicalForward, SeekTrack, SeekLoadPoint, EnterFormat, WriteReference, EnterVerify, StopTape, SkipReverse, SkipForward, EnterPrimary, SetFormatSegments}
 use Rattle.qic117_commands.specs.declared.error_code.ErrorCode.{ErrorCode}
 use Rattle.qic117_commands.specs.declared.error_code.ErrorCode.TheVariants.{IllegalInReport}
-use Rattle.drive_states.specs.declared.deck.Deck.{Deck}
-use Rattle.drive_states.specs.declared.deck.Motion.TheVariants.{Streaming}
-use Rattle.drive_states.specs.declared.under_way.Parameter.{Parameter}
-use Rattle.drive_states.specs.declared.under_way.UnderWay.{UnderWay}
-use Rattle.drive_states.specs.declared.under_way.UnderWay.TheVariants.{Nothing, Report, Awaited}
-use Rattle.drive_states.specs.Deck.{view_of, refusal_of, accepted, given, ticked, is_streaming, is_stopped, is_protected, limit, referenced_as, unreferenced}
-use Rattle.drive_states.specs.Record.{Record}
-use Rattle.drive_states.specs.Row.{heard, by_command, by_refusal, given_more, longer, idled, parameter_trains, parameter_values, parameter_code, latched, showing}
+use Rattle.drive_spec.specs.declared.deck.Deck.{Deck}
+use Rattle.drive_spec.specs.declared.deck.Motion.TheVariants.{Streaming}
+use Rattle.drive_spec.specs.declared.under_way.Parameter.{Parameter}
+use Rattle.drive_spec.specs.declared.under_way.UnderWay.{UnderWay}
+use Rattle.drive_spec.specs.declared.under_way.UnderWay.TheVariants.{Nothing, Report, Awaited}
+use Rattle.drive_spec.specs.Deck.{view_of, refusal_of, is_streaming, is_stopped, is_protected, limit}
+use Rattle.drive_spec.specs.Effects.{accepted, given, ticked, referenced_as}
+use Rattle.drive_spec.specs.Record.{Record}
+use Rattle.drive_spec.specs.Parameters.{longer, parameter_trains, parameter_values, parameter_code}
+use Rattle.drive_spec.specs.Row.{heard, by_command, by_refusal, given_more, idled, latched, showing}
+use Rattle.drive_states.specs.Unreferenced.{unreferenced}
 use Rattle.host_driver.specs.Train.{after_train}
 use Rattle.host_driver.proofs.Follows.{counted, after_train-heard, after_train-idled}
 use Rattle.host_driver.proofs.Refusals.{format_writable}

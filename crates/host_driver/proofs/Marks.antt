@@ -7,7 +7,7 @@ use Rattle.qic_base.specs.Stop.{Torn, SegmentBecame, ClosingView, OpeningView}
 use Rattle.qic_base.specs.Tape.{Meaning, Done, Broke, Does}
 use Rattle.qic_base.specs.declared.tape.TapeInfo.{TapeInfo}
 use Rattle.qic_base.proofs.Steps.{Torn-all}
-use Rattle.drive_states.specs.Deck.{referenced_as}
+use Rattle.drive_spec.specs.Effects.{referenced_as}
 use Rattle.drive_states.specs.Unit.{UnitView}
 use Rattle.host_driver.specs.Fits.{AgreesWithTape}
 

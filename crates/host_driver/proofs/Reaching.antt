@@ -6,10 +6,10 @@ use Rattle.qic_base.specs.declared.tape.TapeInfo.{TapeInfo}
 use Rattle.qic117_commands.specs.declared.view.Mode.{Mode}
 use Rattle.tape_geometry.specs.Geometry.{HasAddress}
 use Rattle.tape_geometry.specs.declared.geometry.FloppyAddr.{FloppyAddr}
-use Rattle.drive_states.specs.declared.deck.Deck.{Deck}
-use Rattle.drive_states.specs.declared.deck.Motion.{Motion}
-use Rattle.drive_states.specs.declared.deck.Motion.TheVariants.{Stopped, Streaming, Seeking}
-use Rattle.drive_states.specs.Deck.{limit, segments_per_track, is_streaming}
+use Rattle.drive_spec.specs.declared.deck.Deck.{Deck}
+use Rattle.drive_spec.specs.declared.deck.Motion.{Motion}
+use Rattle.drive_spec.specs.declared.deck.Motion.TheVariants.{Stopped, Streaming, Seeking}
+use Rattle.drive_spec.specs.Deck.{limit, segments_per_track, is_streaming}
 use Rattle.drive_states.specs.Reach.{IsUnder, StreamsTo, Reaches, segment_of}
 use Rattle.drive_states.specs.Sound.{IsSound}
 use Rattle.drive_states.proofs.Bounds.{before_limit, limit_within}

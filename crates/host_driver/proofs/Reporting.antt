@@ -12,12 +12,14 @@ use Rattle.qic117_commands.specs.Commands.{number_of, command_at, commands}
 use Rattle.qic117_commands.specs.StatusWord.{status_of, bit_where}
 use Rattle.qic117_commands.specs.Views.{is_format}
 use Rattle.qic117_commands.specs.declared.command.Command.TheVariants.{ReportNextBit}
-use Rattle.drive_states.specs.declared.deck.Deck.{Deck}
-use Rattle.drive_states.specs.declared.under_way.UnderWay.{UnderWay}
-use Rattle.drive_states.specs.declared.under_way.UnderWay.TheVariants.{Nothing, Report}
-use Rattle.drive_states.specs.Deck.{refusal_of, accepted, ticked, is_seeking, segments_per_track, status_word, told_segments}
-use Rattle.drive_states.specs.Record.{Record}
-use Rattle.drive_states.specs.Row.{report_word, tape_status}
+use Rattle.drive_spec.specs.declared.deck.Deck.{Deck}
+use Rattle.drive_spec.specs.declared.under_way.UnderWay.{UnderWay}
+use Rattle.drive_spec.specs.declared.under_way.UnderWay.TheVariants.{Nothing, Report}
+use Rattle.drive_spec.specs.Deck.{refusal_of, segments_per_track, status_word, told_segments}
+use Rattle.drive_spec.specs.Effects.{accepted, ticked}
+use Rattle.drive_spec.specs.Record.{Record}
+use Rattle.drive_spec.specs.Reports.{report_word, tape_status}
+use Rattle.drive_states.specs.Typed.{is_seeking}
 use Rattle.drive_states.specs.Sound.{IsSound, HasLength}
 use Rattle.drive_states.proofs.Marks.{gap_steps-none}
 use Rattle.host_driver.specs.declared.report.Report.{Report as Kind}

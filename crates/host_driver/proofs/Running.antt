@@ -2,11 +2,13 @@
 use Rattle.std.proofs.Common.{◌≡◌, ◌+◌, Bool, true, false, [], if◌then◌else◌, ◌&&◌, nat_lt, nat_le, refl, sym, ap, ◌∙◌, subst, arith}
 use Rattle.std.proofs.lemmas.Bool.Decides.{nat_tests}
 use Rattle.qic117_commands.specs.Views.{is_format}
-use Rattle.drive_states.specs.declared.deck.Deck.{Deck}
-use Rattle.drive_states.specs.declared.deck.Motion.TheVariants.{Stopped, Streaming}
-use Rattle.drive_states.specs.Deck.{limit, segments_per_track, is_seeking, is_streaming, ends_early, run_on}
-use Rattle.drive_states.specs.Record.{Record}
-use Rattle.drive_states.specs.Row.{idled}
+use Rattle.drive_spec.specs.declared.deck.Deck.{Deck}
+use Rattle.drive_spec.specs.declared.deck.Motion.TheVariants.{Stopped, Streaming}
+use Rattle.drive_spec.specs.Deck.{limit, segments_per_track, is_streaming}
+use Rattle.drive_spec.specs.Effects.{ends_early, run_on}
+use Rattle.drive_spec.specs.Record.{Record}
+use Rattle.drive_spec.specs.Row.{idled}
+use Rattle.drive_states.specs.Typed.{is_seeking}
 use Rattle.drive_states.proofs.Marks.{gap_steps-none}
 use Rattle.host_driver.specs.Fits.{GeneratesAll}
 use Rattle.host_driver.specs.Place.{KeepsMode, RunsOn, idled_deck}

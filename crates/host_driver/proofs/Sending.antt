@@ -12,14 +12,17 @@ use Rattle.qic117_commands.specs.declared.command.Command.TheVariants.{Reset, Re
 use Rattle.qic117_commands.specs.declared.view.Mode.{Mode}
 use Rattle.qic117_commands.specs.declared.view.Mode.TheVariants.{Primary, Format, Verify}
 use Rattle.qic117_commands.proofs.Numbers.{command_at-number_of}
-use Rattle.drive_states.specs.declared.deck.Deck.{Deck}
-use Rattle.drive_states.specs.declared.deck.Motion.TheVariants.{Streaming}
-use Rattle.drive_states.specs.declared.under_way.Parameter.{Parameter}
-use Rattle.drive_states.specs.declared.under_way.UnderWay.{UnderWay}
-use Rattle.drive_states.specs.declared.under_way.UnderWay.TheVariants.{Nothing, Report, Awaited}
-use Rattle.drive_states.specs.Deck.{refusal_of, accepted, given, ticked, is_seeking, is_stopped, limit, segments_per_track, referenced_as}
-use Rattle.drive_states.specs.Record.{Record}
-use Rattle.drive_states.specs.Row.{heard, by_command, by_refusal, given_more, longer, latched, parameter_code, parameter_values, parameter_trains, obeying}
+use Rattle.drive_spec.specs.declared.deck.Deck.{Deck}
+use Rattle.drive_spec.specs.declared.deck.Motion.TheVariants.{Streaming}
+use Rattle.drive_spec.specs.declared.under_way.Parameter.{Parameter}
+use Rattle.drive_spec.specs.declared.under_way.UnderWay.{UnderWay}
+use Rattle.drive_spec.specs.declared.under_way.UnderWay.TheVariants.{Nothing, Report, Awaited}
+use Rattle.drive_spec.specs.Deck.{refusal_of, is_stopped, limit, segments_per_track}
+use Rattle.drive_spec.specs.Effects.{accepted, given, ticked, referenced_as}
+use Rattle.drive_spec.specs.Record.{Record}
+use Rattle.drive_spec.specs.Parameters.{longer, parameter_code, parameter_values, parameter_trains}
+use Rattle.drive_spec.specs.Row.{heard, by_command, by_refusal, given_more, latched, obeying}
+use Rattle.drive_states.specs.Typed.{is_seeking}
 use Rattle.drive_states.proofs.Marks.{gap_steps-none}
 use Rattle.host_driver.specs.Commands.{is_plain, TakesValue}
 use Rattle.host_driver.specs.Fits.{GeneratesAll, parameter_of}

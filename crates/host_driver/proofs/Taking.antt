@@ -7,15 +7,17 @@ use Rattle.qic117_commands.specs.declared.command.Command.TheVariants.{LogicalFo
 use Rattle.qic117_commands.specs.declared.view.Mode.{Mode}
 use Rattle.qic117_commands.specs.declared.view.Mode.TheVariants.{Primary, Format, Verify}
 use Rattle.qic117_commands.specs.declared.view.Motion.TheVariants as seen_as
-use Rattle.drive_states.specs.declared.deck.Deck.{Deck}
-use Rattle.drive_states.specs.declared.deck.Motion.{Motion}
-use Rattle.drive_states.specs.declared.deck.Motion.TheVariants.{Stopped, Streaming, Seeking}
-use Rattle.drive_states.specs.declared.under_way.UnderWay.{UnderWay}
-use Rattle.drive_states.specs.declared.under_way.UnderWay.TheVariants.{Nothing, Awaited}
-use Rattle.drive_states.specs.Deck.{refusal_of, accepted, view_of, seen_motion, is_seeking, is_stopped, is_protected, is_referenced, limit, segments_per_track, sought, skipped}
-use Rattle.drive_states.specs.Record.{Record}
-use Rattle.drive_states.specs.Row.{begun, given_more, longer}
-use Rattle.drive_states.specs.Typed.{skip_command}
+use Rattle.drive_spec.specs.declared.deck.Deck.{Deck}
+use Rattle.drive_spec.specs.declared.deck.Motion.{Motion}
+use Rattle.drive_spec.specs.declared.deck.Motion.TheVariants.{Stopped, Streaming, Seeking}
+use Rattle.drive_spec.specs.declared.under_way.UnderWay.{UnderWay}
+use Rattle.drive_spec.specs.declared.under_way.UnderWay.TheVariants.{Nothing, Awaited}
+use Rattle.drive_spec.specs.Deck.{refusal_of, view_of, seen_motion, is_stopped, is_protected, is_referenced, limit, segments_per_track}
+use Rattle.drive_spec.specs.Effects.{accepted, sought, skipped}
+use Rattle.drive_spec.specs.Record.{Record}
+use Rattle.drive_spec.specs.Parameters.{longer}
+use Rattle.drive_spec.specs.Row.{begun, given_more}
+use Rattle.drive_states.specs.Typed.{is_seeking, skip_command}
 use Rattle.drive_states.proofs.Taken.{primary_taken}
 use Rattle.drive_states.specs.Unit.{UnitView}
 use Rattle.qic_base.specs.Tape.{Meaning}

@@ -1,8 +1,9 @@
 -- What trains do to the drive.
 use Rattle.std.proofs.Common.{◌≡◌, ℕ, List, [], ◌∷◌, refl, ap, ◌∙◌, Result, Ok, Err, IsOk, OnErr}
 use Rattle.qic_base.specs.Step.{Step}
-use Rattle.drive_states.specs.Record.{Record}
-use Rattle.drive_states.specs.Row.{after_gap, gap_steps}
+use Rattle.drive_spec.specs.Record.{Record}
+use Rattle.drive_spec.specs.Row.{after_gap}
+use Rattle.drive_spec.specs.Steps.{gap_steps}
 use Rattle.drive_states.specs.Unit.{UnitView}
 use Rattle.host_driver.specs.Train.{after_train, train_steps}
 

@@ -5,10 +5,10 @@ use Rattle.std.proofs.lemmas.Bool.{cases_lt}
 use Rattle.qic_base.specs.Step.{Wear}
 use Rattle.qic_base.specs.Tape.{Meaning}
 use Rattle.qic_base.specs.declared.tape.TapeInfo.{TapeInfo}
+use Rattle.drive_spec.specs.Record.{Record}
 use Rattle.drive_states.specs.declared.fault.HandFault.{HandFault}
 use Rattle.drive_states.specs.declared.fault.HandFault.TheVariants.{NoCartridge, BadPlace, Tape, NotBlank}
 use Rattle.drive_states.specs.Hand.{Wears, IsNotReached}
-use Rattle.drive_states.specs.Record.{Record}
 use Rattle.drive_states.specs.Unit.{UnitView}
 use Rattle.host_driver.specs.Fits.{AgreesWithTape}
 use Rattle.host_driver.proofs.Marks.{wear_keeps, done_agrees, broke_agrees}

@@ -4,8 +4,8 @@ use Rattle.qic117_commands.specs.declared.command.Command.{Command}
 use Rattle.qic117_commands.specs.declared.command.Command.TheVariants.{Reset, ReportNextBit, EnterFormat, WriteReference, EnterVerify, EnterPrimary, SetFormatSegments}
 use Rattle.qic117_commands.specs.declared.view.Mode.{Mode}
 use Rattle.qic117_commands.specs.declared.view.Mode.TheVariants.{Primary, Format, Verify}
-use Rattle.drive_states.specs.declared.under_way.Parameter.{Parameter}
-use Rattle.drive_states.specs.Row.{parameter_values}
+use Rattle.drive_spec.specs.declared.under_way.Parameter.{Parameter}
+use Rattle.drive_spec.specs.Parameters.{parameter_values}
 
 -- a reset latches its error, the next bit of a report is no command of its own, and the reference bursts may fail
 abbrev pub is_plain : Command → Bool

@@ -2,12 +2,13 @@
 use Rattle.std.specs.Prelude.{◌≡◌, ℕ, true, false, Option, Some, None, IfSome, IsSomeAnd}
 use Rattle.qic_base.specs.Tape.{Meaning}
 use Rattle.qic117_commands.specs.Views.{is_format}
-use Rattle.drive_states.specs.declared.deck.Deck.{Deck}
-use Rattle.drive_states.specs.declared.under_way.Parameter.{Parameter}
-use Rattle.drive_states.specs.declared.under_way.UnderWay.{UnderWay}
-use Rattle.drive_states.specs.declared.under_way.UnderWay.TheVariants.{Nothing, Report, Awaited}
-use Rattle.drive_states.specs.Deck.{segments_per_track, is_protected, is_seeking}
-use Rattle.drive_states.specs.Record.{Record}
+use Rattle.drive_spec.specs.declared.deck.Deck.{Deck}
+use Rattle.drive_spec.specs.declared.under_way.Parameter.{Parameter}
+use Rattle.drive_spec.specs.declared.under_way.UnderWay.{UnderWay}
+use Rattle.drive_spec.specs.declared.under_way.UnderWay.TheVariants.{Nothing, Report, Awaited}
+use Rattle.drive_spec.specs.Deck.{segments_per_track, is_protected}
+use Rattle.drive_spec.specs.Record.{Record}
+use Rattle.drive_states.specs.Typed.{is_seeking}
 use Rattle.drive_states.specs.Unit.{UnitView, IsSoundUnit}
 use Rattle.host_driver.specs.declared.host.Host.{Host}
 

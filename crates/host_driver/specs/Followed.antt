@@ -2,9 +2,9 @@
 use Rattle.std.specs.Prelude.{ℕ, ◌-◌, ◌==◌, Option, Some, None, if◌then◌else◌, nat_lt}
 use Rattle.qic117_commands.specs.Commands.{command_at}
 use Rattle.qic117_commands.specs.declared.command.Command.{Command}
-use Rattle.drive_states.specs.declared.under_way.Parameter.{Parameter}
-use Rattle.drive_states.specs.Deck.{accepted, given, ticked}
-use Rattle.drive_states.specs.Row.{longer, parameter_trains}
+use Rattle.drive_spec.specs.declared.under_way.Parameter.{Parameter}
+use Rattle.drive_spec.specs.Effects.{accepted, given, ticked}
+use Rattle.drive_spec.specs.Parameters.{longer, parameter_trains}
 use Rattle.host_driver.specs.declared.host.Host.{Host}
 use Rattle.host_driver.specs.Place.{idled_deck}
 

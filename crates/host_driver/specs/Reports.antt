@@ -2,11 +2,11 @@
 use Rattle.std.specs.Prelude.{ℕ, ◌+◌, ◌/◌, true}
 use Rattle.qic117_commands.specs.declared.command.Command.{Command}
 use Rattle.qic117_commands.specs.declared.command.Command.TheVariants as command
-use Rattle.drive_states.specs.declared.deck.Motion.{Motion}
-use Rattle.drive_states.specs.declared.deck.Motion.TheVariants.{Stopped, Streaming, Seeking}
-use Rattle.drive_states.specs.Deck.{accepted, ticked}
-use Rattle.drive_states.specs.Record.{Record}
-use Rattle.drive_states.specs.Row.{report_width, report_word}
+use Rattle.drive_spec.specs.declared.deck.Motion.{Motion}
+use Rattle.drive_spec.specs.declared.deck.Motion.TheVariants.{Stopped, Streaming, Seeking}
+use Rattle.drive_spec.specs.Effects.{accepted, ticked}
+use Rattle.drive_spec.specs.Record.{Record}
+use Rattle.drive_spec.specs.Reports.{report_width, report_word}
 use Rattle.host_driver.specs.declared.report.Report.{Report}
 use Rattle.host_driver.specs.declared.report.Report.TheVariants.{Status, Error, Configuration, Rom, Vendor, TapeStatus, FormatSegments}
 use Rattle.host_driver.specs.Train.{waited}

@@ -4,8 +4,8 @@ use Rattle.qic_base.specs.declared.tape.SectorRead.{SectorRead}
 use Rattle.qic_base.specs.declared.tape.SectorRead.TheVariants as read
 use Rattle.qic_base.specs.declared.tape.SectorWrite.{SectorWrite}
 use Rattle.qic_base.specs.declared.tape.SectorWrite.TheVariants as write
-use Rattle.drive_states.specs.declared.deck.Deck.{Deck}
-use Rattle.drive_states.specs.Deck.{passed}
+use Rattle.drive_spec.specs.declared.deck.Deck.{Deck}
+use Rattle.drive_states.specs.Reach.{passed}
 
 -- behind the sector, unless that was never formatted
 abbrev pub deck_after_read : SectorRead → (sector : ℕ) → Deck → Deck

@@ -4,12 +4,13 @@ use Rattle.qic_base.specs.Step.{Step}
 use Rattle.qic117_commands.specs.Commands.{number_of}
 use Rattle.qic117_commands.specs.Views.{is_format}
 use Rattle.qic117_commands.specs.declared.command.Command.TheVariants.{Reset}
-use Rattle.drive_states.specs.declared.deck.Deck.{Deck}
-use Rattle.drive_states.specs.declared.deck.Motion.{Motion}
-use Rattle.drive_states.specs.declared.deck.Motion.TheVariants.{Stopped, Streaming, Seeking}
-use Rattle.drive_states.specs.Deck.{segments_per_track}
-use Rattle.drive_states.specs.Record.{Record}
-use Rattle.drive_states.specs.Row.{after_gap, gap_steps}
+use Rattle.drive_spec.specs.declared.deck.Deck.{Deck}
+use Rattle.drive_spec.specs.declared.deck.Motion.{Motion}
+use Rattle.drive_spec.specs.declared.deck.Motion.TheVariants.{Stopped, Streaming, Seeking}
+use Rattle.drive_spec.specs.Deck.{segments_per_track}
+use Rattle.drive_spec.specs.Record.{Record}
+use Rattle.drive_spec.specs.Row.{after_gap}
+use Rattle.drive_spec.specs.Steps.{gap_steps}
 
 -- the drive after a train of so many pulses and a gap
 unfoldable pub after_train : Record → (pulses : ℕ) → Record

@@ -2,13 +2,14 @@
 
 ghost use Rattle.std.specs.Prelude.{◌≡◌, [], Ok, IsOk, OnOk, OnErr};
 ghost use Rattle.qic_base.specs.Tape.{Does};
-ghost use Rattle.drive_states.specs.Deck.{refusal_of, ticked};
+ghost use Rattle.drive_spec.specs.Deck.{refusal_of};
+ghost use Rattle.drive_spec.specs.Effects.{ticked};
+ghost use Rattle.drive_spec.specs.declared.under_way.UnderWay.TheVariants.{Nothing};
 ghost use Rattle.drive_states.specs.Unit.{IsSoundUnit};
-ghost use Rattle.drive_states.specs.declared.under_way.UnderWay.TheVariants.{Nothing};
 ghost use Rattle.host_driver.specs.Fits.{GeneratesAll};
 ghost use Rattle.host_driver.specs.Reports.{command_of, reported_word, after_report};
 ghost use Rattle.host_driver.specs.Train.{TakesTrain, after_train, train_steps};
-ghost use Rattle.drive_states.specs.Row.{without_reference};
+ghost use Rattle.drive_states.specs.Unreferenced.{without_reference};
 
 use crate::report::Report;
 use drive_states::Unit;

@@ -2,17 +2,19 @@
 
 ghost use Rattle.std.specs.Prelude.{◌≡◌, ◌≢◌, [], None, Some, IsOk, IfOk, OnOk, OnErr, IsOkUnless};
 ghost use Rattle.qic_base.specs.Tape.{Does};
-ghost use Rattle.drive_states.specs.Deck.{is_protected, is_referenced};
+ghost use Rattle.drive_spec.specs.Deck.{is_protected, is_referenced};
 ghost use Rattle.host_driver.specs.Calls.{IsReady};
 ghost use Rattle.host_driver.specs.Fits.{Fits, AgreesWithTape, segments_of, deck_of};
 ghost use Rattle.host_driver.specs.Starts.{Starts, KnowsTold, KnowsSize, started_host};
 ghost use Rattle.host_driver.specs.Train.{TakesTrain, after_train, train_steps};
-ghost use Rattle.drive_states.specs.Row.{without_reference};
+ghost use Rattle.drive_states.specs.Unreferenced.{without_reference};
 
 use crate::dialogue::{read_report, send_train};
 use crate::fault::HostFault;
 use crate::report::Report;
 use bitflags::Flags;
+use drive_states::deck::{is_protected, power_on_deck};
+use drive_states::effects::unreferenced;
 use drive_states::{Deck, Parameter, Unit};
 use qic_base::{Tape, TapeInfo};
 use qic117_commands::StatusBits;
@@ -69,7 +71,7 @@ impl Host {
         };
         let deck = Deck {
             fresh: false,
-            ..Deck::power_on(Some(cartridge))
+            ..power_on_deck(Some(cartridge))
         };
         Host {
             geometry,
@@ -89,7 +91,7 @@ impl Host {
     pub fn protected(&self) -> bool
         ensures { result ≡ is_protected (deck_of self.now) }
     {
-        self.deck.is_protected()
+        is_protected(&self.deck)
     }
 
     /// Whether the cartridge has its reference bursts.
@@ -122,7 +124,7 @@ impl Host {
         let sent = send_train(unit, pulses);
         self.follow(pulses);
         if sent.is_err() {
-            self.deck = self.deck.unreferenced();
+            self.deck = unreferenced(self.deck);
             return Err(HostFault::Tape);
         }
         Ok(())

@@ -4,7 +4,8 @@ ghost use Rattle.std.specs.Prelude.{◌≡◌, ◌↔◌, [], ◌∷◌, None, t
 ghost use Rattle.qic_base.specs.Step.{SetReferenced};
 ghost use Rattle.qic_base.specs.Tape.{Does};
 ghost use Rattle.qic117_commands.specs.Views.{is_format};
-ghost use Rattle.drive_states.specs.Deck.{is_stopped, is_protected, is_referenced, referenced_as, refusal_of, accepted};
+ghost use Rattle.drive_spec.specs.Deck.{is_stopped, is_protected, is_referenced, refusal_of};
+ghost use Rattle.drive_spec.specs.Effects.{referenced_as, accepted};
 ghost use Rattle.host_driver.specs.Calls.{IsReady};
 ghost use Rattle.host_driver.specs.Commands.{entry_of};
 ghost use Rattle.host_driver.specs.Fits.{Fits, IsAtRest, AgreesWithTape};
@@ -13,6 +14,7 @@ ghost use Rattle.host_driver.specs.Place.{StandsAt};
 use crate::fault::HostFault;
 use crate::host::Host;
 use drive_states::Unit;
+use drive_states::deck::refusal;
 use qic_base::Tape;
 use qic117_commands::{Command, Mode};
 
@@ -37,7 +39,7 @@ impl Host {
         if mode == Mode::Format && self.protected() {
             return Err(HostFault::Protected);
         }
-        if self.deck.refusal(entry_of(mode)).is_none() {
+        if refusal(&self.deck, entry_of(mode)).is_none() {
             return self.enter_at_once(unit, mode);
         }
         self.enter_at_once(unit, Mode::Primary)?;

@@ -3,7 +3,8 @@
 ghost use Rattle.std.specs.Prelude.{◌≡◌, ◌<◌, ◌*◌, true, false, IsOk};
 ghost use Rattle.tape_geometry.specs.Geometry.{logical_offset};
 ghost use Rattle.qic117_commands.specs.Views.{is_format};
-ghost use Rattle.drive_states.specs.Deck.{segments_per_track, is_stopped, is_streaming, is_referenced, sought, skipped};
+ghost use Rattle.drive_spec.specs.Deck.{segments_per_track, is_stopped, is_streaming, is_referenced};
+ghost use Rattle.drive_spec.specs.Effects.{sought, skipped};
 ghost use Rattle.drive_states.specs.Reach.{segment_of};
 ghost use Rattle.drive_states.specs.Typed.{skip_command};
 ghost use Rattle.host_driver.specs.Calls.{IsReady, Keeps};
@@ -13,6 +14,7 @@ ghost use Rattle.host_driver.specs.Train.{ready_deck};
 use crate::fault::HostFault;
 use crate::host::Host;
 use drive_states::Unit;
+use drive_states::deck::is_streaming;
 use qic_base::Tape;
 use qic117_commands::{Command, Mode};
 
@@ -70,7 +72,7 @@ impl Host {
         ensures tape { unit.new.tape ≡ unit.old.tape }
         ensures ready { IsReady T.means self.new unit.new }
     {
-        if self.deck.is_streaming() {
+        if is_streaming(&self.deck) {
             self.halt(unit)?;
         }
         Ok(())

@@ -4,7 +4,8 @@ ghost use Rattle.std.specs.Prelude.{◌≡◌, ◌≢◌, ◌<◌, ◌+◌, [], 
 ghost use Rattle.qic_base.specs.Cartridge.{IsPlace, view_at};
 ghost use Rattle.qic_base.specs.Step.{WriteSector, FormatSegment};
 ghost use Rattle.qic_base.specs.Tape.{Does, Tells, Reads, write_answer};
-ghost use Rattle.drive_states.specs.Deck.{segments_per_track, run_on};
+ghost use Rattle.drive_spec.specs.Deck.{segments_per_track};
+ghost use Rattle.drive_spec.specs.Effects.{run_on};
 ghost use Rattle.drive_states.specs.Hand.{Wears};
 ghost use Rattle.drive_states.specs.Reach.{reads_in, IsUnder, IsFormatting, Finds, Writes, segment_of};
 ghost use Rattle.drive_states.specs.Unit.{IsSoundUnit, held};
@@ -14,6 +15,7 @@ ghost use Rattle.host_driver.specs.Sectors.{deck_after_read, deck_after_write};
 
 use crate::fault::HostFault;
 use crate::host::Host;
+use drive_states::effects::{passed, run_on};
 use drive_states::{FdcFault, HandFault, Unit};
 use qic_base::{SectorRead, SectorWrite, Tape};
 
@@ -49,7 +51,7 @@ impl Host {
             Err(FdcFault::Protected) => unreachable!("only a write minds the protect mark"),
             Err(FdcFault::Tape) => return Err(HostFault::Tape),
         };
-        self.deck = self.deck.passed(sector);
+        self.deck = passed(self.deck, sector);
         Ok(answer)
     }
 
@@ -99,7 +101,7 @@ impl Host {
     {
         match self.write_under(unit, segment, sector, from) {
             Ok(()) => {
-                self.deck = self.deck.passed(sector);
+                self.deck = passed(self.deck, sector);
                 Ok(SectorWrite::Taken)
             }
             Err(FdcFault::NoAddress) => Ok(SectorWrite::Blank),
@@ -144,7 +146,7 @@ impl Host {
     {
         match unit.format_segment() {
             Ok(()) => {
-                self.deck = self.deck.run_on();
+                self.deck = run_on(self.deck);
                 Ok(())
             }
             Err(FdcFault::Tape) => Err(HostFault::Tape),

@@ -1,11 +1,11 @@
 //! Reports, and the wait for a seek.
 
 ghost use Rattle.std.specs.Prelude.{◌≡◌, ◌≤◌, Ok, None, true, false, IfOk};
-ghost use Rattle.drive_states.specs.Deck.{refusal_of, is_streaming};
-ghost use Rattle.drive_states.specs.Row.{report_word};
+ghost use Rattle.drive_spec.specs.Deck.{refusal_of, is_streaming, is_stopped};
+ghost use Rattle.drive_spec.specs.Effects.{ticked};
+ghost use Rattle.drive_spec.specs.Reports.{report_word};
+ghost use Rattle.drive_spec.specs.declared.under_way.UnderWay.TheVariants.{Nothing};
 ghost use Rattle.drive_states.specs.Unit.{IsSoundUnit};
-ghost use Rattle.drive_states.specs.declared.under_way.UnderWay.TheVariants.{Nothing};
-ghost use Rattle.drive_states.specs.Deck.{is_stopped, ticked};
 ghost use Rattle.host_driver.specs.Calls.{IsReady};
 ghost use Rattle.host_driver.specs.Fits.{Fits, GeneratesAll};
 ghost use Rattle.host_driver.specs.Reports.{command_of, reports_until_ready, after_report};

@@ -11,7 +11,7 @@ use Rattle.acts.specs.Around.{no_source, no_sink, around, reading}
 use Rattle.cartridge_spec.specs.HeaderAndTable.{table_cells, TableIs}
 use Rattle.cartridge_spec.specs.Says.{LostSectors, ByCode, TableSays}
 use Rattle.cartridge_spec.specs.Table.{Entry}
-use Rattle.drive_states.specs.Deck.{is_protected}
+use Rattle.drive_spec.specs.Deck.{is_protected}
 use Rattle.drive_states.specs.Unit.{UnitView}
 use Rattle.mount_laws.specs.Settling.{settling_steps}
 use Rattle.tape_script.specs.Generator.{made_length, made_bytes, made_means}

@@ -7,7 +7,7 @@ use Rattle.qic_base.proofs.Steps.{Tells-map, Done-nothing}
 use Rattle.acts.specs.Acts.{Act, text_of, Failing, TapeFails, SinkFails, Cut}
 use Rattle.acts.specs.Around.{no_source, no_sink, around}
 use Rattle.cartridge_spec.specs.Table.{Entry}
-use Rattle.drive_states.specs.Deck.{is_protected}
+use Rattle.drive_spec.specs.Deck.{is_protected}
 use Rattle.drive_states.specs.Unit.{UnitView}
 use Rattle.scrub_plan.specs.Scrubbing.{Scrubs, counts_of, looked_at}
 use Rattle.segment_io.proofs.Going.{tells_always}

@@ -5,7 +5,7 @@ use Rattle.qic_base.specs.declared.tape.TapeInfo.{TapeInfo}
 use Rattle.qic_base.specs.Cartridge.{IsPlace}
 use Rattle.qic_base.specs.Tape as tapes
 use Rattle.cartridge_spec.specs.Table.{Entry, LieBehind}
-use Rattle.drive_states.specs.Deck.{segments_per_track}
+use Rattle.drive_spec.specs.Deck.{segments_per_track}
 use Rattle.drive_states.specs.Unit.{UnitView}
 use Rattle.host_driver.specs.Fits.{segments_of}
 use Rattle.segment_mending.proofs.Looked.{LiesOn, lies_on}

@@ -1,8 +1,8 @@
 -- What the calls for a segment ask besides those of the host (this project's own).
 use Rattle.std.specs.Prelude.{◌≡◌, ℕ, ◌*◌, ◌<◌, true}
 use Rattle.cartridge_spec.specs.Shape.{Carries}
-use Rattle.drive_states.specs.declared.deck.Deck.{Deck}
-use Rattle.drive_states.specs.Deck.{segments_per_track, is_referenced}
+use Rattle.drive_spec.specs.declared.deck.Deck.{Deck}
+use Rattle.drive_spec.specs.Deck.{segments_per_track, is_referenced}
 
 -- the drive can go to a segment, of which this is the mask of usable sectors
 pub record HasSegment (d : Deck) (segment usable : ℕ) : Type 0 where

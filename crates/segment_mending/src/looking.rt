@@ -2,7 +2,7 @@
 
 ghost use Rattle.std.specs.Prelude.{◌≡◌, ◌<◌, ◌≤◌, ◌^◌, [], ◌∷◌, true};
 ghost use Rattle.acts.specs.Around.{around};
-ghost use Rattle.drive_states.specs.Deck.{is_referenced};
+ghost use Rattle.drive_spec.specs.Deck.{is_referenced};
 ghost use Rattle.host_driver.specs.Calls.{IsReady, MayWrite, Keeps};
 ghost use Rattle.scrub_plan.specs.Scrubbing.{whole_segment};
 ghost use Rattle.segment_io.specs.Calls.{HasSegment};

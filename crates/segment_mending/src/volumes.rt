@@ -4,7 +4,7 @@ ghost use Rattle.std.specs.Prelude.{◌≡◌, ◌+◌, ◌-◌, ◌*◌, ◌<�
 ghost use Rattle.acts.specs.Around.{around};
 ghost use Rattle.cartridge_spec.specs.Table.{IsSoundList};
 ghost use Rattle.cartridge_spec.specs.Volumes.{carrying};
-ghost use Rattle.drive_states.specs.Deck.{is_referenced};
+ghost use Rattle.drive_spec.specs.Deck.{is_referenced};
 ghost use Rattle.host_driver.specs.Calls.{IsReady, MayWrite, Keeps};
 ghost use Rattle.host_driver.specs.Fits.{segments_of};
 ghost use Rattle.scrub_plan.specs.Scrubbing.{looked_segments, looked_volumes};

@@ -25,7 +25,7 @@ use Rattle.cartridge_spec.proofs.TableSayings.{table_says_is_function}
 use Rattle.cartridge_spec.specs.Mounting as mounting
 use Rattle.cartridge_spec.specs.Mounting.{settled}
 use Rattle.cartridge_spec.specs.Table.{Entry}
-use Rattle.drive_states.specs.Deck.{is_protected}
+use Rattle.drive_spec.specs.Deck.{is_protected}
 use Rattle.drive_states.specs.Unit.{UnitView}
 use Rattle.mount_laws.specs.Settling.{settling_steps}
 use Rattle.mount_laws.proofs.Mounting.{one_table}

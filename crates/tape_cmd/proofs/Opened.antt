@@ -13,7 +13,7 @@ use Rattle.acts.specs.Acts.{Act, next_steps, Outside, Failing, TapeCut, Went, Cu
 use Rattle.acts.proofs.Joins.{went_both, went_then_cut}
 use Rattle.cartridge_spec.specs.HeaderAndTable.{last_segment}
 use Rattle.cartridge_spec.specs.Mounting.{settled}
-use Rattle.drive_states.specs.Deck.{is_protected}
+use Rattle.drive_spec.specs.Deck.{is_protected}
 use Rattle.drive_states.specs.Unit.{UnitView}
 use Rattle.mount_laws.proofs.Settled.{settled_keeps_table}
 use Rattle.mount_laws.proofs.Whole.{settling_effects}

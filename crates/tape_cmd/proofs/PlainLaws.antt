@@ -5,7 +5,7 @@ use Rattle.qic_base.specs.Step.{Step as TapeStep, Renew, SetReferenced, SetProte
 use Rattle.qic_base.specs.Stop.{Torn, Halfway}
 use Rattle.tape_script.specs.declared.words.Words.{Words}
 use Rattle.tape_script.specs.declared.words.Words.TheVariants as words
-use Rattle.drive_states.specs.Record.{power_on}
+use Rattle.drive_spec.specs.Record.{power_on}
 use Rattle.acts.specs.Acts.{Act, steps_of}
 use Rattle.restore_plan.specs.Restoring.{Ending, Restores, pieces}
 use Rattle.restore_plan.proofs.Counts.{restores_in_no_step}

@@ -9,7 +9,7 @@ use Rattle.acts.specs.Acts.{Act, Failing, TapeFails, SourceFails, SinkFails, Cut
 use Rattle.acts.specs.Around.{no_source, around}
 use Rattle.cartridge_spec.specs.Mounting as mounting
 use Rattle.cartridge_spec.specs.Mounting.{Mounting}
-use Rattle.drive_states.specs.Deck.{is_protected}
+use Rattle.drive_spec.specs.Deck.{is_protected}
 use Rattle.drive_states.specs.Unit.{UnitView}
 use Rattle.mount_laws.proofs.Mounting.{mounts_is_function}
 use Rattle.scrub_plan.specs.Scrubbing.{Scrubs, counts_of, looked_at}

@@ -7,7 +7,7 @@ use Rattle.qic_base.specs.Sink as sinks
 use Rattle.qic_base.specs.Source as sources
 use Rattle.qic_base.specs.Tape as tapes
 use Rattle.acts.specs.Acts.{Act, text_of, Outside, Failing, TapeFails, SourceFails, SinkFails, Cut}
-use Rattle.drive_states.specs.Record.{Record}
+use Rattle.drive_spec.specs.Record.{Record}
 use Rattle.tape_script.specs.declared.words.Words.TheVariants as words
 use Rattle.tape_script.specs.Input.{IsPulse, Ending, AtEnd, AtStop, AtFault, IsPulses}
 use Rattle.tape_script.proofs.Inputs as inputs

@@ -4,7 +4,7 @@ use Rattle.std.specs.Option.{option_map}
 use Rattle.qic_base.specs.Cartridge.{Cartridge}
 use Rattle.qic_base.specs.declared.tape.TapeInfo.{TapeInfo}
 use Rattle.acts.specs.Acts.{text_of}
-use Rattle.drive_states.specs.Record.{power_on}
+use Rattle.drive_spec.specs.Record.{power_on}
 use Rattle.tape_pulses.specs.Pulses as pulses
 use Rattle.tape_pulses.specs.Pulses.{PulsesOutcome, Answer, AllSent, ScriptFault, train_acts}
 use Rattle.tape_cmd.specs.declared.status.Status.{Status}

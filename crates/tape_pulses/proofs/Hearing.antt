@@ -9,7 +9,7 @@ use Rattle.qic_base.specs.Tape as tapes
 use Rattle.qic_base.proofs.Steps.{Done-nothing}
 use Rattle.acts.proofs.Joins.{sink_cut_one}
 use Rattle.acts.specs.Acts.{Act, Outside, next_steps, TapeFails, SourceFails, SinkFails, Went, TapeCut, Cut}
-use Rattle.drive_states.specs.Record.{Record}
+use Rattle.drive_spec.specs.Record.{Record}
 use Rattle.tape_script.specs.Input.{IsPulse, IsTrain}
 use Rattle.tape_script.specs.Reading.{Gave}
 use Rattle.tape_script.proofs.Inputs as inputs

@@ -1,7 +1,7 @@
 -- The laws of the plain machine of `pulses`.
 use Rattle.std.proofs.Common.{◌≡◌, ℕ, ◌+◌, ◌≤◌, List, [], ◌∷◌, ◌++◌, length, refl, sym, ap, ◌∙◌, arith, append_assoc}
 use Rattle.std.proofs.lemmas.List.{length-append}
-use Rattle.drive_states.specs.Record.{power_on}
+use Rattle.drive_spec.specs.Record.{power_on}
 use Rattle.tape_script.specs.Input.{IsPulse, Ending, AtFault, HasItems, most_items}
 use Rattle.tape_script.proofs.Inputs.{one_reading, pulses}
 use Rattle.tape_script.proofs.Readings.{each_pulses}

@@ -11,7 +11,7 @@ use Rattle.qic_base.proofs.Steps.{Done-told}
 use Rattle.qic_base.proofs.Writing.{TakesBoth}
 use Rattle.acts.specs.Acts.{Act, Outside, Failing, TapeFails, SourceFails, SinkFails, Went, Cut}
 use Rattle.acts.proofs.Joins.{went_both, went_then_cut, cut_is_longer}
-use Rattle.drive_states.specs.Record.{Record, power_on}
+use Rattle.drive_spec.specs.Record.{Record, power_on}
 use Rattle.drive_states.specs.Unit.{UnitView, IsInserted}
 use Rattle.tape_script.specs.Input.{IsPulse, Ending, AtEnd, AtStop, AtFault, ItemsEnd, HasItems, most_items}
 use Rattle.tape_script.specs.Reading.{Gave}

@@ -7,10 +7,11 @@ use Rattle.acts.specs.Acts as acts
 use Rattle.qic117_commands.specs.Commands.{command_at}
 use Rattle.qic117_commands.specs.declared.command.Command.{Command}
 use Rattle.qic117_commands.specs.declared.command.Command.TheVariants.{WriteReference}
-use Rattle.drive_states.specs.declared.deck.Deck.{Deck}
-use Rattle.drive_states.specs.Deck.{refusal_of, ticked}
-use Rattle.drive_states.specs.Record.{Record}
-use Rattle.drive_states.specs.Row.{is_idle, steps_of, command_steps}
+use Rattle.drive_spec.specs.declared.deck.Deck.{Deck}
+use Rattle.drive_spec.specs.Deck.{refusal_of}
+use Rattle.drive_spec.specs.Effects.{ticked}
+use Rattle.drive_spec.specs.Record.{Record}
+use Rattle.drive_spec.specs.Steps.{is_idle, steps_of, command_steps}
 use Rattle.tape_pulses.specs.Laws.{StopsLeave}
 use Rattle.tape_pulses.specs.Pulses.{after_train, train_steps, train_acts}
 

@@ -8,12 +8,15 @@ use Rattle.qic117_commands.specs.declared.command.Command.{Command}
 use Rattle.qic117_commands.specs.declared.command.Command.TheVariants.{Reset, ReportNextBit}
 use Rattle.qic117_commands.specs.declared.error_code.ErrorCode.{ErrorCode}
 use Rattle.qic117_commands.specs.declared.error_code.ErrorCode.TheVariants.{IllegalInReport}
-use Rattle.drive_states.specs.declared.under_way.Parameter.{Parameter}
-use Rattle.drive_states.specs.declared.under_way.UnderWay.{UnderWay}
-use Rattle.drive_states.specs.declared.under_way.UnderWay.TheVariants.{Nothing, Report, Awaited}
-use Rattle.drive_states.specs.Deck.{refusal_of, given, reset, ticked, is_streaming}
-use Rattle.drive_states.specs.Record.{Record}
-use Rattle.drive_states.specs.Row.{after_gap, gap_steps, heard, obeyed, by_command, by_refusal, given_more, longer, idled, moved_on, parameter_trains, parameter_values, parameter_code, latched, showing}
+use Rattle.drive_spec.specs.declared.under_way.Parameter.{Parameter}
+use Rattle.drive_spec.specs.declared.under_way.UnderWay.{UnderWay}
+use Rattle.drive_spec.specs.declared.under_way.UnderWay.TheVariants.{Nothing, Report, Awaited}
+use Rattle.drive_spec.specs.Deck.{refusal_of, is_streaming}
+use Rattle.drive_spec.specs.Effects.{given, reset, ticked}
+use Rattle.drive_spec.specs.Record.{Record}
+use Rattle.drive_spec.specs.Parameters.{longer, parameter_trains, parameter_values, parameter_code}
+use Rattle.drive_spec.specs.Row.{after_gap, heard, obeyed, by_command, by_refusal, given_more, idled, moved_on, latched, showing}
+use Rattle.drive_spec.specs.Steps.{gap_steps}
 use Rattle.tape_script.specs.Input.{IsPulse}
 use Rattle.tape_pulses.specs.Pulses.{after_train, train_steps, after_trains, train_act, train_acts, train_line, train_lines}
 

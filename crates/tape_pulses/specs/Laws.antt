@@ -5,7 +5,7 @@ use Rattle.qic_base.specs.declared.tape.TapeInfo.{TapeInfo}
 use Rattle.qic_base.specs.Step.{SetReferenced, effect}
 use Rattle.qic_base.specs.Stop.{Torn}
 use Rattle.acts.specs.Acts.{steps_of}
-use Rattle.drive_states.specs.Record.{Record}
+use Rattle.drive_spec.specs.Record.{Record}
 use Rattle.tape_script.specs.Input.{Ending, AtFault, IsPulses, most_items}
 use Rattle.tape_pulses.specs.Pulses.{PulseRun, PulsesOutcome, train_acts, train_lines}
 

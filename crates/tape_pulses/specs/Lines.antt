@@ -5,7 +5,7 @@ use Rattle.qic_base.specs.Sink as sinks
 use Rattle.qic_base.specs.Source as sources
 use Rattle.qic_base.specs.Tape as tapes
 use Rattle.acts.specs.Acts.{Outside, TapeFails, SourceFails, SinkFails, Went, Cut}
-use Rattle.drive_states.specs.Record.{Record}
+use Rattle.drive_spec.specs.Record.{Record}
 use Rattle.tape_script.specs.Input.{IsPulse}
 use Rattle.tape_script.specs.Reading.{Gave, GaveInLine, HasEnded, BeginsWithNo}
 use Rattle.tape_pulses.specs.declared.fault.PulseFault.{PulseFault}

@@ -4,8 +4,9 @@ use Rattle.std.specs.Prelude.{◌≡◌, ℕ, ◌+◌, Bool, true, false, List, 
 use Rattle.qic_base.specs.declared.tape.TapeInfo.{TapeInfo}
 use Rattle.qic_base.specs.Step.{Step}
 use Rattle.acts.specs.Acts.{Act}
-use Rattle.drive_states.specs.Record.{Record, power_on}
-use Rattle.drive_states.specs.Row.{after_gap, gap_steps}
+use Rattle.drive_spec.specs.Record.{Record, power_on}
+use Rattle.drive_spec.specs.Row.{after_gap}
+use Rattle.drive_spec.specs.Steps.{gap_steps}
 use Rattle.tape_script.specs.Input.{Ending, AtEnd, AtStop, AtFault, IsPulses}
 
 -- ---- trains

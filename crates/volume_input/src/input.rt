@@ -3,7 +3,7 @@
 ghost use Rattle.std.specs.Prelude.{◌≡◌, ◌-◌, ◌*◌, ◌<◌, ◌≤◌, true, length};
 ghost use Rattle.acts.specs.Around.{reading};
 ghost use Rattle.cartridge_spec.specs.Volumes.{capacity_between, carrying};
-ghost use Rattle.drive_states.specs.Deck.{is_referenced};
+ghost use Rattle.drive_spec.specs.Deck.{is_referenced};
 ghost use Rattle.host_driver.specs.Calls.{IsReady, MayWrite, Keeps};
 ghost use Rattle.host_driver.specs.Fits.{segments_of};
 ghost use Rattle.volume_input.specs.Input.{InputEnds};

@@ -33,7 +33,7 @@ use Rattle.volume_store.specs.declared.fault.StoreFault.{StoreFault}
 use Rattle.volume_store.specs.declared.fault.StoreFault.TheVariants as store_fault
 use Rattle.volume_store.specs.Appending.{Kept, Taking, Fits, TooLong, TooShort, taking, room_in, entry_for, append_acts, silently, table_with, kept_by, AppendRan, HasAppended, TableRefused, AppendCut, CutUnread, KeepsList}
 use Rattle.volume_store.specs.Mounting.{StoreView, StoreFits}
-use Rattle.drive_states.specs.Deck.{is_protected}
+use Rattle.drive_spec.specs.Deck.{is_protected}
 use Rattle.drive_states.specs.Unit.{UnitView}
 use Rattle.volume_store.proofs.Copies.{tells_two}
 use Rattle.volume_script.specs.declared.fault.ItemFault.{ItemFault}

@@ -16,9 +16,9 @@ use Rattle.acts.specs.Around.{no_source, around}
 use Rattle.acts.proofs.Joins.{cut_is_longer, sink_cut_one}
 use Rattle.cartridge_spec.specs.Table.{Entry}
 use Rattle.cartridge_spec.specs.Volumes.{volume_length}
+use Rattle.drive_spec.specs.Deck.{is_protected, segments_per_track}
 use Rattle.drive_states.specs.declared.fault.HandFault.{HandFault}
 use Rattle.drive_states.specs.declared.fault.HandFault.TheVariants as hand
-use Rattle.drive_states.specs.Deck.{is_protected, segments_per_track}
 use Rattle.drive_states.specs.Hand.{Wears}
 use Rattle.drive_states.specs.Unit.{UnitView}
 use Rattle.host_driver.specs.Fits.{segments_of}

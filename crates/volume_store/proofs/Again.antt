@@ -17,7 +17,7 @@ use Rattle.segment_io.specs.declared.fault.SegFault.{SegFault}
 use Rattle.segment_io.specs.declared.fault.SegFault.TheVariants as seg
 use Rattle.host_driver.specs.declared.host.Host.{Host}
 use Rattle.host_driver.specs.Fits.{Fits, AgreesWithTape}
-use Rattle.drive_states.specs.Deck.{is_protected}
+use Rattle.drive_spec.specs.Deck.{is_protected}
 use Rattle.drive_states.specs.Unit.{UnitView}
 use Rattle.qic_base.proofs.Steps.{Done-after_reads, Broke-after_reads, Tells-map, Tells-read}
 use Rattle.segment_io.proofs.Going.{tells_always}

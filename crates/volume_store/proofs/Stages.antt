@@ -10,7 +10,7 @@ use Rattle.acts.specs.Acts.{steps_of}
 use Rattle.acts.specs.Around.{reading}
 use Rattle.cartridge_spec.specs.Table.{Entry, IsSoundList}
 use Rattle.append_plan.specs.Settled.{IsSettledFor}
-use Rattle.drive_states.specs.Deck.{is_protected}
+use Rattle.drive_spec.specs.Deck.{is_protected}
 use Rattle.drive_states.specs.Unit.{UnitView}
 use Rattle.host_driver.specs.declared.host.Host.{Host}
 use Rattle.host_driver.specs.Calls.{Keeps}

@@ -17,14 +17,14 @@ use Rattle.cartridge_spec.specs.Segment.{sector_at}
 use Rattle.cartridge_spec.specs.Says.{whole_mask, with_parity}
 use Rattle.cartridge_spec.specs.Shape.{usable_places}
 use Rattle.gf256_qic.specs.Code.{parity_sectors}
-use Rattle.drive_states.specs.Deck.{is_protected, is_referenced}
+use Rattle.drive_spec.specs.Deck.{is_protected, is_referenced}
 use Rattle.drive_states.specs.Sound.{HasLength}
 use Rattle.drive_states.specs.Unit.{UnitView}
 use Rattle.host_driver.specs.declared.host.Host.{Host}
 use Rattle.host_driver.specs.Fits.{Fits, AgreesWithTape, segments_of, deck_of}
 use Rattle.host_driver.specs.Place.{KeepsMode}
 use Rattle.qic117_commands.specs.Views.{is_primary}
-use Rattle.drive_states.specs.declared.deck.Deck.{Deck}
+use Rattle.drive_spec.specs.declared.deck.Deck.{Deck}
 use Rattle.qic_base.proofs.Steps.{Tells-read}
 use Rattle.header_segments.specs.Header.{header_of}
 use Rattle.volume_store.specs.declared.learning.Learnt.{Learnt}

@@ -12,7 +12,7 @@ use Rattle.cartridge_spec.specs.Table as tables
 use Rattle.cartridge_spec.specs.HeaderAndTable.{table_cells}
 use Rattle.cartridge_spec.specs.Mounting.{Mounts}
 use Rattle.cartridge_spec.specs.Mounting as mounting
-use Rattle.drive_states.specs.Deck.{is_referenced}
+use Rattle.drive_spec.specs.Deck.{is_referenced}
 use Rattle.drive_states.specs.Unit.{UnitView}
 use Rattle.host_driver.specs.declared.host.Host.{Host}
 use Rattle.host_driver.specs.Fits.{Fits, IsAtRest, AgreesWithTape, segments_of}

@@ -4,7 +4,7 @@ ghost use Rattle.std.specs.Prelude.{◌≡◌, ◌-◌, ◌+◌, ◌*◌, ◌≤
 ghost use Rattle.acts.specs.Around.{reading};
 ghost use Rattle.append_plan.specs.Room.{last_end, room};
 ghost use Rattle.cartridge_spec.specs.Table.{IsSoundList};
-ghost use Rattle.drive_states.specs.Deck.{is_referenced};
+ghost use Rattle.drive_spec.specs.Deck.{is_referenced};
 ghost use Rattle.format_plan.specs.Fresh.{IsLabel};
 ghost use Rattle.host_driver.specs.Calls.{IsReady, MayWrite, Keeps};
 ghost use Rattle.host_driver.specs.Fits.{segments_of};

@@ -2,7 +2,7 @@
 
 ghost use Rattle.std.specs.Prelude.{◌≡◌, ◌≢◌, ◌↔◌, ◌+◌, ◌-◌, ◌*◌, ◌<◌, ◌≤◌, true, Err, IfOk, IfSome, slice_get, length};
 ghost use Rattle.acts.specs.Around.{around, reading};
-ghost use Rattle.drive_states.specs.Deck.{is_protected, segments_per_track};
+ghost use Rattle.drive_spec.specs.Deck.{is_protected, segments_per_track};
 ghost use Rattle.drive_states.specs.Hand.{Wears};
 ghost use Rattle.qic_base.specs.Cartridge.{IsPlace};
 ghost use Rattle.host_driver.specs.Calls.{IsReady};

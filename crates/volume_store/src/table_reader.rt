@@ -6,7 +6,7 @@ ghost use Rattle.qic_base.specs.Tape.{Tells};
 ghost use Rattle.qic_base.specs.declared.tape.SectorView.{SectorView};
 ghost use Rattle.cartridge_spec.specs.HeaderAndTable.{table_cells};
 ghost use Rattle.cartridge_spec.specs.Says.{LosesData};
-ghost use Rattle.drive_states.specs.Deck.{is_referenced};
+ghost use Rattle.drive_spec.specs.Deck.{is_referenced};
 ghost use Rattle.drive_states.specs.Reach.{reads_in};
 ghost use Rattle.host_driver.specs.Calls.{IsReady, Keeps};
 ghost use Rattle.segment_io.specs.Gathered.{Gathered};

@@ -7,7 +7,7 @@ ghost use Rattle.cartridge_spec.specs.Says.{with_parity};
 ghost use Rattle.cartridge_spec.specs.Shape.{sectors_of};
 ghost use Rattle.cartridge_spec.specs.Slots.{slot_bytes, slot_sector, with_slot};
 ghost use Rattle.cartridge_spec.specs.Table.{Shows};
-ghost use Rattle.drive_states.specs.Deck.{is_referenced};
+ghost use Rattle.drive_spec.specs.Deck.{is_referenced};
 ghost use Rattle.host_driver.specs.Calls.{IsReady, MayWrite, Keeps};
 ghost use Rattle.mount_laws.specs.Settling.{block_writes};
 ghost use Rattle.volume_table.specs.Entry.{entry_of};

@@ -3,8 +3,8 @@ use Rattle.std.proofs.lemmas.Result.{err_from_is_err_and}
 use Rattle.qic_base.specs.Step.{SetReferenced}
 use Rattle.qic_base.specs.Tape.{Done, Broke}
 use Rattle.qic_base.proofs.Steps.{Done-Done, Done-Broke, Broke-front}
-use Rattle.drive_states.specs.declared.deck.Deck.{Deck}
-use Rattle.drive_states.specs.Deck.{segments_per_track}
+use Rattle.drive_spec.specs.declared.deck.Deck.{Deck}
+use Rattle.drive_spec.specs.Deck.{segments_per_track}
 use Rattle.format_plan.specs.Formatting.{segment_formats}
 use Rattle.formatter.proofs.Places.{length_kept, length_referenced}
 use Rattle.formatter.proofs.clearing.clear.Goals as goal

@@ -3,7 +3,7 @@ use Rattle.std.proofs.lemmas.Result.{err_from_is_err_and}
 use Rattle.qic_base.specs.Step.{FormatSegment}
 use Rattle.qic_base.specs.Tape.{Done, Broke}
 use Rattle.qic117_commands.specs.Views.{is_format}
-use Rattle.drive_states.specs.Deck.{segments_per_track, is_streaming}
+use Rattle.drive_spec.specs.Deck.{segments_per_track, is_streaming}
 use Rattle.host_driver.proofs.Keeping.{keeps_both, mode_kept}
 use Rattle.segment_io.proofs.Going.{done_moved}
 use Rattle.formatter.specs.Steps.{formats_from, track_formats}

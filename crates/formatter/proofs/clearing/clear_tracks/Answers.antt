@@ -3,7 +3,7 @@ use Rattle.std.proofs.Math.Nat.{mul-le-mul_right}
 use Rattle.std.proofs.lemmas.Result.{err_from_is_err_and}
 use Rattle.qic_base.specs.Tape.{Done, Broke}
 use Rattle.qic117_commands.specs.Views.{is_format}
-use Rattle.drive_states.specs.Deck.{segments_per_track}
+use Rattle.drive_spec.specs.Deck.{segments_per_track}
 use Rattle.host_driver.proofs.Keeping.{keeps_both, mode_kept}
 use Rattle.formatter.specs.Steps.{formats_from, track_formats}
 use Rattle.formatter.proofs.Parts.{done_track, broke_track}

@@ -2,7 +2,7 @@ use Rattle.std.proofs.Common.{◌≡◌, ℕ, ◌*◌, inl, inr, length, ap, sub
 use Rattle.std.proofs.lemmas.Result.{err_from_is_err_and}
 use Rattle.qic_base.specs.Tape.{Done, Broke}
 use Rattle.qic_base.proofs.Steps.{Done-before_reads, Broke-before_reads}
-use Rattle.drive_states.specs.Deck.{segments_per_track}
+use Rattle.drive_spec.specs.Deck.{segments_per_track}
 use Rattle.format_plan.specs.Formatting.{clearing_steps}
 use Rattle.format_plan.specs.Fresh.{IsFreshArea}
 use Rattle.formatter.proofs.Copies.{lent_room}

@@ -2,7 +2,7 @@ use Rattle.std.proofs.Common.{◌≡◌, ℕ, ◌+◌, ◌*◌, true, length, su
 use Rattle.std.proofs.lemmas.Result.{err_from_is_err_and}
 use Rattle.qic_base.specs.Tape.{Tells}
 use Rattle.qic_base.proofs.Steps.{Done-after_reads, Broke-after_reads, Done-nothing, Tells-read}
-use Rattle.drive_states.specs.Deck.{segments_per_track}
+use Rattle.drive_spec.specs.Deck.{segments_per_track}
 use Rattle.drive_states.specs.Reach.{reads_in}
 use Rattle.host_driver.proofs.Keeping.{keeps_none, keeps_both, mode_kept, cartridge_kept}
 use Rattle.segment_io.proofs.Going.{tells_always}

@@ -2,7 +2,7 @@ use Rattle.std.proofs.Common.{◌≡◌, ℕ, ◌+◌, ◌<◌, List, Bool, fals
 use Rattle.report_bits.specs.Report.{Collected, levels_of}
 use Rattle.qic117_commands.specs.Commands.{number_of}
 use Rattle.qic117_commands.specs.declared.command.Command.TheVariants.{ReportNextBit}
-use Rattle.drive_states.specs.Record.{Record}
+use Rattle.drive_spec.specs.Record.{Record}
 use Rattle.drive_states.specs.Unit.{UnitView}
 use Rattle.host_driver.specs.Reports.{command_of, width_of, reported_word}
 use Rattle.host_driver.specs.Train.{TakesTrain, train_steps, after_train}

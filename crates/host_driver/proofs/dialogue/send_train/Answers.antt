@@ -1,11 +1,12 @@
 use Rattle.std.proofs.Common.{◌≡◌, List, [], ◌∷◌, ap, ◌∙◌, subst, OnOk, OnErr, arith}
 use Rattle.qic_base.specs.Step.{Step, SetReferenced}
 use Rattle.qic_base.specs.Tape.{Does}
-use Rattle.drive_states.specs.Record.{Record}
-use Rattle.drive_states.specs.Row.{after_gap, gap_steps}
+use Rattle.drive_spec.specs.Record.{Record}
+use Rattle.drive_spec.specs.Row.{after_gap}
+use Rattle.drive_spec.specs.Steps.{gap_steps}
 use Rattle.drive_states.specs.Unit.{UnitView}
 use Rattle.host_driver.specs.Train.{train_steps}
-use Rattle.drive_states.specs.Row.{without_reference}
+use Rattle.drive_states.specs.Unreferenced.{without_reference}
 use Rattle.host_driver.proofs.Trains.{sent, sent_steps, IsOk-reads, OnErr-second}
 use Rattle.host_driver.proofs.dialogue.send_train.Goals as goal
 

@@ -4,7 +4,8 @@ use Rattle.host_driver.proofs.Reporting.{reported-small}
 use Rattle.host_driver.proofs.Status.{status_word-stopped}
 use Rattle.host_driver.specs.Reports.{reported_word}
 use Rattle.host_driver.specs.declared.report.Report.TheVariants.{Status}
-use Rattle.drive_states.specs.Deck.{view_of, ticked}
+use Rattle.drive_spec.specs.Deck.{view_of}
+use Rattle.drive_spec.specs.Effects.{ticked}
 use Rattle.host_driver.proofs.waits.is_ready.Goals as goal
 
 pub read_report-requires-clause-taken : goal.read_report-requires-clause-taken

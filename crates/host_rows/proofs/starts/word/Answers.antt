@@ -1,6 +1,6 @@
 use Rattle.std.proofs.Common.{ap}
-use Rattle.drive_states.specs.Record.{Record}
-use Rattle.drive_states.specs.Deck.{is_stopped}
+use Rattle.drive_spec.specs.Deck.{is_stopped}
+use Rattle.drive_spec.specs.Record.{Record}
 use Rattle.host_rows.proofs.Sends.{report_taken}
 use Rattle.host_rows.proofs.starts.word.Goals as goal
 

@@ -1,7 +1,7 @@
 use Rattle.std.specs.Prelude.{ℕ}
 use Rattle.std.proofs.Common.{◌≡◌, false, sym, ap, ◌∙◌}
 use Rattle.std.specs.Option.{option_map_or}
-use Rattle.drive_states.specs.Deck.{is_protected}
+use Rattle.drive_spec.specs.Deck.{is_protected}
 use Rattle.tape_cmd.proofs.Formats.{there_of, present}
 use Rattle.tape_cmd.proofs.Mounted.{open_shown, open_failed, unlocked_known, writable_unstarted, writable_failed}
 use Rattle.tape_cmd.proofs.opening.open_writable.Goals as goal

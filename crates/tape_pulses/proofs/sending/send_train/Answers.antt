@@ -1,8 +1,8 @@
 use Rattle.std.proofs.Common.{◌≡◌, List, ap, subst, OnOk, arith}
 use Rattle.qic_base.specs.Step.{Step}
 use Rattle.qic_base.specs.Tape.{Does}
-use Rattle.drive_states.specs.Record.{Record}
-use Rattle.drive_states.specs.Row.{gap_steps}
+use Rattle.drive_spec.specs.Record.{Record}
+use Rattle.drive_spec.specs.Steps.{gap_steps}
 use Rattle.drive_states.specs.Unit.{UnitView}
 use Rattle.tape_pulses.specs.Pulses.{train_steps}
 use Rattle.tape_pulses.proofs.Trains.{sent, sent_steps}

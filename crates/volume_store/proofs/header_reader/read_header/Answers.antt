@@ -7,7 +7,7 @@ use Rattle.volume_store.specs.declared.fault.StoreFault.TheVariants.{Tape}
 use Rattle.qic_base.specs.Tape.{Tells}
 use Rattle.qic_base.proofs.Steps.{Tells-read, Done-after_reads}
 use Rattle.cartridge_spec.specs.HeaderAndTable.{CopyDoesNotRead}
-use Rattle.drive_states.specs.Deck.{is_referenced}
+use Rattle.drive_spec.specs.Deck.{is_referenced}
 use Rattle.host_driver.specs.Fits.{segments_of, deck_of}
 use Rattle.header_segments.specs.declared.header.Header.{Header}
 use Rattle.volume_store.specs.declared.fault.StoreFault.{StoreFault}

@@ -1,5 +1,5 @@
 use Rattle.std.proofs.Common.{sym, ap}
-use Rattle.drive_states.specs.declared.deck.Deck.{Deck}
+use Rattle.drive_spec.specs.declared.deck.Deck.{Deck}
 use Rattle.drive_states.specs.AnyDrive.{drive_of}
 use Rattle.drive_states.proofs.Obeying.{stays_else}
 use Rattle.drive_states.proofs.any_drive.AnyDrive.obey_reading.Goals as goal

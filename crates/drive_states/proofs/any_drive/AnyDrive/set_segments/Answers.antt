@@ -1,7 +1,7 @@
 use Rattle.std.proofs.Common.{refl, ap, arith}
 use Rattle.qic117_commands.specs.declared.command.Command.TheVariants.{SetFormatSegments}
 use Rattle.qic117_commands.specs.Refusals.{waits_for_seek, illegal_in_primary, illegal_in_verify}
-use Rattle.drive_states.specs.Deck.{is_stopped}
+use Rattle.drive_spec.specs.Deck.{is_stopped}
 use Rattle.drive_states.proofs.AnyDrives.{refused_elsewhere}
 use Rattle.drive_states.proofs.Obeying.{parameter_stopped}
 use Rattle.drive_states.proofs.any_drive.AnyDrive.set_segments.Goals as goal

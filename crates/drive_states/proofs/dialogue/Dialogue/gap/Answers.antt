@@ -1,7 +1,7 @@
 use Rattle.std.proofs.Common.{◌∙◌, false, sym, ap, arith}
+use Rattle.drive_spec.specs.Effects.{ticked}
+use Rattle.drive_spec.specs.Record.{Record}
 use Rattle.drive_states.specs.Cable.{record_of}
-use Rattle.drive_states.specs.Deck.{ticked}
-use Rattle.drive_states.specs.Record.{Record}
 use Rattle.drive_states.specs.Unit.{DeckAndTape, UnitView}
 use Rattle.drive_states.proofs.AnyDrives.{Done-same, idle_steps}
 use Rattle.drive_states.proofs.Rows.{IsSoundRecord-ticked}

@@ -1,5 +1,5 @@
 use Rattle.std.proofs.Common.{◌≡◌, true, sym, ◌∙◌}
-use Rattle.drive_states.specs.Deck.{is_stopped}
+use Rattle.drive_spec.specs.Deck.{is_stopped}
 use Rattle.drive_states.proofs.Places.{IsIn-there}
 use Rattle.drive_states.proofs.transitions.Drive+Seeking+M+T.tick.Goals as goal
 

@@ -1,5 +1,5 @@
 use Rattle.std.proofs.Common.{◌≡◌, ℕ, ap, sym, subst, ◌∙◌}
-use Rattle.drive_states.specs.Record.{Record}
+use Rattle.drive_spec.specs.Record.{Record}
 use Rattle.host_driver.specs.Train.{TakesTrain, after_train, train_steps}
 use Rattle.host_driver.proofs.Sending.{commanded, steps-plain, takes-plain}
 use Rattle.host_driver.proofs.Taking.{done}

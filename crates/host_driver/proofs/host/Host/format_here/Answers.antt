@@ -1,6 +1,6 @@
 use Rattle.std.proofs.Common.{[], ◌∷◌, ap, rules}
 use Rattle.qic_base.specs.Step.{FormatSegment}
-use Rattle.drive_states.specs.declared.deck.Deck.{Deck}
+use Rattle.drive_spec.specs.declared.deck.Deck.{Deck}
 use Rattle.drive_states.specs.Reach.{segment_of}
 use Rattle.host_driver.proofs.Marks.{format_keeps, broke_agrees}
 use Rattle.host_driver.proofs.host.Host.format_here.Goals as goal

@@ -1,7 +1,7 @@
 use Rattle.std.proofs.Common.{◌≡◌, ap}
+use Rattle.drive_spec.specs.declared.deck.Deck.{Deck}
 use Rattle.drive_states.proofs.Bounds.{stop_of}
-use Rattle.drive_states.specs.declared.deck.Deck.{Deck}
-use Rattle.drive_states.specs.Deck.{is_seeking}
+use Rattle.drive_states.specs.Typed.{is_seeking}
 use Rattle.host_driver.specs.Fits.{segments_of}
 use Rattle.host_driver.proofs.Keeping.{keeps_tape}
 use Rattle.host_driver.proofs.Taking.{there}

@@ -1,7 +1,8 @@
 use Rattle.std.proofs.Common.{◌≡◌, refl, ap, sym, subst, ◌∙◌}
-use Rattle.drive_states.specs.declared.deck.Deck.{Deck}
-use Rattle.drive_states.specs.Deck.{is_seeking, is_streaming}
-use Rattle.drive_states.specs.Record.{Record}
+use Rattle.drive_spec.specs.declared.deck.Deck.{Deck}
+use Rattle.drive_spec.specs.Deck.{is_streaming}
+use Rattle.drive_spec.specs.Record.{Record}
+use Rattle.drive_states.specs.Typed.{is_seeking}
 use Rattle.host_driver.specs.Fits.{IsAtRest}
 use Rattle.host_driver.specs.Place.{KeepsMode, RunsOn, idled_deck}
 use Rattle.host_driver.specs.Train.{after_train}

@@ -1,5 +1,5 @@
 use Rattle.std.proofs.Common.{[], ap, rules}
-use Rattle.drive_states.specs.declared.deck.Deck.{Deck}
+use Rattle.drive_spec.specs.declared.deck.Deck.{Deck}
 use Rattle.host_driver.proofs.Marks.{nothing_keeps, broke_agrees}
 use Rattle.host_driver.proofs.host.Host.read_sector.Goals as goal
 

@@ -2,10 +2,11 @@ use Rattle.std.proofs.Common.{◌≡◌, ℕ, List, [], ◌∷◌, false, refl, 
 use Rattle.qic_base.specs.Step.{Step, SetReferenced}
 use Rattle.qic_base.specs.Tape.{Done, Broke}
 use Rattle.qic117_commands.specs.declared.command.Command.TheVariants.{WriteReference}
-use Rattle.drive_states.specs.declared.deck.Deck.{Deck}
-use Rattle.drive_states.specs.Deck.{is_streaming}
-use Rattle.drive_states.specs.Record.{Record}
-use Rattle.drive_states.specs.Row.{obeying, without_reference}
+use Rattle.drive_spec.specs.declared.deck.Deck.{Deck}
+use Rattle.drive_spec.specs.Deck.{is_streaming}
+use Rattle.drive_spec.specs.Record.{Record}
+use Rattle.drive_spec.specs.Row.{obeying}
+use Rattle.drive_states.specs.Unreferenced.{without_reference}
 use Rattle.drive_states.proofs.Bounds.{reference_of}
 use Rattle.host_driver.specs.Train.{TakesTrain, after_train, train_steps}
 use Rattle.std.proofs.lemmas.Result.{err_from_is_err_and}

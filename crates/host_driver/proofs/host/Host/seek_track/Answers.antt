@@ -1,6 +1,7 @@
 use Rattle.std.proofs.Common.{ap, ◌∙◌}
-use Rattle.drive_states.specs.declared.deck.Deck.{Deck}
-use Rattle.drive_states.specs.Deck.{is_seeking, is_streaming}
+use Rattle.drive_spec.specs.declared.deck.Deck.{Deck}
+use Rattle.drive_spec.specs.Deck.{is_streaming}
+use Rattle.drive_states.specs.Typed.{is_seeking}
 use Rattle.host_driver.specs.Train.{ready_deck}
 use Rattle.host_driver.proofs.Taking.{stands_known, seek_of, given_track, takes_track}
 use Rattle.host_driver.proofs.host.Host.seek_track.Goals as goal

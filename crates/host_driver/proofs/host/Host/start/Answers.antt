@@ -3,8 +3,10 @@ use Rattle.std.proofs.lemmas.Bool.{false≢true}
 use Rattle.qic_base.specs.Cartridge.{IsLength}
 use Rattle.qic_base.specs.Tape.{Done}
 use Rattle.qic_base.specs.declared.tape.TapeInfo.{TapeInfo}
-use Rattle.drive_states.specs.Deck.{view_of, is_seeking, seen_motion, ticked, ticked_motion}
-use Rattle.drive_states.specs.Record.{Record, power_on}
+use Rattle.drive_spec.specs.Deck.{view_of, seen_motion}
+use Rattle.drive_spec.specs.Effects.{ticked, ticked_motion}
+use Rattle.drive_spec.specs.Record.{Record, power_on}
+use Rattle.drive_states.specs.Typed.{is_seeking}
 use Rattle.drive_states.specs.Unit.{UnitView}
 use Rattle.host_driver.specs.declared.host.Host.{Host}
 use Rattle.host_driver.specs.Fits.{Fits}

@@ -1,6 +1,6 @@
 use Rattle.std.proofs.Common.{ap, [], ◌∷◌, rules}
 use Rattle.qic_base.specs.Step.{WriteSector}
-use Rattle.drive_states.specs.declared.deck.Deck.{Deck}
+use Rattle.drive_spec.specs.declared.deck.Deck.{Deck}
 use Rattle.host_driver.proofs.Marks.{write_keeps, broke_agrees}
 use Rattle.host_driver.proofs.host.Host.write_sector.Goals as goal
 

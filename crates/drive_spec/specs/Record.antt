@@ -1,10 +1,10 @@
 -- The record of the state table: all that a drive is in (this project's profile of QIC-117).
 use Rattle.std.specs.Prelude.{ℕ, Bool, false, Option}
 use Rattle.qic_base.specs.declared.tape.TapeInfo.{TapeInfo}
-use Rattle.drive_states.specs.declared.deck.Deck.{Deck}
-use Rattle.drive_states.specs.declared.under_way.UnderWay.{UnderWay}
-use Rattle.drive_states.specs.declared.under_way.UnderWay.TheVariants.{Nothing}
-use Rattle.drive_states.specs.Deck.{power_on_deck}
+use Rattle.drive_spec.specs.declared.deck.Deck.{Deck}
+use Rattle.drive_spec.specs.declared.under_way.UnderWay.{UnderWay}
+use Rattle.drive_spec.specs.declared.under_way.UnderWay.TheVariants.{Nothing}
+use Rattle.drive_spec.specs.Deck.{power_on_deck}
 
 pub record Record : Type 0 where
   -- the part that a typed drive holds: cartridge, mode, place, motion, error word and format segments

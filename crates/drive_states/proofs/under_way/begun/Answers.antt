@@ -1,9 +1,9 @@
 use Rattle.std.proofs.Common.{◌≡◌, ℕ, ◌<◌, true, nat_lt, ap, ◌∙◌, arith}
 use Rattle.std.proofs.lemmas.Bool.Decides.{nat_tests}
 use Rattle.report_bits.specs.Report.{levels_of}
-use Rattle.drive_states.specs.declared.under_way.UnderWay.TheVariants.{Report}
-use Rattle.drive_states.specs.Row.{report_width}
-use Rattle.drive_states.proofs.under_way.UnderWay.begun.Goals as goal
+use Rattle.drive_spec.specs.declared.under_way.UnderWay.TheVariants.{Report}
+use Rattle.drive_spec.specs.Reports.{report_width}
+use Rattle.drive_states.proofs.under_way.begun.Goals as goal
 
 pub load-requires-clause-fits : goal.load-requires-clause-fits
 load-requires-clause-fits c = rw c.report_width-width.ensures c.report_word.ensures.fits

@@ -1,0 +1,35 @@
+-- The reports: how many bits each has, and the word that it shows (QIC-117; the words are this project's profile).
+use Rattle.std.specs.Prelude.{ℕ, ◌+◌, ◌==◌, Bool, if◌then◌else◌, nat_lt}
+use Rattle.qic117_commands.specs.declared.command.Command.{Command}
+use Rattle.qic117_commands.specs.declared.command.Command.TheVariants.{ReportStatus, ReportError, ReportConfiguration, ReportRom, ReportVendor, ReportTapeStatus, ReportFormatSegments}
+use Rattle.drive_spec.specs.declared.deck.Deck.{Deck}
+use Rattle.drive_spec.specs.Deck.{segments_per_track, status_word, told_segments}
+
+-- QIC-80, by the tape's length: 205 ft has 100 segments per track, 307.5 ft has 150
+abbrev pub tape_status : (segments_per_track : ℕ) → ℕ
+tape_status n = 0x02 + (if n == 100 then 0x10 else if n == 150 then 0x20 else 0x30)
+
+-- how many bits a report has; 0 where the command asks for none
+abbrev pub report_width : Command → ℕ
+report_width ReportStatus = 8
+report_width ReportError = 16
+report_width ReportConfiguration = 8
+report_width ReportRom = 8
+report_width ReportVendor = 16
+report_width ReportTapeStatus = 8
+report_width ReportFormatSegments = 16
+report_width command = 0
+
+-- the word that a report shows
+abbrev pub report_word : Command → Deck → ℕ
+report_word ReportStatus d = status_word d
+report_word ReportError d = d.error
+report_word ReportConfiguration d = 0x00
+report_word ReportRom d = 0x01
+report_word ReportVendor d = 0x0080
+report_word ReportTapeStatus d = tape_status (segments_per_track d)
+report_word ReportFormatSegments d = told_segments d
+report_word command d = 0
+
+abbrev pub is_report : Command → Bool
+is_report command = nat_lt 0 (report_width command)
