@@ -35,7 +35,7 @@ TICKS = os.sysconf("SC_CLK_TCK")
 
 
 def stat_of(pid):
-    """The parent of a process, its processor seconds with those of children that ended, and its start; None where it has ended."""
+    """The parent of a process, its processor seconds with those of ended children, and its start; None where it is gone."""
     try:
         with open(f"/proc/{pid}/stat", encoding="utf-8", errors="replace") as file:
             fields = file.read().rpartition(")")[2].split()
@@ -105,7 +105,7 @@ def time_run(log, command):
     used = resource.getrusage(resource.RUSAGE_CHILDREN)
     seen = sum(it[2] for it in watch.seen.values())
     with open(log, "w", encoding="utf-8") as file:
-        file.write(f"# {' '.join(command)}: status {run.returncode}, {took / 60:.1f} minutes on {os.cpu_count()} processors; "
+        file.write(f"# {' '.join(command)}: status {run.returncode}, {took / 60:.1f} minutes on {os.cpu_count()} processors, "
                    f"{(used.ru_utime + used.ru_stime) / 60:.1f} processor minutes, {seen / 60:.1f} of them seen\n")
         file.writelines(watch.lines())
     return run.returncode
@@ -224,7 +224,7 @@ def longest_chain(crates, table, name):
 
 
 def side_by_side(crates, table, name, lanes):
-    """The minutes until this crate is proved where so many proofs run at once, those with the longest way behind them first."""
+    """The minutes until this crate is proved with so many proofs at once, first those with the longest way behind them."""
     needed = all_below(crates, name)
     behind = {}
     for crate in reversed(needed):

@@ -204,17 +204,12 @@ class Tree:
         crate = path.split(".")[1]
         if crate not in self.crates:
             return None
-        if ".specs.declared." in path + ".":
-            parts = path.split(".declared")[1].strip(".").split(".")
-            parts = [part for part in parts if part]
-            if "TheVariants" in parts or "TheViews" in parts or "TheInside" in parts:
-                parts = parts[:-1]
-                return self.rust_type(crate, parts[:-1], parts[-1])
-            if parts and parts[-1] == "TheConstants":
-                return self.rust_type(crate, parts[:-1], name)
-            if parts and parts[-1][:1].isupper():
-                return self.rust_type(crate, parts[:-1], parts[-1])
-            return self.rust_type(crate, parts, name)
+        if ".specs.declared." in path:
+            # modules of Rust, then a type, and then what of it is meant; or the constants of a module
+            parts = path.partition(".declared.")[2].split(".")
+            modules = [part for part in parts if part[0].islower()]
+            types = [part for part in parts if part not in modules and not part.startswith("The")]
+            return self.rust_type(crate, modules, types[0] if types else name)
         module = self.modules.get(path)
         if module is None:
             self.missing.add(path)
@@ -247,7 +242,7 @@ class Tree:
         return [other for other in dict.fromkeys(found) if other is not None and other is not thing]
 
     def rust_uses(self, thing):
-        """The types that a type is made of, but for private fields; of a trait what its clauses cite, where that is asked."""
+        """The types that a type is made of, but for private fields; and what a trait's clauses cite, where that is asked."""
         if not thing.lines:
             return []
         first, rest = thing.lines[0], thing.lines[1:]
