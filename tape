@@ -1,11 +1,39 @@
 #!/usr/bin/env bash
 # Hands its words on to the program. Where that isn't built yet, or its sources are newer, it is proved and built first: in a
 # folder of its own, with just the crates that it needs, as many side by side as the machine has processors and memory for.
-# What was proved is kept there, so a build that was broken off goes on where it was.
+# What was proved is kept there, so a build that was broken off goes on where it was. A word for help alone is answered here,
+# and builds nothing.
 set -euo pipefail
 top=$(cd "$(dirname "$0")" && pwd)
 program=$top/crates/tape/out/tape
+kit=rattle-kit-13f
 room=${XDG_CACHE_HOME:-${HOME:-/tmp}/.cache}/tape/$(printf '%s' "$top" | cksum | tr ' ' -)
+
+# The commands, a line each, and where they are described.
+tell_commands() {
+    cat << END
+usage: tape IMAGE COMMAND
+
+IMAGE is the file that holds the cartridge, and is created where there is none. The commands:
+
+    new N                 put in a new cartridge of N segments per track, in place of what was there
+    defect SEG SEC        make a defect of a sector that was never formatted
+    lose SEG SEC          make a sector unreadable, until it is written again
+    protect on | off      set or clear the write protect mark
+    format LABEL [DATE]   make the cartridge an empty one; what was on it is lost
+    info                  print the label, the format date, and how many segments, bad sectors and volumes there are
+    append NAME [DATE]    add a volume: standard input to its end
+    list                  print the volumes
+    restore N             print the bytes of volume N
+    scrub                 write the sectors again that can't be read and can be found
+    pulses                send trains of step pulses, read from standard input, and print the levels
+    script                carry out the lines of standard input, and print a reply to each
+    make SEED COUNT       append COUNT made volumes, lose some of their sectors, scrub, and read them back
+
+The manual page: man $top/man/tape.1
+All of it, with what is printed and the exit statuses: $top/docs/COMMANDS.md
+END
+}
 
 # The lines of crates.txt of the program and of all crates below it.
 needed() {
@@ -49,7 +77,8 @@ lines_of() {
 }
 
 # Reads what rt says, and tells how far it is. A crate that was proved before is named, and nothing is said of it. The
-# time to go is that of the lines that are left, by the lines that were proved since it began.
+# time to go is that of the lines that are left, by the lines that were proved since it began; it is told once these are a
+# tenth of both.
 tell() {
     local crate='' is_new='' count=0 of left lines=0 proved=0 line text shown='' ends='\n'
     of=$(wc -l < "$room/crates.txt")
@@ -69,7 +98,8 @@ tell() {
             *) is_new=1 ;;
         esac
         text="tape: proved $count of $of crates"
-        [ $proved = 0 ] || text="$text, about $((SECONDS * left / proved / 60)) minutes to go"
+        [ $proved = 0 ] || [ $((proved * 10)) -lt $((proved + left)) ] ||
+            text="$text, about $((SECONDS * left / proved / 60)) minutes to go"
         [ "$text" = "$shown" ] || printf "%-70s$ends" "${text/about 0 minutes/less than a minute}" >&2
         shown=$text
     done
@@ -77,6 +107,11 @@ tell() {
 }
 
 build() {
+    if ! command -v rt > /dev/null; then
+        echo "tape: there is no rt on the path: it comes with the Rattle kit ($kit), in the kit's folder bin" >&2
+        echo "tape: rt proves and builds the program; $top/README.md tells what that takes" >&2
+        exit 1
+    fi
     echo 'tape: proving and building, which takes long the first time; it may be broken off and started again' >&2
     copy_sources
     # One crate for each processor, and for each three gigabytes of free memory.
@@ -90,6 +125,9 @@ build() {
     cp "$room/crates/tape/out/tape" "$program"
 }
 
+case $#:${1-} in
+    1:-h | 1:--help | 1:help) tell_commands; exit ;;
+esac
 if ! is_built && ! { build && is_built; }; then
     echo "tape: the program could not be built; $room/log tells why" >&2
     exit 1
