@@ -1,3 +1,5 @@
+//! Why a sector call, or what a person does to the cartridge, came to nothing.
+
 /// Why a sector call was refused. The first that holds is answered, but a tape that fails first is answered at once.
 #[derive(Clone, Copy, Debug, PartialEq, Eq)]
 pub enum FdcFault {

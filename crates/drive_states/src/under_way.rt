@@ -40,9 +40,10 @@ pub fn report_word(command: Command, deck: &Deck) -> u16
     ensures word { result ≡ report_word command deck.now }
     ensures fits { result < 2 ^ report_width command }
 {
+    let error = deck.error;
     match command {
         Command::ReportStatus => u16::from(status_word(deck)),
-        Command::ReportError => deck.error,
+        Command::ReportError => error,
         Command::ReportRom => 0x01,
         Command::ReportVendor => 0x0080,
         Command::ReportTapeStatus => u16::from(tape_status(segments_per_track(deck))),

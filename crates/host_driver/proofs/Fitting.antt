@@ -14,13 +14,12 @@ use Rattle.drive_spec.specs.Deck.{segments_per_track}
 use Rattle.drive_spec.specs.Record.{Record}
 use Rattle.drive_spec.specs.Parameters.{longer, parameter_code, parameter_values}
 use Rattle.drive_spec.specs.Row.{given_more, heard, latched}
-use Rattle.drive_states.specs.Unreferenced.{unreferenced}
+use Rattle.drive_states.specs.Unreferenced.{unreferenced, without_reference}
 use Rattle.drive_states.specs.Unit.{UnitView, IsSoundUnit}
 use Rattle.host_driver.specs.declared.host.Host.{Host}
 use Rattle.host_driver.specs.Fits.{Fits, parameter_of}
 use Rattle.host_driver.specs.Followed.{followed}
 use Rattle.host_driver.specs.Train.{TakesTrain, after_train}
-use Rattle.drive_states.specs.Unreferenced.{without_reference}
 use Rattle.host_driver.proofs.Follows.{remembered, followed-remembered, after_train-heard, counted, latches, some_number}
 use Rattle.host_driver.proofs.Kept.{Kept, Kept-unreferenced, after_train-kept}
 

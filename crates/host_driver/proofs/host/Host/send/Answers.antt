@@ -1,10 +1,9 @@
 use Rattle.std.proofs.Common.{◌≡◌, sym, ap, subst, ◌∙◌}
 use Rattle.drive_spec.specs.declared.deck.Deck.{Deck}
-use Rattle.drive_states.specs.Unreferenced.{unreferenced}
+use Rattle.drive_states.specs.Unreferenced.{unreferenced, without_reference}
 use Rattle.host_driver.specs.declared.host.Host.{Host}
 use Rattle.host_driver.specs.Fits.{Fits}
 use Rattle.host_driver.specs.Train.{after_train}
-use Rattle.drive_states.specs.Unreferenced.{without_reference}
 use Rattle.host_driver.proofs.Fitting.{fits_after, fits_without, by_err, by_ok, takes_value}
 use Rattle.host_driver.proofs.host.Host.send.Goals as goal
 
