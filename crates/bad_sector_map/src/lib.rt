@@ -1,7 +1,6 @@
 //! The bad sector map: which sectors of each segment are bad, and what that leaves of the segment.
 #![tactic(auto)]
 
-pub mod laws;
 mod map;
 mod words;
 

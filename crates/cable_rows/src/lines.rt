@@ -5,7 +5,7 @@ use qic_base::{Name, Source, SourceFailed};
 use qic_mem::MemSource;
 use std::alloc::Global;
 use std::test::Fail;
-use tape_script::{Line, LineRead};
+use tape_script::{Line, LineRead, read_line};
 
 /// 1994-03-01T12:00:00.
 const NOON: u32 = 0x3052_65C0;
@@ -21,7 +21,7 @@ type Seen = Option<(Option<Line>, usize, usize)>;
 
 /// What is read of a source.
 fn seen_of(source: &mut MemSource) -> Result<Seen, SourceFailed> {
-    let (line, read) = match Line::read(source, &mut [0; 128])? {
+    let (line, read) = match read_line(source, &mut [0; 128])? {
         LineRead::Line { line, read } => (Some(line), read),
         LineRead::Bad { read } => (None, read),
         LineRead::End => return Ok(None),

@@ -4,7 +4,7 @@
 use qic_base::Name;
 use std::alloc::{AllocError, Global};
 use std::test::Fail;
-use tape_script::Words;
+use tape_script::{Words, read_words};
 
 /// 1994-03-01T12:00:00.
 const NOON: u32 = 0x3052_65C0;
@@ -23,7 +23,7 @@ fn owned(alloc: Global, text: &[&str]) -> Result<Vec<String>, AllocError> {
 /// The command that the words are, if they are one.
 fn read(alloc: Global, text: &[&str]) -> Result<Option<Words>, AllocError> {
     let words = owned(alloc, text)?;
-    Ok(Words::read(&words).ok())
+    Ok(read_words(&words).ok())
 }
 
 /// The index of the first words that are not the command beside them.

@@ -1,13 +1,13 @@
 -- The header and the volume table of a cartridge: the header copies, the one in force, and the table's data (the places of
 -- header and table are this project's profile).
-use Rattle.std.specs.Prelude.{◌≡◌, ◌⊎◌, ℕ, ◌-◌, ◌*◌, true, false, List, length, All, None}
+use Rattle.std.specs.Prelude.{◌≡◌, ℕ, List, length, All, true, ◌⊎◌, false, None, ◌-◌, ◌*◌}
+use Rattle.cartridge_spec.specs.Header.{has_signature, Header, header_fault, HeaderFault}
+use Rattle.cartridge_spec.specs.Says.{whole_mask, cells_of, Says, Data, TableSays, AsRead, ByCode}
+use Rattle.cartridge_spec.specs.Table.{TableFault, ForeignSlot, BadRange}
+use Rattle.qic_base.specs.Cartridge.{IsSector, Cartridge}
 use Rattle.qic_base.specs.declared.foreign.ForeignField.TheVariants.{Slot, Range}
 use Rattle.qic_base.specs.declared.tape.SectorView.{SectorView}
-use Rattle.qic_base.specs.Cartridge.{Cartridge, IsSector}
-use Rattle.cartridge_spec.specs.Header.{Header, HeaderFault, has_signature, header_fault}
 use Rattle.cartridge_spec.specs.Header as headers
-use Rattle.cartridge_spec.specs.Table.{TableFault, ForeignSlot, BadRange}
-use Rattle.cartridge_spec.specs.Says.{whole_mask, cells_of, Says, Data, TableSays, AsRead, ByCode}
 
 -- 29 data sectors
 pub record IsArea (area : List (List ℕ)) : Type 0 where

@@ -1,13 +1,14 @@
 -- What the mounting of a cartridge gives, and the cartridge as it leaves it (this project's profile).
-use Rattle.std.specs.Prelude.{◌≡◌, ◌⊎◌, ℕ, List, Some, if◌then◌else◌}
-use Rattle.qic_base.specs.Cartridge.{Cartridge}
+use Rattle.std.specs.Prelude.{ℕ, List, ◌≡◌, Some, ◌⊎◌, if◌then◌else◌, ◌≤◌, ◌<◌}
 use Rattle.cartridge_spec.specs.Header.{Header, HeaderFault, header_fault}
-use Rattle.cartridge_spec.specs.HeaderAndTable.{HasHeader, IsUnformatted, IsFormatted, TableIs, table_cells, last_segment, slot_refusal}
-use Rattle.cartridge_spec.specs.Shape.{usable_places}
-use Rattle.cartridge_spec.specs.Table.{Entry, TableFault, HasNoFault, IsFirstFault}
+use Rattle.cartridge_spec.specs.HeaderAndTable.{IsFormatted, HasHeader, TableIs, last_segment, slot_refusal, IsUnformatted, table_cells}
+use Rattle.cartridge_spec.specs.Says.{LostSectors, Mismatch, TableSays, ByCode, whole_mask, with_parity, unreadable_count, unreadable_data, Says, Data, ReadsAll}
+use Rattle.cartridge_spec.specs.Settling.{writes_of, changed_by}
+use Rattle.cartridge_spec.specs.Shape.{usable_places, IsLive}
+use Rattle.cartridge_spec.specs.Table.{Entry, TableFault, IsFirstFault, HasNoFault}
+use Rattle.cartridge_spec.specs.Volumes.{Plain, entries_of}
+use Rattle.qic_base.specs.Cartridge.{Cartridge, view_at}
 use Rattle.cartridge_spec.specs.Table as tables
-use Rattle.cartridge_spec.specs.Says.{whole_mask, with_parity, LostSectors, Mismatch, TableSays, ByCode}
-use Rattle.cartridge_spec.specs.Writes.{writes_of, changed_by}
 
 -- what the mounting of a cartridge gives: its first refusal, or the header in force, the words of its map, the table's
 -- data and the entries
@@ -60,3 +61,26 @@ abbrev pub settled : List (List ℕ) → Cartridge → Cartridge
 settled area c =
     if c.info.protected then c
     else changed_by (writes_of 2 (usable_places whole_mask) (with_parity area)) c
+
+-- ---- a cartridge that stands for a plain one
+
+-- what the mounting of such a one gives: the plain one's header, map, table and entries
+abbrev pub mounted_as : Plain → Mounting
+mounted_as plain = Mounted plain.header plain.words plain.table_area (entries_of plain)
+
+-- the data of its table can be read, or be found by the code
+abbrev pub CanBeRead : Cartridge → Type 0
+CanBeRead c = (unreadable_data (table_cells c) ≡ 0) ⊎ (unreadable_count (table_cells c) ≤ 3)
+
+-- no readable sector is left out of account: the data are read as they are, or are those of the code block that agrees with all
+-- readable sectors
+abbrev pub ReadsPlainly : Cartridge → (area : List (List ℕ)) → Type 0
+ReadsPlainly c area = ReadsAll (table_cells c) area ⊎ Says (table_cells c) (Data area)
+
+-- each sector of the table's segment takes what is written to it
+abbrev pub IsTableLive : Cartridge → Type 0
+IsTableLive c = (i : ℕ) → i < 32 → IsLive (view_at c 2 i)
+
+-- a cartridge is mounted with this header, these words and this list, whatever the data of its table
+abbrev pub Lists : Cartridge → Header → (words : List ℕ) → List Entry → Type 0
+Lists d header words entries = (table : List (List ℕ)) × Mounts d (Mounted header words table entries)

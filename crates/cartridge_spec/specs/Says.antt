@@ -1,14 +1,12 @@
 -- What a segment says: the cells of its usable sectors, the code block that agrees with those that can be read, and the
 -- data in it (QIC-80-MC: three sectors of parity behind the data, so three sectors that are lost are found again).
-use Rattle.std.specs.Prelude.{◌≡◌, ◌⊎◌, ℕ, suc, ◌-◌, ◌/◌, ◌%◌, ◌^◌, ◌<◌, ◌≤◌, ◌==◌, ◌++◌, List, [], ◌∷◌, length, take, map, count_by, Some, slice_get, if◌then◌else◌}
-use Rattle.qic_base.specs.declared.tape.SectorView.{SectorView}
-use Rattle.qic_base.specs.declared.tape.SectorView.TheVariants.{Lost, Holds}
-use Rattle.qic_base.specs.Cartridge.{Cartridge, view_at, zero_sector}
-use Rattle.qic_base.specs.LostSet.{IsLost}
-use Rattle.gf256_qic.specs.Code.{IsCodeBlock, parity_sectors}
-use Rattle.cartridge_spec.specs.Segment.{is_unreadable}
-use Rattle.cartridge_spec.specs.Shape.{usable_places}
+use Rattle.std.specs.Prelude.{ℕ, ◌-◌, ◌^◌, List, map, count_by, ◌≡◌, length, Some, slice_get, take, ◌<◌, ◌≤◌, ◌++◌, suc, ◌/◌, ◌%◌, ◌==◌, [], ◌∷◌, if◌then◌else◌, ◌⊎◌}
+use Rattle.cartridge_spec.specs.Code.{IsCodeBlock, parity_sectors}
+use Rattle.cartridge_spec.specs.Shape.{usable_places, is_unreadable}
 use Rattle.cartridge_spec.specs.TableSets.{table_sets}
+use Rattle.qic_base.specs.Cartridge.{Cartridge, view_at, zero_sector}
+use Rattle.qic_base.specs.declared.tape.SectorView.{SectorView}
+use Rattle.qic_base.specs.declared.tape.SectorView.TheVariants.{Holds, Lost}
 
 -- a segment without a bad sector
 abbrev pub whole_mask : ℕ
@@ -72,12 +70,6 @@ Zero cells = (i : ℕ) (bytes : List ℕ) → slice_get cells i ≡ Some (Holds 
 -- the unreadable ones among its 29 data sectors
 abbrev pub unreadable_data : List SectorView → ℕ
 unreadable_data cells = unreadable_count (take 29 cells)
-
--- one of its data sectors is among these places
-pub record LosesData (lost : ℕ) : Type 0 where
-  pub place : ℕ
-  pub data_sector : place < 29
-  pub is_lost : IsLost lost place
 
 -- all its data sectors can be read, and hold these
 pub record ReadsAll (cells : List SectorView) (sectors : List (List ℕ)) : Type 0 where

@@ -1,7 +1,8 @@
--- A segment's shape by the mask of its usable sectors (QIC-80-MC: data sectors, and three of parity behind them). Bit i
--- of a mask is 1 where sector i is usable; bit i of a word of the bad sector map is 1 where sector i is bad.
-use Rattle.std.specs.Prelude.{ℕ, ◌-◌, ◌*◌, ◌^◌, ◌≤◌, List, [], length, take, drop, nat_le, if◌then◌else◌, slice_index, sum_by}
+-- The shape of a segment: which of its sectors are usable, and which of these are parity (QIC-80-MC); the views of sectors.
+use Rattle.std.specs.Prelude.{ℕ, List, ◌-◌, ◌^◌, slice_index, length, ◌*◌, nat_le, if◌then◌else◌, sum_by, Bool, true, false, [], slice_get, unwrap_or}
 use Rattle.qic_base.specs.LostSet.{lost_places}
+use Rattle.qic_base.specs.declared.tape.SectorView.{SectorView}
+use Rattle.qic_base.specs.declared.tape.SectorView.TheVariants.{Blank, Defect, Lost, Holds}
 
 -- the sectors 0 to 31 whose bits are 1, in ascending order
 abbrev pub sectors_of : ℕ → List ℕ
@@ -26,18 +27,6 @@ usable_count mask = length (usable_places mask)
 abbrev pub data_count : ℕ → ℕ
 data_count mask = usable_count mask - 3
 
--- the fewest usable sectors that carry data are four
-abbrev pub Carries : ℕ → Type 0
-Carries mask = 4 ≤ usable_count mask
-
--- the sectors that hold data
-abbrev pub data_places : ℕ → List ℕ
-data_places mask = take (data_count mask) (usable_places mask)
-
--- the sectors that hold parity: the last three, and none where there is no data
-abbrev pub parity_places : ℕ → List ℕ
-parity_places mask = if nat_le 4 (usable_count mask) then drop (data_count mask) (usable_places mask) else []
-
 -- the bytes of data that a segment carries
 abbrev pub capacity : ℕ → ℕ
 capacity mask = if nat_le 4 (usable_count mask) then 1024 * data_count mask else 0
@@ -45,3 +34,21 @@ capacity mask = if nat_le 4 (usable_count mask) then 1024 * data_count mask else
 -- the number of bad sectors that the words of a map mark
 abbrev pub marked_sectors : List ℕ → ℕ
 marked_sectors words = sum_by (λ word. length (sectors_of word)) words
+
+-- every sector that does not hold bytes is unreadable
+abbrev pub is_unreadable : SectorView → Bool
+is_unreadable Blank = true
+is_unreadable Defect = true
+is_unreadable Lost = true
+is_unreadable (Holds bytes) = false
+
+-- a sector that takes what is written to it: it was formatted, and is no defect
+abbrev pub IsLive : SectorView → Type 0
+IsLive Blank = ⊥
+IsLive Defect = ⊥
+IsLive Lost = Unit {0}
+IsLive (Holds bytes) = Unit {0}
+
+-- the bytes of a sector in a list of sectors
+abbrev pub sector_at : List (List ℕ) → ℕ → List ℕ
+sector_at sectors i = unwrap_or (slice_get sectors i) []

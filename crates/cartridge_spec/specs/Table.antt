@@ -1,9 +1,7 @@
--- The volume table: the data area of segment 2, 29 sectors of eight slots (Linux ftape headers: the volume table
--- entry of 128 bytes and its offsets; QIC-80-MC: the signature `VTBL`; the place of the table, its faults and the rule of
--- a volume's length are this project's profile).
-use Rattle.std.specs.Prelude.{◌≡◌, ℕ, ◌-◌, ◌*◌, ◌/◌, ◌%◌, ◌<◌, ◌≤◌, ◌==◌, ◌&&◌, ◌||◌, Bool, true, false, not, List, [], ◌∷◌, length, take, drop, Option, Some, None, slice_get, slice_index, slice_range, if◌then◌else◌, nat_lt, nat_le, codes, zero, suc}
-use Rattle.qic_base.specs.Field.{little_endian, number_at}
-use Rattle.cartridge_spec.specs.Segment.{sector_at}
+-- The volume table: its slots and entries, and the first slot at fault (QIC-80-MC, the ftape headers).
+use Rattle.std.specs.Prelude.{ℕ, List, [], ◌∷◌, ◌++◌, codes, replicate, ◌/◌, ◌*◌, ◌%◌, slice_set, take, drop, ◌==◌, Bool, slice_index, slice_range, ◌≡◌, ◌<◌, ◌≤◌, true, length, Some, slice_get, ◌||◌, false, zero, suc, ◌-◌, ◌&&◌, nat_lt, nat_le, not, Option, None, if◌then◌else◌}
+use Rattle.cartridge_spec.specs.Shape.{sector_at}
+use Rattle.qic_base.specs.Field.{little_endian_bytes, overwritten, number_at, little_endian}
 
 -- what a used slot says of a volume
 pub record Entry : Type 0 where
@@ -19,6 +17,29 @@ pub record Entry : Type 0 where
   -- bytes of the directory, and of the data
   pub directory : ℕ
   pub size : ℕ
+
+-- its 128 bytes: the bytes of the vendor's extension, of the password and behind the data size are zero
+abbrev pub slot_bytes : Entry → List ℕ
+slot_bytes e =
+    codes "VTBL"
+    ++ little_endian_bytes 2 e.start
+    ++ little_endian_bytes 2 e.end
+    ++ e.name
+    ++ little_endian_bytes 4 e.date
+    ++ (e.flags ∷ e.sequence ∷ [])
+    ++ replicate 34 0
+    ++ little_endian_bytes 4 e.directory
+    ++ little_endian_bytes 8 e.size
+    ++ replicate 24 0
+
+-- the sector of the table's data that has slot i
+abbrev pub slot_sector : ℕ → ℕ
+slot_sector i = i / 8
+
+-- the table's data with these bytes in slot i; every other byte is as it was
+abbrev pub with_slot : (area : List (List ℕ)) → (i : ℕ) → (bytes : List ℕ) → List (List ℕ)
+with_slot area i bytes =
+    slice_set area (slot_sector i) (overwritten (sector_at area (slot_sector i)) (128 * (i % 8)) bytes)
 
 -- slot i of the table's 29 data sectors, 0 to 231
 unfoldable pub slot : List (List ℕ) → ℕ → List ℕ
@@ -94,14 +115,3 @@ pub record IsFirstFault (area : List (List ℕ)) (last : ℕ) (fault : TableFaul
 -- no slot is at fault
 abbrev pub HasNoFault : List (List ℕ) → ℕ → Type 0
 HasNoFault area last = (i : ℕ) → i < 232 → slot_fault area last i ≡ None
-
--- ---- lists in order
-
--- each volume lies behind this segment and behind the one before it, forwards, up to the last segment
-abbrev pub LieBehind : (before last : ℕ) → List Entry → Type 0
-LieBehind before last [] = Unit {0}
-LieBehind before last (e ∷ es) = (before < e.start) × (e.start ≤ e.end) × (e.end ≤ last) × LieBehind e.end last es
-
--- the volumes lie behind the table's segment, in order, on a cartridge whose last segment is this
-abbrev pub IsSoundList : (last : ℕ) → List Entry → Type 0
-IsSoundList last entries = LieBehind 2 last entries

@@ -1,10 +1,10 @@
 -- The sets of sectors of the volume table's segment that its reading leaves out of account, one after the other, where a sector
 -- of data is unreadable and no code block agrees with the readable ones (this project's profile).
-use Rattle.std.specs.Prelude.{ℕ, zero, suc, ◌^◌, ◌==◌, ◌||◌, ◌++◌, Bool, false, List, [], ◌∷◌, Option, Some, None, slice_get, unwrap_or, if◌then◌else◌, nat_lt, bit_or}
+use Rattle.std.specs.Prelude.{ℕ, zero, suc, ◌||◌, Bool, false, List, [], ◌∷◌, Option, Some, None, slice_get, unwrap_or, if◌then◌else◌, ◌^◌, bit_or, ◌++◌, ◌==◌, nat_lt}
+use Rattle.cartridge_spec.specs.Shape.{is_unreadable}
+use Rattle.cartridge_spec.specs.Table.{slot, is_used}
 use Rattle.qic_base.specs.declared.tape.SectorView.{SectorView}
 use Rattle.qic_base.specs.declared.tape.SectorView.TheVariants.{Blank, Defect, Lost, Holds}
-use Rattle.cartridge_spec.specs.Segment.{is_unreadable}
-use Rattle.cartridge_spec.specs.Table.{slot, is_used}
 
 -- ---- the last sector with a used slot
 

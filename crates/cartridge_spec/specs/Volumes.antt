@@ -1,15 +1,15 @@
 -- Volumes, and the plain cartridge that a cartridge stands for: its header, its table and its volumes (the rules of a
 -- volume's segments and of its length are this project's profile).
-use Rattle.std.specs.Prelude.{◌≡◌, ◌⊎◌, ℕ, ◌+◌, ◌-◌, ◌==◌, ◌&&◌, List, [], ◌∷◌, length, take, drop, map, filter, sum_by, replicate, All, None, if◌then◌else◌, nat_le}
+use Rattle.std.specs.Prelude.{ℕ, ◌+◌, ◌-◌, List, filter, nat_le, sum_by, ◌==◌, ◌&&◌, if◌then◌else◌, [], ◌∷◌, take, drop, ◌≡◌, length, All, map, replicate, ◌⊎◌, None}
 use Rattle.std.specs.List.{range_with_len}
-use Rattle.qic_base.specs.Cartridge.{Cartridge, IsSector, zero_sector}
-use Rattle.cartridge_spec.specs.Shape.{mask_at, usable_count, data_count, capacity}
 use Rattle.cartridge_spec.specs.Header.{Header, header_fault}
-use Rattle.cartridge_spec.specs.Header as headers
-use Rattle.cartridge_spec.specs.HeaderAndTable.{IsArea, HasHeader, copy_cells, table_cells, last_segment}
-use Rattle.cartridge_spec.specs.Table.{Entry, HasNoFault}
-use Rattle.cartridge_spec.specs.Table as tables
+use Rattle.cartridge_spec.specs.HeaderAndTable.{IsArea, copy_cells, HasHeader, table_cells, last_segment}
 use Rattle.cartridge_spec.specs.Says.{cells_of, Written, Zero, ReadsAll}
+use Rattle.cartridge_spec.specs.Shape.{mask_at, usable_count, capacity, data_count}
+use Rattle.cartridge_spec.specs.Table.{Entry, HasNoFault}
+use Rattle.qic_base.specs.Cartridge.{Cartridge, IsSector, zero_sector}
+use Rattle.cartridge_spec.specs.Header as headers
+use Rattle.cartridge_spec.specs.Table as tables
 
 -- ---- volumes
 

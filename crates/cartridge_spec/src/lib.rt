@@ -1,4 +1,3 @@
-//! What a cartridge says: definitions, which several crates cite, and their laws.
+//! What a cartridge holds and says: its sectors and segments, the code, header and volume table, and what stands for a list
+//! of volumes. Definitions alone.
 #![tactic(auto)]
-
-pub mod laws;

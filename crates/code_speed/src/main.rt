@@ -4,7 +4,8 @@
 #![tactic(auto)]
 
 ghost use Rattle.std.specs.Prelude.{◌≡◌, ◌↔◌, ◌++◌, take, IsOk, OnOk};
-ghost use Rattle.gf256_qic.specs.Code.{IsCodeBlock, IsSolvable};
+ghost use Rattle.cartridge_spec.specs.Code.{IsCodeBlock};
+ghost use Rattle.gf256_qic.specs.Code.{IsSolvable};
 ghost use Rattle.erasure_solve.specs.Lost.{is_lost};
 
 use erasure_solve::{SolveFault, solve};

@@ -9,8 +9,9 @@ use Rattle.std.proofs.lemmas.List.{same_lists, map-set}
 use Rattle.std.proofs.lemmas.List.Elements.{All-get_or, All-from_get_or, All-set}
 use Rattle.std.proofs.lemmas.List.FromFn.{get_or-map-range_with_len}
 use Rattle.std.proofs.lemmas.Option.{slice_get-get_or}
-use Rattle.gf256_qic.specs.Field.{product, power}
-use Rattle.gf256_qic.specs.Code.{value_at, column, IsSector, IsCodeword, IsCodeBlock, AgreesOutside, IsSolvable, lost_below}
+use Rattle.cartridge_spec.specs.Field.{product, power}
+use Rattle.cartridge_spec.specs.Code.{value_at, column, IsSector, IsCodeword, IsCodeBlock}
+use Rattle.gf256_qic.specs.Code.{AgreesOutside, IsSolvable, lost_below}
 use Rattle.gf256_qic.proofs.Sums.{sum_byte, sum_cancel, equal_from_sum}
 use Rattle.gf256_qic.proofs.Products.{product_byte, product_assoc, product_zero_left, product_one_right}
 use Rattle.gf256_qic.proofs.Powers.{power_byte}

@@ -1,6 +1,6 @@
-pub mod Ring
 pub mod Algebra
+pub mod Blocks
 pub mod Columns
 pub mod Places
-pub mod Blocks
 pub mod Plans
+pub mod Ring

@@ -1,4 +1,4 @@
-pub mod Lost
-pub mod Rows
 pub mod Correction
+pub mod Lost
 pub mod Plan
+pub mod Rows

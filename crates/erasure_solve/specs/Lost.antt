@@ -1,7 +1,8 @@
 -- The places of a segment that are lost, and what can be said of the sectors there.
 use Rattle.std.specs.Prelude.{◌≡◌, ℕ, ◌/◌, ◌%◌, ◌^◌, ◌≤◌, ◌==◌, Bool, List, length}
 use Rattle.qic_base.specs.LostSet.{lost_places}
-use Rattle.gf256_qic.specs.Code.{IsCodeBlock, AgreesOutside}
+use Rattle.cartridge_spec.specs.Code.{IsCodeBlock}
+use Rattle.gf256_qic.specs.Code.{AgreesOutside}
 
 -- whether the mask names the place (this project's profile)
 abbrev pub is_lost : ℕ → ℕ → Bool

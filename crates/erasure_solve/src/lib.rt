@@ -2,7 +2,8 @@
 #![tactic(auto)]
 
 ghost use Rattle.std.specs.Prelude.{◌≡◌, ℕ, ◌<◌, ◌≤◌, ◌↔◌, length, IsTrue, IsOk, OnOk, OnErr};
-ghost use Rattle.gf256_qic.specs.Code.{IsCodeBlock, AgreesOutside, IsSolvable};
+ghost use Rattle.cartridge_spec.specs.Code.{IsCodeBlock};
+ghost use Rattle.gf256_qic.specs.Code.{AgreesOutside, IsSolvable};
 ghost use Rattle.erasure_solve.specs.Lost.{is_lost, lost_count, IsOnlyBlock};
 
 pub use plan::Plan;

@@ -2,13 +2,13 @@
 use Rattle.std.proofs.Common.{◌≡◌, ℕ, refl, sym, ◌∙◌, ap, List, ◌++◌, length, take, drop}
 use Rattle.std.specs.List.{range_with_len}
 use Rattle.std.proofs.lemmas.List.{take_at}
-use Rattle.gf256_qic.specs.Code.{parity_sectors}
+use Rattle.cartridge_spec.specs.Code.{parity_sectors}
 use Rattle.qic_base.specs.LostSet.{lost_places}
 use Rattle.cartridge_spec.specs.Shape.{usable_places, usable_count}
-use Rattle.format_plan.proofs.Places.{copy_writes_by_places}
-use Rattle.format_plan.specs.Formatting.{copy_writes}
+use Rattle.cartridge_laws.proofs.FormatPlaces.{copy_writes_by_places}
+use Rattle.cartridge_spec.specs.Formatting.{copy_writes}
 use Rattle.cartridge_spec.specs.Says.{with_parity}
-use Rattle.cartridge_spec.specs.Writes.{named_writes}
+use Rattle.cartridge_laws.specs.Writes.{named_writes}
 
 -- all 32 sectors are usable
 all_places : usable_places 4294967295 ≡ range_with_len 0 32

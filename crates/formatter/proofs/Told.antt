@@ -5,13 +5,13 @@ use Rattle.qic_base.specs.Cartridge.{Cartridge, IsCartridge, view_at}
 use Rattle.qic_base.specs.Step.{Step, effects}
 use Rattle.qic_base.specs.Tape.{Meaning, Done, Broke, Tells, IsToldRight}
 use Rattle.qic_base.proofs.Steps.{Done-Done, Done-Broke}
-use Rattle.cartridge_spec.specs.Segment.{IsUnreadable}
-use Rattle.cartridge_spec.specs.Defects.{IsDefect, MarksDefects}
-use Rattle.cartridge_spec.specs.Writes.{changed_by}
-use Rattle.format_plan.specs.Formatting.{clearing_steps, copy_writes, format_steps, HasNoDefectInFront, IsFirstDefectInFront}
+use Rattle.cartridge_laws.specs.Segment.{IsUnreadable}
+use Rattle.cartridge_spec.specs.Formatting.{IsDefect, MarksDefects}
+use Rattle.cartridge_spec.specs.Settling.{changed_by}
+use Rattle.cartridge_spec.specs.Formatting.{clearing_steps, copy_writes, format_steps, HasNoDefectInFront, IsFirstDefectInFront}
 use Rattle.cartridge_spec.specs.Says.{with_parity}
-use Rattle.format_plan.proofs.Writing.{effects-some}
-use Rattle.format_plan.proofs.Clearing.{clearing_clears, cleared_shows_defects}
+use Rattle.cartridge_laws.proofs.FormatWriting.{effects-some}
+use Rattle.cartridge_laws.proofs.FormatClearing.{clearing_clears, cleared_shows_defects}
 use Rattle.formatter.specs.Formats.{MarksFormattable, header_writes}
 use Rattle.formatter.specs.Marking.{MarksUnreadable, IsFirstMarked, HasNoMarkInFront}
 use Rattle.formatter.proofs.Marks.{HasMark, some_mark, no_mark}

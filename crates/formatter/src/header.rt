@@ -8,9 +8,9 @@ ghost use Rattle.header_segments.specs.Header.{header_of};
 ghost use Rattle.drive_spec.specs.Deck.{segments_per_track, is_stopped, is_protected, is_referenced};
 ghost use Rattle.host_driver.specs.Calls.{IsReady, MayWrite, Keeps};
 ghost use Rattle.host_driver.specs.Fits.{AgreesWithTape};
-ghost use Rattle.format_plan.specs.Formatting.{copy_writes};
+ghost use Rattle.cartridge_spec.specs.Formatting.{copy_writes};
 ghost use Rattle.cartridge_spec.specs.Says.{with_parity};
-ghost use Rattle.format_plan.specs.Fresh.{IsFreshArea};
+ghost use Rattle.cartridge_spec.specs.Formatting.{IsFreshArea};
 ghost use Rattle.formatter.specs.Formats.{WritesHeader};
 
 use crate::SECTOR;

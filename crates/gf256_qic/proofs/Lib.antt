@@ -1,9 +1,9 @@
-pub mod Tables
-pub mod Sums
-pub mod Products
-pub mod Powers
-pub mod Values
+pub mod Agreement
 pub mod Distance
 pub mod Exponents
-pub mod Agreement
 pub mod Parities
+pub mod Powers
+pub mod Products
+pub mod Sums
+pub mod Tables
+pub mod Values

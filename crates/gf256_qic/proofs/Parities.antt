@@ -5,8 +5,9 @@ use Rattle.std.proofs.lemmas.List.{length-map, map-append}
 use Rattle.std.proofs.lemmas.List.FromFn.{length-map-range_with_len, get_or-map-range_with_len}
 use Rattle.std.proofs.lemmas.List.Elements.{All-get_or, All-from_get_or, All-append, All-nil, All-cons, All-head, All-tail}
 use Rattle.std.proofs.Math.ListN.{length-append}
-use Rattle.gf256_qic.specs.Field.{shifted_copies, remainder, product, power, inverse}
-use Rattle.gf256_qic.specs.Code.{value_at, data_sum, scaled, added, lagrange, through, parity, parity_sector, parity_sectors, column, IsSector, IsCodeword, IsCodeBlock, distance}
+use Rattle.cartridge_spec.specs.Field.{shifted_copies, remainder, product, power, inverse}
+use Rattle.cartridge_spec.specs.Code.{value_at, data_sum, scaled, added, lagrange, through, parity, parity_sector, parity_sectors, column, IsSector, IsCodeword, IsCodeBlock}
+use Rattle.gf256_qic.specs.Code.{distance}
 use Rattle.gf256_qic.proofs.Products.{product_one_right, product_zero_right}
 use Rattle.gf256_qic.proofs.Values.{AllBytes, no_bytes, more_bytes, value_at-append, value_at-added, value_at-scaled, length-added, bytes_of_added, bytes_of_scaled, data_sum-value, data_sum-byte}
 use Rattle.gf256_qic.proofs.Agreement.{distance-le, near_columns, length-column, same_from_columns}

@@ -1,7 +1,8 @@
 -- The laws of the field and of the code, as facts. A byte is a number below 256.
 use Rattle.std.specs.Prelude.{ℕ, ◌<◌, ◌≤◌, ◌≡◌, ◌≢◌, Bool, List, ◌++◌, length, All, bit_xor}
-use Rattle.gf256_qic.specs.Field.{product, power, inverse}
-use Rattle.gf256_qic.specs.Code.{IsSector, IsCodeword, IsCodeBlock, AgreesOutside, distance, lost_below, parity, parity_sectors}
+use Rattle.cartridge_spec.specs.Field.{product, power, inverse}
+use Rattle.cartridge_spec.specs.Code.{IsSector, IsCodeword, IsCodeBlock, parity, parity_sectors}
+use Rattle.gf256_qic.specs.Code.{AgreesOutside, distance, lost_below}
 
 -- ---- the field
 

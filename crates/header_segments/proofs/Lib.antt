@@ -1,4 +1,3 @@
 pub mod FieldSets
-pub mod ReadingLaws
 pub mod Refusals
 pub mod SpellingLaws

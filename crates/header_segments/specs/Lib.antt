@@ -1,4 +1,2 @@
 pub mod Header
-pub mod Laws
 pub mod Refusal
-pub mod Writing

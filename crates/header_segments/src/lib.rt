@@ -4,7 +4,6 @@
 mod fault;
 mod fields;
 mod header;
-pub mod laws;
 mod reading;
 mod writing;
 

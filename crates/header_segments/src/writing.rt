@@ -4,7 +4,7 @@ ghost use Rattle.std.specs.Prelude.{◌≡◌, ◌-◌, ◌*◌, ℕ, length, Al
 ghost use Rattle.qic_base.specs.Cartridge.{IsLength};
 ghost use Rattle.cartridge_spec.specs.Header.{SpellsHeader, profile_fields, byte_in};
 ghost use Rattle.header_segments.specs.Header.{header_of};
-ghost use Rattle.header_segments.specs.Writing.{FieldFits, with_fields, told_fields};
+ghost use Rattle.cartridge_laws.specs.HeaderWriting.{FieldFits, with_fields, told_fields};
 
 use crate::fields::{
     FIRST_DATA, FIRST_HEADER, FORMAT_CODE, SECOND_HEADER, SECTOR_MAXIMUM, SIGNATURE, TRACK_MAXIMUM,

@@ -1,2 +1,2 @@
-mod Masks
-mod Sends
+pub mod Masks
+pub mod Sends

@@ -1,7 +1,8 @@
 -- How many sectors the masks name.
 use Rattle.std.proofs.Common.{◌≡◌, ◌≤◌, sym, subst, refl, ℕ, arith}
 use Rattle.qic_base.specs.LostSet.{lost_places}
-use Rattle.cartridge_spec.specs.Shape.{Carries, usable_count}
+use Rattle.cartridge_laws.specs.Shape.{Carries}
+use Rattle.cartridge_spec.specs.Shape.{usable_count}
 
 -- all sectors but 3, 17, 30 and 31
 pub marked_count : usable_count 1073610743 ≡ 28

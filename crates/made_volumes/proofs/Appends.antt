@@ -6,31 +6,33 @@ use Rattle.qic_base.specs.Cartridge.{Cartridge}
 use Rattle.qic_base.specs.Step.{Step}
 use Rattle.qic_base.specs.Tape as tapes
 use Rattle.qic_base.proofs.Steps.{Tells-map, Done-nothing}
-use Rattle.acts.specs.Acts.{Act, text_of, TapeFails, Went, Cut}
-use Rattle.acts.specs.Around.{no_source, no_sink, around, reading}
+use Rattle.qic_base.specs.Acts.{Act, text_of, TapeFails, Went, Cut}
+use Rattle.qic_base.specs.Acts.{no_source, no_sink, around, reading}
 use Rattle.cartridge_spec.specs.HeaderAndTable.{table_cells, TableIs}
 use Rattle.cartridge_spec.specs.Says.{LostSectors, ByCode, TableSays}
 use Rattle.cartridge_spec.specs.Table.{Entry}
 use Rattle.drive_spec.specs.Deck.{is_protected}
 use Rattle.drive_states.specs.Unit.{UnitView}
-use Rattle.mount_laws.specs.Settling.{settling_steps}
-use Rattle.tape_script.specs.Generator.{made_length, made_bytes, made_means}
+use Rattle.cartridge_spec.specs.Settling.{settling_steps}
+use Rattle.command_spec.specs.Generator.{made_length, made_bytes}
+use Rattle.tape_script.specs.Generator.{made_means}
 use Rattle.volume_store.specs.declared.appended.Appended.{Appended}
 use Rattle.volume_store.specs.declared.fault.StoreFault.{StoreFault}
 use Rattle.volume_store.specs.declared.fault.StoreFault.TheVariants as store
-use Rattle.volume_store.specs.Appending.{Taking, Fits, TooLong, TooShort, taking, room_in, kept_in, kept_by, entry_for, has_promised_room, append_acts, silently, AppendRan, AppendCut, TableRefused, AppendEnds, CutUnread, FaultsUnread}
+use Rattle.command_spec.specs.Append.{Taking, Fits, TooLong, TooShort, taking, room_in, kept_in, entry_for, has_promised_room, append_acts, silently}
+use Rattle.volume_store.specs.Appending.{kept_by, AppendRan, AppendCut, TableRefused, AppendEnds, CutUnread, FaultsUnread}
 use Rattle.volume_store.specs.Mounting.{StoreView, StoreFits}
 use Rattle.volume_store.proofs.Copies.{IsLearnt, told_learnt, tells_two}
 use Rattle.made_volumes.specs.declared.fault.MakeFault.{MakeFault}
 use Rattle.made_volumes.specs.declared.fault.MakeFault.TheVariants as fault
 use Rattle.made_volumes.specs.Faults.{is_of_step, fault_of}
-use Rattle.made_volumes.specs.Items.{AppendMade, made_name, made_entry}
-use Rattle.made_volumes.specs.Machine.{Answer, Done, Protected, TableMismatch, Full, Lost, Does, Runs, IsTableLost, made_acts, made_answer}
-use Rattle.made_volumes.specs.May.{MayAppend}
+use Rattle.command_spec.specs.Make.{AppendMade, made_name, made_entry}
+use Rattle.command_spec.specs.Make.{Answer, Done, Protected, TableMismatch, Full, Lost, Does, Runs, IsTableLost, made_acts, made_answer}
+use Rattle.command_spec.specs.Make.{MayAppend}
 use Rattle.made_volumes.specs.Runs.{HasRun, RunCut, RunEnds}
-use Rattle.made_volumes.proofs.MachineLaws.{run_of, done_of, never_lost}
-use Rattle.made_volumes.proofs.MadeBytes.{length-made_bytes}
-use Rattle.made_volumes.proofs.MayLaws.{may_of}
+use Rattle.command_laws.proofs.MadeMachineLaws.{run_of, done_of, never_lost}
+use Rattle.command_laws.proofs.MadeMadeBytes.{length-made_bytes}
+use Rattle.command_laws.proofs.MadeMayLaws.{may_of}
 
 -- ---- the mark
 

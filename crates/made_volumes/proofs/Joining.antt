@@ -5,22 +5,22 @@ use Rattle.qic_base.specs.Sink as sinks
 use Rattle.qic_base.specs.Tape as tapes
 use Rattle.qic_base.proofs.Steps.{Tells-map}
 use Rattle.qic_base.proofs.Writing.{TakesBoth}
-use Rattle.acts.specs.Acts.{Act, steps_of, text_of, Outside, Failing, TapeFails, SourceFails, SinkFails, Went, Cut}
-use Rattle.acts.specs.Around.{no_source, no_sink, around}
-use Rattle.acts.proofs.Joins.{text_of-append, nothing_went, went_both, went_then_cut, cut_is_longer}
+use Rattle.qic_base.specs.Acts.{Act, steps_of, text_of, Outside, Failing, TapeFails, SourceFails, SinkFails, Went, Cut}
+use Rattle.qic_base.specs.Acts.{no_source, no_sink, around}
+use Rattle.qic_base.proofs.Joins.{text_of-append, nothing_went, went_both, went_then_cut, cut_is_longer}
 use Rattle.cartridge_spec.specs.Table.{Entry}
-use Rattle.cartridge_spec.specs.Writes.{changed_by}
+use Rattle.cartridge_spec.specs.Settling.{changed_by}
 use Rattle.segment_io.proofs.Going.{tells_always}
 use Rattle.volume_store.proofs.Copies.{tells_two}
-use Rattle.made_volumes.proofs.Telling.{tells_before}
+use Rattle.command_laws.proofs.MadeTelling.{tells_before}
 use Rattle.made_volumes.specs.declared.fault.MakeFault.{MakeFault}
 use Rattle.made_volumes.specs.declared.fault.MakeFault.TheVariants as fault
-use Rattle.made_volumes.specs.Items.{Item, after_items}
-use Rattle.made_volumes.specs.Machine.{Answer, Done, Protected, TableMismatch, Full, Lost, Mismatch, Runs}
-use Rattle.made_volumes.specs.May.{MayRun}
+use Rattle.command_spec.specs.Make.{Item, after_items}
+use Rattle.command_spec.specs.Make.{Answer, Done, Protected, TableMismatch, Full, Lost, Mismatch, Runs}
+use Rattle.command_spec.specs.Make.{MayRun}
 use Rattle.made_volumes.specs.Runs.{HasRun, RunCut, RunEnds}
-use Rattle.made_volumes.proofs.MachineLaws.{runs_both, runs_longer, runs_behind, runs_front}
-use Rattle.made_volumes.proofs.MayLaws.{may_both, may_longer}
+use Rattle.command_laws.proofs.MadeMachineLaws.{runs_both, runs_longer, runs_behind, runs_front}
+use Rattle.command_laws.proofs.MadeMayLaws.{may_both, may_longer}
 
 module _ {T K : Type 0} (t : tapes.Meaning T) (k : sinks.Meaning K) (seed : ℕ) (words : List ℕ) where
   pub run_none : (es : List Entry) (a : Outside T (Unit {0}) K) → ((x : K) → k.took x [] x) → HasRun t k seed words es [] a a Done

@@ -1,16 +1,16 @@
 -- The list behind a run that was refused.
 use Rattle.std.proofs.Common.{◌≡◌, ℕ, ◌+◌, ◌-◌, ◌<◌, ◌≤◌, List, [], ◌∷◌, Err, ap, ◌∙◌, subst, arith}
 use Rattle.qic_base.specs.Tape as tapes
-use Rattle.acts.specs.Acts.{Outside, text_of}
-use Rattle.acts.specs.Around.{no_sink}
+use Rattle.qic_base.specs.Acts.{Outside, text_of}
+use Rattle.qic_base.specs.Acts.{no_sink}
 use Rattle.cartridge_spec.specs.Table.{Entry}
 use Rattle.volume_store.specs.Mounting.{StoreView}
 use Rattle.made_volumes.specs.declared.fault.MakeFault.{MakeFault}
 use Rattle.made_volumes.specs.declared.fault.MakeFault.TheVariants as fault
-use Rattle.made_volumes.specs.Items.{AppendMade, made_list}
-use Rattle.made_volumes.specs.Machine.{Full, Lost, Mismatch, made_answer}
+use Rattle.command_spec.specs.Make.{AppendMade, made_list}
+use Rattle.command_spec.specs.Make.{Full, Lost, Mismatch, made_answer}
 use Rattle.made_volumes.specs.Runs.{RunEnds, IsListed, HoldsAll, HoldsSome, AreListed, NeverFull}
-use Rattle.made_volumes.proofs.MayLaws.{may_done}
+use Rattle.command_laws.proofs.MadeMayLaws.{may_done}
 
 -- an append was refused behind so many
 module _ {T : Type 0} (t : tapes.Meaning T) (seed count n : ℕ) (few : n < count) (before : StoreView) (es : List Entry) (after : StoreView) (is : es ≡ made_list seed n before.words before.entries) (a b : Outside T (Unit {0}) (Unit {0})) where

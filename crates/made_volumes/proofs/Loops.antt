@@ -1,21 +1,20 @@
 -- The steps of a run, part by part.
-use Rattle.std.proofs.Common.{◌≡◌, ℕ, zero, suc, ◌+◌, ◌-◌, ◌<◌, ◌≤◌, ◌%◌, ◌==◌, Bool, true, false, cond, List, [], ◌∷◌, ◌++◌, length, take, drop, Some, slice_get, Result, refl, sym, ap, ◌∙◌, subst, arith, append_assoc, append-nil}
+use Rattle.std.proofs.Common.{◌≡◌, ℕ, zero, suc, ◌+◌, List, ◌∷◌, ◌++◌, ap, ◌∙◌, arith, [], sym, ◌-◌, ◌≤◌, refl, Result, subst, ◌<◌, length, take, ◌%◌, ◌==◌, cond, append_assoc, drop, slice_get, Some, append-nil}
 use Rattle.std.proofs.lemmas.List.{take_more, take-append-drop}
 use Rattle.std.proofs.lemmas.Option.{slice_get_within, get_or_from_slice_get}
-use Rattle.qic_base.specs.LostSet.{IsLost, lost_places}
-use Rattle.qic_base.proofs.LostSetLaws.{lost_places-lost, lost_places-kept}
-use Rattle.qic_base.specs.Sink as sinks
-use Rattle.qic_base.specs.Tape as tapes
-use Rattle.qic_base.proofs.Writing.{TakesBoth}
-use Rattle.acts.specs.Acts.{Outside}
 use Rattle.cartridge_spec.specs.Table.{Entry}
 use Rattle.cartridge_spec.specs.Volumes.{carrying_segments}
-use Rattle.made_volumes.specs.declared.fault.MakeFault.{MakeFault}
-use Rattle.made_volumes.specs.Items.{Item, AppendMade, WearSector, SumVolume, made_entry, after_items, appending, wearing, first_two, wearing_in, wearing_volumes, summing, made_list}
-use Rattle.made_volumes.specs.Machine.{Done}
-use Rattle.made_volumes.specs.Runs.{HasRun, RunEnds}
-use Rattle.made_volumes.proofs.MachineLaws.{after_items-append}
+use Rattle.command_laws.proofs.MadeMachineLaws.{after_items-append}
+use Rattle.command_spec.specs.Make.{Item, AppendMade, appending, made_entry, after_items, made_list, summing, Done, WearSector, wearing, first_two, wearing_in, wearing_volumes, SumVolume}
 use Rattle.made_volumes.proofs.Joining.{ends_behind}
+use Rattle.made_volumes.specs.Runs.{HasRun, RunEnds}
+use Rattle.made_volumes.specs.declared.fault.MakeFault.{MakeFault}
+use Rattle.qic_base.proofs.LostSetLaws.{lost_places-lost, lost_places-kept}
+use Rattle.qic_base.proofs.Writing.{TakesBoth}
+use Rattle.qic_base.specs.Acts.{Outside}
+use Rattle.qic_base.specs.LostSet.{lost_places, IsLost}
+use Rattle.qic_base.specs.Sink as sinks
+use Rattle.qic_base.specs.Tape as tapes
 
 -- ---- appends
 
@@ -43,48 +42,6 @@ pub made_next : (seed n : ℕ) (words : List ℕ) (es : List Entry) →
     made_list seed (n + 1) words es ≡ made_list seed n words es ++ made_entry seed words (made_list seed n words es) (1 + n) ∷ []
 made_next seed n words es =
     ap (after_items seed words es) (sym (appending_next n)) ∙ after_items-append seed words es (appending 1 n) (AppendMade (1 + n) ∷ [])
-
-pub length-made : (seed : ℕ) (words : List ℕ) (es : List Entry) (v n : ℕ) → length (after_items seed words es (appending v n)) ≡ length es + n
-length-made seed words es v zero = omega arith
-length-made seed words es v (suc n) =
-    let e : Entry = made_entry seed words es v in
-    let one : length (es ++ e ∷ []) ≡ length es + 1 = one_longer es e in
-    let rest : length (after_items seed words (es ++ e ∷ []) (appending (v + 1) n)) ≡ length (es ++ e ∷ []) + n =
-    length-made seed words (es ++ e ∷ []) (v + 1) n in
-    omega arith
-  where
-    one_longer : (xs : List Entry) (x : Entry) → length (xs ++ x ∷ []) ≡ length xs + 1
-    one_longer [] x = refl
-    one_longer (y ∷ xs) x = let more = one_longer xs x in omega arith
-
--- ---- steps that leave the list
-
-pub after_wearing : (seed : ℕ) (words : List ℕ) (es : List Entry) (segment : ℕ) (sectors : List ℕ) → after_items seed words es (wearing segment sectors) ≡ es
-after_wearing seed words es segment [] = refl
-after_wearing seed words es segment (sector ∷ sectors) = after_wearing seed words es segment sectors
-
-after_if : (seed : ℕ) (words : List ℕ) (es : List Entry) (items : List Item) (due : Bool) → after_items seed words es items ≡ es →
-    after_items seed words es (cond due items []) ≡ es
-after_if seed words es items true kept = kept
-after_if seed words es items false kept = refl
-
-after_both : (seed : ℕ) (words : List ℕ) (es : List Entry) (xs ys : List Item) → after_items seed words es xs ≡ es → after_items seed words es ys ≡ es →
-    after_items seed words es (xs ++ ys) ≡ es
-after_both seed words es xs ys one other =
-    after_items-append seed words es xs ys ∙ ap (λ (now : List Entry). after_items seed words now ys) one ∙ other
-
-pub after_wearing_in : (seed : ℕ) (words : List ℕ) (es : List Entry) (segments : List ℕ) → after_items seed words es (wearing_in words segments) ≡ es
-after_wearing_in seed words es [] = refl
-after_wearing_in seed words es (s ∷ ss) =
-    after_both seed words es (cond (s % 100 == 0) (wearing s (first_two words s)) []) (wearing_in words ss)
-    (after_if seed words es (wearing s (first_two words s)) (s % 100 == 0) (after_wearing seed words es s (first_two words s)))
-    (after_wearing_in seed words es ss)
-
-pub after_wearing_volumes : (seed : ℕ) (words : List ℕ) (es some : List Entry) → after_items seed words es (wearing_volumes words some) ≡ es
-after_wearing_volumes seed words es [] = refl
-after_wearing_volumes seed words es (e ∷ some) =
-    after_both seed words es (wearing_in words (carrying_segments words e)) (wearing_volumes words some)
-    (after_wearing_in seed words es (carrying_segments words e)) (after_wearing_volumes seed words es some)
 
 pub after_summing : (seed : ℕ) (words : List ℕ) (es : List Entry) (number count : ℕ) → after_items seed words es (summing number count) ≡ es
 after_summing seed words es number zero = refl

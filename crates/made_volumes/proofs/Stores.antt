@@ -4,7 +4,8 @@ use Rattle.std.specs.Option.{option_map_or}
 use Rattle.qic_base.specs.declared.tape.TapeInfo.{TapeInfo}
 use Rattle.qic_base.specs.Cartridge.{IsPlace}
 use Rattle.qic_base.specs.Tape as tapes
-use Rattle.cartridge_spec.specs.Table.{Entry, LieBehind}
+use Rattle.cartridge_spec.specs.Table.{Entry}
+use Rattle.cartridge_laws.specs.Table.{LieBehind}
 use Rattle.drive_spec.specs.Deck.{segments_per_track}
 use Rattle.drive_states.specs.Unit.{UnitView}
 use Rattle.host_driver.specs.Fits.{segments_of}

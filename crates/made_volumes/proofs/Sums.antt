@@ -7,27 +7,29 @@ use Rattle.qic_base.specs.declared.sink.SinkFailed.{SinkFailed}
 use Rattle.qic_base.specs.Sink as sinks
 use Rattle.qic_base.specs.Tape as tapes
 use Rattle.qic_base.proofs.Steps.{Tells-map}
-use Rattle.acts.specs.Acts.{Act, steps_of, text_of, next_steps, Failing, TapeFails, SinkFails, Cut}
-use Rattle.acts.specs.Around.{no_source, around}
-use Rattle.acts.proofs.Joins.{steps_of-append, sink_cut_one}
+use Rattle.qic_base.specs.Acts.{Act, steps_of, text_of, next_steps, Failing, TapeFails, SinkFails, Cut}
+use Rattle.qic_base.specs.Acts.{no_source, around}
+use Rattle.qic_base.proofs.Joins.{steps_of-append, sink_cut_one}
 use Rattle.cartridge_spec.specs.Table.{Entry}
 use Rattle.cartridge_spec.specs.Volumes.{volume_length}
-use Rattle.restore_plan.specs.Restoring.{Piece, Ending, Restored, LostIn, MismatchIn, Restores, pieces}
-use Rattle.restore_plan.proofs.Counts.{restores_in_no_step}
+use Rattle.command_spec.specs.Restore.{Piece, Ending, Restored, LostIn, MismatchIn, Restores, pieces}
+use Rattle.command_laws.proofs.RestoreCounts.{restores_in_no_step}
 use Rattle.tape_script.specs.Generator.{sum_means}
-use Rattle.volume_output.specs.Output.{AreOf, GaveVolume, VolumeCut}
+use Rattle.command_laws.specs.OutputText.{AreOf}
+use Rattle.volume_output.specs.Output.{GaveVolume, VolumeCut}
 use Rattle.volume_store.specs.declared.fault.StoreFault.{StoreFault}
 use Rattle.volume_store.specs.declared.fault.StoreFault.TheVariants as store
 use Rattle.volume_store.specs.Mounting.{StoreView}
-use Rattle.volume_store.specs.Restoring.{volume_at, RestoreEnds}
+use Rattle.command_spec.specs.Restore.{volume_at}
+use Rattle.volume_store.specs.Restoring.{RestoreEnds}
 use Rattle.made_volumes.specs.declared.fault.MakeFault.TheVariants as fault
 use Rattle.made_volumes.specs.Faults.{is_of_step, fault_of, printed}
-use Rattle.made_volumes.specs.Items.{SumVolume}
-use Rattle.made_volumes.specs.Machine.{Answer, Done, Does, Runs, IsSummed, sum_line, sum_acts, ending_answer}
-use Rattle.made_volumes.specs.May.{MaySum}
+use Rattle.command_spec.specs.Make.{SumVolume}
+use Rattle.command_spec.specs.Make.{Answer, Done, Does, Runs, IsSummed, sum_line, sum_acts, ending_answer}
+use Rattle.command_spec.specs.Make.{MaySum}
 use Rattle.made_volumes.specs.Runs.{HasRun, RunEnds, NeverFull}
-use Rattle.made_volumes.proofs.MachineLaws.{run_of, done_of, does_one}
-use Rattle.made_volumes.proofs.MayLaws.{may_of}
+use Rattle.command_laws.proofs.MadeMachineLaws.{run_of, done_of, does_one}
+use Rattle.command_laws.proofs.MadeMayLaws.{may_of}
 
 -- ---- no step
 

@@ -1,6 +1,2 @@
 pub mod Faults
-pub mod Items
-pub mod Laws
-pub mod Machine
-pub mod May
 pub mod Runs

@@ -2,15 +2,15 @@
 use Rattle.std.specs.Prelude.{◌≡◌, ◌≢◌, ℕ, ◌+◌, ◌<◌, ◌≤◌, List, [], ◌∷◌, ◌++◌, Result, Ok, Err}
 use Rattle.qic_base.specs.Sink as sinks
 use Rattle.qic_base.specs.Tape as tapes
-use Rattle.acts.specs.Acts.{Act, text_of, Outside, Failing, TapeFails, SinkFails, Went, Cut}
-use Rattle.acts.specs.Around.{no_source}
+use Rattle.qic_base.specs.Acts.{Act, text_of, Outside, Failing, TapeFails, SinkFails, Went, Cut}
+use Rattle.qic_base.specs.Acts.{no_source}
 use Rattle.cartridge_spec.specs.Table.{Entry}
 use Rattle.volume_store.specs.Mounting.{StoreView}
 use Rattle.made_volumes.specs.declared.fault.MakeFault.{MakeFault}
 use Rattle.made_volumes.specs.declared.fault.MakeFault.TheVariants as fault
-use Rattle.made_volumes.specs.Items.{Item, made_list, making}
-use Rattle.made_volumes.specs.Machine.{Answer, Done, Protected, TableMismatch, Full, Lost, Mismatch, Runs, made_answer}
-use Rattle.made_volumes.specs.May.{MayRun}
+use Rattle.command_spec.specs.Make.{Item, made_list, making}
+use Rattle.command_spec.specs.Make.{Answer, Done, Protected, TableMismatch, Full, Lost, Mismatch, Runs, made_answer}
+use Rattle.command_spec.specs.Make.{MayRun}
 
 -- All acts of some steps went, up to this answer: over a cartridge that is told those of the plain machine.
 pub record HasRun {T K : Type 0} (t : tapes.Meaning T) (k : sinks.Meaning K) (seed : ℕ) (words : List ℕ) (entries : List Entry) (items : List Item) (old new : Outside T (Unit {0}) K) (answer : Answer) : Type 0 where

@@ -4,7 +4,6 @@
 
 mod appending;
 mod fault;
-pub mod laws;
 mod run;
 mod summing;
 mod wearing;

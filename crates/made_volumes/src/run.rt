@@ -1,10 +1,10 @@
 //! A run of `make`.
 
 ghost use Rattle.std.specs.Prelude.{◌≢◌, ◌≤◌, ℕ, [], ◌∷◌, Err};
-ghost use Rattle.acts.specs.Around.{around};
+ghost use Rattle.qic_base.specs.Acts.{around};
 ghost use Rattle.volume_store.specs.Appending.{KeepsFormat};
 ghost use Rattle.volume_store.specs.Mounting.{StoreFits, KeepsStore};
-ghost use Rattle.made_volumes.specs.Items.{ScrubAll};
+ghost use Rattle.command_spec.specs.Make.{ScrubAll};
 ghost use Rattle.made_volumes.specs.Runs.{RunEnds, MakeEnds, AreListed, NeverFull};
 ghost use Rattle.made_volumes.specs.declared.fault.MakeFault.TheVariants.{Tape as tape_fault};
 

@@ -1,10 +1,10 @@
 //! Volumes restored and summed.
 
 ghost use Rattle.std.specs.Prelude.{◌≡◌, ◌≢◌, ◌-◌, ◌+◌, ◌≤◌, ℕ, [], ◌∷◌, length, Err};
-ghost use Rattle.acts.specs.Around.{around};
+ghost use Rattle.qic_base.specs.Acts.{around};
 ghost use Rattle.volume_store.specs.Mounting.{StoreFits, KeepsStore};
-ghost use Rattle.made_volumes.specs.Items.{SumVolume, summing};
-ghost use Rattle.made_volumes.specs.Machine.{sum_line};
+ghost use Rattle.command_spec.specs.Make.{SumVolume, summing};
+ghost use Rattle.command_spec.specs.Make.{sum_line};
 ghost use Rattle.made_volumes.specs.Runs.{RunEnds, NeverFull};
 ghost use Rattle.made_volumes.specs.declared.fault.MakeFault.TheVariants.{Tape as tape_fault};
 
@@ -14,7 +14,7 @@ use qic_base::{Sink, SinkFailed, Tape};
 use tape_script::{Summed, TextLine, write_text};
 use volume_store::Store;
 
-#[tactic(auto, unfolding(crate::specs::Machine::sum_line))]
+#[tactic(auto, unfolding(command_spec::specs::Make::sum_line))]
 fn sum_text(number: u32, bytes: u64, total: u32) -> TextLine
     ensures { result ≡ sum_line number bytes total }
 {

@@ -2,9 +2,9 @@
 use Rattle.std.proofs.Common.{◌≡◌, inl, inr, ℕ, zero, suc, ◌+◌, ◌≤◌, ◌<◌, List, [], ◌∷◌, ◌++◌, length, Option, Some, None, IfSome, refl, sym, ap, ◌∙◌, subst, arith, append_assoc, append-nil}
 use Rattle.std.specs.Option.{option_map}
 use Rattle.std.proofs.lemmas.List.{length-append}
-use Rattle.tape_script.proofs.Deciding.{Decided, along, both, at_most, same_bytes}
-use Rattle.tape_script.proofs.Lined.{one_before}
-use Rattle.tape_script.proofs.Readings.{Cut, cut, no_line_without}
+use Rattle.command_laws.proofs.TextDeciding.{Decided, along, both, at_most, same_bytes}
+use Rattle.command_laws.proofs.TextLined.{one_before}
+use Rattle.command_laws.proofs.TextReadings.{Cut, cut, no_line_without}
 use Rattle.tape_script.proofs.Rests.{Rest}
 use Rattle.pulse_dialogue.specs.declared.line.Line.{Line}
 use Rattle.pulse_dialogue.specs.Lines.{time_of, line_text, line_bytes, greatest_time, most_lines, IsLine, Ending, AtEnd, AtFault, Follows, HasLine, IsFault, LinesEnd, HasLines}

@@ -6,12 +6,15 @@ use Rattle.std.proofs.lemmas.Bool.Decides.{nat_tests}
 use Rattle.std.proofs.lemmas.List.{length-append, length_push, take-append-drop, drop_more, get_or_at, get_or_default, append_cancel_left}
 use Rattle.std.proofs.lemmas.List.Elements.{All-push}
 use Rattle.qic_base.specs.Source.{Meaning}
-use Rattle.tape_script.specs.Forms.{IsNumber}
-use Rattle.tape_script.specs.Input.{IsLined}
-use Rattle.tape_script.specs.Reading.{Gave, NoNewline, BeginsWithNo}
-use Rattle.tape_script.proofs.Commands.{number_value, IsNumber-value}
-use Rattle.tape_script.proofs.Decimals.{wrong_length, all_digits}
-use Rattle.tape_script.proofs.Lined.{one_before}
+use Rattle.command_spec.specs.CommandWords.{IsNumber}
+use Rattle.command_spec.specs.Input.{IsLined}
+use Rattle.qic_base.specs.Source.{Gave}
+use Rattle.command_laws.specs.TextReading.{NoNewline}
+use Rattle.tape_script.specs.Reading.{BeginsWithNo}
+use Rattle.command_laws.proofs.TextCommands.{number_value, IsNumber-value}
+use Rattle.tape_script.proofs.Decimals.{wrong_length}
+use Rattle.command_laws.proofs.TextDecimals.{all_digits}
+use Rattle.command_laws.proofs.TextLined.{one_before}
 use Rattle.pulse_dialogue.specs.declared.line.Line.{Line}
 use Rattle.pulse_dialogue.specs.declared.line.Line.TheVariants.{Pulse, Sample}
 use Rattle.pulse_dialogue.specs.Lines.{time_of, level_digit, line_text, line_bytes, greatest_time, IsLine, IsNoLine, Follows}

@@ -6,8 +6,8 @@ use Rattle.qic_base.specs.declared.sink.SinkFailed.{SinkFailed}
 use Rattle.qic_base.specs.Sink as sinks
 use Rattle.qic_base.specs.Source as sources
 use Rattle.qic_base.proofs.Writing.{TakesBoth, Wrote-Wrote, Wrote-BrokeOff, BrokeOff-longer}
-use Rattle.tape_script.specs.Reading.{Gave}
-use Rattle.tape_script.proofs.Giving.{Gave-Gave, Gave-end, Gave-nothing}
+use Rattle.qic_base.specs.Source.{Gave}
+use Rattle.qic_base.proofs.Giving.{Gave-Gave, Gave-end, Gave-nothing}
 use Rattle.tape_script.proofs.Rests.{any_rest, ended_rest, whole_told, left_behind}
 use Rattle.pulse_dialogue.specs.declared.context.Context.TheVariants.{Nothing}
 use Rattle.pulse_dialogue.specs.declared.fault.TraceFault.{TraceFault}

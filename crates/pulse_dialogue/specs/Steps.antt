@@ -2,7 +2,8 @@
 use Rattle.std.specs.Prelude.{◌≡◌, ◌⊎◌, ℕ, ◌≤◌, [], length, Option, Some, None, Result, Ok, Err}
 use Rattle.qic_base.specs.Sink as sinks
 use Rattle.qic_base.specs.Source as sources
-use Rattle.tape_script.specs.Reading.{Gave, HasEnded, BeginsWithNo}
+use Rattle.qic_base.specs.Source.{Gave, HasEnded}
+use Rattle.tape_script.specs.Reading.{BeginsWithNo}
 use Rattle.pulse_dialogue.specs.declared.fault.TraceFault.{TraceFault}
 use Rattle.pulse_dialogue.specs.declared.fault.TraceFault.TheVariants as fault
 use Rattle.pulse_dialogue.specs.declared.line.Line.{Line}

@@ -1,5 +1,5 @@
-pub mod Commands
 pub mod Codes
-pub mod Views
+pub mod Commands
 pub mod Refusals
 pub mod StatusWord
+pub mod Views

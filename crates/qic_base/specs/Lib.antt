@@ -1,8 +1,10 @@
+pub mod Acts
 pub mod Cartridge
 pub mod Cause
 pub mod Date
 pub mod Disk
 pub mod Field
+pub mod JoinLaws
 pub mod LostSet
 pub mod Name
 pub mod Sink

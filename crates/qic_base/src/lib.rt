@@ -1,6 +1,7 @@
 //! The outside of the tape program, and the words that every layer shares.
 #![tactic(auto)]
 
+pub mod acts;
 mod date;
 mod disk;
 mod field;

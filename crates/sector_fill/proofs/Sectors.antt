@@ -10,7 +10,7 @@ use Rattle.std.proofs.Math.Seq.{take-append-add}
 use borrow.Rule.Slice.PartMut.{put_mid}
 use Rattle.core.proofs.slice.Relends.{length-first_chunks}
 use Rattle.qic_base.specs.Source.{Meaning}
-use Rattle.append_plan.specs.NewVolume.{filled_up, in_sectors}
+use Rattle.cartridge_spec.specs.Appending.{filled_up, in_sectors}
 use Rattle.sector_fill.specs.Filling.{GaveUpTo, GaveWithin, IsFilled, FillsBytes, AreFilled, FillsSectors, IsFrontOf}
 
 -- ---- a slice whose rear was written

@@ -1,6 +1,6 @@
 ghost use Rattle.std.specs.Prelude.{◌≡◌, ◌*◌, ◌≤◌, length, take};
 ghost use Rattle.qic_base.specs.Sink.{Writes};
-ghost use Rattle.append_plan.specs.NewVolume.{bytes_in};
+ghost use Rattle.cartridge_spec.specs.Appending.{bytes_in};
 
 use qic_base::{Sink, SinkFailed};
 use tape_script::write_text;

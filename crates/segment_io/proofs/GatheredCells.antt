@@ -16,9 +16,9 @@ use Rattle.qic_base.specs.declared.tape.SectorRead.{SectorRead}
 use Rattle.qic_base.specs.declared.tape.SectorRead.TheVariants as read
 use Rattle.qic_base.specs.declared.tape.SectorView.{SectorView}
 use Rattle.qic_base.specs.declared.tape.SectorView.TheVariants.{Blank, Defect, Lost, Holds}
-use Rattle.cartridge_spec.specs.Segment.{IsUnreadable}
+use Rattle.cartridge_laws.specs.Segment.{IsUnreadable}
 use Rattle.segment_io.specs.Gathered.{IsUnreadableAt, NamesUnreadable, Gathered, cells_below}
-use Rattle.cartridge_spec.proofs.Writing.{slice_get-set_other, slice_get-set_same}
+use Rattle.cartridge_laws.proofs.Writing.{slice_get-set_other, slice_get-set_same}
 
 -- ---- one element more
 

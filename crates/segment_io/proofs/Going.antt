@@ -7,7 +7,7 @@ use Rattle.qic_base.specs.Tape.{Meaning, Done, Tells}
 use Rattle.qic_base.specs.declared.tape.TapeInfo.{TapeInfo}
 use Rattle.qic_base.proofs.Steps.{Done-nothing, Done-told}
 use Rattle.cartridge_spec.specs.Shape.{usable_count}
-use Rattle.cartridge_spec.proofs.Segments.{count_of_whole}
+use Rattle.cartridge_laws.proofs.Segments.{count_of_whole}
 use Rattle.drive_spec.specs.declared.deck.Deck.{Deck}
 use Rattle.drive_spec.specs.declared.deck.Motion.{Motion}
 use Rattle.drive_spec.specs.declared.deck.Motion.TheVariants.{Stopped, Streaming, Seeking}

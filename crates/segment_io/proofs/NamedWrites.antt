@@ -10,13 +10,14 @@ use Rattle.std.proofs.lemmas.Option.{unwrap_or-slice_get}
 use Rattle.qic_base.specs.LostSet.{IsLost, lost_places}
 use Rattle.qic_base.specs.Step.{Step, WriteSector}
 use Rattle.qic_base.proofs.LostSetLaws.{lost_places-lost, lost_places-kept}
-use Rattle.cartridge_spec.specs.Segment.{sector_at}
+use Rattle.cartridge_spec.specs.Shape.{sector_at}
 use Rattle.cartridge_spec.specs.Shape.{usable_places, usable_count}
-use Rattle.cartridge_spec.specs.Writes.{writes_of, block_in, segment_writes, named_writes}
-use Rattle.gf256_qic.specs.Code.{parity_sectors}
+use Rattle.cartridge_spec.specs.Settling.{writes_of}
+use Rattle.cartridge_laws.specs.Writes.{block_in, segment_writes, named_writes}
+use Rattle.cartridge_spec.specs.Code.{parity_sectors}
 use Rattle.segment_io.specs.Writes.{named_write, usable_write}
-use Rattle.cartridge_spec.proofs.Places.{place_of_sector, count_more, Front, places_within, all_places, count_same, front_of_all, count_below}
-use Rattle.cartridge_spec.proofs.Writing.{length-block_in}
+use Rattle.cartridge_laws.proofs.Places.{place_of_sector, count_more, Front, places_within, all_places, count_same, front_of_all, count_below}
+use Rattle.cartridge_laws.proofs.Writing.{length-block_in}
 
 -- ---- the writes of named places
 

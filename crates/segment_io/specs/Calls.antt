@@ -1,6 +1,6 @@
 -- What the calls for a segment ask besides those of the host (this project's own).
 use Rattle.std.specs.Prelude.{◌≡◌, ℕ, ◌*◌, ◌<◌, true}
-use Rattle.cartridge_spec.specs.Shape.{Carries}
+use Rattle.cartridge_laws.specs.Shape.{Carries}
 use Rattle.drive_spec.specs.declared.deck.Deck.{Deck}
 use Rattle.drive_spec.specs.Deck.{segments_per_track, is_referenced}
 

@@ -4,7 +4,7 @@ use Rattle.qic_base.specs.LostSet.{IsLost, lost_places}
 use Rattle.qic_base.specs.Cartridge.{Cartridge, view_at}
 use Rattle.qic_base.specs.declared.tape.SectorView.{SectorView}
 use Rattle.qic_base.specs.declared.tape.SectorView.TheVariants.{Holds}
-use Rattle.cartridge_spec.specs.Segment.{IsUnreadable}
+use Rattle.cartridge_laws.specs.Segment.{IsUnreadable}
 
 -- the cell at a place is unreadable
 abbrev pub IsUnreadableAt : List SectorView → ℕ → Type 0

@@ -2,7 +2,7 @@
 -- stand at the first places of a workspace.
 use Rattle.std.specs.Prelude.{ℕ, ◌/◌, ◌%◌, ◌^◌, ◌==◌, List, [], ◌∷◌, if◌then◌else◌}
 use Rattle.qic_base.specs.Step.{Step, WriteSector}
-use Rattle.cartridge_spec.specs.Segment.{sector_at}
+use Rattle.cartridge_spec.specs.Shape.{sector_at}
 
 -- the sector at one place, which has this index, where the set has the place
 abbrev pub named_write : (segment index places place : ℕ) → List (List ℕ) → List Step

@@ -5,7 +5,7 @@ ghost use Rattle.qic_base.specs.Cartridge.{view_at};
 ghost use Rattle.qic_base.specs.LostSet.{lost_places};
 ghost use Rattle.qic_base.specs.Tape.{Does, Tells};
 ghost use Rattle.qic_base.specs.declared.tape.SectorView.{SectorView};
-ghost use Rattle.gf256_qic.specs.Code.{IsCodeBlock};
+ghost use Rattle.cartridge_spec.specs.Code.{IsCodeBlock};
 ghost use Rattle.cartridge_spec.specs.Shape.{usable_count};
 ghost use Rattle.cartridge_spec.specs.Says.{cells_of};
 ghost use Rattle.drive_states.specs.Reach.{reads_in, IsUnder};

@@ -1,10 +1,12 @@
 //! A segment whose sectors were collected, solved.
 
 ghost use Rattle.std.specs.Prelude.{◌≡◌, ◌≢◌, ◌≤◌, ◌<◌, ◌↔◌, ℕ, List, length, take, IsOk, OnOk, OnErr};
-ghost use Rattle.gf256_qic.specs.Code.{IsCodeBlock, AgreesOutside, IsSolvable};
+ghost use Rattle.cartridge_spec.specs.Code.{IsCodeBlock};
+ghost use Rattle.gf256_qic.specs.Code.{AgreesOutside, IsSolvable};
 ghost use Rattle.erasure_solve.specs.Lost.{is_lost, lost_count};
 ghost use Rattle.qic_base.specs.declared.tape.SectorView.{SectorView};
-ghost use Rattle.cartridge_spec.specs.Shape.{Carries, usable_count};
+ghost use Rattle.cartridge_laws.specs.Shape.{Carries};
+ghost use Rattle.cartridge_spec.specs.Shape.{usable_count};
 ghost use Rattle.segment_io.specs.Gathered.{Gathered};
 ghost use Rattle.segment_io.specs.Reading.{Solves};
 

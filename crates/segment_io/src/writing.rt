@@ -4,14 +4,15 @@ ghost use Rattle.std.specs.Prelude.{◌≡◌, ◌<◌, ◌≤◌, ◌+◌, ◌^
 ghost use Rattle.qic_base.specs.LostSet.{lost_places};
 ghost use Rattle.qic_base.specs.Step.{WriteSector};
 ghost use Rattle.qic_base.specs.Tape.{Does};
-ghost use Rattle.cartridge_spec.specs.Segment.{sector_at};
-ghost use Rattle.cartridge_spec.specs.Shape.{Carries, data_count, usable_count};
+ghost use Rattle.cartridge_spec.specs.Shape.{sector_at};
+ghost use Rattle.cartridge_laws.specs.Shape.{Carries};
+ghost use Rattle.cartridge_spec.specs.Shape.{data_count, usable_count};
 ghost use Rattle.drive_states.specs.Reach.{IsUnder};
 ghost use Rattle.host_driver.specs.Calls.{IsReady, MayWrite, Keeps};
 ghost use Rattle.segment_io.specs.Calls.{HasSegment};
 ghost use Rattle.segment_io.specs.Register.{IsAtPlace, completed};
 ghost use Rattle.segment_io.specs.Writes.{named_write, next_write, usable_write};
-ghost use Rattle.cartridge_spec.specs.Writes.{block_in, segment_writes, named_writes};
+ghost use Rattle.cartridge_laws.specs.Writes.{block_in, segment_writes, named_writes};
 
 use crate::fault::SegFault;
 use crate::shape::count_usable;

@@ -8,19 +8,19 @@ use Rattle.qic_base.specs.Sink as sinks
 use Rattle.qic_base.specs.Tape as tapes
 use Rattle.qic_base.proofs.Steps.{Tells-map}
 use Rattle.qic_base.proofs.Writing.{TakesBoth}
-use Rattle.acts.specs.Acts.{Act, steps_of, text_of, Outside, Failing, TapeFails, SinkFails, Cut}
-use Rattle.acts.specs.Around.{no_source}
-use Rattle.acts.proofs.Joins.{steps_of-append, text_of-append, nothing_went, went_both, went_then_cut, cut_is_longer}
+use Rattle.qic_base.specs.Acts.{Act, steps_of, text_of, Outside, Failing, TapeFails, SinkFails, Cut}
+use Rattle.qic_base.specs.Acts.{no_source}
+use Rattle.qic_base.proofs.Joins.{steps_of-append, text_of-append, nothing_went, went_both, went_then_cut, cut_is_longer}
 use Rattle.cartridge_spec.specs.Says.{Saying}
-use Rattle.cartridge_spec.specs.Writes.{changed_by}
-use Rattle.format_plan.proofs.Writing.{effects-some}
-use Rattle.scrub_plan.specs.Scrubbing.{Looked, Counts, SayInTurn, looking_acts, unread_count}
-use Rattle.scrub_plan.proofs.Turns.{one_turn}
+use Rattle.cartridge_spec.specs.Settling.{changed_by}
+use Rattle.cartridge_laws.proofs.FormatWriting.{effects-some}
+use Rattle.command_spec.specs.Scrub.{Looked, Counts, SayInTurn, looking_acts, unread_count}
+use Rattle.command_laws.proofs.ScrubTurns.{one_turn}
 use Rattle.segment_io.proofs.Going.{tells_then}
 use Rattle.segment_mending.specs.declared.fault.ScrubFault.{ScrubFault}
 use Rattle.segment_mending.specs.declared.fault.ScrubFault.TheVariants as fault
 use Rattle.segment_mending.specs.Looking.{AreActs, Counted, HasLooked, LookingCut, Looks, HasFew}
-use Rattle.segment_mending.specs.Mending.{lines_of}
+use Rattle.command_spec.specs.Scrub.{lines_of}
 use Rattle.segment_mending.proofs.Parts.{behind, turns_join, acts_join, TurnsOf, turns_part, lines_join, unread_join, unread_most, mismatches, length-mismatches, line_acts, text_of_lines}
 
 -- ---- what is told

@@ -1,6 +1,6 @@
-mod Joining
+pub mod Joining
 pub mod Looked
-mod Parts
+pub mod Parts
 pub mod Passing
-mod Reading
-mod Scrubbed
+pub mod Reading
+pub mod Scrubbed

@@ -7,9 +7,10 @@ use Rattle.std.proofs.lemmas.List.Elements.{filter-append}
 use Rattle.std.proofs.lemmas.List.FromFn.{length-range_with_len}
 use Rattle.std.proofs.lemmas.Option.{slice_get_within, get_or_from_slice_get}
 use Rattle.cartridge_spec.specs.Shape.{mask_at, usable_count}
-use Rattle.cartridge_spec.specs.Table.{Entry, LieBehind}
+use Rattle.cartridge_spec.specs.Table.{Entry}
+use Rattle.cartridge_laws.specs.Table.{LieBehind}
 use Rattle.cartridge_spec.specs.Volumes.{carrying, carrying_segments}
-use Rattle.scrub_plan.specs.Scrubbing.{Looked, looked_segments, looked_volumes}
+use Rattle.command_spec.specs.Scrub.{Looked, looked_segments, looked_volumes}
 
 -- ---- the segments of a volume
 

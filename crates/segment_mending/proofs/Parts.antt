@@ -1,12 +1,12 @@
 -- Looking at some segments and then at others: what they say, their acts, lines and counts.
 use Rattle.std.proofs.Common.{◌≡◌, ℕ, suc, ◌+◌, ◌≤◌, Bool, true, false, cond, List, [], ◌∷◌, ◌++◌, length, refl, sym, ap, ◌∙◌, subst, arith, append_assoc}
 use Rattle.qic_base.specs.Cartridge.{Cartridge}
-use Rattle.acts.specs.Acts.{Act, steps_of, text_of}
+use Rattle.qic_base.specs.Acts.{Act, steps_of, text_of}
 use Rattle.cartridge_spec.specs.Says.{Saying, Mismatch}
-use Rattle.cartridge_spec.specs.Writes.{changed_by}
-use Rattle.format_plan.proofs.Writing.{changed_by-append}
-use Rattle.scrub_plan.specs.Scrubbing.{Looked, reads, steps_in, line_in, look_act, SayInTurn, looking_acts, unread_count}
-use Rattle.segment_mending.specs.Mending.{lines_of}
+use Rattle.cartridge_spec.specs.Settling.{changed_by}
+use Rattle.cartridge_laws.proofs.FormatWriting.{changed_by-append}
+use Rattle.command_spec.specs.Scrub.{Looked, reads, steps_in, line_in, look_act, SayInTurn, looking_acts, unread_count}
+use Rattle.command_spec.specs.Scrub.{lines_of}
 
 -- the cartridge behind the acts of some segments
 abbrev pub behind : Cartridge → List Looked → List Saying → Cartridge

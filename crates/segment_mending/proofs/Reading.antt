@@ -7,18 +7,18 @@ use Rattle.qic_base.specs.Step.{Step}
 use Rattle.qic_base.specs.Sink as sinks
 use Rattle.qic_base.specs.Tape as tapes
 use Rattle.qic_base.proofs.Steps.{Tells-map, Done-after_reads, Broke-after_reads}
-use Rattle.acts.specs.Acts.{Act, TapeFails, SinkFails, Went, Cut}
-use Rattle.acts.specs.Around.{no_source, around}
-use Rattle.acts.proofs.Joins.{cut_is_longer, sink_cut_one}
-use Rattle.gf256_qic.specs.Code.{IsCodeBlock}
+use Rattle.qic_base.specs.Acts.{Act, TapeFails, SinkFails, Went, Cut}
+use Rattle.qic_base.specs.Acts.{no_source, around}
+use Rattle.qic_base.proofs.Joins.{cut_is_longer, sink_cut_one}
+use Rattle.cartridge_spec.specs.Code.{IsCodeBlock}
 use Rattle.cartridge_spec.specs.Header.{has_signature}
 use Rattle.cartridge_spec.specs.Says.{whole_mask, Saying, Data, LostSectors, Mismatch, Says, data_of}
 use Rattle.cartridge_spec.specs.Shape.{usable_count, sectors_of}
-use Rattle.cartridge_spec.specs.Writes.{named_writes}
-use Rattle.cartridge_spec.proofs.Places.{count_below}
-use Rattle.cartridge_spec.proofs.Segments.{count_of_cells, count_of_whole}
-use Rattle.scrub_plan.specs.Scrubbing.{Looked, whole_segment, Counts, cells_at, reads, steps_in, fault_line, header_line, line_in, SayInTurn, looking_acts}
-use Rattle.scrub_plan.proofs.Named.{steps_by_places, count_of_named}
+use Rattle.cartridge_laws.specs.Writes.{named_writes}
+use Rattle.cartridge_laws.proofs.Places.{count_below}
+use Rattle.cartridge_laws.proofs.Segments.{count_of_cells, count_of_whole}
+use Rattle.command_spec.specs.Scrub.{Looked, whole_segment, Counts, cells_at, reads, steps_in, fault_line, header_line, line_in, SayInTurn, looking_acts}
+use Rattle.command_laws.proofs.ScrubNamed.{steps_by_places, count_of_named}
 use Rattle.segment_io.specs.Gathered.{NamesUnreadable}
 use Rattle.segment_io.specs.Reading.{HasSolved}
 use Rattle.segment_io.proofs.Going.{tells_always}

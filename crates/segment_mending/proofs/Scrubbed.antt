@@ -5,18 +5,19 @@ use Rattle.qic_base.specs.Sink as sinks
 use Rattle.qic_base.specs.Tape as tapes
 use Rattle.qic_base.proofs.Steps.{Tells-map, Done-nothing}
 use Rattle.qic_base.proofs.Writing.{TakesBoth}
-use Rattle.acts.specs.Acts.{Act, steps_of, text_of, Outside, Failing, TapeFails, SinkFails, Went, Cut}
-use Rattle.acts.specs.Around.{no_source, around}
-use Rattle.acts.proofs.Joins.{text_of-append, went_both, went_then_cut, cut_is_longer, sink_cut_one}
+use Rattle.qic_base.specs.Acts.{Act, steps_of, text_of, Outside, Failing, TapeFails, SinkFails, Went, Cut}
+use Rattle.qic_base.specs.Acts.{no_source, around}
+use Rattle.qic_base.proofs.Joins.{text_of-append, went_both, went_then_cut, cut_is_longer, sink_cut_one}
 use Rattle.cartridge_spec.specs.Says.{Saying}
 use Rattle.cartridge_spec.specs.Table.{Entry}
-use Rattle.scrub_plan.specs.Scrubbing.{Looked, Counts, SayInTurn, looking_acts, looked_at, unread_count, counts_line, counts_of, last_act, Scrubs}
-use Rattle.scrub_plan.proofs.Turns.{scrubs_is_function}
+use Rattle.command_spec.specs.Scrub.{Looked, Counts, SayInTurn, looking_acts, looked_at, unread_count, counts_line, counts_of, last_act, Scrubs}
+use Rattle.command_laws.proofs.ScrubTurns.{scrubs_is_function}
 use Rattle.segment_mending.specs.declared.fault.ScrubFault.{ScrubFault}
 use Rattle.segment_mending.specs.declared.fault.ScrubFault.TheVariants as fault
 use Rattle.segment_mending.specs.declared.report.ScrubReport.{ScrubReport}
 use Rattle.segment_mending.specs.Looking.{Counted, HasLooked, LookingCut, Looks}
-use Rattle.segment_mending.specs.Mending.{reported, IsScrubText, HasScrubbed, ScrubCut, ScrubEnds}
+use Rattle.segment_mending.specs.Mending.{reported, HasScrubbed, ScrubCut, ScrubEnds}
+use Rattle.command_spec.specs.Scrub.{IsScrubText}
 
 -- nothing is counted yet
 abbrev pub none_counted : Counts

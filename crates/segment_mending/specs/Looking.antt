@@ -2,13 +2,13 @@
 use Rattle.std.specs.Prelude.{◌≡◌, ℕ, ◌+◌, ◌*◌, ◌≤◌, List, length, Result, Ok, Err}
 use Rattle.qic_base.specs.Sink as sinks
 use Rattle.qic_base.specs.Tape as tapes
-use Rattle.acts.specs.Acts.{Act, steps_of, text_of, Outside, Failing, TapeFails, SinkFails, Went, Cut}
-use Rattle.acts.specs.Around.{no_source}
+use Rattle.qic_base.specs.Acts.{Act, steps_of, text_of, Outside, Failing, TapeFails, SinkFails, Went, Cut}
+use Rattle.qic_base.specs.Acts.{no_source}
 use Rattle.cartridge_spec.specs.Says.{Saying}
-use Rattle.scrub_plan.specs.Scrubbing.{Looked, Counts, SayInTurn, looking_acts, unread_count}
+use Rattle.command_spec.specs.Scrub.{Looked, Counts, SayInTurn, looking_acts, unread_count}
 use Rattle.segment_mending.specs.declared.fault.ScrubFault.{ScrubFault}
 use Rattle.segment_mending.specs.declared.fault.ScrubFault.TheVariants as fault
-use Rattle.segment_mending.specs.Mending.{lines_of}
+use Rattle.command_spec.specs.Scrub.{lines_of}
 
 -- These segments say this, on the cartridge that the tape tells, and these are their acts; over any tape the acts print
 -- what belongs to these sayings.

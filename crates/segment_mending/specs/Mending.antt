@@ -1,33 +1,17 @@
 -- How a cartridge was scrubbed, by the answer of the call (this project's own).
-use Rattle.std.specs.Prelude.{◌≡◌, ℕ, List, [], ◌∷◌, ◌++◌, length, Result, Ok, Err}
+use Rattle.std.specs.Prelude.{◌≡◌, ℕ, List, ◌++◌, Result, Ok, Err}
+use Rattle.cartridge_spec.specs.Table.{Entry}
+use Rattle.command_spec.specs.Scrub.{Counts, counts_of, looked_at, Scrubs, IsScrubText}
+use Rattle.qic_base.specs.Acts.{Act, text_of, Outside, Went, no_source, Failing, Cut, TapeFails, SinkFails}
+use Rattle.segment_mending.specs.declared.fault.ScrubFault.{ScrubFault}
+use Rattle.segment_mending.specs.declared.report.ScrubReport.{ScrubReport}
 use Rattle.qic_base.specs.Sink as sinks
 use Rattle.qic_base.specs.Tape as tapes
-use Rattle.acts.specs.Acts.{Act, text_of, Outside, Failing, TapeFails, SinkFails, Went, Cut}
-use Rattle.acts.specs.Around.{no_source}
-use Rattle.cartridge_spec.specs.Says.{Saying}
-use Rattle.cartridge_spec.specs.Table.{Entry}
-use Rattle.scrub_plan.specs.Scrubbing.{Looked, Counts, line_in, counts_line, counts_of, unread_count, looked_at, Scrubs}
-use Rattle.segment_mending.specs.declared.report.ScrubReport.{ScrubReport}
-use Rattle.segment_mending.specs.declared.fault.ScrubFault.{ScrubFault}
 use Rattle.segment_mending.specs.declared.fault.ScrubFault.TheVariants as fault
 
 -- the counts that a report tells
 abbrev pub reported : ScrubReport → Counts
 reported report = record { segments = report.segments; mended = report.mended; unreadable = report.unreadable }
-
--- the lines of these segments, one after the other, where they say this
-abbrev pub lines_of : List Looked → List Saying → List ℕ
-lines_of [] ss = []
-lines_of (l ∷ ls) [] = []
-lines_of (l ∷ ls) (s ∷ ss) = line_in l s ++ lines_of ls ss
-
--- The text of a scrubbing with these counts, whatever its segments say: a line for each that doesn't read, and the counts.
-pub record IsScrubText (looked : List Looked) (counts : Counts) (text : List ℕ) : Type 0 where
-  pub sayings : List Saying
-  pub each : length sayings ≡ length looked
-  pub lines : text ≡ lines_of looked sayings ++ counts_line counts
-  pub segments : counts.segments ≡ length looked
-  pub unreadable : counts.unreadable ≡ unread_count looked sayings
 
 -- All acts went, and the report tells what was counted.
 pub record HasScrubbed {T K : Type 0} (t : tapes.Meaning T) (k : sinks.Meaning K) (words : List ℕ) (entries : List Entry) (old new : Outside T (Unit {0}) K) (report : ScrubReport) : Type 0 where

@@ -2,7 +2,7 @@
 
 ghost use Rattle.std.specs.Prelude.{◌≡◌};
 ghost use Rattle.cartridge_spec.specs.Says.{LostSectors, Mismatch};
-ghost use Rattle.scrub_plan.specs.Scrubbing.{header_line, fault_line, counts_line};
+ghost use Rattle.command_spec.specs.Scrub.{header_line, fault_line, counts_line};
 ghost use Rattle.segment_mending.specs.Mending.{reported};
 
 use crate::report::ScrubReport;

@@ -1,10 +1,10 @@
 //! One segment looked at.
 
 ghost use Rattle.std.specs.Prelude.{◌≡◌, ◌<◌, ◌≤◌, ◌^◌, [], ◌∷◌, true};
-ghost use Rattle.acts.specs.Around.{around};
+ghost use Rattle.qic_base.specs.Acts.{around};
 ghost use Rattle.drive_spec.specs.Deck.{is_referenced};
 ghost use Rattle.host_driver.specs.Calls.{IsReady, MayWrite, Keeps};
-ghost use Rattle.scrub_plan.specs.Scrubbing.{whole_segment};
+ghost use Rattle.command_spec.specs.Scrub.{whole_segment};
 ghost use Rattle.segment_io.specs.Calls.{HasSegment};
 ghost use Rattle.segment_mending.specs.Looking.{HasFew, Looks};
 ghost use Rattle.segment_mending.specs.Mending.{reported};

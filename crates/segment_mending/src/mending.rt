@@ -6,7 +6,7 @@ ghost use Rattle.qic_base.specs.Tape.{Does};
 ghost use Rattle.cartridge_spec.specs.Header.{has_signature};
 ghost use Rattle.cartridge_spec.specs.Says.{data_of};
 ghost use Rattle.cartridge_spec.specs.Shape.{usable_count, sectors_of};
-ghost use Rattle.cartridge_spec.specs.Writes.{named_writes};
+ghost use Rattle.cartridge_laws.specs.Writes.{named_writes};
 ghost use Rattle.host_driver.specs.Calls.{IsReady, MayWrite, Keeps};
 ghost use Rattle.segment_io.specs.Calls.{HasSegment};
 ghost use Rattle.segment_mending.specs.Looking.{HasFew, with_mended, with_unread};

@@ -1,12 +1,12 @@
 //! All segments of a cartridge that hold something, one by one.
 
 ghost use Rattle.std.specs.Prelude.{◌≡◌, ◌-◌, ◌*◌, ◌∷◌, [], true, length, OnOk};
-ghost use Rattle.acts.specs.Around.{around};
-ghost use Rattle.cartridge_spec.specs.Table.{IsSoundList};
+ghost use Rattle.qic_base.specs.Acts.{around};
+ghost use Rattle.cartridge_laws.specs.Table.{IsSoundList};
 ghost use Rattle.drive_spec.specs.Deck.{is_referenced};
 ghost use Rattle.host_driver.specs.Calls.{IsReady, MayWrite, Keeps};
 ghost use Rattle.host_driver.specs.Fits.{segments_of};
-ghost use Rattle.scrub_plan.specs.Scrubbing.{whole_segment};
+ghost use Rattle.command_spec.specs.Scrub.{whole_segment};
 ghost use Rattle.segment_mending.specs.Looking.{HasFew, Looks};
 ghost use Rattle.segment_mending.specs.Mending.{ScrubEnds, reported};
 

@@ -3,8 +3,8 @@ use Rattle.std.proofs.Common.{◌≡◌, ◌≢◌, ℕ, ◌+◌, ◌<◌, ◌�
 use Rattle.std.proofs.lemmas.Bool.{cases_eq, cases_lt}
 use Rattle.std.proofs.lemmas.List.{get_or-set_same, get_or-set_other, length-replicate}
 use Rattle.std.proofs.lemmas.List.Elements.{All-nil, All-cons, All-get_or, All-from_get_or}
-use Rattle.gf256_qic.specs.Field.{product}
-use Rattle.gf256_qic.specs.Code.{parity, parity_sectors, column, IsSector}
+use Rattle.cartridge_spec.specs.Field.{product}
+use Rattle.cartridge_spec.specs.Code.{parity, parity_sectors, column, IsSector}
 use Rattle.gf256_qic.proofs.Values.{AllBytes, first_byte, other_bytes}
 use Rattle.gf256_qic.proofs.Agreement.{same_from_columns}
 use Rattle.gf256_qic.proofs.Parities.{bytes_of_column, column-append, bytes_of_parity, column-parity_sectors, length-parity_sectors, parity_sectors-are_sectors}

@@ -5,8 +5,9 @@ use Rattle.std.proofs.lemmas.Nat.{xor_comm}
 use Rattle.std.proofs.lemmas.List.Elements.{All-get_or, All-from_get_or, All-push}
 use Rattle.std.proofs.lemmas.List.{same_lists, length-replicate}
 use Rattle.std.proofs.Math.ListN.{length-append}
-use Rattle.gf256_qic.specs.Field.{shifted_copies, remainder, product, power, inverse}
-use Rattle.gf256_qic.specs.Code.{value_at, scaled, added, lagrange, through, parity, parity_sector, parity_sectors, data_sum, distance, column, IsSector, IsCodeBlock}
+use Rattle.cartridge_spec.specs.Field.{shifted_copies, remainder, product, power, inverse}
+use Rattle.cartridge_spec.specs.Code.{value_at, scaled, added, lagrange, through, parity, parity_sector, parity_sectors, data_sum, column, IsSector, IsCodeBlock}
+use Rattle.gf256_qic.specs.Code.{distance}
 use Rattle.gf256_qic.proofs.Sums.{sum_byte}
 use Rattle.gf256_qic.proofs.Products.{product_byte, product_comm, product_assoc, product_sum_left, product_sum_right, product_zero_left, product_one_right}
 use Rattle.gf256_qic.proofs.Powers.{power_more, power_one, power_byte}

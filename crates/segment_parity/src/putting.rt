@@ -1,5 +1,5 @@
 ghost use Rattle.std.specs.Prelude.{◌≡◌, ◌+◌, ◌≤◌, ◌++◌, length, take, drop, All};
-ghost use Rattle.gf256_qic.specs.Code.{parity_sectors, IsSector};
+ghost use Rattle.cartridge_spec.specs.Code.{parity_sectors, IsSector};
 
 use crate::{SECTOR, parity_of};
 

@@ -4,7 +4,7 @@ use Rattle.std.proofs.lemmas.Bool.{cases_eq, cases_Bool, false≢true, ne_eqb, o
 use Rattle.qic_base.specs.declared.tape.SectorView.{SectorView}
 use Rattle.qic_base.specs.declared.tape.SectorView.TheVariants.{Blank, Defect, Lost, Holds}
 use Rattle.gf256_qic.specs.Code.{lost_below}
-use Rattle.cartridge_spec.proofs.Cells.{unreadable_at, IsReadable, readable_at}
+use Rattle.cartridge_laws.proofs.Cells.{unreadable_at, IsReadable, readable_at}
 
 abbrev one_if : Bool → ℕ
 one_if t = cond t 1 0

@@ -1,5 +1,5 @@
 pub mod Cells
-pub mod Readings
-pub mod Sets
-pub mod Sectors
 pub mod Outcomes
+pub mod Readings
+pub mod Sectors
+pub mod Sets

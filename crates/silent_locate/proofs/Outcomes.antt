@@ -1,7 +1,8 @@
 -- The answers of `locate`, each by what was found.
 use Rattle.std.proofs.Common.{◌≡◌, ℕ, ◌<◌, ◌≤◌, ◌↔◌, refl, sym, ◌∙◌, ap, subst, arith, List, length, Some, None, Result, Ok, Err}
 use Rattle.qic_base.specs.declared.tape.SectorView.{SectorView}
-use Rattle.gf256_qic.specs.Code.{IsCodeBlock, AgreesOutside, IsSolvable}
+use Rattle.cartridge_spec.specs.Code.{IsCodeBlock}
+use Rattle.gf256_qic.specs.Code.{AgreesOutside, IsSolvable}
 use Rattle.erasure_solve.specs.Lost.{is_lost, lost_count}
 use Rattle.silent_locate.specs.declared.Located.{Located}
 use Rattle.silent_locate.specs.declared.Located.TheVariants as located

@@ -7,14 +7,15 @@ use Rattle.qic_base.specs.LostSet.{IsLost, lost_places}
 use Rattle.qic_base.proofs.LostSetLaws.{lost_places-above}
 use Rattle.qic_base.specs.declared.tape.SectorView.{SectorView}
 use Rattle.qic_base.specs.declared.tape.SectorView.TheVariants.{Holds}
-use Rattle.gf256_qic.specs.Code.{IsCodeBlock, AgreesOutside, IsSolvable, lost_below}
+use Rattle.cartridge_spec.specs.Code.{IsCodeBlock}
+use Rattle.gf256_qic.specs.Code.{AgreesOutside, IsSolvable, lost_below}
 use Rattle.erasure_solve.specs.Lost.{is_lost, lost_count}
 use Rattle.erasure_solve.proofs.Places.{is_lost_from, lost_below-places}
 use Rattle.cartridge_spec.specs.Says.{unreadable_count, Agrees}
 use Rattle.silent_locate.specs.Deep.{AgreesBut, IsAllRight, IsWrongAt, HasNoReading, cell_of, cells_from, cells_without}
 use Rattle.silent_locate.specs.Laws.{DiffersAt}
 use Rattle.silent_locate.specs.Tries.{lost_or}
-use Rattle.cartridge_spec.proofs.Cells.{unreadable_at, lost_below-cells}
+use Rattle.cartridge_laws.proofs.Cells.{unreadable_at, lost_below-cells}
 use Rattle.silent_locate.proofs.Cells.{same_test, lost_below-same}
 use Rattle.silent_locate.proofs.Readings.{wrong_place_differs}
 

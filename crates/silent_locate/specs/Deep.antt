@@ -4,7 +4,7 @@
 use Rattle.std.specs.Prelude.{◌≡◌, ◌≢◌, ℕ, suc, ◌/◌, ◌%◌, ◌^◌, ◌≤◌, ◌==◌, Bool, true, false, List, [], ◌∷◌, length, Option, Some, None, slice_get}
 use Rattle.qic_base.specs.declared.tape.SectorView.{SectorView}
 use Rattle.qic_base.specs.declared.tape.SectorView.TheVariants.{Lost, Holds}
-use Rattle.gf256_qic.specs.Code.{IsCodeBlock}
+use Rattle.cartridge_spec.specs.Code.{IsCodeBlock}
 use Rattle.cartridge_spec.specs.Says.{unreadable_count, Agrees, HasNoBlock}
 
 -- ---- cells

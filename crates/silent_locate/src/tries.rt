@@ -2,7 +2,8 @@
 
 ghost use Rattle.std.specs.Prelude.{◌≡◌, ℕ, ◌<◌, ◌≤◌, ◌↔◌, length, IsTrue, OnSome, IfSome, IfNone};
 ghost use Rattle.std.specs.Bool.{OnTrue, OnFalse};
-ghost use Rattle.gf256_qic.specs.Code.{IsCodeBlock, AgreesOutside, IsSolvable};
+ghost use Rattle.cartridge_spec.specs.Code.{IsCodeBlock};
+ghost use Rattle.gf256_qic.specs.Code.{AgreesOutside, IsSolvable};
 ghost use Rattle.erasure_solve.specs.Lost.{lost_count};
 ghost use Rattle.silent_locate.specs.Tries.{lost_or};
 

@@ -10,7 +10,7 @@ use read_ahead::{MOST, ReadAhead};
 use std::env::Env;
 use std::process::ExitCode;
 use std::{env, io};
-use tape_cmd::{Status, run};
+use tape_cmd::{Status, exit_status, run, write_status};
 use tape_files::{NoImage, NullStreams, StderrSink, StdinSource, StdoutSink, open_image};
 use tape_script::write_text;
 
@@ -29,7 +29,7 @@ fn main(rt: HostRuntime) -> ExitCode {
     let _streams = NullStreams::take(&rt);
     ExitCode::from(match read_arguments(&rt) {
         Ok(arguments) => run_over_image(&rt, &arguments),
-        Err(_) => Status::NoMemory.code(),
+        Err(_) => exit_status(&Status::NoMemory),
     })
 }
 
@@ -83,6 +83,6 @@ fn finish(status: Status, errors: &mut StderrSink) -> u8
     ensures { result ≡ status_code status }
 {
     // The exit status tells it, too, where standard error can't.
-    let _printed = status.text(errors);
-    status.code()
+    let _printed = write_status(&status, errors);
+    exit_status(&status)
 }

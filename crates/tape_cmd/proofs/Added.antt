@@ -1,61 +1,60 @@
 -- How an append ends.
-use Rattle.std.proofs.Common.{◌≡◌, ◌≢◌, ℕ, ◌+◌, ◌-◌, ◌<◌, ◌++◌, ◌&&◌, nat_le, min, Bool, true, false, List, [], ◌∷◌, All, length, drop, Option, Some, None, IfSome, Result, Ok, Err, refl, sym, ap, ◌∙◌, subst, inl, inr, arith, append-nil, append_assoc}
-use Rattle.std.specs.Prelude.{◌↔◌, IfNone, is_some, if◌then◌else◌}
+use Rattle.std.proofs.Common.{ℕ, ◌-◌, ◌<◌, List, All, Option, Some, None, ◌≡◌, drop, refl, ◌≢◌, true, IfSome, length, ap, ◌∙◌, ◌+◌, ◌++◌, sym, ◌∷◌, append-nil, ◌&&◌, nat_le, min, Bool, false, subst, inl, inr, [], Result, Ok, Err, arith, append_assoc}
+use Rattle.std.specs.Prelude.{IfNone, if◌then◌else◌, ◌≤◌, ◌↔◌, is_some, ◌==◌, nat_lt}
 use Rattle.std.proofs.lemmas.List.Elements.{All-nil}
 use Rattle.std.specs.Option.{option_map}
-use Rattle.std.specs.Prelude.{◌==◌, ◌≤◌, nat_lt}
 use Rattle.std.proofs.Math.Nat.{min-le_right}
-use Rattle.std.proofs.lemmas.Bool.{lt-ltb, le-leb}
-use Rattle.volume_store.proofs.Taking.{both_true}
-use Rattle.qic_base.specs.Cartridge.{Cartridge}
-use Rattle.qic_base.specs.declared.sink.SinkFailed.{SinkFailed}
-use Rattle.qic_base.specs.Sink as sinks
-use Rattle.qic_base.specs.Source as sources
-use Rattle.qic_base.specs.Step.{Step as TapeStep, effects}
-use Rattle.qic_base.specs.Tape as tapes
-use Rattle.qic_base.proofs.Steps.{Done-nothing, Done-Done, Done-Broke, effects-append}
-use Rattle.qic_base.specs.Stop.{Torn}
-use Rattle.qic_base.proofs.Writing.{TakesBoth}
-use Rattle.acts.specs.Acts.{Act, steps_of, text_of, next_steps, Failing, TapeFails, SourceFails, SinkFails, Went, Cut, TapeCut, SourceCut, SinkCut}
-use Rattle.acts.specs.Around.{no_sink, reading}
-use Rattle.acts.proofs.Joins.{steps_of-append, text_of-append, broke_behind}
-use Rattle.cartridge_spec.specs.HeaderAndTable.{TableIs, table_cells, last_segment}
-use Rattle.cartridge_spec.specs.Says.{Data, LostSectors, AsRead, ByCode, TableSays}
-use Rattle.cartridge_spec.proofs.TableSayings.{table_says_is_function}
-use Rattle.cartridge_spec.specs.Mounting as mounting
+use Rattle.std.proofs.lemmas.Bool.{le-leb, lt-ltb}
+use Rattle.cartridge_laws.proofs.MountOnce.{one_table}
+use Rattle.cartridge_laws.proofs.MountSettled.{settled_keeps_table}
+use Rattle.cartridge_laws.proofs.TableSayings.{table_says_is_function}
+use Rattle.cartridge_spec.specs.Appending.{table_writes}
+use Rattle.cartridge_spec.specs.HeaderAndTable.{TableIs, last_segment, table_cells}
 use Rattle.cartridge_spec.specs.Mounting.{settled}
-use Rattle.cartridge_spec.specs.Table.{Entry}
+use Rattle.cartridge_spec.specs.Says.{Data, LostSectors, AsRead, ByCode, TableSays}
+use Rattle.cartridge_spec.specs.Settling.{settling_steps}
+use Rattle.cartridge_spec.specs.Table.{Entry, slot_sector}
+use Rattle.command_laws.proofs.CommandAdded.{status_by, input_texts, replied_text, status_fits}
+use Rattle.command_laws.proofs.CommandEndings.{nothing_front}
+use Rattle.command_laws.proofs.CommandEnds.{is_some-map}
+use Rattle.command_laws.proofs.CommandOpened.{quiet}
+use Rattle.command_laws.proofs.CommandPlainLaws.{plain_is_function}
+use Rattle.command_laws.proofs.CommandTold.{input_of, input_told}
+use Rattle.command_laws.proofs.StoreTaking.{both_true}
+use Rattle.command_spec.specs.Append.{Kept, kept_on, Taking, Fits, TooLong, TooShort, entry_acts, silently, taking, room_in, input_writes, append_acts, append_status, Appends, bytes_taken, entry_for, table_with, AppendOutcome}
+use Rattle.command_spec.specs.Lines.{reply_behind, appended_line}
+use Rattle.command_spec.specs.Machine.{CommandPrints, FrontPrints}
+use Rattle.command_spec.specs.Outcome.{CommandOutcome, refused, refused_behind}
+use Rattle.command_spec.specs.Runs.{NamesFault, may_come_from, InputLeft, CommandEnds, IsOfBytes, IsCutOff}
+use Rattle.command_spec.specs.declared.status.Status.{Status}
 use Rattle.drive_spec.specs.Deck.{is_protected}
 use Rattle.drive_states.specs.Unit.{UnitView}
-use Rattle.mount_laws.specs.Settling.{settling_steps}
-use Rattle.mount_laws.proofs.Mounting.{one_table}
-use Rattle.mount_laws.proofs.Settled.{settled_keeps_table}
-use Rattle.tape_script.specs.declared.words.Words.TheVariants as words
-use Rattle.volume_input.specs.Input.{input_acts}
-use Rattle.volume_input.proofs.ActLaws.{input_prints_nothing}
-use Rattle.volume_store.proofs.Copies.{tells_two}
-use Rattle.volume_store.specs.declared.appended.Appended.{Appended}
-use Rattle.volume_store.specs.Mounting.{StoreView}
-use Rattle.volume_store.specs.Appending.{Taking, Fits, TooLong, TooShort, taking, bytes_taken, Kept, room_in, free_in, has_promised_room, most_written, input_writes, entry_for, entry_acts, append_acts, table_with, silently, kept_by, AppendRan, HasAppended, TableRefused, AppendCut, AppendEnds}
-use Rattle.volume_store.specs.declared.fault.StoreFault.{StoreFault}
-use Rattle.volume_store.specs.declared.fault.StoreFault.TheVariants as fault
-use Rattle.tape_cmd.specs.declared.status.Status.{Status}
-use Rattle.tape_cmd.specs.declared.status.Status.TheVariants as status
-use Rattle.tape_cmd.specs.Append.{Appends, AppendOutcome, append_status, kept_on}
-use Rattle.tape_cmd.specs.Lines.{appended_line, reply_behind}
-use Rattle.tape_cmd.specs.Opening.{IsOpened, HasOpened, IsUnlocked, WritableEnds, is_opening, store_status}
-use Rattle.tape_cmd.specs.Outcome.{CommandOutcome, refused, refused_behind, first_steps}
-use Rattle.tape_cmd.specs.Runs.{CommandEnds, InputLeft, IsOfBytes, IsCutOff, NamesFault, may_come_from}
-use Rattle.tape_cmd.specs.Machine.{CommandPrints, FrontPrints}
-use Rattle.append_plan.specs.Between.{table_writes}
-use Rattle.cartridge_spec.specs.Slots.{slot_sector}
-use Rattle.tape_cmd.specs.Writing.{printed_status}
-use Rattle.tape_cmd.proofs.PlainLaws.{plain_is_function}
-use Rattle.tape_cmd.proofs.Endings.{told_map, nothing_front}
-use Rattle.tape_cmd.proofs.Ends.{is_some-map}
+use Rattle.qic_base.proofs.Joins.{steps_of-append, text_of-append, broke_behind}
+use Rattle.qic_base.proofs.Steps.{Done-nothing, Done-Done, Done-Broke, effects-append}
+use Rattle.qic_base.proofs.Writing.{TakesBoth}
+use Rattle.qic_base.specs.Acts.{steps_of, Act, text_of, next_steps, Failing, TapeFails, SourceFails, SinkFails, Went, Cut, TapeCut, SourceCut, SinkCut, no_sink, reading}
+use Rattle.qic_base.specs.Cartridge.{Cartridge}
+use Rattle.qic_base.specs.Step.{Step as TapeStep, effects}
+use Rattle.qic_base.specs.Stop.{Torn}
+use Rattle.qic_base.specs.declared.sink.SinkFailed.{SinkFailed}
+use Rattle.tape_cmd.proofs.Endings.{told_map}
 use Rattle.tape_cmd.proofs.Mounted.{Settles, told_both, locked_is, unlocked_refused_is, writable_begins}
-use Rattle.tape_cmd.proofs.Opened.{opening_cut, IsKnown, quiet, outside, went_behind, settled_told, opened_known, known_before, found_locked, never_both, unlocked}
-use Rattle.tape_cmd.proofs.Told.{input_of, input_told}
+use Rattle.tape_cmd.proofs.Opened.{opening_cut, IsKnown, outside, went_behind, settled_told, opened_known, known_before, found_locked, never_both, unlocked}
+use Rattle.tape_cmd.specs.Opening.{IsOpened, is_opening, HasOpened, IsUnlocked, WritableEnds, store_status}
+use Rattle.tape_cmd.specs.Outcome.{first_steps}
+use Rattle.tape_cmd.specs.Writing.{printed_status}
+use Rattle.volume_store.proofs.Copies.{tells_two}
+use Rattle.volume_store.specs.Appending.{kept_by, AppendRan, HasAppended, TableRefused, AppendCut, AppendEnds}
+use Rattle.volume_store.specs.Mounting.{StoreView}
+use Rattle.volume_store.specs.declared.appended.Appended.{Appended}
+use Rattle.volume_store.specs.declared.fault.StoreFault.{StoreFault}
+use Rattle.command_spec.specs.declared.words.Words.TheVariants as words
+use Rattle.command_spec.specs.declared.status.Status.TheVariants as status
+use Rattle.qic_base.specs.Sink as sinks
+use Rattle.qic_base.specs.Source as sources
+use Rattle.qic_base.specs.Tape as tapes
+use Rattle.cartridge_spec.specs.Mounting as mounting
+use Rattle.volume_store.specs.declared.fault.StoreFault.TheVariants as fault
 
 -- ---- the input
 
@@ -86,15 +85,6 @@ same_kept c store steps is table settling last reads settles =
     ∙ ap (λ (ss : List TapeStep). goes_by store (last_segment c) table ss) (settles ∙ ap (λ (area : List (List ℕ)). settling_steps area (settled is.table c)) one)
     ∙ ap (λ (area : List (List ℕ)). goes_by store (last_segment c) area (settling_steps is.table (settled is.table c))) one
 
--- ---- the acts
-
-input_texts : (kept : Kept) (promised : Option ℕ) (input : List ℕ) → text_of (input_writes kept promised input) ≡ []
-input_texts kept promised input = by_room (has_promised_room (room_in kept) promised)
-  where
-    by_room : (b : Bool) → text_of (if b then input_acts kept.words (free_in kept) (most_written (room_in kept) promised) (is_some promised) input else []) ≡ []
-    by_room true = input_prints_nothing kept.words (free_in kept) (most_written (room_in kept) promised) (is_some promised) input
-    by_room false = refl
-
 entry_steps : (kept : Kept) (name : List ℕ) (date : ℕ) (reply : Entry → List ℕ) (became : Taking) → steps_of (entry_acts kept name date silently became) ≡ steps_of (entry_acts kept name date reply became)
 entry_steps kept name date reply (Fits bytes) = refl
 entry_steps kept name date reply (TooLong need have) = refl
@@ -111,33 +101,12 @@ replied_steps kept name date reply input =
     ∙ ap (λ (ss : List TapeStep). steps_of ws ++ ss) (entry_steps kept name date reply became)
     ∙ sym (steps_of-append ws (entry_acts kept name date reply became)))
 
--- and is the whole text
-pub replied_text : (kept : Kept) (name : List ℕ) (date : ℕ) (reply : Entry → List ℕ) (input bytes : List ℕ) → taking (room_in kept) None input ≡ Fits bytes →
-    text_of (append_acts kept name date None reply input) ≡ reply (entry_for kept name date bytes)
-replied_text kept name date reply input bytes took =
-    let ws : List Act = input_writes kept None input in
-    text_of-append ws (entry_acts kept name date reply (taking (room_in kept) None input))
-    ∙ ap (λ (text : List ℕ). text ++ text_of (entry_acts kept name date reply (taking (room_in kept) None input))) (input_texts kept None input)
-    ∙ ap (λ (became : Taking). text_of (entry_acts kept name date reply became)) took
-    ∙ append-nil (reply (entry_for kept name date bytes))
-
 -- without one there is none
 silent_text : (kept : Kept) (name : List ℕ) (date : ℕ) (reply : Entry → List ℕ) (input : List ℕ) (need have : ℕ) → taking (room_in kept) None input ≡ TooLong need have →
     append_acts kept name date None reply input ≡ quiet kept.settling ∷ input_writes kept None input
 silent_text kept name date reply input need have took =
     ap (λ (acts : List Act). quiet kept.settling ∷ (input_writes kept None input ++ acts)) (ap (λ (became : Taking). entry_acts kept name date reply became) took)
     ∙ ap (λ (acts : List Act). quiet kept.settling ∷ acts) (append-nil (input_writes kept None input))
-
--- ---- the answer
-
-status_by : (flag : Bool) (have : ℕ) (input : List ℕ) (became : Taking) → (if flag then Fits input else TooLong (min (length input) (have + 1)) have) ≡ became →
-    ((bytes : List ℕ) → became ≡ Fits bytes → (if flag then status.Done else status.Full (min (length input) (have + 1)) have) ≡ status.Done)
-    × ((need most : ℕ) → became ≡ TooLong need most → (if flag then status.Done else status.Full (min (length input) (have + 1)) have) ≡ status.Full need most)
-status_by true have input became is = ((λ bytes fits. refl), (λ need most long. cc))
-status_by false have input became is = ((λ bytes fits. cc), (λ need most long. cc))
-
-pub status_fits : (have : ℕ) (input bytes : List ℕ) → taking have None input ≡ Fits bytes → append_status have input ≡ status.Done
-status_fits have input bytes took = (status_by (nat_le 1 have && nat_le (length input) have) have input (taking have None input) refl).0 bytes took
 
 status_full : (have : ℕ) (input : List ℕ) (need most : ℕ) → taking have None input ≡ TooLong need most → append_status have input ≡ status.Full need most
 status_full have input need most took = (status_by (nat_le 1 have && nat_le (length input) have) have input (taking have None input) refl).1 need most took

@@ -1,125 +1,36 @@
 -- The ways in which a command ends that reads no input: refused, cut off, or with one text printed once all is done.
-use Rattle.std.proofs.Common.{◌≡◌, ◌≢◌, ℕ, Bool, true, false, List, [], ◌∷◌, ◌++◌, Option, Some, None, IfSome, Result, Ok, Err, refl, sym, ap, ◌∙◌, subst, inl, inr, arith, append_assoc, append-nil}
+use Rattle.std.proofs.Common.{◌≡◌, false, List, [], ◌∷◌, ℕ, None, refl, Option, Some, IfSome, ◌≢◌, true, ◌++◌, Result, Ok, Err, sym, subst, inl, inr, arith, append-nil, Bool, ap}
 use Rattle.std.specs.Option.{option_map}
-use Rattle.qic_base.specs.Cartridge.{Cartridge, IsPlace, view_at}
-use Rattle.qic_base.specs.declared.tape.TapeInfo.{TapeInfo}
-use Rattle.qic_base.specs.declared.sink.SinkFailed.{SinkFailed}
-use Rattle.qic_base.specs.Sink as sinks
-use Rattle.qic_base.specs.Step.{Step as TapeStep, SetProtected, Wear, Spoil}
-use Rattle.qic_base.specs.Tape as tapes
-use Rattle.qic_base.specs.Tape.{spoil_answer}
+use Rattle.command_laws.proofs.CommandEndings.{Rules, appends_none, any_input, nothing_front, text_front, none_printed}
+use Rattle.command_laws.proofs.CommandPlainLaws.{plain_is_function}
+use Rattle.command_spec.specs.Defect.{DefectOutcome}
+use Rattle.command_spec.specs.Lines.{protected_line, lost_line, defect_line}
+use Rattle.command_spec.specs.Lose.{LoseOutcome}
+use Rattle.command_spec.specs.Machine.{Yields, CommandPrints}
+use Rattle.command_spec.specs.Outcome.{CommandOutcome, refused, refused_behind, acted, carried_out}
+use Rattle.command_spec.specs.Protect.{ProtectOutcome}
+use Rattle.command_spec.specs.Runs.{InputLeft, IsOfBytes, may_come_from, IsCutOff, EndsBlind}
+use Rattle.command_spec.specs.Traits.{traits_of}
+use Rattle.command_spec.specs.declared.status.Status.{Status}
+use Rattle.command_spec.specs.declared.words.Words.{Words}
+use Rattle.qic_base.proofs.Joins.{broke_first}
 use Rattle.qic_base.proofs.Steps.{Broke-front}
-use Rattle.cartridge_spec.specs.Says.{Mismatch}
-use Rattle.acts.specs.Acts.{Act, next_steps, TapeFails, SinkFails, Went, TapeCut, SinkCut}
-use Rattle.tape_script.specs.declared.words.Words.{Words}
-use Rattle.tape_script.specs.declared.words.Words.TheVariants as words
-use Rattle.tape_cmd.specs.declared.status.Status.{Status}
-use Rattle.tape_cmd.specs.declared.status.Status.TheVariants as status
-use Rattle.tape_cmd.specs.Lines.{protected_line, lost_line, defect_line}
-use Rattle.tape_cmd.specs.Outcome.{CommandOutcome, refused, refused_behind, acted, carried_out, first_steps}
-use Rattle.tape_cmd.specs.Traits.{traits_of}
-use Rattle.tape_cmd.specs.Defect.{DefectOutcome}
-use Rattle.tape_cmd.specs.Lose.{LoseOutcome}
-use Rattle.tape_cmd.specs.Protect.{ProtectOutcome}
-use Rattle.tape_cmd.specs.Machine.{Yields, CommandPrints, FrontPrints, RefusedPrints}
-use Rattle.volume_script.specs.Lines.{end_line}
-use Rattle.tape_cmd.specs.Pulses.{AreLevels}
+use Rattle.qic_base.specs.Acts.{Act, next_steps, TapeFails, SinkFails, Went, TapeCut, SinkCut, no_source, around}
+use Rattle.qic_base.specs.Cartridge.{Cartridge, IsPlace, view_at}
+use Rattle.qic_base.specs.Step.{Step as TapeStep, SetProtected, Wear, Spoil}
+use Rattle.qic_base.specs.Tape.{spoil_answer}
+use Rattle.qic_base.specs.declared.sink.SinkFailed.{SinkFailed}
+use Rattle.qic_base.specs.declared.tape.TapeInfo.{TapeInfo}
+use Rattle.tape_cmd.specs.Outcome.{first_steps}
 use Rattle.tape_cmd.specs.Writing.{printed_status}
-use Rattle.acts.specs.Around.{no_source, around}
-use Rattle.acts.proofs.Joins.{broke_first}
-use Rattle.tape_cmd.specs.Runs.{InputLeft, may_come_from, IsOfBytes, IsCutOff, EndsBlind}
-use Rattle.tape_cmd.proofs.PlainLaws.{plain_is_function}
+use Rattle.command_spec.specs.declared.status.Status.TheVariants as status
+use Rattle.qic_base.specs.Sink as sinks
+use Rattle.qic_base.specs.Tape as tapes
 
 -- ---- commands that read no input
 
 pub record IsBlind (command : Words) : Type 0 where
   pub reads : (traits_of command).reads ≡ false
-
--- what such a command does over what the drive holds, whatever the input
-abbrev pub Rules : Words → Option Cartridge → CommandOutcome → Type 0
-Rules command held outcome = (input : List ℕ) → Yields command held input outcome
-
--- it does over one input what it does over any
-pub any_input : (command : Words) (held : Option Cartridge) (input : List ℕ) (outcome : CommandOutcome) → (traits_of command).reads ≡ false →
-    Yields command held input outcome → Rules command held outcome
-any_input words.Pulses held input outcome blind plain other = absurd (cc)
-any_input (words.Append name date) held input outcome blind plain other = absurd (cc)
-any_input words.Script held input outcome blind plain other = absurd (cc)
-any_input (words.New segments) held input outcome blind plain other = plain
-any_input (words.Defect segment sector) held input outcome blind plain other = plain
-any_input (words.Lose segment sector) held input outcome blind plain other = plain
-any_input (words.Protect on) held input outcome blind plain other = plain
-any_input (words.Format label date) held input outcome blind plain other = plain
-any_input words.Info held input outcome blind plain other = plain
-any_input words.List held input outcome blind plain other = plain
-any_input (words.Restore number) held input outcome blind plain other = plain
-any_input words.Scrub held input outcome blind plain other = plain
-any_input (words.Make seed count) held input outcome blind plain other = plain
-
--- nothing is a front of what each command prints, ..
-pub nothing_front : (command : Words) → FrontPrints command []
-nothing_front (words.New segments) = (_, refl)
-nothing_front (words.Defect segment sector) = (_, refl)
-nothing_front (words.Lose segment sector) = (_, refl)
-nothing_front (words.Protect on) = (_, refl)
-nothing_front (words.Format label date) = (_, (0, (0, refl)))
-nothing_front words.Info = (_, (record { format_date = 0; write_date = 0; segments_per_track = 0; label = []; label_date = 0 }, ([], (0, refl))))
-nothing_front words.List = (_, ([], ([], refl)))
-nothing_front (words.Append name date) = (_, (0, (0, (0, (0, refl)))))
-nothing_front (words.Restore number) = ([], tt)
-nothing_front words.Scrub = (
-  _,
-  (
-    [],
-    (
-      [],
-      (
-        record { segments = 3; mended = 0; unreadable = 3 },
-        record {
-          sayings = Mismatch ∷ Mismatch ∷ Mismatch ∷ [];
-          each = refl;
-          lines = refl;
-          segments = refl;
-          unreadable = refl;
-        },
-      ),
-    ),
-  ),
-)
-nothing_front words.Pulses = (_, (None, ([], refl)))
-nothing_front words.Script = (end_line, ([], refl))
-nothing_front (words.Make seed count) = tt
-
--- .. so is all of it, ..
-pub text_front : (command : Words) (text : List ℕ) → CommandPrints command text → FrontPrints command text
-text_front (words.Make seed count) text prints = tt
-text_front command text prints = ([], subst (CommandPrints command) (sym (append-nil text)) prints)
-
--- .. and a front of a front
-pub shorter_front : (command : Words) (front rest text : List ℕ) → front ++ rest ≡ text → FrontPrints command text → FrontPrints command front
-shorter_front (words.Make seed count) front rest text parts prints = tt
-shorter_front command front rest text parts prints = (
-  rest ++ prints.0,
-  subst (CommandPrints command) (ap (λ (whole : List ℕ). whole ++ prints.0) (sym parts) ∙ append_assoc front rest prints.0) prints.1,
-)
-
--- one that was refused may have printed nothing, ..
-pub none_printed : (command : Words) (answer : Status) → RefusedPrints command answer []
-none_printed (words.Restore number) (status.Lost segment lost) = tt
-none_printed (words.Restore number) (status.Mismatch segment) = tt
-none_printed words.Pulses answer = (None, ([], refl))
-none_printed words.Script (status.ScriptFault line place) = tt
-none_printed words.Script status.TableMismatch = tt
-none_printed (words.Make seed count) answer = inl refl
-none_printed command answer = refl
-
--- .. and what it printed is a front of a text
-pub refused_front : (command : Words) (answer : Status) (text : List ℕ) → RefusedPrints command answer text → FrontPrints command text
-refused_front (words.Restore number) answer text prints = ([], tt)
-refused_front words.Pulses answer text prints = ([], subst AreLevels (sym (append-nil text)) prints)
-refused_front words.Script answer text prints = (end_line, (text, refl))
-refused_front (words.Make seed count) answer text prints = tt
-refused_front command answer text prints = subst (FrontPrints command) (sym prints) (nothing_front command)
 
 -- the first act of an outcome
 abbrev first_of : List Act → Act
@@ -133,11 +44,6 @@ first_act outcome = first_of outcome.acts
 pub none_taken : (answer : Status) (taken : ℕ) → InputLeft answer taken None None
 none_taken (status.ScriptFault line place) taken = (0, refl)
 none_taken answer taken = refl
-
--- a command that reads no input appends none
-pub appends_none : (command : Words) (told : Option (List ℕ)) (input : List ℕ) → (traits_of command).reads ≡ false → IsOfBytes command told input
-appends_none (words.Append name date) told input blind = absurd (cc)
-appends_none command told input blind = λ is. absurd (cc)
 
 -- its rule over what is told, with some input
 over_rules : (held : Option (Option Cartridge)) (command : Words) (outcome : CommandOutcome) → IsBlind command → IfSome held (λ h. Rules command h outcome) →

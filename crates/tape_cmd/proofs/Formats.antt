@@ -9,28 +9,31 @@ use Rattle.qic_base.specs.Step.{Step as TapeStep}
 use Rattle.qic_base.specs.Tape as tapes
 use Rattle.qic_base.proofs.Steps.{Done-Done, Done-Broke}
 use Rattle.cartridge_spec.specs.Shape.{marked_sectors}
-use Rattle.cartridge_spec.specs.Defects.{MarksDefects}
-use Rattle.format_plan.specs.Formatting.{clearing_steps, copy_writes, format_steps, IsFirstDefectInFront, HasNoDefectInFront}
+use Rattle.cartridge_spec.specs.Formatting.{MarksDefects}
+use Rattle.cartridge_spec.specs.Formatting.{clearing_steps, copy_writes, format_steps, IsFirstDefectInFront, HasNoDefectInFront}
 use Rattle.cartridge_spec.specs.Says.{with_parity}
-use Rattle.format_plan.specs.Fresh.{IsFreshArea, IsFreshWith}
-use Rattle.fresh_header.proofs.Front.{first_defect_is_none}
-use Rattle.fresh_header.proofs.Marks.{fresh_area_is_one}
+use Rattle.cartridge_spec.specs.Formatting.{IsFreshArea, IsFreshWith}
+use Rattle.cartridge_laws.proofs.FreshFront.{first_defect_is_none}
+use Rattle.cartridge_laws.proofs.FreshMarks.{fresh_area_is_one}
 use Rattle.drive_states.specs.Unit.{UnitView}
 use Rattle.host_driver.specs.declared.host.Host.{Host}
 use Rattle.formatter.specs.declared.fault.FormatFault.{FormatFault}
 use Rattle.formatter.specs.declared.fault.FormatFault.TheVariants as fault
 use Rattle.formatter.specs.declared.formatting.FormatReport.{FormatReport}
 use Rattle.formatter.specs.Formats.{Formats, HasFormatted}
-use Rattle.tape_script.specs.declared.words.Words.TheVariants.{Format}
-use Rattle.tape_cmd.specs.declared.status.Status.{Status}
-use Rattle.tape_cmd.specs.declared.status.Status.TheVariants as status
-use Rattle.tape_cmd.specs.Lines.{formatted_line}
-use Rattle.tape_cmd.specs.Outcome.{CommandOutcome, refused, first_steps}
-use Rattle.tape_cmd.specs.Format.{cleared, formatted, FormatOutcome, format_status}
+use Rattle.command_spec.specs.declared.words.Words.TheVariants.{Format}
+use Rattle.command_spec.specs.declared.status.Status.{Status}
+use Rattle.command_spec.specs.declared.status.Status.TheVariants as status
+use Rattle.command_spec.specs.Lines.{formatted_line}
+use Rattle.command_spec.specs.Outcome.{CommandOutcome, refused}
+use Rattle.tape_cmd.specs.Outcome.{first_steps}
+use Rattle.command_spec.specs.Format.{cleared, formatted, FormatOutcome}
+use Rattle.tape_cmd.specs.Format.{format_status}
 use Rattle.tape_cmd.specs.Opening.{HasStarted, StartFails}
 use Rattle.tape_cmd.specs.Writing.{printed_status}
-use Rattle.tape_cmd.specs.Runs.{EndsBlind}
-use Rattle.tape_cmd.proofs.Endings.{IsBlind, Rules, printed, turned_down, turned_behind, cut_off, cut_off_first}
+use Rattle.command_spec.specs.Runs.{EndsBlind}
+use Rattle.tape_cmd.proofs.Endings.{IsBlind, printed, turned_down, turned_behind, cut_off, cut_off_first}
+use Rattle.command_laws.proofs.CommandEndings.{Rules}
 use Rattle.tape_cmd.proofs.Hands.{Knows, known_before, told_known, told_known_beside, told_at_start}
 
 -- ---- what is told of the cartridge

@@ -7,7 +7,7 @@ use Rattle.qic_base.specs.Tape as tapes
 use Rattle.qic_base.proofs.Steps.{Done-told}
 use Rattle.drive_states.specs.declared.fault.HandFault.{HandFault}
 use Rattle.drive_states.specs.declared.fault.HandFault.TheVariants.{NoCartridge, BadPlace}
-use Rattle.volume_script.proofs.Places.{place_or_not}
+use Rattle.command_laws.proofs.ScriptPlaces.{place_or_not}
 
 -- what the drive knows since the insertion is what the tape told before it
 pub known_before : {T : Type 0} (t : tapes.Meaning T) (a b : T) (cartridge : Option TapeInfo) → tapes.Done t a b [] →

@@ -6,35 +6,39 @@ use Rattle.qic_base.specs.Sink as sinks
 use Rattle.qic_base.specs.Step.{Step as TapeStep}
 use Rattle.qic_base.specs.Tape as tapes
 use Rattle.qic_base.proofs.Writing.{TakesBoth}
-use Rattle.acts.specs.Acts.{Act, text_of, Failing, TapeFails, SourceFails, SinkFails, Cut}
-use Rattle.acts.specs.Around.{no_source, around}
+use Rattle.qic_base.specs.Acts.{Act, text_of, Failing, TapeFails, SourceFails, SinkFails, Cut}
+use Rattle.qic_base.specs.Acts.{no_source, around}
 use Rattle.cartridge_spec.specs.Mounting as mounting
 use Rattle.cartridge_spec.specs.Mounting.{Mounting}
 use Rattle.cartridge_spec.specs.Table.{Entry}
 use Rattle.drive_states.specs.Unit.{UnitView}
-use Rattle.mount_laws.proofs.Mounting.{mounts_is_function}
-use Rattle.tape_script.specs.Generator.{made_length}
-use Rattle.tape_script.specs.declared.words.Words.TheVariants as words
-use Rattle.volume_store.specs.Appending.{has_promised_room, kept_in, room_in}
+use Rattle.cartridge_laws.proofs.MountOnce.{mounts_is_function}
+use Rattle.command_spec.specs.Generator.{made_length}
+use Rattle.command_spec.specs.declared.words.Words.TheVariants as words
+use Rattle.command_spec.specs.Append.{has_promised_room, kept_in, room_in}
 use Rattle.volume_store.specs.Mounting.{StoreView}
-use Rattle.volume_store.proofs.Taking.{both_true}
+use Rattle.command_laws.proofs.StoreTaking.{both_true}
 use Rattle.made_volumes.specs.declared.fault.MakeFault.{MakeFault}
 use Rattle.made_volumes.specs.declared.fault.MakeFault.TheVariants as fault
-use Rattle.made_volumes.specs.Items.{Item, AppendMade, WearSector, ScrubAll, SumVolume, after_item, making}
-use Rattle.made_volumes.specs.Machine as made
-use Rattle.made_volumes.specs.Machine.{Answer, Makes, made_answer}
-use Rattle.made_volumes.specs.May.{MayDo, MayRun}
+use Rattle.command_spec.specs.Make.{Item, AppendMade, WearSector, ScrubAll, SumVolume, after_item, making}
+use Rattle.command_spec.specs.Make as made
+use Rattle.command_spec.specs.Make.{Answer, Makes, made_answer}
+use Rattle.command_spec.specs.Make.{MayDo, MayRun}
 use Rattle.made_volumes.specs.Runs.{HasRun, MakeEnds, RunCut}
-use Rattle.tape_cmd.specs.declared.status.Status.{Status}
-use Rattle.tape_cmd.specs.declared.status.Status.TheVariants as status
-use Rattle.tape_cmd.specs.Make.{Making, make_status, run_status}
-use Rattle.tape_cmd.specs.Machine.{RefusedPrints}
-use Rattle.tape_cmd.specs.Opening.{Going, Opened, OpenOutcome, WritableOutcome, IsOpened, HasOpened, IsUnlocked, WritableEnds, is_opening}
-use Rattle.tape_cmd.specs.Outcome.{CommandOutcome, first_steps}
-use Rattle.tape_cmd.specs.Runs.{EndsBlind, IsCutOff, Prints, fault_of, may_come_from}
+use Rattle.command_spec.specs.declared.status.Status.{Status}
+use Rattle.command_spec.specs.declared.status.Status.TheVariants as status
+use Rattle.command_spec.specs.Make.{Making, make_status}
+use Rattle.tape_cmd.specs.Make.{run_status}
+use Rattle.command_spec.specs.Machine.{RefusedPrints}
+use Rattle.command_spec.specs.Outcome.{Going, Opened, OpenOutcome, WritableOutcome}
+use Rattle.tape_cmd.specs.Opening.{IsOpened, HasOpened, IsUnlocked, WritableEnds, is_opening}
+use Rattle.command_spec.specs.Outcome.{CommandOutcome}
+use Rattle.tape_cmd.specs.Outcome.{first_steps}
+use Rattle.command_spec.specs.Runs.{EndsBlind, IsCutOff, Prints, fault_of, may_come_from}
 use Rattle.tape_cmd.proofs.Endings.{IsBlind, none_taken, turned_down, cut_off, told_map}
 use Rattle.tape_cmd.proofs.Mounted.{Settles, no_outcome, told_both, locked_is, unlocked_refused_is, writable_begins}
-use Rattle.tape_cmd.proofs.Opened.{quiet, went_behind, cut_behind, settled_told}
+use Rattle.command_laws.proofs.CommandOpened.{quiet}
+use Rattle.tape_cmd.proofs.Opened.{went_behind, cut_behind, settled_told}
 
 -- ---- the answers of a run
 

@@ -12,34 +12,37 @@ use Rattle.qic_base.proofs.Steps.{Done-Done, Done-Broke}
 use Rattle.cartridge_spec.specs.Header.{Header, fault_as}
 use Rattle.cartridge_spec.specs.Table.{Entry}
 use Rattle.cartridge_spec.specs.Mounting as mounting
-use Rattle.mount_laws.proofs.Mounting.{mounts_is_function}
+use Rattle.cartridge_laws.proofs.MountOnce.{mounts_is_function}
 use Rattle.volume_store.specs.declared.fault.StoreFault.{StoreFault}
 use Rattle.volume_store.specs.declared.fault.StoreFault.TheVariants as fault
 use Rattle.cartridge_spec.specs.Header.{fault_as}
 use Rattle.volume_store.specs.Finding.{is_of_mounting, IsForeign, NamesCause}
-use Rattle.volume_store.proofs.Taking.{both_true}
+use Rattle.command_laws.proofs.StoreTaking.{both_true}
 use Rattle.std.proofs.lemmas.Bool.{lt-ltb, ne_eqb}
 use Rattle.std.specs.Prelude.{◌==◌, nat_lt, not}
 use Rattle.volume_store.specs.Mounting.{StoreView, StoreFits, IsSettling, MountRefuses, MountDoes}
 use Rattle.volume_store.specs.Mounting as stores
 use Rattle.drive_states.specs.Unit.{UnitView}
-use Rattle.mount_laws.specs.Settling.{settling_steps, settling_places, block_writes}
+use Rattle.cartridge_spec.specs.Settling.{settling_steps, settling_places, block_writes}
 use Rattle.cartridge_spec.specs.Says.{with_parity}
 use Rattle.std.specs.Prelude.{if◌then◌else◌}
 use Rattle.cartridge_spec.specs.Mounting.{Mounting}
-use Rattle.tape_script.specs.declared.words.Words.{Words}
-use Rattle.tape_script.specs.declared.words.Words.TheVariants as words
-use Rattle.tape_cmd.specs.declared.status.Status.{Status}
-use Rattle.tape_cmd.specs.declared.status.Status.TheVariants as status
-use Rattle.tape_cmd.specs.Lines.{list_text, info_text}
-use Rattle.tape_cmd.specs.Outcome.{CommandOutcome, refused, acted, first_steps}
-use Rattle.tape_cmd.specs.Opening.{Going, Opened, OpenOutcome, WritableOutcome, IsRefusal, RefusesOpening, Printing, Shows, store_status, is_opening, is_refused, StartFails, IsOpened, HasOpened, OpeningEnds, IsUnlocked, WritableEnds}
-use Rattle.tape_cmd.specs.Info.{telling}
-use Rattle.tape_cmd.specs.List.{listing}
-use Rattle.tape_cmd.specs.Machine.{CommandPrints}
+use Rattle.command_spec.specs.declared.words.Words.{Words}
+use Rattle.command_spec.specs.declared.words.Words.TheVariants as words
+use Rattle.command_spec.specs.declared.status.Status.{Status}
+use Rattle.command_spec.specs.declared.status.Status.TheVariants as status
+use Rattle.command_spec.specs.Lines.{list_text, info_text}
+use Rattle.command_spec.specs.Outcome.{CommandOutcome, refused, acted}
+use Rattle.tape_cmd.specs.Outcome.{first_steps}
+use Rattle.command_spec.specs.Outcome.{Going, Opened, OpenOutcome, WritableOutcome, Printing, Shows, is_refused}
+use Rattle.tape_cmd.specs.Opening.{IsRefusal, RefusesOpening, store_status, is_opening, StartFails, IsOpened, HasOpened, OpeningEnds, IsUnlocked, WritableEnds}
+use Rattle.command_spec.specs.Info.{telling}
+use Rattle.command_spec.specs.List.{listing}
+use Rattle.command_spec.specs.Machine.{CommandPrints}
 use Rattle.tape_cmd.specs.Writing.{printed_status}
-use Rattle.tape_cmd.specs.Runs.{EndsBlind, may_come_from}
-use Rattle.tape_cmd.proofs.Endings.{IsBlind, Rules, printed, turned_down, cut_off, told_map}
+use Rattle.command_spec.specs.Runs.{EndsBlind, may_come_from}
+use Rattle.tape_cmd.proofs.Endings.{IsBlind, printed, turned_down, cut_off, told_map}
+use Rattle.command_laws.proofs.CommandEndings.{Rules}
 use Rattle.tape_cmd.proofs.Formats.{Present}
 use Rattle.tape_cmd.proofs.Hands.{Knows, told_known_beside, told_at_start}
 

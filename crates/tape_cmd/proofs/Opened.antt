@@ -1,32 +1,29 @@
 -- How a command goes on that has mounted a cartridge: the settling, and then its acts.
-use Rattle.std.proofs.Common.{◌≡◌, ◌≢◌, ℕ, ◌*◌, ◌-◌, Bool, true, false, List, [], ◌∷◌, ◌++◌, length, Option, Some, None, IfSome, IsSomeAnd, refl, sym, ap, ◌∙◌, subst, arith, append-nil}
+use Rattle.std.proofs.Common.{◌≡◌, ◌-◌, List, [], ◌∷◌, ◌++◌, refl, sym, subst, arith, append-nil, Option, Some, None, IfSome, IsSomeAnd, ap, ◌∙◌, Bool, length, ℕ, ◌*◌, true, false, ◌≢◌}
 use Rattle.std.specs.Option.{option_map}
-use Rattle.qic_base.specs.Cartridge.{Cartridge}
-use Rattle.qic_base.specs.declared.tape.TapeInfo.{TapeInfo}
-use Rattle.qic_base.specs.Sink as sinks
-use Rattle.qic_base.specs.Source as sources
-use Rattle.qic_base.specs.Step.{Step as TapeStep, effects}
-use Rattle.qic_base.specs.Tape as tapes
-use Rattle.qic_base.proofs.Steps.{Broke-front}
-use Rattle.qic_base.proofs.Writing.{TakesBoth}
-use Rattle.acts.specs.Acts.{Act, next_steps, Outside, Failing, TapeCut, Went, Cut}
-use Rattle.acts.proofs.Joins.{went_both, went_then_cut}
+use Rattle.std.specs.Prelude.{◌↔◌}
+use Rattle.cartridge_laws.proofs.MountSettled.{settled_keeps_table}
+use Rattle.cartridge_laws.proofs.MountWhole.{settling_effects}
 use Rattle.cartridge_spec.specs.HeaderAndTable.{last_segment}
 use Rattle.cartridge_spec.specs.Mounting.{settled}
+use Rattle.command_laws.proofs.CommandOpened.{quiet}
 use Rattle.drive_spec.specs.Deck.{is_protected}
 use Rattle.drive_states.specs.Unit.{UnitView}
-use Rattle.mount_laws.proofs.Settled.{settled_keeps_table}
-use Rattle.mount_laws.proofs.Whole.{settling_effects}
-use Rattle.std.specs.Prelude.{◌↔◌}
-use Rattle.volume_store.specs.declared.fault.StoreFault.{StoreFault}
-use Rattle.volume_store.specs.declared.fault.StoreFault.TheVariants as fault
-use Rattle.volume_store.specs.Mounting.{StoreView}
-use Rattle.volume_store.proofs.Copies.{IsLearnt, told_learnt}
+use Rattle.qic_base.proofs.Joins.{went_both, went_then_cut}
+use Rattle.qic_base.proofs.Steps.{Broke-front}
+use Rattle.qic_base.proofs.Writing.{TakesBoth}
+use Rattle.qic_base.specs.Acts.{Outside, Act, next_steps, Failing, TapeCut, Went, Cut}
+use Rattle.qic_base.specs.Cartridge.{Cartridge}
+use Rattle.qic_base.specs.Step.{Step as TapeStep, effects}
+use Rattle.qic_base.specs.declared.tape.TapeInfo.{TapeInfo}
 use Rattle.tape_cmd.specs.Opening.{IsOpened, HasOpened}
-
--- the act of some steps, without a text
-abbrev pub quiet : List TapeStep → Act
-quiet steps = record { steps = steps; text = [] }
+use Rattle.volume_store.proofs.Copies.{IsLearnt, told_learnt}
+use Rattle.volume_store.specs.Mounting.{StoreView}
+use Rattle.volume_store.specs.declared.fault.StoreFault.{StoreFault}
+use Rattle.qic_base.specs.Sink as sinks
+use Rattle.qic_base.specs.Source as sources
+use Rattle.qic_base.specs.Tape as tapes
+use Rattle.volume_store.specs.declared.fault.StoreFault.TheVariants as fault
 
 abbrev pub outside : {T S K : Type 0} → T → S → K → Outside T S K
 outside tape source sink = record { tape = tape; source = source; sink = sink }

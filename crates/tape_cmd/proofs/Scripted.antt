@@ -8,31 +8,35 @@ use Rattle.qic_base.specs.Source as sources
 use Rattle.qic_base.specs.Step.{Step as TapeStep}
 use Rattle.qic_base.specs.Tape as tapes
 use Rattle.qic_base.proofs.Writing.{TakesBoth}
-use Rattle.acts.specs.Acts.{Act, text_of, Failing, TapeFails, SourceFails, SinkFails, Cut}
+use Rattle.qic_base.specs.Acts.{Act, text_of, Failing, TapeFails, SourceFails, SinkFails, Cut}
 use Rattle.cartridge_spec.specs.Mounting as mounting
 use Rattle.cartridge_spec.specs.Mounting.{Mounting}
 use Rattle.drive_states.specs.Unit.{UnitView}
-use Rattle.mount_laws.proofs.Mounting.{mounts_is_function}
-use Rattle.tape_script.specs.declared.words.Words.TheVariants as words
-use Rattle.tape_script.specs.Input.{Item, IsItem, Ending, AtEnd, AtStop, AtFault, IsScript}
-use Rattle.tape_script.proofs.Inputs as inputs
+use Rattle.cartridge_laws.proofs.MountOnce.{mounts_is_function}
+use Rattle.command_spec.specs.declared.words.Words.TheVariants as words
+use Rattle.command_spec.specs.Input.{Item, IsItem, Ending, AtEnd, AtStop, AtFault, IsScript}
+use Rattle.command_laws.proofs.TextInputs as inputs
 use Rattle.volume_script.specs.declared.fault.ScriptFault.{ScriptFault}
 use Rattle.volume_script.specs.declared.fault.ScriptFault.TheVariants as fault
-use Rattle.volume_script.specs.Lines.{end_line}
+use Rattle.command_spec.specs.Script.{end_line}
 use Rattle.volume_script.specs.Runs as runs
-use Rattle.volume_script.specs.Script as scripts
-use Rattle.volume_script.specs.Script.{Answer, AllDone, FaultIn, ScriptDoes, answer_by}
+use Rattle.command_spec.specs.Script as scripts
+use Rattle.command_spec.specs.Script.{Answer, AllDone, FaultIn, ScriptDoes, answer_by}
 use Rattle.volume_store.specs.Mounting.{StoreView}
-use Rattle.tape_cmd.specs.declared.status.Status.{Status}
-use Rattle.tape_cmd.specs.declared.status.Status.TheVariants as status
-use Rattle.tape_cmd.specs.Opening.{Opened, IsOpened, HasOpened, OpeningEnds, is_opening}
-use Rattle.tape_cmd.specs.Outcome.{CommandOutcome, refused, first_steps}
-use Rattle.tape_cmd.specs.Runs.{CommandEnds, InputLeft, IsCutOff, NamesFault, Prints, fault_of, may_come_from}
-use Rattle.tape_cmd.specs.Script.{Scripting, ScriptOutcome, script_status, run_status}
+use Rattle.command_spec.specs.declared.status.Status.{Status}
+use Rattle.command_spec.specs.declared.status.Status.TheVariants as status
+use Rattle.command_spec.specs.Outcome.{Opened}
+use Rattle.tape_cmd.specs.Opening.{IsOpened, HasOpened, OpeningEnds, is_opening}
+use Rattle.command_spec.specs.Outcome.{CommandOutcome, refused}
+use Rattle.tape_cmd.specs.Outcome.{first_steps}
+use Rattle.command_spec.specs.Runs.{CommandEnds, InputLeft, IsCutOff, NamesFault, Prints, fault_of, may_come_from}
+use Rattle.command_spec.specs.Script.{Scripting, ScriptOutcome, script_status}
+use Rattle.tape_cmd.specs.Script.{run_status}
 use Rattle.tape_cmd.proofs.Endings.{told_map}
 use Rattle.tape_cmd.proofs.Mounted.{Settles, no_outcome, begins_is, refused_is}
-use Rattle.tape_cmd.proofs.Opened.{opening_cut, outside, quiet, went_behind, cut_behind, settled_told}
-use Rattle.tape_cmd.proofs.Told.{input_of, input_told}
+use Rattle.tape_cmd.proofs.Opened.{opening_cut, outside, went_behind, cut_behind, settled_told}
+use Rattle.command_laws.proofs.CommandOpened.{quiet}
+use Rattle.command_laws.proofs.CommandTold.{input_of, input_told}
 
 -- ---- the fault of an input
 

@@ -5,32 +5,35 @@ use Rattle.qic_base.specs.Sink as sinks
 use Rattle.qic_base.specs.Step.{Step as TapeStep}
 use Rattle.qic_base.specs.Tape as tapes
 use Rattle.qic_base.proofs.Writing.{TakesBoth}
-use Rattle.acts.specs.Acts.{Act, Failing, TapeFails, SourceFails, SinkFails, Cut}
-use Rattle.acts.specs.Around.{no_source, around}
+use Rattle.qic_base.specs.Acts.{Act, Failing, TapeFails, SourceFails, SinkFails, Cut}
+use Rattle.qic_base.specs.Acts.{no_source, around}
 use Rattle.cartridge_spec.specs.Mounting as mounting
 use Rattle.cartridge_spec.specs.Mounting.{Mounting}
 use Rattle.drive_spec.specs.Deck.{is_protected}
 use Rattle.drive_states.specs.Unit.{UnitView}
-use Rattle.mount_laws.proofs.Mounting.{mounts_is_function}
-use Rattle.scrub_plan.specs.Scrubbing.{Scrubs, counts_of, looked_at}
+use Rattle.cartridge_laws.proofs.MountOnce.{mounts_is_function}
+use Rattle.command_spec.specs.Scrub.{Scrubs, counts_of, looked_at}
 use Rattle.segment_mending.specs.Mending.{HasScrubbed, ScrubCut, reported}
 use Rattle.segment_mending.specs.declared.report.ScrubReport.{ScrubReport}
-use Rattle.tape_script.specs.declared.words.Words.TheVariants as words
+use Rattle.command_spec.specs.declared.words.Words.TheVariants as words
 use Rattle.volume_store.proofs.Copies.{tells_two}
 use Rattle.std.specs.Prelude.{◌↔◌}
 use Rattle.volume_store.specs.declared.fault.StoreFault.{StoreFault}
 use Rattle.volume_store.specs.declared.fault.StoreFault.TheVariants as fault
 use Rattle.volume_store.specs.Mounting.{StoreView}
 use Rattle.volume_store.specs.Scrubbing.{MendEnds}
-use Rattle.tape_cmd.specs.declared.status.Status.{Status}
-use Rattle.tape_cmd.specs.declared.status.Status.TheVariants as status
-use Rattle.tape_cmd.specs.Opening.{Opened, IsOpened, HasOpened, IsUnlocked, WritableEnds, is_opening, store_status}
-use Rattle.tape_cmd.specs.Outcome.{CommandOutcome, first_steps}
-use Rattle.tape_cmd.specs.Scrub.{Mends, ScrubOutcome}
-use Rattle.tape_cmd.specs.Runs.{EndsBlind, IsCutOff, fault_of, may_come_from}
+use Rattle.command_spec.specs.declared.status.Status.{Status}
+use Rattle.command_spec.specs.declared.status.Status.TheVariants as status
+use Rattle.command_spec.specs.Outcome.{Opened}
+use Rattle.tape_cmd.specs.Opening.{IsOpened, HasOpened, IsUnlocked, WritableEnds, is_opening, store_status}
+use Rattle.command_spec.specs.Outcome.{CommandOutcome}
+use Rattle.tape_cmd.specs.Outcome.{first_steps}
+use Rattle.command_spec.specs.Scrub.{Mends, ScrubOutcome}
+use Rattle.command_spec.specs.Runs.{EndsBlind, IsCutOff, fault_of, may_come_from}
 use Rattle.tape_cmd.proofs.Endings.{IsBlind, turned_behind, turned_down, cut_off, told_map}
 use Rattle.tape_cmd.proofs.Mounted.{Settles, no_outcome, told_both, locked_is, unlocked_refused_is, writable_begins}
-use Rattle.tape_cmd.proofs.Opened.{IsKnown, quiet, went_behind, cut_behind, settled_told, opened_known, known_before, found_locked, never_both, unlocked}
+use Rattle.tape_cmd.proofs.Opened.{IsKnown, went_behind, cut_behind, settled_told, opened_known, known_before, found_locked, never_both, unlocked}
+use Rattle.command_laws.proofs.CommandOpened.{quiet}
 
 -- scrubbing begins with the settling
 mends_first : Settles Mends

@@ -6,22 +6,22 @@ use Rattle.qic_base.specs.declared.tape.TapeInfo.{TapeInfo}
 use Rattle.qic_base.specs.Sink as sinks
 use Rattle.qic_base.specs.Source as sources
 use Rattle.qic_base.specs.Tape as tapes
-use Rattle.acts.specs.Acts.{Act, text_of, Outside, Failing, TapeFails, SourceFails, SinkFails, Cut}
+use Rattle.qic_base.specs.Acts.{Act, text_of, Outside, Failing, TapeFails, SourceFails, SinkFails, Cut}
 use Rattle.drive_spec.specs.Record.{Record}
-use Rattle.tape_script.specs.declared.words.Words.TheVariants as words
-use Rattle.tape_script.specs.Input.{IsPulse, Ending, AtEnd, AtStop, AtFault, IsPulses}
-use Rattle.tape_script.proofs.Inputs as inputs
+use Rattle.command_spec.specs.declared.words.Words.TheVariants as words
+use Rattle.command_spec.specs.Input.{IsPulse, Ending, AtEnd, AtStop, AtFault, IsPulses}
+use Rattle.command_laws.proofs.TextInputs as inputs
 use Rattle.tape_pulses.specs.declared.fault.PulseFault.{PulseFault}
 use Rattle.tape_pulses.specs.declared.fault.PulseFault.TheVariants as fault
-use Rattle.tape_pulses.specs.Pulses as pulses
-use Rattle.tape_pulses.specs.Pulses.{PulsesOutcome, Answer, AllSent, ScriptFault, answer_by}
+use Rattle.command_spec.specs.Pulses as pulses
+use Rattle.command_spec.specs.Pulses.{PulsesOutcome, Answer, AllSent, ScriptFault, answer_by}
 use Rattle.tape_pulses.specs.Runs as runs
-use Rattle.tape_pulses.proofs.MachineLaws.{one_outcome}
-use Rattle.tape_cmd.specs.declared.status.Status.{Status}
-use Rattle.tape_cmd.specs.declared.status.Status.TheVariants as status
-use Rattle.tape_cmd.specs.Outcome.{CommandOutcome}
-use Rattle.tape_cmd.specs.Pulses.{sent_status, sent, info_of, SentOutcome, AreLevels}
-use Rattle.tape_cmd.specs.Runs.{InputLeft, fault_of, may_come_from, NamesFault, IsOfBytes, IsCutOff, CommandEnds}
+use Rattle.command_laws.proofs.PulseMachineLaws.{one_outcome}
+use Rattle.command_spec.specs.declared.status.Status.{Status}
+use Rattle.command_spec.specs.declared.status.Status.TheVariants as status
+use Rattle.command_spec.specs.Outcome.{CommandOutcome}
+use Rattle.command_spec.specs.Pulses.{sent_status, sent, info_of, SentOutcome, AreLevels}
+use Rattle.command_spec.specs.Runs.{InputLeft, fault_of, may_come_from, NamesFault, IsOfBytes, IsCutOff, CommandEnds}
 
 -- ---- the fault of an input
 

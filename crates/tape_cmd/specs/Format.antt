@@ -1,35 +1,8 @@
 -- The plain machine of `format` (this project's own).
-use Rattle.std.specs.Prelude.{◌≡◌, ◌⊎◌, ℕ, ◌*◌, true, false, List, Option, Some, None}
-use Rattle.qic_base.specs.Cartridge.{Cartridge}
-use Rattle.cartridge_spec.specs.Shape.{marked_sectors}
-use Rattle.format_plan.specs.Formatting.{clearing_steps, format_steps, IsFirstDefectInFront, HasNoDefectInFront}
-use Rattle.format_plan.specs.Fresh.{IsFreshWith}
+use Rattle.command_spec.specs.declared.status.Status.{Status}
 use Rattle.formatter.specs.declared.fault.FormatFault.{FormatFault}
 use Rattle.formatter.specs.declared.fault.FormatFault.TheVariants as fault
-use Rattle.tape_cmd.specs.declared.status.Status.{Status}
-use Rattle.tape_cmd.specs.declared.status.Status.TheVariants as status
-use Rattle.tape_cmd.specs.Lines.{formatted_line}
-use Rattle.tape_cmd.specs.Outcome.{CommandOutcome, refused, refused_behind, acted}
-
--- the segments were formatted, and a segment in front has a defect
-abbrev pub cleared : (n segment : ℕ) → CommandOutcome
-cleared n segment = refused_behind (clearing_steps n) (status.DefectInFront segment)
-
--- all was formatted, and the header copies have these data, with the words of this map
-abbrev pub formatted : (n : ℕ) → (words : List ℕ) → (area : List (List ℕ)) → CommandOutcome
-formatted n words area = acted (format_steps n area) (formatted_line (28 * n) (marked_sectors words))
-
--- formatting with this label and this date word: the map marks just the cartridge's defects, of which none may lie in
--- the segments 0 to 2
-abbrev pub FormatOutcome : (label : List ℕ) → (date : ℕ) → Option Cartridge → CommandOutcome → Type 0
-FormatOutcome label date None outcome = outcome ≡ refused status.NoCartridge
-FormatOutcome label date (Some c) outcome =
-    ((c.info.protected ≡ true) × (outcome ≡ refused status.Protected))
-    ⊎ ((c.info.protected ≡ false)
-    × ((segment : ℕ) × IsFirstDefectInFront c segment × (outcome ≡ cleared c.info.segments_per_track segment)))
-    ⊎ ((c.info.protected ≡ false) × HasNoDefectInFront c
-    × ((words : List ℕ) × ((area : List (List ℕ)) × IsFreshWith c label date words area
-    × (outcome ≡ formatted c.info.segments_per_track words area))))
+use Rattle.command_spec.specs.declared.status.Status.TheVariants as status
 
 -- the answer that a fault of the formatting makes
 abbrev pub format_status : FormatFault → Status

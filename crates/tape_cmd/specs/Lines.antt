@@ -1,46 +1,9 @@
 -- The lines that the commands print, and those that a status prints (this project's own).
-use Rattle.std.specs.Prelude.{ℕ, ◌*◌, Bool, true, false, List, [], ◌++◌, codes, decimal}
+use Rattle.std.specs.Prelude.{ℕ, List, codes, [], ◌++◌, decimal}
+use Rattle.command_spec.specs.declared.status.Status.{Status}
 use Rattle.qic_base.specs.declared.foreign.ForeignField.{ForeignField}
 use Rattle.qic_base.specs.declared.foreign.ForeignField.TheVariants.{FormatCode, FirstHeader, SecondHeader, FirstData, LastData, SegmentsPerTrack, Tracks, TrackMaximum, SectorMaximum, Map, Slot, Range}
-use Rattle.cartridge_spec.specs.Shape.{marked_sectors}
-use Rattle.cartridge_spec.specs.Header.{Header}
-use Rattle.tape_script.specs.Text.{date_text, name_text}
--- those that scripts print, too
-unfoldable pub use Rattle.volume_lines.specs.Lines.{number_line, place_line, appended_line, list_text}
-pub use Rattle.volume_lines.specs.Lines.{lost_line, reply_behind, count_line}
-use Rattle.tape_cmd.specs.declared.status.Status.{Status}
-use Rattle.tape_cmd.specs.declared.status.Status.TheVariants as status
-
--- ---- commands
-
-abbrev pub blank_line : ℕ → List ℕ
-blank_line segments = number_line (codes "blank") segments
-
-abbrev pub defect_line : (segment sector : ℕ) → List ℕ
-defect_line segment sector = place_line (codes "defect") segment sector
-
--- how many segments were formatted, and how many sectors are bad
-abbrev pub formatted_line : (segments bad : ℕ) → List ℕ
-formatted_line segments bad = place_line (codes "formatted") segments bad
-
-abbrev pub protected_line : Bool → List ℕ
-protected_line true = codes "protected on\n"
-protected_line false = codes "protected off\n"
-
--- the first lines of `info`: the label, and when the cartridge was formatted
-unfoldable pub label_lines : Header → List ℕ
-label_lines header =
-    codes "label " ++ name_text header.label ++ codes "\n" ++ codes "formatted " ++ date_text header.format_date ++ codes "\n"
-
--- its last lines: how many segments, bad sectors and volumes there are
-unfoldable pub count_lines : (segments bad volumes : ℕ) → List ℕ
-count_lines segments bad volumes =
-    codes "segments " ++ decimal segments ++ codes "\n" ++ codes "bad sectors " ++ decimal bad ++ codes "\n"
-    ++ codes "volumes " ++ decimal volumes ++ codes "\n"
-
--- what `info` prints, by the header, the words of the map and the number of volumes
-abbrev pub info_text : Header → (words : List ℕ) → (volumes : ℕ) → List ℕ
-info_text header words volumes = label_lines header ++ count_lines (28 * header.segments_per_track) (marked_sectors words) volumes
+use Rattle.command_spec.specs.declared.status.Status.TheVariants as status
 
 -- ---- statuses
 

@@ -1,57 +1,22 @@
 -- How the opening of a cartridge ends: refused, or with its table settled and what was found (this project's own).
-use Rattle.std.specs.Prelude.{◌≡◌, ◌⊎◌, ℕ, ◌&&◌, ◌==◌, nat_lt, Bool, true, false, not, List, [], Option, Some, None, IfSome, IsSomeAnd, Result, Ok, Err}
-use Rattle.qic_base.specs.Cartridge.{Cartridge}
-use Rattle.qic_base.specs.declared.foreign.ForeignField.{ForeignField}
-use Rattle.qic_base.specs.declared.foreign.ForeignField.TheVariants.{FormatCode, FirstHeader, SecondHeader, FirstData, LastData, SegmentsPerTrack, Tracks, TrackMaximum, SectorMaximum, Map, Slot, Range}
-use Rattle.qic_base.specs.Step.{Step}
-use Rattle.qic_base.specs.Tape.{Meaning, Done, Broke, Tells}
-use Rattle.cartridge_spec.specs.Header.{Header, HeaderFault}
-use Rattle.cartridge_spec.specs.Table.{Entry}
+use Rattle.std.specs.Prelude.{◌≡◌, Option, Some, None, ◌&&◌, ◌==◌, nat_lt, Bool, true, false, [], ◌⊎◌, IfSome, Result, Ok, Err, ℕ, List, IsSomeAnd}
 use Rattle.cartridge_spec.specs.Mounting.{Mounting, Mounts}
-use Rattle.cartridge_spec.specs.Mounting as mounting
-use Rattle.mount_laws.specs.Settling.{settling_steps}
+use Rattle.cartridge_spec.specs.Settling.{settling_steps}
+use Rattle.command_spec.specs.Outcome.{foreign, is_refused}
+use Rattle.command_spec.specs.declared.status.Status.{Status}
 use Rattle.drive_states.specs.Unit.{UnitView}
-use Rattle.host_driver.specs.declared.host.Host.{Host}
 use Rattle.host_driver.specs.Calls.{IsReady}
 use Rattle.host_driver.specs.Fits.{AgreesWithTape}
 use Rattle.host_driver.specs.Starts.{KnowsTold}
-use Rattle.volume_store.specs.declared.fault.StoreFault.{StoreFault}
-use Rattle.volume_store.specs.declared.fault.StoreFault.TheVariants as fault
+use Rattle.host_driver.specs.declared.host.Host.{Host}
+use Rattle.qic_base.specs.Cartridge.{Cartridge}
+use Rattle.qic_base.specs.Step.{Step}
+use Rattle.qic_base.specs.Tape.{Meaning, Done, Broke, Tells}
 use Rattle.volume_store.specs.Mounting.{StoreView, StoreFits, IsSettling}
-use Rattle.tape_cmd.specs.declared.status.Status.{Status}
-use Rattle.tape_cmd.specs.declared.status.Status.TheVariants as status
-use Rattle.acts.specs.Acts.{Act}
-use Rattle.tape_cmd.specs.Outcome.{CommandOutcome, refused, acted}
-
--- ---- the plain machine
-
--- a fault of the header or of the table's slots, as an answer
-abbrev pub foreign : HeaderFault → Status
-foreign fault = status.Foreign fault.field fault.value
-
--- what a command does on a cartridge that is mounted with this header, these words, these data of the table and these volumes
-abbrev pub Going : Type 1
-Going = Cartridge → Header → (words : List ℕ) → (table : List (List ℕ)) → List Entry → CommandOutcome → Type 0
-
--- what it does by what the mounting gives
-abbrev pub Opened : Going → Cartridge → Mounting → CommandOutcome → Type 0
-Opened goes c mounting.NotFormatted outcome = outcome ≡ refused status.NotFormatted
-Opened goes c (mounting.Foreign fault) outcome = outcome ≡ refused (foreign fault)
-Opened goes c (mounting.TableLost lost) outcome = outcome ≡ refused (status.Lost 2 lost)
-Opened goes c mounting.TableMismatch outcome = outcome ≡ refused status.TableMismatch
-Opened goes c (mounting.Mounted header words table entries) outcome = goes c header words table entries outcome
-
--- and by what the drive holds
-abbrev pub OpenOutcome : Going → Option Cartridge → CommandOutcome → Type 0
-OpenOutcome goes None outcome = outcome ≡ refused status.NoCartridge
-OpenOutcome goes (Some c) outcome = (m : Mounting) × Mounts c m × Opened goes c m outcome
-
--- what a command does that writes on the cartridge: a protected one is refused, whether it mounts or not
-abbrev pub WritableOutcome : Going → Option Cartridge → CommandOutcome → Type 0
-WritableOutcome goes None outcome = outcome ≡ refused status.NoCartridge
-WritableOutcome goes (Some c) outcome =
-    ((c.info.protected ≡ true) × (outcome ≡ refused status.Protected))
-    ⊎ ((c.info.protected ≡ false) × OpenOutcome goes (Some c) outcome)
+use Rattle.volume_store.specs.declared.fault.StoreFault.{StoreFault}
+use Rattle.cartridge_spec.specs.Mounting as mounting
+use Rattle.command_spec.specs.declared.status.Status.TheVariants as status
+use Rattle.volume_store.specs.declared.fault.StoreFault.TheVariants as fault
 
 -- what the mounting gives is refused so
 abbrev pub IsRefusal : Mounting → Status → Type 0
@@ -65,18 +30,6 @@ IsRefusal (mounting.Mounted header words table entries) why = ⊥
 abbrev pub RefusesOpening : Option Cartridge → Status → Type 0
 RefusesOpening None why = why ≡ status.NoCartridge
 RefusesOpening (Some c) why = (m : Mounting) × Mounts c m × IsRefusal m why
-
--- the act with which each begins: the table is settled
-abbrev pub settling_act : (table : List (List ℕ)) → Cartridge → Act
-settling_act table c = record { steps = settling_steps table c; text = [] }
-
--- what is printed of a header, the words of its map and the volumes
-abbrev pub Printing : Type 0
-Printing = Header → (words : List ℕ) → List Entry → List ℕ
-
--- a command that prints this once the cartridge is open
-abbrev pub Shows : Printing → Going
-Shows prints c header words table entries outcome = outcome ≡ acted (settling_steps table c) (prints header words entries)
 
 -- ---- how the call ended
 
@@ -95,22 +48,6 @@ store_status fault.Source = status.SourceFault
 store_status fault.Sink = status.SinkFault
 store_status (fault.Short promised read) = status.TapeFault
 store_status fault.Tape = status.TapeFault
-
--- A drive that reports some number of segments per track refuses such a value of this field. Two fields go by that number, so that
--- each value of theirs is refused by some; of the map the value is a segment in front, of the table a slot's number.
-abbrev pub is_refused : ForeignField → (value : ℕ) → Bool
-is_refused FormatCode value = not (value == 2)
-is_refused FirstHeader value = not (value == 0)
-is_refused SecondHeader value = not (value == 1)
-is_refused FirstData value = not (value == 2)
-is_refused LastData value = true
-is_refused SegmentsPerTrack value = true
-is_refused Tracks value = not (value == 28)
-is_refused TrackMaximum value = not (value == 149)
-is_refused SectorMaximum value = not (value == 128)
-is_refused Map value = nat_lt value 3
-is_refused Slot value = nat_lt value 232
-is_refused Range value = nat_lt value 232
 
 -- an answer to what an opening finds
 abbrev pub is_opening : Status → Bool

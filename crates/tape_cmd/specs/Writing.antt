@@ -1,7 +1,7 @@
 -- How a command ends that was to write its text (this project's own).
 use Rattle.std.specs.Prelude.{Result, Ok, Err}
-use Rattle.tape_cmd.specs.declared.status.Status.{Status}
-use Rattle.tape_cmd.specs.declared.status.Status.TheVariants as status
+use Rattle.command_spec.specs.declared.status.Status.{Status}
+use Rattle.command_spec.specs.declared.status.Status.TheVariants as status
 
 -- it was written, or a fault of the sink broke it off
 abbrev pub printed_status : {A E : Type 0} → Result A E → Status

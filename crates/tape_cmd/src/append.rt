@@ -1,9 +1,9 @@
 //! A volume appended to a cartridge.
 
 ghost use Rattle.std.specs.Prelude.{◌<◌, ◌^◌};
-ghost use Rattle.format_plan.specs.Fresh.{IsLabel};
-ghost use Rattle.tape_script.specs.declared.words.Words.TheVariants.{Append};
-ghost use Rattle.tape_cmd.specs.Runs.{CommandEnds};
+ghost use Rattle.cartridge_spec.specs.Formatting.{IsLabel};
+ghost use Rattle.command_spec.specs.declared.words.Words.TheVariants.{Append};
+ghost use Rattle.command_spec.specs.Runs.{CommandEnds};
 
 use crate::Status;
 use crate::lines::printed;

@@ -1,8 +1,8 @@
 ghost use Rattle.std.specs.Prelude.{◌≡◌, ◌≢◌, ◌⊎◌, ℕ, List, true, false, map, string_bytes};
-ghost use Rattle.tape_cmd.specs.Machine.{HasValues, Spells, ReadsCommand};
-ghost use Rattle.tape_cmd.specs.Promises.{Promises};
-ghost use Rattle.tape_cmd.specs.Runs.{CommandEnds, EndsBlind};
-ghost use Rattle.tape_cmd.specs.Traits.{traits_of};
+ghost use Rattle.command_spec.specs.Machine.{HasValues, Spells, ReadsCommand};
+ghost use Rattle.command_spec.specs.Promises.{Promises};
+ghost use Rattle.command_spec.specs.Runs.{CommandEnds, EndsBlind};
+ghost use Rattle.command_spec.specs.Traits.{traits_of};
 
 use crate::Status;
 use crate::append::append;
@@ -24,7 +24,7 @@ use drive_states::Unit;
 use qic_base::{NoMemory, Sink, Source, Tape};
 use segment_io::Workspace;
 use std::alloc::Global;
-use tape_script::{BadWords, Words};
+use tape_script::{BadWords, Words, read_words};
 use volume_table::Table;
 
 fn takes_memory(command: &Words) -> bool
@@ -131,7 +131,7 @@ fn carry_out<T: Tape, S: Source, K: Sink>(
 fn read_command(words: &Vec<String>) -> Option<Words>
     ensures { ReadsCommand (map string_bytes words.now.items) result }
 {
-    match Words::read(words) {
+    match read_words(words) {
         Ok(command) => Some(command),
         Err(BadWords) => None,
     }

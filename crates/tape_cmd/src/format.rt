@@ -1,9 +1,9 @@
 //! A cartridge formatted.
 
 ghost use Rattle.std.specs.Prelude.{◌≡◌};
-ghost use Rattle.tape_script.specs.declared.words.Words.TheVariants.{Format};
+ghost use Rattle.command_spec.specs.declared.words.Words.TheVariants.{Format};
 ghost use Rattle.tape_cmd.specs.Format.{format_status};
-ghost use Rattle.tape_cmd.specs.Runs.{EndsBlind};
+ghost use Rattle.command_spec.specs.Runs.{EndsBlind};
 
 use crate::Status;
 use crate::lines::printed;

@@ -1,11 +1,11 @@
 //! What the header of a cartridge tells.
 
 ghost use Rattle.std.specs.Prelude.{◌≡◌, ◌*◌, ◌++◌};
-ghost use Rattle.tape_script.specs.declared.words.Words.TheVariants.{Info};
+ghost use Rattle.command_spec.specs.declared.words.Words.TheVariants.{Info};
 ghost use Rattle.qic_base.specs.Sink.{Writes};
 ghost use Rattle.header_segments.specs.Header.{header_of};
-ghost use Rattle.tape_cmd.specs.Lines.{label_lines, count_lines};
-ghost use Rattle.tape_cmd.specs.Runs.{EndsBlind};
+ghost use Rattle.command_spec.specs.Lines.{label_lines, count_lines};
+ghost use Rattle.command_spec.specs.Runs.{EndsBlind};
 
 use crate::Status;
 use crate::lines::printed;
@@ -27,7 +27,7 @@ pub fn info<T: Tape, K: Sink>(unit: &mut Unit<T>, room: Room, sink: &mut K) -> S
 }
 
 /// The label, and when the cartridge was formatted.
-#[tactic(auto, unfolding(crate::specs::Lines::label_lines))]
+#[tactic(auto, unfolding(command_spec::specs::Lines::label_lines))]
 fn label_text(header: &Header) -> TextLine
     ensures { result ≡ label_lines (header_of header.now) }
 {
@@ -42,7 +42,7 @@ fn label_text(header: &Header) -> TextLine
 }
 
 /// How many segments, bad sectors and volumes there are.
-#[tactic(auto, unfolding(crate::specs::Lines::count_lines))]
+#[tactic(auto, unfolding(command_spec::specs::Lines::count_lines))]
 fn count_text(segments: u32, bad: u32, volumes: u32) -> TextLine
     ensures { result ≡ count_lines segments bad volumes }
 {

@@ -7,7 +7,6 @@ mod command;
 mod defect;
 mod format;
 mod info;
-pub mod laws;
 mod lines;
 mod list;
 mod lose;
@@ -23,4 +22,5 @@ mod scrub;
 mod status;
 
 pub use command::{run, run_ready};
-pub use status::Status;
+pub use command_spec::Status;
+pub use status::{exit_status, write_status};

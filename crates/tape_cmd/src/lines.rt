@@ -1,7 +1,7 @@
 //! The lines of single commands, and how a command ends that has written its text.
 
 ghost use Rattle.std.specs.Prelude.{◌≡◌};
-ghost use Rattle.tape_cmd.specs.Lines.{protected_line};
+ghost use Rattle.command_spec.specs.Lines.{protected_line};
 ghost use Rattle.tape_cmd.specs.Writing.{printed_status};
 
 use crate::Status;

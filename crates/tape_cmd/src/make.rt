@@ -1,9 +1,9 @@
 //! Generated volumes appended, worn, scrubbed and summed.
 
 ghost use Rattle.std.specs.Prelude.{◌≡◌, ◌≤◌};
-ghost use Rattle.tape_script.specs.declared.words.Words.TheVariants.{Make};
+ghost use Rattle.command_spec.specs.declared.words.Words.TheVariants.{Make};
 ghost use Rattle.tape_cmd.specs.Make.{run_status};
-ghost use Rattle.tape_cmd.specs.Runs.{EndsBlind};
+ghost use Rattle.command_spec.specs.Runs.{EndsBlind};
 
 use crate::Status;
 use crate::opening::open_writable;

@@ -1,8 +1,8 @@
 //! A new cartridge put in.
 
 ghost use Rattle.qic_base.specs.Cartridge.{IsLength};
-ghost use Rattle.tape_script.specs.declared.words.Words.TheVariants.{New};
-ghost use Rattle.tape_cmd.specs.Runs.{EndsBlind};
+ghost use Rattle.command_spec.specs.declared.words.Words.TheVariants.{New};
+ghost use Rattle.command_spec.specs.Runs.{EndsBlind};
 
 use crate::Status;
 use crate::lines::printed;

@@ -1,8 +1,8 @@
 //! The lines of an input carried out, one after the other.
 
 ghost use Rattle.std.specs.Prelude.{◌≡◌};
-ghost use Rattle.tape_script.specs.declared.words.Words.TheVariants.{Script};
-ghost use Rattle.tape_cmd.specs.Runs.{CommandEnds};
+ghost use Rattle.command_spec.specs.declared.words.Words.TheVariants.{Script};
+ghost use Rattle.command_spec.specs.Runs.{CommandEnds};
 ghost use Rattle.tape_cmd.specs.Script.{run_status};
 
 use crate::Status;

@@ -1,7 +1,7 @@
 //! A cartridge scrubbed.
 
-ghost use Rattle.tape_script.specs.declared.words.Words.TheVariants.{Scrub};
-ghost use Rattle.tape_cmd.specs.Runs.{EndsBlind};
+ghost use Rattle.command_spec.specs.declared.words.Words.TheVariants.{Scrub};
+ghost use Rattle.command_spec.specs.Runs.{EndsBlind};
 
 use crate::Status;
 use crate::opening::{open_writable, store_status};

@@ -1,55 +1,13 @@
-//! How a run ended.
+//! The exit status of a run's end, and its line.
 
 ghost use Rattle.std.specs.Prelude.{◌≡◌, ◌+◌, ◌≤◌, ◌++◌, length, decimal};
 ghost use Rattle.qic_base.specs.Sink.{Writes};
 ghost use Rattle.tape_cmd.specs.Lines.{status_code, status_text, plain_text, field_text};
-ghost use Rattle.tape_cmd.specs.declared.status.Status.TheVariants.{Foreign};
+ghost use Rattle.command_spec.specs.declared.status.Status.TheVariants.{Foreign};
 
+use command_spec::Status;
 use qic_base::{ForeignField, Sink, SinkFailed};
 use tape_script::{TextLine, write_text};
-
-/// How a run ended. Segments, sectors and slots count from 0, volumes and lines from 1.
-#[derive(Clone, Copy, Debug, PartialEq, Eq)]
-pub enum Status {
-    /// The command was carried out.
-    Done,
-    /// The words are those of no command.
-    Usage,
-    /// A line of the input is none, or the input ends inside an append; `place` bytes stand before the line.
-    ScriptFault { line: u32, place: u64 },
-    /// The drive holds no cartridge.
-    NoCartridge,
-    /// The cartridge is write protected.
-    Protected,
-    /// The cartridge has no reference bursts, or no header that can be read.
-    NotFormatted,
-    /// The header or the volume table has a value that this project's profile does not take.
-    Foreign { field: ForeignField, value: u32 },
-    /// The sectors of the volume table that can be read are those of no code block.
-    TableMismatch,
-    /// There is room for `have` bytes, and `need` are asked for.
-    Full { need: u64, have: u64 },
-    /// There is no volume of this number among `count`.
-    NoVolume { number: u32, count: u32 },
-    /// More than three sectors of a segment that is needed are unreadable: their number.
-    Lost { segment: u32, lost: u8 },
-    /// The sectors of a segment that can be read are those of no code block.
-    Mismatch { segment: u32 },
-    /// A sector of the segments 0 to 2 is a defect.
-    DefectInFront { segment: u32 },
-    /// The sector was formatted, so it can be made no defect.
-    NotBlank,
-    /// The cartridge has no such sector.
-    BadPlace,
-    /// Standard input, or what stands in its place, failed.
-    SourceFault,
-    /// Standard output, or what stands in its place, failed.
-    SinkFault,
-    /// The tape failed.
-    TapeFault,
-    /// There was no memory for the working objects; nothing was touched.
-    NoMemory,
-}
 
 fn field_name(field: ForeignField) -> &'static [u8]
     ensures { result.now ≡ field_text field }
@@ -70,40 +28,38 @@ fn field_name(field: ForeignField) -> &'static [u8]
     }
 }
 
-impl Status {
-    /// The exit status of the program.
-    pub fn code(&self) -> u8
-        ensures { result ≡ status_code self.now }
-    {
-        match self {
-            Status::Done => 0,
-            Status::Usage => 2,
-            Status::ScriptFault { .. } => 3,
-            Status::NoCartridge => 4,
-            Status::Protected => 5,
-            Status::NotFormatted => 6,
-            Status::Foreign { .. } => 7,
-            Status::TableMismatch => 8,
-            Status::Full { .. } => 9,
-            Status::NoVolume { .. } => 10,
-            Status::Lost { .. } => 11,
-            Status::Mismatch { .. } => 12,
-            Status::DefectInFront { .. } => 13,
-            Status::NotBlank => 14,
-            Status::BadPlace => 15,
-            Status::SourceFault => 16,
-            Status::SinkFault => 17,
-            Status::TapeFault => 18,
-            Status::NoMemory => 19,
-        }
+/// The exit status of the program.
+pub fn exit_status(status: &Status) -> u8
+    ensures { result ≡ status_code status.now }
+{
+    match status {
+        Status::Done => 0,
+        Status::Usage => 2,
+        Status::ScriptFault { .. } => 3,
+        Status::NoCartridge => 4,
+        Status::Protected => 5,
+        Status::NotFormatted => 6,
+        Status::Foreign { .. } => 7,
+        Status::TableMismatch => 8,
+        Status::Full { .. } => 9,
+        Status::NoVolume { .. } => 10,
+        Status::Lost { .. } => 11,
+        Status::Mismatch { .. } => 12,
+        Status::DefectInFront { .. } => 13,
+        Status::NotBlank => 14,
+        Status::BadPlace => 15,
+        Status::SourceFault => 16,
+        Status::SinkFault => 17,
+        Status::TapeFault => 18,
+        Status::NoMemory => 19,
     }
+}
 
-    /// Writes the line of the status; one that was carried out has none.
-    pub fn text<K: Sink>(&self, sink: &mut K) -> Result<(), SinkFailed>
-        ensures { Writes K.means sink.old sink.new (status_text self.now) result }
-    {
-        write_text(status_line(self).bytes(), sink)
-    }
+/// Writes the line of the status; one that was carried out has none.
+pub fn write_status<K: Sink>(status: &Status, sink: &mut K) -> Result<(), SinkFailed>
+    ensures { Writes K.means sink.old sink.new (status_text status.now) result }
+{
+    write_text(status_line(status).bytes(), sink)
 }
 
 /// The line of a status; none for a command that was carried out.

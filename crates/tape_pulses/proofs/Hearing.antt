@@ -7,16 +7,16 @@ use Rattle.qic_base.specs.Sink as sinks
 use Rattle.qic_base.specs.Source as sources
 use Rattle.qic_base.specs.Tape as tapes
 use Rattle.qic_base.proofs.Steps.{Done-nothing}
-use Rattle.acts.proofs.Joins.{sink_cut_one}
-use Rattle.acts.specs.Acts.{Act, Outside, next_steps, TapeFails, SourceFails, SinkFails, Went, TapeCut, Cut}
+use Rattle.qic_base.proofs.Joins.{sink_cut_one}
+use Rattle.qic_base.specs.Acts.{Act, Outside, next_steps, TapeFails, SourceFails, SinkFails, Went, TapeCut, Cut}
 use Rattle.drive_spec.specs.Record.{Record}
-use Rattle.tape_script.specs.Input.{IsPulse, IsTrain}
-use Rattle.tape_script.specs.Reading.{Gave}
-use Rattle.tape_script.proofs.Inputs as inputs
+use Rattle.command_spec.specs.Input.{IsPulse, IsTrain}
+use Rattle.qic_base.specs.Source.{Gave}
+use Rattle.command_laws.proofs.TextInputs as inputs
 use Rattle.tape_script.proofs.Lined.{IsLined-one_newline}
-use Rattle.tape_pulses.specs.Pulses.{after_train, train_steps, train_act, level_line, train_line}
+use Rattle.command_spec.specs.Pulses.{after_train, train_steps, train_act, level_line, train_line}
 use Rattle.tape_pulses.specs.Lines.{Heard, GaveOn}
-use Rattle.tape_pulses.proofs.Trains.{pulse_line, pulse_short}
+use Rattle.command_laws.proofs.PulseTrains.{pulse_line, pulse_short}
 
 -- the source gave the text of a train, of so many bytes
 abbrev GaveTrain : {S : Type 0} (s : sources.Meaning S) (old new : S) (train n : ℕ) → Type 0

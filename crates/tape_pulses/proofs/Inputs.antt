@@ -2,13 +2,13 @@
 use Rattle.std.proofs.Common.{◌≡◌, ℕ, ◌+◌, ◌≤◌, ◌<◌, List, [], ◌∷◌, ◌++◌, length, Option, Some, None, IfSome, codes, get_or, refl, sym, ap, ◌∙◌, subst, arith, append_assoc}
 use Rattle.std.specs.Option.{option_map}
 use Rattle.std.proofs.lemmas.List.{length-append, append_cancel_left, nil_from_length}
-use Rattle.tape_script.specs.Input.{IsTrain, IsPulse, Ending, AtEnd, AtStop, AtFault, HasStop, IsFault, ItemsEnd, HasItems, most_items}
-use Rattle.tape_script.proofs.Decimals.{one_number}
-use Rattle.tape_script.proofs.Inputs as inputs
-use Rattle.tape_script.proofs.Lined.{one_before}
+use Rattle.command_spec.specs.Input.{IsTrain, IsPulse, Ending, AtEnd, AtStop, AtFault, HasStop, IsFault, ItemsEnd, HasItems, most_items}
+use Rattle.command_laws.proofs.TextDecimals.{one_number}
+use Rattle.command_laws.proofs.TextInputs as inputs
+use Rattle.command_laws.proofs.TextLined.{one_before}
 use Rattle.tape_script.proofs.Rests.{Rest}
-use Rattle.tape_pulses.specs.Pulses.{train_line, train_lines}
-use Rattle.tape_pulses.specs.Laws.{IsFront}
+use Rattle.command_spec.specs.Pulses.{train_line, train_lines}
+use Rattle.command_laws.specs.PulseLaws.{IsFront}
 
 -- the lines of the trains are such as are read
 abbrev pub ArePulses : List ℕ → Type 0

@@ -1,6 +1,3 @@
 pub mod Hearing
 pub mod Inputs
-pub mod MachineLaws
 pub mod Running
-pub mod Trains
-pub mod Stopping

@@ -4,13 +4,14 @@ use Rattle.qic_base.specs.Cause.{Rose}
 use Rattle.qic_base.specs.Sink as sinks
 use Rattle.qic_base.specs.Source as sources
 use Rattle.qic_base.specs.Tape as tapes
-use Rattle.acts.specs.Acts.{Outside, TapeFails, SourceFails, SinkFails, Went, Cut}
+use Rattle.qic_base.specs.Acts.{Outside, TapeFails, SourceFails, SinkFails, Went, Cut}
 use Rattle.drive_spec.specs.Record.{Record}
-use Rattle.tape_script.specs.Input.{IsPulse}
-use Rattle.tape_script.specs.Reading.{Gave, GaveInLine, HasEnded, BeginsWithNo}
+use Rattle.command_spec.specs.Input.{IsPulse}
+use Rattle.qic_base.specs.Source.{Gave, HasEnded}
+use Rattle.tape_script.specs.Reading.{GaveInLine, BeginsWithNo}
 use Rattle.tape_pulses.specs.declared.fault.PulseFault.{PulseFault}
 use Rattle.tape_pulses.specs.declared.fault.PulseFault.TheVariants as fault
-use Rattle.tape_pulses.specs.Pulses.{after_train, train_act, train_line}
+use Rattle.command_spec.specs.Pulses.{after_train, train_act, train_line}
 
 -- ---- the source
 

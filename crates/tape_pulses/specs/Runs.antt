@@ -5,11 +5,11 @@ use Rattle.qic_base.specs.declared.tape.TapeInfo.{TapeInfo}
 use Rattle.qic_base.specs.Sink as sinks
 use Rattle.qic_base.specs.Source as sources
 use Rattle.qic_base.specs.Tape as tapes
-use Rattle.acts.specs.Acts.{Outside, Failing, TapeFails, SourceFails, SinkFails, Went, Cut}
+use Rattle.qic_base.specs.Acts.{Outside, Failing, TapeFails, SourceFails, SinkFails, Went, Cut}
 use Rattle.drive_spec.specs.Record.{Record}
 use Rattle.tape_pulses.specs.declared.fault.PulseFault.{PulseFault}
 use Rattle.tape_pulses.specs.declared.fault.PulseFault.TheVariants as fault
-use Rattle.tape_pulses.specs.Pulses.{PulseRun, PulsesOutcome, Answer, AllSent, ScriptFault}
+use Rattle.command_spec.specs.Pulses.{PulseRun, PulsesOutcome, Answer, AllSent, ScriptFault}
 
 -- What the drive learnt when the cartridge was put in, and the input: what the tape and the source told, or some where
 -- they tell none.

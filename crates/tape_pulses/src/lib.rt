@@ -3,7 +3,6 @@
 
 mod ending;
 mod fault;
-pub mod laws;
 mod lines;
 mod run;
 mod sending;

@@ -2,7 +2,7 @@
 
 ghost use Rattle.std.specs.Prelude.{◌≡◌, OnOk};
 ghost use Rattle.qic_base.specs.Tape.{Does};
-ghost use Rattle.tape_pulses.specs.Pulses.{after_train, train_steps, level_line};
+ghost use Rattle.command_spec.specs.Pulses.{after_train, train_steps, level_line};
 
 use drive_states::Unit;
 use qic_base::{Tape, TapeFailed};

@@ -1,35 +1,15 @@
 -- Numbers in decimal digits.
-use Rattle.std.proofs.Common.{◌≡◌, ℕ, zero, suc, ◌+◌, ◌-◌, ◌*◌, ◌/◌, ◌%◌, ◌^◌, ◌<◌, ◌≤◌, ◌⊎◌, inl, inr, List, [], ◌∷◌, ◌++◌, All, length, take, get_or, decimal, refl, sym, ap, ◌∙◌, arith, add-one, lit<}
+use Rattle.std.proofs.Common.{ℕ, ◌+◌, ◌-◌, ◌/◌, ◌%◌, ◌^◌, ◌<◌, ◌≤◌, List, [], ◌∷◌, ◌++◌, length, decimal, arith, add-one, ◌≡◌, take, get_or, sym, ap, ◌∙◌, ◌*◌, lit<, zero, suc, refl, ◌⊎◌, inl, inr}
 use Rattle.std.proofs.Math.Nat.{pow-suc, pow-le-pow_right}
-use Rattle.std.proofs.lemmas.Fmt.{decimal_by_steps, decimal_digit, decimal_step, decimal_nonempty, decimal_is_IsNumeral, length-decimal-le, first_decimal}
-use Rattle.std.proofs.lemmas.List.{length_push, length-take-le, take_more, get_or-take}
-use Rattle.std.proofs.lemmas.List.Elements.{All-push, All-get_or}
-use Rattle.std.specs.Str.Parse.{digits_value}
-use Rattle.tape_script.specs.Forms.{IsNumber}
+use Rattle.std.proofs.lemmas.Fmt.{decimal_by_steps, decimal_digit, decimal_step, decimal_nonempty, length-decimal-le, first_decimal}
+use Rattle.std.proofs.lemmas.List.{length_push, take_more, length-take-le, get_or-take}
+use Rattle.command_spec.specs.CommandWords.{IsNumber}
 
 -- a number is below the power of ten by its number of digits
 decimal_below : (n : ℕ) → n < 2 ^ 64 → n < 10 ^ length (decimal n)
 decimal_below = decimal_by_steps (λ n ds. n < 10 ^ length ds) (λ n few. few) more where
   more : (n : ℕ) (ds : List ℕ) → 10 ≤ n → n / 10 < 10 ^ length ds → n < 10 ^ length (ds ++ (48 + n % 10) ∷ [])
   more n ds many below = rw (length_push ds (48 + n % 10), add-one, pow-suc) (omega arith)
-
-abbrev IsDigit : ℕ → Type 0
-IsDigit b = (48 ≤ b) × (b ≤ 57)
-
-decimal_digits : (n : ℕ) → n < 2 ^ 64 → All IsDigit (decimal n)
-decimal_digits = decimal_by_steps (λ n ds. All IsDigit ds) one more where
-  one : (n : ℕ) → n < 10 → All IsDigit ((48 + n) ∷ [])
-  one n few = All-push IsDigit [] (48 + n) (λ k d h. absurd (omega arith)) (omega arith, omega arith)
-
-  more : (n : ℕ) (ds : List ℕ) → 10 ≤ n → All IsDigit ds → All IsDigit (ds ++ (48 + n % 10) ∷ [])
-  more n ds many digits = All-push IsDigit ds (48 + n % 10) digits (omega arith, omega arith)
-
--- each word is at most one number
-pub one_number : (word : List ℕ) (m n : ℕ) → IsNumber word m → IsNumber word n → m ≡ n
-one_number word m n a b =
-    let first : digits_value 10 (decimal m) ≡ m = (decimal_is_IsNumeral m (let l = a.nine in omega arith)).1 in
-    let second : digits_value 10 (decimal n) ≡ n = (decimal_is_IsNumeral n (let l = b.nine in omega arith)).1 in
-    sym first ∙ ap (digits_value 10) (sym a.digits ∙ b.digits) ∙ second
 
 -- ---- the digits read so far are those of a number
 
@@ -86,11 +66,6 @@ pub wrong_length : (word : List ℕ) (n : ℕ) → IsNumber word n → (0 < leng
 wrong_length word n number =
     let nine = number.nine in
     rw number.digits (decimal_nonempty n (omega arith), length-decimal-le 9 n (omega arith) (omega arith) (omega arith))
-
-pub all_digits : (word : List ℕ) (n at : ℕ) → IsNumber word n → at < length word → (48 ≤ get_or word at 0) × (get_or word at 0 ≤ 57)
-all_digits word n at number here =
-    let nine = number.nine in
-    All-get_or IsDigit word at 0 here (rw number.digits (decimal_digits n (omega arith)))
 
 -- a number of two digits and more isn't 0
 more_digits : (n : ℕ) → 2 ≤ length (decimal n) → 0 < n

@@ -1,14 +1,9 @@
 pub mod Commands
 pub mod Dates
 pub mod Decimals
-pub mod Deciding
-pub mod Giving
-pub mod Inputs
 pub mod Lined
 pub mod Lines
 pub mod Making
-pub mod Printing
-pub mod Readings
 pub mod Rests
 pub mod Splits
 pub mod Texts

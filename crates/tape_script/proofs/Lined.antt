@@ -1,32 +1,13 @@
 -- Lines and their newlines.
-use Rattle.std.proofs.Common.{◌≡◌, ◌≢◌, ◌⊎◌, inl, inr, ℕ, zero, suc, ◌+◌, ◌-◌, ◌<◌, ◌≤◌, List, [], ◌∷◌, ◌++◌, length, take, get_or, Option, Some, None, IfSome, refl, sym, ap, ◌∙◌, arith, append_assoc, codes, lit≤}
-use Rattle.std.specs.Option.{option_map}
-use Rattle.std.proofs.lemmas.List.{length-append, length_push, get_or_append_left, get_or_at}
+use Rattle.std.proofs.Common.{◌≡◌, ℕ, ◌+◌, ◌-◌, List, [], ◌∷◌, ◌++◌, length, take, arith, ap, ◌∙◌, append_assoc, ◌⊎◌, inl, inr, ◌<◌, get_or, refl, sym, Option, Some, None, IfSome, ◌≤◌, codes, lit≤}
 use Rattle.std.proofs.Math.Seq.{take-append_seam}
-use Rattle.qic_base.specs.Source.{Meaning}
-use Rattle.tape_script.specs.Input.{IsLined}
-use Rattle.tape_script.specs.Reading.{Gave, HasEnded, NoNewline, BeginsWithNo}
-
-NoNewline-tail : (x : ℕ) (xs : List ℕ) → NoNewline (x ∷ xs) → NoNewline xs
-NoNewline-tail x xs none k d here = none (suc k) d (omega arith)
-
-NoNewline-head : (x : ℕ) (xs : List ℕ) → NoNewline (x ∷ xs) → x ≢ 0x0A
-NoNewline-head x xs none = none 0 x (omega arith)
-
-head_is : (x y : ℕ) (xs ys : List ℕ) → x ∷ xs ≡ y ∷ ys → x ≡ y
-head_is x y xs ys e = cc
-
-tail_is : (x y : ℕ) (xs ys : List ℕ) → x ∷ xs ≡ y ∷ ys → xs ≡ ys
-tail_is x y xs ys e = cc
-
--- the bytes before the first newline are unique
-pub one_before : (xs ys more rest : List ℕ) → NoNewline xs → NoNewline ys → xs ++ 0x0A ∷ more ≡ ys ++ 0x0A ∷ rest → xs ≡ ys
-one_before [] [] more rest a b e = refl
-one_before [] (y ∷ ys) more rest a b e = absurd (NoNewline-head y ys b (sym (head_is 0x0A y more (ys ++ 0x0A ∷ rest) e)))
-one_before (x ∷ xs) [] more rest a b e = absurd (NoNewline-head x xs a (head_is x 0x0A (xs ++ 0x0A ∷ more) rest e))
-one_before (x ∷ xs) (y ∷ ys) more rest a b e =
-    let same : xs ≡ ys = one_before xs ys more rest (NoNewline-tail x xs a) (NoNewline-tail y ys b) (tail_is x y (xs ++ 0x0A ∷ more) (ys ++ 0x0A ∷ rest) e) in
-    let first : x ≡ y = head_is x y (xs ++ 0x0A ∷ more) (ys ++ 0x0A ∷ rest) e in cc
+use Rattle.std.proofs.lemmas.List.{length_push, length-append, get_or_append_left, get_or_at}
+use Rattle.std.specs.Option.{option_map}
+use Rattle.command_laws.proofs.TextLined.{one_before, end_no_newline}
+use Rattle.command_laws.specs.TextReading.{NoNewline}
+use Rattle.command_spec.specs.Input.{IsLined}
+use Rattle.qic_base.specs.Source.{Meaning, Gave, HasEnded}
+use Rattle.tape_script.specs.Reading.{BeginsWithNo}
 
 -- bytes and a newline have none before the last
 pub one_newline : (before : List ℕ) (n : ℕ) → n ≡ length before + 1 → NoNewline before → NoNewline (take (n - 1) (before ++ 0x0A ∷ []))
@@ -95,13 +76,6 @@ by_option P Q (Some bytes) weaker none = λ text rest e q. none text rest e (wea
 
 pub BeginsWithNo-by : {S : Type 0} (m : Meaning S) (P Q : List ℕ → Type 0) (a : S) → ((text : List ℕ) → Q text → P text) → BeginsWithNo m a P → BeginsWithNo m a Q
 BeginsWithNo-by m P Q a weaker none = by_option P Q (m.left a) weaker none
-
--- the line `end`
-pub end_no_newline : NoNewline (codes "end")
-end_no_newline zero d here = λ e. cc
-end_no_newline (suc zero) d here = λ e. cc
-end_no_newline (suc (suc zero)) d here = λ e. cc
-end_no_newline (suc (suc (suc k))) d here = absurd (omega arith)
 
 pub end_lined : (text : List ℕ) → text ≡ codes "end\n" → IsLined (λ before. before ≡ codes "end") text
 end_lined text e = record { before = codes "end"; short = lit≤ tt; one_line = end_no_newline; whole = e; has = refl }

@@ -1,14 +1,11 @@
 -- The made bytes.
-use Rattle.std.proofs.Common.{◌≡◌, ℕ, ◌+◌, ◌-◌, ◌*◌, ◌%◌, ◌<◌, ◌≤◌, min, List, ◌++◌, ◌∷◌, [], map, length, take, drop, refl, sym, ap, ◌∙◌, arith}
+use Rattle.std.proofs.Common.{◌≡◌, ℕ, [], refl, ◌+◌, ◌-◌, ◌%◌, ◌++◌, ◌∷◌, arith, ◌≤◌, take, map, drop, ap, ◌∙◌, ◌<◌, min, List, length, sym}
+use Rattle.std.proofs.lemmas.List.FromFn.{map-range_with_len_more, take-map-range_with_len, length-map-range_with_len, get_or-map-range_with_len, fill_by_all}
 use Rattle.std.specs.List.{range_with_len}
 use Rattle.std.proofs.lemmas.List.{length-drop, get_or-drop, take_at}
-use Rattle.std.proofs.lemmas.List.FromFn.{length-map-range_with_len, get_or-map-range_with_len, take-map-range_with_len, map-range_with_len_more, fill_by_all}
+use Rattle.command_laws.proofs.TextMaking.{length-made_from}
+use Rattle.command_laws.specs.TextGenerator.{made_from}
 use Rattle.qic_base.specs.Source.{Gives}
-use Rattle.tape_script.specs.Generator.{made_from, made_bytes, made_byte, made_length}
-
-pub length-made_from : (first count : ℕ) → length (made_from first count) ≡ count
-unfolding made_from
-length-made_from first count = length-map-range_with_len (λ i. (first + i) % 251) 0 count
 
 made_from_none : (first : ℕ) → made_from first 0 ≡ []
 unfolding made_from
@@ -35,17 +32,6 @@ drop-made_from first count n few =
     (length-drop n (map f (range_with_len 0 count)) ∙ ap (λ x. x - n) (length-map-range_with_len f 0 count))
     (λ k here. get_or-drop n (map f (range_with_len 0 count)) k 0 ∙ get_or-map-range_with_len f 0 count (n + k) (n + k) 0 (omega arith) (omega arith)
     ∙ (let e : (first + (n + k)) % 251 ≡ ((first + n) % 251 + k) % 251 = omega arith in e))
-
--- a made volume counts on from its first byte
-pub made_bytes_from : (seed volume : ℕ) → made_from ((seed + volume * 31) % 251) (1000 * (1 + (seed * 37 + volume * 101) % 20000)) ≡ made_bytes seed volume
-unfolding made_from made_bytes
-made_bytes_from seed volume =
-    let f : ℕ → ℕ = λ i. ((seed + volume * 31) % 251 + i) % 251 in
-    let n : ℕ = made_length seed volume in
-    fill_by_all (made_byte seed volume) (map f (range_with_len 0 n)) n 0
-    (length-map-range_with_len f 0 n)
-    (λ k here. get_or-map-range_with_len f 0 n k k 0 here (omega arith)
-    ∙ (let e : ((seed + volume * 31) % 251 + k) % 251 ≡ (k + 31 * volume + seed) % 251 = omega arith in e))
 
 -- what a read gives
 pub made_gives : (first left len count : ℕ) (rest : List ℕ) → 0 < len → count ≡ min len left → Gives (made_from first left) (made_from first count ++ rest) count

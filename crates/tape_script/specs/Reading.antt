@@ -1,26 +1,15 @@
 -- What a reading of a line took from a source, and what it found (this project's own).
-use Rattle.std.specs.Prelude.{◌≡◌, ◌≢◌, ◌⊎◌, ℕ, ◌-◌, ◌≤◌, ◌<◌, List, [], ◌∷◌, ◌++◌, length, take, All, Option, Some, None, IfSome, Result, Ok, Err, codes}
-use Rattle.std.specs.Option.{option_map}
-use Rattle.qic_base.specs.Source.{Meaning}
-use Rattle.tape_script.specs.declared.line.Line.{Line}
+use Rattle.std.specs.Prelude.{◌≡◌, ℕ, ◌-◌, List, length, take, ◌≤◌, ◌++◌, IfSome, ◌<◌, [], Result, Ok, Err, codes, ◌∷◌, Option, Some, None, ◌⊎◌}
+use Rattle.command_laws.specs.TextReading.{NoNewline}
+use Rattle.command_spec.specs.Input.{IsLineText, IsPulse}
+use Rattle.command_spec.specs.declared.line.Line.{Line}
+use Rattle.qic_base.specs.Source.{Meaning, Gave, HasEnded, GaveSome}
 use Rattle.tape_script.specs.declared.line.LineRead.{LineRead}
-use Rattle.tape_script.specs.declared.line.LineRead.TheVariants as read
-use Rattle.tape_script.specs.declared.train.TrainRead.{TrainRead}
-use Rattle.tape_script.specs.declared.train.TrainRead.TheVariants as train
 use Rattle.tape_script.specs.declared.taking.Taken.{Taken}
+use Rattle.tape_script.specs.declared.train.TrainRead.{TrainRead}
+use Rattle.tape_script.specs.declared.line.LineRead.TheVariants as read
+use Rattle.tape_script.specs.declared.train.TrainRead.TheVariants as train
 use Rattle.tape_script.specs.declared.taking.Taken.TheVariants as taken
-use Rattle.tape_script.specs.Input.{IsLined, IsLine, IsPulse}
-
--- from old to new the source gave these bytes
-abbrev pub Gave : {S : Type 0} → Meaning S → (old new : S) → List ℕ → Type 0
-Gave m old new bytes = m.left old ≡ option_map (λ rest. bytes ++ rest) (m.left new)
-
--- it gave so many bytes
-abbrev pub GaveSome : {S : Type 0} → Meaning S → (old new : S) → ℕ → Type 0
-GaveSome m old new n = (bytes : List ℕ) × (length bytes ≡ n) × Gave m old new bytes
-
-abbrev pub NoNewline : List ℕ → Type 0
-NoNewline bytes = All (λ b. b ≢ 0x0A) bytes
 
 -- it gave so many bytes, none of them behind a newline: only the last may be one
 abbrev pub GaveInLine : {S : Type 0} → Meaning S → (old new : S) → ℕ → Type 0
@@ -31,17 +20,9 @@ GaveInLine m old new n =
 abbrev pub GaveFront : {S : Type 0} → Meaning S → (old new : S) → Type 0
 GaveFront m old new = (bytes : List ℕ) × (length bytes ≤ 127) × NoNewline bytes × Gave m old new bytes
 
--- where it tells its bytes, none are left
-abbrev pub HasEnded : {S : Type 0} → Meaning S → S → Type 0
-HasEnded m s = IfSome (m.left s) (λ bytes. bytes ≡ [])
-
 -- where it tells its bytes, no text with this property begins them
 abbrev pub BeginsWithNo : {S : Type 0} → Meaning S → S → (List ℕ → Type 0) → Type 0
 BeginsWithNo m s P = IfSome (m.left s) (λ bytes. (text rest : List ℕ) → bytes ≡ text ++ rest → ¬ (P text))
-
--- a line of a script, with its newline
-abbrev pub IsLineText : List ℕ → Line → Type 0
-IsLineText text line = IsLined (λ before. IsLine before line) text
 
 -- the end of the source before any byte; bytes that begin with no line, none taken behind a newline; or a line, with
 -- its newline. A failure comes before the line's newline.

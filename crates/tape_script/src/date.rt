@@ -1,8 +1,8 @@
 //! Dates in words: `YYYY-MM-DDTHH:MM:SS`, all digits written.
 
 ghost use Rattle.std.specs.Prelude.{◌≡◌, ℕ, ◌+◌, ◌/◌, ◌<◌, ◌≤◌, ◌↔◌, IsTrue, MatchOption, length, slice_index};
-ghost use Rattle.tape_script.specs.Forms.{IsDateWord};
-ghost use Rattle.tape_script.specs.Text.{digit};
+ghost use Rattle.command_spec.specs.CommandWords.{IsDateWord};
+ghost use Rattle.command_spec.specs.Lines.{digit};
 
 use qic_base::stamp;
 

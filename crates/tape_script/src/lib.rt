@@ -2,7 +2,6 @@
 #![tactic(auto)]
 
 mod date;
-pub mod laws;
 mod line;
 mod made;
 mod number;
@@ -14,12 +13,13 @@ mod word;
 mod words;
 mod write;
 
-pub use line::{Line, LineRead};
+pub use command_spec::{Line, Words};
+pub use line::{LineRead, read_line};
 pub use made::Made;
 pub use number::read_number;
 pub use summed::Summed;
 pub use taking::{Taken, skip, take_line};
 pub use text_line::TextLine;
 pub use train::{Train, TrainRead};
-pub use words::{BadWords, Words};
+pub use words::{BadWords, read_words};
 pub use write::{write_date, write_name, write_number, write_text};

@@ -2,26 +2,16 @@
 
 ghost use Rattle.std.specs.Prelude.{◌≡◌, ◌+◌, ◌<◌, ◌≤◌, [], ◌∷◌, take, drop, length, codes, MatchOption, if◌then◌else◌, nat_lt};
 ghost use Rattle.qic_base.specs.Cause.{HasCause};
-ghost use Rattle.tape_script.specs.Input.{HasLineForm, IsNoLine, words_of};
+ghost use Rattle.command_spec.specs.Input.{HasLineForm, words_of};
+ghost use Rattle.tape_script.specs.Input.{IsNoLine};
 ghost use Rattle.tape_script.specs.Reading.{ReadsLine};
 
 use crate::date::read_date;
 use crate::number::read_number;
 use crate::taking::{Taken, take_line};
 use crate::word::is_word;
+use command_spec::Line;
 use qic_base::{Name, Source, SourceFailed};
-
-/// A line of a script with its values. An append's line is followed at once by `length` bytes. A date that is not
-/// given is 0.
-#[derive(Clone, Copy, Debug, PartialEq, Eq)]
-pub enum Line {
-    Append { name: Name, length: u32, date: u32 },
-    List,
-    Restore { number: u32 },
-    Scrub,
-    Lose { segment: u32, sector: u32 },
-    End,
-}
 
 /// What was read in a line's place, with the number of bytes that it took: the end of the source before any byte;
 /// bytes that are no line; or a line, its newline counted.
@@ -183,25 +173,26 @@ fn read_words(text: &[u8]) -> Option<Line>
     }
 }
 
-impl Line {
-    /// The next line of a script. Bytes are read one at a time, up to the newline; a failure comes in the midst of a
-    /// line. What the buffer held is overwritten.
-    pub fn read<S: Source>(source: &mut S, buffer: &mut [u8; 128]) -> Result<LineRead, SourceFailed>
-        ensures read { ReadsLine S.means source.old source.new result }
-        ensures kept { S.means.keeps source.old source.new }
-        ensures cause { HasCause (S.means.faults source.old) (S.means.faults source.new) result }
-    {
-        match take_line(source, buffer) {
-            Ok(Taken::End) => Ok(LineRead::End),
-            Ok(Taken::Open { read }) => Ok(LineRead::Bad { read }),
-            Ok(Taken::Line { len }) => match read_words(&buffer[..usize::from(len)]) {
-                Some(line) => Ok(LineRead::Line {
-                    line,
-                    read: len + 1,
-                }),
-                None => Ok(LineRead::Bad { read: len + 1 }),
-            },
-            Err(fault) => Err(fault),
-        }
+/// The next line of a script. Bytes are read one at a time, up to the newline; a failure comes in the midst of a
+/// line. What the buffer held is overwritten.
+pub fn read_line<S: Source>(
+    source: &mut S,
+    buffer: &mut [u8; 128],
+) -> Result<LineRead, SourceFailed>
+    ensures read { ReadsLine S.means source.old source.new result }
+    ensures kept { S.means.keeps source.old source.new }
+    ensures cause { HasCause (S.means.faults source.old) (S.means.faults source.new) result }
+{
+    match take_line(source, buffer) {
+        Ok(Taken::End) => Ok(LineRead::End),
+        Ok(Taken::Open { read }) => Ok(LineRead::Bad { read }),
+        Ok(Taken::Line { len }) => match read_words(&buffer[..usize::from(len)]) {
+            Some(line) => Ok(LineRead::Line {
+                line,
+                read: len + 1,
+            }),
+            None => Ok(LineRead::Bad { read: len + 1 }),
+        },
+        Err(fault) => Err(fault),
     }
 }

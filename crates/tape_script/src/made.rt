@@ -1,5 +1,7 @@
 ghost use Rattle.std.specs.Prelude.{◌≡◌, ◌<◌, ◌+◌, ◌%◌, length};
-ghost use Rattle.tape_script.specs.Generator.{made_bytes, made_from, made_means};
+ghost use Rattle.command_spec.specs.Generator.{made_bytes};
+ghost use Rattle.command_laws.specs.TextGenerator.{made_from};
+ghost use Rattle.tape_script.specs.Generator.{made_means};
 
 use qic_base::{Source, SourceFailed};
 use std::marker::Model;
@@ -13,7 +15,7 @@ pub struct Made {
 
 impl Model for Made {
     ghost use Rattle.std.specs.Prelude.{List, ℕ, ◌<◌};
-    ghost use Rattle.tape_script.specs.Generator.{made_from};
+    ghost use Rattle.command_laws.specs.TextGenerator.{made_from};
 
     ghost Value = { List ℕ };
 

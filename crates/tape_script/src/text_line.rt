@@ -1,6 +1,6 @@
 ghost use Rattle.std.specs.Prelude.{◌≡◌, ◌+◌, ◌-◌, ◌≤◌, [], ◌++◌, length, map, take, decimal};
 ghost use Rattle.qic_base.specs.Date.{year_of, month_of, day_of, hour_of, minute_of, second_of};
-ghost use Rattle.tape_script.specs.Text.{date_form, date_text, digit, is_filler, trimmed, printable, name_text};
+ghost use Rattle.command_spec.specs.Lines.{date_form, date_text, digit, is_filler, trimmed, printable, name_text};
 
 use itoa::Buffer;
 use qic_base::Name;
@@ -33,7 +33,7 @@ fn digit(n: u32) -> u8
 }
 
 /// The nineteen bytes of a date word that is a date.
-#[tactic(auto, unfolding(crate::specs::Text::date_form))]
+#[tactic(auto, unfolding(command_spec::specs::Lines::date_form))]
 fn date_digits(word: u32) -> [u8; 19]
     ensures { result ≡ date_form (year_of word) (month_of word) (day_of word)
         (hour_of word) (minute_of word) (second_of word) }
@@ -149,7 +149,7 @@ impl TextLine {
     }
 
     /// The date of a date word, or `?` where it is none.
-    #[tactic(auto, unfolding(crate::specs::Text::date_text))]
+    #[tactic(auto, unfolding(command_spec::specs::Lines::date_text))]
     pub fn push_date(&mut self, word: u32)
         requires { length self.old + 19 ≤ 160 }
         ensures date { self.new ≡ self.old ++ date_text word }

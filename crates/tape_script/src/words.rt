@@ -1,37 +1,18 @@
 //! The words behind the image's path.
 
 ghost use Rattle.std.specs.Prelude.{[], ◌∷◌, map, string_bytes, codes, MatchOption, MatchResult};
-ghost use Rattle.tape_script.specs.Words.{IsCommand, IsNoCommand};
+ghost use Rattle.command_spec.specs.CommandWords.{IsCommand};
+ghost use Rattle.command_laws.specs.TextWords.{IsNoCommand};
 
 use crate::date::read_date;
 use crate::number::{GREATEST, read_number, read_number_within};
 use crate::word::is_word;
+use command_spec::Words;
 use qic_base::{LONGEST, Name};
 
 /// The words are those of no command.
 #[derive(Clone, Copy, Debug, PartialEq, Eq)]
 pub struct BadWords;
-
-/// A command with its values. Segments, sectors, volumes and counts are numbers up to 999,999,999; a date is a date
-/// word, and 0 where none is given.
-#[derive(Clone, Copy, Debug, PartialEq, Eq)]
-pub enum Words {
-    /// A new cartridge, with 3 to `LONGEST` segments per track.
-    New { segments: u16 },
-    Defect { segment: u32, sector: u32 },
-    Lose { segment: u32, sector: u32 },
-    Protect { on: bool },
-    Format { label: Name, date: u32 },
-    Info,
-    Append { name: Name, date: u32 },
-    List,
-    Restore { number: u32 },
-    Scrub,
-    Pulses,
-    Script,
-    /// A generated run of 1 to 200 volumes.
-    Make { seed: u32, count: u32 },
-}
 
 fn read_one(first: &[u8]) -> Option<Words>
     ensures { MatchOption result
@@ -221,15 +202,13 @@ fn read_command(words: &[String]) -> Option<Words>
     }
 }
 
-impl Words {
-    /// The command that the words are, refused exactly where they have no form.
-    pub fn read(words: &Vec<String>) -> Result<Words, BadWords>
-        ensures { MatchResult result (IsCommand (map string_bytes words.now.items))
-            (λ bad. IsNoCommand (map string_bytes words.now.items)) }
-    {
-        match read_command(words.as_slice()) {
-            Some(command) => Ok(command),
-            None => Err(BadWords),
-        }
+/// The command that the words are, refused exactly where they have no form.
+pub fn read_words(words: &Vec<String>) -> Result<Words, BadWords>
+    ensures { MatchResult result (IsCommand (map string_bytes words.now.items))
+        (λ bad. IsNoCommand (map string_bytes words.now.items)) }
+{
+    match read_command(words.as_slice()) {
+        Some(command) => Ok(command),
+        None => Err(BadWords),
     }
 }

@@ -2,7 +2,7 @@
 
 ghost use Rattle.std.specs.Prelude.{decimal};
 ghost use Rattle.qic_base.specs.Sink.{Writes};
-ghost use Rattle.tape_script.specs.Text.{date_text, name_text};
+ghost use Rattle.command_spec.specs.Lines.{date_text, name_text};
 
 use crate::text_line::TextLine;
 use itoa::Buffer;

@@ -3,14 +3,15 @@ use Rattle.std.proofs.Common.{◌≡◌, ◌⊎◌, inl, inr, ℕ, ◌+◌, ◌-
 use Rattle.std.proofs.lemmas.Bool.{le-leb, lt-leb}
 use Rattle.std.proofs.lemmas.List.{length-append, length-drop, take-append-le, drop-append-le}
 use Rattle.std.proofs.lemmas.List.Elements.{All-head, All-tail}
-use Rattle.acts.specs.Acts.{Act}
-use Rattle.cartridge_spec.specs.Shape.{Carries, mask_at, usable_count, data_count, capacity}
-use Rattle.append_plan.specs.Appending.{part_writes}
-use Rattle.append_plan.specs.NewVolume.{in_sectors}
-use Rattle.append_plan.specs.Room.{taken_by}
-use Rattle.append_plan.proofs.BySegments.{sectors_take_theirs}
-use Rattle.append_plan.proofs.Bytes.{capacity_of, capacity_cons, carried_all}
-use Rattle.volume_input.specs.Input.{segment_act, volume_acts, filled_acts}
+use Rattle.qic_base.specs.Acts.{Act}
+use Rattle.cartridge_laws.specs.Shape.{Carries}
+use Rattle.cartridge_spec.specs.Shape.{mask_at, usable_count, data_count, capacity}
+use Rattle.cartridge_spec.specs.Appending.{part_writes}
+use Rattle.cartridge_spec.specs.Appending.{in_sectors}
+use Rattle.cartridge_spec.specs.Appending.{taken_by}
+use Rattle.cartridge_laws.proofs.AppendBySegments.{sectors_take_theirs}
+use Rattle.cartridge_laws.proofs.AppendBytes.{capacity_of, capacity_cons, carried_all}
+use Rattle.command_spec.specs.Append.{segment_act, volume_acts, filled_acts}
 
 abbrev pub Carry : (words segments : List ℕ) → Type 0
 Carry words segments = All (λ s. Carries (mask_at words s)) segments

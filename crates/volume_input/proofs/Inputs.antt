@@ -6,10 +6,11 @@ use Rattle.std.proofs.lemmas.Bool.{cases_lt, and_parts, ltb-true, cases_Bool}
 use Rattle.std.proofs.lemmas.List.{length-append, length-take}
 use Rattle.std.proofs.lemmas.List.Elements.{All-nil, All-append}
 use Rattle.std.proofs.Math.Seq.{take-append-add, take-nil}
-use Rattle.acts.specs.Acts.{Act}
-use Rattle.cartridge_spec.specs.Shape.{Carries, mask_at, capacity}
-use Rattle.append_plan.proofs.Bytes.{capacity_of}
-use Rattle.volume_input.specs.Input.{segment_act, volume_acts, filled_acts, input_acts}
+use Rattle.qic_base.specs.Acts.{Act}
+use Rattle.cartridge_laws.specs.Shape.{Carries}
+use Rattle.cartridge_spec.specs.Shape.{mask_at, capacity}
+use Rattle.cartridge_laws.proofs.AppendBytes.{capacity_of}
+use Rattle.command_spec.specs.Append.{segment_act, volume_acts, filled_acts, input_acts}
 use Rattle.volume_input.proofs.Filled.{Carry, GoesOn, act_front, filled_more, filled_behind, volume_behind, volume_full}
 
 -- ---- what is left

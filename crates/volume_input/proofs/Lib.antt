@@ -1,4 +1,3 @@
-pub mod ActLaws
 pub mod Filled
 pub mod Inputs
 pub mod Lending

@@ -5,16 +5,18 @@ use Rattle.qic_base.specs.Cause.{Rose}
 use Rattle.qic_base.specs.Source as sources
 use Rattle.qic_base.specs.Tape as tapes
 use Rattle.qic_base.proofs.Steps.{Done-nothing}
-use Rattle.acts.specs.Acts.{SourceFails, Went, Cut}
-use Rattle.acts.specs.Around.{no_sink, reading}
+use Rattle.qic_base.specs.Acts.{SourceFails, Went, Cut}
+use Rattle.qic_base.specs.Acts.{no_sink, reading}
 use Rattle.cartridge_spec.specs.Says.{with_parity}
-use Rattle.cartridge_spec.specs.Shape.{Carries, mask_at, usable_places, data_count, capacity}
-use Rattle.cartridge_spec.specs.Writes.{writes_of, segment_writes}
-use Rattle.append_plan.specs.NewVolume.{in_sectors, bytes_in}
-use Rattle.append_plan.proofs.Bytes.{carried_all, bytes_of_sectors}
-use Rattle.gf256_qic.specs.Code.{IsSector}
+use Rattle.cartridge_laws.specs.Shape.{Carries}
+use Rattle.cartridge_spec.specs.Shape.{mask_at, usable_places, data_count, capacity}
+use Rattle.cartridge_spec.specs.Settling.{writes_of}
+use Rattle.cartridge_laws.specs.Writes.{segment_writes}
+use Rattle.cartridge_spec.specs.Appending.{in_sectors, bytes_in}
+use Rattle.cartridge_laws.proofs.AppendBytes.{carried_all, bytes_of_sectors}
+use Rattle.cartridge_spec.specs.Code.{IsSector}
 use Rattle.sector_fill.specs.Filling.{GaveUpTo, GaveWithin, AreFilled}
-use Rattle.volume_input.specs.Input.{segment_act}
+use Rattle.command_spec.specs.Append.{segment_act}
 use Rattle.volume_input.specs.Next.{Came, NextWritten, NextBroken, NoneCame, CameShort}
 
 -- the sectors of data, by the bytes that they hold

@@ -3,12 +3,13 @@ use Rattle.std.proofs.Common.{◌≡◌, ◌⊎◌, inl, inr, ℕ, suc, ◌+◌,
 use Rattle.std.proofs.lemmas.Bool.{cases_Bool, le-leb, leb-true}
 use Rattle.qic_base.specs.LostSet.{lost_places}
 use Rattle.std.proofs.Common.{length}
-use Rattle.cartridge_spec.specs.Shape.{Carries, mask_at, usable_count, data_count, capacity}
+use Rattle.cartridge_laws.specs.Shape.{Carries}
+use Rattle.cartridge_spec.specs.Shape.{mask_at, usable_count, data_count, capacity}
 use Rattle.cartridge_spec.specs.Volumes.{carrying}
-use Rattle.cartridge_spec.proofs.Places.{count_below}
-use Rattle.mount_laws.proofs.Writing.{places_that, places_none, places_passes, places_fails}
-use Rattle.append_plan.proofs.Bytes.{carried_all}
-use Rattle.append_plan.proofs.Segments.{carries, carrying_are}
+use Rattle.cartridge_laws.proofs.Places.{count_below}
+use Rattle.cartridge_laws.proofs.MountWriting.{places_that, places_none, places_passes, places_fails}
+use Rattle.cartridge_laws.proofs.AppendBytes.{carried_all}
+use Rattle.cartridge_laws.proofs.AppendSegments.{carries, carrying_are}
 
 -- a segment of some bytes carries data
 carries_cond : (b : Bool) (n : ℕ) → 1 ≤ cond b n 0 → b ≡ true

@@ -7,15 +7,17 @@ use Rattle.std.proofs.lemmas.List.Sums.{sum_by_push}
 use Rattle.qic_base.specs.Source as sources
 use Rattle.qic_base.specs.Tape as tapes
 use Rattle.qic_base.proofs.Writing.{TakesBoth}
-use Rattle.tape_script.specs.Reading.{Gave}
-use Rattle.tape_script.proofs.Giving.{Gave-nothing, Gave-Gave, Gave-end}
-use Rattle.acts.specs.Acts.{Act, Outside, Failing, TapeFails, SourceFails, Went, Cut}
-use Rattle.acts.specs.Around.{no_sink}
-use Rattle.acts.proofs.Joins.{nothing_went, went_both, went_then_cut, cut_is_longer}
-use Rattle.cartridge_spec.specs.Shape.{Carries, mask_at, capacity}
-use Rattle.append_plan.specs.Room.{taken_by}
-use Rattle.append_plan.proofs.Bytes.{capacity_of, capacity_cons}
-use Rattle.volume_input.specs.Input.{segment_act, volume_acts, filled_acts, input_acts, HasWritten, EndedShort, InputCut, InputEnds}
+use Rattle.qic_base.specs.Source.{Gave}
+use Rattle.qic_base.proofs.Giving.{Gave-nothing, Gave-Gave, Gave-end}
+use Rattle.qic_base.specs.Acts.{Act, Outside, Failing, TapeFails, SourceFails, Went, Cut}
+use Rattle.qic_base.specs.Acts.{no_sink}
+use Rattle.qic_base.proofs.Joins.{nothing_went, went_both, went_then_cut, cut_is_longer}
+use Rattle.cartridge_laws.specs.Shape.{Carries}
+use Rattle.cartridge_spec.specs.Shape.{mask_at, capacity}
+use Rattle.cartridge_spec.specs.Appending.{taken_by}
+use Rattle.cartridge_laws.proofs.AppendBytes.{capacity_of, capacity_cons}
+use Rattle.command_spec.specs.Append.{segment_act, volume_acts, filled_acts, input_acts}
+use Rattle.volume_input.specs.Input.{HasWritten, EndedShort, InputCut, InputEnds}
 use Rattle.volume_input.specs.Next.{NextWritten, NextBroken, NoneCame, CameShort, NextEnds, grown}
 use Rattle.sector_fill.specs.Filling.{GaveWithin}
 use Rattle.volume_input.specs.declared.fault.InputFault.{InputFault}

@@ -4,10 +4,11 @@ use Rattle.std.specs.Option.{option_map_or}
 use Rattle.qic_base.specs.Source as sources
 use Rattle.qic_base.specs.Tape as tapes
 use Rattle.qic_base.specs.declared.tape.TapeInfo.{TapeInfo}
-use Rattle.acts.specs.Acts.{Outside}
-use Rattle.cartridge_spec.specs.Shape.{Carries, mask_at, capacity}
+use Rattle.qic_base.specs.Acts.{Outside}
+use Rattle.cartridge_laws.specs.Shape.{Carries}
+use Rattle.cartridge_spec.specs.Shape.{mask_at, capacity}
 use Rattle.cartridge_spec.specs.Volumes.{carrying, capacity_between}
-use Rattle.append_plan.proofs.Bytes.{capacity_of, between_carries}
+use Rattle.cartridge_laws.proofs.AppendBytes.{capacity_of, between_carries}
 use Rattle.drive_spec.specs.declared.deck.Deck.{Deck}
 use Rattle.drive_spec.specs.Deck.{is_referenced, segments_per_track}
 use Rattle.drive_states.specs.Unit.{UnitView}

@@ -1,48 +1,14 @@
 -- How the bytes of a source went into the segments of a volume (this project's own).
-use Rattle.std.specs.Prelude.{◌≡◌, ℕ, ◌-◌, ◌<◌, ◌≤◌, ◌&&◌, Bool, true, List, [], ◌∷◌, length, take, drop, nat_le, nat_lt, if◌then◌else◌, is_some, All, IfSome, IfNone, slice_index, Result, Ok, Err}
+use Rattle.std.specs.Prelude.{◌≡◌, ℕ, ◌-◌, ◌<◌, ◌≤◌, Bool, true, List, length, All, slice_index, is_some, IfSome, IfNone, Result, Ok, Err}
+use Rattle.cartridge_spec.specs.Appending.{taken_by}
+use Rattle.command_spec.specs.Append.{volume_acts, filled_acts, input_acts}
+use Rattle.qic_base.specs.Acts.{Outside, Went, no_sink, Failing, Cut, TapeFails, SourceFails}
+use Rattle.qic_base.specs.Source.{Gave, HasEnded}
+use Rattle.volume_input.specs.declared.fault.InputFault.{InputFault}
+use Rattle.volume_input.specs.declared.written.Written.{Written}
 use Rattle.qic_base.specs.Source as sources
 use Rattle.qic_base.specs.Tape as tapes
-use Rattle.acts.specs.Acts.{Act, Outside, Failing, TapeFails, SourceFails, Went, Cut}
-use Rattle.acts.specs.Around.{no_sink}
-use Rattle.tape_script.specs.Reading.{Gave, HasEnded}
-use Rattle.cartridge_spec.specs.Shape.{mask_at, data_count, capacity}
-use Rattle.append_plan.specs.Appending.{part_writes}
-use Rattle.append_plan.specs.NewVolume.{in_sectors}
-use Rattle.append_plan.specs.Room.{taken_by}
-use Rattle.volume_input.specs.declared.written.Written.{Written}
-use Rattle.volume_input.specs.declared.fault.InputFault.{InputFault}
 use Rattle.volume_input.specs.declared.fault.InputFault.TheVariants as fault
-
--- ---- the acts
-
--- a segment is written with the first of some bytes, as many as it carries
-abbrev pub segment_act : (words : List ℕ) → (segment : ℕ) → (bytes : List ℕ) → Act
-segment_act words segment bytes = record {
-  steps = part_writes words (record { segment = segment; sectors = in_sectors (data_count (mask_at words segment)) bytes });
-  text = [];
-}
-
--- all of these bytes, in as many of some carrying segments as they take: one act for each, and one for no byte
-abbrev pub volume_acts : (words segments : List ℕ) → (bytes : List ℕ) → List Act
-volume_acts words [] bytes = []
-volume_acts words (s ∷ ss) bytes =
-    segment_act words s bytes
-    ∷ (if nat_le (length bytes) (capacity (mask_at words s)) then [] else volume_acts words ss (drop (capacity (mask_at words s)) bytes))
-
--- those of the segments that these bytes fill
-abbrev pub filled_acts : (words segments : List ℕ) → (bytes : List ℕ) → List Act
-filled_acts words [] bytes = []
-filled_acts words (s ∷ ss) bytes =
-    if nat_le (capacity (mask_at words s)) (length bytes)
-    then segment_act words s bytes ∷ filled_acts words ss (drop (capacity (mask_at words s)) bytes)
-    else []
-
--- Of an input at most so many bytes are wanted. Where just as many are and it has fewer, only segments that it fills are
--- written.
-abbrev pub input_acts : (words segments : List ℕ) → (most : ℕ) → (exact : Bool) → (input : List ℕ) → List Act
-input_acts words segments most exact input =
-    if exact && nat_lt (length input) most then filled_acts words segments input
-    else volume_acts words segments (take most input)
 
 -- ---- how it ended
 

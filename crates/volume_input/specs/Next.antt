@@ -3,11 +3,11 @@
 use Rattle.std.specs.Prelude.{◌≡◌, ◌⊎◌, ℕ, ◌+◌, ◌-◌, ◌==◌, ◌<◌, ◌≤◌, if◌then◌else◌, min, Bool, true, List, [], ◌∷◌, length, All, Option, Some, None, Result, Ok, Err}
 use Rattle.qic_base.specs.Source as sources
 use Rattle.qic_base.specs.Tape as tapes
-use Rattle.acts.specs.Acts.{Outside, TapeFails, SourceFails, Went, Cut}
-use Rattle.acts.specs.Around.{no_sink}
+use Rattle.qic_base.specs.Acts.{Outside, TapeFails, SourceFails, Went, Cut}
+use Rattle.qic_base.specs.Acts.{no_sink}
 use Rattle.cartridge_spec.specs.Shape.{mask_at, capacity}
 use Rattle.sector_fill.specs.Filling.{GaveUpTo, GaveWithin}
-use Rattle.volume_input.specs.Input.{segment_act}
+use Rattle.command_spec.specs.Append.{segment_act}
 use Rattle.volume_input.specs.declared.fault.InputFault.{InputFault}
 use Rattle.volume_input.specs.declared.fault.InputFault.TheVariants as fault
 use Rattle.volume_input.specs.declared.written.Written.{Written}

@@ -1,7 +1,7 @@
 //! A volume written segment by segment.
 
 ghost use Rattle.std.specs.Prelude.{◌≡◌, ◌-◌, ◌*◌, ◌<◌, ◌≤◌, true, length};
-ghost use Rattle.acts.specs.Around.{reading};
+ghost use Rattle.qic_base.specs.Acts.{reading};
 ghost use Rattle.cartridge_spec.specs.Volumes.{capacity_between, carrying};
 ghost use Rattle.drive_spec.specs.Deck.{is_referenced};
 ghost use Rattle.host_driver.specs.Calls.{IsReady, MayWrite, Keeps};

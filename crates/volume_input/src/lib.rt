@@ -4,7 +4,6 @@
 mod fault;
 mod filling;
 mod input;
-pub mod laws;
 mod segment;
 mod written;
 

@@ -1,13 +1,13 @@
 //! Lines of a volume, of a place, and of a number.
 
 ghost use Rattle.std.specs.Prelude.{◌≡◌, ◌≤◌, length};
-ghost use Rattle.volume_lines.specs.Lines.{appended_line, number_line, place_line};
+ghost use Rattle.command_spec.specs.Lines.{appended_line, number_line, place_line};
 
 use tape_script::TextLine;
 use volume_store::Appended;
 
 /// A word of at most 100 bytes, and a number.
-#[tactic(auto, unfolding(crate::specs::Lines::number_line))]
+#[tactic(auto, unfolding(command_spec::specs::Lines::number_line))]
 pub fn number_text(word: &[u8], n: u64) -> TextLine
     requires { length word.now ≤ 100 }
     ensures { result ≡ number_line word.now n }
@@ -21,7 +21,7 @@ pub fn number_text(word: &[u8], n: u64) -> TextLine
 }
 
 /// A word of at most 100 bytes, and two numbers, as those of a segment and of a sector.
-#[tactic(auto, unfolding(crate::specs::Lines::place_line))]
+#[tactic(auto, unfolding(command_spec::specs::Lines::place_line))]
 pub fn place_text(word: &[u8], first: u64, second: u64) -> TextLine
     requires { length word.now ≤ 100 }
     ensures { result ≡ place_line word.now first second }
@@ -37,7 +37,7 @@ pub fn place_text(word: &[u8], first: u64, second: u64) -> TextLine
 }
 
 /// The line of a volume that was appended.
-#[tactic(auto, unfolding(crate::specs::Lines::appended_line))]
+#[tactic(auto, unfolding(command_spec::specs::Lines::appended_line))]
 pub fn appended_text(appended: &Appended) -> TextLine
     ensures { result ≡ appended_line appended.now.number appended.now.bytes
         appended.now.start appended.now.end }

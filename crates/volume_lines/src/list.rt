@@ -3,7 +3,7 @@
 ghost use Rattle.std.specs.Prelude.{◌≡◌};
 ghost use Rattle.qic_base.specs.Sink.{Writes};
 ghost use Rattle.volume_table.specs.Entry.{entry_of};
-ghost use Rattle.volume_lines.specs.Lines.{volume_line, count_line, list_text};
+ghost use Rattle.command_spec.specs.Lines.{volume_line, count_line, list_text};
 
 use crate::lines::number_text;
 use qic_base::{Sink, SinkFailed};
@@ -11,7 +11,7 @@ use tape_script::{TextLine, write_text};
 use volume_store::Store;
 use volume_table::Entry;
 
-#[tactic(auto, unfolding(crate::specs::Lines::volume_line))]
+#[tactic(auto, unfolding(command_spec::specs::Lines::volume_line))]
 fn volume_text(number: u32, entry: &Entry, bytes: u64) -> TextLine
     ensures { result ≡ volume_line number (entry_of entry.now) bytes }
 {

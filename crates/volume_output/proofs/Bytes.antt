@@ -4,13 +4,14 @@ use Rattle.std.proofs.lemmas.Bool.{le-leb}
 use Rattle.std.proofs.lemmas.List.{length-take-le, take-append-le, take-append-drop}
 use Rattle.std.proofs.lemmas.List.Elements.{All-take}
 use Rattle.qic_base.specs.Cartridge as cartridges
-use Rattle.gf256_qic.specs.Code.{IsSector, IsCodeBlock}
+use Rattle.cartridge_spec.specs.Code.{IsSector, IsCodeBlock}
 use Rattle.cartridge_spec.specs.Says.{data_of}
-use Rattle.cartridge_spec.specs.Shape.{Carries, usable_count, data_count, capacity}
-use Rattle.cartridge_spec.proofs.Places.{count_below}
-use Rattle.cartridge_spec.proofs.Sayings.{cartridge_sectors}
-use Rattle.append_plan.specs.NewVolume.{bytes_in}
-use Rattle.restore_plan.proofs.Counts.{length-bytes_in}
+use Rattle.cartridge_laws.specs.Shape.{Carries}
+use Rattle.cartridge_spec.specs.Shape.{usable_count, data_count, capacity}
+use Rattle.cartridge_laws.proofs.Places.{count_below}
+use Rattle.cartridge_laws.proofs.Sayings.{cartridge_sectors}
+use Rattle.cartridge_spec.specs.Appending.{bytes_in}
+use Rattle.command_laws.proofs.RestoreCounts.{length-bytes_in}
 
 bytes_in-append : (xs ys : List (List ℕ)) → bytes_in (xs ++ ys) ≡ bytes_in xs ++ bytes_in ys
 bytes_in-append [] ys = refl

@@ -1,20 +1,21 @@
 -- How one segment's part joins those behind it.
-use Rattle.std.proofs.Common.{◌≡◌, ℕ, suc, Bool, true, false, List, [], ◌∷◌, ◌++◌, length, Result, Ok, Err, refl, sym, ap, ◌∙◌, subst, arith}
-use Rattle.qic_base.specs.Cartridge.{Cartridge}
-use Rattle.qic_base.specs.Step.{Step}
-use Rattle.qic_base.specs.Sink as sinks
-use Rattle.qic_base.specs.Tape as tapes
+use Rattle.std.proofs.Common.{◌≡◌, Bool, true, false, List, [], ◌∷◌, refl, ◌++◌, ap, ℕ, length, arith, Result, Ok, Err, sym, ◌∙◌, subst}
+use Rattle.command_laws.proofs.OutputJoining.{EndsAt-more}
+use Rattle.command_laws.proofs.RestoreEndings.{restores_is_function}
+use Rattle.command_laws.specs.OutputText.{printed, AreOf}
+use Rattle.command_spec.specs.Restore.{Piece, Restored, IsRead, Ending, PieceEnds, LostIn, MismatchIn, Restores, EndsAt}
+use Rattle.qic_base.proofs.Joins.{nothing_went, went_both, went_then_cut, cut_is_longer}
 use Rattle.qic_base.proofs.Steps.{Tells-map, Tells-read}
 use Rattle.qic_base.proofs.Writing.{TakesBoth}
-use Rattle.acts.specs.Acts.{Act, steps_of, Outside, Failing, TapeFails, SinkFails, Went, Cut}
-use Rattle.acts.specs.Around.{no_source}
-use Rattle.acts.proofs.Joins.{nothing_went, went_both, went_then_cut, cut_is_longer}
+use Rattle.qic_base.specs.Acts.{Act, steps_of, Outside, Failing, TapeFails, SinkFails, Went, Cut, no_source}
+use Rattle.qic_base.specs.Cartridge.{Cartridge}
+use Rattle.qic_base.specs.Step.{Step}
 use Rattle.segment_io.proofs.Going.{tells_always, tells_then}
-use Rattle.restore_plan.specs.Restoring.{Piece, Ending, Restored, LostIn, MismatchIn, IsRead, PieceEnds, Restores}
-use Rattle.restore_plan.proofs.Endings.{restores_is_function}
+use Rattle.volume_output.specs.Output.{GaveVolume, VolumeCut, OutputEnds}
 use Rattle.volume_output.specs.declared.fault.OutputFault.{OutputFault}
+use Rattle.qic_base.specs.Sink as sinks
+use Rattle.qic_base.specs.Tape as tapes
 use Rattle.volume_output.specs.declared.fault.OutputFault.TheVariants as fault
-use Rattle.volume_output.specs.Output.{printed, AreOf, EndsAt, GaveVolume, VolumeCut, OutputEnds}
 
 -- ---- lists of acts as they are printed
 
@@ -31,13 +32,6 @@ printed_more false piece needed act acts = refl
 pub printed_steps : (lined : Bool) (piece : Piece) (act : Act) → act.steps ≡ [] → steps_of (printed lined (piece ∷ []) (act ∷ [])) ≡ []
 printed_steps true piece act none = ap (λ (steps : List Step). steps ++ []) none
 printed_steps false piece act none = ap (λ (steps : List Step). steps ++ []) none
-
--- ---- an end
-
-pub EndsAt-more : (piece : Piece) (needed : List Piece) (done : ℕ) (ending : Ending) → EndsAt needed done ending → EndsAt (piece ∷ needed) (suc done) ending
-EndsAt-more piece needed done Restored ends = ap suc ends
-EndsAt-more piece needed done (LostIn segment lost) ends = ends
-EndsAt-more piece needed done (MismatchIn segment) ends = ends
 
 -- ---- what a piece restores
 

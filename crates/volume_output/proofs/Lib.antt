@@ -1,5 +1,4 @@
-mod Bytes
-mod ActsOfPieces
-mod Joining
-mod OnePiece
-mod Walking
+pub mod Bytes
+pub mod Joining
+pub mod OnePiece
+pub mod Walking

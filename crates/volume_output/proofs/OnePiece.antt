@@ -5,19 +5,20 @@ use Rattle.qic_base.specs.Sink as sinks
 use Rattle.qic_base.specs.Tape as tapes
 use Rattle.qic_base.proofs.Steps.{Tells-map}
 use Rattle.qic_base.proofs.Writing.{TakesBoth, Wrote-Wrote, Wrote-BrokeOff, BrokeOff-longer}
-use Rattle.acts.specs.Acts.{Act, text_of, TapeFails, SinkFails, Went, Cut}
-use Rattle.acts.specs.Around.{no_source, around}
-use Rattle.acts.proofs.Joins.{cut_is_longer, broke_first}
+use Rattle.qic_base.specs.Acts.{Act, text_of, TapeFails, SinkFails, Went, Cut}
+use Rattle.qic_base.specs.Acts.{no_source, around}
+use Rattle.qic_base.proofs.Joins.{cut_is_longer, broke_first}
 use Rattle.cartridge_spec.specs.Says.{cells_of, Says, Data, LostSectors, data_of}
 use Rattle.cartridge_spec.specs.Says as saying
 use Rattle.cartridge_spec.specs.Shape.{mask_at, usable_count}
-use Rattle.cartridge_spec.proofs.Segments.{count_of_cells}
-use Rattle.append_plan.specs.NewVolume.{bytes_in}
+use Rattle.cartridge_laws.proofs.Segments.{count_of_cells}
+use Rattle.cartridge_spec.specs.Appending.{bytes_in}
 use Rattle.segment_io.specs.Reading.{HasSolved}
 use Rattle.segment_io.proofs.Going.{tells_always}
-use Rattle.restore_plan.specs.Restoring.{Piece, Ending, Restored, LostIn, MismatchIn, IsRead, PieceEnds, Restores, act_of}
-use Rattle.restore_plan.proofs.Endings.{restores_is_function}
-use Rattle.volume_output.specs.Output.{printed, GaveVolume, VolumeCut}
+use Rattle.command_spec.specs.Restore.{Piece, Ending, Restored, LostIn, MismatchIn, IsRead, PieceEnds, Restores, act_of}
+use Rattle.command_laws.proofs.RestoreEndings.{restores_is_function}
+use Rattle.command_laws.specs.OutputText.{printed}
+use Rattle.volume_output.specs.Output.{GaveVolume, VolumeCut}
 use Rattle.volume_output.specs.Piece.{piece_of, printed_act, part_text}
 use Rattle.volume_output.proofs.Bytes.{Holds, data_bytes, count_of_bytes}
 use Rattle.volume_output.proofs.Joining.{printed_none, printed_steps, none_given}

@@ -5,12 +5,12 @@ use Rattle.std.proofs.lemmas.Bool.{cases_Bool, leb-true}
 use Rattle.qic_base.specs.Sink as sinks
 use Rattle.qic_base.specs.Tape as tapes
 use Rattle.qic_base.proofs.Writing.{TakesBoth}
-use Rattle.acts.specs.Acts.{Outside}
+use Rattle.qic_base.specs.Acts.{Outside}
 use Rattle.cartridge_spec.specs.Shape.{mask_at, usable_count, data_count, capacity}
 use Rattle.cartridge_spec.specs.Volumes.{carrying}
-use Rattle.mount_laws.proofs.Writing.{places_that, places_none, places_passes, places_fails}
-use Rattle.append_plan.proofs.Segments.{carries, carried, carrying_are}
-use Rattle.restore_plan.specs.Restoring.{Piece, Restored, pieces_of}
+use Rattle.cartridge_laws.proofs.MountWriting.{places_that, places_none, places_passes, places_fails}
+use Rattle.cartridge_laws.proofs.AppendSegments.{carries, carried, carrying_are}
+use Rattle.command_spec.specs.Restore.{Piece, Restored, pieces_of}
 use Rattle.volume_output.specs.declared.fault.OutputFault.{OutputFault}
 use Rattle.volume_output.specs.Output.{GaveVolume, OutputEnds}
 use Rattle.volume_output.specs.Piece.{piece_of}

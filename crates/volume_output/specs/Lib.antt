@@ -1,3 +1,2 @@
-pub mod Laws
 pub mod Output
 pub mod Piece

@@ -1,29 +1,12 @@
 -- How the bytes of a volume went from its segments to a sink (this project's own).
-use Rattle.std.specs.Prelude.{◌≡◌, ℕ, ◌<◌, Bool, true, false, List, [], ◌∷◌, length, slice_get, IsSomeAnd, Result, Ok, Err}
+use Rattle.std.specs.Prelude.{ℕ, Bool, List, length, Result, Ok, Err}
+use Rattle.command_laws.specs.OutputText.{printed, AreOf}
+use Rattle.command_spec.specs.Restore.{Piece, Ending, Restores, EndsAt, Restored, LostIn, MismatchIn}
+use Rattle.qic_base.specs.Acts.{Act, Outside, Went, no_source, Failing, Cut, TapeFails, SinkFails}
+use Rattle.volume_output.specs.declared.fault.OutputFault.{OutputFault}
 use Rattle.qic_base.specs.Sink as sinks
 use Rattle.qic_base.specs.Tape as tapes
-use Rattle.acts.specs.Acts.{Act, Outside, Failing, TapeFails, SinkFails, Went, Cut}
-use Rattle.acts.specs.Around.{no_source}
-use Rattle.restore_plan.specs.Restoring.{Piece, Ending, Restored, LostIn, MismatchIn, Restores, framed}
-use Rattle.volume_output.specs.declared.fault.OutputFault.{OutputFault}
 use Rattle.volume_output.specs.declared.fault.OutputFault.TheVariants as fault
-
--- the acts as they are printed: each behind a line with its number of bytes, or alone
-abbrev pub printed : (lined : Bool) → List Piece → List Act → List Act
-printed true needed acts = framed needed acts
-printed false needed acts = acts
-
--- acts of the first of some pieces, one for each: no step, and as many bytes as the piece holds
-abbrev pub AreOf : List Piece → List Act → Type 0
-AreOf needed [] = Unit {0}
-AreOf [] (act ∷ acts) = ⊥
-AreOf (piece ∷ needed) (act ∷ acts) = (act.steps ≡ []) × (length act.text ≡ piece.count) × AreOf needed acts
-
--- with so many pieces read: all of them, or the next one's segment is the one that says no data
-abbrev pub EndsAt : List Piece → (done : ℕ) → Ending → Type 0
-EndsAt needed done Restored = done ≡ length needed
-EndsAt needed done (LostIn segment lost) = (3 < lost) × IsSomeAnd (slice_get needed done) (λ piece. piece.segment ≡ segment)
-EndsAt needed done (MismatchIn segment) = IsSomeAnd (slice_get needed done) (λ piece. piece.segment ≡ segment)
 
 -- The pieces were read up to this ending, and the sink took their bytes.
 pub record GaveVolume {T K : Type 0} (t : tapes.Meaning T) (k : sinks.Meaning K) (words : List ℕ) (needed : List Piece) (lined : Bool) (old new : Outside T (Unit {0}) K) (ending : Ending) : Type 0 where

@@ -2,7 +2,6 @@
 #![tactic(auto)]
 
 mod fault;
-pub mod laws;
 mod output;
 mod piece;
 

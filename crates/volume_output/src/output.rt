@@ -1,13 +1,13 @@
 //! A volume read segment by segment.
 
 ghost use Rattle.std.specs.Prelude.{◌≡◌, ◌*◌, ◌<◌, ◌≤◌, true, length};
-ghost use Rattle.acts.specs.Around.{around};
+ghost use Rattle.qic_base.specs.Acts.{around};
 ghost use Rattle.cartridge_spec.specs.Volumes.{capacity_between, carrying};
 ghost use Rattle.drive_spec.specs.Deck.{is_referenced};
 ghost use Rattle.drive_states.specs.Reach.{reads_in};
 ghost use Rattle.host_driver.specs.Calls.{IsReady, Keeps};
 ghost use Rattle.host_driver.specs.Fits.{segments_of};
-ghost use Rattle.restore_plan.specs.Restoring.{pieces_of};
+ghost use Rattle.command_spec.specs.Restore.{pieces_of};
 ghost use Rattle.volume_output.specs.Output.{OutputEnds};
 
 use crate::fault::OutputFault;

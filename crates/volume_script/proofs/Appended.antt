@@ -12,26 +12,27 @@ use Rattle.qic_base.specs.Step.{Step}
 use Rattle.qic_base.specs.Tape as tapes
 use Rattle.qic_base.proofs.Steps.{Tells-map}
 use Rattle.qic_base.proofs.Writing.{TakesBoth}
-use Rattle.acts.specs.Acts.{Act, text_of, Failing, TapeFails, SourceFails, SinkFails, Went, Cut}
-use Rattle.acts.specs.Around.{no_sink, reading}
-use Rattle.append_plan.specs.Between.{table_writes}
-use Rattle.cartridge_spec.specs.Slots.{slot_sector}
-use Rattle.acts.proofs.Joins.{cut_is_longer, broke_behind}
+use Rattle.qic_base.specs.Acts.{Act, text_of, Failing, TapeFails, SourceFails, SinkFails, Went, Cut}
+use Rattle.qic_base.specs.Acts.{no_sink, reading}
+use Rattle.cartridge_spec.specs.Appending.{table_writes}
+use Rattle.cartridge_spec.specs.Table.{slot_sector}
+use Rattle.qic_base.proofs.Joins.{cut_is_longer, broke_behind}
 use Rattle.cartridge_spec.specs.HeaderAndTable.{table_cells, TableIs}
 use Rattle.cartridge_spec.specs.Says.{ByCode, LostSectors, TableSays}
 use Rattle.cartridge_spec.specs.Table.{Entry}
-use Rattle.mount_laws.specs.Settling.{settling_steps}
-use Rattle.tape_script.specs.declared.line.Line.{Line}
-use Rattle.tape_script.specs.declared.line.Line.TheVariants as line
-use Rattle.tape_script.specs.Input.{promised as promised_by}
-use Rattle.tape_script.specs.Reading.{Gave}
-use Rattle.tape_script.proofs.Giving.{Gave-Gave}
+use Rattle.cartridge_spec.specs.Settling.{settling_steps}
+use Rattle.command_spec.specs.declared.line.Line.{Line}
+use Rattle.command_spec.specs.declared.line.Line.TheVariants as line
+use Rattle.command_spec.specs.Input.{promised as promised_by}
+use Rattle.qic_base.specs.Source.{Gave}
+use Rattle.qic_base.proofs.Giving.{Gave-Gave}
 use Rattle.tape_script.proofs.Rests.{any_rest, whole_told}
-use Rattle.volume_lines.specs.Lines.{appended_line, reply_behind}
+use Rattle.command_spec.specs.Lines.{appended_line, reply_behind}
 use Rattle.volume_store.specs.declared.appended.Appended.{Appended}
 use Rattle.volume_store.specs.declared.fault.StoreFault.{StoreFault}
 use Rattle.volume_store.specs.declared.fault.StoreFault.TheVariants as store_fault
-use Rattle.volume_store.specs.Appending.{Kept, Taking, Fits, TooLong, TooShort, taking, room_in, entry_for, append_acts, silently, table_with, kept_by, AppendRan, HasAppended, TableRefused, AppendCut, CutUnread, KeepsList}
+use Rattle.command_spec.specs.Append.{Kept, Taking, Fits, TooLong, TooShort, taking, room_in, entry_for, append_acts, silently, table_with}
+use Rattle.volume_store.specs.Appending.{kept_by, AppendRan, HasAppended, TableRefused, AppendCut, CutUnread, KeepsList}
 use Rattle.volume_store.specs.Mounting.{StoreView, StoreFits}
 use Rattle.drive_spec.specs.Deck.{is_protected}
 use Rattle.drive_states.specs.Unit.{UnitView}
@@ -39,19 +40,20 @@ use Rattle.volume_store.proofs.Copies.{tells_two}
 use Rattle.volume_script.specs.declared.fault.ItemFault.{ItemFault}
 use Rattle.volume_script.specs.declared.fault.ItemFault.TheVariants as fault
 use Rattle.volume_script.specs.declared.limited.Limited.{Limited}
-use Rattle.volume_script.specs.declared.refusal.Refusal.{Refusal}
-use Rattle.volume_script.specs.declared.refusal.Refusal.TheVariants as why
-use Rattle.volume_script.specs.Items.{EarlyDoes, ItemDone, ItemShort, ItemCut, ItemMismatched, ItemEnds, WouldDo}
+use Rattle.command_spec.specs.declared.refusal.Refusal.{Refusal}
+use Rattle.command_spec.specs.declared.refusal.Refusal.TheVariants as why
+use Rattle.command_laws.specs.ScriptItems.{EarlyDoes}
+use Rattle.volume_script.specs.Items.{ItemDone, ItemShort, ItemCut, ItemMismatched, ItemEnds, WouldDo}
 use Rattle.volume_script.specs.Limited.{limited_means}
-use Rattle.volume_script.specs.Lines.{refusal_line}
+use Rattle.command_spec.specs.Script.{refusal_line}
 use Rattle.volume_script.specs.Promised.{RanPromised, Refuses, replied_so}
-use Rattle.volume_script.specs.Script.{Did, LineDoes, Meeting, Finds, Meets, acts_on, kept_on, refused, reply, taken_as}
-use Rattle.volume_script.specs.Script as script
-use Rattle.volume_script.proofs.Acts.{quietly, same_acts, same_taking, took_enough, took_too_long, took_short, full_acts, full_taking, short_acts, fits_acts, front_acts, front_and_last, replied_steps, replied_text, input_texts}
-use Rattle.volume_script.proofs.Given.{gave_all, gave_few, Behind, behind}
-use Rattle.volume_script.proofs.Lifting.{out, TakesNone, read_went, read_cut, replied_went, replied_cut, rested}
+use Rattle.command_spec.specs.Script.{Did, LineDoes, Meeting, Finds, Meets, acts_on, kept_on, refused, reply, taken_as}
+use Rattle.command_spec.specs.Script as script
+use Rattle.command_laws.proofs.ScriptActs.{quietly, same_acts, same_taking, took_enough, took_too_long, took_short, full_acts, full_taking, short_acts, fits_acts, front_acts, front_and_last, replied_steps, replied_text, input_texts}
+use Rattle.command_laws.proofs.ScriptGiven.{gave_all, gave_few, Behind, behind}
+use Rattle.command_laws.proofs.ScriptLifting.{out, TakesNone, read_went, read_cut, replied_went, replied_cut, rested}
 use Rattle.volume_script.proofs.Quiet.{mark_told, unmarked}
-use Rattle.volume_script.proofs.Plain.{line_one, meets_one, not_lost}
+use Rattle.command_laws.proofs.ScriptPlain.{line_one, meets_one, not_lost}
 
 pub flip : (o : Option (List ℕ)) (all : List ℕ) → IfSome o (λ bytes. all ≡ bytes) → IfSome o (λ bytes. bytes ≡ all)
 flip None all told = tt

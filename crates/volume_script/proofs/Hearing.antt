@@ -9,23 +9,27 @@ use Rattle.qic_base.specs.Sink as sinks
 use Rattle.qic_base.specs.Source as sources
 use Rattle.qic_base.specs.Tape as tapes
 use Rattle.qic_base.proofs.Steps.{Rose-after, Tells-map, Done-nothing}
-use Rattle.acts.specs.Acts.{Act, Outside, Failing, TapeFails, SourceFails, SinkFails, Went, Cut}
-use Rattle.acts.proofs.Joins.{cut_is_longer}
+use Rattle.qic_base.specs.Acts.{Act, Outside, Failing, TapeFails, SourceFails, SinkFails, Went, Cut}
+use Rattle.qic_base.proofs.Joins.{cut_is_longer}
 use Rattle.segment_io.proofs.Going.{tells_always}
-use Rattle.tape_script.specs.declared.line.Line.{Line}
-use Rattle.tape_script.specs.declared.line.Line.TheVariants as line
-use Rattle.tape_script.specs.Input.{AtEnd, AtStop, AtFault, promised, most_items}
-use Rattle.tape_script.specs.Reading.{Gave, GaveInLine, BeginsWithNo, IsLineText}
-use Rattle.tape_script.proofs.Giving.{Gave-Gave}
+use Rattle.command_spec.specs.declared.line.Line.{Line}
+use Rattle.command_spec.specs.declared.line.Line.TheVariants as line
+use Rattle.command_spec.specs.Input.{AtEnd, AtStop, AtFault, promised, most_items}
+use Rattle.qic_base.specs.Source.{Gave}
+use Rattle.tape_script.specs.Reading.{GaveInLine, BeginsWithNo}
+use Rattle.command_spec.specs.Input.{IsLineText}
+use Rattle.qic_base.proofs.Giving.{Gave-Gave}
 use Rattle.tape_script.proofs.Rests.{any_rest, whole_told}
 use Rattle.volume_store.specs.Mounting.{StoreView}
 use Rattle.volume_script.specs.Ending.{GaveOn}
 use Rattle.volume_script.specs.Heard.{HeardItem, HeardShort, HeardCut, HeardMismatch, NextDoes}
-use Rattle.volume_script.specs.Items.{EarlyDoes, ItemDone, ItemShort, ItemCut, ItemMismatched, WouldDo}
-use Rattle.volume_script.specs.Script.{EndsEarly, LineDoes}
+use Rattle.command_laws.specs.ScriptItems.{EarlyDoes}
+use Rattle.volume_script.specs.Items.{ItemDone, ItemShort, ItemCut, ItemMismatched, WouldDo}
+use Rattle.command_spec.specs.Script.{EndsEarly, LineDoes}
 use Rattle.volume_script.proofs.Appended.{flip}
-use Rattle.volume_script.proofs.Input.{end_is_line, item_of, line_of_item, same_line, some_text}
-use Rattle.volume_script.proofs.Lifting.{out, TakesNone}
+use Rattle.volume_script.proofs.Input.{end_is_line, item_of, line_of_item, some_text}
+use Rattle.command_laws.proofs.ScriptInput.{same_line}
+use Rattle.command_laws.proofs.ScriptLifting.{out, TakesNone}
 
 -- an append's line with too few bytes behind it
 abbrev pub early_of : (text bytes : List ℕ) (asked : Line) → IsLineText text asked → length bytes < promised asked → EndsEarly (text ++ bytes)

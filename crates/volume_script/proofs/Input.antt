@@ -1,18 +1,18 @@
 -- The lines of a script, and what is no item.
-use Rattle.std.proofs.Common.{◌≡◌, ◌≢◌, ℕ, ◌<◌, ◌≤◌, List, [], ◌∷◌, ◌++◌, length, get_or, Option, Some, None, IfSome, codes, refl, sym, ap, ◌∙◌, subst, arith, inl, inr, append_assoc}
-use Rattle.std.specs.Option.{option_map}
+use Rattle.std.proofs.Common.{◌≡◌, ℕ, List, [], ◌∷◌, ◌++◌, codes, sym, ap, ◌∙◌, inl, inr, refl, arith, ◌<◌, length, ◌≤◌, ◌≢◌, append_assoc, get_or, Option, Some, None, IfSome}
 use Rattle.std.specs.List.{join_with_byte}
-use Rattle.std.proofs.lemmas.List.{length-append, append_cancel_left}
 use Rattle.std.proofs.lemmas.List.Splits.{join_with_byte-slice_split}
-use Rattle.tape_script.specs.declared.line.Line.{Line}
-use Rattle.tape_script.specs.declared.line.Line.TheVariants as line
-use Rattle.tape_script.specs.Input.{Item, IsItem, IsLine, HasStop, IsFault, words_of, promised, most_items}
-use Rattle.tape_script.specs.Forms.{SpellsAll, Word}
-use Rattle.tape_script.specs.Reading.{IsLineText}
-use Rattle.tape_script.proofs.Lined.{one_before, end_no_newline}
-use Rattle.tape_script.proofs.Lines.{one_line}
+use Rattle.std.proofs.lemmas.List.{length-append}
+use Rattle.std.specs.Option.{option_map}
+use Rattle.command_laws.proofs.ScriptInput.{SameLine, same_line}
+use Rattle.command_laws.proofs.TextLined.{end_no_newline}
+use Rattle.command_laws.proofs.TextLines.{one_line}
+use Rattle.command_spec.specs.CommandWords.{SpellsAll, Word}
+use Rattle.command_spec.specs.Input.{words_of, IsLineText, IsItem, promised, Item, IsFault, most_items, HasStop}
+use Rattle.command_spec.specs.Script.{EndsEarly}
+use Rattle.command_spec.specs.declared.line.Line.{Line}
 use Rattle.tape_script.proofs.Rests.{Rest}
-use Rattle.volume_script.specs.Script.{EndsEarly}
+use Rattle.command_spec.specs.declared.line.Line.TheVariants as line
 
 -- ---- the line `end`
 
@@ -30,27 +30,6 @@ end_text text is = elim is.has [
 
 pub end_is_line : IsLineText (codes "end\n") line.End
 end_is_line = record { before = codes "end"; short = omega arith; one_line = end_no_newline; whole = refl; has = inl (refl, tt) }
-
--- ---- one line begins the input
-
-pub record SameLine (a b r q : List ℕ) (x y : Line) : Type 0 where
-  pub texts : a ≡ b
-  pub rests : r ≡ q
-  pub lines : x ≡ y
-
-pub same_line : (a b r q : List ℕ) (x y : Line) → IsLineText a x → IsLineText b y → a ++ r ≡ b ++ q → SameLine a b r q x y
-same_line a b r q x y first second e =
-    let before : first.before ≡ second.before =
-    one_before first.before second.before r q first.one_line second.one_line
-    (sym (ap (λ t. t ++ r) first.whole ∙ append_assoc first.before (0x0A ∷ []) r) ∙ e ∙ ap (λ t. t ++ q) second.whole ∙ append_assoc second.before (0x0A ∷ []) q) in
-    let same : a ≡ b = first.whole ∙ ap (λ t. t ++ 0x0A ∷ []) before ∙ sym second.whole in
-    let P : List ℕ → Type 0 = λ t. IsLine t y in
-    let here : IsLine first.before y = subst P (sym before) second.has in
-    record {
-      texts = same;
-      rests = append_cancel_left a r q (e ∙ ap (λ t. t ++ q) (sym same));
-      lines = one_line (words_of first.before) x y first.has here;
-    }
 
 pub some_text : (text : List ℕ) (asked : Line) → IsLineText text asked → 0 < length text
 some_text text asked is = let l = ap length is.whole in let m = length-append is.before (0x0A ∷ []) in omega arith
@@ -105,11 +84,6 @@ early_fault number rest early =
           let long = is.kept in let n = ap promised same.lines in let r = ap length same.rests in let l = length-append item.0.bytes item.1.1.0 in let s = early.short in
           omega arith;
     }
-
--- how an append's line begins them is one thing
-pub early_lines : (rest : List ℕ) (x y : EndsEarly rest) →
-    SameLine x.text y.text x.bytes y.bytes (line.Append x.name x.promised x.date) (line.Append y.name y.promised y.date)
-early_lines rest x y = same_line x.text y.text x.bytes y.bytes (line.Append x.name x.promised x.date) (line.Append y.name y.promised y.date) x.lined y.lined (sym x.parts ∙ y.parts)
 
 -- ---- what a source gave that begins with no line
 

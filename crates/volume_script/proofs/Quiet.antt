@@ -11,9 +11,9 @@ use Rattle.qic_base.specs.Step.{Wear}
 use Rattle.qic_base.specs.Tape as tapes
 use Rattle.qic_base.proofs.Steps.{Tells-map}
 use Rattle.qic_base.proofs.Writing.{TakesBoth}
-use Rattle.acts.specs.Acts.{Act, Outside, Failing, TapeFails, SourceFails, SinkFails, Went, Cut}
-use Rattle.acts.specs.Around.{no_source, around}
-use Rattle.acts.proofs.Joins.{cut_is_longer, sink_cut_one}
+use Rattle.qic_base.specs.Acts.{Act, Outside, Failing, TapeFails, SourceFails, SinkFails, Went, Cut}
+use Rattle.qic_base.specs.Acts.{no_source, around}
+use Rattle.qic_base.proofs.Joins.{cut_is_longer, sink_cut_one}
 use Rattle.cartridge_spec.specs.Table.{Entry}
 use Rattle.cartridge_spec.specs.Volumes.{volume_length}
 use Rattle.drive_spec.specs.Deck.{is_protected, segments_per_track}
@@ -22,31 +22,33 @@ use Rattle.drive_states.specs.declared.fault.HandFault.TheVariants as hand
 use Rattle.drive_states.specs.Hand.{Wears}
 use Rattle.drive_states.specs.Unit.{UnitView}
 use Rattle.host_driver.specs.Fits.{segments_of}
-use Rattle.restore_plan.specs.Restoring.{Restored, LostIn, MismatchIn, Restores, framed, pieces}
-use Rattle.restore_plan.specs.Restoring as restoring
-use Rattle.scrub_plan.specs.Scrubbing.{Scrubs, counts_of, looked_at}
+use Rattle.command_spec.specs.Restore.{Restored, LostIn, MismatchIn, Restores, framed, pieces}
+use Rattle.command_spec.specs.Restore as restoring
+use Rattle.command_spec.specs.Scrub.{Scrubs, counts_of, looked_at}
 use Rattle.segment_io.proofs.Going.{tells_always}
 use Rattle.segment_mending.specs.Mending.{HasScrubbed, ScrubCut, reported}
 use Rattle.segment_mending.specs.declared.report.ScrubReport.{ScrubReport}
-use Rattle.tape_script.specs.declared.line.Line.{Line}
-use Rattle.tape_script.specs.declared.line.Line.TheVariants as line
-use Rattle.tape_script.specs.Input.{promised}
-use Rattle.tape_script.proofs.Giving.{Gave-nothing}
+use Rattle.command_spec.specs.declared.line.Line.{Line}
+use Rattle.command_spec.specs.declared.line.Line.TheVariants as line
+use Rattle.command_spec.specs.Input.{promised}
+use Rattle.qic_base.proofs.Giving.{Gave-nothing}
 use Rattle.tape_script.proofs.Rests.{any_rest}
-use Rattle.volume_lines.specs.Lines.{list_text, lost_line}
+use Rattle.command_spec.specs.Lines.{list_text, lost_line}
 use Rattle.volume_output.specs.Output.{GaveVolume, VolumeCut}
 use Rattle.volume_store.specs.declared.fault.StoreFault.TheVariants as store_fault
 use Rattle.volume_store.specs.Mounting.{StoreView, StoreFits}
-use Rattle.volume_store.specs.Restoring.{RestoreEnds, volume_at}
+use Rattle.volume_store.specs.Restoring.{RestoreEnds}
+use Rattle.command_spec.specs.Restore.{volume_at}
 use Rattle.volume_store.proofs.Copies.{IsLearnt, told_learnt, tells_two}
-use Rattle.volume_script.specs.declared.refusal.Refusal.TheVariants as why
+use Rattle.command_spec.specs.declared.refusal.Refusal.TheVariants as why
 use Rattle.volume_script.specs.Items.{ItemDone, ItemCut, ItemEnds, WouldDo}
-use Rattle.volume_script.specs.Lines.{refusal_line, restored_line}
+use Rattle.command_spec.specs.Script.{refusal_line, restored_line}
 use Rattle.volume_script.specs.Promised.{replied_so}
-use Rattle.volume_script.specs.Script.{Did, LineDoes, given_as, reply}
-use Rattle.volume_script.proofs.Lifting.{out, TakesNone, printed_went, printed_cut, replied_went, replied_cut, rested}
-use Rattle.volume_script.proofs.Plain.{given, line_one, would_without}
-use Rattle.volume_script.proofs.Places.{place_or_not}
+use Rattle.command_spec.specs.Script.{Did, LineDoes, given_as, reply}
+use Rattle.command_laws.proofs.ScriptLifting.{out, TakesNone, printed_went, printed_cut, replied_went, replied_cut, rested}
+use Rattle.command_laws.proofs.ScriptPlain.{given, line_one}
+use Rattle.volume_script.proofs.Plain.{would_without}
+use Rattle.command_laws.proofs.ScriptPlaces.{place_or_not}
 
 -- the mark that is told is the one that the drive knows
 pub mark_told : {T : Type 0} (t : tapes.Meaning T) (store : StoreView) (u : UnitView T) → StoreFits t store u → (mark : Bool) → is_protected u.drive.deck ≡ mark →

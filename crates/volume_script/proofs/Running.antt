@@ -9,18 +9,19 @@ use Rattle.qic_base.specs.Source as sources
 use Rattle.qic_base.specs.Tape as tapes
 use Rattle.qic_base.proofs.Steps.{Done-nothing, Tells-map}
 use Rattle.qic_base.proofs.Writing.{TakesBoth}
-use Rattle.acts.specs.Acts.{Act, Outside, Failing, TapeFails, SourceFails, SinkFails, Went, Cut, steps_of, text_of}
-use Rattle.acts.proofs.Joins.{text_of-append, went_both, went_then_cut, cut_is_longer}
+use Rattle.qic_base.specs.Acts.{Act, Outside, Failing, TapeFails, SourceFails, SinkFails, Went, Cut, steps_of, text_of}
+use Rattle.qic_base.proofs.Joins.{text_of-append, went_both, went_then_cut, cut_is_longer}
 use Rattle.cartridge_spec.specs.Table.{Entry}
-use Rattle.cartridge_spec.specs.Writes.{changed_by}
+use Rattle.cartridge_spec.specs.Settling.{changed_by}
 use Rattle.segment_io.proofs.Going.{tells_always}
-use Rattle.tape_script.specs.declared.line.Line.{Line}
-use Rattle.tape_script.specs.declared.line.Line.TheVariants as line
-use Rattle.tape_script.specs.Input.{Item, IsItem, IsFault, Ending, AtEnd, AtStop, AtFault, ItemsEnd, HasItems, IsScript, most_items, promised}
-use Rattle.tape_script.specs.Reading.{Gave, IsLineText}
-use Rattle.tape_script.proofs.Giving.{Gave-Gave, Gave-end, Gave-nothing}
-use Rattle.tape_script.proofs.Inputs.{one_reading}
-use Rattle.tape_script.proofs.Inputs as inputs
+use Rattle.command_spec.specs.declared.line.Line.{Line}
+use Rattle.command_spec.specs.declared.line.Line.TheVariants as line
+use Rattle.command_spec.specs.Input.{Item, IsItem, IsFault, Ending, AtEnd, AtStop, AtFault, ItemsEnd, HasItems, IsScript, most_items, promised}
+use Rattle.qic_base.specs.Source.{Gave}
+use Rattle.command_spec.specs.Input.{IsLineText}
+use Rattle.qic_base.proofs.Giving.{Gave-Gave, Gave-end, Gave-nothing}
+use Rattle.command_laws.proofs.TextInputs.{one_reading}
+use Rattle.command_laws.proofs.TextInputs as inputs
 use Rattle.tape_script.proofs.Rests.{any_rest, ended_rest, whole_told, left_behind}
 use Rattle.volume_store.specs.Mounting.{StoreView}
 use Rattle.volume_store.proofs.Copies.{tells_two}
@@ -29,17 +30,17 @@ use Rattle.volume_script.specs.declared.fault.ScriptFault.{ScriptFault}
 use Rattle.volume_script.specs.declared.fault.ScriptFault.TheVariants as fault
 use Rattle.volume_script.specs.Ending.{HearsEnd, RepliesEnd}
 use Rattle.volume_script.specs.Heard.{longest, GaveEnd, HeardItem, HeardNone, HeardShort, HeardCut, Hears, NextDoes}
-use Rattle.volume_script.specs.Items.{EarlyDoes}
-use Rattle.volume_script.specs.Lines.{end_line}
+use Rattle.command_laws.specs.ScriptItems.{EarlyDoes}
+use Rattle.command_spec.specs.Script.{end_line}
 use Rattle.volume_script.specs.Runs.{Leaves, Ended, CutOff}
 use Rattle.volume_script.specs.Runs as runs
-use Rattle.volume_script.specs.Script.{Answer, AllDone, FaultIn, Did, EndDoes, EndsEarly, FaultDoes, ItemDoes, ItemsDo, ScriptRun, ScriptDoes, acts_of, answer_by, cartridge_behind, entries_behind, place_behind, reply, taken_by}
+use Rattle.command_spec.specs.Script.{Answer, AllDone, FaultIn, Did, EndDoes, EndsEarly, FaultDoes, ItemDoes, ItemsDo, ScriptRun, ScriptDoes, acts_of, answer_by, cartridge_behind, entries_behind, place_behind, reply, taken_by}
 use Rattle.volume_script.proofs.Appended.{flip}
 use Rattle.volume_script.proofs.Hearing.{early_of}
 use Rattle.volume_script.proofs.Input.{no_line_fault, no_line_early, early_fault, none_rest, on_rest, stop_rest}
-use Rattle.volume_script.proofs.Lifting.{out, TakesNone, replied_went, replied_cut}
-use Rattle.tape_script.proofs.Inputs.{no_ending}
-use Rattle.volume_script.proofs.Reading.{Reads, reads_more, read_end, place_is, split_reading, acts_of-append, entries_behind-append, cartridge_is, do_more, split_doing}
+use Rattle.command_laws.proofs.ScriptLifting.{out, TakesNone, replied_went, replied_cut}
+use Rattle.command_laws.proofs.TextInputs.{no_ending}
+use Rattle.command_laws.proofs.ScriptReading.{Reads, reads_more, read_end, place_is, split_reading, acts_of-append, entries_behind-append, cartridge_is, do_more, split_doing}
 
 plain_place : (texts : List ℕ) → 0 + length texts ≡ length texts
 plain_place texts = omega arith

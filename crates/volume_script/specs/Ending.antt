@@ -3,11 +3,12 @@ use Rattle.std.specs.Prelude.{◌≡◌, ℕ, ◌<◌, Result, Ok, Err, codes}
 use Rattle.qic_base.specs.Cause.{Rose}
 use Rattle.qic_base.specs.Sink as sinks
 use Rattle.qic_base.specs.Source as sources
-use Rattle.tape_script.specs.Reading.{GaveSome, BeginsWithNo}
+use Rattle.qic_base.specs.Source.{GaveSome}
+use Rattle.tape_script.specs.Reading.{BeginsWithNo}
 use Rattle.volume_script.specs.declared.fault.ScriptFault.{ScriptFault}
 use Rattle.volume_script.specs.declared.fault.ScriptFault.TheVariants as fault
 use Rattle.volume_script.specs.Heard.{GaveEnd}
-use Rattle.volume_script.specs.Lines.{end_line}
+use Rattle.command_spec.specs.Script.{end_line}
 
 -- some bytes were taken, and the line `end` did not begin there
 pub record GaveOn {S : Type 0} (s : sources.Meaning S) (old new : S) : Type 0 where

@@ -4,16 +4,18 @@ use Rattle.qic_base.specs.Cartridge.{Cartridge}
 use Rattle.qic_base.specs.Sink as sinks
 use Rattle.qic_base.specs.Source as sources
 use Rattle.qic_base.specs.Tape as tapes
-use Rattle.acts.specs.Acts.{Act, Outside, Failing, TapeFails, SourceFails, SinkFails, Went, Cut}
+use Rattle.qic_base.specs.Acts.{Act, Outside, Failing, TapeFails, SourceFails, SinkFails, Went, Cut}
 use Rattle.cartridge_spec.specs.Table.{Entry}
-use Rattle.tape_script.specs.declared.line.Line.{Line}
-use Rattle.tape_script.specs.Input.{Item, IsItem, Ending, ItemsEnd, most_items, promised}
-use Rattle.tape_script.specs.Reading.{Gave, GaveSome, HasEnded, BeginsWithNo, IsLineText}
+use Rattle.command_spec.specs.declared.line.Line.{Line}
+use Rattle.command_spec.specs.Input.{Item, IsItem, Ending, ItemsEnd, most_items, promised}
+use Rattle.qic_base.specs.Source.{Gave, GaveSome, HasEnded}
+use Rattle.tape_script.specs.Reading.{BeginsWithNo}
+use Rattle.command_spec.specs.Input.{IsLineText}
 use Rattle.volume_store.specs.Mounting.{StoreView}
 use Rattle.volume_script.specs.declared.fault.ScriptFault.{ScriptFault}
 use Rattle.volume_script.specs.declared.fault.ScriptFault.TheVariants as fault
-use Rattle.volume_script.specs.Items.{EarlyDoes}
-use Rattle.volume_script.specs.Script.{Did, ItemDoes, EndDoes}
+use Rattle.command_laws.specs.ScriptItems.{EarlyDoes}
+use Rattle.command_spec.specs.Script.{Did, ItemDoes, EndDoes}
 
 -- no item has more bytes: its line has a u8 of them, and it promises a u32
 abbrev pub longest : ℕ

@@ -1,25 +1,19 @@
 -- What one line of a script did to the outside, with what follows it (this project's own).
-use Rattle.std.specs.Prelude.{◌≡◌, ◌⊎◌, ℕ, ◌<◌, List, ◌++◌, length, IfSome, Result, Ok, Err}
+use Rattle.std.specs.Prelude.{◌≡◌, ℕ, List, length, ◌<◌, ◌⊎◌, ◌++◌, IfSome, Result, Ok, Err}
+use Rattle.cartridge_spec.specs.Table.{Entry}
+use Rattle.command_laws.specs.ScriptItems.{EarlyDoes}
+use Rattle.command_spec.specs.Input.{promised}
+use Rattle.command_spec.specs.Script.{LineDoes, Did}
+use Rattle.command_spec.specs.declared.line.Line.{Line}
+use Rattle.qic_base.specs.Acts.{Act, Outside, Went, Failing, Cut, TapeFails, SourceFails, SinkFails}
 use Rattle.qic_base.specs.Cartridge.{Cartridge}
+use Rattle.qic_base.specs.Source.{Gave, HasEnded}
+use Rattle.volume_script.specs.declared.fault.ItemFault.{ItemFault}
+use Rattle.volume_store.specs.Mounting.{StoreView}
 use Rattle.qic_base.specs.Sink as sinks
 use Rattle.qic_base.specs.Source as sources
 use Rattle.qic_base.specs.Tape as tapes
-use Rattle.acts.specs.Acts.{Act, Outside, Failing, TapeFails, SourceFails, SinkFails, Went, Cut}
-use Rattle.cartridge_spec.specs.Table.{Entry}
-use Rattle.tape_script.specs.declared.line.Line.{Line}
-use Rattle.tape_script.specs.declared.line.Line.TheVariants as line
-use Rattle.tape_script.specs.Input.{promised}
-use Rattle.tape_script.specs.Reading.{Gave, HasEnded}
-use Rattle.volume_store.specs.Mounting.{StoreView}
-use Rattle.volume_script.specs.declared.fault.ItemFault.{ItemFault}
 use Rattle.volume_script.specs.declared.fault.ItemFault.TheVariants as fault
-use Rattle.volume_script.specs.Script.{Did, LineDoes, Meeting, Meets, acts_on}
-
--- the acts of a line whose bytes end early: only an append promises bytes
-abbrev pub EarlyDoes : Cartridge → (words : List ℕ) → List Entry → Line → (bytes : List ℕ) → List Act → Type 0
-EarlyDoes c words entries (line.Append name promised date) bytes acts =
-    (meeting : Meeting) × Meets c meeting × (acts ≡ acts_on c words entries name promised date bytes meeting)
-EarlyDoes c words entries other bytes acts = ⊥
 
 -- The line was carried out, with all the bytes that it promises.
 pub record ItemDone {T S K : Type 0} (t : tapes.Meaning T) (s : sources.Meaning S) (k : sinks.Meaning K) (store after : StoreView) (old new : Outside T S K) (asked : Line) : Type 0 where

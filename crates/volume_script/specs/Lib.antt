@@ -1,11 +1,6 @@
 pub mod Ending
 pub mod Heard
 pub mod Items
-pub mod Laws
 pub mod Limited
-pub mod Lines
-pub mod Listing
 pub mod Promised
 pub mod Runs
-pub mod Script
-pub mod Standing

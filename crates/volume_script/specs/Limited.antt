@@ -5,8 +5,8 @@ use Rattle.std.proofs.lemmas.List.{length-append}
 use Rattle.std.specs.Prelude.{◌≡◌, ℕ, ◌+◌, [], take}
 use Rattle.std.specs.Option.{option_map}
 use Rattle.qic_base.specs.Source.{Meaning}
-use Rattle.tape_script.specs.Reading.{GaveSome}
-use Rattle.tape_script.proofs.Giving.{Gave-nothing, Gave-Gave}
+use Rattle.qic_base.specs.Source.{GaveSome}
+use Rattle.qic_base.proofs.Giving.{Gave-nothing, Gave-Gave}
 use Rattle.volume_script.specs.declared.limited.Limited.{Limited}
 
 -- It lends the same source, which gave as many bytes as fewer are left of the limit.

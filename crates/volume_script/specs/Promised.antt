@@ -4,8 +4,8 @@ use Rattle.qic_base.specs.Cause.{Rose}
 use Rattle.qic_base.specs.Sink as sinks
 use Rattle.qic_base.specs.Source as sources
 use Rattle.qic_base.specs.Tape as tapes
-use Rattle.acts.specs.Around.{reading}
-use Rattle.tape_script.specs.Reading.{Gave, HasEnded}
+use Rattle.qic_base.specs.Acts.{reading}
+use Rattle.qic_base.specs.Source.{Gave, HasEnded}
 use Rattle.volume_store.specs.Appending.{AppendEnds, FaultsUnread}
 use Rattle.volume_store.specs.Mounting.{StoreView}
 use Rattle.volume_store.specs.declared.appended.Appended.{Appended}
@@ -13,9 +13,9 @@ use Rattle.volume_store.specs.declared.fault.StoreFault.{StoreFault}
 use Rattle.volume_script.specs.declared.fault.ItemFault.{ItemFault}
 use Rattle.volume_script.specs.declared.fault.ItemFault.TheVariants as fault
 use Rattle.volume_script.specs.declared.limited.Limited.{Limited}
-use Rattle.volume_script.specs.declared.refusal.Refusal.{Refusal}
+use Rattle.command_spec.specs.declared.refusal.Refusal.{Refusal}
 use Rattle.volume_script.specs.Limited.{Lends, limited_means}
-use Rattle.volume_script.specs.Lines.{refusal_line}
+use Rattle.command_spec.specs.Script.{refusal_line}
 
 -- A store's append was lent the promised bytes of a source, and left so many of them.
 pub record RanPromised {T S : Type 0} (t : tapes.Meaning T) (s : sources.Meaning S) (a b : T) (i j : S) (store after : StoreView) (name : List ℕ) (date promised left : ℕ) (answer : Result Appended StoreFault) : Type 0 where

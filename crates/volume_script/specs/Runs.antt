@@ -4,13 +4,13 @@ use Rattle.std.specs.Option.{option_map}
 use Rattle.qic_base.specs.Sink as sinks
 use Rattle.qic_base.specs.Source as sources
 use Rattle.qic_base.specs.Tape as tapes
-use Rattle.acts.specs.Acts.{Act, text_of, Outside, Failing, TapeFails, SourceFails, SinkFails, Went, Cut}
-use Rattle.tape_script.specs.Input.{Item, Ending, IsScript}
+use Rattle.qic_base.specs.Acts.{Act, text_of, Outside, Failing, TapeFails, SourceFails, SinkFails, Went, Cut}
+use Rattle.command_spec.specs.Input.{Item, Ending, IsScript}
 use Rattle.volume_store.specs.Mounting.{StoreView}
 use Rattle.volume_script.specs.declared.fault.ScriptFault.{ScriptFault}
 use Rattle.volume_script.specs.declared.fault.ScriptFault.TheVariants as fault
-use Rattle.volume_script.specs.Lines.{end_line}
-use Rattle.volume_script.specs.Script.{Answer, AllDone, FaultIn, ScriptRun, ScriptDoes, answer_by}
+use Rattle.command_spec.specs.Script.{end_line}
+use Rattle.command_spec.specs.Script.{Answer, AllDone, FaultIn, ScriptRun, ScriptDoes, answer_by}
 
 -- What is left of the source: the bytes behind those taken; or, after a fault of the input, an end of the bytes from its
 -- place on.

@@ -2,7 +2,7 @@
 
 ghost use Rattle.std.specs.Prelude.{◌≡◌, ◌≢◌, ◌↔◌, true, Err, is_some};
 ghost use Rattle.drive_spec.specs.Deck.{is_protected};
-ghost use Rattle.tape_script.specs.declared.line.Line.TheVariants.{Append};
+ghost use Rattle.command_spec.specs.declared.line.Line.TheVariants.{Append};
 ghost use Rattle.volume_store.specs.Appending.{KeepsFormat, KeepsList};
 ghost use Rattle.volume_store.specs.Mounting.{StoreFits};
 ghost use Rattle.volume_script.specs.Items.{ItemEnds};
@@ -10,8 +10,8 @@ ghost use Rattle.volume_script.specs.Promised.{RanPromised, Refuses};
 
 use crate::fault::ItemFault;
 use crate::limited::Limited;
-use crate::refusal::Refusal;
 use crate::replies::{replied, write_refusal};
+use command_spec::Refusal;
 use drive_states::Unit;
 use qic_base::{Name, Sink, Source, SourceFailed, Tape};
 use tape_script::{skip, write_text};

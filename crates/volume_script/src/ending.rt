@@ -1,12 +1,12 @@
 //! The line behind the last that may be an item, and the last reply.
 
 ghost use Rattle.std.specs.Prelude.{◌≡◌, ◌≢◌, ◌≤◌, is_some};
-ghost use Rattle.tape_script.specs.declared.line.Line.TheVariants.{End as end_line};
+ghost use Rattle.command_spec.specs.declared.line.Line.TheVariants.{End as end_line};
 ghost use Rattle.volume_script.specs.Ending.{HearsEnd, RepliesEnd};
 
 use crate::fault::ScriptFault;
 use qic_base::{Sink, SinkFailed, Source, SourceFailed};
-use tape_script::{Line, LineRead, write_text};
+use tape_script::{Line, LineRead, read_line, write_text};
 
 /// States that a line isn't the last one, and does nothing.
 fn is_no_end(_line: &Line)
@@ -26,7 +26,7 @@ pub fn end_input<S: Source>(
     ensures tells { is_some (S.means.left source.new) ≡ is_some (S.means.left source.old) }
     ensures later { S.means.faults source.old ≤ S.means.faults source.new }
 {
-    match Line::read(source, buffer) {
+    match read_line(source, buffer) {
         Ok(LineRead::End) => Ok(()),
         Ok(
             LineRead::Line {

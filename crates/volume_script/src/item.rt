@@ -1,7 +1,7 @@
 //! One line of a script carried out, with what follows it.
 
 ghost use Rattle.std.specs.Prelude.{◌≡◌, ◌≢◌, Err, is_some};
-ghost use Rattle.tape_script.specs.declared.line.Line.TheVariants.{List as list_line, End as end_line};
+ghost use Rattle.command_spec.specs.declared.line.Line.TheVariants.{List as list_line, End as end_line};
 ghost use Rattle.volume_store.specs.Appending.{KeepsFormat};
 ghost use Rattle.volume_store.specs.Mounting.{StoreFits};
 ghost use Rattle.volume_script.specs.Items.{ItemEnds};

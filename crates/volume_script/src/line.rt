@@ -1,7 +1,7 @@
 //! A line that may be an item.
 
 ghost use Rattle.std.specs.Prelude.{◌≡◌, ◌≢◌, ◌≤◌, Err, IfOk, IfSome, is_some};
-ghost use Rattle.tape_script.specs.Input.{most_items, promised};
+ghost use Rattle.command_spec.specs.Input.{most_items, promised};
 ghost use Rattle.volume_store.specs.Appending.{KeepsFormat};
 ghost use Rattle.volume_store.specs.Mounting.{StoreFits};
 ghost use Rattle.volume_script.specs.Heard.{Hears, longest};
@@ -10,7 +10,7 @@ use crate::fault::{ItemFault, ScriptFault};
 use crate::item::carry_out;
 use drive_states::Unit;
 use qic_base::{Sink, Source, SourceFailed, Tape};
-use tape_script::{Line, LineRead};
+use tape_script::{Line, LineRead, read_line};
 use volume_store::Store;
 
 /// The number of bytes that follow a line at once.
@@ -46,7 +46,7 @@ pub fn carry_out_line<T: Tape, S: Source, K: Sink>(
     ensures kept { S.means.keeps source.old source.new }
     ensures tells { is_some (S.means.left source.new) ≡ is_some (S.means.left source.old) }
 {
-    match Line::read(source, buffer) {
+    match read_line(source, buffer) {
         Ok(LineRead::End) => Ok(None),
         Ok(
             LineRead::Line {

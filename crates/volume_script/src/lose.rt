@@ -1,13 +1,13 @@
 //! A sector lost by a script.
 
 ghost use Rattle.std.specs.Prelude.{◌≡◌, ◌≢◌, Err};
-ghost use Rattle.tape_script.specs.declared.line.Line.TheVariants.{Lose};
+ghost use Rattle.command_spec.specs.declared.line.Line.TheVariants.{Lose};
 ghost use Rattle.volume_store.specs.Mounting.{StoreFits};
 ghost use Rattle.volume_script.specs.Items.{ItemEnds};
 
 use crate::fault::ItemFault;
-use crate::refusal::Refusal;
 use crate::replies::{replied, write_refusal};
+use command_spec::Refusal;
 use drive_states::{HandFault, Unit};
 use qic_base::{Sink, Source, Tape};
 use tape_script::write_text;

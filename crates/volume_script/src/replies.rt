@@ -2,16 +2,16 @@
 
 ghost use Rattle.std.specs.Prelude.{◌≡◌};
 ghost use Rattle.qic_base.specs.Sink.{Writes};
-ghost use Rattle.volume_script.specs.Lines.{no_volume_line, refusal_line, restored_line};
+ghost use Rattle.command_spec.specs.Script.{no_volume_line, refusal_line, restored_line};
 ghost use Rattle.volume_script.specs.Promised.{replied_so};
 
 use crate::fault::ItemFault;
-use crate::refusal::Refusal;
+use command_spec::Refusal;
 use qic_base::{Sink, SinkFailed};
 use tape_script::{TextLine, write_text};
 use volume_lines::{number_text, place_text};
 
-#[tactic(auto, unfolding(crate::specs::Lines::no_volume_line))]
+#[tactic(auto, unfolding(command_spec::specs::Script::no_volume_line))]
 fn no_volume_text(number: u32, count: u32) -> TextLine
     ensures { result ≡ no_volume_line number count }
 {

@@ -1,13 +1,13 @@
 //! A cartridge scrubbed by a script.
 
 ghost use Rattle.std.specs.Prelude.{◌≡◌, ◌≢◌, Err};
-ghost use Rattle.tape_script.specs.declared.line.Line.TheVariants.{Scrub};
+ghost use Rattle.command_spec.specs.declared.line.Line.TheVariants.{Scrub};
 ghost use Rattle.volume_store.specs.Mounting.{KeepsStore, StoreFits};
 ghost use Rattle.volume_script.specs.Items.{ItemEnds};
 
 use crate::fault::ItemFault;
-use crate::refusal::Refusal;
 use crate::replies::{replied, write_refusal};
+use command_spec::Refusal;
 use drive_states::Unit;
 use qic_base::{Sink, Source, Tape};
 use volume_store::{Store, StoreFault};

@@ -11,12 +11,13 @@ use Rattle.qic_base.specs.Tape.{Meaning, Done, Broke, Does}
 use Rattle.qic_base.proofs.Steps.{Done-Done, Done-Broke, Broke-front}
 use Rattle.erasure_solve.specs.Lost.{is_lost}
 use Rattle.erasure_solve.proofs.Places.{is_lost_from}
-use Rattle.cartridge_spec.specs.Segment.{sector_at}
+use Rattle.cartridge_spec.specs.Shape.{sector_at}
 use Rattle.cartridge_spec.specs.Says.{with_parity}
 use Rattle.cartridge_spec.specs.Shape.{sectors_of}
-use Rattle.cartridge_spec.specs.Writes.{writes_of, named_writes}
-use Rattle.mount_laws.specs.Settling.{block_writes}
-use Rattle.append_plan.specs.Between.{table_writes}
+use Rattle.cartridge_spec.specs.Settling.{writes_of}
+use Rattle.cartridge_laws.specs.Writes.{named_writes}
+use Rattle.cartridge_spec.specs.Settling.{block_writes}
+use Rattle.cartridge_spec.specs.Appending.{table_writes}
 use Rattle.volume_store.proofs.Mending.{index_of}
 
 -- ---- the set of one place

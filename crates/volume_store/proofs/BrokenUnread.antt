@@ -5,10 +5,10 @@ use Rattle.qic_base.specs.Step.{Step}
 use Rattle.qic_base.specs.Tape as tapes
 use Rattle.qic_base.specs.Tape.{Broke, Tells}
 use Rattle.qic_base.proofs.Steps.{Tells-map}
-use Rattle.acts.specs.Acts.{Cut, Failing, Outside, TapeFails, SourceFails}
-use Rattle.acts.specs.Around.{no_sink, reading}
+use Rattle.qic_base.specs.Acts.{Cut, Failing, Outside, TapeFails, SourceFails}
+use Rattle.qic_base.specs.Acts.{no_sink, reading}
 use Rattle.cartridge_spec.specs.HeaderAndTable.{TableIs}
-use Rattle.mount_laws.specs.Settling.{settling_steps}
+use Rattle.cartridge_spec.specs.Settling.{settling_steps}
 use Rattle.segment_io.proofs.Going.{tells_always}
 use Rattle.volume_store.specs.declared.appended.Appended.{Appended}
 use Rattle.volume_store.specs.declared.fault.StoreFault.{StoreFault}

@@ -10,11 +10,12 @@ use Rattle.std.proofs.lemmas.Nat.Bits.{bit_at-pow_same, bit_at-pow_other}
 use Rattle.qic_base.specs.LostSet.{IsLost, lost_places}
 use Rattle.qic_base.specs.declared.tape.SectorView.{SectorView}
 use Rattle.qic_base.specs.declared.tape.SectorView.TheVariants.{Holds}
-use Rattle.gf256_qic.specs.Code.{IsCodeBlock}
-use Rattle.cartridge_spec.specs.Says.{LosesData, hidden}
+use Rattle.cartridge_spec.specs.Code.{IsCodeBlock}
+use Rattle.cartridge_laws.specs.Says.{LosesData}
+use Rattle.cartridge_spec.specs.Says.{hidden}
 use Rattle.cartridge_spec.specs.Shape.{usable_count}
 use Rattle.cartridge_spec.specs.TableSets.{last_used, set_of, sets_by, sets_by_one, with_used}
-use Rattle.cartridge_spec.proofs.Segments.{count_of_whole}
+use Rattle.cartridge_laws.proofs.Segments.{count_of_whole}
 use Rattle.segment_io.specs.Gathered.{Gathered}
 use Rattle.segment_io.specs.Reading.{Solves, HasSolved}
 use Rattle.segment_io.specs.declared.fault.SegFault.{SegFault}

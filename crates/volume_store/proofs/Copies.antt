@@ -13,13 +13,13 @@ use Rattle.qic_base.proofs.Steps.{Done-after_reads, Broke-after_reads}
 use Rattle.cartridge_spec.specs.Header.{HeaderFault, number, header_fault, has_signature, number_in}
 use Rattle.cartridge_spec.specs.Says.{Saying, Says, Data}
 use Rattle.cartridge_spec.specs.HeaderAndTable.{copy_cells, CopyReads, CopyDoesNotRead, IsInForce}
-use Rattle.cartridge_spec.proofs.Sayings.{says_is_function}
-use Rattle.cartridge_spec.proofs.Segments.{length-whole_cells}
+use Rattle.cartridge_laws.proofs.Sayings.{says_is_function}
+use Rattle.cartridge_laws.proofs.Segments.{length-whole_cells}
 use Rattle.header_segments.specs.declared.header.Header.{Header}
 use Rattle.header_segments.specs.Header.{header_of}
-use Rattle.header_segments.specs.Laws.{AreTaken}
+use Rattle.cartridge_laws.specs.HeaderLaws.{AreTaken}
 use Rattle.header_segments.specs.Refusal.{refusal, foreign}
-use Rattle.header_segments.proofs.Refusals.{fault-segments, length-words_in}
+use Rattle.cartridge_laws.proofs.HeaderRefusals.{fault-segments, length-words_in}
 use Rattle.segment_io.specs.Reading.{HasSolved}
 use Rattle.volume_store.specs.declared.fault.StoreFault.{StoreFault}
 use Rattle.volume_store.specs.declared.fault.StoreFault.TheVariants as fault

@@ -1,50 +1,49 @@
 -- How an append ended, by what its stages did.
-use Rattle.std.proofs.Common.{◌≡◌, inl, inr, ℕ, ◌+◌, ◌-◌, ◌<◌, ◌≤◌, ◌&&◌, min, Bool, true, false, cond, nat_lt, nat_le, List, [], ◌∷◌, ◌++◌, length, take, drop, Option, Some, None, IfSome, Result, Err, refl, sym, ap, ◌∙◌, subst, arith, append-nil}
+use Rattle.std.proofs.Common.{ℕ, ◌+◌, List, ◌++◌, ap, ◌∙◌, ◌≡◌, ◌-◌, Option, Some, None, IfSome, subst, inl, inr, length, sym, arith, drop, refl, Result, ◌<◌, false, [], ◌∷◌, Err, append-nil}
 use Rattle.std.specs.Option.{option_map}
-use Rattle.std.specs.Prelude.{slice_index, is_some}
-use Rattle.std.proofs.lemmas.Bool.{and_parts, leb-true, le-leb}
-use Rattle.std.proofs.lemmas.List.{length-append, length-take}
+use Rattle.std.specs.Prelude.{is_some, slice_index}
+use Rattle.std.proofs.lemmas.List.{length-append}
 use Rattle.std.proofs.lemmas.List.Elements.{All-nil}
-use Rattle.qic_base.specs.Cartridge.{Cartridge, IsCartridge}
-use Rattle.qic_base.specs.Source as sources
-use Rattle.qic_base.specs.Step.{Step, effects}
-use Rattle.qic_base.specs.Tape as tapes
-use Rattle.qic_base.specs.Tape.{Done, Broke, Tells, IsToldRight}
-use Rattle.qic_base.proofs.Steps.{Tells-map, Broke-front, Done-before_reads}
-use Rattle.qic_base.proofs.Writing.{TakesBoth}
-use Rattle.format_plan.proofs.Writing.{effects-some}
-use Rattle.acts.specs.Acts.{Act, Outside, Failing, TapeFails, SourceFails, Went, Cut, steps_of}
-use Rattle.acts.specs.Around.{no_sink, reading}
-use Rattle.acts.proofs.Joins.{went_both, went_then_cut, cut_is_longer}
+use Rattle.cartridge_laws.proofs.AppendDead.{live_written, settled_is_settled_for}
+use Rattle.cartridge_laws.proofs.AppendOrders.{end_least}
+use Rattle.cartridge_laws.proofs.FormatWriting.{effects-some}
+use Rattle.cartridge_laws.proofs.MountWhole.{table_is_area}
+use Rattle.cartridge_laws.proofs.Sayings.{data_of-parity}
+use Rattle.cartridge_laws.proofs.TableSayings.{table_says_is_function}
+use Rattle.cartridge_laws.specs.AppendSettled.{IsSettledFor}
+use Rattle.cartridge_laws.specs.Table.{IsSoundList}
+use Rattle.cartridge_spec.specs.Appending.{taken_by}
 use Rattle.cartridge_spec.specs.HeaderAndTable.{TableIs, table_cells}
 use Rattle.cartridge_spec.specs.Says.{TableSays, AsRead, ByCode, LostSectors, Data, with_parity}
-use Rattle.cartridge_spec.specs.Table.{Entry, Shows, IsSoundList}
-use Rattle.cartridge_spec.specs.Writes.{changed_by}
-use Rattle.cartridge_spec.proofs.Sayings.{data_of-parity}
-use Rattle.cartridge_spec.proofs.TableSayings.{table_says_is_function}
+use Rattle.cartridge_spec.specs.Settling.{changed_by, settling_steps}
+use Rattle.cartridge_spec.specs.Table.{Entry, Shows}
+use Rattle.command_laws.proofs.StoreAgain.{table_one}
+use Rattle.command_laws.proofs.StoreBehind.{input_behind, settled_behind}
+use Rattle.command_laws.proofs.StoreEnding.{took_fits, list_more}
+use Rattle.command_laws.proofs.StoreSettled.{table_sectors, table_size, steps_settle}
+use Rattle.command_laws.specs.StoreMounting.{HasList}
+use Rattle.command_spec.specs.Append.{Taking, Fits, TooLong, TooShort, taking, Kept, room_in, free_in, bytes_taken, entry_for, input_writes, entry_acts, append_acts, silently}
 use Rattle.gf256_qic.proofs.Parities.{parity_block}
-use Rattle.append_plan.specs.NewVolume.{new_entry}
-use Rattle.append_plan.specs.Room.{last_end, taken_by, room, free_segments}
-use Rattle.append_plan.proofs.Orders.{end_least, order_more}
-use Rattle.append_plan.proofs.Segments.{AreTaken, room_is, segments_taken}
-use Rattle.append_plan.specs.Settled.{IsSettledFor}
-use Rattle.append_plan.proofs.Dead.{settled_is_settled_for, live_written}
-use Rattle.mount_laws.specs.Settling.{settling_steps}
-use Rattle.mount_laws.proofs.Whole.{table_is_area}
+use Rattle.qic_base.proofs.Giving.{Gave-nothing}
+use Rattle.qic_base.proofs.Joins.{went_both, went_then_cut, cut_is_longer}
+use Rattle.qic_base.proofs.Steps.{Tells-map, Broke-front, Done-before_reads}
+use Rattle.qic_base.proofs.Writing.{TakesBoth}
+use Rattle.qic_base.specs.Acts.{no_sink, Outside, Act, Failing, TapeFails, SourceFails, Went, Cut, steps_of, reading}
+use Rattle.qic_base.specs.Cartridge.{Cartridge, IsCartridge}
+use Rattle.qic_base.specs.Step.{Step, effects}
+use Rattle.qic_base.specs.Tape.{Tells, IsToldRight, Done, Broke}
 use Rattle.volume_input.proofs.Inputs.{left_of, whole_told}
-use Rattle.tape_script.proofs.Giving.{Gave-nothing}
 use Rattle.volume_input.specs.declared.written.Written.{Written}
+use Rattle.volume_store.proofs.Copies.{tells_two}
+use Rattle.volume_store.proofs.Taking.{untold_content, content_always}
+use Rattle.volume_store.specs.Again.{IsSettledAgain, IsRefused, IsBrokenOff, IsAdded, IsOfReading, SettlesAgain, AddsEntry, entry_writes}
+use Rattle.volume_store.specs.Appending.{AppendEnds, kept_by, InputWent, InputWritten, InputBroke, InputIs, AppendRan, HasAppended, AppendCut, TableRefused}
+use Rattle.volume_store.specs.Mounting.{StoreView}
 use Rattle.volume_store.specs.declared.appended.Appended.{Appended}
 use Rattle.volume_store.specs.declared.fault.StoreFault.{StoreFault}
+use Rattle.qic_base.specs.Tape as tapes
+use Rattle.qic_base.specs.Source as sources
 use Rattle.volume_store.specs.declared.fault.StoreFault.TheVariants as fault
-use Rattle.volume_store.specs.Again.{IsSettledAgain, IsRefused, IsBrokenOff, IsAdded, IsOfReading, SettlesAgain, AddsEntry, entry_writes}
-use Rattle.volume_store.specs.Appending.{Taking, Fits, TooLong, TooShort, taking, Kept, kept_by, room_in, free_in, bytes_taken, has_promised_room, entry_for, input_writes, entry_acts, append_acts, silently, InputWent, InputWritten, InputBroke, InputIs, AppendRan, HasAppended, AppendCut, TableRefused, AppendEnds}
-use Rattle.volume_store.specs.Mounting.{StoreView, HasList}
-use Rattle.volume_store.proofs.Again.{table_one}
-use Rattle.volume_store.proofs.Behind.{input_behind, settled_behind}
-use Rattle.volume_store.proofs.Copies.{tells_two}
-use Rattle.volume_store.proofs.Settled.{steps_settle, table_sectors, table_size}
-use Rattle.volume_store.proofs.Taking.{untold_content, content_always, both_true}
 
 no_text : TakesBoth no_sink
 no_text a b c xs ys first next = ap (λ (l : List ℕ). l ++ ys) first ∙ next
@@ -94,41 +93,6 @@ none_left (Some bytes) = refl
 still_some : (before after : Option (List ℕ)) (n : ℕ) → after ≡ option_map (drop n) before → is_some after ≡ is_some before
 still_some None after n left = ap (λ (o : Option (List ℕ)). is_some o) left
 still_some (Some bytes) after n left = ap (λ (o : Option (List ℕ)). is_some o) left
-
--- what fits is within the room
-fits_within : (b : Bool) (input bytes : List ℕ) (other : Taking) → ((xs : List ℕ) → other ≡ Fits xs → ⊥) → cond b (Fits input) other ≡ Fits bytes → (b ≡ true) × (input ≡ bytes)
-fits_within true input bytes other none is = (refl, (cc))
-fits_within false input bytes other none is = absurd (none bytes is)
-
-promised_within : (b d : Bool) (input bytes : List ℕ) (m n have read : ℕ) → cond b (cond d (TooShort m read) (Fits input)) (TooLong n have) ≡ Fits bytes → (b ≡ true) × (input ≡ bytes)
-promised_within true true input bytes m n have read is = absurd (cc)
-promised_within true false input bytes m n have read is = (refl, (cc))
-promised_within false d input bytes m n have read is = absurd (cc)
-
-pub took_fits : (have : ℕ) (promised : Option ℕ) (input bytes : List ℕ) → taking have promised input ≡ Fits bytes → (1 ≤ have) × (length bytes ≤ have)
-took_fits have None input bytes is =
-    let all = fits_within (nat_le 1 have && nat_le (length input) have) input bytes (TooLong (min (length input) (have + 1)) have) (λ xs e. absurd (cc)) is in
-    let parts = and_parts (nat_le 1 have) (nat_le (length input) have) all.0 in
-    (leb-true 1 have parts.0, subst (λ (xs : List ℕ). length xs ≤ have) all.1 (leb-true (length input) have parts.1))
-took_fits have (Some n) input bytes is =
-    let all = promised_within (has_promised_room have (Some n)) (nat_lt (length input) n) (take n input) bytes n n have (length input) is in
-    let parts = and_parts (nat_le 1 have) (nat_le n have) all.0 in
-    let most : n ≤ have = leb-true n have parts.1 in
-    (leb-true 1 have parts.0, subst (λ (xs : List ℕ). length xs ≤ have) all.1 (omega (arith, length-take n input)))
-
--- a new list is in order
-pub list_more : (words : List ℕ) (entries : List Entry) (last : ℕ) (name : List ℕ) (date n : ℕ) → IsSoundList last entries → 1 ≤ room words entries last → n ≤ room words entries last →
-    IsSoundList last (entries ++ new_entry (taken_by words n (free_segments words entries last)) name date n ∷ [])
-list_more words entries last name date n order some within =
-    let has = room_is words entries last n (both_true (nat_le 1 (room words entries last)) (nat_le n (room words entries last)) (le-leb 1 (room words entries last) some) (le-leb n (room words entries last) within)) in
-    let segments : List ℕ = taken_by words n (free_segments words entries last) in
-    let taken : AreTaken words (last_end entries) last segments = segments_taken words entries last n has in
-    let starts : slice_index segments 0 ≡ taken.start = taken.starts in
-    let ends : slice_index segments (length segments - 1) ≡ taken.end = taken.ends in
-    let behind : last_end entries < taken.start = taken.behind in
-    let forwards : taken.start ≤ taken.end = taken.forwards in
-    let end : taken.end ≤ last = taken.within in
-    order_more 2 last entries (new_entry segments name date n) order (omega arith) (omega arith) (omega arith)
 
 abbrev pub made : (name : List ℕ) (date start end size : ℕ) → Entry
 made name date start end size = record { start = start; end = end; name = name; date = date; flags = 1; sequence = 1; directory = 0; size = size }

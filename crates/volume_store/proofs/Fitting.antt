@@ -9,38 +9,41 @@ use Rattle.qic_base.specs.Tape as tapes
 use Rattle.qic_base.specs.Tape.{Meaning, Done, Tells}
 use Rattle.qic_base.specs.declared.tape.TapeInfo.{TapeInfo}
 use Rattle.qic_base.proofs.Steps.{Tells-map, Done-told}
-use Rattle.format_plan.specs.Fresh.{IsLabel}
-use Rattle.format_plan.proofs.Writing.{effects-some}
-use Rattle.acts.specs.Acts.{steps_of}
-use Rattle.acts.specs.Around.{reading}
+use Rattle.cartridge_spec.specs.Formatting.{IsLabel}
+use Rattle.cartridge_laws.proofs.FormatWriting.{effects-some}
+use Rattle.qic_base.specs.Acts.{steps_of}
+use Rattle.qic_base.specs.Acts.{reading}
 use Rattle.cartridge_spec.specs.HeaderAndTable.{IsArea, TableIs}
-use Rattle.cartridge_spec.specs.Slots.{slot_bytes, slot_sector}
-use Rattle.cartridge_spec.specs.Table.{Entry, Shows, IsSoundList}
-use Rattle.cartridge_spec.specs.Writes.{changed_by}
-use Rattle.cartridge_spec.proofs.SlotBytes.{length-slot_bytes, slot_are_bytes}
-use Rattle.cartridge_spec.proofs.Slots.{slot_area}
-use Rattle.append_plan.specs.Room.{last_end}
-use Rattle.append_plan.specs.Settled.{IsSettledFor}
-use Rattle.append_plan.proofs.Dead.{settled_is_settled_for, table_settled}
-use Rattle.append_plan.proofs.Keeping.{AreIn}
-use Rattle.append_plan.proofs.Orders.{end_least}
-use Rattle.append_plan.proofs.Table.{slot_differs}
+use Rattle.cartridge_spec.specs.Table.{slot_bytes, slot_sector}
+use Rattle.cartridge_spec.specs.Table.{Entry, Shows}
+use Rattle.cartridge_laws.specs.Table.{IsSoundList}
+use Rattle.cartridge_spec.specs.Settling.{changed_by}
+use Rattle.cartridge_laws.proofs.SlotBytes.{length-slot_bytes, slot_are_bytes}
+use Rattle.cartridge_laws.proofs.Slots.{slot_area}
+use Rattle.cartridge_spec.specs.Appending.{last_end}
+use Rattle.cartridge_laws.specs.AppendSettled.{IsSettledFor}
+use Rattle.cartridge_laws.proofs.AppendDead.{settled_is_settled_for, table_settled}
+use Rattle.cartridge_laws.proofs.AppendKeeping.{AreIn}
+use Rattle.cartridge_laws.proofs.AppendOrders.{end_least}
+use Rattle.cartridge_laws.proofs.AppendTable.{slot_differs}
 use Rattle.drive_states.specs.Unit.{UnitView}
 use Rattle.host_driver.specs.declared.host.Host.{Host}
 use Rattle.host_driver.specs.Calls.{Keeps}
 use Rattle.host_driver.specs.Fits.{Fits, AgreesWithTape, segments_of}
-use Rattle.mount_laws.specs.Settling.{settling_steps}
-use Rattle.mount_laws.proofs.Whole.{table_is_area}
+use Rattle.cartridge_spec.specs.Settling.{settling_steps}
+use Rattle.cartridge_laws.proofs.MountWhole.{table_is_area}
 use Rattle.volume_store.specs.declared.fault.StoreFault.{StoreFault}
 use Rattle.volume_store.specs.declared.fault.StoreFault.TheVariants as fault
 use Rattle.volume_store.specs.Again.{IsSettledAgain, IsAdded, SettlesAgain, AddsEntry, data_with, entry_writes}
-use Rattle.volume_store.specs.Appending.{kept_in, input_writes, InputIs}
-use Rattle.volume_store.specs.Mounting.{StoreView, StoreFits, HasList}
-use Rattle.volume_store.proofs.Again.{table_one}
-use Rattle.volume_store.proofs.Behind.{input_behind, settled_behind, front_behind}
+use Rattle.command_spec.specs.Append.{kept_in, input_writes}
+use Rattle.volume_store.specs.Appending.{InputIs}
+use Rattle.volume_store.specs.Mounting.{StoreView, StoreFits}
+use Rattle.command_laws.specs.StoreMounting.{HasList}
+use Rattle.command_laws.proofs.StoreAgain.{table_one}
+use Rattle.command_laws.proofs.StoreBehind.{input_behind, settled_behind, front_behind}
 use Rattle.volume_store.proofs.Copies.{tells_two}
 use Rattle.volume_store.proofs.Ending.{has_list}
-use Rattle.volume_store.proofs.Settled.{steps_settle}
+use Rattle.command_laws.proofs.StoreSettled.{steps_settle}
 use Rattle.volume_store.proofs.Storing.{one_length, still_primary, still_referenced}
 
 -- the drive knows of a cartridge, so the tape doesn't tell that there is none

@@ -1,6 +1,5 @@
 pub mod Adding
 pub mod Again
-pub mod Behind
 pub mod BrokenUnread
 pub mod Collected
 pub mod Copies

@@ -3,16 +3,16 @@ use Rattle.std.proofs.Common.{◌≡◌, ℕ, zero, suc, ◌+◌, ◌<◌, ◌�
 use Rattle.std.specs.Prelude.{slice_index, if◌then◌else◌}
 use Rattle.std.specs.List.{range_with_len}
 use Rattle.std.proofs.lemmas.List.{map-append, length-take-le, take_at}
-use Rattle.gf256_qic.specs.Code.{parity_sectors}
+use Rattle.cartridge_spec.specs.Code.{parity_sectors}
 use Rattle.std.proofs.lemmas.List.Elements.{filter-append}
 use Rattle.std.proofs.lemmas.List.FromFn.{get_or-range_with_len}
 use Rattle.qic_base.specs.LostSet.{lost_places}
 use Rattle.erasure_solve.specs.Lost.{is_lost}
-use Rattle.cartridge_spec.specs.Segment.{sector_at}
+use Rattle.cartridge_spec.specs.Shape.{sector_at}
 use Rattle.cartridge_spec.specs.Says.{whole_mask}
 use Rattle.cartridge_spec.specs.Shape.{usable_places, sectors_of}
-use Rattle.cartridge_spec.proofs.Segments.{places_of_whole}
-use Rattle.mount_laws.specs.Settling.{places_where, block_writes}
+use Rattle.cartridge_laws.proofs.Segments.{places_of_whole}
+use Rattle.cartridge_spec.specs.Settling.{places_where, block_writes}
 use Rattle.volume_store.specs.declared.table_reader.Unread.{Unread}
 use Rattle.volume_store.specs.Settling.{collected_block, is_stale, mending_steps}
 use Rattle.qic_base.specs.Step.{Step, WriteSector}

@@ -6,20 +6,24 @@ use Rattle.qic_base.specs.Sink as sinks
 use Rattle.qic_base.specs.Step.{Step}
 use Rattle.qic_base.specs.Tape.{Meaning, Done, Tells}
 use Rattle.qic_base.proofs.Steps.{Done-told}
-use Rattle.acts.specs.Acts.{Act, Outside, SinkFails, Parted, steps_of}
-use Rattle.acts.proofs.Joins.{steps_of-append}
+use Rattle.qic_base.specs.Acts.{Act, Outside, SinkFails, Parted, steps_of}
+use Rattle.qic_base.proofs.Joins.{steps_of-append}
 use Rattle.cartridge_spec.specs.Header.{Header}
-use Rattle.cartridge_spec.specs.Table.{Entry, IsSoundList}
+use Rattle.cartridge_spec.specs.Table.{Entry}
+use Rattle.cartridge_laws.specs.Table.{IsSoundList}
 use Rattle.cartridge_spec.specs.Volumes.{carrying, volume_length}
 use Rattle.drive_states.specs.Unit.{UnitView}
 use Rattle.host_driver.specs.Calls.{Keeps}
 use Rattle.host_driver.specs.Fits.{segments_of}
-use Rattle.restore_plan.specs.Restoring.{Piece, Ending, framed, pieces, pieces_of}
+use Rattle.command_spec.specs.Restore.{Piece, Ending, framed, pieces, pieces_of}
 use Rattle.volume_output.specs.declared.fault.OutputFault.{OutputFault}
 use Rattle.volume_output.specs.declared.fault.OutputFault.TheVariants as output
-use Rattle.volume_output.specs.Output.{GaveVolume, VolumeCut, OutputEnds, AreOf, printed}
-use Rattle.volume_store.specs.Mounting.{StoreView, StoreFits, KeepsStore, HasList}
-use Rattle.volume_store.specs.Restoring.{RestoreEnds, volume_at, fault_of_output}
+use Rattle.volume_output.specs.Output.{GaveVolume, VolumeCut, OutputEnds}
+use Rattle.command_laws.specs.OutputText.{AreOf, printed}
+use Rattle.volume_store.specs.Mounting.{StoreView, StoreFits, KeepsStore}
+use Rattle.command_laws.specs.StoreMounting.{HasList}
+use Rattle.volume_store.specs.Restoring.{RestoreEnds, fault_of_output}
+use Rattle.command_spec.specs.Restore.{volume_at}
 use Rattle.volume_store.proofs.Storing.{one_length, still_primary, still_referenced}
 
 -- ---- the volume

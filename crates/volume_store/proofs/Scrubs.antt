@@ -9,28 +9,30 @@ use Rattle.qic_base.specs.Stop.{Torn}
 use Rattle.qic_base.specs.Tape.{Meaning, Tells, IsToldRight}
 use Rattle.qic_base.specs.declared.tape.TapeInfo.{TapeInfo}
 use Rattle.qic_base.proofs.Steps.{Torn-all}
-use Rattle.acts.specs.Acts.{Act, Outside, SinkFails, Cut, steps_of}
-use Rattle.acts.specs.Around.{no_source}
-use Rattle.acts.proofs.Outcomes.{cut_is_torn}
-use Rattle.gf256_qic.specs.Code.{IsSector}
+use Rattle.qic_base.specs.Acts.{Act, Outside, SinkFails, Cut, steps_of}
+use Rattle.qic_base.specs.Acts.{no_source}
+use Rattle.qic_base.proofs.Outcomes.{cut_is_torn}
+use Rattle.cartridge_spec.specs.Code.{IsSector}
 use Rattle.cartridge_spec.specs.HeaderAndTable.{table_cells}
 use Rattle.cartridge_spec.specs.Says.{Agrees, data_of}
-use Rattle.cartridge_spec.specs.Table.{Entry, IsSoundList}
-use Rattle.cartridge_spec.proofs.Sayings.{block_from_data, cartridge_sectors}
+use Rattle.cartridge_spec.specs.Table.{Entry}
+use Rattle.cartridge_laws.specs.Table.{IsSoundList}
+use Rattle.cartridge_laws.proofs.Sayings.{block_from_data, cartridge_sectors}
 use Rattle.drive_states.specs.Unit.{UnitView}
 use Rattle.host_driver.specs.declared.host.Host.{Host}
 use Rattle.host_driver.specs.Fits.{Fits, AgreesWithTape, segments_of}
-use Rattle.scrub_plan.specs.Mended.{IsBeingMended}
-use Rattle.scrub_plan.specs.Scrubbing.{Rise, Looked, whole_segment, looked_at, Scrubs, counts_of}
-use Rattle.scrub_plan.proofs.Apart.{looked_rise}
-use Rattle.scrub_plan.proofs.Mending.{stopped_scrub}
-use Rattle.scrub_plan.proofs.Standing.{written_kept, looks_in_front}
-use Rattle.scrub_plan.proofs.Turns.{scrubs_always}
+use Rattle.command_laws.specs.ScrubMended.{IsBeingMended}
+use Rattle.command_laws.specs.ScrubSayings.{Rise}
+use Rattle.command_spec.specs.Scrub.{Looked, whole_segment, looked_at, Scrubs, counts_of}
+use Rattle.command_laws.proofs.ScrubApart.{looked_rise}
+use Rattle.command_laws.proofs.ScrubMending.{stopped_scrub}
+use Rattle.command_laws.proofs.ScrubStanding.{written_kept, looks_in_front}
+use Rattle.command_laws.proofs.ScrubTurns.{scrubs_always}
 use Rattle.segment_mending.specs.declared.fault.ScrubFault.{ScrubFault}
 use Rattle.segment_mending.specs.declared.fault.ScrubFault.TheVariants as fault
 use Rattle.segment_mending.specs.declared.report.ScrubReport.{ScrubReport}
 use Rattle.segment_mending.specs.Mending.{HasScrubbed, ScrubCut, ScrubEnds, reported}
-use Rattle.volume_store.specs.Mounting.{HasList}
+use Rattle.command_laws.specs.StoreMounting.{HasList}
 
 -- ---- a cartridge that is being mended
 

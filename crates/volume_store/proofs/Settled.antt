@@ -1,44 +1,31 @@
 -- The writes of a settling are those of the cartridge, and what they leave.
-use Rattle.std.proofs.Common.{◌≡◌, ◌↔◌, ℕ, All, ◌<◌, ◌++◌, refl, sym, ◌∙◌, ap, subst, arith, inl, inr, Bool, true, false, not, List, [], ◌∷◌, length, take, Option, Some}
-use Rattle.std.specs.Prelude.{◌||◌, if◌then◌else◌, unwrap_or, IsSomeAnd}
+use Rattle.std.proofs.Common.{◌≡◌, ◌↔◌, ℕ, refl, ◌<◌, sym, subst, Option, Some, ◌∙◌, ap, Bool, not, List, arith, inl, inr, true, false, [], length, take, ◌++◌, ◌∷◌}
+use Rattle.std.proofs.lemmas.Bool.{ne_eqb, false≢true, cases_lt, lt-ltb, le-ltb, cases_Bool}
+use Rattle.std.specs.Prelude.{IsSomeAnd, ◌||◌, if◌then◌else◌, unwrap_or}
 use Rattle.std.specs.List.{slice_get}
 use Rattle.std.specs.Str.{bytes_eq}
-use Rattle.std.proofs.lemmas.Bool.{cases_lt, cases_Bool, ne_eqb, false≢true, lt-ltb, le-ltb}
-use Rattle.std.proofs.lemmas.List.{length-append}
 use Rattle.std.proofs.lemmas.Slice.Eq.{bytes_eq-Decides}
-use Rattle.qic_base.specs.Cartridge.{Cartridge, IsCartridge, view_at}
+use Rattle.cartridge_laws.proofs.MountLeftOut.{left_out_data, left_out_parity}
+use Rattle.cartridge_laws.proofs.MountParts.{sector_there}
+use Rattle.cartridge_laws.proofs.Segments.{cells_of_whole}
+use Rattle.cartridge_laws.specs.Segment.{IsUnreadable}
+use Rattle.cartridge_spec.specs.Code.{parity_sectors}
+use Rattle.cartridge_spec.specs.HeaderAndTable.{table_cells}
+use Rattle.cartridge_spec.specs.Settling.{holds, is_unsettled, holds_other, is_left_out, block_writes, places_where, settling_places, settling_steps, writes_of, changed_by}
+use Rattle.cartridge_spec.specs.Shape.{is_unreadable, sector_at}
+use Rattle.erasure_solve.proofs.Places.{is_lost_from}
+use Rattle.erasure_solve.specs.Lost.{is_lost}
+use Rattle.qic_base.specs.Cartridge.{Cartridge, view_at}
 use Rattle.qic_base.specs.LostSet.{IsLost}
 use Rattle.qic_base.specs.Step.{WriteSector, changed}
 use Rattle.qic_base.specs.declared.tape.SectorView.{SectorView}
 use Rattle.qic_base.specs.declared.tape.SectorView.TheVariants.{Blank, Defect, Lost, Holds}
-use Rattle.gf256_qic.specs.Code.{IsSector, parity_sectors}
-use Rattle.gf256_qic.proofs.Parities.{parity_block, length-parity_sectors}
-use Rattle.erasure_solve.specs.Lost.{is_lost}
-use Rattle.erasure_solve.proofs.Places.{is_lost_from}
-use Rattle.cartridge_spec.specs.Segment.{sector_at, IsUnreadable, is_unreadable}
-use Rattle.cartridge_spec.specs.Says.{with_parity}
-use Rattle.cartridge_spec.specs.Table.{Entry}
-use Rattle.cartridge_spec.specs.Table as tables
-use Rattle.cartridge_spec.specs.Writes.{writes_of, changed_by}
-use Rattle.cartridge_spec.specs.HeaderAndTable.{table_cells, TableIs}
-use Rattle.cartridge_spec.specs.Mounting.{settled}
-use Rattle.cartridge_spec.proofs.Segments.{cells_of_whole}
-use Rattle.cartridge_spec.proofs.Sayings.{code_sectors, data_of-parity}
 use Rattle.segment_io.specs.Gathered.{NamesUnreadable}
-use Rattle.volume_store.specs.Mounting.{HasList}
-use Rattle.mount_laws.specs.Settling.{holds, holds_other, is_left_out, is_unsettled, block_writes, places_where, settling_places, settling_steps}
-use Rattle.mount_laws.specs.Laws.{SettlingSettles}
-use Rattle.mount_laws.proofs.LeftOut.{left_out_data, left_out_parity}
-use Rattle.mount_laws.proofs.Far.{length-table_block}
-use Rattle.mount_laws.proofs.Parts.{sector_there}
-use Rattle.mount_laws.proofs.Settled.{settled_is_written}
-use Rattle.mount_laws.proofs.Settles.{settling_settles}
-use Rattle.mount_laws.proofs.Whole.{table_is_area}
-use Rattle.volume_store.specs.declared.table_reader.Unread.{Unread}
-use Rattle.volume_store.specs.Reading.{HoldsOther, IsReadBut}
-use Rattle.volume_store.specs.Settling.{is_stale, collected_block, mending_steps}
-use Rattle.volume_store.proofs.Stale.{within_data, bytes_same}
 use Rattle.volume_store.proofs.Mending.{places_same}
+use Rattle.volume_store.proofs.Stale.{within_data, bytes_same}
+use Rattle.volume_store.specs.Reading.{IsReadBut, HoldsOther}
+use Rattle.volume_store.specs.Settling.{is_stale, collected_block, mending_steps}
+use Rattle.volume_store.specs.declared.table_reader.Unread.{Unread}
 
 -- ---- the writes in the workspace are those of the cartridge
 
@@ -148,31 +135,8 @@ mending_settles c protected unread sectors room known mark =
     (places_same (is_stale unread.lost sectors block) (is_unsettled c block) (stale_test c unread sectors room known))
     ∙ ap (λ (b : Bool). if b then [] else block_writes block (settling_places c (take 29 sectors))) (sym mark)
 
--- ---- what the writes leave
-
--- the settling's writes make it the settled cartridge
-pub steps_settle : SettlingSettles
-steps_settle = settling_settles
-
 -- writes change no mark
 pub writes_info : (places : List ℕ) (sectors : List (List ℕ)) (c : Cartridge) (segment : ℕ) → (changed_by (writes_of segment places sectors) c).info ≡ c.info
 writes_info [] sectors c segment = refl
 writes_info (p ∷ places) [] c segment = refl
 writes_info (p ∷ places) (bytes ∷ sectors) c segment = writes_info places sectors (changed (WriteSector segment p bytes) c) segment
-
--- the table's data are 29 sectors
-pub table_size : (c : Cartridge) (area : List (List ℕ)) → TableIs c area → length area ≡ 29
-table_size c area table = omega (arith, length-table_block c area table, length-append area (parity_sectors area), length-parity_sectors area)
-
-pub table_sectors : (c : Cartridge) (area : List (List ℕ)) → IsCartridge c → TableIs c area → All IsSector area
-table_sectors c area whole table = code_sectors area (table_is_area c area whole table).sectors
-
-pub settled_list : (c : Cartridge) (area : List (List ℕ)) (entries : List Entry) → IsCartridge c → TableIs c area → tables.Shows area entries → c.info.protected ≡ false →
-    HasList (settled area c) entries
-settled_list c area entries whole table shown mark =
-    let size : length area ≡ 29 = table_size c area table in record {
-      block = with_parity area;
-      code = parity_block area (omega arith) (omega arith) (table_sectors c area whole table);
-      agrees = settled_is_written c area table mark;
-      shown = subst (λ (d : List (List ℕ)). tables.Shows d entries) (sym (data_of-parity area)) shown;
-    }

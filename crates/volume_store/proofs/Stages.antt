@@ -5,11 +5,12 @@ use Rattle.qic_base.specs.Source as sources
 use Rattle.qic_base.specs.Tape as tapes
 use Rattle.qic_base.specs.Tape.{Meaning, Tells, IsToldRight}
 use Rattle.qic_base.proofs.Steps.{Tells-map}
-use Rattle.format_plan.specs.Fresh.{IsLabel}
-use Rattle.acts.specs.Acts.{steps_of}
-use Rattle.acts.specs.Around.{reading}
-use Rattle.cartridge_spec.specs.Table.{Entry, IsSoundList}
-use Rattle.append_plan.specs.Settled.{IsSettledFor}
+use Rattle.cartridge_spec.specs.Formatting.{IsLabel}
+use Rattle.qic_base.specs.Acts.{steps_of}
+use Rattle.qic_base.specs.Acts.{reading}
+use Rattle.cartridge_spec.specs.Table.{Entry}
+use Rattle.cartridge_laws.specs.Table.{IsSoundList}
+use Rattle.cartridge_laws.specs.AppendSettled.{IsSettledFor}
 use Rattle.drive_spec.specs.Deck.{is_protected}
 use Rattle.drive_states.specs.Unit.{UnitView}
 use Rattle.host_driver.specs.declared.host.Host.{Host}
@@ -21,9 +22,11 @@ use Rattle.volume_store.specs.declared.appended.Appended.{Appended}
 use Rattle.volume_store.specs.declared.fault.StoreFault.{StoreFault}
 use Rattle.volume_store.specs.declared.fault.StoreFault.TheVariants as fault
 use Rattle.volume_store.specs.Again.{IsSettledAgain, IsAdded, IsOfReading, SettlesAgain, AddsEntry}
-use Rattle.volume_store.specs.Appending.{InputIs, InputWritten, HasAppended, AppendEnds, kept_in, input_writes}
-use Rattle.volume_store.specs.Mounting.{StoreView, StoreFits, HasList}
-use Rattle.volume_store.proofs.Behind.{input_behind}
+use Rattle.volume_store.specs.Appending.{InputIs, InputWritten, HasAppended, AppendEnds}
+use Rattle.command_spec.specs.Append.{kept_in, input_writes}
+use Rattle.volume_store.specs.Mounting.{StoreView, StoreFits}
+use Rattle.command_laws.specs.StoreMounting.{HasList}
+use Rattle.command_laws.proofs.StoreBehind.{input_behind}
 use Rattle.volume_store.proofs.Copies.{IsLearnt, told_learnt, tells_two}
 use Rattle.volume_store.proofs.Ending as ending
 use Rattle.volume_store.proofs.Ending.{right_tells, made}

@@ -13,7 +13,7 @@ use Rattle.std.proofs.lemmas.Slice.Eq.{bytes_eq-Decides}
 use Rattle.qic_base.specs.LostSet.{IsLost}
 use Rattle.erasure_solve.specs.Lost.{is_lost}
 use Rattle.erasure_solve.proofs.Places.{is_lost_from}
-use Rattle.cartridge_spec.specs.Segment.{sector_at}
+use Rattle.cartridge_spec.specs.Shape.{sector_at}
 use Rattle.volume_store.specs.Settling.{is_stale}
 
 -- ---- a set with one place more

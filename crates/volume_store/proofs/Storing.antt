@@ -9,14 +9,15 @@ use Rattle.qic_base.specs.Step.{Step, WriteSector, changed, effects}
 use Rattle.qic_base.specs.Tape.{Meaning, Done, Tells, IsToldRight}
 use Rattle.qic_base.specs.declared.tape.TapeInfo.{TapeInfo}
 use Rattle.cartridge_spec.specs.Header.{Header}
-use Rattle.cartridge_spec.specs.Table.{Entry, IsSoundList, LieBehind}
+use Rattle.cartridge_spec.specs.Table.{Entry}
+use Rattle.cartridge_laws.specs.Table.{IsSoundList, LieBehind}
 use Rattle.cartridge_spec.specs.HeaderAndTable.{TableIs}
 use Rattle.cartridge_spec.specs.Mounting.{settled}
-use Rattle.cartridge_spec.specs.Writes.{writes_of, changed_by}
-use Rattle.cartridge_spec.specs.Segment.{sector_at}
+use Rattle.cartridge_spec.specs.Settling.{writes_of, changed_by}
+use Rattle.cartridge_spec.specs.Shape.{sector_at}
 use Rattle.cartridge_spec.specs.Says.{whole_mask, with_parity}
 use Rattle.cartridge_spec.specs.Shape.{usable_places}
-use Rattle.gf256_qic.specs.Code.{parity_sectors}
+use Rattle.cartridge_spec.specs.Code.{parity_sectors}
 use Rattle.drive_spec.specs.Deck.{is_protected, is_referenced}
 use Rattle.drive_states.specs.Sound.{HasLength}
 use Rattle.drive_states.specs.Unit.{UnitView}
@@ -29,15 +30,17 @@ use Rattle.qic_base.proofs.Steps.{Tells-read}
 use Rattle.header_segments.specs.Header.{header_of}
 use Rattle.volume_store.specs.declared.learning.Learnt.{Learnt}
 use Rattle.volume_store.specs.Finding.{ShowsVolumes}
-use Rattle.volume_store.specs.Mounting.{HasLearnt, Settles, HasList}
-use Rattle.volume_table.proofs.Orders.{faultless_is_sound}
+use Rattle.volume_store.specs.Mounting.{HasLearnt, Settles}
+use Rattle.command_laws.specs.StoreMounting.{HasList}
+use Rattle.cartridge_laws.proofs.TableOrders.{faultless_is_sound}
 use Rattle.std.proofs.lemmas.Option.{same_Some}
-use Rattle.mount_laws.specs.Settling.{settling_steps, block_writes, settling_places}
+use Rattle.cartridge_spec.specs.Settling.{settling_steps, block_writes, settling_places}
 use Rattle.volume_store.specs.declared.table_reader.Unread.{Unread}
 use Rattle.volume_store.specs.Settling.{mending_steps, mending_places, collected_block}
 use Rattle.volume_store.proofs.Copies.{IsLearnt, told_learnt, tells_two}
 use Rattle.volume_store.proofs.Mending.{range_more}
-use Rattle.volume_store.proofs.Settled.{mending_settles, steps_settle, settled_list, writes_info}
+use Rattle.volume_store.proofs.Settled.{mending_settles, writes_info}
+use Rattle.command_laws.proofs.StoreSettled.{steps_settle, settled_list}
 
 -- ---- sums over segments
 

@@ -10,12 +10,14 @@ use Rattle.qic_base.specs.Tape.{Meaning, Tells}
 use Rattle.qic_base.proofs.Steps.{Tells-map}
 use Rattle.qic_base.specs.declared.tape.SectorView.{SectorView}
 use Rattle.qic_base.specs.declared.tape.SectorView.TheVariants.{Blank, Defect, Lost, Holds}
-use Rattle.cartridge_spec.specs.Segment.{IsUnreadable, is_unreadable}
-use Rattle.cartridge_spec.specs.Says.{unreadable_count, unreadable_data, LosesData, ReadsAll, TableSays, ByCode, LostSectors, data_of}
+use Rattle.cartridge_laws.specs.Segment.{IsUnreadable}
+use Rattle.cartridge_spec.specs.Shape.{is_unreadable}
+use Rattle.cartridge_spec.specs.Says.{unreadable_count, unreadable_data, ReadsAll, TableSays, ByCode, LostSectors, data_of}
+use Rattle.cartridge_laws.specs.Says.{LosesData}
 use Rattle.cartridge_spec.specs.HeaderAndTable.{table_cells, TableIs}
-use Rattle.cartridge_spec.proofs.Cells.{unreadable_count-first}
-use Rattle.cartridge_spec.specs.Shape.{Carries}
-use Rattle.cartridge_spec.proofs.Segments.{length-whole_cells, count_of_whole}
+use Rattle.cartridge_laws.proofs.Cells.{unreadable_count-first}
+use Rattle.cartridge_laws.specs.Shape.{Carries}
+use Rattle.cartridge_laws.proofs.Segments.{length-whole_cells, count_of_whole}
 use Rattle.segment_io.specs.Gathered.{Gathered, IsUnreadableAt, NamesUnreadable}
 use Rattle.segment_io.specs.declared.fault.SegFault.{SegFault}
 use Rattle.segment_io.specs.declared.fault.SegFault.TheVariants as seg

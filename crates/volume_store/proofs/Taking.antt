@@ -1,28 +1,30 @@
 -- An input that was taken: what became of it, and the acts that it asked for.
-use Rattle.std.proofs.Common.{◌≡◌, ◌⊎◌, inl, inr, ℕ, zero, suc, ◌+◌, ◌-◌, ◌<◌, ◌≤◌, ◌&&◌, min, Bool, true, false, cond, List, [], ◌∷◌, ◌++◌, length, take, drop, All, Option, Some, None, IfNone, Ok, Err, refl, sym, ap, ◌∙◌, subst, arith, nat_lt, nat_le, append_assoc, append-nil}
-use Rattle.std.specs.Option.{option_map}
-use Rattle.std.proofs.Math.Seq.{take-append-add, drop-append_seam}
+use Rattle.std.proofs.Common.{◌≡◌, Bool, true, false, cond, refl, ◌&&◌, ℕ, ◌+◌, ◌-◌, ◌≤◌, min, List, length, None, nat_le, ◌<◌, ap, ◌∙◌, arith, sym, Some, ◌⊎◌, inl, inr, take, nat_lt, ◌++◌, All, Option, IfNone, subst, append-nil, drop, zero, suc, [], ◌∷◌, slice_get, Ok, Err, append_assoc}
 use Rattle.std.proofs.lemmas.Bool.{le-leb, lt-leb, le-ltb, lt-ltb, cases_lt}
-use Rattle.std.proofs.lemmas.List.{length-append, take_all}
+use Rattle.std.specs.Option.{option_map}
+use Rattle.std.proofs.Math.Seq.{drop-append_seam, take-append-add}
 use Rattle.std.proofs.lemmas.List.Elements.{All-nil, All-cons, All-append}
+use Rattle.std.proofs.lemmas.Option.{same_Some}
+use Rattle.std.proofs.lemmas.List.{length-append, take_all}
+use Rattle.cartridge_laws.specs.Table.{LieBehind}
+use Rattle.cartridge_spec.specs.Appending.{end_behind, last_end, room, free_segments}
+use Rattle.cartridge_spec.specs.Table.{Entry}
+use Rattle.cartridge_spec.specs.Volumes.{carrying}
+use Rattle.command_laws.proofs.StoreTaking.{both_true}
+use Rattle.command_spec.specs.Append.{Fits, TooLong, taking, has_promised_room, TooShort, volume_acts, filled_acts, input_acts, Taking, bytes_taken, kept_in, input_writes}
+use Rattle.qic_base.proofs.Giving.{Gave-nothing, Gave-Gave, Gave-end}
+use Rattle.qic_base.proofs.Steps.{Done-nothing, Rose-after}
+use Rattle.qic_base.specs.Acts.{Act, Outside, Failing, Went, Cut, no_sink, SourceFails, reading}
 use Rattle.qic_base.specs.Cause.{Rose}
+use Rattle.qic_base.specs.Source.{Gave, HasEnded}
+use Rattle.tape_script.specs.Reading.{Skips}
+use Rattle.volume_input.proofs.Inputs.{left_of, whole_told, still_tells, none_left}
+use Rattle.volume_input.specs.Input.{HasWritten, EndedShort, InputCut}
+use Rattle.volume_input.specs.declared.written.Written.{Written}
+use Rattle.volume_store.specs.Appending.{InputWent, InputWritten, InputBroke, InputIs, TakesNone}
+use Rattle.volume_store.specs.declared.fault.StoreFault.{StoreFault}
 use Rattle.qic_base.specs.Source as sources
 use Rattle.qic_base.specs.Tape as tapes
-use Rattle.qic_base.proofs.Steps.{Done-nothing, Rose-after}
-use Rattle.tape_script.specs.Reading.{Gave, HasEnded, Skips}
-use Rattle.tape_script.proofs.Giving.{Gave-nothing, Gave-Gave, Gave-end}
-use Rattle.acts.specs.Acts.{Act, Outside, Failing, SourceFails, Went, Cut}
-use Rattle.acts.specs.Around.{no_sink, reading}
-use Rattle.std.proofs.Common.{slice_get}
-use Rattle.std.proofs.lemmas.Option.{same_Some}
-use Rattle.cartridge_spec.specs.Table.{Entry, LieBehind}
-use Rattle.cartridge_spec.specs.Volumes.{carrying}
-use Rattle.append_plan.specs.Room.{room, free_segments, last_end, end_behind}
-use Rattle.volume_input.specs.Input.{volume_acts, filled_acts, input_acts, HasWritten, EndedShort, InputCut}
-use Rattle.volume_input.specs.declared.written.Written.{Written}
-use Rattle.volume_input.proofs.Inputs.{left_of, whole_told, still_tells, none_left}
-use Rattle.volume_store.specs.Appending.{Taking, Fits, TooLong, TooShort, taking, bytes_taken, has_promised_room, kept_in, input_writes, InputWent, InputWritten, InputBroke, InputIs, TakesNone}
-use Rattle.volume_store.specs.declared.fault.StoreFault.{StoreFault}
 use Rattle.volume_store.specs.declared.fault.StoreFault.TheVariants as fault
 
 -- ---- choices
@@ -34,11 +36,6 @@ chosen_true false x y is = absurd (cc)
 chosen_false : {X : Type 0} (b : Bool) (x y : X) → b ≡ false → cond b x y ≡ y
 chosen_false true x y is = absurd (cc)
 chosen_false false x y is = refl
-
-pub both_true : (a b : Bool) → a ≡ true → b ≡ true → (a && b) ≡ true
-both_true true true one other = refl
-both_true true false one other = absurd (cc)
-both_true false b one other = absurd (cc)
 
 first_false : (a b : Bool) → a ≡ false → (a && b) ≡ false
 first_false true b is = absurd (cc)

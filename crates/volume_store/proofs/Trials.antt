@@ -5,12 +5,13 @@ use Rattle.std.proofs.lemmas.List.{length-take-le, take_at, take_all}
 use Rattle.qic_base.specs.LostSet.{IsLost, lost_places}
 use Rattle.qic_base.specs.declared.tape.SectorView.{SectorView}
 use Rattle.qic_base.specs.declared.tape.SectorView.TheVariants.{Holds}
-use Rattle.cartridge_spec.specs.Segment.{IsUnreadable}
-use Rattle.cartridge_spec.specs.Says.{Mismatch, ByCode, TableSays, HasBlock, HasNoBlock, HasNoBlocks, HasFirstBlock, Agrees, LosesData, hidden, unreadable_count}
+use Rattle.cartridge_laws.specs.Segment.{IsUnreadable}
+use Rattle.cartridge_spec.specs.Says.{Mismatch, ByCode, TableSays, HasBlock, HasNoBlock, HasNoBlocks, HasFirstBlock, Agrees, hidden, unreadable_count}
+use Rattle.cartridge_laws.specs.Says.{LosesData}
 use Rattle.cartridge_spec.specs.TableSets.{set_of, sets_by, table_sets, unreadable_places, last_used}
-use Rattle.cartridge_spec.proofs.Hiding.{nothing_is_hidden}
-use Rattle.cartridge_spec.proofs.Readings.{AreSmall, small_sets}
-use Rattle.cartridge_spec.proofs.Sets.{names, IsOneOf, length-hidden, named_is_one, one_is_named, unreadable_is_named}
+use Rattle.cartridge_laws.proofs.Hiding.{nothing_is_hidden}
+use Rattle.cartridge_laws.proofs.Readings.{AreSmall, small_sets}
+use Rattle.cartridge_laws.proofs.Sets.{names, IsOneOf, length-hidden, named_is_one, one_is_named, unreadable_is_named}
 use Rattle.volume_table.proofs.Trying.{set_of_places}
 use Rattle.segment_io.specs.Gathered.{Gathered, NamesUnreadable}
 use Rattle.segment_io.specs.Reading.{HasSolved}

@@ -10,15 +10,16 @@ use Rattle.qic_base.specs.declared.tape.SectorView.{SectorView}
 use Rattle.qic_base.specs.declared.tape.SectorView.TheVariants.{Blank, Defect, Lost, Holds}
 use Rattle.erasure_solve.specs.Lost.{is_lost}
 use Rattle.erasure_solve.proofs.Places.{is_lost_from}
-use Rattle.cartridge_spec.specs.Segment.{IsUnreadable, is_unreadable}
+use Rattle.cartridge_laws.specs.Segment.{IsUnreadable}
+use Rattle.cartridge_spec.specs.Shape.{is_unreadable}
 use Rattle.cartridge_spec.specs.Says.{hidden, hidden_from}
 use Rattle.cartridge_spec.specs.TableSets.{set_of, with_used, sets_by, sets_by_one, sets_by_two, unreadable_from, unreadable_places, last_used, last_used_below, shows_used_slot, has_used_slot}
-use Rattle.cartridge_spec.proofs.Cells.{unreadable_at}
-use Rattle.cartridge_spec.proofs.Sets.{names, IsOneOf, named_is_one, one_is_named}
+use Rattle.cartridge_laws.proofs.Cells.{unreadable_at}
+use Rattle.cartridge_laws.proofs.Sets.{names, IsOneOf, named_is_one, one_is_named}
 use Rattle.volume_table.proofs.Used.{shows_lost, shows_kept}
 use Rattle.segment_io.specs.Gathered.{Gathered, NamesUnreadable, IsUnreadableAt}
 use Rattle.volume_store.proofs.Mending.{places_of_set}
-use Rattle.mount_laws.specs.Settling.{places_where}
+use Rattle.cartridge_spec.specs.Settling.{places_where}
 
 -- ---- which cells are lost
 

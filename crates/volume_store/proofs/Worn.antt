@@ -1,34 +1,16 @@
 -- A store behind a sector that was worn.
-use Rattle.std.proofs.Common.{◌≡◌, ℕ, false, List, [], ◌∷◌, Option, Some, None, IfSome, Result, Ok, Err, refl, sym, ◌∙◌, subst}
+use Rattle.std.proofs.Common.{◌≡◌, false, List, ℕ, [], ◌∷◌, Option, Some, None, IfSome, sym, subst, Result, Ok, Err, refl}
 use Rattle.std.specs.Option.{option_map}
-use Rattle.qic_base.specs.Cartridge.{Cartridge}
-use Rattle.qic_base.specs.Step.{Wear, changed, effects}
-use Rattle.qic_base.specs.Tape.{Meaning, Done, Tells}
-use Rattle.cartridge_spec.proofs.Segments.{length-whole_cells}
 use Rattle.cartridge_spec.specs.Table.{Entry}
-use Rattle.change_laws.proofs.Changes.{worn_reads_no_more}
-use Rattle.drive_states.specs.declared.fault.HandFault.{HandFault}
-use Rattle.drive_states.specs.declared.fault.HandFault.TheVariants as fault
+use Rattle.command_laws.proofs.StoreWorn.{worn_list}
+use Rattle.command_laws.specs.StoreMounting.{HasList}
 use Rattle.drive_states.specs.Hand.{Wears}
 use Rattle.drive_states.specs.Unit.{UnitView}
-use Rattle.format_plan.proofs.Copies.{held_view, view_held}
-use Rattle.volume_store.specs.Mounting.{HasList}
-
--- what can be read agrees with the same block
-pub worn_list : (c : Cartridge) (segment sector : ℕ) (entries : List Entry) → HasList c entries → HasList (changed (Wear segment sector) c) entries
-worn_list c segment sector entries has =
-    let d : Cartridge = changed (Wear segment sector) c in
-    record {
-      block = has.block;
-      code = has.code;
-      agrees = record {
-        size = has.agrees.size ∙ length-whole_cells c 2 ∙ sym (length-whole_cells d 2);
-        each = λ i bytes at.
-            let held = held_view d 2 i bytes at in
-            has.agrees.each i bytes (view_held c 2 i bytes held.within (worn_reads_no_more c segment sector 2 i bytes held.view));
-      };
-      shown = has.shown;
-    }
+use Rattle.drive_states.specs.declared.fault.HandFault.{HandFault}
+use Rattle.qic_base.specs.Cartridge.{Cartridge}
+use Rattle.qic_base.specs.Step.{Wear, effects}
+use Rattle.qic_base.specs.Tape.{Meaning, Done, Tells}
+use Rattle.drive_states.specs.declared.fault.HandFault.TheVariants as fault
 
 -- the list stands where it may be written
 abbrev Lists : List Entry → Cartridge → Type 0

@@ -6,11 +6,11 @@ use Rattle.qic_base.specs.Step.{Step}
 use Rattle.qic_base.specs.Tape.{Meaning, Done, Broke, Tells}
 use Rattle.cartridge_spec.specs.HeaderAndTable.{table_cells, TableIs}
 use Rattle.cartridge_spec.specs.Says.{TableSays, LostSectors, ByCode}
-use Rattle.cartridge_spec.specs.Slots.{slot_bytes, slot_sector, with_slot}
+use Rattle.cartridge_spec.specs.Table.{slot_bytes, slot_sector, with_slot}
 use Rattle.cartridge_spec.specs.Table.{Entry, Shows}
-use Rattle.append_plan.specs.Between.{table_writes}
-use Rattle.mount_laws.specs.Settling.{settling_steps}
-use Rattle.volume_store.specs.Mounting.{HasList}
+use Rattle.cartridge_spec.specs.Appending.{table_writes}
+use Rattle.cartridge_spec.specs.Settling.{settling_steps}
+use Rattle.command_laws.specs.StoreMounting.{HasList}
 use Rattle.volume_store.specs.Reading.{IsReadBut}
 use Rattle.volume_store.specs.declared.fault.StoreFault.{StoreFault}
 use Rattle.volume_store.specs.declared.fault.StoreFault.TheVariants.{Lost, TableMismatch, Tape}

@@ -1,121 +1,23 @@
 -- What an append does, by the map, the list, the table's data and the input; and how the call ended (this project's own).
-use Rattle.std.specs.Prelude.{◌≡◌, ℕ, ◌+◌, ◌-◌, ◌<◌, ◌≤◌, ◌&&◌, Bool, List, [], ◌∷◌, ◌++◌, length, take, drop, min, Option, Some, None, All, IfSome, IfNone, is_some, nat_le, nat_lt, if◌then◌else◌, Result, Ok, Err}
+use Rattle.std.specs.Prelude.{◌≡◌, ℕ, ◌<◌, List, drop, Option, All, IfSome, IfNone, [], length, is_some, Result, Ok, Err, ◌≤◌, ◌-◌, ◌+◌, ◌∷◌, ◌++◌}
 use Rattle.std.specs.Option.{option_map}
+use Rattle.cartridge_spec.specs.HeaderAndTable.{TableIs, table_cells}
+use Rattle.cartridge_spec.specs.Says.{LostSectors, ByCode, TableSays}
+use Rattle.cartridge_spec.specs.Settling.{settling_steps}
+use Rattle.cartridge_spec.specs.Table.{Entry, Shows}
+use Rattle.command_spec.specs.Append.{Taking, taking, bytes_taken, room_in, input_writes, kept_in, entry_for, Fits, TooLong, TooShort, Kept, append_acts, silently}
+use Rattle.qic_base.specs.Acts.{Outside, Went, no_sink, Failing, Cut, TapeFails, SourceFails, Act}
 use Rattle.qic_base.specs.Cartridge.{Cartridge}
 use Rattle.qic_base.specs.Cause.{Rose}
-use Rattle.qic_base.specs.Source as sources
 use Rattle.qic_base.specs.Step.{Step}
-use Rattle.qic_base.specs.Tape as tapes
-use Rattle.acts.specs.Acts.{Act, Outside, Failing, TapeFails, SourceFails, Went, Cut}
-use Rattle.acts.specs.Around.{no_sink}
 use Rattle.tape_script.specs.Reading.{Skips}
-use Rattle.cartridge_spec.specs.HeaderAndTable.{table_cells, TableIs}
-use Rattle.cartridge_spec.specs.Says.{LostSectors, ByCode, TableSays}
-use Rattle.cartridge_spec.specs.Slots.{slot_bytes, slot_sector, with_slot}
-use Rattle.cartridge_spec.specs.Table.{Entry, Shows}
-use Rattle.append_plan.specs.Between.{table_writes}
-use Rattle.append_plan.specs.NewVolume.{new_entry}
-use Rattle.append_plan.specs.Room.{free_segments, room, taken_by}
-use Rattle.mount_laws.specs.Settling.{settling_steps}
-use Rattle.volume_input.specs.Input.{input_acts}
 use Rattle.volume_input.specs.declared.written.Written.{Written}
+use Rattle.volume_store.specs.Mounting.{StoreView}
 use Rattle.volume_store.specs.declared.appended.Appended.{Appended}
 use Rattle.volume_store.specs.declared.fault.StoreFault.{StoreFault}
+use Rattle.qic_base.specs.Source as sources
+use Rattle.qic_base.specs.Tape as tapes
 use Rattle.volume_store.specs.declared.fault.StoreFault.TheVariants as fault
-use Rattle.volume_store.specs.Mounting.{StoreView}
-
--- ---- the input
-
--- What becomes of an input: these bytes are the volume's; or there is no room for so many; or it ends before so many as were
--- promised.
-pub data Taking : Type 0 where
-  Fits : (bytes : List ℕ) → Taking
-  TooLong : (need have : ℕ) → Taking
-  TooShort : (promised read : ℕ) → Taking
-
--- There is room for a byte at least, and for as many as are promised.
-abbrev pub has_promised_room : (have : ℕ) → (promised : Option ℕ) → Bool
-has_promised_room have None = nat_le 1 have
-has_promised_room have (Some n) = nat_le 1 have && nat_le n have
-
--- With nothing promised all of the input is taken, and of one that is too long a byte more than there is room for; with a
--- promise just as many bytes, and none where there is no room for them.
-abbrev pub taking : (have : ℕ) → (promised : Option ℕ) → (input : List ℕ) → Taking
-taking have None input =
-    if nat_le 1 have && nat_le (length input) have then Fits input else TooLong (min (length input) (have + 1)) have
-taking have (Some n) input =
-    if has_promised_room have (Some n)
-    then (if nat_lt (length input) n then TooShort n (length input) else Fits (take n input))
-    else TooLong n have
-
--- how many bytes are taken
-abbrev pub bytes_taken : (promised : Option ℕ) → Taking → ℕ
-bytes_taken promised (Fits bytes) = length bytes
-bytes_taken None (TooLong need have) = need
-bytes_taken (Some n) (TooLong need have) = 0
-bytes_taken promised (TooShort n read) = read
-
--- at most so many bytes are written
-abbrev pub most_written : (have : ℕ) → (promised : Option ℕ) → ℕ
-most_written have None = have
-most_written have (Some n) = n
-
--- ---- the acts
-
--- what an append goes by: the words of the map, the list, the last segment, the table's data, and the steps that settle it
-pub record Kept : Type 0 where
-  pub words : List ℕ
-  pub entries : List Entry
-  pub last : ℕ
-  pub table : List (List ℕ)
-  pub settling : List Step
-
-abbrev pub room_in : Kept → ℕ
-room_in kept = room kept.words kept.entries kept.last
-
-abbrev pub free_in : Kept → List ℕ
-free_in kept = free_segments kept.words kept.entries kept.last
-
--- the segments that the bytes of the input fill, where there is room: one act for each
-abbrev pub input_writes : Kept → (promised : Option ℕ) → (input : List ℕ) → List Act
-input_writes kept promised input =
-    if has_promised_room (room_in kept) promised
-    then input_acts kept.words (free_in kept) (most_written (room_in kept) promised) (is_some promised) input
-    else []
-
--- the entry of a volume of these bytes
-abbrev pub entry_for : Kept → (name : List ℕ) → (date : ℕ) → (bytes : List ℕ) → Entry
-entry_for kept name date bytes = new_entry (taken_by kept.words (length bytes) (free_in kept)) name date (length bytes)
-
--- the table's data with an entry in the slot behind the last one
-abbrev pub table_with : Kept → Entry → List (List ℕ)
-table_with kept entry = with_slot kept.table (length kept.entries) (slot_bytes entry)
-
--- last, where all bytes are there, the writes of the table, and the reply
-abbrev pub entry_acts : Kept → (name : List ℕ) → (date : ℕ) → (reply : Entry → List ℕ) → Taking → List Act
-entry_acts kept name date reply (Fits bytes) =
-    record {
-      steps = table_writes (slot_sector (length kept.entries)) (table_with kept (entry_for kept name date bytes));
-      text = reply (entry_for kept name date bytes);
-    } ∷ []
-entry_acts kept name date reply (TooLong need have) = []
-entry_acts kept name date reply (TooShort promised read) = []
-
--- the settling of the table, the volume's segments, and the table
-abbrev pub append_acts : Kept → (name : List ℕ) → (date : ℕ) → (promised : Option ℕ) → (reply : Entry → List ℕ) → (input : List ℕ) → List Act
-append_acts kept name date promised reply input =
-    record { steps = kept.settling; text = [] }
-    ∷ (input_writes kept promised input ++ entry_acts kept name date reply (taking (room_in kept) promised input))
-
--- no reply
-abbrev pub silently : Entry → List ℕ
-silently entry = []
-
--- ---- how the input was taken
-
--- what an append goes by but for the table
-abbrev pub kept_in : (words : List ℕ) → (entries : List Entry) → Kept
-kept_in words entries = record { words = words; entries = entries; last = length words - 1; table = []; settling = [] }
 
 -- The segments were written, and this became of the input that the source told, or of some input where it tells none.
 pub record InputWent {T S : Type 0} (t : tapes.Meaning T) (s : sources.Meaning S) (words : List ℕ) (entries : List Entry) (promised : Option ℕ) (old new : Outside T S (Unit {0})) (became : Taking) : Type 0 where

@@ -15,7 +15,7 @@ use Rattle.cartridge_spec.specs.HeaderAndTable.{table_cells, TableIs, slot_refus
 use Rattle.cartridge_spec.specs.Mounting.{RefusesHeader}
 use Rattle.header_segments.specs.declared.header.Header.{Header}
 use Rattle.header_segments.specs.Header.{header_of}
-use Rattle.header_segments.specs.Laws.{AreTaken}
+use Rattle.cartridge_laws.specs.HeaderLaws.{AreTaken}
 use Rattle.segment_io.specs.declared.fault.SegFault.{SegFault}
 use Rattle.segment_io.specs.declared.fault.SegFault.TheVariants as seg
 use Rattle.volume_store.specs.declared.fault.StoreFault.{StoreFault}

@@ -1,27 +1,26 @@
 -- How a cartridge is mounted, what a store shows of it, and when a store fits a unit (this project's own).
-use Rattle.std.specs.Prelude.{◌≡◌, ◌⊎◌, ℕ, ◌-◌, ◌*◌, true, false, List, [], length, take, Result, Ok, Err}
-use Rattle.qic_base.specs.Cartridge.{Cartridge}
-use Rattle.qic_base.specs.Step.{Step}
-use Rattle.qic_base.specs.Tape.{Meaning, Done, Broke, Tells}
-use Rattle.qic117_commands.specs.Views.{is_primary}
-use Rattle.gf256_qic.specs.Code.{IsCodeBlock}
-use Rattle.cartridge_spec.specs.Header.{Header, fault_as}
-use Rattle.cartridge_spec.specs.Says.{Agrees, data_of}
-use Rattle.cartridge_spec.specs.Table.{Entry, IsSoundList}
-use Rattle.cartridge_spec.specs.Table as tables
+use Rattle.std.specs.Prelude.{◌≡◌, ℕ, List, take, Result, Ok, Err, ◌⊎◌, [], ◌-◌, ◌*◌, true, false, length}
+use Rattle.cartridge_laws.specs.Table.{IsSoundList}
+use Rattle.cartridge_spec.specs.Header.{fault_as, Header}
 use Rattle.cartridge_spec.specs.HeaderAndTable.{table_cells}
 use Rattle.cartridge_spec.specs.Mounting.{Mounts}
-use Rattle.cartridge_spec.specs.Mounting as mounting
+use Rattle.cartridge_spec.specs.Settling.{settling_steps}
+use Rattle.cartridge_spec.specs.Table.{Entry}
+use Rattle.command_laws.specs.StoreMounting.{HasList}
 use Rattle.drive_spec.specs.Deck.{is_referenced}
 use Rattle.drive_states.specs.Unit.{UnitView}
-use Rattle.host_driver.specs.declared.host.Host.{Host}
-use Rattle.host_driver.specs.Fits.{Fits, IsAtRest, AgreesWithTape, segments_of}
 use Rattle.header_segments.specs.Header.{header_of}
+use Rattle.host_driver.specs.Fits.{Fits, IsAtRest, AgreesWithTape, segments_of}
+use Rattle.host_driver.specs.declared.host.Host.{Host}
+use Rattle.qic117_commands.specs.Views.{is_primary}
+use Rattle.qic_base.specs.Cartridge.{Cartridge}
+use Rattle.qic_base.specs.Step.{Step}
+use Rattle.qic_base.specs.Tape.{Meaning, Done, Tells, Broke}
+use Rattle.volume_store.specs.Reading.{IsReadBut}
 use Rattle.volume_store.specs.declared.fault.StoreFault.{StoreFault}
 use Rattle.volume_store.specs.declared.fault.StoreFault.TheVariants.{NotFormatted, Foreign, Lost, TableMismatch, Tape}
 use Rattle.volume_store.specs.declared.learning.Learnt.{Learnt}
-use Rattle.volume_store.specs.Reading.{IsReadBut}
-use Rattle.mount_laws.specs.Settling.{settling_steps}
+use Rattle.cartridge_spec.specs.Mounting as mounting
 
 -- ---- refusals
 
@@ -89,13 +88,6 @@ abbrev pub MountDoes : {T : Type 0} (m : Meaning T) (old new : T) → Result Sto
 MountDoes m old new (Ok store) = MountsAs m old new store
 MountDoes m old new (Err Tape) = MountBreaks m old new
 MountDoes m old new (Err fault) = MountRefused m old new fault
-
--- the sectors of segment 2 that can be read are those of one code block whose data show these volumes
-pub record HasList (c : Cartridge) (entries : List Entry) : Type 0 where
-  pub block : List (List ℕ)
-  pub code : IsCodeBlock block
-  pub agrees : Agrees (table_cells c) block
-  pub shown : tables.Shows (data_of block) entries
 
 -- A store fits a unit: its host does, in Primary mode, it has learnt the cartridge, and where that is told and may be
 -- written its volume table is settled.

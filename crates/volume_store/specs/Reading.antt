@@ -4,7 +4,7 @@ use Rattle.std.specs.Prelude.{◌≡◌, ◌≢◌, ◌↔◌, ℕ, ◌<◌, ◌
 use Rattle.qic_base.specs.LostSet.{IsLost}
 use Rattle.qic_base.specs.declared.tape.SectorView.{SectorView}
 use Rattle.qic_base.specs.declared.tape.SectorView.TheVariants.{Holds}
-use Rattle.gf256_qic.specs.Code.{IsCodeBlock}
+use Rattle.cartridge_spec.specs.Code.{IsCodeBlock}
 use Rattle.cartridge_spec.specs.Says.{Data, ByCode, TableSays, HasNoBlock, unreadable_count}
 use Rattle.cartridge_spec.specs.Says as says
 use Rattle.segment_io.specs.Gathered.{Gathered, NamesUnreadable}

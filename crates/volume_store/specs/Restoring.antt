@@ -1,22 +1,17 @@
 -- How the restoring of a volume ended, by the answer of the call (this project's own).
-use Rattle.std.specs.Prelude.{◌≡◌, ℕ, zero, suc, Bool, List, length, slice_get, Option, None, Some, Result, Ok, Err}
-use Rattle.qic_base.specs.Sink as sinks
-use Rattle.qic_base.specs.Tape as tapes
-use Rattle.acts.specs.Acts.{Outside, TapeFails, SinkFails}
+use Rattle.std.specs.Prelude.{◌≡◌, ℕ, Some, length, None, Bool, Result, Ok, Err}
 use Rattle.cartridge_spec.specs.Table.{Entry}
 use Rattle.cartridge_spec.specs.Volumes.{volume_length}
-use Rattle.restore_plan.specs.Restoring.{Restored, LostIn, MismatchIn, pieces}
+use Rattle.command_spec.specs.Restore.{volume_at, Restored, LostIn, MismatchIn, pieces}
+use Rattle.qic_base.specs.Acts.{Outside, TapeFails, SinkFails}
 use Rattle.volume_output.specs.Output.{GaveVolume, VolumeCut}
 use Rattle.volume_output.specs.declared.fault.OutputFault.{OutputFault}
-use Rattle.volume_output.specs.declared.fault.OutputFault.TheVariants as output
-use Rattle.volume_store.specs.declared.fault.StoreFault.{StoreFault}
-use Rattle.volume_store.specs.declared.fault.StoreFault.TheVariants as fault
 use Rattle.volume_store.specs.Mounting.{StoreView}
-
--- the volume with a number, counted from 1
-abbrev pub volume_at : List Entry → (number : ℕ) → Option Entry
-volume_at entries zero = None
-volume_at entries (suc n) = slice_get entries n
+use Rattle.volume_store.specs.declared.fault.StoreFault.{StoreFault}
+use Rattle.qic_base.specs.Sink as sinks
+use Rattle.qic_base.specs.Tape as tapes
+use Rattle.volume_store.specs.declared.fault.StoreFault.TheVariants as fault
+use Rattle.volume_output.specs.declared.fault.OutputFault.TheVariants as output
 
 -- there is a volume of this number, and this is so of it
 abbrev pub OfVolume : StoreView → (number : ℕ) → (Entry → Type 0) → Type 0

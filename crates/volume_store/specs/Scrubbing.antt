@@ -2,7 +2,7 @@
 use Rattle.std.specs.Prelude.{◌≡◌, Result, Ok, Err}
 use Rattle.qic_base.specs.Sink as sinks
 use Rattle.qic_base.specs.Tape as tapes
-use Rattle.acts.specs.Acts.{Outside, TapeFails, SinkFails}
+use Rattle.qic_base.specs.Acts.{Outside, TapeFails, SinkFails}
 use Rattle.segment_mending.specs.Mending.{HasScrubbed, ScrubCut}
 use Rattle.segment_mending.specs.declared.report.ScrubReport.{ScrubReport}
 use Rattle.volume_store.specs.declared.fault.StoreFault.{StoreFault}

@@ -3,9 +3,9 @@ use Rattle.std.specs.Prelude.{ℕ, ◌||◌, ◌++◌, Bool, not, List, [], take
 use Rattle.std.specs.Str.{bytes_eq}
 use Rattle.qic_base.specs.Step.{Step}
 use Rattle.erasure_solve.specs.Lost.{is_lost}
-use Rattle.cartridge_spec.specs.Segment.{sector_at}
+use Rattle.cartridge_spec.specs.Shape.{sector_at}
 use Rattle.cartridge_spec.specs.Says.{with_parity}
-use Rattle.mount_laws.specs.Settling.{places_where, block_writes}
+use Rattle.cartridge_spec.specs.Settling.{places_where, block_writes}
 use Rattle.volume_store.specs.declared.table_reader.Unread.{Unread}
 
 -- the block of the table's segment as it was collected, by the data in its first 29 sectors

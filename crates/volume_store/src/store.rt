@@ -1,7 +1,7 @@
 //! A mounted cartridge.
 
 ghost use Rattle.std.specs.Prelude.{◌≡◌, ◌≢◌, ◌↔◌, ◌+◌, ◌-◌, ◌*◌, ◌<◌, ◌≤◌, true, Err, IfOk, IfSome, slice_get, length};
-ghost use Rattle.acts.specs.Around.{around, reading};
+ghost use Rattle.qic_base.specs.Acts.{around, reading};
 ghost use Rattle.drive_spec.specs.Deck.{is_protected, segments_per_track};
 ghost use Rattle.drive_states.specs.Hand.{Wears};
 ghost use Rattle.qic_base.specs.Cartridge.{IsPlace};
@@ -48,7 +48,7 @@ pub struct Store {
 impl Model for Store {
     ghost use Rattle.std.specs.Prelude.{◌≡◌, ◌-◌, ◌*◌, length};
     ghost use Rattle.header_segments.specs.Header.{header_of};
-    ghost use Rattle.cartridge_spec.specs.Table.{IsSoundList};
+    ghost use Rattle.cartridge_laws.specs.Table.{IsSoundList};
     ghost use Rattle.volume_store.specs.Mounting.{StoreView};
 
     ghost Value = { StoreView };

@@ -5,7 +5,7 @@ ghost use Rattle.qic_base.specs.LostSet.{IsLost, lost_places};
 ghost use Rattle.qic_base.specs.Tape.{Tells};
 ghost use Rattle.qic_base.specs.declared.tape.SectorView.{SectorView};
 ghost use Rattle.cartridge_spec.specs.HeaderAndTable.{table_cells};
-ghost use Rattle.cartridge_spec.specs.Says.{LosesData};
+ghost use Rattle.cartridge_laws.specs.Says.{LosesData};
 ghost use Rattle.drive_spec.specs.Deck.{is_referenced};
 ghost use Rattle.drive_states.specs.Reach.{reads_in};
 ghost use Rattle.host_driver.specs.Calls.{IsReady, Keeps};

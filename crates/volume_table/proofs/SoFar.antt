@@ -7,8 +7,10 @@ use Rattle.cartridge_spec.specs.Table.{slot, slot_fault, some_free_below, entry_
 use Rattle.cartridge_spec.specs.Table as table
 use Rattle.volume_table.specs.declared.entry.Entry.{Entry}
 use Rattle.volume_table.specs.Entry.{entry_of}
-use Rattle.volume_table.specs.Reading.{IsTakenBefore, ShowsVolume, taken_before}
-use Rattle.volume_table.proofs.SlotLaws.{slot_fault-bad_range, used_not_free}
+use Rattle.cartridge_laws.specs.TableReading.{IsTakenBefore, taken_before}
+use Rattle.volume_table.specs.Reading.{ShowsVolume}
+use Rattle.volume_table.proofs.SlotLaws.{slot_fault-bad_range}
+use Rattle.cartridge_laws.proofs.TableSlotLaws.{used_not_free}
 
 pub record SoFar (area : List (List ℕ)) (last n taken : ℕ) (seen_free : Bool) (entries : List table.Entry) : Type 0 where
   pub sound : (i : ℕ) → i < n → slot_fault area last i ≡ None

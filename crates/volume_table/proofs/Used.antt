@@ -5,7 +5,7 @@ use Rattle.std.proofs.lemmas.Bool.{cases_eq, cases_lt, cases_Bool, ne_eqb, eq-eq
 use Rattle.qic_base.specs.LostSet.{IsLost}
 use Rattle.qic_base.specs.declared.tape.SectorView.{SectorView}
 use Rattle.qic_base.specs.declared.tape.SectorView.TheVariants.{Lost, Holds}
-use Rattle.cartridge_spec.specs.Segment.{sector_at}
+use Rattle.cartridge_spec.specs.Shape.{sector_at}
 use Rattle.cartridge_spec.specs.Says.{hidden, hidden_from}
 use Rattle.cartridge_spec.specs.Table.{slot, is_used}
 use Rattle.cartridge_spec.specs.TableSets.{some_used_below, has_used_slot, shows_used_slot, last_used_below, last_used}

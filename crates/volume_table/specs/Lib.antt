@@ -1,5 +1,4 @@
 pub mod Entry
 pub mod Fault
-pub mod Laws
 pub mod Reading
 pub mod Trials

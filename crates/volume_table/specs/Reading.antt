@@ -1,20 +1,9 @@
 -- What the slots before a slot have told, and what one slot tells (this project's profile).
-use Rattle.std.specs.Prelude.{◌≡◌, ℕ, ◌≤◌, zero, suc, List, Option, Some, None, true, false}
-use Rattle.cartridge_spec.specs.Table.{slot, entry_in, is_free, is_used, some_free_below}
-use Rattle.cartridge_spec.specs.Table as table
-use Rattle.volume_table.specs.declared.entry.Entry.{Entry}
+use Rattle.std.specs.Prelude.{◌≡◌, ℕ, List, true, false, Option, Some, None}
+use Rattle.cartridge_spec.specs.Table.{slot, entry_in, is_used, some_free_below, is_free}
 use Rattle.volume_table.specs.Entry.{entry_of}
-
--- the last segment that is taken before slot i, where all slots before it are used: the end of
--- the slot before it, and before the first slot the table's own segment
-abbrev pub taken_before : List (List ℕ) → ℕ → ℕ
-taken_before area zero = 2
-taken_before area (suc i) = (entry_in (slot area i)).end
-
--- this segment is it, and lies in front of no volume's place
-pub record IsTakenBefore (area : List (List ℕ)) (i taken : ℕ) : Type 0 where
-  pub is : taken ≡ taken_before area i
-  pub least : 2 ≤ taken
+use Rattle.volume_table.specs.declared.entry.Entry.{Entry}
+use Rattle.cartridge_spec.specs.Table as table
 
 -- a slot shows this volume behind used slots alone
 pub record ShowsVolume (area : List (List ℕ)) (i : ℕ) (entry : Entry) : Type 0 where

@@ -2,7 +2,7 @@
 -- project's profile).
 use Rattle.std.specs.Prelude.{◌≡◌, ℕ, ◌-◌, ◌^◌, ◌<◌, ◌++◌, true, List, [], ◌∷◌, Option, None, Some, length, replicate, bit_or}
 use Rattle.qic_base.specs.LostSet.{IsLost, lost_places}
-use Rattle.cartridge_spec.specs.Segment.{sector_at}
+use Rattle.cartridge_spec.specs.Shape.{sector_at}
 use Rattle.cartridge_spec.specs.TableSets.{has_used_slot, sets_by}
 use Rattle.volume_table.specs.declared.sets_tried.Trials.{Trials}
 

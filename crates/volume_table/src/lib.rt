@@ -3,7 +3,6 @@
 
 mod entry;
 mod fault;
-pub mod laws;
 mod leaving_out;
 mod reading;
 mod sets_tried;

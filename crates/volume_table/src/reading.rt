@@ -2,7 +2,7 @@
 
 ghost use Rattle.std.specs.Prelude.{◌≡◌, ◌<◌, ◌≤◌, ◌↔◌, ℕ, length, IsTrue};
 ghost use Rattle.qic_base.specs.LostSet.{lost_places};
-ghost use Rattle.cartridge_spec.specs.Says.{LosesData};
+ghost use Rattle.cartridge_laws.specs.Says.{LosesData};
 
 use crate::table::Table;
 use qic_base::LostSet;

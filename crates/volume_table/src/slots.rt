@@ -5,7 +5,8 @@ ghost use Rattle.std.specs.Vec.{vec_len, vec_capacity};
 ghost use Rattle.cartridge_spec.specs.Table.{slot, slot_fault, some_free_below, entry_in, Shows, HasNoFault, IsFirstFault};
 ghost use Rattle.volume_table.specs.Entry.{entry_of};
 ghost use Rattle.volume_table.specs.Fault.{fault_of};
-ghost use Rattle.volume_table.specs.Reading.{ShowsSlot, IsTakenBefore};
+ghost use Rattle.volume_table.specs.Reading.{ShowsSlot};
+ghost use Rattle.cartridge_laws.specs.TableReading.{IsTakenBefore};
 
 use crate::entry::Entry;
 use crate::fault::TableFault;

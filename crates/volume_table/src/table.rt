@@ -1,7 +1,7 @@
 //! The list of volumes that a volume table shows.
 
 ghost use Rattle.std.specs.Prelude.{◌≡◌, ◌<◌, ◌≤◌, ◌↔◌, ◌++◌, ◌∷◌, [], length, slice_get, IsTrue, IsOk, IsErr, IfOk, OnOk, OnErr, IfErr};
-ghost use Rattle.cartridge_spec.specs.Slots.{slot_bytes, slot_sector, with_slot};
+ghost use Rattle.cartridge_spec.specs.Table.{slot_bytes, slot_sector, with_slot};
 ghost use Rattle.cartridge_spec.specs.Table.{Shows, HasNoFault, IsFirstFault};
 
 use crate::entry::Entry;

@@ -1,6 +1,6 @@
 use Rattle.std.proofs.Common.{ℕ, ◌≤◌, sym, subst, arith, List, [], ◌++◌, length, take, take_all}
 use Rattle.std.proofs.lemmas.List.{take_more}
-use Rattle.gf256_qic.specs.Code.{IsCodeBlock}
+use Rattle.cartridge_spec.specs.Code.{IsCodeBlock}
 use Rattle.segment_parity.specs.Register.{Holds}
 use Rattle.code_speed.proofs.by_register.Goals as goal
 

@@ -3,7 +3,7 @@ use Rattle.std.proofs.Math.ListN.{drop_of_length-le}
 use Rattle.std.proofs.lemmas.List.{append-nil, length-drop}
 use Rattle.std.proofs.lemmas.Slice.{take-put_mid_below}
 use borrow.Rule.Slice.PartMut.{put_mid, post_of}
-use Rattle.gf256_qic.specs.Code.{IsCodeBlock}
+use Rattle.cartridge_spec.specs.Code.{IsCodeBlock}
 use Rattle.code_speed.proofs.encode.Goals as goal
 
 put_last : (xs ys : List (List ℕ)) → length xs ≡ 32 → put_mid 29 3 xs ys ≡ take 29 xs ++ ys

@@ -1,5 +1,5 @@
 use Rattle.std.proofs.Common.{◌≡◌, ℕ, ◌*◌, refl, sym, subst, arith, List, ◌++◌}
-use Rattle.gf256_qic.specs.Code.{parity_sectors, IsCodeBlock}
+use Rattle.cartridge_spec.specs.Code.{parity_sectors, IsCodeBlock}
 use Rattle.gf256_qic.proofs.Parities.{parity_block}
 use Rattle.segment_parity.specs.Register.{HasColumns}
 use Rattle.segment_parity.proofs.Blocks.{no_columns, rows_done}

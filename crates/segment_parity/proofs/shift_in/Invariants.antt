@@ -1,5 +1,5 @@
 use Rattle.std.proofs.Common.{◌≡◌, length, All}
-use Rattle.gf256_qic.specs.Code.{IsSector}
+use Rattle.cartridge_spec.specs.Code.{IsSector}
 use Rattle.segment_parity.specs.Register.{Shifted}
 use Rattle.segment_parity.proofs.Steps.{Untouched}
 use Rattle.segment_parity.proofs.shift_in.Given as goal

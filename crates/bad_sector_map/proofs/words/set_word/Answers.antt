@@ -1,6 +1,6 @@
 -- The word lies in one sector, and fills four bytes there.
 use Rattle.std.proofs.Common.{◌≡◌, ◌+◌, ◌/◌, ◌<◌, [], length, get_or, refl, arith}
-use Rattle.bad_sector_map.proofs.AreaLaws.{byte_in-other_word}
+use Rattle.cartridge_laws.proofs.MapAreaLaws.{byte_in-other_word}
 use Rattle.bad_sector_map.proofs.words.set_word.Goals as goal
 
 pub returns-clause-others : goal.returns-clause-others

@@ -1,7 +1,7 @@
 use Rattle.std.proofs.Common.{◌≡◌, ℕ, get_or, sym, ◌∙◌, arith, refl, below_more}
 use Rattle.std.proofs.lemmas.List.FromFn.{fill_by_all}
 use Rattle.cartridge_spec.specs.Header.{word_in}
-use Rattle.bad_sector_map.proofs.AreaLaws.{word_in-others, IsInMap-more}
+use Rattle.cartridge_laws.proofs.MapAreaLaws.{word_in-others, IsInMap-more}
 use Rattle.bad_sector_map.proofs.words.write_words.Goals as goal
 
 pub loop-segment-preserved : goal.loop-segment-preserved

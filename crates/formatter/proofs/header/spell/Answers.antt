@@ -2,8 +2,8 @@ use Rattle.std.proofs.Common.{◌≡◌, ℕ, List, length, take, ap, subst, sym
 use Rattle.std.proofs.lemmas.List.{length-take-le}
 use Rattle.cartridge_spec.specs.Header.{SpellsHeader}
 use Rattle.cartridge_spec.specs.Says.{with_parity}
-use Rattle.cartridge_spec.proofs.Sayings.{cartridge_sectors, parity_put}
-use Rattle.format_plan.specs.Fresh.{fresh_header, IsFreshArea}
+use Rattle.cartridge_laws.proofs.Sayings.{cartridge_sectors, parity_put}
+use Rattle.cartridge_spec.specs.Formatting.{fresh_header, IsFreshArea}
 use Rattle.formatter.proofs.Copies.{block_data}
 use Rattle.formatter.proofs.header.spell.Goals as goal
 

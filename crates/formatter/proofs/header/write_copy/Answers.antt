@@ -3,8 +3,8 @@ use Rattle.std.proofs.lemmas.Result.{err_from_is_err_and}
 use Rattle.qic_base.specs.Step.{Step}
 use Rattle.qic_base.specs.Tape.{Done, Broke, Does}
 use Rattle.qic_base.proofs.Steps.{Broke-front}
-use Rattle.format_plan.specs.Formatting.{copy_writes}
-use Rattle.cartridge_spec.specs.Writes.{named_writes}
+use Rattle.cartridge_spec.specs.Formatting.{copy_writes}
+use Rattle.cartridge_laws.specs.Writes.{named_writes}
 use Rattle.host_driver.proofs.Keeping.{cartridge_kept}
 use Rattle.segment_io.proofs.Going.{front_segment}
 use Rattle.formatter.proofs.Parts.{does_after}

@@ -6,9 +6,9 @@ use Rattle.qic_base.specs.Tape.{Done, Broke}
 use Rattle.qic_base.proofs.Steps.{Done-Done, Done-Broke, Broke-front}
 use Rattle.qic117_commands.specs.Views.{is_primary}
 use Rattle.host_driver.proofs.Keeping.{agrees_tape, cartridge_kept, may_write_kept}
-use Rattle.format_plan.specs.Formatting.{copy_writes}
+use Rattle.cartridge_spec.specs.Formatting.{copy_writes}
 use Rattle.cartridge_spec.specs.Says.{with_parity}
-use Rattle.format_plan.specs.Fresh.{IsFreshArea}
+use Rattle.cartridge_spec.specs.Formatting.{IsFreshArea}
 use Rattle.formatter.specs.Formats.{header_writes}
 use Rattle.formatter.proofs.Copies.{lent, lent_room}
 use Rattle.formatter.proofs.Places.{length_known}

@@ -1,5 +1,5 @@
 use Rattle.std.proofs.Common.{arith}
-use Rattle.header_segments.proofs.Refusals.{length-words_in}
+use Rattle.cartridge_laws.proofs.HeaderRefusals.{length-words_in}
 use Rattle.header_segments.proofs.reading.fault_in.Goals as goal
 
 pub marked_fault-requires : goal.marked_fault-requires

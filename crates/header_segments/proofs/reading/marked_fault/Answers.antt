@@ -1,7 +1,8 @@
 use Rattle.std.proofs.Common.{◌≡◌, ◌<◌, length, get_or, sym, ap, ◌∙◌, arith}
 use Rattle.std.specs.Option.{option_map}
 use Rattle.header_segments.specs.Refusal.{foreign}
-use Rattle.header_segments.proofs.Refusals.{map_fault-first, map_fault-none, word_in-read, length-words_in}
+use Rattle.header_segments.proofs.Refusals.{map_fault-first}
+use Rattle.cartridge_laws.proofs.HeaderRefusals.{map_fault-none, word_in-read, length-words_in}
 use Rattle.header_segments.proofs.reading.marked_fault.Goals as goal
 
 pub returns-then-usable : goal.returns-then-usable

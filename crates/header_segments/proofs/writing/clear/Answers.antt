@@ -1,5 +1,5 @@
 use Rattle.std.proofs.Common.{◌≢◌, ◌<◌, length, refl, arith, below_more, get_or-set_other, get_or-set_same}
-use Rattle.header_segments.proofs.SpellingLaws.{all_clear}
+use Rattle.cartridge_laws.proofs.HeaderSpellingLaws.{all_clear}
 use Rattle.header_segments.proofs.writing.clear.Goals as goal
 
 pub loop-sector-preserved : goal.loop-sector-preserved

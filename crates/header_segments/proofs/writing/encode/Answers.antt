@@ -1,7 +1,8 @@
 use Rattle.std.proofs.Common.{◌≡◌, [], length, get_or, sym, ap, ◌∙◌, arith}
 use Rattle.header_segments.specs.Header.{header_of}
-use Rattle.header_segments.specs.Writing.{with_fields, told_fields}
-use Rattle.header_segments.proofs.SpellingLaws.{encoded_spells, profile_whole}
+use Rattle.cartridge_laws.specs.HeaderWriting.{with_fields, told_fields}
+use Rattle.cartridge_laws.proofs.HeaderSpellingLaws.{encoded_spells}
+use Rattle.header_segments.proofs.SpellingLaws.{profile_whole}
 use Rattle.header_segments.proofs.writing.encode.Goals as goal
 
 pub returns : goal.returns

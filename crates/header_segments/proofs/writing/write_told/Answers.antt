@@ -3,7 +3,7 @@ use Rattle.std.proofs.lemmas.List.Edits.{length-between}
 use Rattle.std.proofs.lemmas.List.Elements.{All-from_recursion}
 use Rattle.qic_base.specs.Field.{overwritten}
 use Rattle.header_segments.specs.Header.{header_of}
-use Rattle.header_segments.specs.Writing.{FieldFits, told_fields}
+use Rattle.cartridge_laws.specs.HeaderWriting.{FieldFits, told_fields}
 use Rattle.header_segments.proofs.SpellingLaws.{put_mid-overwritten}
 use Rattle.header_segments.proofs.writing.write_told.Goals as goal
 use borrow.Rule.Slice.PartMut.{put_mid}

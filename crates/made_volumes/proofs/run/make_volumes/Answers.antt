@@ -1,12 +1,12 @@
 use Rattle.std.proofs.Common.{◌≡◌, ℕ, ◌+◌, List, [], ◌∷◌, length, Err, Ok, refl, ap, ◌∙◌, arith}
 use Rattle.std.proofs.lemmas.Grind.{common_steps}
-use Rattle.acts.specs.Around.{around, no_sink}
+use Rattle.qic_base.specs.Acts.{around, no_sink}
 use Rattle.cartridge_spec.specs.Table.{Entry}
 use Rattle.volume_store.specs.Mounting.{StoreView}
 use Rattle.made_volumes.specs.declared.fault.MakeFault.{MakeFault}
-use Rattle.made_volumes.specs.Items.{ScrubAll, made_list}
+use Rattle.command_spec.specs.Make.{ScrubAll, made_list}
 use Rattle.made_volumes.proofs.Going.{same_store, wears_of_made, sums_of_made, make_unappended, make_appended, make_unworn, make_worn, make_unscrubbed, make_scrubbed}
-use Rattle.made_volumes.proofs.Loops.{length-made}
+use Rattle.command_laws.proofs.MadeLoops.{length-made}
 use Rattle.made_volumes.proofs.run.make_volumes.Goals as goal
 
 pub returns-in_err-append_volumes-clause-ends : goal.returns-in_err-append_volumes-clause-ends

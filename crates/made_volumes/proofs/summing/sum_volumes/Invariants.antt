@@ -1,9 +1,9 @@
 -- The volumes before the present one were summed.
 use Rattle.std.proofs.Common.{ℕ, ◌+◌, ◌-◌, ◌≤◌}
-use Rattle.acts.specs.Around.{around}
+use Rattle.qic_base.specs.Acts.{around}
 use Rattle.volume_store.specs.Mounting.{StoreFits, KeepsStore}
-use Rattle.made_volumes.specs.Items.{summing}
-use Rattle.made_volumes.specs.Machine.{Done}
+use Rattle.command_spec.specs.Make.{summing}
+use Rattle.command_spec.specs.Make.{Done}
 use Rattle.made_volumes.specs.Runs.{HasRun}
 use Rattle.made_volumes.proofs.summing.sum_volumes.Given as goal
 

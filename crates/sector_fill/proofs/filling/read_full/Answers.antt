@@ -1,6 +1,6 @@
 use Rattle.std.proofs.Common.{◌≡◌, ℕ, ◌-◌, ◌≤◌, length, take, drop, arith}
 use Rattle.std.proofs.lemmas.List.{length-take, length-drop}
-use Rattle.tape_script.proofs.Giving.{Gave-Gave, Gave-read}
+use Rattle.qic_base.proofs.Giving.{Gave-Gave, Gave-read}
 use Rattle.sector_fill.proofs.Sectors.{take-put_rear, length-put_rear}
 use Rattle.sector_fill.proofs.filling.read_full.Goals as goal
 

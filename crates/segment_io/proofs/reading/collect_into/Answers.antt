@@ -8,7 +8,7 @@ use Rattle.segment_io.specs.Gathered.{Gathered, cells_below}
 use Rattle.segment_io.proofs.GatheredCells.{gathered_none, cells_below-none}
 use Rattle.host_driver.proofs.Keeping.{keeps_both, mode_kept}
 use Rattle.segment_io.proofs.Going.{under_first, done_moved, tells_always, tells_then, tells_later}
-use Rattle.cartridge_spec.proofs.Places.{none_below}
+use Rattle.cartridge_laws.proofs.Places.{none_below}
 use Rattle.segment_io.proofs.reading.collect_into.Goals as goal
 
 pub loop-index-init : goal.loop-index-init

@@ -1,7 +1,7 @@
 use Rattle.std.proofs.Common.{◌≡◌, ℕ, ◌+◌, ◌-◌, ◌≤◌, ◌++◌, List, take, drop, sym, ◌∙◌, ap, subst, arith}
 use Rattle.std.proofs.lemmas.List.{append_assoc, drop-drop}
 use borrow.Rule.Slice.PartMut.{put_mid}
-use Rattle.gf256_qic.specs.Code.{parity_sectors}
+use Rattle.cartridge_spec.specs.Code.{parity_sectors}
 use Rattle.segment_parity.specs.Register.{Holds}
 use Rattle.segment_io.specs.Register.{completed}
 use Rattle.segment_io.proofs.ByRegister.{completed_twice}

@@ -5,8 +5,8 @@ use Rattle.qic_base.specs.Step.{Step}
 use Rattle.qic_base.specs.Tape.{Done, Broke}
 use Rattle.qic_base.proofs.Steps.{Done-Done, Done-Broke, Broke-front}
 use Rattle.cartridge_spec.specs.Shape.{usable_count}
-use Rattle.cartridge_spec.specs.Writes.{segment_writes, named_writes}
-use Rattle.cartridge_spec.proofs.Places.{none_below, count_below, Front}
+use Rattle.cartridge_laws.specs.Writes.{segment_writes, named_writes}
+use Rattle.cartridge_laws.proofs.Places.{none_below, count_below, Front}
 use Rattle.host_driver.proofs.Keeping.{keeps_both, may_write_kept}
 use Rattle.segment_io.specs.Register.{completed}
 use Rattle.segment_io.specs.Writes.{next_write, usable_write}

@@ -2,8 +2,8 @@ use Rattle.std.proofs.Common.{◌≡◌, ℕ, ◌+◌, ◌≤◌, List, [], ◌�
 use Rattle.qic_base.specs.LostSet.{IsLost, lost_places}
 use Rattle.qic_base.specs.Step.{Step, WriteSector}
 use Rattle.qic_base.specs.Tape.{Does}
-use Rattle.cartridge_spec.specs.Segment.{sector_at}
-use Rattle.cartridge_spec.proofs.Places.{count_below, count_more, count_same}
+use Rattle.cartridge_spec.specs.Shape.{sector_at}
+use Rattle.cartridge_laws.proofs.Places.{count_below, count_more, count_same}
 use Rattle.segment_io.specs.Register.{completed}
 use Rattle.segment_io.specs.Writes.{next_write}
 use Rattle.segment_io.proofs.ByRegister.{next_is_written}

@@ -6,11 +6,11 @@ use Rattle.qic_base.specs.Tape.{Done, Broke}
 use Rattle.qic_base.proofs.Steps.{Done-Done, Done-Broke, Broke-front}
 use Rattle.cartridge_spec.specs.Shape.{usable_count}
 use Rattle.segment_io.specs.Writes.{usable_write}
-use Rattle.cartridge_spec.specs.Writes.{named_writes}
+use Rattle.cartridge_laws.specs.Writes.{named_writes}
 use Rattle.host_driver.proofs.Keeping.{keeps_both, may_write_kept}
 use Rattle.segment_io.proofs.Going.{under_first, done_moved}
 use Rattle.segment_io.proofs.NamedWrites.{writes_below, writes_below_none, writes_below_next, writes_below_all, front_of_writes}
-use Rattle.cartridge_spec.proofs.Places.{none_below, count_below, Front}
+use Rattle.cartridge_laws.proofs.Places.{none_below, count_below, Front}
 use Rattle.segment_io.proofs.writing.write_sectors.Goals as goal
 
 pub loop-index-init : goal.loop-index-init

@@ -3,8 +3,8 @@ use Rattle.qic_base.specs.Tape.{Tells}
 use Rattle.qic_base.proofs.Steps.{Tells-map}
 use Rattle.cartridge_spec.specs.Says.{whole_mask, Saying, Says, LostSectors, Mismatch}
 use Rattle.cartridge_spec.specs.Shape.{usable_count}
-use Rattle.cartridge_spec.proofs.Segments.{count_of_whole}
-use Rattle.scrub_plan.specs.Scrubbing.{Looked, whole_segment, cells_at, reads}
+use Rattle.cartridge_laws.proofs.Segments.{count_of_whole}
+use Rattle.command_spec.specs.Scrub.{Looked, whole_segment, cells_at, reads}
 use Rattle.host_driver.proofs.Keeping.{cartridge_kept}
 use Rattle.segment_io.specs.Reading.{HasSolved}
 use Rattle.segment_io.proofs.Going.{front_segment}

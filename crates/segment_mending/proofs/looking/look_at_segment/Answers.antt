@@ -3,8 +3,8 @@ use Rattle.qic_base.specs.Tape.{Tells}
 use Rattle.qic_base.proofs.Steps.{Tells-map}
 use Rattle.cartridge_spec.specs.Says.{Saying, Says, LostSectors, Mismatch, data_of}
 use Rattle.cartridge_spec.specs.Shape.{usable_count}
-use Rattle.cartridge_spec.proofs.Places.{count_below}
-use Rattle.scrub_plan.specs.Scrubbing.{Looked, cells_at}
+use Rattle.cartridge_laws.proofs.Places.{count_below}
+use Rattle.command_spec.specs.Scrub.{Looked, cells_at}
 use Rattle.segment_mending.specs.Mending.{reported}
 use Rattle.segment_mending.proofs.Reading.{Mends, looks_mended, looks_unread, read_cut, data_reads, data_line}
 use Rattle.segment_mending.proofs.looking.look_at_segment.Goals as goal

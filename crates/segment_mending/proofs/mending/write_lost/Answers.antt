@@ -3,7 +3,7 @@ use Rattle.qic_base.specs.LostSet.{lost_places}
 use Rattle.qic_base.specs.Step.{Step}
 use Rattle.qic_base.specs.Tape.{Done}
 use Rattle.qic_base.proofs.Steps.{Done-nothing}
-use Rattle.cartridge_spec.specs.Writes.{named_writes}
+use Rattle.cartridge_laws.specs.Writes.{named_writes}
 use Rattle.segment_mending.proofs.mending.write_lost.Goals as goal
 
 -- an empty set writes nothing

@@ -1,6 +1,6 @@
 use Rattle.std.proofs.Common.{◌≡◌, [], ◌∷◌, true, arith, Err}
-use Rattle.acts.specs.Around.{around}
-use Rattle.scrub_plan.specs.Scrubbing.{whole_segment}
+use Rattle.qic_base.specs.Acts.{around}
+use Rattle.command_spec.specs.Scrub.{whole_segment}
 use Rattle.host_driver.proofs.Keeping.{cartridge_kept}
 use Rattle.segment_io.proofs.Going.{front_segment}
 use Rattle.segment_mending.specs.declared.fault.ScrubFault.{ScrubFault}

@@ -1,8 +1,8 @@
 use Rattle.std.proofs.Common.{◌≡◌, ℕ, List, [], ◌∷◌, subst, Err, ◌∙◌}
 use Rattle.qic_base.specs.Sink as sinks
-use Rattle.acts.specs.Around.{around}
+use Rattle.qic_base.specs.Acts.{around}
 use Rattle.cartridge_spec.specs.Table.{Entry}
-use Rattle.scrub_plan.specs.Scrubbing.{whole_segment, looked_volumes, looked_at}
+use Rattle.command_spec.specs.Scrub.{whole_segment, looked_volumes, looked_at}
 use Rattle.segment_mending.specs.declared.fault.ScrubFault.{ScrubFault}
 use Rattle.segment_mending.specs.declared.report.ScrubReport.{ScrubReport}
 use Rattle.segment_mending.specs.Looking.{HasLooked}

@@ -1,7 +1,7 @@
 use Rattle.std.proofs.Common.{◌≡◌, ℕ, ◌+◌, ◌-◌, ◌≤◌, ◌++◌, List, [], length, sym, ap, subst, ◌∙◌, arith, Err}
-use Rattle.acts.specs.Around.{around}
+use Rattle.qic_base.specs.Acts.{around}
 use Rattle.cartridge_spec.specs.Volumes.{carrying}
-use Rattle.scrub_plan.specs.Scrubbing.{Looked, looked_segments}
+use Rattle.command_spec.specs.Scrub.{Looked, looked_segments}
 use Rattle.host_driver.proofs.Keeping.{keeps_none, keeps_both}
 use Rattle.segment_mending.specs.declared.fault.ScrubFault.{ScrubFault}
 use Rattle.segment_mending.specs.Looking.{HasLooked, Looks}

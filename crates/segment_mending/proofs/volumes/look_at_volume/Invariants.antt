@@ -1,8 +1,8 @@
 -- The carrying segments below the present one were looked at.
 use Rattle.std.proofs.Common.{◌≤◌}
-use Rattle.acts.specs.Around.{around}
+use Rattle.qic_base.specs.Acts.{around}
 use Rattle.host_driver.specs.Calls.{Keeps}
-use Rattle.scrub_plan.specs.Scrubbing.{looked_segments}
+use Rattle.command_spec.specs.Scrub.{looked_segments}
 use Rattle.segment_mending.specs.Looking.{HasLooked}
 use Rattle.segment_mending.specs.Mending.{reported}
 use Rattle.segment_mending.proofs.Looked.{carrying_below}

@@ -1,8 +1,8 @@
 use Rattle.std.proofs.Common.{◌≡◌, ℕ, ◌+◌, ◌-◌, ◌++◌, List, take, drop, length, sym, ap, subst, ◌∙◌, arith, Err}
-use Rattle.acts.specs.Around.{around}
+use Rattle.qic_base.specs.Acts.{around}
 use Rattle.cartridge_spec.specs.Table.{Entry}
 use Rattle.cartridge_spec.specs.Volumes.{carrying_segments}
-use Rattle.scrub_plan.specs.Scrubbing.{Looked, looked_segments, looked_volumes}
+use Rattle.command_spec.specs.Scrub.{Looked, looked_segments, looked_volumes}
 use Rattle.host_driver.proofs.Keeping.{keeps_none, keeps_both}
 use Rattle.volume_table.specs.Entry.{entry_of}
 use Rattle.segment_mending.specs.declared.fault.ScrubFault.{ScrubFault}

@@ -1,8 +1,8 @@
 use Rattle.std.proofs.Common.{◌≡◌, ℕ, List, ap, sym, subst, ◌∙◌, arith, [], length}
-use Rattle.acts.specs.Around.{around}
+use Rattle.qic_base.specs.Acts.{around}
 use Rattle.cartridge_spec.specs.Shape.{mask_at, sectors_of, usable_count}
 use Rattle.cartridge_spec.specs.Volumes.{carrying}
-use Rattle.scrub_plan.specs.Scrubbing.{Looked, looked_segments}
+use Rattle.command_spec.specs.Scrub.{Looked, looked_segments}
 use Rattle.segment_mending.specs.Looking.{HasLooked}
 use Rattle.segment_mending.specs.Mending.{reported}
 use Rattle.segment_mending.proofs.Joining.{looked_none}

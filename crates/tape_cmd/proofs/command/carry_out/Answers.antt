@@ -1,6 +1,6 @@
 use Rattle.std.proofs.Common.{refl}
-use Rattle.tape_script.specs.declared.words.Words.TheVariants.{New, Defect, Lose, Protect}
-use Rattle.tape_cmd.proofs.Promises.{ends_over}
+use Rattle.command_spec.specs.declared.words.Words.TheVariants.{New, Defect, Lose, Protect}
+use Rattle.command_laws.proofs.CommandPromises.{ends_over}
 use Rattle.tape_cmd.proofs.command.carry_out.Goals as goal
 
 pub returns-in-New-clause-ends : goal.returns-in-New-clause-ends

@@ -1,5 +1,5 @@
 use Rattle.std.proofs.Common.{sym, ◌∙◌}
-use Rattle.tape_cmd.proofs.Promises.{ends_over}
+use Rattle.command_laws.proofs.CommandPromises.{ends_over}
 use Rattle.tape_cmd.proofs.command.carry_out_in.Goals as goal
 
 pub returns-then-not-reads_input-clause-ends : goal.returns-then-not-reads_input-clause-ends

@@ -1,5 +1,5 @@
 use Rattle.std.proofs.Common.{map, string_bytes, sym, ◌∙◌}
-use Rattle.tape_cmd.proofs.Promises.{promises, usage_promises, memory_promises}
+use Rattle.command_laws.proofs.CommandPromises.{promises, usage_promises, memory_promises}
 use Rattle.tape_cmd.proofs.command.run.Goals as goal
 
 pub returns-in_default-clause-promises : goal.returns-in_default-clause-promises

@@ -1,4 +1,4 @@
-use Rattle.tape_cmd.proofs.Promises.{promises}
+use Rattle.command_laws.proofs.CommandPromises.{promises}
 use Rattle.tape_cmd.proofs.command.run_ready.Goals as goal
 
 pub returns-then-takes_memory-clause-promises : goal.returns-then-takes_memory-clause-promises

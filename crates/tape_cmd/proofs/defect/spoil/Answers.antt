@@ -7,11 +7,13 @@ use Rattle.qic_base.proofs.Steps.{Done-after_reads, Broke-after_reads}
 use Rattle.drive_states.specs.Unit.{UnitView}
 use Rattle.drive_states.specs.Hand.{Spoils}
 use Rattle.drive_states.specs.declared.fault.HandFault.TheVariants as hand
-use Rattle.tape_script.specs.declared.words.Words.TheVariants.{Defect}
-use Rattle.tape_cmd.specs.declared.status.Status.TheVariants as status
-use Rattle.tape_cmd.specs.Lines.{defect_line}
-use Rattle.tape_cmd.specs.Outcome.{CommandOutcome, carried_out, refused, refused_behind, first_steps}
-use Rattle.tape_cmd.proofs.Endings.{IsBlind, Rules, printed, turned_down, turned_behind, cut_off, cut_off_first, defect_absent, defect_misplaced, defect_placed, defect_front, defect_formatted}
+use Rattle.command_spec.specs.declared.words.Words.TheVariants.{Defect}
+use Rattle.command_spec.specs.declared.status.Status.TheVariants as status
+use Rattle.command_spec.specs.Lines.{defect_line}
+use Rattle.command_spec.specs.Outcome.{CommandOutcome, carried_out, refused, refused_behind}
+use Rattle.tape_cmd.specs.Outcome.{first_steps}
+use Rattle.tape_cmd.proofs.Endings.{IsBlind, printed, turned_down, turned_behind, cut_off, cut_off_first, defect_absent, defect_misplaced, defect_placed, defect_front, defect_formatted}
+use Rattle.command_laws.proofs.CommandEndings.{Rules}
 use Rattle.tape_cmd.proofs.Hands.{told_at_start, known_before, told_known, told_known_beside, reached, unknown, no_place}
 use Rattle.tape_cmd.proofs.defect.spoil.Goals as goal
 

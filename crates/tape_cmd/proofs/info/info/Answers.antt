@@ -3,7 +3,7 @@ use Rattle.qic_base.specs.Sink.{Writes}
 use Rattle.cartridge_spec.specs.Header.{Header}
 use Rattle.cartridge_spec.specs.Shape.{marked_sectors}
 use Rattle.header_segments.specs.Header.{header_of}
-use Rattle.tape_cmd.specs.Lines.{label_lines, count_lines, info_text}
+use Rattle.command_spec.specs.Lines.{label_lines, count_lines, info_text}
 use Rattle.tape_cmd.proofs.Mounted.{info_refused, info_printed}
 use Rattle.tape_cmd.proofs.info.info.Goals as goal
 

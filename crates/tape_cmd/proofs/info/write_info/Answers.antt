@@ -1,8 +1,8 @@
 use Rattle.std.proofs.Common.{◌*◌}
 use Rattle.qic_base.specs.Sink.{Wrote, Writes}
 use Rattle.header_segments.specs.Header.{header_of}
-use Rattle.tape_cmd.specs.Lines.{label_lines, count_lines}
-use Rattle.volume_lines.proofs.Listings.{Writes-after}
+use Rattle.command_spec.specs.Lines.{label_lines, count_lines}
+use Rattle.command_laws.proofs.LineListings.{Writes-after}
 use Rattle.tape_cmd.proofs.info.write_info.Goals as goal
 
 pub returns : goal.returns

@@ -1,10 +1,12 @@
 use Rattle.std.proofs.Common.{◌≡◌, List, [], ◌∷◌, ◌++◌, Option, Some, None, IfSome, refl, sym, ap}
 use Rattle.qic_base.specs.Cartridge.{Cartridge}
 use Rattle.qic_base.specs.Step.{Renew}
-use Rattle.tape_script.specs.declared.words.Words.TheVariants.{New}
-use Rattle.tape_cmd.specs.Lines.{blank_line}
-use Rattle.tape_cmd.specs.Outcome.{CommandOutcome, carried_out, first_steps}
-use Rattle.tape_cmd.proofs.Endings.{IsBlind, Rules, printed, cut_off}
+use Rattle.command_spec.specs.declared.words.Words.TheVariants.{New}
+use Rattle.command_spec.specs.Lines.{blank_line}
+use Rattle.command_spec.specs.Outcome.{CommandOutcome, carried_out}
+use Rattle.tape_cmd.specs.Outcome.{first_steps}
+use Rattle.tape_cmd.proofs.Endings.{IsBlind, printed, cut_off}
+use Rattle.command_laws.proofs.CommandEndings.{Rules}
 use Rattle.tape_cmd.proofs.new.put_in_new.Goals as goal
 
 is_blind : {segments : _} → IsBlind (New segments)

@@ -5,11 +5,13 @@ use Rattle.qic_base.proofs.Steps.{Done-after_reads, Broke-after_reads}
 use Rattle.drive_states.specs.Hand.{Replaces}
 use Rattle.drive_states.specs.Unit.{UnitView}
 use Rattle.drive_states.specs.declared.fault.HandFault.TheVariants as hand
-use Rattle.tape_script.specs.declared.words.Words.TheVariants.{Protect}
-use Rattle.tape_cmd.specs.declared.status.Status.TheVariants as status
-use Rattle.tape_cmd.specs.Lines.{protected_line}
-use Rattle.tape_cmd.specs.Outcome.{CommandOutcome, carried_out, refused, first_steps}
-use Rattle.tape_cmd.proofs.Endings.{IsBlind, Rules, printed, turned_down, cut_off, cut_off_first, protect_absent, protect_present, protect_front}
+use Rattle.command_spec.specs.declared.words.Words.TheVariants.{Protect}
+use Rattle.command_spec.specs.declared.status.Status.TheVariants as status
+use Rattle.command_spec.specs.Lines.{protected_line}
+use Rattle.command_spec.specs.Outcome.{CommandOutcome, carried_out, refused}
+use Rattle.tape_cmd.specs.Outcome.{first_steps}
+use Rattle.tape_cmd.proofs.Endings.{IsBlind, printed, turned_down, cut_off, cut_off_first, protect_absent, protect_present, protect_front}
+use Rattle.command_laws.proofs.CommandEndings.{Rules}
 use Rattle.tape_cmd.proofs.Hands.{known_before, told_known, switched, no_switch}
 use Rattle.tape_cmd.proofs.protect.protect.Goals as goal
 

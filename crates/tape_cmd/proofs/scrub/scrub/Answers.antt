@@ -1,5 +1,5 @@
 use Rattle.std.proofs.Common.{Err, ap, subst}
-use Rattle.acts.specs.Around.{around}
+use Rattle.qic_base.specs.Acts.{around}
 use Rattle.volume_store.specs.declared.fault.StoreFault.{StoreFault}
 use Rattle.volume_store.specs.Scrubbing.{MendEnds}
 use Rattle.tape_cmd.proofs.Opened.{unlocked_where}

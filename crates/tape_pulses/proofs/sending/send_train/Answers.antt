@@ -4,8 +4,8 @@ use Rattle.qic_base.specs.Tape.{Does}
 use Rattle.drive_spec.specs.Record.{Record}
 use Rattle.drive_spec.specs.Steps.{gap_steps}
 use Rattle.drive_states.specs.Unit.{UnitView}
-use Rattle.tape_pulses.specs.Pulses.{train_steps}
-use Rattle.tape_pulses.proofs.Trains.{sent, sent_steps}
+use Rattle.command_spec.specs.Pulses.{train_steps}
+use Rattle.command_laws.proofs.PulseTrains.{sent, sent_steps}
 use Rattle.tape_pulses.proofs.sending.send_train.Goals as goal
 
 pub returns-clause-row : goal.returns-clause-row

@@ -1,6 +1,7 @@
 use Rattle.std.proofs.Common.{◌≡◌, ◌+◌, ◌*◌, ◌/◌, ◌%◌, refl, arith}
 use Rattle.qic_base.specs.Date.{IsDate}
-use Rattle.tape_script.proofs.Dates.{HasFields, fields_of, one_pair, form_from_fields}
+use Rattle.command_laws.proofs.TextDates.{HasFields, fields_of}
+use Rattle.tape_script.proofs.Dates.{one_pair, form_from_fields}
 use Rattle.tape_script.proofs.date.read_date.Goals as goal
 
 pub returns-then-word-ne-LENGTH : goal.returns-then-word-ne-LENGTH

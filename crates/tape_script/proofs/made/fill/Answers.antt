@@ -1,6 +1,6 @@
 use Rattle.std.proofs.Common.{◌≡◌, ◌+◌, ◌%◌, ◌++◌, ◌∷◌, [], ◌<◌, ℕ, length, take, refl, ap, ◌∙◌, sym, arith}
 use Rattle.std.proofs.lemmas.List.{take_more_set, take_all}
-use Rattle.tape_script.specs.Generator.{made_from}
+use Rattle.command_laws.specs.TextGenerator.{made_from}
 use Rattle.tape_script.proofs.Making.{made_from_more}
 use Rattle.tape_script.proofs.made.fill.Goals as goal
 use Rattle.tape_script.proofs.made.fill.Goals.{then-next, else-next}

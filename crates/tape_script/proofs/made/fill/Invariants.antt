@@ -1,5 +1,5 @@
 use Rattle.std.proofs.Common.{◌≡◌, ◌+◌, ◌%◌, take}
-use Rattle.tape_script.specs.Generator.{made_from}
+use Rattle.command_laws.specs.TextGenerator.{made_from}
 use Rattle.tape_script.proofs.made.fill.Given as goal
 
 abbrev pub invariant-loop-byte : goal.invariant-loop-byte

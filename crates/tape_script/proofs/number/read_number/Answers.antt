@@ -1,7 +1,8 @@
 use Rattle.std.proofs.Common.{◌<◌, ◌+◌, ◌*◌, ◌∙◌, ℕ, get_or, decimal, ap, arith, sym, refl}
 use Rattle.std.proofs.lemmas.List.{take_all}
 use Rattle.std.proofs.lemmas.Bool.Decides.{nat_tests}
-use Rattle.tape_script.proofs.Decimals.{small, more_read, nine_digits, wrong_length, all_digits, no_leading_zero}
+use Rattle.tape_script.proofs.Decimals.{small, more_read, nine_digits, wrong_length, no_leading_zero}
+use Rattle.command_laws.proofs.TextDecimals.{all_digits}
 use Rattle.tape_script.proofs.number.read_number.Goals as goal
 
 pub returns-then-is_empty : goal.returns-then-is_empty

@@ -1,5 +1,5 @@
 use Rattle.std.proofs.Common.{◌≡◌, arith}
-use Rattle.tape_script.proofs.Decimals.{one_number}
+use Rattle.command_laws.proofs.TextDecimals.{one_number}
 use Rattle.tape_script.proofs.number.read_number_within.Goals as goal
 
 pub returns-in_default : goal.returns-in_default

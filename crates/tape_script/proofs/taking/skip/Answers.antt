@@ -1,6 +1,6 @@
 use Rattle.std.proofs.Common.{◌≤◌, ◌-◌, arith}
 use Rattle.std.proofs.lemmas.List.{length-take}
-use Rattle.tape_script.proofs.Giving.{GaveSome-read, GaveSome-same}
+use Rattle.qic_base.proofs.Giving.{GaveSome-read, GaveSome-same}
 use Rattle.tape_script.proofs.taking.skip.Goals as goal
 
 pub loop-left-preserved : goal.loop-left-preserved

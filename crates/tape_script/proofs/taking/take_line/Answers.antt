@@ -1,7 +1,7 @@
 use Rattle.std.proofs.Common.{◌≡◌, ◌≢◌, ◌<◌, ◌+◌, ◌∷◌, ◌++◌, [], inl, inr, length, take, set, arith}
 use Rattle.std.proofs.lemmas.List.{take_more_set, length-set, length-take-le}
 use Rattle.std.proofs.lemmas.List.Elements.{All-push}
-use Rattle.tape_script.proofs.Giving.{Gave-Gave, Gave-end, HasEnded-Gave}
+use Rattle.qic_base.proofs.Giving.{Gave-Gave, Gave-end, HasEnded-Gave}
 use Rattle.tape_script.proofs.taking.take_line.Goals as goal
 
 pub loop-len-preserved : goal.loop-len-preserved

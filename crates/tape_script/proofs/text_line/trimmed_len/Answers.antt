@@ -1,5 +1,6 @@
 use Rattle.std.proofs.Common.{◌≡◌, sym, ◌∙◌, arith}
-use Rattle.tape_script.proofs.Texts.{trimmed-take-filler, trimmed-take-kept, trimmed-none}
+use Rattle.tape_script.proofs.Texts.{trimmed-take-filler, trimmed-none}
+use Rattle.command_laws.proofs.TextTrimmed.{trimmed-take-kept}
 use Rattle.tape_script.proofs.text_line.trimmed_len.Goals as goal
 
 pub loop-len-preserved : goal.loop-len-preserved

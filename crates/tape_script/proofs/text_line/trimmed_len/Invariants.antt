@@ -1,5 +1,5 @@
 use Rattle.std.proofs.Common.{◌≡◌, ◌≤◌, length, take}
-use Rattle.tape_script.specs.Text.{trimmed}
+use Rattle.command_spec.specs.Lines.{trimmed}
 use Rattle.tape_script.proofs.text_line.trimmed_len.Given as goal
 
 abbrev pub invariant-loop-len : goal.invariant-loop-len

@@ -1,6 +1,7 @@
 use Rattle.std.proofs.Common.{◌≡◌, ◌⊎◌, inl, inr, ℕ, ◌+◌, ◌-◌, ◌<◌, ◌≤◌, length, sym, ap, ◌∙◌, subst, arith}
-use Rattle.acts.specs.Around.{reading}
-use Rattle.cartridge_spec.specs.Shape.{Carries, mask_at, capacity}
+use Rattle.qic_base.specs.Acts.{reading}
+use Rattle.cartridge_laws.specs.Shape.{Carries}
+use Rattle.cartridge_spec.specs.Shape.{mask_at, capacity}
 use Rattle.cartridge_spec.specs.Volumes.{carrying}
 use Rattle.host_driver.proofs.Keeping.{keeps_none, keeps_both}
 use Rattle.volume_input.specs.declared.written.Written.{Written}

@@ -4,8 +4,8 @@ use Rattle.qic_base.specs.Sink.{Wrote, Writes}
 use Rattle.qic_base.proofs.Writing.{Wrote-Wrote, Wrote-BrokeOff, BrokeOff-longer}
 use Rattle.cartridge_spec.specs.Volumes.{volume_length}
 use Rattle.volume_table.specs.Entry.{entry_of}
-use Rattle.volume_lines.specs.Lines.{volume_lines, count_line, list_text}
-use Rattle.volume_lines.proofs.Listings.{Writes-after, volume_lines-none, volume_lines-take, length_at, list_text-front, list_text-all}
+use Rattle.command_spec.specs.Lines.{volume_lines, count_line, list_text}
+use Rattle.command_laws.proofs.LineListings.{Writes-after, volume_lines-none, volume_lines-take, length_at, list_text-front, list_text-all}
 use Rattle.volume_lines.proofs.list.write_list.Goals as goal
 
 pub loop-index-init : goal.loop-index-init

@@ -1,6 +1,6 @@
 use Rattle.std.proofs.Common.{take}
 use Rattle.qic_base.specs.Sink.{Wrote}
-use Rattle.volume_lines.specs.Lines.{volume_lines}
+use Rattle.command_spec.specs.Lines.{volume_lines}
 use Rattle.volume_lines.proofs.list.write_list.Given as goal
 
 abbrev pub invariant-loop-index : goal.invariant-loop-index

@@ -1,10 +1,10 @@
 use Rattle.std.proofs.Common.{◌≡◌, ℕ, ◌+◌, ◌-◌, ◌<◌, ◌≤◌, List, Err, arith}
 use Rattle.std.specs.Prelude.{min}
 use Rattle.std.proofs.lemmas.Result.{err_from_is_err_and}
-use Rattle.acts.specs.Around.{around}
+use Rattle.qic_base.specs.Acts.{around}
 use Rattle.cartridge_spec.specs.Shape.{mask_at, capacity}
 use Rattle.host_driver.proofs.Keeping.{keeps_both}
-use Rattle.restore_plan.specs.Restoring.{Piece}
+use Rattle.command_spec.specs.Restore.{Piece}
 use Rattle.volume_output.specs.declared.fault.OutputFault.{OutputFault}
 use Rattle.volume_output.specs.Output.{OutputEnds}
 use Rattle.volume_output.specs.Piece.{piece_of}

@@ -1,4 +1,4 @@
-use Rattle.acts.specs.Acts.{SinkFails, TapeFails}
+use Rattle.qic_base.specs.Acts.{SinkFails, TapeFails}
 use Rattle.volume_script.proofs.Quiet.{restored_ends, lost_ends, mismatch_ends, no_volume_ends, restore_cut}
 use Rattle.volume_script.proofs.restore.restore.Goals as goal
 

@@ -1,5 +1,5 @@
 use Rattle.std.proofs.Common.{◌≡◌, Err, false, ap}
-use Rattle.acts.specs.Acts.{SinkFails, TapeFails}
+use Rattle.qic_base.specs.Acts.{SinkFails, TapeFails}
 use Rattle.drive_spec.specs.Deck.{is_protected}
 use Rattle.volume_store.specs.declared.fault.StoreFault.TheVariants as store_fault
 use Rattle.volume_script.proofs.Quiet.{mark_told, unmarked, scrub_locked, scrub_cut}

@@ -1,6 +1,6 @@
 use Rattle.std.proofs.Common.{◌≡◌, ◌≤◌, ◌+◌, ◌-◌, ◌*◌, ℕ, length, ap, ◌∙◌, sym, arith}
-use Rattle.append_plan.specs.Room.{last_end}
-use Rattle.append_plan.proofs.Segments.{room_most}
+use Rattle.cartridge_spec.specs.Appending.{last_end}
+use Rattle.cartridge_laws.proofs.AppendSegments.{room_most}
 use Rattle.cartridge_spec.specs.Volumes.{capacity_between}
 use Rattle.volume_store.proofs.Taking.{end_within}
 use Rattle.volume_store.proofs.appending.free_room.Goals as goal

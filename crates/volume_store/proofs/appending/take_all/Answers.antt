@@ -1,8 +1,9 @@
 use Rattle.std.proofs.Common.{◌≡◌, ℕ, ◌+◌, ◌-◌, length, None, Ok, subst, sym, ◌∙◌, arith}
-use Rattle.acts.specs.Around.{reading}
-use Rattle.append_plan.specs.Room.{room}
+use Rattle.qic_base.specs.Acts.{reading}
+use Rattle.cartridge_spec.specs.Appending.{room}
 use Rattle.tape_script.specs.Reading.{Skips}
-use Rattle.volume_store.specs.Appending.{InputWent, TooLong}
+use Rattle.volume_store.specs.Appending.{InputWent}
+use Rattle.command_spec.specs.Append.{TooLong}
 use Rattle.volume_store.proofs.Taking.{all_ended, moved, no_more, one_more, more_fails, all_full}
 use Rattle.volume_store.proofs.appending.take_all.Goals as goal
 

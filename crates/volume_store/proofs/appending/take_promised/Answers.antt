@@ -1,10 +1,11 @@
 use Rattle.std.proofs.Common.{◌≡◌, ◌⊎◌, inl, inr, ℕ, ◌-◌, ◌<◌, true, length, Some, subst, sym, ◌∙◌, arith}
-use Rattle.acts.specs.Around.{reading}
-use Rattle.append_plan.specs.Room.{room}
+use Rattle.qic_base.specs.Acts.{reading}
+use Rattle.cartridge_spec.specs.Appending.{room}
 use Rattle.cartridge_spec.specs.Volumes.{carrying}
 use Rattle.volume_input.specs.Input.{HasWritten, EndedShort}
 use Rattle.host_driver.proofs.Keeping.{keeps_none}
-use Rattle.volume_store.specs.Appending.{InputWent, TooLong}
+use Rattle.volume_store.specs.Appending.{InputWent}
+use Rattle.command_spec.specs.Append.{TooLong}
 use Rattle.volume_store.proofs.Taking.{promise_refused, promised_written, promised_ends_short}
 use Rattle.volume_store.proofs.appending.take_promised.Goals as goal
 use Rattle.volume_store.proofs.appending.take_promised.Goals.{then-have-eq0-via-then-have-eq0, then-have-eq0-via-else-have-eq0+then-count-have}

@@ -9,7 +9,7 @@ use Rattle.volume_store.specs.declared.fault.StoreFault.{StoreFault}
 use Rattle.volume_store.specs.declared.table_reader.Unread.{Unread}
 use Rattle.volume_store.specs.Again.{FindsList}
 use Rattle.volume_store.specs.Finding.{FindsTable, refusal_of}
-use Rattle.volume_store.specs.Mounting.{HasList}
+use Rattle.command_laws.specs.StoreMounting.{HasList}
 use Rattle.volume_store.proofs.Again.{list_missing, finds_fault}
 use Rattle.volume_store.proofs.refreshing.read_list.Goals as goal
 

@@ -1,6 +1,6 @@
 use Rattle.std.proofs.Common.{◌≡◌, ℕ, ◌++◌, List, length, take, drop, sym, ap, ◌∙◌, arith}
 use Rattle.std.proofs.lemmas.List.{take_at}
-use Rattle.gf256_qic.specs.Code.{parity_sectors}
+use Rattle.cartridge_spec.specs.Code.{parity_sectors}
 use Rattle.erasure_solve.specs.Lost.{is_lost}
 use Rattle.volume_store.specs.Settling.{collected_block, is_stale}
 use Rattle.volume_store.proofs.settling.renew_parity.Goals as goal

@@ -1,13 +1,14 @@
 use Rattle.std.proofs.Common.{◌≡◌, ◌<◌, ℕ, take, refl, sym, subst, arith}
 use Rattle.qic_base.proofs.Steps.{Tells-map}
-use Rattle.cartridge_spec.specs.Says.{LosesData, LostSectors, ByCode, TableSays}
+use Rattle.cartridge_laws.specs.Says.{LosesData}
+use Rattle.cartridge_spec.specs.Says.{LostSectors, ByCode, TableSays}
 use Rattle.cartridge_spec.specs.HeaderAndTable.{table_cells, TableIs}
 use Rattle.segment_io.specs.Gathered.{Gathered}
 use Rattle.segment_io.proofs.Going.{front_segment}
 use Rattle.volume_store.specs.declared.table_reader.Unread.{Unread}
 use Rattle.volume_store.specs.Finding.{FindsTable}
 use Rattle.volume_store.specs.Reading.{IsReadBut}
-use Rattle.cartridge_spec.proofs.Segments.{length-whole_cells}
+use Rattle.cartridge_laws.proofs.Segments.{length-whole_cells}
 use Rattle.volume_store.proofs.TableSegment.{finds_read, finds_many, finds_solving, known_solving, read_known}
 use Rattle.volume_store.proofs.table_reader.read_table.Goals as goal
 

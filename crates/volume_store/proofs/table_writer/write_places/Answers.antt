@@ -2,8 +2,8 @@ use Rattle.std.proofs.Common.{◌≡◌, [], ℕ, ◌<◌, ◌^◌, sym, ap, ◌
 use Rattle.qic_base.specs.Tape.{Done, Broke}
 use Rattle.qic_base.proofs.Steps.{Done-nothing}
 use Rattle.cartridge_spec.specs.Shape.{sectors_of}
-use Rattle.cartridge_spec.proofs.Segments.{count_of_whole}
-use Rattle.mount_laws.specs.Settling.{block_writes}
+use Rattle.cartridge_laws.proofs.Segments.{count_of_whole}
+use Rattle.cartridge_spec.specs.Settling.{block_writes}
 use Rattle.segment_io.proofs.Going.{front_segment}
 use Rattle.volume_store.proofs.Adding.{named_places}
 use Rattle.volume_store.proofs.Mending.{no_sectors}

@@ -1,5 +1,5 @@
 use Rattle.std.proofs.Common.{sym, ap, ◌∙◌, arith, add-one}
-use Rattle.cartridge_spec.specs.Segment.{sector_at}
+use Rattle.cartridge_spec.specs.Shape.{sector_at}
 use Rattle.cartridge_spec.specs.Table.{is_used}
 use Rattle.cartridge_spec.specs.TableSets.{some_used_below}
 use Rattle.volume_table.proofs.SlotLaws.{is_used-signature, not_used-signature}

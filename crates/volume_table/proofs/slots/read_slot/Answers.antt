@@ -1,7 +1,8 @@
 -- Each way out tells the slot's fault, by its signature and its range.
 use Rattle.std.proofs.Common.{◌≡◌, false, sym, ◌∙◌}
 use Rattle.cartridge_spec.specs.Table.{slot, is_free}
-use Rattle.volume_table.proofs.SlotLaws.{is_free-signature, not_free-signature, is_used-signature, not_used-signature, slot_fault-free, slot_fault-not_used, slot_fault-behind_free, slot_fault-bad_range, slot_fault-sound, has_bad_range-entry}
+use Rattle.volume_table.proofs.SlotLaws.{is_free-signature, not_free-signature, is_used-signature, not_used-signature, slot_fault-not_used, slot_fault-behind_free, slot_fault-bad_range, has_bad_range-entry}
+use Rattle.cartridge_laws.proofs.TableSlotLaws.{slot_fault-free, slot_fault-sound}
 use Rattle.volume_table.proofs.slots.read_slot.Goals as goal
 use Rattle.volume_table.proofs.slots.read_slot.Goals.{then-signature-ne-SIGNATURE-via-then-signature-ne-SIGNATURE, then-signature-ne-SIGNATURE-via-else-signature-ne-SIGNATURE+then-seen_free}
 

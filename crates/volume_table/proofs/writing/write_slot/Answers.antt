@@ -1,8 +1,8 @@
 use Rattle.std.proofs.Common.{◌≡◌, ℕ, ◌+◌, ◌-◌, ◌*◌, ◌/◌, ◌%◌, List, [], get_or, length, set, sym, ap, ◌∙◌, arith}
 use Rattle.std.proofs.lemmas.Option.{unwrap_or-slice_get}
 use Rattle.qic_base.specs.Field.{overwritten}
-use Rattle.cartridge_spec.proofs.SlotBytes.{length-slot_bytes}
-use Rattle.cartridge_spec.specs.Slots.{slot_bytes}
+use Rattle.cartridge_laws.proofs.SlotBytes.{length-slot_bytes}
+use Rattle.cartridge_spec.specs.Table.{slot_bytes}
 use Rattle.volume_table.specs.Entry.{entry_of}
 use Rattle.volume_table.proofs.Spelling.{put_mid-overwritten}
 use Rattle.volume_table.proofs.writing.write_slot.Goals as goal

@@ -1,4 +1,4 @@
-use Rattle.tape_script.proofs.Making.{made_bytes_from}
+use Rattle.command_laws.proofs.TextMaking.{made_bytes_from}
 use Rattle.tape_script.proofs.made.Made.new.Goals as goal
 
 pub returns : goal.returns

@@ -1,6 +1,6 @@
 use Rattle.std.proofs.Common.{refl}
 use Rattle.std.proofs.lemmas.List.{take-map}
-use Rattle.tape_script.specs.Text.{name_text}
+use Rattle.command_spec.specs.Lines.{name_text}
 use Rattle.tape_script.proofs.text_line.TextLine.push_padded.Goals as goal
 
 pub returns-clause-name : goal.returns-clause-name

@@ -1,7 +1,7 @@
 use Rattle.std.proofs.Common.{[], refl, arith}
 use Rattle.std.proofs.lemmas.Grind.{common_steps}
-use Rattle.tape_script.proofs.Giving.{Gave-nothing, GaveSome-read}
-use Rattle.volume_script.proofs.Given.{limited_left}
+use Rattle.qic_base.proofs.Giving.{Gave-nothing, GaveSome-read}
+use Rattle.command_laws.proofs.ScriptGiven.{limited_left}
 use Rattle.volume_script.proofs.limited.LimitedSource.read.Goals as goal
 
 pub returns-in-Ok-clause-left : goal.returns-in-Ok-clause-left

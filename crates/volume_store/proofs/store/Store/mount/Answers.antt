@@ -1,7 +1,7 @@
 use Rattle.std.proofs.Common.{◌≡◌, ◌⊎◌, ℕ, ◌-◌, ◌*◌, List, [], length, take, Result, Err, sym, ap, ◌∙◌, subst, inr}
 use Rattle.qic_base.specs.Step.{Step}
 use Rattle.qic_base.proofs.Steps.{Done-after_reads, Broke-after_reads, Tells-map}
-use Rattle.cartridge_spec.specs.Table.{IsSoundList}
+use Rattle.cartridge_laws.specs.Table.{IsSoundList}
 use Rattle.drive_spec.specs.Deck.{is_protected}
 use Rattle.header_segments.specs.Header.{header_of}
 use Rattle.host_driver.specs.declared.host.Host.{Host}

@@ -1,7 +1,8 @@
 use Rattle.std.proofs.Common.{◌≡◌, ◌∷◌, [], map, sym, arith}
 use Rattle.std.proofs.lemmas.List.{map-append}
 use Rattle.volume_table.specs.Entry.{entry_of}
-use Rattle.volume_table.proofs.Putting.{arrays_are_long, put_shows}
+use Rattle.volume_table.proofs.Putting.{arrays_are_long}
+use Rattle.cartridge_laws.proofs.TablePutting.{put_shows}
 use Rattle.volume_table.proofs.table.Table.put.Goals as goal
 
 pub returns-clause-shown : goal.returns-clause-shown

@@ -1,8 +1,0 @@
-use Rattle.append_plan.proofs.Between.{before_reads_old, turned_reads_new}
-use Rattle.append_plan.proofs.laws.between_tables.Goals as goal
-
-pub returns-clause-old : goal.returns-clause-old
-returns-clause-old c = before_reads_old
-
-pub returns-clause-new : goal.returns-clause-new
-returns-clause-new c = turned_reads_new

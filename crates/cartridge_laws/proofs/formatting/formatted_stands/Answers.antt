@@ -1,0 +1,8 @@
+use Rattle.cartridge_laws.proofs.FormatDone.{formatted_stands, formatted_is_marked}
+use Rattle.cartridge_laws.proofs.formatting.formatted_stands.Goals as goal
+
+pub returns-clause-empty : goal.returns-clause-empty
+returns-clause-empty c = formatted_stands
+
+pub returns-clause-marked : goal.returns-clause-marked
+returns-clause-marked c = formatted_is_marked

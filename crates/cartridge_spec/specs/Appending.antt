@@ -1,0 +1,125 @@
+-- One volume more: the room for it, the segments that it takes, its bytes in sectors, its entry, and the writes (this project's profile).
+use Rattle.std.specs.Prelude.{ℕ, List, [], ◌∷◌, ◌+◌, length, if◌then◌else◌, nat_lt, ◌-◌, nat_le, ◌&&◌, Bool, ◌++◌, replicate, zero, suc, take, drop, slice_index}
+use Rattle.cartridge_spec.specs.HeaderAndTable.{last_segment}
+use Rattle.cartridge_spec.specs.Says.{with_parity}
+use Rattle.cartridge_spec.specs.Settling.{block_writes, writes_of}
+use Rattle.cartridge_spec.specs.Shape.{mask_at, capacity, usable_places}
+use Rattle.cartridge_spec.specs.Table.{Entry, slot_bytes, with_slot}
+use Rattle.cartridge_spec.specs.Volumes.{carrying, capacity_between, Volume, sectors_in, volume_length, Part, Plain, entries_of}
+use Rattle.qic_base.specs.Cartridge.{Cartridge}
+use Rattle.qic_base.specs.Step.{Step}
+
+-- the end of the last of some volumes behind a segment, or that segment where there is none
+abbrev pub end_behind : (before : ℕ) → List Entry → ℕ
+end_behind before [] = before
+end_behind before (e ∷ es) = end_behind e.end es
+
+-- the last segment that is taken: the end of the last volume, or the table's segment
+abbrev pub last_end : List Entry → ℕ
+last_end entries = end_behind 2 entries
+
+-- the carrying segments behind it, ascending, on a cartridge whose last segment is this
+abbrev pub free_segments : (words : List ℕ) → List Entry → (last : ℕ) → List ℕ
+free_segments words entries last = carrying words (last_end entries + 1) last
+
+-- the bytes that a new volume may have: those that these segments carry, and none where the table is full
+abbrev pub room : (words : List ℕ) → List Entry → (last : ℕ) → ℕ
+room words entries last =
+    if nat_lt (length entries) 232 then capacity_between words (last_end entries + 1) last else 0
+
+-- those of some carrying segments that a volume of so many bytes takes, in their order: it ends with the one that takes its
+-- last byte, and takes one for no byte
+abbrev pub taken_by : (words : List ℕ) (bytes : ℕ) (segments : List ℕ) → List ℕ
+taken_by words bytes [] = []
+taken_by words bytes (s ∷ ss) =
+    s ∷ (if nat_le bytes (capacity (mask_at words s)) then [] else taken_by words (bytes - capacity (mask_at words s)) ss)
+
+-- a volume of so many bytes has room
+abbrev pub has_room : (words : List ℕ) → List Entry → (last bytes : ℕ) → Bool
+has_room words entries last bytes = nat_le 1 (room words entries last) && nat_le bytes (room words entries last)
+
+-- bytes of one sector, with zero bytes behind them
+abbrev pub filled_up : List ℕ → List ℕ
+filled_up bytes = bytes ++ replicate (1024 - length bytes) 0
+
+-- bytes in so many sectors, one after the other, with zero bytes behind them
+abbrev pub in_sectors : (count : ℕ) → (bytes : List ℕ) → List (List ℕ)
+in_sectors zero bytes = []
+in_sectors (suc count) bytes = filled_up (take 1024 bytes) ∷ in_sectors count (drop 1024 bytes)
+
+-- what a slot says of a volume that was appended: its first and its last segment, its name of 44 bytes, its date word, and
+-- how many bytes it has
+abbrev pub new_entry : (segments : List ℕ) → (name : List ℕ) → (date bytes : ℕ) → Entry
+new_entry segments name date bytes = record {
+  start = slice_index segments 0;
+  end = slice_index segments (length segments - 1);
+  name = name;
+  date = date;
+  flags = 1;
+  sequence = 1;
+  directory = 0;
+  size = bytes;
+}
+
+-- the volume in these segments
+abbrev pub new_volume : (words segments : List ℕ) → (name : List ℕ) → (date : ℕ) → (bytes : List ℕ) → Volume
+new_volume words segments name date bytes = record {
+  entry = new_entry segments name date (length bytes);
+  area = in_sectors (sectors_in words segments) bytes;
+}
+
+-- ---- the bytes of a volume
+
+-- the bytes of some sectors, one after the other
+abbrev pub bytes_in : List (List ℕ) → List ℕ
+bytes_in [] = []
+bytes_in (sector ∷ sectors) = sector ++ bytes_in sectors
+
+-- the first ones of its area, as many as its length says
+abbrev pub volume_bytes : (words : List ℕ) → Volume → List ℕ
+volume_bytes words volume = take (volume_length words volume.entry) (bytes_in volume.area)
+
+-- the sectors that an append writes, in their order: the changed sector of data, and those of parity
+abbrev pub table_places : (changed : ℕ) → List ℕ
+table_places changed = changed ∷ 29 ∷ 30 ∷ 31 ∷ []
+
+-- the writes of the table's new data
+abbrev pub table_writes : (changed : ℕ) → (new : List (List ℕ)) → List Step
+table_writes changed new = block_writes (with_parity new) (table_places changed)
+
+-- all usable sectors of a segment, ascending: its part of an area, and the parity of it
+abbrev pub part_writes : (words : List ℕ) → Part → List Step
+part_writes words part =
+    writes_of part.segment (usable_places (mask_at words part.segment)) (with_parity part.sectors)
+
+-- the segments that a new volume of these bytes takes
+abbrev pub new_segments : Plain → (last : ℕ) → (bytes : List ℕ) → List ℕ
+new_segments plain last bytes = taken_by plain.words (length bytes) (free_segments plain.words (entries_of plain) last)
+
+-- the new volume
+abbrev pub appended_volume : Plain → (last : ℕ) → (name : List ℕ) → (date : ℕ) → (bytes : List ℕ) → Volume
+appended_volume plain last name date bytes = new_volume plain.words (new_segments plain last bytes) name date bytes
+
+-- the table's data with its entry in the slot behind the last one
+abbrev pub appended_table : Plain → Entry → List (List ℕ)
+appended_table plain entry = with_slot plain.table_area (length plain.volumes) (slot_bytes entry)
+
+-- the plain cartridge with one volume more
+abbrev pub with_volume : Plain → Volume → Plain
+with_volume plain volume =
+    record plain { table_area = appended_table plain volume.entry; volumes = plain.volumes ++ volume ∷ [] }
+
+-- ---- an append to a cartridge that stands for a plain one: of a name of 44 bytes, a date word, and bytes
+
+abbrev pub volume_of : Cartridge → Plain → (name : List ℕ) → (date : ℕ) → (bytes : List ℕ) → Volume
+volume_of c plain name date bytes = appended_volume plain (last_segment c) name date bytes
+
+-- the plain cartridge with that volume, and its table's data
+abbrev pub new_plain : Cartridge → Plain → (name : List ℕ) → (date : ℕ) → (bytes : List ℕ) → Plain
+new_plain c plain name date bytes = with_volume plain (volume_of c plain name date bytes)
+
+-- ---- an append
+
+-- the plain cartridge with a volume of these bytes
+abbrev pub with_bytes : Plain → (name : List ℕ) → (date : ℕ) → (bytes : List ℕ) → Plain
+with_bytes plain name date bytes = with_volume plain (appended_volume plain (length plain.words - 1) name date bytes)

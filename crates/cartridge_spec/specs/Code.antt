@@ -1,0 +1,72 @@
+-- The code of QIC-80 over byte columns (QIC-80-MC). A column has a byte of each usable sector of a segment, in
+-- order of index; as a polynomial its first byte has the highest degree, and its last three bytes are parity.
+use Rattle.std.specs.Prelude.{ℕ, List, [], ◌∷◌, length, bit_xor, ◌<◌, ◌≤◌, ◌≡◌, All, map, slice_index, ◌+◌}
+use Rattle.std.specs.List.{range_with_len}
+use Rattle.cartridge_spec.specs.Field.{product, power, inverse}
+
+-- the sum of c_i * p^(n-1-i) over the bytes c_0 to c_(n-1): the column's value at p
+unfoldable pub value_at : ℕ → List ℕ → ℕ
+value_at p [] = 0
+value_at p (c ∷ cs) = bit_xor (product c (power p (length cs))) (value_at p cs)
+
+-- a column without fault: its value is 0 at r^-1, 1 and r, where r is 0x02 (QIC-80-MC)
+pub record IsCodeword (cs : List ℕ) : Type 0 where
+  pub least : 4 ≤ length cs
+  pub most : length cs ≤ 32
+  pub bytes : All (λ c. c < 256) cs
+  pub at_inverse : value_at 0xC3 cs ≡ 0
+  pub at_one : value_at 0x01 cs ≡ 0
+  pub at_generator : value_at 0x02 cs ≡ 0
+
+-- 1,024 bytes (QIC-80-MC)
+pub record IsSector (s : List ℕ) : Type 0 where
+  pub size : length s ≡ 1024
+  pub bytes : All (λ b. b < 256) s
+
+-- byte j of each sector
+unfoldable pub column : ℕ → List (List ℕ) → List ℕ
+column j sectors = map (λ s. slice_index s j) sectors
+
+-- sectors of which each byte column is a codeword (QIC-80-MC)
+pub record IsCodeBlock (ss : List (List ℕ)) : Type 0 where
+  pub sectors : All IsSector ss
+  pub columns : (j : ℕ) → j < 1024 → IsCodeword (column j ss)
+
+-- the sum S(p) of d_i * p^(n-1-i) over the data bytes d_0 to d_(n-4) of a column of n bytes
+unfoldable pub data_sum : ℕ → List ℕ → ℕ
+data_sum p [] = 0
+data_sum p (d ∷ ds) = bit_xor (product d (power p (length ds + 3))) (data_sum p ds)
+
+-- a polynomial times a byte; polynomials are lists of coefficients, the highest degree first
+abbrev pub scaled : ℕ → List ℕ → List ℕ
+scaled a = map (product a)
+
+-- the sum of two polynomials with equally many coefficients
+unfoldable pub added : List ℕ → List ℕ → List ℕ
+added (x ∷ xs) (y ∷ ys) = bit_xor x y ∷ added xs ys
+added xs ys = []
+
+-- (x + q) / (p + q) times (x + r) / (p + r): the polynomial that is 1 at p, and 0 at q and at r
+unfoldable pub lagrange : ℕ → ℕ → ℕ → List ℕ
+lagrange p q r =
+    scaled (product (inverse (bit_xor p q)) (inverse (bit_xor p r))) (1 ∷ bit_xor q r ∷ product q r ∷ [])
+
+-- the polynomial of degree below 3 with the values a at r^-1, b at 1 and c at r, in Lagrange's form
+unfoldable pub through : ℕ → ℕ → ℕ → List ℕ
+through a b c =
+    added (scaled a (lagrange 0xC3 0x01 0x02))
+    (added (scaled b (lagrange 0x01 0xC3 0x02)) (scaled c (lagrange 0x02 0xC3 0x01)))
+
+-- the three parity bytes of a column's data: the coefficients of that polynomial for the data's sums
+-- at the three roots (QIC-80-MC)
+unfoldable pub parity : List ℕ → List ℕ
+parity ds = through (data_sum 0xC3 ds) (data_sum 0x01 ds) (data_sum 0x02 ds)
+
+-- the parity sector k of three, 0 to 2: byte j is the parity byte k of column j
+unfoldable pub parity_sector : List (List ℕ) → ℕ → List ℕ
+parity_sector sectors k = map (λ j. slice_index (parity (column j sectors)) k) (range_with_len 0 1024)
+
+-- the three parity sectors of data sectors (QIC-80-MC)
+unfoldable pub parity_sectors : List (List ℕ) → List (List ℕ)
+parity_sectors sectors =
+    parity_sector sectors 0 ∷ parity_sector sectors 1 ∷ parity_sector sectors 2 ∷ []

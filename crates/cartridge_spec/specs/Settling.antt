@@ -1,0 +1,65 @@
+-- The settling of the volume table, and writes of sectors as steps (this project's profile).
+use Rattle.std.specs.Prelude.{ℕ, List, [], ◌∷◌, Bool, filter, false, not, nat_lt, if◌then◌else◌, map, ◌++◌}
+use Rattle.std.specs.List.{range_with_len}
+use Rattle.std.specs.Str.{bytes_eq}
+use Rattle.cartridge_spec.specs.Says.{with_parity}
+use Rattle.cartridge_spec.specs.Shape.{sector_at, is_unreadable}
+use Rattle.qic_base.specs.Cartridge.{Cartridge, view_at}
+use Rattle.qic_base.specs.Step.{Step, WriteSector, changed}
+use Rattle.qic_base.specs.declared.tape.SectorView.{SectorView}
+use Rattle.qic_base.specs.declared.tape.SectorView.TheVariants.{Blank, Defect, Lost, Holds}
+
+-- one write for each of these sector indexes, of its bytes, in order
+abbrev pub writes_of : ℕ → List ℕ → List (List ℕ) → List Step
+writes_of segment [] sectors = []
+writes_of segment (place ∷ places) [] = []
+writes_of segment (place ∷ places) (bytes ∷ sectors) = WriteSector segment place bytes ∷ writes_of segment places sectors
+
+-- a cartridge that is there, after these steps
+abbrev pub changed_by : List Step → Cartridge → Cartridge
+changed_by [] c = c
+changed_by (s ∷ ss) c = changed_by ss (changed s c)
+
+-- the places 0 to 31 where a test is true, ascending
+unfoldable pub places_where : (ℕ → Bool) → List ℕ
+places_where test = filter test (range_with_len 0 32)
+
+-- ---- on a cartridge
+
+-- the sector can be read, and holds these bytes
+abbrev pub holds : SectorView → List ℕ → Bool
+holds Blank bytes = false
+holds Defect bytes = false
+holds Lost bytes = false
+holds (Holds held) bytes = bytes_eq held bytes
+
+-- the sector can be read, and holds other bytes
+abbrev pub holds_other : SectorView → List ℕ → Bool
+holds_other Blank bytes = false
+holds_other Defect bytes = false
+holds_other Lost bytes = false
+holds_other (Holds held) bytes = not (bytes_eq held bytes)
+
+-- a sector of data of segment 2 can be read and differs from its part of a block: it was left out of account
+abbrev pub is_left_out : Cartridge → (block : List (List ℕ)) (sector : ℕ) → Bool
+is_left_out c block sector = if nat_lt sector 29 then holds_other (view_at c 2 sector) (sector_at block sector) else false
+
+-- another sector of segment 2 is to be written: one of data where it is unreadable, one of parity where it is unreadable or
+-- differs from the parity of the data
+abbrev pub is_unsettled : Cartridge → (block : List (List ℕ)) (sector : ℕ) → Bool
+is_unsettled c block sector =
+    if nat_lt sector 29 then is_unreadable (view_at c 2 sector)
+    else not (holds (view_at c 2 sector) (sector_at block sector))
+
+-- some sectors of segment 2, with their parts of a block
+abbrev pub block_writes : List (List ℕ) → (places : List ℕ) → List Step
+block_writes block places = writes_of 2 places (map (sector_at block) places)
+
+-- the sectors that are written where the table's data are these: first those of data that were left out of account, then those
+-- of data that are unreadable, and then those of parity that are unreadable or differ, each ascending
+abbrev pub settling_places : Cartridge → (area : List (List ℕ)) → List ℕ
+settling_places c area = places_where (is_left_out c (with_parity area)) ++ places_where (is_unsettled c (with_parity area))
+
+-- the writes that settle the volume table, whose data are these: none on a protected cartridge
+abbrev pub settling_steps : (area : List (List ℕ)) → Cartridge → List Step
+settling_steps area c = if c.info.protected then [] else block_writes (with_parity area) (settling_places c area)

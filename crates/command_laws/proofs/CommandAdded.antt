@@ -1,0 +1,39 @@
+-- How an append ends.
+use Rattle.std.proofs.Common.{◌≡◌, ℕ, Bool, true, false, List, [], Option, refl, ◌+◌, ◌-◌, ◌++◌, None, ap, ◌∙◌, append-nil, min, length, ◌&&◌, nat_le}
+use Rattle.std.specs.Prelude.{is_some, if◌then◌else◌}
+use Rattle.cartridge_spec.specs.Table.{Entry}
+use Rattle.command_laws.proofs.InputActLaws.{input_prints_nothing}
+use Rattle.command_spec.specs.Append.{input_acts, Kept, room_in, free_in, has_promised_room, most_written, input_writes, Taking, Fits, taking, entry_for, entry_acts, append_acts, TooLong, append_status}
+use Rattle.qic_base.proofs.Joins.{text_of-append}
+use Rattle.qic_base.specs.Acts.{text_of, Act}
+use Rattle.command_spec.specs.declared.status.Status.TheVariants as status
+
+-- ---- the acts
+
+pub input_texts : (kept : Kept) (promised : Option ℕ) (input : List ℕ) → text_of (input_writes kept promised input) ≡ []
+input_texts kept promised input = by_room (has_promised_room (room_in kept) promised)
+  where
+    by_room : (b : Bool) → text_of (if b then input_acts kept.words (free_in kept) (most_written (room_in kept) promised) (is_some promised) input else []) ≡ []
+    by_room true = input_prints_nothing kept.words (free_in kept) (most_written (room_in kept) promised) (is_some promised) input
+    by_room false = refl
+
+-- and is the whole text
+pub replied_text : (kept : Kept) (name : List ℕ) (date : ℕ) (reply : Entry → List ℕ) (input bytes : List ℕ) → taking (room_in kept) None input ≡ Fits bytes →
+    text_of (append_acts kept name date None reply input) ≡ reply (entry_for kept name date bytes)
+replied_text kept name date reply input bytes took =
+    let ws : List Act = input_writes kept None input in
+    text_of-append ws (entry_acts kept name date reply (taking (room_in kept) None input))
+    ∙ ap (λ (text : List ℕ). text ++ text_of (entry_acts kept name date reply (taking (room_in kept) None input))) (input_texts kept None input)
+    ∙ ap (λ (became : Taking). text_of (entry_acts kept name date reply became)) took
+    ∙ append-nil (reply (entry_for kept name date bytes))
+
+-- ---- the answer
+
+pub status_by : (flag : Bool) (have : ℕ) (input : List ℕ) (became : Taking) → (if flag then Fits input else TooLong (min (length input) (have + 1)) have) ≡ became →
+    ((bytes : List ℕ) → became ≡ Fits bytes → (if flag then status.Done else status.Full (min (length input) (have + 1)) have) ≡ status.Done)
+    × ((need most : ℕ) → became ≡ TooLong need most → (if flag then status.Done else status.Full (min (length input) (have + 1)) have) ≡ status.Full need most)
+status_by true have input became is = ((λ bytes fits. refl), (λ need most long. cc))
+status_by false have input became is = ((λ bytes fits. cc), (λ need most long. cc))
+
+pub status_fits : (have : ℕ) (input bytes : List ℕ) → taking have None input ≡ Fits bytes → append_status have input ≡ status.Done
+status_fits have input bytes took = (status_by (nat_le 1 have && nat_le (length input) have) have input (taking have None input) refl).0 bytes took

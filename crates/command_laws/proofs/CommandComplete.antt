@@ -1,0 +1,159 @@
+-- A command is carried out where all is there that it needs.
+use Rattle.std.proofs.Common.{◌≡◌, Some, subst, inl, inr, ℕ, true, ap, List, ◌+◌, Bool, cond, length, min, ◌∙◌, ◌≤◌, ◌⊎◌, Option, None}
+use Rattle.cartridge_laws.proofs.FreshFront.{first_defect_is_none}
+use Rattle.cartridge_laws.proofs.MountOnce.{mounts_is_function}
+use Rattle.cartridge_laws.proofs.MountStanding.{standing_mounts}
+use Rattle.cartridge_spec.specs.Formatting.{HasNoDefectInFront}
+use Rattle.cartridge_spec.specs.Mounting.{Mounts, mounted_as, Mounting, settled}
+use Rattle.cartridge_spec.specs.Volumes.{Plain, entries_of}
+use Rattle.command_laws.proofs.CommandGivenBack.{given, given_whole}
+use Rattle.command_laws.proofs.MadeComplete.{made_where_there_is_room}
+use Rattle.command_laws.proofs.MountedHeld.{mounted_open}
+use Rattle.command_laws.specs.CommandLaws.{DoneWhereAllIsThere}
+use Rattle.command_spec.specs.Append.{room_in, Appends, AppendOutcome, kept_on}
+use Rattle.command_spec.specs.Complete.{ReadsAs, IsUnprotected, CanTake, CanGive, CanMake, IsOfTrains, IsOfLines}
+use Rattle.command_spec.specs.Defect.{DefectOutcome}
+use Rattle.command_spec.specs.Format.{FormatOutcome}
+use Rattle.command_spec.specs.Info.{telling}
+use Rattle.command_spec.specs.Input.{Ending, AtEnd, AtStop, IsPulse, IsPulses, Item, IsItem, IsScript}
+use Rattle.command_spec.specs.List.{listing}
+use Rattle.command_spec.specs.Lose.{LoseOutcome}
+use Rattle.command_spec.specs.Make.{Making, MakeOutcome, make_status}
+use Rattle.command_spec.specs.Outcome.{Going, CommandOutcome, Opened, OpenOutcome, WritableOutcome, HasPlace, Printing, Shows}
+use Rattle.command_spec.specs.Pulses.{SentOutcome, sent_status}
+use Rattle.command_spec.specs.Restore.{RestoreOutcome}
+use Rattle.command_spec.specs.Script.{Scripting, ScriptOutcome, script_status}
+use Rattle.command_spec.specs.Scrub.{Mends, ScrubOutcome}
+use Rattle.command_spec.specs.declared.status.Status.{Status}
+use Rattle.qic_base.specs.Cartridge.{Cartridge, view_at, IsCartridge}
+use Rattle.qic_base.specs.Tape.{spoil_answer}
+use Rattle.command_spec.specs.declared.status.Status.TheVariants as status
+use Rattle.command_spec.specs.Pulses as pulses
+use Rattle.command_laws.proofs.TextInputs as inputs
+use Rattle.command_spec.specs.Script as scripts
+use Rattle.command_spec.specs.declared.words.Words.TheVariants as words
+
+-- ---- a cartridge that is mounted
+
+-- it is mounted as the plain one, and the command goes on
+record GoesOn (goes : Going) (c : Cartridge) (plain : Plain) (outcome : CommandOutcome) : Type 0 where
+  mounts : Mounts c (mounted_as plain)
+  did : goes c plain.header plain.words plain.table_area (entries_of plain) outcome
+
+goes_on : (goes : Going) (c : Cartridge) (plain : Plain) (outcome : CommandOutcome) → ReadsAs c plain → OpenOutcome goes (Some c) outcome → GoesOn goes c plain outcome
+goes_on goes c plain outcome there (m, mounts, opened) =
+    let mounted : Mounts c (mounted_as plain) = standing_mounts c plain there.stands there.reads in
+    let same : m ≡ mounted_as plain = mounts_is_function c m (mounted_as plain) mounts mounted in
+    record { mounts = mounted; did = subst (λ (a : Mounting). Opened goes c a outcome) same opened }
+
+-- one that takes writes is opened
+is_opened : (goes : Going) (c : Cartridge) (outcome : CommandOutcome) → IsUnprotected c → WritableOutcome goes (Some c) outcome → OpenOutcome goes (Some c) outcome
+is_opened goes c outcome free (inl (locked, is)) = absurd (cc)
+is_opened goes c outcome free (inr (unlocked, opened)) = opened
+
+abbrev status_of : CommandOutcome → Status
+status_of outcome = outcome.status
+
+-- ---- commands that change one thing
+
+defect_done : (segment sector : ℕ) (c : Cartridge) (outcome : CommandOutcome) → HasPlace c segment sector → spoil_answer (view_at c segment sector) ≡ true →
+    DefectOutcome segment sector (Some c) outcome → outcome.status ≡ status.Done
+defect_done segment sector c outcome place blank (inl no_place) = absurd (no_place.0 place)
+defect_done segment sector c outcome place blank (inr (inl filled)) = let p = filled.1 in absurd (cc)
+defect_done segment sector c outcome place blank (inr (inr done)) = ap status_of done.2
+
+lose_done : (segment sector : ℕ) (c : Cartridge) (outcome : CommandOutcome) → HasPlace c segment sector → LoseOutcome segment sector (Some c) outcome → outcome.status ≡ status.Done
+lose_done segment sector c outcome place (inl no_place) = absurd (no_place.0 place)
+lose_done segment sector c outcome place (inr done) = ap status_of done.1
+
+format_done : (label : List ℕ) (date : ℕ) (c : Cartridge) (outcome : CommandOutcome) → IsUnprotected c → HasNoDefectInFront c → FormatOutcome label date (Some c) outcome → outcome.status ≡ status.Done
+format_done label date c outcome free none (inl (locked, is)) = absurd (cc)
+format_done label date c outcome free none (inr (inl (unlocked, (segment, first, is)))) =
+    absurd (first_defect_is_none c (record { segment = segment; is_first = first }) none)
+format_done label date c outcome free none (inr (inr (unlocked, clear, (map, (area, fresh, is))))) = ap status_of is
+
+-- ---- commands that mount
+
+shows_done : (prints : Printing) (c : Cartridge) (plain : Plain) (outcome : CommandOutcome) → ReadsAs c plain → OpenOutcome (Shows prints) (Some c) outcome → outcome.status ≡ status.Done
+shows_done prints c plain outcome there opened = ap status_of (goes_on (Shows prints) c plain outcome there opened).did
+
+append_goes : (name : List ℕ) (date : ℕ) (input : List ℕ) (c : Cartridge) (outcome : CommandOutcome) → IsUnprotected c → CanTake c input → AppendOutcome name date (Some c) input outcome → outcome.status ≡ status.Done
+append_goes name date input c outcome free can does =
+    let goes : Going = Appends name date input in
+    let plain : Plain = can.plain in
+    let on = goes_on goes c plain outcome can.mounts (is_opened goes c outcome free does) in
+    let have : ℕ = room_in (kept_on c plain.words plain.table_area (entries_of plain)) in
+    ap status_of on.did ∙ ap (λ (b : Bool). cond b status.Done (status.Full (min (length input) (have + 1)) have)) can.room
+
+restore_goes : (number : ℕ) (c : Cartridge) (outcome : CommandOutcome) → CanGive c number → RestoreOutcome number (Some c) outcome → outcome.status ≡ status.Done
+restore_goes number c outcome can does =
+    (given_whole number c can.plain can.volume outcome can.has (given number c can.plain can.volume outcome can.has does) can.few).0
+
+scrub_goes : (c : Cartridge) (plain : Plain) (outcome : CommandOutcome) → IsUnprotected c → ReadsAs c plain → ScrubOutcome (Some c) outcome → outcome.status ≡ status.Done
+scrub_goes c plain outcome free there does =
+    let on = goes_on Mends c plain outcome there (is_opened Mends c outcome free does) in
+    let did = on.did in ap status_of did.is
+
+make_goes : (seed count : ℕ) (c : Cartridge) (outcome : CommandOutcome) → count ≤ 200 → IsCartridge c → IsUnprotected c → CanMake c seed count → MakeOutcome seed count (Some c) outcome → outcome.status ≡ status.Done
+make_goes seed count c outcome small whole free can does =
+    let plain : Plain = can.plain in
+    let on = goes_on (Making seed count) c plain outcome can.mounts (is_opened (Making seed count) c outcome free does) in
+    let did = on.did in
+    let there : ReadsAs c plain = can.mounts in
+    ap status_of did.is ∙ ap make_status (made_where_there_is_room seed count (settled plain.table_area c) plain did.acts did.answer small
+    (mounted_open c plain whole there.stands on.mounts free) can.room can.few did.makes)
+
+-- ---- commands that read lines
+
+pulses_go : (held : Option Cartridge) (input : List ℕ) (outcome : CommandOutcome) → IsOfTrains input → SentOutcome held input outcome → outcome.status ≡ status.Done
+pulses_go held input outcome (trains, reads) (came, plain, is) =
+    ap status_of is ∙ ap (λ (o : pulses.PulseRun). sent_status o.answer) plain.comes ∙ by_ending reads
+  where
+    by_ending : IsPulses input trains AtEnd ⊎ IsPulses input trains AtStop → sent_status (pulses.answer_by plain.ending) ≡ status.Done
+    by_ending (inl read) =
+        ap (λ (e : Ending). sent_status (pulses.answer_by e)) (inputs.one_reading IsPulse inputs.pulses 1 0 input plain.trains trains plain.ending AtEnd plain.read read).1
+    by_ending (inr read) =
+        ap (λ (e : Ending). sent_status (pulses.answer_by e)) (inputs.one_reading IsPulse inputs.pulses 1 0 input plain.trains trains plain.ending AtStop plain.read read).1
+
+script_goes : (input : List ℕ) (c : Cartridge) (plain : Plain) (outcome : CommandOutcome) → ReadsAs c plain → IsOfLines input → ScriptOutcome (Some c) input outcome → outcome.status ≡ status.Done
+script_goes input c plain outcome there (items, reads) does =
+    let on = goes_on (Scripting input) c plain outcome there does in
+    let did = on.did in
+    let lines = did.does in
+    ap status_of did.is ∙ ap (λ (o : scripts.ScriptRun). script_status o.answer) lines.is ∙ by_ending lines.items lines.ending lines.read reads
+  where
+    by_ending : (found : List Item) (ending : Ending) → IsScript input found ending → IsScript input items AtEnd ⊎ IsScript input items AtStop →
+        script_status (scripts.answer_by ending) ≡ status.Done
+    by_ending found ending known (inl read) =
+        ap (λ (e : Ending). script_status (scripts.answer_by e)) (inputs.one_reading IsItem inputs.items 1 0 input found items ending AtEnd known read).1
+    by_ending found ending known (inr read) =
+        ap (λ (e : Ending). script_status (scripts.answer_by e)) (inputs.one_reading IsItem inputs.items 1 0 input found items ending AtStop known read).1
+
+-- ---- every command
+
+pub done_where_all_is_there : DoneWhereAllIsThere
+done_where_all_is_there (words.New segments) held input outcome whole values can does = ap status_of does
+done_where_all_is_there (words.Defect segment sector) None input outcome whole values can does = absurd can
+done_where_all_is_there (words.Defect segment sector) (Some c) input outcome whole values can does = defect_done segment sector c outcome can.0 can.1 does
+done_where_all_is_there (words.Lose segment sector) None input outcome whole values can does = absurd can
+done_where_all_is_there (words.Lose segment sector) (Some c) input outcome whole values can does = lose_done segment sector c outcome can does
+done_where_all_is_there (words.Protect on) None input outcome whole values can does = absurd can
+done_where_all_is_there (words.Protect on) (Some c) input outcome whole values can does = ap status_of does
+done_where_all_is_there (words.Format label date) None input outcome whole values can does = absurd can
+done_where_all_is_there (words.Format label date) (Some c) input outcome whole values can does = format_done label date c outcome can.0 can.1 does
+done_where_all_is_there words.Info None input outcome whole values can does = absurd can
+done_where_all_is_there words.Info (Some c) input outcome whole values can does = shows_done telling c can.0 outcome can.1 does
+done_where_all_is_there words.List None input outcome whole values can does = absurd can
+done_where_all_is_there words.List (Some c) input outcome whole values can does = shows_done listing c can.0 outcome can.1 does
+done_where_all_is_there (words.Append name date) None input outcome whole values can does = absurd can
+done_where_all_is_there (words.Append name date) (Some c) input outcome whole values can does = append_goes name date input c outcome can.0 can.1 does
+done_where_all_is_there (words.Restore number) None input outcome whole values can does = absurd can
+done_where_all_is_there (words.Restore number) (Some c) input outcome whole values can does = restore_goes number c outcome can does
+done_where_all_is_there words.Scrub None input outcome whole values can does = absurd can
+done_where_all_is_there words.Scrub (Some c) input outcome whole values can does = scrub_goes c can.1.0 outcome can.0 can.1.1 does
+done_where_all_is_there words.Pulses held input outcome whole values can does = pulses_go held input outcome can does
+done_where_all_is_there words.Script None input outcome whole values can does = absurd can.0
+done_where_all_is_there words.Script (Some c) input outcome whole values can does = script_goes input c can.0.0 outcome can.0.1 can.1 does
+done_where_all_is_there (words.Make seed count) None input outcome whole values can does = absurd can
+done_where_all_is_there (words.Make seed count) (Some c) input outcome whole values can does =
+    make_goes seed count c outcome values whole can.0 can.1 does

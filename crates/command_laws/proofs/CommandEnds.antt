@@ -1,0 +1,309 @@
+-- What follows of how a command ended, whatever the command is.
+use Rattle.std.proofs.Common.{◌≡◌, ℕ, Option, Some, None, IfSome, subst, List, refl, false, true, ◌≢◌, ◌⊎◌, inl, inr, [], ◌++◌, IsSomeAnd, ap, ◌∙◌, sym}
+use Rattle.std.specs.Option.{option_map}
+use Rattle.std.specs.Prelude.{is_some}
+use Rattle.command_laws.proofs.CommandEndings.{refused_front, shorter_front, text_front}
+use Rattle.command_laws.proofs.CommandTotals.{plain_answers}
+use Rattle.command_spec.specs.Headline.{EachLeft, StopsGoOn, Stepped, Answers, NoneRose, WasCut, IsCut, WordsLeave, Joins, PrintsFront}
+use Rattle.command_spec.specs.Machine.{HasValues, Yields, Spells}
+use Rattle.command_spec.specs.Outcome.{CommandOutcome, output_of}
+use Rattle.command_spec.specs.Runs.{fault_of, may_come_from, is_fault, is_outcome, InputLeft, Finished, CommandEnds}
+use Rattle.command_spec.specs.Traits.{traits_of}
+use Rattle.command_spec.specs.declared.status.Status.{Status}
+use Rattle.command_spec.specs.declared.words.Words.{Words}
+use Rattle.qic_base.proofs.Outcomes.{cut_is_torn, cut_stops, cut_took_front, cut_fell_none, cut_rose}
+use Rattle.qic_base.proofs.Steps.{Torn-all, Stops-left}
+use Rattle.qic_base.specs.Acts.{Failing, TapeFails, SourceFails, SinkFails, Outside, Act, steps_of, text_of, Cut, FailingRose}
+use Rattle.qic_base.specs.Cartridge.{Cartridge, IsCartridge}
+use Rattle.qic_base.specs.Step.{Step as TapeStep, effects}
+use Rattle.qic_base.specs.Stop.{Torn}
+use Rattle.qic_base.specs.Tape as tapes
+use Rattle.command_spec.specs.declared.status.Status.TheVariants as status
+use Rattle.qic_base.specs.Sink as sinks
+use Rattle.qic_base.specs.Source as sources
+
+-- ---- answers
+
+-- no fault of the outside is an answer of a command to what it finds
+pub no_fault_comes : (command : Words) (failing : Failing) → may_come_from (fault_of failing) command ≡ false
+no_fault_comes command TapeFails = refl
+no_fault_comes command SourceFails = refl
+no_fault_comes command SinkFails = refl
+
+pub same_failing : (one other : Failing) → fault_of one ≡ fault_of other → one ≡ other
+same_failing TapeFails TapeFails same = refl
+same_failing TapeFails SourceFails same = cc
+same_failing TapeFails SinkFails same = cc
+same_failing SourceFails TapeFails same = cc
+same_failing SourceFails SourceFails same = refl
+same_failing SourceFails SinkFails same = cc
+same_failing SinkFails TapeFails same = cc
+same_failing SinkFails SourceFails same = cc
+same_failing SinkFails SinkFails same = refl
+
+pub is_a_fault : (failing : Failing) → is_fault (fault_of failing) ≡ true
+is_a_fault TapeFails = refl
+is_a_fault SourceFails = refl
+is_a_fault SinkFails = refl
+
+fault_no_outcome : (failing : Failing) → is_outcome (fault_of failing) ≡ false
+fault_no_outcome TapeFails = refl
+fault_no_outcome SourceFails = refl
+fault_no_outcome SinkFails = refl
+
+pub named_outcome : (command : Words) (answer : Status) → may_come_from answer command ≡ true → is_outcome answer ≡ true
+named_outcome command status.Usage is = cc
+named_outcome command status.SourceFault is = cc
+named_outcome command status.SinkFault is = cc
+named_outcome command status.TapeFault is = cc
+named_outcome command status.NoMemory is = cc
+named_outcome command answer is = refl
+
+done_or_not : (answer : Status) → (answer ≡ status.Done) ⊎ (answer ≢ status.Done)
+done_or_not status.Done = inl refl
+done_or_not answer = inr (λ is. cc)
+
+-- ---- what is told
+
+-- what the laws of the objects give, before a run and after it
+pub record Laws {T S K : Type 0} (t : tapes.Meaning T) (s : sources.Meaning S) (k : sinks.Meaning K) (old new : Outside T S K) : Type 0 where
+  pub nothing : (x : K) → k.took x [] x
+  pub told : (x y : K) (text : List ℕ) → k.took x text y → k.written y ≡ option_map (λ bytes. bytes ++ text) (k.written x)
+  pub right : tapes.IsToldRight (t.told old.tape) (t.size old.tape)
+  pub before : tapes.IsLeftNow t old.tape
+  pub after : tapes.IsLeftNow t new.tape
+
+-- what is told is a whole cartridge, or none
+pub told_whole : (held : Option Cartridge) (told : Option (Option Cartridge)) (size : Option ℕ) → tapes.IsToldRight told size → told ≡ Some held → IfSome held IsCartridge
+told_whole held None size right told = cc
+told_whole None (Some other) size right told = tt
+told_whole (Some c) (Some None) size right told = cc
+told_whole (Some c) (Some (Some d)) size right told =
+    let same : d ≡ c = cc in subst IsCartridge same right.0
+
+pub over_map : {A : Type 0} (held : Option A) (left : Option (List ℕ)) (P R : A → List ℕ → Type 0) →
+    IfSome held (λ a. (input : List ℕ) × IfSome left (λ bytes. input ≡ bytes) × P a input) →
+    ((a : A) (input : List ℕ) → held ≡ Some a → P a input → R a input) → IfSome held (λ a. (input : List ℕ) × IfSome left (λ bytes. input ≡ bytes) × R a input)
+over_map None left P R known follows = tt
+over_map (Some a) left P R known follows = (known.0, known.1, follows a known.0 refl known.2)
+
+-- a fact over what is told, at what is told
+pub over_at : {A : Type 0} (held : Option A) (P : A → Type 0) (a : A) → IfSome held P → held ≡ Some a → P a
+over_at None P a known told = absurd (cc)
+over_at (Some x) P a known told =
+    let same : x ≡ a = cc in
+    subst P same known
+
+pub told_weaker : {P Q : Option Cartridge → Type 0} (o : Option (Option Cartridge)) → ((left : Option Cartridge) → P left → Q left) → IsSomeAnd o P → IsSomeAnd o Q
+told_weaker None follows holds = absurd holds
+told_weaker (Some left) follows holds = follows left holds
+
+told_is : (o : Option (Option Cartridge)) (P : Option Cartridge → Type 0) (left : Option Cartridge) → IsSomeAnd o P → o ≡ Some left → P left
+told_is None P left holds is = absurd holds
+told_is (Some other) P left holds is =
+    let same : other ≡ left = cc in
+    subst P same holds
+
+-- what was told, and what it is after the steps
+pub after_steps : {T : Type 0} (t : tapes.Meaning T) (a b : T) (steps : List TapeStep) (held : Option Cartridge) → tapes.Done t a b steps → t.told a ≡ Some held → t.told b ≡ Some (effects steps held)
+after_steps t a b steps held did told = did.told ∙ ap (option_map (effects steps)) told
+
+done_torn : {T : Type 0} (t : tapes.Meaning T) (a b : T) (steps : List TapeStep) (held : Option Cartridge) → tapes.Done t a b steps → t.told a ≡ Some held →
+    IsSomeAnd (t.told b) (λ left. Torn steps held left)
+done_torn t a b steps held did told =
+    subst (λ (o : Option (Option Cartridge)). IsSomeAnd o (λ left. Torn steps held left)) (sym (after_steps t a b steps held did told)) (Torn-all steps held)
+
+pub is_some-map : {A B : Type 0} (f : A → B) (o : Option A) → is_some (option_map f o) ≡ is_some o
+is_some-map f None = refl
+is_some-map f (Some a) = refl
+
+-- ---- stops
+
+-- over what the tape told, the run did steps, and this is what a stop in them leaves
+pub record LeftBy {T : Type 0} (t : tapes.Meaning T) (a b : T) (held : Option Cartridge) (P : Option Cartridge → Type 0) : Type 0 where
+  pub steps : List TapeStep
+  pub stops : tapes.Stops t a b steps
+  pub torn : IsSomeAnd (t.told b) (λ left. Torn steps held left)
+  pub leaves : (left : Option Cartridge) → Torn steps held left → P left
+
+pub each_left : {T : Type 0} (t : tapes.Meaning T) (a b : T) (P : (held left : Option Cartridge) → Type 0) → tapes.IsLeftNow t a → tapes.IsLeftNow t b →
+    ((held : Option Cartridge) → t.told a ≡ Some held → LeftBy t a b held (P held)) → EachLeft t a b P
+each_left t a b P before after by = record {
+  told = λ held told. let l = by held told in told_weaker (t.told b) l.leaves l.torn;
+  since = λ held left telling told is. let l = by held told in l.leaves left (Stops-left held left before telling told l.stops is);
+  now = λ held left telling told is.
+      let l = by held told in
+      l.leaves left (told_is (t.told b) (λ d. Torn l.steps held d) left l.torn (after.only left (l.stops.telling ∙ telling) is));
+}
+
+pub stops_go_on : {T : Type 0} (t : tapes.Meaning T) (a b : T) (steps : List TapeStep) → tapes.Stops t a b steps → StopsGoOn t a b
+stops_go_on t a b steps stops = record { telling = stops.telling; clock = stops.clock; kept = stops.kept; parted = stops.parted }
+
+-- ---- runs
+
+module _ {T S K : Type 0} (t : tapes.Meaning T) (s : sources.Meaning S) (k : sinks.Meaning K) (words : List (List ℕ)) (command : Words) (old new : Outside T S K) (answer : Status) where
+  stepped : Laws t s k old new → Spells words command → (finished : Finished t s k command old new answer) → (held : Option Cartridge) (input : List ℕ) →
+      t.told old.tape ≡ Some held → Yields command held input finished.outcome → Stepped t s k words held input old new answer
+  stepped laws spelled finished held input told plain = record {
+    held' = effects (steps_of finished.outcome.acts) held;
+    output = output_of finished.outcome;
+    taken = finished.outcome.taken;
+    step = inr (command, spelled, (finished.outcome, plain, refl, refl, refl, finished.answered));
+    tape = after_steps t old.tape new.tape (steps_of finished.outcome.acts) held finished.went.did told;
+    source = finished.left;
+    took = finished.went.wrote.took;
+    written = laws.told old.sink new.sink (output_of finished.outcome) finished.went.wrote.took;
+  }
+
+  finished_answers : Laws t s k old new → Spells words command → Finished t s k command old new answer → Answers t s k words old new answer
+  finished_answers laws spelled finished =
+      over_map (t.told old.tape) (s.left old.source) _ _ finished.told (λ held input told plain.
+      inr (stepped laws spelled finished held input told plain.1))
+
+  pub ends_cause : CommandEnds t s k command old new answer → (failing : Failing) → answer ≡ fault_of failing → FailingRose t s k old new failing
+  ends_cause (inl finished) failing is =
+      let no = no_fault_comes command failing in let sound = ap (λ (a : Status). may_come_from a command) (sym is) ∙ finished.sound in absurd (cc)
+  ends_cause (inr (other, was, stopped)) failing is =
+      subst (FailingRose t s k old new) (same_failing other failing (sym was ∙ is)) (cut_rose t s k old new stopped.acts other stopped.cut)
+
+  pub ends_asked : CommandEnds t s k command old new answer → answer ≡ status.SourceFault → (traits_of command).reads ≡ true
+  ends_asked (inl finished) is = let no = ap (λ (a : Status). may_come_from a command) is in let sound = finished.sound in absurd (cc)
+  ends_asked (inr (failing, was, stopped)) is = stopped.reads (same_failing failing SourceFails (sym was ∙ is))
+
+  none_rose : (failing : Failing) → NoneRose t s k old new → FailingRose t s k old new failing → ⊥
+  none_rose TapeFails none rose = none.tape rose
+  none_rose SourceFails none rose = none.source rose
+  none_rose SinkFails none rose = none.sink rose
+
+  pub ends_answers : Laws t s k old new → Spells words command → CommandEnds t s k command old new answer → NoneRose t s k old new → Answers t s k words old new answer
+  ends_answers laws spelled (inl finished) none = finished_answers laws spelled finished
+  ends_answers laws spelled (inr (failing, is, stopped)) none =
+      absurd (none_rose failing none (cut_rose t s k old new stopped.acts failing stopped.cut))
+
+  pub ends_carried : Laws t s k old new → Spells words command → CommandEnds t s k command old new answer → is_fault answer ≡ false → Answers t s k words old new answer
+  ends_carried laws spelled (inl finished) sound = finished_answers laws spelled finished
+  ends_carried laws spelled (inr (failing, is, stopped)) sound =
+      let fault : is_fault answer ≡ true = ap is_fault is ∙ is_a_fault failing in absurd (cc)
+
+  -- over what is told there is an outcome
+  has_outcome : Laws t s k old new → Spells words command → HasValues command → (held : Option Cartridge) (input : List ℕ) → t.told old.tape ≡ Some held →
+      (outcome : CommandOutcome) × Yields command held input outcome
+  has_outcome laws spelled values held input told =
+      plain_answers command held input values (told_whole held (t.told old.tape) (t.size old.tape) laws.right told)
+
+  pub ends_cut : Laws t s k old new → Spells words command → HasValues command → CommandEnds t s k command old new answer → (failing : Failing) → answer ≡ fault_of failing →
+      IsCut t s k words old new failing
+  ends_cut laws spelled values (inl finished) failing is =
+      let no = no_fault_comes command failing in let sound = ap (λ (a : Status). may_come_from a command) (sym is) ∙ finished.sound in absurd (cc)
+  ends_cut laws spelled values (inr (other, was, stopped)) failing is = (
+    command,
+    spelled,
+    over_map (t.told old.tape) (s.left old.source) _ _ stopped.told (λ held input told off.
+        let some = has_outcome laws spelled values held input told in
+        subst (WasCut t s k command held input old new) (same_failing other failing (sym was ∙ is))
+        (record { outcome = some.0; plain = some.1; off = off.1 some.0 some.1 })),
+  )
+
+  -- what a run did, over what the tape told
+  left_by : Laws t s k old new → Spells words command → HasValues command → CommandEnds t s k command old new answer → (held : Option Cartridge) → t.told old.tape ≡ Some held →
+      LeftBy t old.tape new.tape held (WordsLeave (s.left old.source) words held)
+  left_by laws spelled values (inl finished) held told =
+      let over = over_at (t.told old.tape) _ held finished.told told in record {
+        steps = steps_of finished.outcome.acts;
+        stops = finished.went.did.stops;
+        torn = done_torn t old.tape new.tape (steps_of finished.outcome.acts) held finished.went.did told;
+        leaves = λ left torn.
+            inr (command, spelled, record { input = over.0; is_told = over.1; bytes = over.2.0; outcome = finished.outcome; plain = over.2.1; torn = torn });
+      }
+  left_by laws spelled values (inr (failing, is, stopped)) held told =
+      let over = over_at (t.told old.tape) _ held stopped.told told in
+      let some = has_outcome laws spelled values held over.0 told in
+      let off = over.2.1 some.0 some.1 in record {
+        steps = steps_of some.0.acts;
+        stops = cut_stops t s k old new some.0.acts failing off.cut;
+        torn = cut_is_torn t s k old new some.0.acts failing held off.cut told;
+        leaves = λ left torn.
+            inr (command, spelled, record { input = over.0; is_told = over.1; bytes = over.2.0; outcome = some.0; plain = some.1; torn = torn });
+      }
+
+  pub ends_stops : Laws t s k old new → Spells words command → HasValues command → CommandEnds t s k command old new answer →
+      EachLeft t old.tape new.tape (WordsLeave (s.left old.source) words)
+  ends_stops laws spelled values ends =
+      each_left t old.tape new.tape (WordsLeave (s.left old.source) words) laws.before laws.after (left_by laws spelled values ends)
+
+  -- ---- runs one after the other
+
+  input_tells : (why : Status) (taken : ℕ) (before after : Option (List ℕ)) → InputLeft why taken before after → is_some after ≡ is_some before
+  input_tells (status.ScriptFault line place) taken before after left = ap is_some left.1 ∙ is_some-map _ before
+  input_tells why taken before after left = ap is_some left ∙ is_some-map _ before
+
+  sink_tells : Laws t s k old new → (text : List ℕ) → k.took old.sink text new.sink → is_some (k.written new.sink) ≡ is_some (k.written old.sink)
+  sink_tells laws text took = ap is_some (laws.told old.sink new.sink text took) ∙ is_some-map (λ bytes. bytes ++ text) (k.written old.sink)
+
+  tape_tells : (acts : List Act) (failing : Failing) → Cut t s k old new acts failing → is_some (t.told new.tape) ≡ is_some (t.told old.tape)
+  tape_tells acts TapeFails cut = cut.broke.tells
+  tape_tells acts SourceFails cut = ap is_some cut.did.told ∙ is_some-map (effects (steps_of cut.front)) (t.told old.tape)
+  tape_tells acts SinkFails cut = ap is_some cut.did.told ∙ is_some-map (effects (steps_of cut.at.front ++ cut.at.act.steps)) (t.told old.tape)
+
+  pub ends_joins : Laws t s k old new → CommandEnds t s k command old new answer → Joins t s k old new
+  ends_joins laws (inl finished) = record {
+    counts = record { tape = finished.went.did.later; source = finished.went.source_later; sink = finished.went.wrote.later };
+    tape = ap is_some finished.went.did.told ∙ is_some-map (effects (steps_of finished.outcome.acts)) (t.told old.tape);
+    source = input_tells answer finished.outcome.taken (s.left old.source) (s.left new.source) finished.left;
+    sink = sink_tells laws (output_of finished.outcome) finished.went.wrote.took;
+    stops = stops_go_on t old.tape new.tape (steps_of finished.outcome.acts) finished.went.did.stops;
+  }
+  ends_joins laws (inr (failing, is, stopped)) =
+      let took = cut_took_front t s k old new stopped.acts failing stopped.cut in record {
+        counts = cut_fell_none t s k old new stopped.acts failing stopped.cut;
+        tape = tape_tells stopped.acts failing stopped.cut;
+        source = stopped.source_tells;
+        sink = sink_tells laws took.front took.took;
+        stops = stops_go_on t old.tape new.tape (steps_of stopped.acts) (cut_stops t s k old new stopped.acts failing stopped.cut);
+      }
+
+  -- ---- over any tape, source and sink
+
+  -- it ends so, and not otherwise
+  pub ends_otherwise : CommandEnds t s k command old new answer → (answer ≡ status.Usage) ⊎ (answer ≡ status.NoMemory) → ⊥
+  ends_otherwise (inl finished) (inl is) = let no = ap (λ (a : Status). may_come_from a command) is in let sound = finished.sound in cc
+  ends_otherwise (inl finished) (inr is) = let no = ap (λ (a : Status). may_come_from a command) is in let sound = finished.sound in cc
+  ends_otherwise (inr (failing, was, stopped)) (inl is) =
+      let no = ap is_fault (sym was ∙ is) in let fault = is_a_fault failing in cc
+  ends_otherwise (inr (failing, was, stopped)) (inr is) =
+      let no = ap is_fault (sym was ∙ is) in let fault = is_a_fault failing in cc
+
+  pub ends_named : CommandEnds t s k command old new answer → is_outcome answer ≡ true → may_come_from answer command ≡ true
+  ends_named (inl finished) outcome = finished.sound
+  ends_named (inr (failing, is, stopped)) outcome =
+      let no : is_outcome answer ≡ false = ap is_outcome is ∙ fault_no_outcome failing in absurd (cc)
+
+  pub ends_finished : CommandEnds t s k command old new answer → is_fault answer ≡ false → Finished t s k command old new answer
+  ends_finished (inl finished) sound = finished
+  ends_finished (inr (failing, is, stopped)) sound =
+      let fault : is_fault answer ≡ true = ap is_fault is ∙ is_a_fault failing in absurd (cc)
+
+  pub ends_begun : Laws t s k old new → Spells words command → CommandEnds t s k command old new answer → PrintsFront k command old.sink new.sink
+  ends_begun laws spelled (inl finished) = by_answer (done_or_not answer)
+    where
+      by_answer : (answer ≡ status.Done) ⊎ (answer ≢ status.Done) → PrintsFront k command old.sink new.sink
+      by_answer (inl is) = record {
+        text = output_of finished.outcome;
+        is_front = text_front command (output_of finished.outcome) (finished.prints.0 is);
+        took = finished.went.wrote.took;
+      }
+      by_answer (inr other) = record {
+        text = output_of finished.outcome;
+        is_front = refused_front command answer (output_of finished.outcome) (finished.prints.1 other);
+        took = finished.went.wrote.took;
+      }
+  ends_begun laws spelled (inr (failing, is, stopped)) =
+      let took = cut_took_front t s k old new stopped.acts failing stopped.cut in record {
+        text = took.front;
+        is_front = shorter_front command took.front took.rest (text_of stopped.acts) took.parts stopped.front;
+        took = took.took;
+      }
+
+  pub ends_silent : CommandEnds t s k command old new answer → (traits_of command).goes ≡ false → answer ≢ status.Done → answer ≢ status.SinkFault → new.sink ≡ old.sink
+  ends_silent (inl finished) still other fault = finished.silent still other
+  ends_silent (inr (failing, is, stopped)) still other fault = stopped.silent still (λ same. fault (is ∙ ap fault_of same))

@@ -1,0 +1,190 @@
+-- A cartridge that an append left, done or stopped, comes back where one sector more of its table's segment is lost.
+use Rattle.std.proofs.Common.{inl, ℕ, arith, ◌≤◌, List, ◌∙◌, ◌⊎◌, inr, ◌++◌, ◌+◌, Option, Some, subst, ◌≡◌, ◌^◌, ◌<◌, true, false, All, IsSomeAnd, refl, [], ◌∷◌, ap, length, min, sym}
+use Rattle.std.proofs.lemmas.Bool.{cases_Bool}
+use Rattle.cartridge_laws.proofs.AppendReady.{settled_is_ready}
+use Rattle.cartridge_laws.proofs.AppendVolume.{free_writes_stand, last_end_least, stopped_volume}
+use Rattle.cartridge_laws.proofs.FormatWriting.{changed_by-append, effects-some, some_weaker, some_and}
+use Rattle.cartridge_laws.proofs.MountSettled.{settled_needs_no_steps, settled_stands, settled_is_whole}
+use Rattle.cartridge_laws.proofs.MountWhole.{settling_effects, table_is_area}
+use Rattle.cartridge_laws.proofs.OneLossComesBack.{table_alone_comes_back, stopped_append_comes_back, done_append_comes_back}
+use Rattle.cartridge_laws.proofs.OneLossRead.{before_reads_old_still}
+use Rattle.cartridge_laws.specs.AppendBetween.{IsWhole}
+use Rattle.cartridge_laws.specs.AppendLaws.{IsReady}
+use Rattle.cartridge_laws.specs.AppendWrites.{KeepsTo}
+use Rattle.cartridge_spec.specs.Appending.{new_plain, last_end}
+use Rattle.cartridge_spec.specs.Formatting.{IsLabel}
+use Rattle.cartridge_spec.specs.HeaderAndTable.{IsArea, TableIs}
+use Rattle.cartridge_spec.specs.Mounting.{settled, IsTableLive}
+use Rattle.cartridge_spec.specs.OneLoss.{ComesBackAs, LosesOneAlone}
+use Rattle.cartridge_spec.specs.Settling.{settling_steps, changed_by}
+use Rattle.cartridge_spec.specs.Volumes.{Plain, Stands, entries_of}
+use Rattle.command_laws.proofs.CommandAppends.{behind_settling, segments_acts, table_acts, fits, segments_are_free, no_table, same_plain, steps_are, course, kept_of, done_behind, done_fits}
+use Rattle.command_spec.specs.Append.{AppendOutcome, room_in}
+use Rattle.command_spec.specs.Outcome.{CommandOutcome}
+use Rattle.qic_base.proofs.Steps.{Torn-append}
+use Rattle.qic_base.specs.Acts.{Act, steps_of}
+use Rattle.qic_base.specs.Cartridge.{Cartridge, IsCartridge}
+use Rattle.qic_base.specs.Step.{Step, effects}
+use Rattle.qic_base.specs.Stop.{Torn}
+use Rattle.cartridge_laws.specs.AppendLaws as appends
+use Rattle.command_spec.specs.declared.status.Status.TheVariants as status
+
+-- ---- a table whose sectors are all there
+
+whole_comes_back : (d : Cartridge) (plain : Plain) → Stands d plain → IsWhole d plain.table_area → IsArea plain.table_area →
+    (f : Cartridge) (lost : ℕ) → LosesOneAlone d f lost → ComesBackAs f plain
+whole_comes_back d plain stood whole area f lost loses =
+    table_alone_comes_back d f plain stood loses.alone
+    (before_reads_old_still d f plain.table_area 0 lost area (omega arith) (inl whole) loses.loses)
+
+kept_whole : (c d : Cartridge) (area : List (List ℕ)) (last : ℕ) → 2 ≤ last → KeepsTo last c d → IsWhole c area → IsWhole d area
+kept_whole c d area last h kept whole i low = kept.sectors 2 i h low ∙ whole i low
+
+-- ---- a stop
+
+-- one of the plain cartridges
+abbrev Either : Plain → Plain → Cartridge → Type 0
+Either old new d = (f : Cartridge) (lost : ℕ) → LosesOneAlone d f lost → ComesBackAs f old ⊎ ComesBackAs f new
+
+-- a stop comes before the table is settled, or behind that
+settled_or_not : (c : Cartridge) (plain : Plain) (steps : List Step) (left : Option Cartridge) → TableIs c plain.table_area → IsTableLive c →
+    Torn (behind_settling c plain steps) (Some c) left →
+    Torn (settling_steps plain.table_area c) (Some c) left ⊎ Torn steps (Some (settled plain.table_area c)) left
+settled_or_not c plain steps left table live torn =
+    let area : List (List ℕ) = plain.table_area in
+    let s : Cartridge = settled area c in
+    elim (Torn-append (settling_steps area c) (settling_steps area s ++ steps) (Some c) left torn) [
+      | inl front ↦ inl front
+      | inr rest ↦
+          inr (subst (λ (again : List Step). Torn (again ++ steps) (Some s) left) (settled_needs_no_steps c area table live)
+          (subst (λ (held : Option Cartridge). Torn (settling_steps area s ++ steps) held left) (settling_effects c area table) rest))
+    ]
+
+module _ (name : List ℕ) (date : ℕ) (input : List ℕ) (c : Cartridge) (plain : Plain) (label : IsLabel name) (word : date < 2 ^ 32)
+    (content : All (λ b. b < 256) input) (cartridge : IsCartridge c) (stood : Stands c plain) (live : IsTableLive c)
+    (unprotected : c.info.protected ≡ false) (table : TableIs c plain.table_area) where
+  -- the settled cartridge
+  abbrev s : Cartridge
+  s = settled plain.table_area c
+
+  s_stands : Stands s plain
+  s_stands = settled_stands c plain plain.table_area stood table
+
+  s_whole : IsWhole s plain.table_area
+  s_whole i h = settled_is_whole c plain.table_area i table unprotected live h
+
+  is_area : IsArea plain.table_area
+  is_area = table_is_area c plain.table_area cartridge table
+
+  ready : fits c plain input ≡ true → IsReady s plain name date input
+  ready enough = settled_is_ready c plain name date input (record {
+    cartridge = cartridge;
+    stands = stood;
+    table = table;
+    live = live;
+    unprotected = unprotected;
+    room = enough;
+    label = label;
+    word = word;
+    content = content;
+  })
+
+  -- among the writes of free segments
+  free_survives : (new : Plain) (left : Option Cartridge) → Torn (steps_of (segments_acts c plain input)) (Some s) left →
+      IsSomeAnd left (Either plain new)
+  free_survives new left torn =
+      some_weaker left
+      (λ d known f lost loses.
+      inl (whole_comes_back d plain known.0 (kept_whole s d plain.table_area (last_end (entries_of plain)) (last_end_least c plain stood) known.1 s_whole)
+      is_area f lost loses))
+      (free_writes_stand s plain (steps_of (segments_acts c plain input)) left s_stands (segments_are_free c plain input) torn)
+
+  -- among the writes of an append
+  append_survives : fits c plain input ≡ true → (left : Option Cartridge) → Torn (appends.steps_of s plain name date input) (Some s) left →
+      IsSomeAnd left (Either plain (new_plain c plain name date input))
+  append_survives enough left torn =
+      let front : List Step = appends.volume_steps s plain name date input in
+      let rear : List Step = appends.list_steps s plain name date input in
+      let new : Plain = new_plain s plain name date input in
+      subst (λ (p : Plain). IsSomeAnd left (Either plain p)) (same_plain name date input c plain table)
+      (elim (Torn-append front rear (Some s) left torn) [
+        | inl among ↦ some_weaker left (λ d known f lost loses. inl (whole_comes_back d plain known.0 known.1 is_area f lost loses))
+            (stopped_volume s plain name date input left (ready enough) among)
+        | inr behind ↦ stopped_append_comes_back s (changed_by front s) plain name date input left (ready enough) refl
+            (subst (λ (held : Option Cartridge). Torn rear held left) (effects-some front s) behind)
+      ])
+
+  run_survives : (left : Option Cartridge) →
+      Torn (behind_settling c plain (steps_of (segments_acts c plain input ++ table_acts c plain name date input))) (Some c) left →
+      Torn (settling_steps plain.table_area c) (Some c) left ⊎ IsSomeAnd left (Either plain (new_plain c plain name date input))
+  run_survives left torn =
+      elim (cases_Bool (fits c plain input)) [
+        | inl enough ↦ elim (settled_or_not c plain (appends.steps_of s plain name date input) left table live
+            (subst (λ (steps : List Step). Torn (behind_settling c plain steps) (Some c) left) (steps_are name date input c plain table enough) torn)) [
+              | inl settling ↦ inl settling
+              | inr behind ↦ inr (append_survives enough left behind)
+            ]
+        | inr small ↦ elim (settled_or_not c plain (steps_of (segments_acts c plain input)) left table live
+            (subst (λ (acts : List Act). Torn (behind_settling c plain (steps_of acts)) (Some c) left) (no_table c plain name date input small) torn)) [
+              | inl settling ↦ inl settling
+              | inr behind ↦ inr (free_survives (new_plain c plain name date input) left behind)
+            ]
+      ]
+
+  -- once all is done
+  done_survives : fits c plain input ≡ true → (f : Cartridge) (lost : ℕ) →
+      LosesOneAlone (changed_by (appends.steps_of s plain name date input) s) f lost → ComesBackAs f (new_plain c plain name date input)
+  done_survives enough f lost loses =
+      subst (λ (p : Plain). ComesBackAs f p) (same_plain name date input c plain table)
+      (done_append_comes_back s (changed_by (appends.steps_of s plain name date input) s) plain name date input (ready enough)
+      (changed_by-append (appends.volume_steps s plain name date input) (appends.list_steps s plain name date input) s) f lost loses)
+
+-- so does the settled cartridge itself
+pub settled_comes_back : (c : Cartridge) (plain : Plain) → IsCartridge c → Stands c plain → IsTableLive c → c.info.protected ≡ false → TableIs c plain.table_area →
+    (f : Cartridge) (lost : ℕ) → LosesOneAlone (settled plain.table_area c) f lost → ComesBackAs f plain
+settled_comes_back c plain cartridge stood live unprotected table f lost loses =
+    whole_comes_back (settled plain.table_area c) plain (settled_stands c plain plain.table_area stood table)
+    (λ i h. settled_is_whole c plain.table_area i table unprotected live h) (table_is_area c plain.table_area cartridge table) f lost loses
+
+-- ---- the plain machine
+
+pub nothing_torn : (c : Cartridge) (steps : List Step) (left : Option Cartridge) → left ≡ Some c → Torn steps (Some c) left
+nothing_torn c [] left same = same
+nothing_torn c (x ∷ xs) left same = inl same
+
+-- a stop leaves a table that is not yet settled, or what comes back
+pub append_comes_back : (name : List ℕ) (date : ℕ) (input : List ℕ) (c : Cartridge) (plain : Plain) (outcome : CommandOutcome) (left : Option Cartridge) →
+    IsLabel name → date < 2 ^ 32 → All (λ b. b < 256) input → IsCartridge c → Stands c plain → IsTableLive c →
+    AppendOutcome name date (Some c) input outcome → Torn (steps_of outcome.acts) (Some c) left →
+    Torn (settling_steps plain.table_area c) (Some c) left ⊎ IsSomeAnd left (Either plain (new_plain c plain name date input))
+append_comes_back name date input c plain outcome left label word content whole stood live machine torn =
+    elim (course name date input c plain outcome stood machine) [
+      | inl none ↦
+          inl (nothing_torn c (settling_steps plain.table_area c) left
+          (subst (λ (ss : List Step). Torn ss (Some c) left) (ap (λ (o : CommandOutcome). steps_of o.acts) none.is ∙ none.none) torn))
+      | inr run ↦
+          run_survives name date input c plain label word content whole stood live run.unprotected run.table left
+          (subst (λ (o : CommandOutcome). Torn (steps_of o.acts) (Some c) left) run.is torn)
+    ]
+
+-- where it was done, it comes back with the volume
+pub done_comes_back : (name : List ℕ) (date : ℕ) (input : List ℕ) (c : Cartridge) (plain : Plain) (outcome : CommandOutcome) →
+    IsLabel name → date < 2 ^ 32 → All (λ b. b < 256) input → IsCartridge c → Stands c plain → IsTableLive c →
+    AppendOutcome name date (Some c) input outcome → outcome.status ≡ status.Done →
+    IsSomeAnd (effects (steps_of outcome.acts) (Some c))
+    (λ d. (f : Cartridge) (lost : ℕ) → LosesOneAlone d f lost → ComesBackAs f (new_plain c plain name date input))
+done_comes_back name date input c plain outcome label word content whole stood live machine is_done =
+    elim (course name date input c plain outcome stood machine) [
+      | inl none ↦ absurd (none.not_done (sym (ap (λ (o : CommandOutcome). o.status) none.is) ∙ is_done))
+      | inr run ↦
+          let have : ℕ = room_in (kept_of c plain) in
+          let enough : fits c plain input ≡ true =
+          done_fits (fits c plain input) (min (length input) (have + 1)) have (sym (ap (λ (o : CommandOutcome). o.status) run.is) ∙ is_done) in
+          some_and (λ d. (f : Cartridge) (lost : ℕ) → LosesOneAlone d f lost → ComesBackAs f (new_plain c plain name date input))
+          (changed_by (appends.steps_of (settled plain.table_area c) plain name date input) (settled plain.table_area c))
+          (effects (steps_of outcome.acts) (Some c))
+          (done_survives name date input c plain label word content whole stood live run.unprotected run.table enough)
+          (ap (λ (o : CommandOutcome). effects (steps_of o.acts) (Some c)) run.is
+          ∙ ap (λ (steps : List Step). effects (behind_settling c plain steps) (Some c)) (steps_are name date input c plain run.table enough)
+          ∙ done_behind c plain (appends.steps_of (settled plain.table_area c) plain name date input) run.table)
+    ]

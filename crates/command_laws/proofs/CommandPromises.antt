@@ -1,0 +1,323 @@
+-- What a run promises, by how its command ended.
+use Rattle.std.proofs.Common.{◌≡◌, ℕ, List, Option, Some, None, IfSome, false, refl, true, ap, arith, inl, inr, sym, ◌∙◌, subst, Bool, ◌↔◌, [], IsSomeAnd}
+use Rattle.command_laws.proofs.CommandCompleting.{completes}
+use Rattle.command_laws.proofs.CommandEndings.{appends_none, any_input, nothing_front, none_printed}
+use Rattle.command_laws.proofs.CommandEnds.{Laws, ends_asked, ends_cause, ends_answers, ends_carried, ends_cut, ends_stops, ends_joins, ends_otherwise, ends_named, ends_finished, ends_begun, ends_silent, is_a_fault, each_left, stops_go_on}
+use Rattle.command_laws.proofs.CommandGivenBack.{gives_back}
+use Rattle.command_laws.proofs.CommandListing.{lists_appends, none_listed}
+use Rattle.command_laws.proofs.CommandMachineLaws.{machine_is_function_where, machine_answers_where}
+use Rattle.command_laws.proofs.CommandSeveral.{makes_volumes, carries_out_lines, none_made, none_scripted}
+use Rattle.command_laws.proofs.CommandSurvives.{survives_one_loss, none_survives}
+use Rattle.command_laws.proofs.CommandTold.{input_of, input_told}
+use Rattle.command_laws.proofs.CommandValues.{has_values}
+use Rattle.command_laws.proofs.CommandVolumes.{volumes_stay, list_stays, stops_format, stops_append, is_changed, may_change, none_changed}
+use Rattle.command_laws.proofs.TextCommands.{one_command}
+use Rattle.command_laws.proofs.TextDeciding.{each_words}
+use Rattle.command_laws.specs.CommandLaws.{MachineIsFunction, MachineAnswers}
+use Rattle.command_spec.specs.Headline.{WordsLeave, EachLeft, PrintsRefused, PrintsFront, Stepped, Answers, SpellsOne}
+use Rattle.command_spec.specs.Listing.{IsHeard}
+use Rattle.command_spec.specs.Machine.{HasInputFault, HasValues, Spells, SpellsNone}
+use Rattle.command_spec.specs.Outcome.{CommandOutcome, output_of}
+use Rattle.command_spec.specs.Promises.{Promises}
+use Rattle.command_spec.specs.Runs.{may_come_from, NamesFault, InputLeft, IsCutOff, CommandEnds, EndsBlind, is_fault, Finished, is_outcome}
+use Rattle.command_spec.specs.Traits.{traits_of}
+use Rattle.command_spec.specs.Volumes.{IsCarriedOut}
+use Rattle.command_spec.specs.declared.status.Status.{Status}
+use Rattle.command_spec.specs.declared.words.Words.{Words}
+use Rattle.qic_base.proofs.Steps.{Stops-nothing}
+use Rattle.qic_base.specs.Acts.{Act, Outside, Failing, TapeFails, SourceFails, SinkFails, Went, Cut, no_source, around}
+use Rattle.qic_base.specs.Cartridge.{Cartridge}
+use Rattle.qic_base.specs.Cause.{Rose}
+use Rattle.command_spec.specs.declared.words.Words.TheVariants as words
+use Rattle.command_spec.specs.declared.status.Status.TheVariants as status
+use Rattle.qic_base.specs.Sink as sinks
+use Rattle.qic_base.specs.Source as sources
+use Rattle.qic_base.specs.Tape as tapes
+
+pub machine_is_function : MachineIsFunction
+machine_is_function = machine_is_function_where one_command
+
+pub machine_answers : MachineAnswers
+machine_answers = machine_answers_where one_command each_words
+
+-- ---- a command that reads no input, over any source
+
+over_left : {A : Type 0} (held : Option A) (left : Option (List ℕ)) (P R : A → List ℕ → Type 0) → IfSome held (λ a. (input : List ℕ) × Unit {0} × P a input) →
+    ((a : A) (input other : List ℕ) → P a input → R a other) → IfSome held (λ a. (input : List ℕ) × IfSome left (λ bytes. input ≡ bytes) × R a input)
+over_left None left P R known follows = tt
+over_left (Some a) left P R known follows = (input_of left, input_told left, follows a known.0 (input_of left) known.2)
+
+-- lines are read by no command that reads nothing
+lines_are_read : (command : Words) → (traits_of command).reads ≡ false → (traits_of command).lines ≡ false
+lines_are_read words.Pulses blind = absurd (cc)
+lines_are_read words.Script blind = absurd (cc)
+lines_are_read command blind = refl
+
+none_has : (command : Words) (input : List ℕ) (line place : ℕ) → (traits_of command).reads ≡ false → HasInputFault command input line place → ⊥
+none_has words.Pulses input line place blind fault = cc
+none_has words.Script input line place blind fault = cc
+none_has command input line place blind fault = fault
+
+no_fault_named : (command : Words) (answer : Status) (left : Option (List ℕ)) → (traits_of command).reads ≡ false → may_come_from answer command ≡ true →
+    IfSome left (λ input. NamesFault command input answer)
+no_fault_named command answer None blind sound = tt
+no_fault_named command answer (Some input) blind sound = record {
+  named = λ line place is.
+      let no = ap (λ (a : Status). may_come_from a command) is in
+      let lineless = lines_are_read command blind in
+      absurd (cc);
+  none = λ done line place fault. none_has command input line place blind fault;
+}
+
+all_left : (left : Option (List ℕ)) → InputLeft status.Usage 0 left left
+all_left None = refl
+all_left (Some bytes) = refl
+
+nothing_taken : (command : Words) (answer : Status) (taken : ℕ) (left : Option (List ℕ)) → (traits_of command).reads ≡ false → may_come_from answer command ≡ true → taken ≡ 0 →
+    InputLeft answer taken left left
+nothing_taken command (status.ScriptFault line place) taken left blind sound none = let lineless = lines_are_read command blind in absurd (cc)
+nothing_taken command answer taken left blind sound none = rw none (all_left left)
+
+never_rose : Rose 0 0 → ⊥
+never_rose rose = omega arith
+
+module _ {T S K : Type 0} (t : tapes.Meaning T) (s : sources.Meaning S) (k : sinks.Meaning K) (command : Words) (a b : T) (i : S) (x y : K) where
+  abbrev before : Outside T S K
+  before = record { tape = a; source = i; sink = x }
+
+  abbrev behind : Outside T S K
+  behind = record { tape = b; source = i; sink = y }
+
+  went_over : (acts : List Act) → Went t no_source k (around a x) (around b y) acts → Went t s k before behind acts
+  went_over acts went = record { did = went.did; wrote = went.wrote; source_later = omega arith }
+
+  abbrev cut_over : (acts : List Act) (failing : Failing) → Cut t no_source k (around a x) (around b y) acts failing → Cut t s k before behind acts failing
+  cut_over acts TapeFails cut = record {
+    front = cut.front;
+    rest = cut.rest;
+    parts = cut.parts;
+    broke = cut.broke;
+    here = cut.here;
+    wrote = cut.wrote;
+    source_later = omega arith;
+  }
+  cut_over acts SourceFails cut = absurd (never_rose cut.cause)
+  cut_over acts SinkFails cut = record { at = cut.at; did = cut.did; broke = cut.broke; source_later = omega arith }
+
+  off_over : (failing : Failing) (outcome : CommandOutcome) → IsCutOff t no_source k command (around a x) (around b y) failing outcome →
+      IsCutOff t s k command before behind failing outcome
+  off_over TapeFails outcome off = record { cut = cut_over outcome.acts TapeFails off.cut; done = off.done; silent = off.silent }
+  off_over SourceFails outcome off = let cut = off.cut in absurd (never_rose cut.cause)
+  off_over SinkFails outcome off = record { cut = cut_over outcome.acts SinkFails off.cut; done = off.done; silent = off.silent }
+
+  pub ends_over : (answer : Status) → (traits_of command).reads ≡ false → EndsBlind t k command a b x y answer → CommandEnds t s k command before behind answer
+  ends_over answer blind (inl finished) = inl (record {
+    outcome = finished.outcome;
+    answered = finished.answered;
+    told = over_left (t.told a) (s.left i) _ _ finished.told
+        (λ held input other plain. (appends_none command (s.left i) other blind, any_input command held input finished.outcome blind plain.1 other));
+    went = went_over finished.outcome.acts finished.went;
+    left = nothing_taken command answer finished.outcome.taken (s.left i) blind finished.sound (finished.none_taken blind);
+    sound = finished.sound;
+    none_taken = finished.none_taken;
+    prints = finished.prints;
+    silent = finished.silent;
+    fault = no_fault_named command answer (s.left i) blind finished.sound;
+  })
+  ends_over answer blind (inr (failing, is, stopped)) = inr (
+    failing,
+    is,
+    record {
+      told = over_left (t.told a) (s.left i) _ _ stopped.told (λ held input other off. (
+        appends_none command (s.left i) other blind,
+        λ outcome plain. off_over failing outcome (off.1 outcome (any_input command held other outcome blind plain input)),
+      ));
+      acts = stopped.acts;
+      cut = cut_over stopped.acts failing stopped.cut;
+      front = stopped.front;
+      silent = stopped.silent;
+      reads = stopped.reads;
+      source_tells = refl;
+    },
+  )
+
+-- ---- a run whose words are those of a command
+
+named_at : (command : Words) (answer : Status) (left : Option (List ℕ)) (line place : ℕ) → answer ≡ status.ScriptFault line place →
+    IfSome left (λ input. NamesFault command input answer) → IfSome left (λ input. HasInputFault command input line place)
+named_at command answer None line place is fault = tt
+named_at command answer (Some input) line place is fault = fault.named line place is
+
+none_at : (command : Words) (answer : Status) (left : Option (List ℕ)) → answer ≡ status.Done → IfSome left (λ input. NamesFault command input answer) →
+    IfSome left (λ input. (line place : ℕ) → ¬ (HasInputFault command input line place))
+none_at command answer None is fault = tt
+none_at command answer (Some input) is fault = fault.none is
+
+module _ {T S K : Type 0} (t : tapes.Meaning T) (s : sources.Meaning S) (k : sinks.Meaning K) (words : List (List ℕ)) (command : Words) (old new : Outside T S K) (answer : Status) where
+  -- the words are those of no other command
+  same_command : Spells words command → (other : Words) → Spells words other → command ≡ other
+  same_command spelled other spells = one_command words command other spelled spells
+
+  pub promises : Laws t s k old new → Spells words command → HasValues command → ((traits_of command).reads ≡ false → new.source ≡ old.source) → s.keeps old.source new.source →
+      CommandEnds t s k command old new answer → Promises t s k words old new answer
+  promises laws spelled values source kept ends =
+      let stops : EachLeft t old.tape new.tape (WordsLeave (s.left old.source) words) = ends_stops t s k words command old new answer laws spelled values ends in
+      let finished : is_fault answer ≡ false → Finished t s k command old new answer = ends_finished t s k words command old new answer ends in
+      record {
+        answers = ends_answers t s k words command old new answer laws spelled ends;
+        carried = ends_carried t s k words command old new answer laws spelled ends;
+        complete = λ none. completes t s k words old new answer laws.right (λ other spells. has_values words other spells) (ends_answers t s k words command old new answer laws spelled ends none);
+        cut = ends_cut t s k words command old new answer laws spelled values ends;
+        cause = ends_cause t s k words command old new answer ends;
+        asked = λ is. (command, spelled, ends_asked t s k words command old new answer ends is);
+        stops = stops;
+        volumes = volumes_stay t (s.left old.source) words old.tape new.tape laws.right stops;
+        lists = list_stays t (s.left old.source) words old.tape new.tape laws.right stops;
+        formats = stops_format t (s.left old.source) words old.tape new.tape laws.right stops;
+        appends = stops_append t (s.left old.source) words old.tape new.tape laws.right (λ other spells. has_values words other spells) stops;
+        changed = is_changed t s k words command old new answer laws spelled values ends;
+        survives = survives_one_loss t s k words command old new answer laws spelled values (λ other spells. has_values words other spells) ends stops;
+        makes = makes_volumes t s k words command old new answer laws spelled (λ other spells. has_values words other spells) ends stops;
+        scripts = carries_out_lines t s k words command old new answer laws spelled ends stops;
+        listed = lists_appends t s k words command old new answer laws spelled (λ other spells. has_values words other spells) ends;
+        restores =
+            gives_back t s k words old new answer (ends_carried t s k words command old new answer laws spelled ends)
+            (ends_cut t s k words command old new answer laws spelled values ends);
+        joins = ends_joins t s k words command old new answer laws ends;
+        usage = ((λ is. absurd (ends_otherwise t s k words command old new answer ends (inl is))), (λ none. absurd (none command spelled)));
+        memory = λ is. absurd (ends_otherwise t s k words command old new answer ends (inr is));
+        named = λ outcome. (command, spelled, ends_named t s k words command old new answer ends outcome);
+        fault = λ line place is.
+            let f : Finished t s k command old new answer = finished (ap is_fault is) in
+            (command, spelled, sym (ap (λ (a : Status). may_come_from a command) is) ∙ f.sound, named_at command answer (s.left old.source) line place is f.fault);
+        no_fault = λ done other spells.
+            subst (λ (w : Words). IfSome (s.left old.source) (λ input. (line place : ℕ) → ¬ (HasInputFault w input line place))) (same_command spelled other spells)
+            (none_at command answer (s.left old.source) done (finished (ap is_fault done)).fault);
+        printed = λ done.
+            let f : Finished t s k command old new answer = finished (ap is_fault done) in
+            record { command = command; spelled = spelled; text = output_of f.outcome; is_text = f.prints.0 done; took = f.went.wrote.took };
+        refused = λ other spells sound unlike.
+            let f : Finished t s k command old new answer = finished sound in
+            subst (λ (w : Words). PrintsRefused k w answer old.sink new.sink) (same_command spelled other spells)
+            (record { text = output_of f.outcome; is_text = f.prints.1 unlike; took = f.went.wrote.took });
+        begun = λ other spells.
+            subst (λ (w : Words). PrintsFront k w old.sink new.sink) (same_command spelled other spells)
+            (ends_begun t s k words command old new answer laws spelled ends);
+        silent = λ none done fault. ends_silent t s k words command old new answer ends (none command spelled) done fault;
+        source = λ none. source (none command spelled);
+        kept = kept;
+      }
+
+-- ---- a run that touched nothing
+
+-- the answer tells of nothing that was done
+abbrev is_idle : Status → Bool
+is_idle status.Usage = true
+is_idle status.NoMemory = true
+is_idle answer = false
+
+idle_changes_nothing : (answer : Status) → is_idle answer ≡ true → (is_fault answer ≡ false) × (may_change answer ≡ false) × (is_outcome answer ≡ false)
+idle_changes_nothing status.Usage is = (refl, refl, refl)
+idle_changes_nothing status.NoMemory is = (refl, refl, refl)
+idle_changes_nothing answer is = absurd (cc)
+
+idle_carries_nothing : (answer : Status) → is_idle answer ≡ true → (IsCarriedOut answer → ⊥) × (IsHeard answer → ⊥)
+idle_carries_nothing answer is =
+    let nothing = idle_changes_nothing answer is in (
+      (λ which. elim which [
+        | inl done ↦ let may : may_change answer ≡ true = ap may_change done in let no = nothing.1 in cc
+        | inr sink ↦ let fault : is_fault answer ≡ true = ap is_fault sink in let no = nothing.0 in cc
+      ]),
+      (λ heard. elim heard [
+        | inl done ↦ let may : is_outcome answer ≡ true = ap is_outcome done in let no = nothing.2 in cc
+        | inr (line, place, named) ↦ let may : is_outcome answer ≡ true = ap is_outcome named in let no = nothing.2 in cc
+      ]),
+    )
+
+over_any : (o : Option (Option Cartridge)) (left : Option (List ℕ)) (R : Option Cartridge → List ℕ → Type 0) → ((held : Option Cartridge) (input : List ℕ) → o ≡ Some held → R held input) →
+    IfSome o (λ held. (input : List ℕ) × IfSome left (λ bytes. input ≡ bytes) × R held input)
+over_any None left R follows = tt
+over_any (Some held) left R follows = (input_of left, input_told left, follows held (input_of left) refl)
+
+module _ {T S K : Type 0} (t : tapes.Meaning T) (s : sources.Meaning S) (k : sinks.Meaning K) (words : List (List ℕ)) (old : Outside T S K) where
+  untouched_stops : Laws t s k old old → EachLeft t old.tape old.tape (WordsLeave (s.left old.source) words)
+  untouched_stops laws =
+      each_left t old.tape old.tape (WordsLeave (s.left old.source) words) laws.before laws.before (λ held told. record {
+        steps = [];
+        stops = Stops-nothing t old.tape;
+        torn = subst (λ (o : Option (Option Cartridge)). IsSomeAnd o (λ left. left ≡ held)) (sym told) refl;
+        leaves = λ left same. inl same;
+      })
+
+  idle : (answer : Status) → Laws t s k old old → is_idle answer ≡ true → s.keeps old.source old.source → Answers t s k words old old answer →
+      (answer ≡ status.Usage) ↔ SpellsNone words → (answer ≡ status.NoMemory → SpellsOne words (λ traits. traits.memory)) →
+      ((command : Words) → Spells words command → PrintsFront k command old.sink old.sink) → Promises t s k words old old answer
+  idle answer laws is kept answers usage memory begun =
+      let stops : EachLeft t old.tape old.tape (WordsLeave (s.left old.source) words) = untouched_stops laws in
+      let nothing = idle_changes_nothing answer is in
+      let ends = idle_carries_nothing answer is in record {
+        answers = λ none. answers;
+        carried = λ sound. answers;
+        complete = λ none. completes t s k words old old answer laws.right (λ other spells. has_values words other spells) answers;
+        cut = λ failing same. let fault = ap is_fault same ∙ is_a_fault failing in let no = nothing.0 in absurd (cc);
+        cause = λ failing same. let fault = ap is_fault same ∙ is_a_fault failing in let no = nothing.0 in absurd (cc);
+        asked = λ same. let fault = ap is_fault same in let no = nothing.0 in absurd (cc);
+        stops = stops;
+        volumes = volumes_stay t (s.left old.source) words old.tape old.tape laws.right stops;
+        lists = list_stays t (s.left old.source) words old.tape old.tape laws.right stops;
+        formats = stops_format t (s.left old.source) words old.tape old.tape laws.right stops;
+        appends = stops_append t (s.left old.source) words old.tape old.tape laws.right (λ other spells. has_values words other spells) stops;
+        changed = none_changed t (s.left old.source) words old.tape answer laws.before nothing.0 nothing.1;
+        survives = none_survives t (s.left old.source) words old.tape answer laws.right nothing.0 nothing.1 (λ other spells. has_values words other spells) stops;
+        makes = none_made t k (s.left old.source) words old.tape old.sink answer laws.right laws.before (laws.nothing old.sink)
+            ends.0 (λ other spells. has_values words other spells) stops;
+        scripts = none_scripted t k (s.left old.source) words old.tape old.sink answer laws.right laws.before (laws.nothing old.sink) ends.1 stops;
+        listed = none_listed t k (s.left old.source) words old.tape old.sink answer laws.right laws.before (laws.nothing old.sink) ends.0 ends.1;
+        restores = gives_back t s k words old old answer (λ sound. answers) (λ failing same. let fault = ap is_fault same ∙ is_a_fault failing in let no = nothing.0 in absurd (cc));
+        joins = record {
+          counts = record { tape = omega arith; source = omega arith; sink = omega arith };
+          tape = refl;
+          source = refl;
+          sink = refl;
+          stops = stops_go_on t old.tape old.tape [] (Stops-nothing t old.tape);
+        };
+        usage = usage;
+        memory = memory;
+        named = λ outcome. let no = nothing.2 in absurd (cc);
+        fault = λ line place same. let no = ap is_idle same in absurd (cc);
+        no_fault = λ done. let no = ap is_idle done in absurd (cc);
+        printed = λ done. let no = ap is_idle done in absurd (cc);
+        refused = λ command spells sound unlike. record { text = []; is_text = none_printed command answer; took = laws.nothing old.sink };
+        begun = begun;
+        silent = λ none done fault. refl;
+        source = λ none. refl;
+        kept = kept;
+      }
+
+  usage_step : Laws t s k old old → SpellsNone words → (held : Option Cartridge) (input : List ℕ) → t.told old.tape ≡ Some held → Stepped t s k words held input old old status.Usage
+  usage_step laws none held input told = record {
+    held' = held;
+    output = [];
+    taken = 0;
+    step = inl (none, refl, refl, refl, refl);
+    tape = told;
+    source = all_left (s.left old.source);
+    took = laws.nothing old.sink;
+    written = laws.told old.sink old.sink [] (laws.nothing old.sink);
+  }
+
+  -- words of no command
+  pub usage_promises : Laws t s k old old → s.keeps old.source old.source → SpellsNone words → Promises t s k words old old status.Usage
+  usage_promises laws kept none =
+      idle status.Usage laws refl kept
+      (over_any (t.told old.tape) (s.left old.source) _ (λ held input told. inr (usage_step laws none held input told)))
+      ((λ is. none), (λ again. refl)) (λ is. absurd (cc)) (λ command spells. absurd (none command spells))
+
+  -- want of memory
+  pub memory_promises : (command : Words) → Laws t s k old old → s.keeps old.source old.source → Spells words command → (traits_of command).memory ≡ true →
+      Promises t s k words old old status.NoMemory
+  memory_promises command laws kept spelled takes =
+      idle status.NoMemory laws refl kept
+      (over_any (t.told old.tape) (s.left old.source) _ (λ held input told. inl refl))
+      ((λ is. absurd (cc)), (λ none. absurd (none command spelled))) (λ is. (command, spelled, takes))
+      (λ other spells. record { text = []; is_front = nothing_front other; took = laws.nothing old.sink })

@@ -1,0 +1,674 @@
+-- What runs of several items leave of the plain cartridge that a cartridge stands for: generated runs, and scripts.
+use Rattle.std.proofs.Common.{◌≡◌, inl, inr, ℕ, ◌⊎◌, Some, subst, ◌+◌, List, [], ◌∷◌, ◌++◌, Option, IsSomeAnd, refl, ap, ◌∙◌, None, true, is_some, ◌≢◌, sym, append-nil, ◌<◌, length, arith, false, ◌≤◌, append_assoc, take, IfSome}
+use Rattle.std.proofs.lemmas.List.{length-append}
+use Rattle.cartridge_laws.proofs.FormatWriting.{effects-some, some_and}
+use Rattle.cartridge_laws.proofs.MountKeeping.{stopped_stands}
+use Rattle.cartridge_laws.proofs.MountStanding.{standing_mounts_only_so}
+use Rattle.cartridge_laws.proofs.MountWhole.{settling_effects}
+use Rattle.cartridge_spec.specs.Mounting.{Mounts, mounted_as, Mounting, settled, IsTableLive}
+use Rattle.cartridge_spec.specs.Settling.{changed_by, settling_steps}
+use Rattle.cartridge_spec.specs.Volumes.{Plain, entries_of, Stands}
+use Rattle.command_laws.proofs.CommandEnds.{after_steps, is_a_fault, Laws, over_at, told_whole}
+use Rattle.command_laws.proofs.CommandOpened.{quiet}
+use Rattle.command_laws.proofs.CommandTotals.{plain_answers}
+use Rattle.command_laws.proofs.CommandVolumes.{now_weaker, whole_of, done_now, each_weaker}
+use Rattle.command_laws.proofs.MadeAnswered.{made_are_answered}
+use Rattle.command_laws.proofs.MadeStops.{done_make_stands, stopped_make_stands}
+use Rattle.command_laws.proofs.MountedHeld.{mounted_open, settled_live, mounted_held}
+use Rattle.command_laws.proofs.MountedKeeping.{live_kept}
+use Rattle.command_laws.proofs.ScriptAnswered.{answered_behind, answered_between, done_script_stands, none_answered, stopped_script_stands}
+use Rattle.command_laws.proofs.ScriptMachineLaws.{one_outcome as one_script}
+use Rattle.command_laws.proofs.TextCommands.{one_command}
+use Rattle.command_laws.specs.MountedHeld.{IsHeld}
+use Rattle.command_laws.specs.MountedKept.{IsKept, IsOpen}
+use Rattle.command_spec.specs.Headline.{EachNow, StopLeaves, WordsLeave, EachLeft}
+use Rattle.command_spec.specs.Input.{Item}
+use Rattle.command_spec.specs.Listing.{IsHeard}
+use Rattle.command_spec.specs.Machine.{Yields, HasValues, Spells}
+use Rattle.command_spec.specs.MadeVolumes.{with_made}
+use Rattle.command_spec.specs.Make.{Makes, Making, MakeOutcome, make_status}
+use Rattle.command_spec.specs.Outcome.{Going, CommandOutcome, refused, Opened, OpenOutcome}
+use Rattle.command_spec.specs.Runs.{may_come_from, fault_of, is_fault, CommandEnds}
+use Rattle.command_spec.specs.Script.{ScriptDoes, Scripting, ScriptOutcome}
+use Rattle.command_spec.specs.ScriptLists.{StandsAnswered, plain_behind}
+use Rattle.command_spec.specs.Several.{Scripted, SomeMade, MakesVolumes, SomeScripted, CarriesOutLines}
+use Rattle.command_spec.specs.Volumes.{IsCarriedOut}
+use Rattle.command_spec.specs.declared.status.Status.{Status}
+use Rattle.command_spec.specs.declared.words.Words.{Words}
+use Rattle.qic_base.proofs.Joins.{text_of-append, steps_of-append}
+use Rattle.qic_base.proofs.Steps.{Torn-append, effects-append}
+use Rattle.qic_base.specs.Acts.{Act, steps_of, text_of, next_steps, Outside, Failing, TapeFails, SourceFails, SinkFails, Went, Cut}
+use Rattle.qic_base.specs.Cartridge.{Cartridge, IsCartridge}
+use Rattle.qic_base.specs.Step.{effects, Step as TapeStep}
+use Rattle.qic_base.specs.Stop.{Torn}
+use Rattle.command_spec.specs.declared.status.Status.TheVariants as status
+use Rattle.qic_base.specs.Tape as tapes
+use Rattle.qic_base.specs.Sink as sinks
+use Rattle.qic_base.specs.Source as sources
+use Rattle.command_spec.specs.Make as made
+use Rattle.command_spec.specs.Script as scripts
+use Rattle.command_spec.specs.declared.words.Words.TheVariants as commands
+
+-- ---- a cartridge that stands for a plain one, mounted
+
+-- what is mounted as the plain cartridge, or refused
+pub record WasMounted (goes : Going) (c : Cartridge) (plain : Plain) (outcome : CommandOutcome) : Type 0 where
+  pub mounts : Mounts c (mounted_as plain)
+  pub did : goes c plain.header plain.words plain.table_area (entries_of plain) outcome
+
+pub record WasTurned (outcome : CommandOutcome) : Type 0 where
+  pub why : Status
+  pub is : outcome ≡ refused why
+  pub unheard : IsHeard why → ⊥
+
+never_heard : (lost : ℕ) → IsHeard (status.Lost 2 lost) → ⊥
+never_heard lost (inl done) = cc
+never_heard lost (inr (line, place, is)) = cc
+
+mounted_or_turned : (goes : Going) (c : Cartridge) (plain : Plain) (outcome : CommandOutcome) → Stands c plain → OpenOutcome goes (Some c) outcome →
+    WasTurned outcome ⊎ WasMounted goes c plain outcome
+mounted_or_turned goes c plain outcome stood (m, mounts, opened) =
+    elim (standing_mounts_only_so c plain m stood mounts) [
+      | inl same ↦ inr (record { mounts = subst (Mounts c) same mounts; did = subst (λ (a : Mounting). Opened goes c a outcome) same opened })
+      | inr (n, same) ↦ inl (record { why = status.Lost 2 n; is = subst (λ (a : Mounting). Opened goes c a outcome) same opened; unheard = never_heard n })
+    ]
+
+-- what is left of some acts, the first of which settles the table
+module _ (c : Cartridge) (plain : Plain) (whole : IsCartridge c) (stood : Stands c plain) (mounts : Mounts c (mounted_as plain)) where
+  abbrev still : Cartridge
+  still = settled plain.table_area c
+
+  abbrev settling : Act
+  settling = quiet (settling_steps plain.table_area c)
+
+  settled_now : effects (settling_steps plain.table_area c) (Some c) ≡ Some still
+  settled_now = settling_effects c plain.table_area mounts.reads
+
+  -- a stop came in the settling, or behind it
+  stopped_first : (acts : List Act) (left : Option Cartridge) → Torn (steps_of (settling ∷ acts)) (Some c) left →
+      IsSomeAnd left (λ d. Stands d plain) ⊎ Torn (steps_of acts) (Some still) left
+  stopped_first acts left torn =
+      elim (Torn-append (settling_steps plain.table_area c) (steps_of acts) (Some c) left torn) [
+        | inl front ↦ inl (stopped_stands c plain plain.table_area left stood mounts.reads front)
+        | inr behind ↦ inr (subst (λ (held : Option Cartridge). Torn (steps_of acts) held left) settled_now behind)
+      ]
+
+  -- a front of the acts is none, or the settling and a front of those behind it
+  begun : (front rest acts : List Act) → front ++ rest ≡ settling ∷ acts → ((front ≡ []) × (rest ≡ settling ∷ acts)) ⊎ ((more : List Act) × (front ≡ settling ∷ more) × (more ++ rest ≡ acts))
+  begun [] rest acts parts = inl (refl, parts)
+  begun (x ∷ more) rest acts parts = let same : x ≡ settling = cc in let behind : more ++ rest ≡ acts = cc in inr (more, ap (λ (a : Act). a ∷ more) same, behind)
+
+  -- what stands behind the settling and a front
+  behind_front : (more : List Act) → effects (steps_of (settling ∷ more)) (Some c) ≡ Some (changed_by (steps_of more) still)
+  behind_front more =
+      effects-append (settling_steps plain.table_area c) (steps_of more) (Some c) ∙ ap (effects (steps_of more)) settled_now ∙ effects-some (steps_of more) still
+
+-- ---- what is told when a run is over
+
+pub told_now : {T : Type 0} (t : tapes.Meaning T) (a b : T) (P : Option Cartridge → Type 0) → tapes.IsLeftNow t b → t.tells_stops b ≡ t.tells_stops a →
+    IsSomeAnd (t.told b) P → EachNow t a b P
+told_now t a b P after telling holds = record {
+  told = holds;
+  now = λ left tells is. at (t.told b) left holds (after.only left (telling ∙ tells) is);
+}
+  where
+    at : (o : Option (Option Cartridge)) (left : Option Cartridge) → IsSomeAnd o P → o ≡ Some left → P left
+    at None left none is = absurd none
+    at (Some other) left holds is = let same : other ≡ left = cc in subst P same holds
+
+-- something is told of what a told cartridge became
+still_told : (o : Option (Option Cartridge)) (P : Option Cartridge → Type 0) → is_some o ≡ true → ((left : Option Cartridge) → o ≡ Some left → P left) → IsSomeAnd o P
+still_told None P some each = cc
+still_told (Some left) P some each = each left refl
+
+-- ---- what is left of acts, and printed
+
+-- a front of them was done and written, and a stop came among the steps of the next one
+pub record Between (c : Cartridge) (acts : List Act) (text : List ℕ) (left : Option Cartridge) : Type 0 where
+  pub front : List Act
+  pub rest : List Act
+  pub parts : front ++ rest ≡ acts
+  pub torn : Torn (next_steps rest) (effects (steps_of front) (Some c)) left
+  pub is_text : text ≡ text_of front
+
+-- all steps of the next one were done, and a part of its text written, and not the whole
+pub record Behind (c : Cartridge) (acts : List Act) (text : List ℕ) (left : Option Cartridge) : Type 0 where
+  pub front : List Act
+  pub act : Act
+  pub rest : List Act
+  pub parts : front ++ act ∷ rest ≡ acts
+  pub is : left ≡ effects (steps_of front ++ act.steps) (Some c)
+  pub some : List ℕ
+  pub more : List ℕ
+  pub written : some ++ more ≡ act.text
+  pub lacks : more ≢ []
+  pub is_text : text ≡ text_of front ++ some
+
+abbrev pub IsLeftBy : Cartridge → List Act → (text : List ℕ) → (left : Option Cartridge) → Type 0
+IsLeftBy c acts text left = Between c acts text left ⊎ Behind c acts text left
+
+-- of a text that is empty nothing is written
+pub no_text : (some more : List ℕ) → some ++ more ≡ [] → some ≡ []
+no_text [] more is = refl
+no_text (x ∷ xs) more is = cc
+
+pub no_more : (some more : List ℕ) → some ++ more ≡ [] → more ≡ []
+no_more [] more is = is
+no_more (x ∷ xs) more is = cc
+
+-- .. so none is left of it where an act and those before it print nothing
+pub none_left : (front : List Act) (act : Act) (some more : List ℕ) → some ++ more ≡ act.text → text_of (front ++ act ∷ []) ≡ [] → more ≡ []
+none_left front act some more written none =
+    let last : act.text ++ [] ≡ [] = no_more (text_of front) (act.text ++ []) (sym (text_of-append front (act ∷ [])) ∙ none) in
+    no_more some more (written ∙ sym (append-nil act.text) ∙ last)
+
+pub some_long : (text : List ℕ) → text ≢ [] → 0 < length text
+some_long [] some = absurd (some refl)
+some_long (x ∷ xs) some = omega arith
+
+none_torn : (steps : List TapeStep) (held : Option Cartridge) → Torn steps held held
+none_torn [] held = refl
+none_torn (x ∷ xs) held = inl refl
+
+module _ {T S K : Type 0} (t : tapes.Meaning T) (s : sources.Meaning S) (k : sinks.Meaning K) (old new : Outside T S K) (c : Cartridge) (told : t.told old.tape ≡ Some (Some c)) (after : tapes.IsLeftNow t new.tape) where
+  -- how acts ended
+  pub record WasLeft (acts : List Act) : Type 0 where
+    pub text : List ℕ
+    pub took : k.took old.sink text new.sink
+    pub each : EachNow t old.tape new.tape (IsLeftBy c acts text)
+
+  done_steps : (steps : List TapeStep) → tapes.Done t old.tape new.tape steps → t.told new.tape ≡ Some (effects steps (Some c))
+  done_steps steps did = after_steps t old.tape new.tape steps (Some c) did told
+
+  left_done : (acts : List Act) (text : List ℕ) (steps : List TapeStep) → tapes.Done t old.tape new.tape steps → IsLeftBy c acts text (effects steps (Some c)) → EachNow t old.tape new.tape (IsLeftBy c acts text)
+  left_done acts text steps did is =
+      told_now t old.tape new.tape (IsLeftBy c acts text) after did.stops.telling
+      (subst (λ (o : Option (Option Cartridge)). IsSomeAnd o (IsLeftBy c acts text)) (sym (done_steps steps did)) is)
+
+  pub went_left : (acts : List Act) → Went t s k old new acts → WasLeft acts
+  went_left acts went = record {
+    text = text_of acts;
+    took = went.wrote.took;
+    each = left_done acts (text_of acts) (steps_of acts) went.did (inl (record { front = acts; rest = []; parts = append-nil acts; torn = refl; is_text = refl }));
+  }
+
+  -- the sink broke a text off
+  pub record WasBroken (acts : List Act) : Type 0 where
+    pub text : List ℕ
+    pub took : k.took old.sink text new.sink
+    pub each : EachNow t old.tape new.tape (Behind c acts text)
+
+  pub broke_left : (acts : List Act) → Cut t s k old new acts SinkFails → WasBroken acts
+  broke_left acts cut =
+      let at = cut.at in
+      let broke = cut.broke in
+      let text : List ℕ = text_of at.front ++ broke.part in record {
+        text = text;
+        took = broke.took;
+        each = told_now t old.tape new.tape (Behind c acts text) after cut.did.stops.telling
+            (subst (λ (o : Option (Option Cartridge)). IsSomeAnd o (Behind c acts text)) (sym (done_steps (steps_of at.front ++ at.act.steps) cut.did)) (record {
+              front = at.front;
+              act = at.act;
+              rest = at.rest;
+              parts = at.parts;
+              is = refl;
+              some = broke.part;
+              more = broke.rest;
+              written = broke.parts;
+              lacks = broke.some;
+              is_text = refl;
+            }));
+      }
+
+  pub cut_left : (acts : List Act) (failing : Failing) → Cut t s k old new acts failing → WasLeft acts
+  cut_left acts TapeFails cut = record {
+    text = text_of cut.front;
+    took = cut.wrote.took;
+    each = told_now t old.tape new.tape (IsLeftBy c acts (text_of cut.front)) after cut.broke.stops.telling
+        (still_told (t.told new.tape) (IsLeftBy c acts (text_of cut.front)) (cut.broke.tells ∙ ap is_some told)
+        (λ left is. inl (record { front = cut.front; rest = cut.rest; parts = cut.parts; torn = cut.here (Some c) left told is; is_text = refl })));
+  }
+  cut_left acts SourceFails cut = record {
+    text = text_of cut.front;
+    took = cut.wrote.took;
+    each = left_done acts (text_of cut.front) (steps_of cut.front) cut.did (inl (record {
+      front = cut.front;
+      rest = cut.rest;
+      parts = cut.parts;
+      torn = none_torn (next_steps cut.rest) (effects (steps_of cut.front) (Some c));
+      is_text = refl;
+    }));
+  }
+  cut_left acts SinkFails cut =
+      let was : WasBroken acts = broke_left acts cut in
+      record { text = was.text; took = was.took; each = now_weaker t old.tape new.tape (λ left behind. inr behind) was.each }
+
+-- over what is told of a command: some input and its outcome, and how the acts of this ended
+pub record Ran {T S K : Type 0} (t : tapes.Meaning T) (s : sources.Meaning S) (k : sinks.Meaning K) (command : Words) (old new : Outside T S K) (answer : Status) (c : Cartridge) (told : t.told old.tape ≡ Some (Some c)) (after : tapes.IsLeftNow t new.tape) : Type 0 where
+  pub input : List ℕ
+  pub is_told : IfSome (s.left old.source) (λ bytes. input ≡ bytes)
+  pub outcome : CommandOutcome
+  pub plain : Yields command (Some c) input outcome
+  pub was : WasLeft t s k old new c told after outcome.acts
+  pub heard : IsHeard answer → (outcome.status ≡ answer) × tapes.Done t old.tape new.tape (steps_of outcome.acts)
+  pub broke : answer ≡ status.SinkFault → WasBroken t s k old new c told after outcome.acts
+
+pub never_sink : (answer : Status) (command : Words) → may_come_from answer command ≡ true → answer ≢ status.SinkFault
+never_sink answer command sound is = let no : may_come_from status.SinkFault command ≡ true = subst (λ (a : Status). may_come_from a command ≡ true) is sound in absurd (cc)
+
+-- no fault of the outside comes where the input was carried out
+pub heard_fault : (failing : Failing) (answer : Status) → answer ≡ fault_of failing → IsHeard answer → ⊥
+heard_fault failing answer is (inl done) = let fault : is_fault answer ≡ true = ap is_fault is ∙ is_a_fault failing in let no : is_fault answer ≡ false = ap is_fault done in cc
+heard_fault failing answer is (inr (line, place, named)) =
+    let fault : is_fault answer ≡ true = ap is_fault is ∙ is_a_fault failing in let no : is_fault answer ≡ false = ap is_fault named in cc
+
+sink_alone : (failing : Failing) (answer : Status) → answer ≡ fault_of failing → answer ≡ status.SinkFault → failing ≡ SinkFails
+sink_alone TapeFails answer is sink = let other : fault_of TapeFails ≡ status.SinkFault = sym is ∙ sink in absurd (cc)
+sink_alone SourceFails answer is sink = let other : fault_of SourceFails ≡ status.SinkFault = sym is ∙ sink in absurd (cc)
+sink_alone SinkFails answer is sink = refl
+
+pub ends_ran : {T S K : Type 0} (t : tapes.Meaning T) (s : sources.Meaning S) (k : sinks.Meaning K) (command : Words) (old new : Outside T S K) (answer : Status) → Laws t s k old new → HasValues command →
+    CommandEnds t s k command old new answer → (c : Cartridge) (told : t.told old.tape ≡ Some (Some c)) (after : tapes.IsLeftNow t new.tape) → Ran t s k command old new answer c told after
+ends_ran t s k command old new answer laws values (inl finished) c told after =
+    let over = over_at (t.told old.tape) _ (Some c) finished.told told in record {
+      input = over.0;
+      is_told = over.1;
+      outcome = finished.outcome;
+      plain = over.2.1;
+      was = went_left t s k old new c told after finished.outcome.acts finished.went;
+      heard = λ which. (sym finished.answered, finished.went.did);
+      broke = λ is. absurd (never_sink answer command finished.sound is);
+    }
+ends_ran t s k command old new answer laws values (inr (failing, is, stopped)) c told after =
+    let over = over_at (t.told old.tape) _ (Some c) stopped.told told in
+    let some = plain_answers command (Some c) over.0 values (told_whole (Some c) (t.told old.tape) (t.size old.tape) laws.right told) in
+    let off = over.2.1 some.0 some.1 in record {
+      input = over.0;
+      is_told = over.1;
+      outcome = some.0;
+      plain = some.1;
+      was = cut_left t s k old new c told after some.0.acts failing off.cut;
+      heard = λ which. absurd (heard_fault failing answer is which);
+      broke = λ sink. broke_left t s k old new c told after some.0.acts
+          (subst (Cut t s k old new some.0.acts) (sink_alone failing answer is sink) off.cut);
+    }
+
+-- ---- a generated run
+
+module _ (seed count : ℕ) (few : count ≤ 200) (c : Cartridge) (plain : Plain) (whole : IsCartridge c) (stood : Stands c plain) where
+  -- its steps were carried out on a settled cartridge that may be written
+  pub record MakeRan (outcome : CommandOutcome) : Type 0 where
+    pub mounts : Mounts c (mounted_as plain)
+    pub held : IsOpen (settled plain.table_area c) plain
+    pub acts : List Act
+    pub answer : made.Answer
+    pub makes : Makes seed count (settled plain.table_area c) plain.words (entries_of plain) acts answer
+    pub is : outcome ≡ record { acts = quiet (settling_steps plain.table_area c) ∷ acts; taken = 0; status = make_status answer }
+
+  never_protected : IsHeard status.Protected → ⊥
+  never_protected (inl done) = cc
+  never_protected (inr (line, place, is)) = cc
+
+  make_course : (outcome : CommandOutcome) → MakeOutcome seed count (Some c) outcome → WasTurned outcome ⊎ MakeRan outcome
+  make_course outcome (inl (locked, is)) = inl (record { why = status.Protected; is = is; unheard = never_protected })
+  make_course outcome (inr (free, opened)) =
+      elim (mounted_or_turned (Making seed count) c plain outcome stood opened) [
+        | inl turned ↦ inl turned
+        | inr was ↦
+            let did = was.did in inr (record {
+              mounts = was.mounts;
+              held = mounted_open c plain whole stood was.mounts free;
+              acts = did.acts;
+              answer = did.answer;
+              makes = did.makes;
+              is = did.is;
+            })
+      ]
+
+  -- .. and where each sector of the table's segment takes a write, it still did
+  kept_now : (outcome : CommandOutcome) → IsTableLive c → MakeRan outcome → IsKept (settled plain.table_area c) plain
+  kept_now outcome live run =
+      live_kept (settled plain.table_area c) plain run.held (settled_live c plain.table_area run.mounts.reads live)
+
+  abbrev HasMade : (n : ℕ) → Option Cartridge → Type 0
+  HasMade n left = IsSomeAnd left (λ d. Stands d (with_made seed plain 1 n))
+
+  -- a stop leaves some of the volumes
+  make_stopped : (outcome : CommandOutcome) (left : Option Cartridge) → IsTableLive c → MakeOutcome seed count (Some c) outcome → Torn (steps_of outcome.acts) (Some c) left →
+      (n : ℕ) × (n ≤ count) × HasMade n left
+  make_stopped outcome left live does torn =
+      elim (make_course outcome does) [
+        | inl turned ↦
+            (0, omega arith, some_and (λ d. Stands d plain) c left stood (subst (λ (o : CommandOutcome). Torn (steps_of o.acts) (Some c) left) turned.is torn))
+        | inr run ↦ elim (stopped_first c plain whole stood run.mounts run.acts left (subst (λ (o : CommandOutcome). Torn (steps_of o.acts) (Some c) left) run.is torn)) [
+          | inl stands ↦ (0, omega arith, stands)
+          | inr behind ↦
+              let some = stopped_make_stands seed count (settled plain.table_area c) plain run.acts run.answer left few (kept_now outcome live run) run.makes behind in
+              (some.appended, some.within, some.stands)
+        ]
+      ]
+
+  -- a front of the acts printed something
+  printed_run : (run_acts : List Act) (answer : made.Answer) (text : List ℕ) (left : Option Cartridge) → Mounts c (mounted_as plain) → IsKept (settled plain.table_area c) plain →
+      Makes seed count (settled plain.table_area c) plain.words (entries_of plain) run_acts answer → text ≢ [] → Between c (quiet (settling_steps plain.table_area c) ∷ run_acts) text left → HasMade count left
+  printed_run run_acts answer text left mounts kept makes some at =
+      elim (begun c plain whole stood mounts at.front at.rest run_acts at.parts) [
+        | inl (none, all) ↦ absurd (some (at.is_text ∙ ap text_of none))
+        | inr (more, is, parts) ↦
+            made_are_answered seed count (settled plain.table_area c) plain run_acts more at.rest answer left few kept makes parts
+            (λ none. some (at.is_text ∙ ap text_of is ∙ none))
+            (subst (λ (held : Option Cartridge). Torn (next_steps at.rest) held left)
+            (ap (λ (acts : List Act). effects (steps_of acts) (Some c)) is ∙ behind_front c plain whole stood mounts more) at.torn)
+      ]
+
+  -- the text of an act broke off
+  broken_run : (run_acts : List Act) (answer : made.Answer) (text : List ℕ) (left : Option Cartridge) → Mounts c (mounted_as plain) → IsKept (settled plain.table_area c) plain →
+      Makes seed count (settled plain.table_area c) plain.words (entries_of plain) run_acts answer → Behind c (quiet (settling_steps plain.table_area c) ∷ run_acts) text left → HasMade count left
+  broken_run run_acts answer text left mounts kept makes at =
+      elim (begun c plain whole stood mounts at.front (at.act ∷ at.rest) run_acts at.parts) [
+        | inl (none, all) ↦
+            let first : at.act ≡ quiet (settling_steps plain.table_area c) = cc in
+            absurd (at.lacks (no_more at.some at.more (at.written ∙ ap (λ (a : Act). a.text) first)))
+        | inr (more, is, parts) ↦
+            let next : List Act = more ++ at.act ∷ [] in
+            let whole_front : steps_of (quiet (settling_steps plain.table_area c) ∷ next) ≡ steps_of at.front ++ at.act.steps =
+            ap (λ (ss : List TapeStep). settling_steps plain.table_area c ++ ss) (steps_of-append more (at.act ∷ []) ∙ ap (λ (ss : List TapeStep). steps_of more ++ ss) (append-nil at.act.steps))
+            ∙ sym (append_assoc (settling_steps plain.table_area c) (steps_of more) at.act.steps) ∙ ap (λ (acts : List Act). steps_of acts ++ at.act.steps) (sym is) in
+            made_are_answered seed count (settled plain.table_area c) plain run_acts next at.rest answer left few kept makes
+            (append_assoc more (at.act ∷ []) at.rest ∙ parts)
+            (λ none. at.lacks (none_left more at.act at.some at.more at.written none))
+            (subst (λ (held : Option Cartridge). Torn (next_steps at.rest) held left)
+            (at.is ∙ ap (λ (ss : List TapeStep). effects ss (Some c)) (sym whole_front) ∙ behind_front c plain whole stood mounts next) (none_torn (next_steps at.rest) left))
+      ]
+
+  -- of no acts none broke off
+  none_behind : (text : List ℕ) (left : Option Cartridge) → Behind c [] text left → HasMade count left
+  none_behind text left at = by_front at.front at.act at.rest at.parts
+    where
+      by_front : (front : List Act) (act : Act) (rest : List Act) → front ++ act ∷ rest ≡ [] → HasMade count left
+      by_front [] act rest none = cc
+      by_front (x ∷ xs) act rest none = cc
+
+  -- once the sink failed all of them are there, ..
+  make_broken : (outcome : CommandOutcome) (text : List ℕ) (left : Option Cartridge) → IsTableLive c → MakeOutcome seed count (Some c) outcome → Behind c outcome.acts text left → HasMade count left
+  make_broken outcome text left live does so =
+      elim (make_course outcome does) [
+        | inl turned ↦ none_behind text left (subst (λ (o : CommandOutcome). Behind c o.acts text left) turned.is so)
+        | inr run ↦ broken_run run.acts run.answer text left run.mounts (kept_now outcome live run) run.makes (subst (λ (o : CommandOutcome). Behind c o.acts text left) run.is so)
+      ]
+
+  -- .. and once it has printed anything
+  make_printed : (outcome : CommandOutcome) (text : List ℕ) (left : Option Cartridge) → IsTableLive c → MakeOutcome seed count (Some c) outcome → text ≢ [] →
+      IsLeftBy c outcome.acts text left → HasMade count left
+  make_printed outcome text left live does some (inr so) = make_broken outcome text left live does so
+  make_printed outcome text left live does some (inl so) =
+      elim (make_course outcome does) [
+        | inl turned ↦ absurd (some (nothing_left text left (subst (λ (o : CommandOutcome). Between c o.acts text left) turned.is so)))
+        | inr run ↦ printed_run run.acts run.answer text left run.mounts (kept_now outcome live run) run.makes some (subst (λ (o : CommandOutcome). Between c o.acts text left) run.is so)
+      ]
+    where
+      nothing_left : (text : List ℕ) (left : Option Cartridge) → Between c [] text left → text ≡ []
+      nothing_left text left at = by_front at.front at.rest at.parts at.is_text
+        where
+          by_front : (front rest : List Act) → front ++ rest ≡ [] → text ≡ text_of front → text ≡ []
+          by_front [] rest none is = is
+          by_front (x ∷ xs) rest none is = cc
+
+  -- and once it was carried out, also where sectors of the table's segment take no write
+  make_done : (outcome : CommandOutcome) → MakeOutcome seed count (Some c) outcome → outcome.status ≡ status.Done → HasMade count (effects (steps_of outcome.acts) (Some c))
+  make_done outcome does is_done =
+      elim (make_course outcome does) [
+        | inl turned ↦ absurd (turned.unheard (inl (sym (ap (λ (o : CommandOutcome). o.status) turned.is) ∙ is_done)))
+        | inr run ↦
+            let answered : run.answer ≡ made.Done = all_done run.answer (sym (ap (λ (o : CommandOutcome). o.status) run.is) ∙ is_done) in
+            some_and (λ d. Stands d (with_made seed plain 1 count)) (changed_by (steps_of run.acts) (settled plain.table_area c)) (effects (steps_of outcome.acts) (Some c))
+            (done_make_stands seed count (settled plain.table_area c) plain run.acts few run.held
+            (subst (λ (a : made.Answer). Makes seed count (settled plain.table_area c) plain.words (entries_of plain) run.acts a) answered run.makes))
+            (ap (λ (o : CommandOutcome). effects (steps_of o.acts) (Some c)) run.is ∙ behind_front c plain whole stood run.mounts run.acts)
+      ]
+    where
+      all_done : (answer : made.Answer) → make_status answer ≡ status.Done → answer ≡ made.Done
+      all_done made.Done is = refl
+      all_done made.Protected is = cc
+      all_done made.TableMismatch is = cc
+      all_done (made.Full need have) is = cc
+      all_done (made.Lost segment lost) is = cc
+      all_done (made.Mismatch segment) is = cc
+
+-- what is left by words of a generated run
+some_made : (told : Option (List ℕ)) (words : List (List ℕ)) (held left : Option Cartridge) → ((command : Words) → Spells words command → HasValues command) → IfSome held IsCartridge →
+    WordsLeave told words held left → SomeMade words held left
+some_made told words held left values whole (inl same) seed count c plain is run live =
+    (0, omega arith, some_and (λ d. Stands d plain) c left run.stands (same ∙ is))
+some_made told words held left values whole (inr (command, spelled, leaves)) seed count c plain is run live =
+    let other : Words = commands.Make seed count in
+    let same : command ≡ other = one_command words command other spelled run.spelled in
+    let l : StopLeaves told other (Some c) left =
+    subst (λ (w : Words). StopLeaves told w (Some c) left) same (subst (λ (h : Option Cartridge). StopLeaves told command h left) is leaves) in
+    make_stopped seed count (values other run.spelled) c plain (whole_of held c whole is) run.stands l.outcome left live l.plain l.torn
+
+pub makes_volumes : {T S K : Type 0} (t : tapes.Meaning T) (s : sources.Meaning S) (k : sinks.Meaning K) (words : List (List ℕ)) (command : Words) (old new : Outside T S K) (answer : Status) →
+    Laws t s k old new → Spells words command → ((other : Words) → Spells words other → HasValues other) → CommandEnds t s k command old new answer →
+    EachLeft t old.tape new.tape (WordsLeave (s.left old.source) words) → MakesVolumes t k words old.tape new.tape old.sink new.sink answer
+makes_volumes t s k words command old new answer laws spelled values ends leaves = record {
+  stopped = each_weaker t old.tape new.tape laws.right (λ held left whole is. some_made (s.left old.source) words held left values whole is) leaves;
+  over = λ seed count c plain told run.
+      let other : Words = commands.Make seed count in
+      let same : command ≡ other = one_command words command other spelled run.spelled in
+      let few : count ≤ 200 = values other run.spelled in
+      let whole : IsCartridge c = told_whole (Some c) (t.told old.tape) (t.size old.tape) laws.right told in
+      let ran = ends_ran t s k other old new answer laws few (subst (λ (w : Words). CommandEnds t s k w old new answer) same ends) c told laws.after in
+      let was = ran.was in record {
+        text = was.text;
+        took = was.took;
+        done = λ done.
+            let all = ran.heard (inl done) in
+            now_weaker t old.tape new.tape
+            (λ left is. subst (λ (o : Option Cartridge). IsSomeAnd o (λ d. Stands d (with_made seed plain 1 count))) (sym is)
+            (make_done seed count few c plain whole run.stands ran.outcome ran.plain (all.0 ∙ done)))
+            (done_now t old.tape new.tape (steps_of ran.outcome.acts) (Some c) laws.after all.1 told);
+        all = λ live which. elim which [
+          | inl some ↦ now_weaker t old.tape new.tape
+              (λ left is. make_printed seed count few c plain whole run.stands ran.outcome was.text left live ran.plain some is) was.each
+          | inr sink ↦
+              let broken = ran.broke sink in
+              now_weaker t old.tape new.tape
+              (λ left is. make_broken seed count few c plain whole run.stands ran.outcome broken.text left live ran.plain is) broken.each
+        ];
+      };
+}
+
+-- ---- a script
+
+same_input : (told : Option (List ℕ)) (input other : List ℕ) → told ≡ Some input → IfSome told (λ bytes. other ≡ bytes) → other ≡ input
+same_input told input other is known = subst (λ (o : Option (List ℕ)). IfSome o (λ bytes. other ≡ bytes)) is known
+
+module _ (told : Option (List ℕ)) (words : List (List ℕ)) (c : Cartridge) (plain : Plain) (whole : IsCartridge c) (script : Scripted told words c plain) where
+  abbrev items : List Item
+  items = script.does.items
+
+  abbrev dids : List scripts.Did
+  dids = script.does.dids
+
+  -- its lines were carried out on the settled cartridge
+  pub record ScriptRan (outcome : CommandOutcome) : Type 0 where
+    pub mounts : Mounts c (mounted_as plain)
+    pub held : IsHeld (settled plain.table_area c) plain
+    pub acts : outcome.acts ≡ quiet (settling_steps plain.table_area c) ∷ script.outcome.acts
+
+  script_course : (input : List ℕ) (outcome : CommandOutcome) → input ≡ script.input → ScriptOutcome (Some c) input outcome → WasTurned outcome ⊎ ScriptRan outcome
+  script_course input outcome same opened =
+      elim (mounted_or_turned (Scripting input) c plain outcome script.stands opened) [
+        | inl turned ↦ inl turned
+        | inr was ↦
+            let did = was.did in
+            let one : did.came ≡ script.outcome =
+            one_script (settled plain.table_area c) plain.words (entries_of plain) script.input did.came script.outcome
+            (subst (λ (i : List ℕ). ScriptDoes (settled plain.table_area c) plain.words (entries_of plain) i did.came) same did.does) script.does in
+            inr (record {
+              mounts = was.mounts;
+              held = mounted_held c plain whole script.stands was.mounts;
+              acts = ap (λ (o : CommandOutcome). o.acts) did.is ∙ ap (λ (o : scripts.ScriptRun). quiet (settling_steps plain.table_area c) ∷ o.acts) one;
+            })
+      ]
+
+  abbrev BehindSome : Option Cartridge → Type 0
+  BehindSome left = (n : ℕ) × (n ≤ length items) × IsSomeAnd left (λ d. Stands d (plain_behind plain (take n items) (take n dids)))
+
+  -- a stop leaves the plain cartridge behind some of the lines
+  script_stopped : (input : List ℕ) (outcome : CommandOutcome) (left : Option Cartridge) → IsTableLive c → input ≡ script.input → ScriptOutcome (Some c) input outcome →
+      Torn (steps_of outcome.acts) (Some c) left → BehindSome left
+  script_stopped input outcome left live same does torn =
+      elim (script_course input outcome same does) [
+        | inl turned ↦
+            (0, omega arith, some_and (λ d. Stands d plain) c left script.stands (subst (λ (o : CommandOutcome). Torn (steps_of o.acts) (Some c) left) turned.is torn))
+        | inr run ↦
+            elim (stopped_first c plain whole script.stands run.mounts script.outcome.acts left (subst (λ (acts : List Act). Torn (steps_of acts) (Some c) left) run.acts torn)) [
+              | inl stands ↦ (0, omega arith, stands)
+              | inr behind ↦ stopped_script_stands (settled plain.table_area c) plain script.input script.outcome left run.held (settled_live c plain.table_area run.mounts.reads live)
+                  script.does script.bytes script.spares behind
+            ]
+      ]
+
+  -- once its input was carried out the plain cartridge behind all of the lines stands, also where sectors of the table's segment take
+  -- no write
+  script_heard : (input : List ℕ) (outcome : CommandOutcome) → input ≡ script.input → ScriptOutcome (Some c) input outcome → IsHeard outcome.status →
+      IsSomeAnd (effects (steps_of outcome.acts) (Some c)) (λ d. Stands d (plain_behind plain items dids))
+  script_heard input outcome same does heard =
+      elim (script_course input outcome same does) [
+        | inl turned ↦ absurd (turned.unheard (subst (λ (o : CommandOutcome). IsHeard o.status) turned.is heard))
+        | inr run ↦
+            some_and (λ d. Stands d (plain_behind plain items dids)) (changed_by (steps_of script.outcome.acts) (settled plain.table_area c)) (effects (steps_of outcome.acts) (Some c))
+            (done_script_stands (settled plain.table_area c) plain script.input script.outcome run.held script.does script.bytes script.spares)
+            (ap (λ (acts : List Act). effects (steps_of acts) (Some c)) run.acts ∙ behind_front c plain whole script.stands run.mounts script.outcome.acts)
+      ]
+
+  abbrev Answered : (text : List ℕ) → Option Cartridge → Type 0
+  Answered text left = StandsAnswered plain items dids (length text) left
+
+  -- nothing was printed yet
+  nothing_answered : (text : List ℕ) (left : Option Cartridge) → text ≡ [] → IsSomeAnd left (λ d. Stands d plain) → Answered text left
+  nothing_answered text left none stands =
+      subst (λ (xs : List ℕ). Answered xs left) (sym none)
+      (none_answered (settled plain.table_area c) plain script.input script.outcome left script.does script.bytes stands)
+
+  script_answered : (input : List ℕ) (outcome : CommandOutcome) (text : List ℕ) (left : Option Cartridge) → IsTableLive c → input ≡ script.input →
+      ScriptOutcome (Some c) input outcome → IsLeftBy c outcome.acts text left → Answered text left
+  script_answered input outcome text left live same does so =
+      elim (script_course input outcome same does) [
+        | inl turned ↦ turned_down text left (subst (λ (o : CommandOutcome). IsLeftBy c o.acts text left) turned.is so)
+        | inr run ↦ ran run (subst (λ (acts : List Act). IsLeftBy c acts text left) run.acts so)
+      ]
+    where
+      turned_down : (text : List ℕ) (left : Option Cartridge) → IsLeftBy c [] text left → Answered text left
+      turned_down text left (inl at) = by_front at.front at.rest at.parts at.is_text at.torn
+        where
+          by_front : (front rest : List Act) → front ++ rest ≡ [] → text ≡ text_of front → Torn (next_steps rest) (effects (steps_of front) (Some c)) left → Answered text left
+          by_front [] [] none is torn = nothing_answered text left is (some_and (λ d. Stands d plain) c left script.stands torn)
+          by_front [] (x ∷ xs) none is torn = cc
+          by_front (x ∷ xs) rest none is torn = cc
+      turned_down text left (inr at) = by_front at.front at.act at.rest at.parts
+        where
+          by_front : (front : List Act) (act : Act) (rest : List Act) → front ++ act ∷ rest ≡ [] → Answered text left
+          by_front [] act rest none = cc
+          by_front (x ∷ xs) act rest none = cc
+
+      ran : ScriptRan outcome → IsLeftBy c (quiet (settling_steps plain.table_area c) ∷ script.outcome.acts) text left → Answered text left
+      ran run (inl at) =
+          elim (begun c plain whole script.stands run.mounts at.front at.rest script.outcome.acts at.parts) [
+            | inl (none, all) ↦
+                nothing_answered text left (at.is_text ∙ ap text_of none)
+                (stopped_stands c plain plain.table_area left script.stands run.mounts.reads
+                (subst (λ (rest : List Act). Torn (next_steps rest) (Some c) left) all (subst (λ (front : List Act). Torn (next_steps at.rest) (effects (steps_of front) (Some c)) left) none at.torn)))
+            | inr (more, is, parts) ↦
+                subst (λ (xs : List ℕ). Answered xs left) (sym (at.is_text ∙ ap text_of is))
+                (answered_between (settled plain.table_area c) plain script.input script.outcome more at.rest left run.held
+                (settled_live c plain.table_area run.mounts.reads live) script.does script.bytes script.spares parts
+                (subst (λ (held : Option Cartridge). Torn (next_steps at.rest) held left)
+                (ap (λ (acts : List Act). effects (steps_of acts) (Some c)) is ∙ behind_front c plain whole script.stands run.mounts more) at.torn))
+          ]
+      ran run (inr at) =
+          elim (begun c plain whole script.stands run.mounts at.front (at.act ∷ at.rest) script.outcome.acts at.parts) [
+            | inl (none, all) ↦
+                let first : at.act ≡ quiet (settling_steps plain.table_area c) = cc in
+                let unsaid : at.some ≡ [] = no_text at.some at.more (at.written ∙ ap (λ (a : Act). a.text) first) in
+                nothing_answered text left (at.is_text ∙ ap (λ (acts : List Act). text_of acts ++ at.some) none ∙ unsaid)
+                (some_and (λ d. Stands d plain) (settled plain.table_area c) left run.held.stands
+                (at.is ∙ ap (λ (acts : List Act). effects (steps_of acts ++ at.act.steps) (Some c)) none ∙ ap (λ (a : Act). effects a.steps (Some c)) first ∙ settling_effects c plain.table_area run.mounts.reads))
+            | inr (more, is, parts) ↦
+                let texts : length text ≡ length (text_of more) + length at.some = ap length (at.is_text ∙ ap (λ (acts : List Act). text_of acts ++ at.some) is) ∙ length-append (text_of more) at.some in
+                let act_text : length at.act.text ≡ length at.some + length at.more = ap length (sym at.written) ∙ length-append at.some at.more in
+                answered_behind (settled plain.table_area c) plain script.input script.outcome more at.act at.rest left (length text) run.held
+                (settled_live c plain.table_area run.mounts.reads live) script.does script.bytes script.spares parts
+                (at.is ∙ ap (λ (acts : List Act). effects (steps_of acts ++ at.act.steps) (Some c)) is
+                ∙ ap (λ (ss : List TapeStep). effects ss (Some c)) (append_assoc (settling_steps plain.table_area c) (steps_of more) at.act.steps)
+                ∙ effects-append (settling_steps plain.table_area c) (steps_of more ++ at.act.steps) (Some c)
+                ∙ ap (effects (steps_of more ++ at.act.steps)) (settling_effects c plain.table_area run.mounts.reads)
+                ∙ effects-some (steps_of more ++ at.act.steps) (settled plain.table_area c))
+                (omega arith) (omega arith)
+          ]
+
+-- what is left by words of a script
+some_scripted : (told : Option (List ℕ)) (words : List (List ℕ)) (held left : Option Cartridge) → IfSome held IsCartridge → WordsLeave told words held left → SomeScripted told words held left
+some_scripted told words held left whole (inl same) c plain is script live =
+    (0, omega arith, some_and (λ d. Stands d plain) c left script.stands (same ∙ is))
+some_scripted told words held left whole (inr (command, spelled, leaves)) c plain is script live =
+    let same : command ≡ commands.Script = one_command words command commands.Script spelled script.spelled in
+    let l : StopLeaves told commands.Script (Some c) left =
+    subst (λ (w : Words). StopLeaves told w (Some c) left) same (subst (λ (h : Option Cartridge). StopLeaves told command h left) is leaves) in
+    script_stopped told words c plain (whole_of held c whole is) script l.input l.outcome left live (same_input told script.input l.input script.is_told l.is_told) l.plain l.torn
+
+pub carries_out_lines : {T S K : Type 0} (t : tapes.Meaning T) (s : sources.Meaning S) (k : sinks.Meaning K) (words : List (List ℕ)) (command : Words) (old new : Outside T S K) (answer : Status) →
+    Laws t s k old new → Spells words command → CommandEnds t s k command old new answer →
+    EachLeft t old.tape new.tape (WordsLeave (s.left old.source) words) → CarriesOutLines t k (s.left old.source) words old.tape new.tape old.sink new.sink answer
+carries_out_lines t s k words command old new answer laws spelled ends leaves = record {
+  stopped = each_weaker t old.tape new.tape laws.right (λ held left whole is. some_scripted (s.left old.source) words held left whole is) leaves;
+  over = λ c plain told script.
+      let same : command ≡ commands.Script = one_command words command commands.Script spelled script.spelled in
+      let whole : IsCartridge c = told_whole (Some c) (t.told old.tape) (t.size old.tape) laws.right told in
+      let ran = ends_ran t s k commands.Script old new answer laws tt (subst (λ (w : Words). CommandEnds t s k w old new answer) same ends) c told laws.after in
+      let was = ran.was in record {
+        text = was.text;
+        took = was.took;
+        answered = λ live. now_weaker t old.tape new.tape
+            (λ left is. script_answered (s.left old.source) words c plain whole script ran.input ran.outcome was.text left live
+            (same_input (s.left old.source) script.input ran.input script.is_told ran.is_told) ran.plain is) was.each;
+        all = λ heard.
+            let all = ran.heard heard in
+            now_weaker t old.tape new.tape
+            (λ left is. subst (λ (o : Option Cartridge). IsSomeAnd o (λ d. Stands d (plain_behind plain script.does.items script.does.dids))) (sym is)
+            (script_heard (s.left old.source) words c plain whole script ran.input ran.outcome
+            (same_input (s.left old.source) script.input ran.input script.is_told ran.is_told) ran.plain (subst IsHeard (sym all.0) heard)))
+            (done_now t old.tape new.tape (steps_of ran.outcome.acts) (Some c) laws.after all.1 told);
+      };
+}
+
+-- ---- a run that touched nothing
+
+untouched_now : {T : Type 0} (t : tapes.Meaning T) (a : T) (c : Cartridge) (P : Option Cartridge → Type 0) → tapes.IsLeftNow t a → t.told a ≡ Some (Some c) → P (Some c) → EachNow t a a P
+untouched_now t a c P after told holds = told_now t a a P after refl (subst (λ (o : Option (Option Cartridge)). IsSomeAnd o P) (sym told) holds)
+
+pub none_made : {T K : Type 0} (t : tapes.Meaning T) (k : sinks.Meaning K) (told : Option (List ℕ)) (words : List (List ℕ)) (a : T) (x : K) (answer : Status) → tapes.IsToldRight (t.told a) (t.size a) → tapes.IsLeftNow t a →
+    k.took x [] x → (IsCarriedOut answer → ⊥) → ((other : Words) → Spells words other → HasValues other) → EachLeft t a a (WordsLeave told words) → MakesVolumes t k words a a x x answer
+none_made t k told words a x answer right after nothing never values leaves = record {
+  stopped = each_weaker t a a right (λ held left whole is. some_made told words held left values whole is) leaves;
+  over = λ seed count c plain is run. record {
+    text = [];
+    took = nothing;
+    done = λ done. absurd (never (inl done));
+    all = λ live which. elim which [ inl some ↦ absurd (some refl) | inr sink ↦ absurd (never (inr sink)) ];
+  };
+}
+
+pub none_scripted : {T K : Type 0} (t : tapes.Meaning T) (k : sinks.Meaning K) (told : Option (List ℕ)) (words : List (List ℕ)) (a : T) (x : K) (answer : Status) → tapes.IsToldRight (t.told a) (t.size a) → tapes.IsLeftNow t a →
+    k.took x [] x → (IsHeard answer → ⊥) → EachLeft t a a (WordsLeave told words) → CarriesOutLines t k told words a a x x answer
+none_scripted t k told words a x answer right after nothing unheard leaves = record {
+  stopped = each_weaker t a a right (λ held left whole is. some_scripted told words held left whole is) leaves;
+  over = λ c plain is script. record {
+    text = [];
+    took = nothing;
+    answered = λ live. untouched_now t a c (StandsAnswered plain script.does.items script.does.dids 0) after is
+        (none_answered (settled plain.table_area c) plain script.input script.outcome (Some c) script.does script.bytes script.stands);
+    all = λ heard. absurd (unheard heard);
+  };
+}

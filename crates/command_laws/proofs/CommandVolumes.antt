@@ -1,0 +1,508 @@
+-- What a run leaves of what a cartridge stands for, by what a stop in its command leaves.
+use Rattle.std.proofs.Common.{◌≡◌, List, Option, Some, IsSomeAnd, sym, ◌∙◌, subst, refl, ℕ, IfSome, ap, inl, inr, false, Bool, true, [], ◌∷◌, ◌⊎◌, ◌<◌, All, IfNone, None, append-nil, arith}
+use Rattle.cartridge_laws.proofs.ChangeMounted.{worn_mounts, spoiled_mounts, protected_mounts, referenced_mounts}
+use Rattle.cartridge_laws.proofs.ChangeStanding.{protected_stands, referenced_stands, worn_stands, spoiled_stands}
+use Rattle.cartridge_laws.proofs.FormatClearing.{clearing_clears, cleared_copies_are_zero}
+use Rattle.cartridge_laws.proofs.FormatCopies.{unformatted_from_bare}
+use Rattle.cartridge_laws.proofs.FormatDone.{formatting_formats, formatted_stands}
+use Rattle.cartridge_laws.proofs.FormatStops.{stopped_clearing, stopped_format, stopped_clearing_new, stopped_format_new}
+use Rattle.cartridge_laws.proofs.FormatWriting.{some_and, some_weaker, effects-some}
+use Rattle.cartridge_laws.proofs.MountKeeping.{stopped_stands, stopped_mounts}
+use Rattle.cartridge_laws.proofs.MountOnce.{mounts_is_function}
+use Rattle.cartridge_laws.proofs.MountSettled.{settled_stands, settled_mounts}
+use Rattle.cartridge_laws.proofs.MountStanding.{standing_mounts_only_so}
+use Rattle.cartridge_spec.specs.Appending.{new_plain}
+use Rattle.cartridge_spec.specs.Formatting.{HasNoDefectInFront, IsFreshFor, IsFreshWith, StandsCleanly, HasNoHeader, format_steps, clearing_steps}
+use Rattle.cartridge_spec.specs.Header.{Header}
+use Rattle.cartridge_spec.specs.HeaderAndTable.{IsUnformatted}
+use Rattle.cartridge_spec.specs.Mounting.{Mounting, TableLost, Mounts, mounted_as, Mounted, settled}
+use Rattle.cartridge_spec.specs.Settling.{changed_by}
+use Rattle.cartridge_spec.specs.Table.{Entry}
+use Rattle.cartridge_spec.specs.Volumes.{Plain, Stands, entries_of}
+use Rattle.command_laws.proofs.CommandAppends.{append_stopped, append_refused, append_unanswered, append_done}
+use Rattle.command_laws.proofs.CommandEnds.{after_steps, told_weaker, over_at, told_whole, Laws, ends_finished}
+use Rattle.command_laws.proofs.CommandPlainLaws.{SectorLeaves, OpeningLeaves, ScrubbingLeaves, FormatLeaves, CommandLeaves, plain_leaves}
+use Rattle.command_laws.proofs.CommandTotals.{plain_answers}
+use Rattle.command_laws.proofs.ScrubMounted.{stopped_scrub_stands, stopped_scrub_mounts}
+use Rattle.command_laws.proofs.TextCommands.{one_command}
+use Rattle.command_spec.specs.Format.{FormatOutcome}
+use Rattle.command_spec.specs.Headline.{EachNow, EachLeft, StopLeaves, WordsLeave}
+use Rattle.command_spec.specs.Machine.{Yields, HasValues, Spells}
+use Rattle.command_spec.specs.Outcome.{CommandOutcome, HasPlace}
+use Rattle.command_spec.specs.Runs.{IsOfBytes, fault_of, may_come_from, IsCutOff, Finished, CommandEnds, is_fault}
+use Rattle.command_spec.specs.Scrub.{Scrubs}
+use Rattle.command_spec.specs.Traits.{traits_of}
+use Rattle.command_spec.specs.Volumes.{IsCarriedOut, KeepsVolumes, StillStands, VolumesStay, KeepsList, StillMounts, ListStays, StandsEmpty, FormatsOrNot, StopsFormat, AreBytes, StandsAppended, AppendedOrNot, StopsAppend, StandsFresh, IsBare, WasNotDone, IsChanged}
+use Rattle.command_spec.specs.declared.status.Status.{Status}
+use Rattle.command_spec.specs.declared.words.Words.{Words}
+use Rattle.qic_base.proofs.Steps.{Done-nothing}
+use Rattle.qic_base.specs.Acts.{steps_of, Outside, Failing, TapeFails, SourceFails, SinkFails}
+use Rattle.qic_base.specs.Cartridge.{Cartridge, IsCartridge, new_cartridge}
+use Rattle.qic_base.specs.Step.{Step as TapeStep, effects, changed, SetProtected, SetReferenced, Wear, Spoil, Renew}
+use Rattle.qic_base.specs.Stop.{Torn}
+use Rattle.qic_base.specs.Tape as tapes
+use Rattle.qic_base.specs.Sink as sinks
+use Rattle.qic_base.specs.Source as sources
+use Rattle.command_spec.specs.declared.status.Status.TheVariants as status
+use Rattle.command_spec.specs.declared.words.Words.TheVariants as commands
+
+-- an answer that tells of a change
+abbrev pub may_change : Status → Bool
+may_change status.Done = true
+may_change (status.DefectInFront segment) = true
+may_change answer = false
+
+-- ---- each that is left
+
+-- a fact of each cartridge that is left follows from another, over a whole cartridge or none
+pub each_weaker : {T : Type 0} {P Q : (held left : Option Cartridge) → Type 0} (t : tapes.Meaning T) (a b : T) → tapes.IsToldRight (t.told a) (t.size a) →
+    ((held left : Option Cartridge) → IfSome held IsCartridge → P held left → Q held left) → EachLeft t a b P → EachLeft t a b Q
+each_weaker t a b right follows each = record {
+  told = λ held told. told_weaker (t.told b) (λ left is. follows held left (told_whole held (t.told a) (t.size a) right told) is) (each.told held told);
+  since = λ held left telling told is. follows held left (told_whole held (t.told a) (t.size a) right told) (each.since held left telling told is);
+  now = λ held left telling told is. follows held left (told_whole held (t.told a) (t.size a) right told) (each.now held left telling told is);
+}
+
+-- ---- commands that keep the volumes
+
+same_stands : (c : Cartridge) (plain : Plain) (left : Option Cartridge) → Stands c plain → left ≡ Some c → IsSomeAnd left (λ d. Stands d plain)
+same_stands c plain left stood is = some_and (λ d. Stands d plain) c left stood is
+
+sector_left : (P : Cartridge → Type 0) (step : TapeStep) (segment sector : ℕ) (c : Cartridge) (left : Option Cartridge) → P c → (HasPlace c segment sector → P (changed step c)) →
+    SectorLeaves step segment sector (Some c) left → IsSomeAnd left P
+sector_left P step segment sector c left before behind (inl same) = some_and P c left before same
+sector_left P step segment sector c left before behind (inr is) = some_and P (changed step c) left (behind is.0) is.1
+
+open_stands : (c : Cartridge) (plain : Plain) (left : Option Cartridge) → Stands c plain → OpeningLeaves (Some c) left → IsSomeAnd left (λ d. Stands d plain)
+open_stands c plain left stood (inl before) = same_stands c plain left stood before
+open_stands c plain left stood (inr (header, (words, (table, (entries, mounts, torn))))) = stopped_stands c plain table left stood mounts.reads torn
+
+-- the mounting of a cartridge that stands for a plain one is that one's
+stands_as : (c : Cartridge) (plain : Plain) (m : Mounting) → Stands c plain → Mounts c m → (n : Mounting) → m ≡ n → ((lost : ℕ) → n ≡ TableLost lost → ⊥) → n ≡ mounted_as plain
+stands_as c plain m stood mounts n same read =
+    elim (standing_mounts_only_so c plain m stood mounts) [ inl is ↦ sym same ∙ is | inr (lost, is) ↦ absurd (read lost (sym same ∙ is)) ]
+
+scrub_stands : (c : Cartridge) (plain : Plain) (left : Option Cartridge) → Stands c plain → ScrubbingLeaves (Some c) left → IsSomeAnd left (λ d. Stands d plain)
+scrub_stands c plain left stood (inl before) = same_stands c plain left stood before
+scrub_stands c plain left stood (inr (header, (words, (table, (entries, (acts, mounts, scrubs, inl torn)))))) = stopped_stands c plain table left stood mounts.reads torn
+scrub_stands c plain left stood (inr (header, (words, (table, (entries, (acts, mounts, scrubs, inr torn)))))) =
+    let m : Mounting = Mounted header words table entries in
+    let same : m ≡ mounted_as plain = stands_as c plain m stood mounts m refl (λ lost is. cc) in
+    let map : words ≡ plain.words = cc in
+    let list : entries ≡ entries_of plain = cc in
+    stopped_scrub_stands (settled table c) plain acts left (settled_stands c plain table stood mounts.reads)
+    (subst (λ (es : List Entry). Scrubs (settled table c) plain.words es acts) list (subst (λ (ws : List ℕ). Scrubs (settled table c) ws entries acts) map scrubs)) torn
+
+format_stands : (label : List ℕ) (date : ℕ) (c : Cartridge) (plain : Plain) (left : Option Cartridge) → Stands c plain → c.info.protected ≡ true →
+    FormatLeaves label date (Some c) left → IsSomeAnd left (λ d. Stands d plain)
+format_stands label date c plain left stood locked (inl same) = same_stands c plain left stood same.1
+format_stands label date c plain left stood locked (inr (inl torn)) = let free = torn.0 in absurd (cc)
+format_stands label date c plain left stood locked (inr (inr torn)) = let free = torn.0 in absurd (cc)
+
+protect_stands : (on : Bool) (c : Cartridge) (plain : Plain) (left : Option Cartridge) → Stands c plain → Torn (SetProtected on ∷ []) (Some c) left →
+    IsSomeAnd left (λ d. Stands d plain)
+protect_stands on c plain left stood (inl before) = same_stands c plain left stood before
+protect_stands on c plain left stood (inr (inl inside)) = absurd inside
+protect_stands on c plain left stood (inr (inr behind)) = same_stands (changed (SetProtected on) c) plain left (protected_stands c plain on stood) behind
+
+pulses_stand : (c : Cartridge) (plain : Plain) (left : Option Cartridge) → Stands c plain → CommandLeaves commands.Pulses (Some c) left → IsSomeAnd left (λ d. Stands d plain)
+pulses_stand c plain left stood (inl before) = same_stands c plain left stood before
+pulses_stand c plain left stood (inr behind) = same_stands (changed SetReferenced c) plain left (referenced_stands c plain stood) behind
+
+command_stands : (command : Words) (c : Cartridge) (plain : Plain) (left : Option Cartridge) → Stands c plain → KeepsVolumes command c plain →
+    CommandLeaves command (Some c) left → IsSomeAnd left (λ d. Stands d plain)
+command_stands (commands.New segments) c plain left stood keeps leaves = absurd keeps
+command_stands (commands.Defect segment sector) c plain left stood keeps leaves =
+    sector_left (λ d. Stands d plain) (Spoil segment sector) segment sector c left stood (λ place. spoiled_stands c plain segment sector stood) leaves
+command_stands (commands.Lose segment sector) c plain left stood keeps leaves =
+    sector_left (λ d. Stands d plain) (Wear segment sector) segment sector c left stood
+    (λ place. worn_stands c plain segment sector place.in_segment stood (keeps place)) leaves
+command_stands (commands.Protect on) c plain left stood keeps leaves = protect_stands on c plain left stood leaves
+command_stands commands.List c plain left stood keeps leaves = open_stands c plain left stood leaves
+command_stands (commands.Format label date) c plain left stood keeps leaves = format_stands label date c plain left stood keeps leaves
+command_stands commands.Info c plain left stood keeps leaves = open_stands c plain left stood leaves
+command_stands commands.Pulses c plain left stood keeps leaves = pulses_stand c plain left stood leaves
+command_stands (commands.Append name date) c plain left stood keeps leaves = same_stands c plain left stood (leaves keeps)
+command_stands (commands.Restore number) c plain left stood keeps leaves = open_stands c plain left stood leaves
+command_stands commands.Scrub c plain left stood keeps leaves = scrub_stands c plain left stood leaves
+command_stands commands.Script c plain left stood keeps leaves = absurd keeps
+command_stands (commands.Make seed count) c plain left stood keeps leaves = same_stands c plain left stood (leaves keeps)
+
+-- what a command leaves, by the command
+by_command_left : (told : Option (List ℕ)) (command : Words) (held left : Option Cartridge) → StopLeaves told command held left → CommandLeaves command held left
+by_command_left told command held left leaves = plain_leaves command held left leaves.input leaves.outcome leaves.plain leaves.torn
+
+still_stands : (told : Option (List ℕ)) (words : List (List ℕ)) (held left : Option Cartridge) → WordsLeave told words held left → StillStands words held left
+still_stands told words held left (inl same) c plain is stood keep = same_stands c plain left stood (same ∙ is)
+still_stands told words held left (inr (command, spells, leaves)) c plain is stood keep =
+    command_stands command c plain left stood (keep command spells)
+    (subst (λ (h : Option Cartridge). CommandLeaves command h left) is (by_command_left told command held left leaves))
+
+pub volumes_stay : {T : Type 0} (t : tapes.Meaning T) (told : Option (List ℕ)) (words : List (List ℕ)) (a b : T) → tapes.IsToldRight (t.told a) (t.size a) → EachLeft t a b (WordsLeave told words) → VolumesStay t words a b
+volumes_stay t told words a b right leaves = each_weaker t a b right (λ held left whole is. still_stands told words held left is) leaves
+
+-- ---- commands that keep the list
+
+open_mounts : (c : Cartridge) (m : Mounting) (left : Option Cartridge) → Mounts c m → OpeningLeaves (Some c) left → IsSomeAnd left (λ d. Mounts d m)
+open_mounts c m left mounts (inl before) = some_and (λ d. Mounts d m) c left mounts before
+open_mounts c m left mounts (inr (header, (words, (table, (entries, again, torn))))) =
+    let same : Mounted header words table entries ≡ m = mounts_is_function c (Mounted header words table entries) m again mounts in
+    subst (λ (n : Mounting). IsSomeAnd left (λ d. Mounts d n)) same (stopped_mounts c header words table entries left again torn)
+
+scrub_mounts : (c : Cartridge) (m : Mounting) (left : Option Cartridge) → Mounts c m → ScrubbingLeaves (Some c) left → IsSomeAnd left (λ d. Mounts d m)
+scrub_mounts c m left mounts (inl before) = some_and (λ d. Mounts d m) c left mounts before
+scrub_mounts c m left mounts (inr (header, (words, (table, (entries, (acts, again, scrubs, inl torn)))))) =
+    let same : Mounted header words table entries ≡ m = mounts_is_function c (Mounted header words table entries) m again mounts in
+    subst (λ (n : Mounting). IsSomeAnd left (λ d. Mounts d n)) same (stopped_mounts c header words table entries left again torn)
+scrub_mounts c m left mounts (inr (header, (words, (table, (entries, (acts, again, scrubs, inr torn)))))) =
+    let same : Mounted header words table entries ≡ m = mounts_is_function c (Mounted header words table entries) m again mounts in
+    subst (λ (n : Mounting). IsSomeAnd left (λ d. Mounts d n)) same
+    (stopped_scrub_mounts (settled table c) header words table entries acts left (settled_mounts c header words table entries again) scrubs torn)
+
+command_mounts : (command : Words) (c : Cartridge) (header : Header) (words : List ℕ) (table : List (List ℕ)) (entries : List Entry) (left : Option Cartridge) →
+    Mounts c (Mounted header words table entries) → KeepsList command c → CommandLeaves command (Some c) left → IsSomeAnd left (λ d. Mounts d (Mounted header words table entries))
+command_mounts command c header words table entries left mounts keeps leaves = by_command command keeps leaves
+  where
+    P : Cartridge → Type 0
+    P d = Mounts d (Mounted header words table entries)
+
+    protect : (on : Bool) → Torn (SetProtected on ∷ []) (Some c) left → IsSomeAnd left P
+    protect on (inl before) = some_and P c left mounts before
+    protect on (inr (inl inside)) = absurd inside
+    protect on (inr (inr behind)) = some_and P (changed (SetProtected on) c) left (protected_mounts c on header words table entries mounts) behind
+
+    pulses : CommandLeaves commands.Pulses (Some c) left → IsSomeAnd left P
+    pulses (inl before) = some_and P c left mounts before
+    pulses (inr behind) = some_and P (changed SetReferenced c) left (referenced_mounts c header words table entries mounts) behind
+
+    format : (label : List ℕ) (date : ℕ) → c.info.protected ≡ true → FormatLeaves label date (Some c) left → IsSomeAnd left P
+    format label date locked (inl same) = some_and P c left mounts same.1
+    format label date locked (inr (inl torn)) = let free = torn.0 in absurd (cc)
+    format label date locked (inr (inr torn)) = let free = torn.0 in absurd (cc)
+
+    by_command : (w : Words) → KeepsList w c → CommandLeaves w (Some c) left → IsSomeAnd left P
+    by_command (commands.New segments) none is = absurd none
+    by_command (commands.Defect segment sector) none is =
+        sector_left P (Spoil segment sector) segment sector c left mounts (λ place. spoiled_mounts c segment sector header words table entries mounts) is
+    by_command (commands.Lose segment sector) behind is =
+        sector_left P (Wear segment sector) segment sector c left mounts
+        (λ place. worn_mounts c segment sector header words table entries place.in_segment (behind place) mounts) is
+    by_command (commands.Protect on) none is = protect on is
+    by_command commands.List none is = open_mounts c (Mounted header words table entries) left mounts is
+    by_command (commands.Format label date) locked is = format label date locked is
+    by_command commands.Info none is = open_mounts c (Mounted header words table entries) left mounts is
+    by_command commands.Pulses none is = pulses is
+    by_command (commands.Append name date) locked is = some_and P c left mounts (is locked)
+    by_command (commands.Restore number) none is = open_mounts c (Mounted header words table entries) left mounts is
+    by_command commands.Scrub none is = scrub_mounts c (Mounted header words table entries) left mounts is
+    by_command commands.Script none is = absurd none
+    by_command (commands.Make seed count) locked is = some_and P c left mounts (is locked)
+
+still_mounts : (told : Option (List ℕ)) (words : List (List ℕ)) (held left : Option Cartridge) → WordsLeave told words held left → StillMounts words held left
+still_mounts told words held left (inl same) c header map_words table entries is mounts keep =
+    some_and (λ d. Mounts d (Mounted header map_words table entries)) c left mounts (same ∙ is)
+still_mounts told words held left (inr (command, spells, leaves)) c header map_words table entries is mounts keep =
+    command_mounts command c header map_words table entries left mounts (keep command spells)
+    (subst (λ (h : Option Cartridge). CommandLeaves command h left) is (by_command_left told command held left leaves))
+
+pub list_stays : {T : Type 0} (t : tapes.Meaning T) (told : Option (List ℕ)) (words : List (List ℕ)) (a b : T) → tapes.IsToldRight (t.told a) (t.size a) → EachLeft t a b (WordsLeave told words) → ListStays t words a b
+list_stays t told words a b right leaves = each_weaker t a b right (λ held left whole is. still_mounts told words held left is) leaves
+
+-- ---- formatting
+
+fresh_for : (c : Cartridge) (label : List ℕ) (date : ℕ) (words : List ℕ) (area : List (List ℕ)) → HasNoDefectInFront c → IsFreshWith c label date words area →
+    IsFreshFor c label date words area
+fresh_for c label date words area none fresh = record { fresh = fresh; front = none }
+
+format_standing : (label : List ℕ) (date : ℕ) (c : Cartridge) (plain : Plain) (left : Option Cartridge) → IsCartridge c → StandsCleanly c plain →
+    FormatLeaves label date (Some c) left → IsSomeAnd left (λ d. Stands d plain ⊎ IsUnformatted d ⊎ StandsEmpty c label date d)
+format_standing label date c plain left whole stood (inl (locked, same)) =
+    some_and (λ d. Stands d plain ⊎ IsUnformatted d ⊎ StandsEmpty c label date d) c left (inl stood.stands) same
+format_standing label date c plain left whole stood (inr (inl (free, torn))) =
+    some_weaker left (λ d is. elim is [ inl stands ↦ inl stands | inr none ↦ inr (inl none) ])
+    (stopped_clearing c plain left whole stood torn)
+format_standing label date c plain left whole stood (inr (inr (free, none, (words, (area, fresh, torn))))) =
+    let is_fresh : IsFreshFor c label date words area = fresh_for c label date words area none fresh in
+    some_weaker left
+    (λ d is. elim is [
+      | inl stands ↦ inl stands
+      | inr (inl bare) ↦ inr (inl bare)
+      | inr (inr empty) ↦ inr (inr (record { words = words; area = area; fresh = is_fresh; stands = empty }))
+    ])
+    (stopped_format c plain label date words area left whole stood is_fresh torn)
+
+format_bare : (label : List ℕ) (date : ℕ) (c : Cartridge) (left : Option Cartridge) → IsCartridge c → HasNoHeader c →
+    IsUnformatted c → FormatLeaves label date (Some c) left → IsSomeAnd left (λ d. IsUnformatted d ⊎ StandsEmpty c label date d)
+format_bare label date c left whole bare unformatted (inl (locked, same)) =
+    some_and (λ d. IsUnformatted d ⊎ StandsEmpty c label date d) c left (inl unformatted) same
+format_bare label date c left whole bare unformatted (inr (inl (free, torn))) =
+    some_weaker left (λ d is. inl is) (stopped_clearing_new c left whole bare torn)
+format_bare label date c left whole bare unformatted (inr (inr (free, none, (words, (area, fresh, torn))))) =
+    let is_fresh : IsFreshFor c label date words area = fresh_for c label date words area none fresh in
+    some_weaker left
+    (λ d is. elim is [
+      | inl bare ↦ inl bare
+      | inr empty ↦ inr (record { words = words; area = area; fresh = is_fresh; stands = empty })
+    ])
+    (stopped_format_new c label date words area left whole bare is_fresh torn)
+
+-- what words of formatting leave: what the drive held, or what a stop in the formatting leaves
+left_by_format : (told : Option (List ℕ)) (words : List (List ℕ)) (held left : Option Cartridge) (label : List ℕ) (date : ℕ) (c : Cartridge) → Spells words (commands.Format label date) → held ≡ Some c →
+    WordsLeave told words held left → (left ≡ Some c) ⊎ FormatLeaves label date (Some c) left
+left_by_format told words held left label date c spells is (inl same) = inl (same ∙ is)
+left_by_format told words held left label date c spells is (inr (command, spelled, leaves)) =
+    let same : command ≡ commands.Format label date = one_command words command (commands.Format label date) spelled spells in
+    inr (subst (λ (w : Words). CommandLeaves w (Some c) left) same (subst (λ (h : Option Cartridge). CommandLeaves command h left) is (by_command_left told command held left leaves)))
+
+pub whole_of : (held : Option Cartridge) (c : Cartridge) → IfSome held IsCartridge → held ≡ Some c → IsCartridge c
+whole_of held c whole is = subst (λ (h : Option Cartridge). IfSome h IsCartridge) is whole
+
+formats_or_not : (told : Option (List ℕ)) (words : List (List ℕ)) (held left : Option Cartridge) → IfSome held IsCartridge → WordsLeave told words held left → FormatsOrNot words held left
+formats_or_not told words held left whole leaves = record {
+  standing = λ label date c plain spells is stood.
+      elim (left_by_format told words held left label date c spells is leaves) [
+        | inl same ↦ some_and (λ d. Stands d plain ⊎ IsUnformatted d ⊎ StandsEmpty c label date d) c left (inl stood.stands) same
+        | inr formatting ↦ format_standing label date c plain left (whole_of held c whole is) stood formatting
+      ];
+  bare = λ label date c spells is none.
+      elim (left_by_format told words held left label date c spells is leaves) [
+        | inl same ↦ some_and (λ d. IsUnformatted d ⊎ StandsEmpty c label date d) c left (inl (unformatted_from_bare c none)) same
+        | inr formatting ↦ format_bare label date c left (whole_of held c whole is) none (unformatted_from_bare c none) formatting
+      ];
+}
+
+pub stops_format : {T : Type 0} (t : tapes.Meaning T) (told : Option (List ℕ)) (words : List (List ℕ)) (a b : T) → tapes.IsToldRight (t.told a) (t.size a) → EachLeft t a b (WordsLeave told words) → StopsFormat t words a b
+stops_format t told words a b right leaves = each_weaker t a b right (λ held left whole is. formats_or_not told words held left whole is) leaves
+
+-- ---- appending
+
+-- an input is one of bytes, told or not
+pub of_bytes : (told : Option (List ℕ)) (input : List ℕ) → AreBytes told → IfSome told (λ bytes. input ≡ bytes) → IfNone told (All (λ b. b < 256) input) → All (λ b. b < 256) input
+of_bytes None input known is given = given
+of_bytes (Some bytes) input known is given = subst (λ (xs : List ℕ). All (λ b. b < 256) xs) (sym is) known
+
+-- what is left by words of appending
+appended_or_not : (told : Option (List ℕ)) (words : List (List ℕ)) (held left : Option Cartridge) → ((command : Words) → Spells words command → HasValues command) → IfSome held IsCartridge →
+    WordsLeave told words held left → AppendedOrNot told words held left
+appended_or_not told words held left values whole (inl same) name date c plain spells is bytes stood live =
+    some_and (λ d. Stands d plain ⊎ StandsAppended told name date c plain d) c left (inl stood) (same ∙ is)
+appended_or_not told words held left values whole (inr (command, spelled, leaves)) name date c plain spells is bytes stood live =
+    let other : Words = commands.Append name date in
+    let same : command ≡ other = one_command words command other spelled spells in
+    let known : HasValues other = values other spells in
+    let l : StopLeaves told other (Some c) left =
+    subst (λ (w : Words). StopLeaves told w (Some c) left) same (subst (λ (h : Option Cartridge). StopLeaves told command h left) is leaves) in
+    some_weaker left
+    (λ d stands. elim stands [ inl old ↦ inl old | inr new ↦ inr (record { input = l.input; is_told = l.is_told; stands = new }) ])
+    (append_stopped name date l.input c plain l.outcome left known.0 known.1 (of_bytes told l.input bytes l.is_told (l.bytes refl)) (whole_of held c whole is) stood live l.plain l.torn)
+
+pub stops_append : {T : Type 0} (t : tapes.Meaning T) (told : Option (List ℕ)) (words : List (List ℕ)) (a b : T) → tapes.IsToldRight (t.told a) (t.size a) →
+    ((command : Words) → Spells words command → HasValues command) → EachLeft t a b (WordsLeave told words) → StopsAppend t told words a b
+stops_append t told words a b right values leaves = each_weaker t a b right (λ held left whole is. appended_or_not told words held left values whole is) leaves
+
+-- ---- when a run is over
+
+-- what stands behind steps that were done
+pub done_now : {T : Type 0} (t : tapes.Meaning T) (a b : T) (steps : List TapeStep) (held : Option Cartridge) → tapes.IsLeftNow t b → tapes.Done t a b steps → t.told a ≡ Some held →
+    EachNow t a b (λ left. left ≡ effects steps held)
+done_now t a b steps held after did told =
+    let is : t.told b ≡ Some (effects steps held) = after_steps t a b steps held did told in
+    record {
+      told = subst (λ (o : Option (Option Cartridge)). IsSomeAnd o (λ left. left ≡ effects steps held)) (sym is) refl;
+      now = λ left telling stops.
+          let there : t.told b ≡ Some left = after.only left (did.stops.telling ∙ telling) stops in
+          let same : Some left ≡ Some (effects steps held) = sym there ∙ is in
+          cc;
+    }
+
+pub now_weaker : {T : Type 0} {P Q : (left : Option Cartridge) → Type 0} (t : tapes.Meaning T) (a b : T) → ((left : Option Cartridge) → P left → Q left) → EachNow t a b P → EachNow t a b Q
+now_weaker t a b follows each = record {
+  told = told_weaker (t.told b) follows each.told;
+  now = λ left telling stops. follows left (each.now left telling stops);
+}
+
+-- over what was told, an outcome with this status was done
+pub record Did {T : Type 0} (t : tapes.Meaning T) (told : Option (List ℕ)) (command : Words) (a b : T) (held : Option Cartridge) (is : Status) : Type 0 where
+  pub input : List ℕ
+  pub is_told : IfSome told (λ bytes. input ≡ bytes)
+  pub bytes : IsOfBytes command told input
+  pub outcome : CommandOutcome
+  pub sound : outcome.status ≡ is
+  pub plain : Yields command held input outcome
+  pub did : tapes.Done t a b (steps_of outcome.acts)
+
+module _ {T S K : Type 0} (t : tapes.Meaning T) (s : sources.Meaning S) (k : sinks.Meaning K) (command : Words) (old new : Outside T S K) (answer : Status) where
+  finished_did : (held : Option Cartridge) (is : Status) → t.told old.tape ≡ Some held → Finished t s k command old new answer → answer ≡ is →
+      Did t (s.left old.source) command old.tape new.tape held is
+  finished_did held is told finished same =
+      let over = over_at (t.told old.tape) _ held finished.told told in record {
+        input = over.0;
+        is_told = over.1;
+        bytes = over.2.0;
+        outcome = finished.outcome;
+        sound = sym finished.answered ∙ same;
+        plain = over.2.1;
+        did = finished.went.did;
+      }
+
+  not_otherwise : (failing : Failing) → IsCarriedOut answer → answer ≡ fault_of failing → failing ≡ SinkFails
+  not_otherwise TapeFails (inl done) is = absurd (cc)
+  not_otherwise TapeFails (inr fault) is = absurd (cc)
+  not_otherwise SourceFails (inl done) is = absurd (cc)
+  not_otherwise SourceFails (inr fault) is = absurd (cc)
+  not_otherwise SinkFails which is = refl
+
+  -- it was carried out, though its output may be cut off
+  pub carried_out_did : (held : Option Cartridge) → IfSome held IsCartridge → HasValues command → (traits_of command).goes ≡ false →
+      t.told old.tape ≡ Some held →
+      IsCarriedOut answer → CommandEnds t s k command old new answer → Did t (s.left old.source) command old.tape new.tape held status.Done
+  carried_out_did held whole values still told (inl done) (inl finished) = finished_did held status.Done told finished done
+  carried_out_did held whole values still told (inr fault) (inl finished) =
+      let no = ap (λ (a : Status). may_come_from a command) fault in let sound = finished.sound in absurd (cc)
+  carried_out_did held whole values still told which (inr (failing, is, stopped)) =
+      let sink : failing ≡ SinkFails = not_otherwise failing which is in
+      let over = over_at (t.told old.tape) _ held stopped.told told in
+      let some = plain_answers command held over.0 values whole in
+      let off : IsCutOff t s k command old new SinkFails some.0 = subst (λ (f : Failing). IsCutOff t s k command old new f some.0) sink (over.2.1 some.0 some.1) in
+      let all = off.done refl still in record {
+        input = over.0;
+        is_told = over.1;
+        bytes = over.2.0;
+        outcome = some.0;
+        sound = all.0;
+        plain = some.1;
+        did = all.1;
+      }
+
+renewed_effect : (segments : ℕ) (held : Option Cartridge) → effects (Renew segments ∷ []) held ≡ Some (new_cartridge segments)
+renewed_effect segments None = refl
+renewed_effect segments (Some c) = refl
+
+formatted_fresh : (label : List ℕ) (date : ℕ) (c : Cartridge) (outcome : CommandOutcome) → IsCartridge c → FormatOutcome label date (Some c) outcome → outcome.status ≡ status.Done →
+    IsSomeAnd (effects (steps_of outcome.acts) (Some c)) (StandsFresh c label date)
+formatted_fresh label date c outcome whole (inl (locked, is)) done = let other = ap (λ (o : CommandOutcome). o.status) is in absurd (cc)
+formatted_fresh label date c outcome whole (inr (inl (free, (segment, first, is)))) done = let other = ap (λ (o : CommandOutcome). o.status) is in absurd (cc)
+formatted_fresh label date c outcome whole (inr (inr (free, none, (words, (area, fresh, is))))) done =
+    let n : ℕ = c.info.segments_per_track in
+    let is_fresh : IsFreshFor c label date words area = fresh_for c label date words area none fresh in
+    some_and (StandsFresh c label date) (changed_by (format_steps n area) c) (effects (steps_of outcome.acts) (Some c))
+    (record {
+      words = words;
+      area = area;
+      fresh = is_fresh;
+      stands = formatted_stands c (changed_by (format_steps n area) c) label date words area whole is_fresh (formatting_formats c area whole fresh.fresh.size none);
+    })
+    (ap (λ (o : CommandOutcome). effects (steps_of o.acts) (Some c)) is ∙ ap (λ (steps : List TapeStep). effects steps (Some c)) (append-nil (format_steps n area)) ∙ effects-some (format_steps n area) c)
+
+cleared_bare : (c : Cartridge) → IsCartridge c → IsBare (changed_by (clearing_steps c.info.segments_per_track) c)
+cleared_bare c whole =
+    let d : Cartridge = changed_by (clearing_steps c.info.segments_per_track) c in
+    let bare : HasNoHeader d = record {
+      first = inl (cleared_copies_are_zero c d 0 whole (clearing_clears c whole) (omega arith));
+      second = inl (cleared_copies_are_zero c d 1 whole (clearing_clears c whole) (omega arith));
+    } in
+    (bare, unformatted_from_bare d bare)
+
+cleared_is_bare : (label : List ℕ) (date front : ℕ) (c : Cartridge) (outcome : CommandOutcome) → IsCartridge c → FormatOutcome label date (Some c) outcome → outcome.status ≡ status.DefectInFront front →
+    IsSomeAnd (effects (steps_of outcome.acts) (Some c)) IsBare
+cleared_is_bare label date front c outcome whole (inl (locked, is)) done = let other = ap (λ (o : CommandOutcome). o.status) is in absurd (cc)
+cleared_is_bare label date front c outcome whole (inr (inl (free, (segment, first, is)))) done =
+    let n : ℕ = c.info.segments_per_track in
+    some_and IsBare (changed_by (clearing_steps n) c) (effects (steps_of outcome.acts) (Some c)) (cleared_bare c whole)
+    (ap (λ (o : CommandOutcome). effects (steps_of o.acts) (Some c)) is ∙ ap (λ (steps : List TapeStep). effects steps (Some c)) (append-nil (clearing_steps n)) ∙ effects-some (clearing_steps n) c)
+cleared_is_bare label date front c outcome whole (inr (inr (free, none, (words, (area, fresh, is))))) done = let other = ap (λ (o : CommandOutcome). o.status) is in absurd (cc)
+
+-- an append that was refused, or whose input failed
+append_unchanged : {T S K : Type 0} (t : tapes.Meaning T) (s : sources.Meaning S) (k : sinks.Meaning K) (name : List ℕ) (date : ℕ) (old new : Outside T S K) (answer : Status) (c : Cartridge) (plain : Plain) →
+    Laws t s k old new → HasValues (commands.Append name date) → IsCartridge c → Stands c plain → t.told old.tape ≡ Some (Some c) → WasNotDone answer → CommandEnds t s k (commands.Append name date) old new answer →
+    EachNow t old.tape new.tape (λ left. IsSomeAnd left (λ d. Stands d plain))
+append_unchanged t s k name date old new answer c plain laws values whole stood told not (inl finished) =
+    let d : Did t (s.left old.source) (commands.Append name date) old.tape new.tape (Some c) answer =
+    finished_did t s k (commands.Append name date) old new answer (Some c) answer told finished refl in
+    now_weaker t old.tape new.tape
+    (λ left is. subst (λ (o : Option Cartridge). IsSomeAnd o (λ e. Stands e plain)) (sym is)
+    (append_refused name date d.input c plain d.outcome whole stood d.plain (λ same. not.0 (sym d.sound ∙ same))))
+    (done_now t old.tape new.tape (steps_of d.outcome.acts) (Some c) laws.after d.did told)
+append_unchanged t s k name date old new answer c plain laws values whole stood told not (inr (TapeFails, is, stopped)) = absurd (not.2 is)
+append_unchanged t s k name date old new answer c plain laws values whole stood told not (inr (SinkFails, is, stopped)) = absurd (not.1 is)
+append_unchanged t s k name date old new answer c plain laws values whole stood told not (inr (SourceFails, is, stopped)) =
+    let command : Words = commands.Append name date in
+    let over = over_at (t.told old.tape) _ (Some c) stopped.told told in
+    let some = plain_answers command (Some c) over.0 values whole in
+    let off : IsCutOff t s k command old new SourceFails some.0 = over.2.1 some.0 some.1 in
+    let cut = off.cut in
+    now_weaker t old.tape new.tape
+    (λ left same. subst (λ (o : Option Cartridge). IsSomeAnd o (λ e. Stands e plain)) (sym same)
+    (append_unanswered name date over.0 c plain some.0 cut.front cut.rest whole stood some.1 cut.parts (off.silent refl)))
+    (done_now t old.tape new.tape (steps_of cut.front) (Some c) laws.after cut.did told)
+
+pub is_changed : {T S K : Type 0} (t : tapes.Meaning T) (s : sources.Meaning S) (k : sinks.Meaning K) (words : List (List ℕ)) (command : Words) (old new : Outside T S K) (answer : Status) →
+    Laws t s k old new → Spells words command → HasValues command → CommandEnds t s k command old new answer → IsChanged t (s.left old.source) words old.tape new.tape answer
+is_changed t s k words command old new answer laws spelled values ends = record {
+  renewed = λ segments held which spells told.
+      let other : Words = commands.New segments in
+      let same : command ≡ other = one_command words command other spelled spells in
+      let d : Did t (s.left old.source) other old.tape new.tape held status.Done =
+      carried_out_did t s k other old new answer held (told_whole held (t.told old.tape) (t.size old.tape) laws.right told)
+      (subst HasValues same values) refl told which (subst (λ (w : Words). CommandEnds t s k w old new answer) same ends) in
+      now_weaker t old.tape new.tape
+      (λ left is. is ∙ ap (λ (o : CommandOutcome). effects (steps_of o.acts) held) d.plain ∙ renewed_effect segments held)
+      (done_now t old.tape new.tape (steps_of d.outcome.acts) held laws.after d.did told);
+  formatted = λ label date c which spells told.
+      let other : Words = commands.Format label date in
+      let same : command ≡ other = one_command words command other spelled spells in
+      let whole : IsCartridge c = told_whole (Some c) (t.told old.tape) (t.size old.tape) laws.right told in
+      let d : Did t (s.left old.source) other old.tape new.tape (Some c) status.Done =
+      carried_out_did t s k other old new answer (Some c) whole
+      (subst HasValues same values) refl told which (subst (λ (w : Words). CommandEnds t s k w old new answer) same ends) in
+      let fresh : IsSomeAnd (effects (steps_of d.outcome.acts) (Some c)) (StandsFresh c label date) =
+      formatted_fresh label date c d.outcome whole d.plain d.sound in
+      now_weaker t old.tape new.tape
+      (λ left is. subst (λ (o : Option Cartridge). IsSomeAnd o (StandsFresh c label date)) (sym is) fresh)
+      (done_now t old.tape new.tape (steps_of d.outcome.acts) (Some c) laws.after d.did told);
+  cleared = λ label date segment c front spells told.
+      let other : Words = commands.Format label date in
+      let same : command ≡ other = one_command words command other spelled spells in
+      let whole : IsCartridge c = told_whole (Some c) (t.told old.tape) (t.size old.tape) laws.right told in
+      let finished : Finished t s k other old new answer =
+      ends_finished t s k words other old new answer (subst (λ (w : Words). CommandEnds t s k w old new answer) same ends) (ap is_fault front) in
+      let d : Did t (s.left old.source) other old.tape new.tape (Some c) (status.DefectInFront segment) = finished_did t s k other old new answer (Some c) (status.DefectInFront segment) told finished front in
+      let none : IsSomeAnd (effects (steps_of d.outcome.acts) (Some c)) IsBare =
+      cleared_is_bare label date segment c d.outcome whole d.plain d.sound in
+      now_weaker t old.tape new.tape
+      (λ left is. subst (λ (o : Option Cartridge). IsSomeAnd o IsBare) (sym is) none)
+      (done_now t old.tape new.tape (steps_of d.outcome.acts) (Some c) laws.after d.did told);
+  appended = λ name date c plain which spells told bytes stood.
+      let other : Words = commands.Append name date in
+      let same : command ≡ other = one_command words command other spelled spells in
+      let whole : IsCartridge c = told_whole (Some c) (t.told old.tape) (t.size old.tape) laws.right told in
+      let known : HasValues other = subst HasValues same values in
+      let d : Did t (s.left old.source) other old.tape new.tape (Some c) status.Done =
+      carried_out_did t s k other old new answer (Some c) whole known refl told which (subst (λ (w : Words). CommandEnds t s k w old new answer) same ends) in
+      let left : IsSomeAnd (effects (steps_of d.outcome.acts) (Some c)) (λ e. Stands e (new_plain c plain name date d.input)) =
+      append_done name date d.input c plain d.outcome known.0 known.1 (of_bytes (s.left old.source) d.input bytes d.is_told (d.bytes refl)) whole stood d.plain d.sound in
+      now_weaker t old.tape new.tape
+      (λ l is. subst (λ (o : Option Cartridge). IsSomeAnd o (StandsAppended (s.left old.source) name date c plain)) (sym is)
+      (some_weaker (effects (steps_of d.outcome.acts) (Some c)) (λ e stands. record { input = d.input; is_told = d.is_told; stands = stands }) left))
+      (done_now t old.tape new.tape (steps_of d.outcome.acts) (Some c) laws.after d.did told);
+  unchanged = λ name date c plain not spells told stood.
+      let other : Words = commands.Append name date in
+      let same : command ≡ other = one_command words command other spelled spells in
+      let whole : IsCartridge c = told_whole (Some c) (t.told old.tape) (t.size old.tape) laws.right told in
+      append_unchanged t s k name date old new answer c plain laws (subst HasValues same values) whole stood told not (subst (λ (w : Words). CommandEnds t s k w old new answer) same ends);
+}
+
+-- words of no command change nothing, and want of memory
+pub none_changed : {T : Type 0} (t : tapes.Meaning T) (input : Option (List ℕ)) (words : List (List ℕ)) (a : T) (answer : Status) → tapes.IsLeftNow t a →
+    is_fault answer ≡ false → may_change answer ≡ false → IsChanged t input words a a answer
+none_changed t input words a answer now no_fault none = record {
+  renewed = λ segments held which spells told. absurd (never which);
+  formatted = λ label date c which spells told. absurd (never which);
+  cleared = λ label date segment c front spells told. let no = ap may_change front in absurd (cc);
+  appended = λ name date c plain which spells told bytes stood. absurd (never which);
+  unchanged = λ name date c plain not spells told stood.
+      now_weaker t a a (λ left is. same_stands c plain left stood is) (done_now t a a [] (Some c) now (Done-nothing t a) told);
+} where
+  never : IsCarriedOut answer → ⊥
+  never (inl done) = let no = ap may_change done in cc
+  never (inr fault) = let no = ap is_fault fault in cc

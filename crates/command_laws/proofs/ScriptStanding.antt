@@ -1,0 +1,403 @@
+-- What the items of a script leave of a cartridge that stands for a plain one, done or stopped.
+use Rattle.std.proofs.Common.{◌≡◌, ℕ, ◌<◌, List, length, All, ◌+◌, [], ◌∷◌, ◌++◌, subst, ◌⊎◌, Option, Some, IsSomeAnd, ◌-◌, Bool, cond, ap, inl, sym, ◌∙◌, false, nat_lt, arith, inr, ◌==◌, true, take, append-nil, refl, ◌≤◌}
+use Rattle.std.proofs.lemmas.Bool.{eq-eqb, le-ltb, cases_Bool, eqb-true, lt-ltb}
+use Rattle.std.proofs.lemmas.List.{length-append, map-append, take_all}
+use Rattle.std.proofs.lemmas.List.Elements.{All-weaker}
+use Rattle.cartridge_laws.proofs.AppendSegments.{carrying_from}
+use Rattle.cartridge_laws.proofs.AppendVolume.{free_writes_stand}
+use Rattle.cartridge_laws.proofs.FormatWriting.{some_weaker, some_and}
+use Rattle.cartridge_laws.proofs.MountKeeping.{stopped_stands}
+use Rattle.cartridge_laws.proofs.MountSettled.{settled_stands}
+use Rattle.cartridge_laws.proofs.MountStanding.{standing_data}
+use Rattle.cartridge_laws.proofs.MountWhole.{settling_effects}
+use Rattle.cartridge_laws.specs.AppendSteps.{append_steps}
+use Rattle.cartridge_laws.specs.AppendWrites.{AreWrites, IsFree}
+use Rattle.cartridge_spec.specs.Appending.{appended_volume, has_room, with_bytes, last_end}
+use Rattle.cartridge_spec.specs.HeaderAndTable.{last_segment}
+use Rattle.cartridge_spec.specs.Mounting.{IsTableLive, settled}
+use Rattle.cartridge_spec.specs.Settling.{changed_by, settling_steps}
+use Rattle.cartridge_spec.specs.Table.{Entry}
+use Rattle.cartridge_spec.specs.Volumes.{Plain, Stands, entries_of, Volume}
+use Rattle.cartridge_spec.specs.Wear.{worn, WearSpares}
+use Rattle.command_laws.proofs.InputActLaws.{input_is_free}
+use Rattle.command_laws.proofs.MountedHeld.{held_open, open_held, settled_held, settling_live, scrubbed_held, scrubbed_live, worn_held, worn_is_live}
+use Rattle.command_laws.proofs.MountedKeeping.{live_kept}
+use Rattle.command_laws.proofs.MountedStanding.{all_writes, kept_appended, open_appended, settled_last, stopped_appended}
+use Rattle.command_laws.proofs.RestoreCounts.{framed_in_no_step}
+use Rattle.command_laws.proofs.ScriptActs.{full_acts, full_taking, replied_steps}
+use Rattle.command_laws.proofs.ScriptValues.{append_values}
+use Rattle.command_laws.proofs.ScrubMounted.{stopped_scrub_stands}
+use Rattle.command_laws.specs.MountedHeld.{IsHeld}
+use Rattle.command_laws.specs.MountedKept.{IsAppendable, IsKept, IsOpen}
+use Rattle.command_laws.specs.ScriptStanding.{LineHasBytes, HaveBytes, ItemsHaveBytes, HasBytes, StoppedItemStands, ItemsStand, FaultStands}
+use Rattle.command_spec.specs.Append.{Kept, Taking, Fits, TooLong, TooShort, append_acts, entry_for, room_in, taking, entry_acts, has_promised_room, input_acts, free_in, input_writes}
+use Rattle.command_spec.specs.Input.{IsLine, IsLined, promised, Item, IsItem, Ending, HasItems}
+use Rattle.command_spec.specs.Lines.{reply_behind, lost_line}
+use Rattle.command_spec.specs.Restore.{Restored, LostIn, MismatchIn, framed, pieces}
+use Rattle.command_spec.specs.Script.{Did, Meeting, Finds, Meets, Refuses, appended, refused, taken_as, given_as, GivesBack, LineDoes, ItemDoes, ItemsDo, entries_behind, acts_on}
+use Rattle.command_spec.specs.ScriptLists.{plain_after, plain_with, LineSpares}
+use Rattle.command_spec.specs.Scrub.{Scrubs}
+use Rattle.command_spec.specs.declared.line.Line.{Line}
+use Rattle.gf256_qic.proofs.Parities.{all_left, all_right}
+use Rattle.qic_base.proofs.Joins.{steps_of-append}
+use Rattle.qic_base.proofs.Steps.{Torn-append}
+use Rattle.qic_base.specs.Acts.{steps_of, Act}
+use Rattle.qic_base.specs.Cartridge.{Cartridge}
+use Rattle.qic_base.specs.Step.{Step, Wear}
+use Rattle.qic_base.specs.Stop.{Torn}
+use Rattle.command_spec.specs.declared.line.Line.TheVariants as line
+use Rattle.cartridge_laws.specs.AppendLaws as appends
+use Rattle.command_spec.specs.declared.refusal.Refusal.TheVariants as why
+use Rattle.command_spec.specs.Restore as restoring
+
+-- ---- the items of an input of bytes
+
+line_has : (l : Line) (front bytes : List ℕ) → IsLined (λ before. IsLine before l) front → length bytes ≡ promised l → All (λ b. b < 256) bytes → LineHasBytes l bytes
+line_has (line.Append name count date) front bytes lined long content =
+    let values = append_values front name count date lined in
+    (record { label = values.0; word = values.1; content = content }, long)
+line_has line.List front bytes lined long content = tt
+line_has (line.Restore number) front bytes lined long content = tt
+line_has line.Scrub front bytes lined long content = tt
+line_has (line.Lose segment sector) front bytes lined long content = tt
+line_has line.End front bytes lined long content = tt
+
+have_bytes : (number place : ℕ) (input : List ℕ) (items : List Item) (ending : Ending) → HasItems IsItem number place input items ending → All (λ b. b < 256) input → HaveBytes items
+have_bytes number place input [] ending read content = tt
+have_bytes number place input (item ∷ items) ending (within, (text, (behind, (parts, is, read)))) content =
+    let all : All (λ b. b < 256) (text ++ behind) = subst (λ (bs : List ℕ). All (λ b. b < 256) bs) parts content in
+    let one : All (λ b. b < 256) (is.front ++ item.bytes) = subst (λ (bs : List ℕ). All (λ b. b < 256) bs) is.whole (all_left (λ b. b < 256) text behind all) in (
+      line_has item.line is.front item.bytes is.lined is.kept (all_right (λ b. b < 256) is.front item.bytes one),
+      have_bytes (number + 1) (place + length text) behind items ending read (all_right (λ b. b < 256) text behind all),
+    )
+
+pub items_have_bytes : ItemsHaveBytes
+items_have_bytes input items ending read content = have_bytes 1 0 input items ending read content
+
+-- ---- one item
+
+-- what an item leaves, done or stopped; stopped where each sector of the table's segment takes what is written to it
+pub record ItemLeaves (c : Cartridge) (plain : Plain) (item : Item) (did : Did) : Type 0 where
+  pub done : IsHeld (changed_by (steps_of did.acts) c) (plain_after plain item did)
+  pub live : IsTableLive c → IsTableLive (changed_by (steps_of did.acts) c)
+  pub entries : entries_of (plain_after plain item did) ≡ did.entries
+  pub words : (plain_after plain item did).words ≡ plain.words
+  pub stopped : IsTableLive c → (left : Option Cartridge) → Torn (steps_of did.acts) (Some c) left → IsSomeAnd left (λ d. Stands d plain ⊎ Stands d (plain_after plain item did))
+
+-- one that adds no volume
+record Stills (c : Cartridge) (plain : Plain) (did : Did) : Type 0 where
+  done : IsHeld (changed_by (steps_of did.acts) c) plain
+  live : IsTableLive c → IsTableLive (changed_by (steps_of did.acts) c)
+  entries : did.entries ≡ entries_of plain
+  stopped : (left : Option Cartridge) → Torn (steps_of did.acts) (Some c) left → IsSomeAnd left (λ d. Stands d plain)
+
+same_after : (plain : Plain) (item : Item) (did : Did) → did.entries ≡ entries_of plain → plain_after plain item did ≡ plain
+same_after plain item did same =
+    ap (λ (b : Bool). cond b plain (plain_with plain item.line item.bytes))
+    (eq-eqb (length did.entries) (length (entries_of plain)) (ap (λ (es : List Entry). length es) same))
+
+leaves_still : (c : Cartridge) (plain : Plain) (item : Item) (did : Did) → Stills c plain did → ItemLeaves c plain item did
+leaves_still c plain item did still =
+    let same : plain_after plain item did ≡ plain = same_after plain item did still.entries in
+    record {
+      done = subst (λ (p : Plain). IsHeld (changed_by (steps_of did.acts) c) p) (sym same) still.done;
+      live = still.live;
+      entries = ap (λ (p : Plain). entries_of p) same ∙ sym still.entries;
+      words = ap (λ (p : Plain). p.words) same;
+      stopped = λ live left torn. some_weaker left (λ d stands. inl stands) (still.stopped left torn);
+    }
+
+-- .. and takes no step
+no_steps : (c : Cartridge) (plain : Plain) (did : Did) → IsHeld c plain → steps_of did.acts ≡ [] → did.entries ≡ entries_of plain → Stills c plain did
+no_steps c plain did held none same = record {
+  done = subst (λ (ss : List Step). IsHeld (changed_by ss c) plain) (sym none) held;
+  live = λ live. subst (λ (ss : List Step). IsTableLive (changed_by ss c)) (sym none) live;
+  entries = same;
+  stopped = λ left torn. some_and (λ d. Stands d plain) c left held.stands (subst (λ (ss : List Step). Torn ss (Some c) left) none torn);
+}
+
+-- ---- an append
+
+same_less : (n : ℕ) → nat_lt n n ≡ false
+same_less n = le-ltb n n (omega arith)
+
+differ : (m n : ℕ) → m ≡ n + 1 → m == n ≡ false
+differ m n more = elim (cases_Bool (m == n)) [
+  | inl is ↦ absurd (let same : m ≡ n = eqb-true m n is in omega arith)
+  | inr is ↦ is
+]
+
+-- a list with one volume more
+more_after : (plain : Plain) (item : Item) (did : Did) (e : Entry) → did.entries ≡ entries_of plain ++ e ∷ [] → plain_after plain item did ≡ plain_with plain item.line item.bytes
+more_after plain item did e more =
+    ap (λ (b : Bool). cond b plain (plain_with plain item.line item.bytes))
+    (differ (length did.entries) (length (entries_of plain)) (ap (λ (es : List Entry). length es) more ∙ length-append (entries_of plain) (e ∷ [])))
+
+-- of just as many bytes as are promised
+module _ (c : Cartridge) (plain : Plain) (name : List ℕ) (date : ℕ) (bytes : List ℕ) (held : IsHeld c plain) where
+  abbrev size : ℕ
+  size = length bytes
+
+  -- what it goes by, with these data of the table and this last segment
+  abbrev kept_at : (table : List (List ℕ)) (last : ℕ) → Kept
+  kept_at table last = record {
+    words = plain.words;
+    entries = entries_of plain;
+    last = last;
+    table = table;
+    settling = settling_steps table c;
+  }
+
+  abbrev kept_now : Kept
+  kept_now = kept_at plain.table_area (last_segment c)
+
+  abbrev replies : Entry → List ℕ
+  replies = reply_behind (length (entries_of plain))
+
+  abbrev its_acts : List Act
+  its_acts = append_acts kept_now name date (Some size) replies bytes
+
+  -- what it does, where so many bytes are promised
+  abbrev does_by : (table : List (List ℕ)) (last n : ℕ) → Did
+  does_by table last n =
+      taken_as (kept_at table last) name date (append_acts (kept_at table last) name date (Some n) replies bytes) (taking (room_in (kept_at table last)) (Some n) bytes)
+
+  same_doing : (table : List (List ℕ)) (n : ℕ) → table ≡ plain.table_area → size ≡ n →
+      appended c plain.words (entries_of plain) name n date bytes (Finds table) ≡ does_by plain.table_area (last_segment c) size
+  same_doing table n area long =
+      ap (λ (t : List (List ℕ)). does_by t (length plain.words - 1) n) area
+      ∙ ap (λ (last : ℕ). does_by plain.table_area last n) held.last
+      ∙ ap (λ (m : ℕ). does_by plain.table_area (last_segment c) m) (sym long)
+
+  -- where there is room for them
+  module _ (enough : has_room plain.words (entries_of plain) (last_segment c) size ≡ true) where
+    fits_taking : taking (room_in kept_now) (Some size) bytes ≡ Fits bytes
+    fits_taking =
+        ap (λ (b : Bool). cond b (cond (nat_lt size size) (TooShort size size) (Fits (take size bytes))) (TooLong size (room_in kept_now))) enough
+        ∙ ap (λ (b : Bool). cond b (TooShort size size) (Fits (take size bytes))) (same_less size)
+        ∙ ap (λ (xs : List ℕ). Fits xs) (take_all size bytes (omega arith))
+
+    fits_doing : does_by plain.table_area (last_segment c) size ≡ record { acts = its_acts; entries = entries_of plain ++ entry_for kept_now name date bytes ∷ [] }
+    fits_doing = ap (λ (became : Taking). taken_as kept_now name date its_acts became) fits_taking
+
+    fits_steps : IsOpen c plain →
+        steps_of its_acts ≡ settling_steps plain.table_area c ++ appends.steps_of (settled plain.table_area c) plain name date bytes
+    fits_steps ready =
+        sym (replied_steps kept_now name date size bytes bytes fits_taking replies)
+        ∙ ap (λ (rest : List Step). settling_steps plain.table_area c ++ rest)
+        (all_writes c plain name date bytes (settling_steps plain.table_area c) enough
+        ∙ ap (λ (last : ℕ). append_steps plain last bytes (appended_volume plain last name date bytes))
+        (sym (settled_last c plain.table_area ready.table)))
+
+    entries_more : entries_of (with_bytes plain name date bytes) ≡ entries_of plain ++ entry_for kept_now name date bytes ∷ []
+    entries_more =
+        map-append (λ (v : Volume). v.entry) plain.volumes (appended_volume plain (length plain.words - 1) name date bytes ∷ [])
+        ∙ ap (λ (last : ℕ). entries_of plain ++ entry_for (kept_at plain.table_area last) name date bytes ∷ []) held.last
+
+    fits_leaves : (n : ℕ) (did : Did) → IsOpen c plain → IsAppendable name date bytes →
+        did ≡ record { acts = its_acts; entries = entries_of plain ++ entry_for kept_now name date bytes ∷ [] } →
+        ItemLeaves c plain (record { line = line.Append name n date; bytes = bytes }) did
+    fits_leaves n did ready may is =
+        let item : Item = record { line = line.Append name n date; bytes = bytes } in
+        let list : did.entries ≡ entries_of plain ++ entry_for kept_now name date bytes ∷ [] = ap (λ (d : Did). d.entries) is in
+        let more : plain_after plain item did ≡ with_bytes plain name date bytes = more_after plain item did (entry_for kept_now name date bytes) list in
+        let steps : steps_of did.acts ≡ settling_steps plain.table_area c ++ appends.steps_of (settled plain.table_area c) plain name date bytes =
+        ap (λ (d : Did). steps_of d.acts) is ∙ fits_steps ready in
+        let kept : IsTableLive c → IsKept c plain = live_kept c plain ready in
+        record {
+          done = subst (λ (p : Plain). IsHeld (changed_by (steps_of did.acts) c) p) (sym more)
+              (subst (λ (ss : List Step). IsHeld (changed_by ss c) (with_bytes plain name date bytes)) (sym steps)
+              (open_held _ (with_bytes plain name date bytes) (open_appended c plain name date bytes ready may enough)));
+          live = λ live. subst (λ (ss : List Step). IsTableLive (changed_by ss c)) (sym steps)
+              (kept_appended name date bytes may.label may.word may.content c plain (kept live) enough).live;
+          entries = ap (λ (p : Plain). entries_of p) more ∙ entries_more ∙ sym list;
+          words = ap (λ (p : Plain). p.words) more;
+          stopped = λ live left torn. subst (λ (p : Plain). IsSomeAnd left (λ d. Stands d plain ⊎ Stands d p)) (sym more)
+              (stopped_appended name date bytes may.label may.word may.content c plain (kept live) left enough
+              (subst (λ (ss : List Step). Torn ss (Some c) left) steps torn));
+        }
+
+  -- where there is none, the table is settled alone
+  module _ (small : has_room plain.words (entries_of plain) (last_segment c) size ≡ false) where
+    full_doing : does_by plain.table_area (last_segment c) size ≡ refused its_acts (entries_of plain) (why.Full size (room_in kept_now))
+    full_doing = ap (λ (became : Taking). taken_as kept_now name date its_acts became) (full_taking kept_now name date size small bytes)
+
+    full_stills : (did : Did) → IsOpen c plain → did ≡ refused its_acts (entries_of plain) (why.Full size (room_in kept_now)) → Stills c plain did
+    full_stills did ready is =
+        let steps : steps_of did.acts ≡ settling_steps plain.table_area c =
+        ap (λ (d : Did). steps_of d.acts) is
+        ∙ ap (λ (xs : List Act). steps_of (refused xs (entries_of plain) (why.Full size (room_in kept_now))).acts) (full_acts kept_now name date size small replies bytes)
+        ∙ append-nil (settling_steps plain.table_area c) in
+        record {
+          done = subst (λ (ss : List Step). IsHeld (changed_by ss c) plain) (sym steps) (settled_held c plain ready);
+          live = λ live. subst (λ (ss : List Step). IsTableLive (changed_by ss c)) (sym steps) (settling_live c plain ready live);
+          entries = ap (λ (d : Did). d.entries) is;
+          stopped = λ left torn. stopped_stands c plain plain.table_area left ready.stands ready.table (subst (λ (ss : List Step). Torn ss (Some c) left) steps torn);
+        }
+
+  pub append_leaves : (n : ℕ) (did : Did) → IsAppendable name date bytes → size ≡ n → (m : Meeting) → Meets c m → did ≡ appended c plain.words (entries_of plain) name n date bytes m →
+      ItemLeaves c plain (record { line = line.Append name n date; bytes = bytes }) did
+  append_leaves n did may long (Refuses w) meets is =
+      leaves_still c plain (record { line = line.Append name n date; bytes = bytes }) did
+      (no_steps c plain did held (ap (λ (d : Did). steps_of d.acts) is) (ap (λ (d : Did). d.entries) is))
+  append_leaves n did may long (Finds table) meets is =
+      let ready : IsOpen c plain = held_open c plain table held meets.1 meets.0 in
+      let does : did ≡ does_by plain.table_area (last_segment c) size = is ∙ same_doing table n (standing_data c plain table held.stands meets.1) long in
+      elim (cases_Bool (has_room plain.words (entries_of plain) (last_segment c) size)) [
+        | inl enough ↦ fits_leaves enough n did ready may (does ∙ fits_doing enough)
+        | inr small ↦ leaves_still c plain (record { line = line.Append name n date; bytes = bytes }) did (full_stills small did ready (does ∙ full_doing small))
+      ]
+
+-- ---- the other lines
+
+pub given_entries : (words : List ℕ) (entries : List Entry) (number : ℕ) (e : Entry) (parts : List Act) (ending : restoring.Ending) → (given_as words entries number e parts ending).entries ≡ entries
+given_entries words entries number e parts Restored = refl
+given_entries words entries number e parts (LostIn segment lost) = refl
+given_entries words entries number e parts (MismatchIn segment) = refl
+
+-- a reply takes no step
+pub given_steps : (words : List ℕ) (entries : List Entry) (number : ℕ) (e : Entry) (parts : List Act) (ending : restoring.Ending) → steps_of parts ≡ [] → steps_of (given_as words entries number e parts ending).acts ≡ []
+given_steps words entries number e parts Restored none = steps_of-append parts _ ∙ append-nil (steps_of parts) ∙ none
+given_steps words entries number e parts (LostIn segment lost) none = steps_of-append parts _ ∙ append-nil (steps_of parts) ∙ none
+given_steps words entries number e parts (MismatchIn segment) none = steps_of-append parts _ ∙ append-nil (steps_of parts) ∙ none
+
+gives_stills : (c : Cartridge) (plain : Plain) (number : ℕ) (did : Did) → IsHeld c plain → GivesBack c plain.words (entries_of plain) number did → Stills c plain did
+gives_stills c plain number did held gives =
+    let parts : List Act = framed (pieces plain.words gives.entry) gives.acts in
+    no_steps c plain did held
+    (ap (λ (d : Did). steps_of d.acts) gives.is
+    ∙ given_steps plain.words (entries_of plain) number gives.entry parts gives.ending
+    (framed_in_no_step c plain.words (pieces plain.words gives.entry) gives.acts gives.ending gives.restores).0)
+    (ap (λ (d : Did). d.entries) gives.is ∙ given_entries plain.words (entries_of plain) number gives.entry parts gives.ending)
+
+scrub_stills : (c : Cartridge) (plain : Plain) (acts : List Act) (did : Did) → IsHeld c plain → Scrubs c plain.words (entries_of plain) acts →
+    did ≡ record { acts = acts; entries = entries_of plain } → Stills c plain did
+scrub_stills c plain acts did held scrubs is =
+    let steps : steps_of did.acts ≡ steps_of acts = ap (λ (d : Did). steps_of d.acts) is in
+    record {
+      done = subst (λ (ss : List Step). IsHeld (changed_by ss c) plain) (sym steps) (scrubbed_held c plain acts held scrubs);
+      live = λ live. subst (λ (ss : List Step). IsTableLive (changed_by ss c)) (sym steps) (scrubbed_live c plain acts held scrubs live);
+      entries = ap (λ (d : Did). d.entries) is;
+      stopped = λ left torn. stopped_scrub_stands c plain acts left held.stands scrubs (subst (λ (ss : List Step). Torn ss (Some c) left) steps torn);
+    }
+
+lose_stills : (c : Cartridge) (plain : Plain) (segment sector : ℕ) (did : Did) → IsHeld c plain → sector < 32 → WearSpares c plain segment sector →
+    did ≡ record { acts = record { steps = Wear segment sector ∷ []; text = lost_line segment sector } ∷ []; entries = entries_of plain } → Stills c plain did
+lose_stills c plain segment sector did held small spares is =
+    let steps : steps_of did.acts ≡ Wear segment sector ∷ [] = ap (λ (d : Did). steps_of d.acts) is in
+    let worn_is : IsHeld (worn segment sector c) plain = worn_held c plain segment sector held small spares in
+    record {
+      done = subst (λ (ss : List Step). IsHeld (changed_by ss c) plain) (sym steps) worn_is;
+      live = λ live. subst (λ (ss : List Step). IsTableLive (changed_by ss c)) (sym steps) (worn_is_live c segment sector live);
+      entries = ap (λ (d : Did). d.entries) is;
+      stopped = λ left torn. by_torn left worn_is (subst (λ (ss : List Step). Torn ss (Some c) left) steps torn);
+    }
+  where
+    by_torn : (left : Option Cartridge) → IsHeld (worn segment sector c) plain → Torn (Wear segment sector ∷ []) (Some c) left → IsSomeAnd left (λ d. Stands d plain)
+    by_torn left after (inl is) = some_and (λ d. Stands d plain) c left held.stands is
+    by_torn left after (inr (inl half)) = absurd half
+    by_torn left after (inr (inr is)) = some_and (λ d. Stands d plain) (worn segment sector c) left after.stands is
+
+line_leaves : (c : Cartridge) (plain : Plain) (asked : Line) (bytes : List ℕ) (did : Did) → IsHeld c plain → LineHasBytes asked bytes → LineSpares c plain asked →
+    LineDoes c plain.words (entries_of plain) asked bytes did → ItemLeaves c plain (record { line = asked; bytes = bytes }) did
+line_leaves c plain (line.Append name n date) bytes did held has spares (m, meets, is) = append_leaves c plain name date bytes held n did has.0 has.1 m meets is
+line_leaves c plain line.List bytes did held has spares is =
+    leaves_still c plain (record { line = line.List; bytes = bytes }) did
+    (no_steps c plain did held (ap (λ (d : Did). steps_of d.acts) is) (ap (λ (d : Did). d.entries) is))
+line_leaves c plain (line.Restore number) bytes did held has spares (inl (none, is)) =
+    leaves_still c plain (record { line = line.Restore number; bytes = bytes }) did
+    (no_steps c plain did held (ap (λ (d : Did). steps_of d.acts) is) (ap (λ (d : Did). d.entries) is))
+line_leaves c plain (line.Restore number) bytes did held has spares (inr gives) =
+    leaves_still c plain (record { line = line.Restore number; bytes = bytes }) did (gives_stills c plain number did held gives)
+line_leaves c plain line.Scrub bytes did held has spares (inl (mark, is)) =
+    leaves_still c plain (record { line = line.Scrub; bytes = bytes }) did
+    (no_steps c plain did held (ap (λ (d : Did). steps_of d.acts) is) (ap (λ (d : Did). d.entries) is))
+line_leaves c plain line.Scrub bytes did held has spares (inr (free, (acts, scrubs, is))) =
+    leaves_still c plain (record { line = line.Scrub; bytes = bytes }) did (scrub_stills c plain acts did held scrubs is)
+line_leaves c plain (line.Lose segment sector) bytes did held has spares (inl (none, is)) =
+    leaves_still c plain (record { line = line.Lose segment sector; bytes = bytes }) did
+    (no_steps c plain did held (ap (λ (d : Did). steps_of d.acts) is) (ap (λ (d : Did). d.entries) is))
+line_leaves c plain (line.Lose segment sector) bytes did held has spares (inr (place, is)) =
+    leaves_still c plain (record { line = line.Lose segment sector; bytes = bytes }) did
+    (lose_stills c plain segment sector did held place.in_segment (spares place) is)
+line_leaves c plain line.End bytes did held has spares never = absurd never
+
+pub item_leaves : (c : Cartridge) (plain : Plain) (item : Item) (did : Did) → IsHeld c plain → HasBytes item → LineSpares c plain item.line →
+    ItemDoes c plain.words (entries_of plain) item did → ItemLeaves c plain item did
+item_leaves c plain item did held has spares does = line_leaves c plain item.line item.bytes did held has spares does
+
+pub stopped_item_stands : StoppedItemStands
+stopped_item_stands c plain item did left held live has does spares torn = (item_leaves c plain item did held has spares does).stopped live left torn
+
+-- ---- items one after the other
+
+-- what the next items do, on the plain cartridge behind the first
+pub next_do : (c : Cartridge) (plain next : Plain) (items : List Item) (entries : List Entry) (dids : List Did) → entries_of next ≡ entries → next.words ≡ plain.words →
+    ItemsDo c plain.words entries items dids → ItemsDo c next.words (entries_of next) items dids
+next_do c plain next items entries dids list map ran =
+    subst (λ (es : List Entry). ItemsDo c next.words es items dids) (sym list) (subst (λ (ws : List ℕ). ItemsDo c ws entries items dids) (sym map) ran)
+
+pub items_stand : ItemsStand
+items_stand c plain [] [] held has ran spares = (held, refl, refl, λ live. live)
+items_stand c plain [] (did ∷ dids) held has ran spares = absurd ran
+items_stand c plain (item ∷ items) [] held has ran spares = absurd ran
+items_stand c plain (item ∷ items) (did ∷ dids) held has ran spares =
+    let leaves : ItemLeaves c plain item did = item_leaves c plain item did held has.0 spares.0 ran.0 in
+    let d : Cartridge = changed_by (steps_of did.acts) c in
+    let next : Plain = plain_after plain item did in
+    let rest = items_stand d next items dids leaves.done has.1 (next_do d plain next items did.entries dids leaves.entries leaves.words ran.1) spares.1 in
+    (rest.0, rest.1 ∙ ap (λ (es : List Entry). entries_behind es dids) leaves.entries, rest.2 ∙ leaves.words, λ live. rest.3 (leaves.live live))
+
+-- ---- an append whose bytes end early
+
+writes_if : (before : ℕ) (some : Bool) (acts : List Act) → AreWrites (IsFree before) (steps_of acts) → AreWrites (IsFree before) (steps_of (cond some acts []))
+writes_if before true acts free = free
+writes_if before false acts free = tt
+
+-- no entry is written
+no_entry : (kept : Kept) (name : List ℕ) (date n : ℕ) (reply : Entry → List ℕ) (bytes : List ℕ) (room : Bool) →
+    steps_of (entry_acts kept name date reply (cond room (TooShort n (length bytes)) (TooLong n (room_in kept)))) ≡ []
+no_entry kept name date n reply bytes true = refl
+no_entry kept name date n reply bytes false = refl
+
+early_entry : (kept : Kept) (name : List ℕ) (date n : ℕ) (reply : Entry → List ℕ) (bytes : List ℕ) → length bytes < n →
+    steps_of (entry_acts kept name date reply (taking (room_in kept) (Some n) bytes)) ≡ []
+early_entry kept name date n reply bytes short =
+    ap (λ (b : Bool). steps_of (entry_acts kept name date reply
+    (cond (has_promised_room (room_in kept) (Some n)) (cond b (TooShort n (length bytes)) (Fits (take n bytes))) (TooLong n (room_in kept))))) (lt-ltb (length bytes) n short)
+    ∙ no_entry kept name date n reply bytes (has_promised_room (room_in kept) (Some n))
+
+-- all that it writes behind the settling lies behind the volumes
+early_writes : (kept : Kept) (n : ℕ) (bytes : List ℕ) → AreWrites (IsFree (last_end kept.entries)) (steps_of (input_writes kept (Some n) bytes))
+early_writes kept n bytes =
+    writes_if (last_end kept.entries) (has_promised_room (room_in kept) (Some n)) (input_acts kept.words (free_in kept) n true bytes)
+    (input_is_free (last_end kept.entries) kept.words (free_in kept) n true bytes
+    (All-weaker (λ (s : ℕ). last_end kept.entries + 1 ≤ s) (λ (s : ℕ). last_end kept.entries < s) (λ s (h : last_end kept.entries + 1 ≤ s). omega arith) (free_in kept)
+    (carrying_from kept.words (last_end kept.entries + 1) kept.last)))
+
+early_stands : (c : Cartridge) (plain : Plain) (name : List ℕ) (n date : ℕ) (bytes : List ℕ) (m : Meeting) (left : Option Cartridge) → Stands c plain → Meets c m → length bytes < n →
+    Torn (steps_of (acts_on c plain.words (entries_of plain) name n date bytes m)) (Some c) left → IsSomeAnd left (λ d. Stands d plain)
+early_stands c plain name n date bytes (Refuses w) left stood meets short torn = some_and (λ d. Stands d plain) c left stood torn
+early_stands c plain name n date bytes (Finds table) left stood meets short torn =
+    let area : table ≡ plain.table_area = standing_data c plain table stood meets.1 in
+    let kept : Kept = record { words = plain.words; entries = entries_of plain; last = length plain.words - 1; table = table; settling = settling_steps table c } in
+    let replies : Entry → List ℕ = reply_behind (length (entries_of plain)) in
+    let writes : List Act = input_writes kept (Some n) bytes in
+    let entry : List Act = entry_acts kept name date replies (taking (room_in kept) (Some n) bytes) in
+    let rear : steps_of (writes ++ entry) ≡ steps_of writes =
+    steps_of-append writes entry ∙ ap (λ (ss : List Step). steps_of writes ++ ss) (early_entry kept name date n replies bytes short) ∙ append-nil (steps_of writes) in
+    let now : Torn (settling_steps table c ++ steps_of writes) (Some c) left =
+    subst (λ (ss : List Step). Torn (settling_steps table c ++ ss) (Some c) left) rear torn in
+    elim (Torn-append (settling_steps table c) (steps_of writes) (Some c) left now) [
+      | inl front ↦ stopped_stands c plain table left stood meets.1 front
+      | inr behind ↦ some_weaker left (λ d known. known.0)
+          (free_writes_stand (settled table c) plain (steps_of writes) left (settled_stands c plain table stood meets.1) (early_writes kept n bytes)
+          (subst (λ (o : Option Cartridge). Torn (steps_of writes) o left) (settling_effects c table meets.1) behind))
+    ]
+
+pub fault_stands : FaultStands
+fault_stands c plain number rest acts left held (inl (below, (early, (m, meets, is)))) torn =
+    early_stands c plain early.name early.promised early.date early.bytes m left held.stands meets early.short
+    (subst (λ (xs : List Act). Torn (steps_of xs) (Some c) left) is torn)
+fault_stands c plain number rest acts left held (inr (none, is)) torn =
+    some_and (λ d. Stands d plain) c left held.stands (subst (λ (xs : List Act). Torn (steps_of xs) (Some c) left) is torn)

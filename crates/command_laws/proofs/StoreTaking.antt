@@ -1,0 +1,7 @@
+-- An input that was taken: what became of it, and the acts that it asked for.
+use Rattle.std.proofs.Common.{◌≡◌, ◌&&◌, Bool, true, false, refl}
+
+pub both_true : (a b : Bool) → a ≡ true → b ≡ true → (a && b) ≡ true
+both_true true true one other = refl
+both_true true false one other = absurd (cc)
+both_true false b one other = absurd (cc)

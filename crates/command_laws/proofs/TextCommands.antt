@@ -1,0 +1,138 @@
+-- The forms of commands.
+use Rattle.std.proofs.Common.{inl, inr, ℕ, List, [], ◌∷◌, ◌≡◌, ◌⊎◌, zero, suc, ◌+◌, ◌==◌, false, ◌++◌, refl, arith, ◌-◌, ap, ◌∙◌, ◌*◌, get_or, ◌/◌, ◌%◌, sym, codes, if◌then◌else◌, true}
+use Rattle.std.proofs.lemmas.Bool.Decides.{nat_tests}
+use Rattle.std.specs.Str.Parse.{digits_value}
+use Rattle.std.proofs.lemmas.Fmt.{decimal_is_IsNumeral}
+use Rattle.std.specs.Str.{bytes_eq}
+use Rattle.command_laws.proofs.TextDates.{HasPair, fields_of}
+use Rattle.command_laws.specs.TextWords.{OneCommand}
+use Rattle.command_spec.specs.CommandWords.{Part, SpellsAll, HasForm, Date, dated, SpellsPart, IsNumber, IsDateWord, IsCommand}
+use Rattle.command_spec.specs.declared.words.Words.{Words}
+use Rattle.qic_base.specs.Date.{date_word}
+use Rattle.qic_base.specs.Name.{filled}
+use Rattle.command_spec.specs.declared.words.Words.TheVariants as words
+
+-- the only form
+pub only : (ws : List (List ℕ)) (form : List Part) → HasForm ws (form ∷ []) → SpellsAll ws form
+only ws form (inl h) = h
+only ws form (inr h) = absurd h
+
+-- a form with a date or without one
+pub dated_cases : (ws : List (List ℕ)) (form : List Part) (date : ℕ) → HasForm ws (dated form date) → SpellsAll ws (form ++ Date date ∷ []) ⊎ (SpellsAll ws form × (date ≡ 0))
+dated_cases ws form date (inl h) = inl h
+dated_cases ws form zero (inr h) = inr (only ws form h, refl)
+dated_cases ws form (suc date) (inr h) = let dated : (suc date == 0) ≡ false = grind (arith, nat_tests) in absurd (rw dated at h)
+
+pub record One (ws : List (List ℕ)) (p : Part) : Type 0 where
+  pub first : List ℕ
+  pub are : ws ≡ first ∷ []
+  pub one : SpellsPart first p
+
+pub one_word : (ws : List (List ℕ)) (p : Part) → SpellsAll ws (p ∷ []) → One ws p
+one_word [] p h = absurd h
+one_word (a ∷ []) p h = record { first = a; are = refl; one = h.0 }
+one_word (a ∷ b ∷ rest) p h = absurd h.1
+
+pub record Two (ws : List (List ℕ)) (p q : Part) : Type 0 where
+  pub first : List ℕ
+  pub second : List ℕ
+  pub are : ws ≡ first ∷ second ∷ []
+  pub one : SpellsPart first p
+  pub two : SpellsPart second q
+
+pub two_words : (ws : List (List ℕ)) (p q : Part) → SpellsAll ws (p ∷ q ∷ []) → Two ws p q
+two_words [] p q h = absurd h
+two_words (a ∷ []) p q h = absurd h.1
+two_words (a ∷ b ∷ []) p q h = record { first = a; second = b; are = refl; one = h.0; two = h.1.0 }
+two_words (a ∷ b ∷ c ∷ rest) p q h = absurd h.1.1
+
+pub record Three (ws : List (List ℕ)) (p q r : Part) : Type 0 where
+  pub first : List ℕ
+  pub second : List ℕ
+  pub third : List ℕ
+  pub are : ws ≡ first ∷ second ∷ third ∷ []
+  pub one : SpellsPart first p
+  pub two : SpellsPart second q
+  pub three : SpellsPart third r
+
+pub three_words : (ws : List (List ℕ)) (p q r : Part) → SpellsAll ws (p ∷ q ∷ r ∷ []) → Three ws p q r
+three_words [] p q r h = absurd h
+three_words (a ∷ []) p q r h = absurd h.1
+three_words (a ∷ b ∷ []) p q r h = absurd h.1.1
+three_words (a ∷ b ∷ c ∷ []) p q r h = record { first = a; second = b; third = c; are = refl; one = h.0; two = h.1.0; three = h.1.1.0 }
+three_words (a ∷ b ∷ c ∷ d ∷ rest) p q r h = absurd h.1.1.1
+
+-- ---- the value of a word
+
+pub number_value : List ℕ → ℕ
+number_value word = digits_value 10 word
+
+pub IsNumber-value : (word : List ℕ) (n : ℕ) → IsNumber word n → number_value word ≡ n
+unfolding number_value
+IsNumber-value word n h =
+    ap (digits_value 10) h.digits ∙ (let nine = h.nine in decimal_is_IsNumeral n (omega arith)).1
+
+abbrev pub pair_value : List ℕ → ℕ → ℕ
+pair_value word at = 10 * (get_or word at 0 - 48) + (get_or word (at + 1) 0 - 48)
+
+pub pair_is : (word : List ℕ) (at n : ℕ) → HasPair word at n → pair_value word at ≡ n
+pair_is word at n h = let few = h.0 in let tens = h.1 in let ones = h.2 in omega arith
+
+pub date_value : List ℕ → ℕ
+date_value word =
+    date_word (100 * pair_value word 0 + pair_value word 2) (pair_value word 5) (pair_value word 8) (pair_value word 11) (pair_value word 14) (pair_value word 17)
+
+pub IsDateWord-value : (word : List ℕ) (date : ℕ) → IsDateWord word date → date_value word ≡ date
+unfolding date_value
+IsDateWord-value word date d =
+    let f = fields_of word date d in
+    let year : 100 * pair_value word 0 + pair_value word 2 ≡ d.year =
+    (let h = pair_is word 0 (d.year / 100) f.hundreds_at in let y = pair_is word 2 (d.year % 100) f.years_at in omega arith) in
+    rw (year, pair_is word 5 d.month f.month_at, pair_is word 8 d.day f.day_at, pair_is word 11 d.hour f.hour_at, pair_is word 14 d.minute f.minute_at, pair_is word 17 d.second f.second_at)
+    (sym d.stamped)
+
+-- ---- the only command that words can be
+
+pub guess : List (List ℕ) → Words
+guess [] = words.Info
+guess (a ∷ []) =
+    if bytes_eq a (codes "info") then words.Info else if bytes_eq a (codes "list") then words.List else if bytes_eq a (codes "scrub") then words.Scrub
+    else if bytes_eq a (codes "pulses") then words.Pulses else words.Script
+guess (a ∷ b ∷ []) =
+    if bytes_eq a (codes "new") then words.New (number_value b) else if bytes_eq a (codes "protect") then words.Protect (bytes_eq b (codes "on"))
+    else if bytes_eq a (codes "format") then words.Format (filled b) 0 else if bytes_eq a (codes "append") then words.Append (filled b) 0
+    else words.Restore (number_value b)
+guess (a ∷ b ∷ c ∷ []) =
+    if bytes_eq a (codes "defect") then words.Defect (number_value b) (number_value c) else if bytes_eq a (codes "lose") then words.Lose (number_value b) (number_value c)
+    else if bytes_eq a (codes "format") then words.Format (filled b) (date_value c) else if bytes_eq a (codes "append") then words.Append (filled b) (date_value c)
+    else words.Make (number_value b) (number_value c)
+guess (a ∷ b ∷ c ∷ d ∷ rest) = words.Info
+
+pub guess_is : (ws : List (List ℕ)) (command : Words) → IsCommand ws command → guess ws ≡ command
+unfolding guess
+guess_is ws (words.New n) h = let s = two_words ws _ _ (only ws _ h) in rw (s.are, s.one) (ap words.New (IsNumber-value s.second n s.two.0))
+guess_is ws (words.Defect segment sector) h =
+    let s = three_words ws _ _ _ (only ws _ h) in rw (s.are, s.one, IsNumber-value s.second segment s.two.0, IsNumber-value s.third sector s.three.0) refl
+guess_is ws (words.Lose segment sector) h =
+    let s = three_words ws _ _ _ (only ws _ h) in rw (s.are, s.one, IsNumber-value s.second segment s.two.0, IsNumber-value s.third sector s.three.0) refl
+guess_is ws (words.Protect true) h = let s = two_words ws _ _ (only ws _ h) in rw (s.are, s.one, s.two) refl
+guess_is ws (words.Protect false) h = let s = two_words ws _ _ (only ws _ h) in rw (s.are, s.one, s.two) refl
+guess_is ws (words.Format label date) h = elim (dated_cases ws _ date h) [
+  | inl full ↦ let s = three_words ws _ _ _ full in rw (s.are, s.one, ← s.two.1, IsDateWord-value s.third date s.three) refl
+  | inr bare ↦ let s = two_words ws _ _ bare.0 in rw (s.are, s.one, ← s.two.1, bare.1) refl
+]
+guess_is ws words.Info h = let s = one_word ws _ (only ws _ h) in rw (s.are, s.one) refl
+guess_is ws (words.Append name date) h = elim (dated_cases ws _ date h) [
+  | inl full ↦ let s = three_words ws _ _ _ full in rw (s.are, s.one, ← s.two.1, IsDateWord-value s.third date s.three) refl
+  | inr bare ↦ let s = two_words ws _ _ bare.0 in rw (s.are, s.one, ← s.two.1, bare.1) refl
+]
+guess_is ws words.List h = let s = one_word ws _ (only ws _ h) in rw (s.are, s.one) refl
+guess_is ws (words.Restore number) h = let s = two_words ws _ _ (only ws _ h) in rw (s.are, s.one) (ap words.Restore (IsNumber-value s.second number s.two.0))
+guess_is ws words.Scrub h = let s = one_word ws _ (only ws _ h) in rw (s.are, s.one) refl
+guess_is ws words.Pulses h = let s = one_word ws _ (only ws _ h) in rw (s.are, s.one) refl
+guess_is ws words.Script h = let s = one_word ws _ (only ws _ h) in rw (s.are, s.one) refl
+guess_is ws (words.Make seed count) h =
+    let s = three_words ws _ _ _ (only ws _ h) in rw (s.are, s.one, IsNumber-value s.second seed s.two.0, IsNumber-value s.third count s.three.0) refl
+
+pub one_command : OneCommand
+one_command ws a b first next = sym (guess_is ws a first) ∙ guess_is ws b next

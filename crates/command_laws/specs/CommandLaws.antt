@@ -1,0 +1,43 @@
+-- The laws of the plain machine, as facts (this project's own).
+use Rattle.std.specs.Prelude.{◌≡◌, ℕ, List, Option, IfSome}
+use Rattle.command_spec.specs.Complete.{CanBeDone}
+use Rattle.command_spec.specs.Machine.{Step, Yields, HasValues}
+use Rattle.command_spec.specs.Outcome.{CommandOutcome}
+use Rattle.command_spec.specs.declared.status.Status.{Status}
+use Rattle.command_spec.specs.declared.words.Words.{Words}
+use Rattle.qic_base.specs.Cartridge.{Cartridge, IsCartridge}
+use Rattle.command_spec.specs.declared.status.Status.TheVariants as status
+
+-- two outcomes of a step are one: what is held then, the output, how many bytes were taken, and the status
+pub record IsSameOutcome (held other : Option Cartridge) (output printed : List ℕ) (taken read : ℕ) (status answer : Status) : Type 0 where
+  pub same_held : held ≡ other
+  pub same_output : output ≡ printed
+  pub same_taken : taken ≡ read
+  pub same_status : status ≡ answer
+
+-- The machine is a function: over the same words, held cartridge and input two steps have the same outcome.
+abbrev pub MachineIsFunction : Type 0
+MachineIsFunction =
+    (words : List (List ℕ)) (held : Option Cartridge) (input : List ℕ)
+    (held' other : Option Cartridge) (output printed : List ℕ) (taken read : ℕ) (status answer : Status) →
+    Step words held input held' output taken status →
+    Step words held input other printed read answer →
+    IsSameOutcome held' other output printed taken read status answer
+
+-- The machine answers: over any words, a whole cartridge or none, and any input some step takes place.
+abbrev pub MachineAnswers : Type 0
+MachineAnswers =
+    (words : List (List ℕ)) (held : Option Cartridge) (input : List ℕ) → IfSome held IsCartridge →
+    (held' : Option Cartridge) × ((output : List ℕ) × ((taken : ℕ) × ((status : Status) × Step words held input held' output taken status)))
+
+-- a command has one outcome over what the drive holds and an input
+abbrev pub OneOutcome : Type 0
+OneOutcome =
+    (command : Words) (held : Option Cartridge) (input : List ℕ) (one other : CommandOutcome) →
+    Yields command held input one → Yields command held input other → one ≡ other
+
+-- where all is there that a command needs it is carried out
+abbrev pub DoneWhereAllIsThere : Type 0
+DoneWhereAllIsThere =
+    (command : Words) (held : Option Cartridge) (input : List ℕ) (outcome : CommandOutcome) → IfSome held IsCartridge → HasValues command →
+    CanBeDone command held input → Yields command held input outcome → outcome.status ≡ status.Done

@@ -1,0 +1,85 @@
+-- A mounted cartridge that takes volumes, and what appends, worn sectors and scrubs leave of it, as facts (this project's own).
+use Rattle.std.specs.Prelude.{◌≡◌, ◌-◌, false, length, ℕ, ◌^◌, ◌<◌, List, All, ◌++◌, ◌⊎◌, Option, Some, IsSomeAnd, true, ◌≤◌}
+use Rattle.cartridge_spec.specs.Appending.{with_bytes, has_room}
+use Rattle.cartridge_spec.specs.Formatting.{IsLabel}
+use Rattle.cartridge_spec.specs.HeaderAndTable.{TableIs, last_segment}
+use Rattle.cartridge_spec.specs.Mounting.{IsTableLive, settled}
+use Rattle.cartridge_spec.specs.Settling.{settling_steps, changed_by}
+use Rattle.cartridge_spec.specs.Volumes.{Plain, Stands, entries_of}
+use Rattle.cartridge_spec.specs.Wear.{worn}
+use Rattle.command_spec.specs.Scrub.{Scrubs}
+use Rattle.qic_base.specs.Acts.{Act, steps_of}
+use Rattle.qic_base.specs.Cartridge.{Cartridge, IsCartridge}
+use Rattle.qic_base.specs.Step.{Step}
+use Rattle.qic_base.specs.Stop.{Torn}
+use Rattle.cartridge_laws.specs.AppendLaws as appends
+
+-- its table reads, and it is not protected
+pub record IsOpen (c : Cartridge) (plain : Plain) : Type 0 where
+  pub cartridge : IsCartridge c
+  pub stands : Stands c plain
+  pub table : TableIs c plain.table_area
+  pub unprotected : c.info.protected ≡ false
+  pub last : length plain.words - 1 ≡ last_segment c
+
+-- .. and each sector of the table's segment takes what is written to it
+pub record IsKept (c : Cartridge) (plain : Plain) : Type 0 where
+  pub cartridge : IsCartridge c
+  pub stands : Stands c plain
+  pub table : TableIs c plain.table_area
+  pub live : IsTableLive c
+  pub unprotected : c.info.protected ≡ false
+  pub last : length plain.words - 1 ≡ last_segment c
+
+-- a name of 44 bytes, a date word, and bytes
+pub record IsAppendable (name : List ℕ) (date : ℕ) (bytes : List ℕ) : Type 0 where
+  pub label : IsLabel name
+  pub word : date < 2 ^ 32
+  pub content : All (λ b. b < 256) bytes
+
+-- the steps that settle the table, and those that append the bytes behind them
+abbrev pub settle_and_append : Cartridge → Plain → (name : List ℕ) → (date : ℕ) → (bytes : List ℕ) → List Step
+settle_and_append c plain name date bytes = settling_steps plain.table_area c ++ appends.steps_of (settled plain.table_area c) plain name date bytes
+
+-- all of them done, the plain cartridge with the volume stands, and may be appended to again; a stop in them leaves that, or
+-- what stood
+pub record AppendKeeps (c : Cartridge) (plain : Plain) (name : List ℕ) (date : ℕ) (bytes : List ℕ) : Type 0 where
+  pub done : IsKept (changed_by (settle_and_append c plain name date bytes) c) (with_bytes plain name date bytes)
+  pub stopped : (left : Option Cartridge) → Torn (settle_and_append c plain name date bytes) (Some c) left →
+      IsSomeAnd left (λ d. Stands d plain ⊎ Stands d (with_bytes plain name date bytes))
+
+abbrev pub AppendsKeep : Type 0
+AppendsKeep =
+    (c : Cartridge) (plain : Plain) (name : List ℕ) (date : ℕ) (bytes : List ℕ) → IsKept c plain → IsAppendable name date bytes →
+    has_room plain.words (entries_of plain) (last_segment c) (length bytes) ≡ true → AppendKeeps c plain name date bytes
+
+-- ---- a worn sector, and a scrub
+
+-- one behind the table
+abbrev pub WearsKeep : Type 0
+WearsKeep =
+    (c : Cartridge) (plain : Plain) (segment sector : ℕ) → IsKept c plain → 3 ≤ segment → sector < 32 → IsKept (worn segment sector c) plain
+
+abbrev pub ScrubsKeep : Type 0
+ScrubsKeep =
+    (c : Cartridge) (plain : Plain) (acts : List Act) → IsKept c plain → Scrubs c plain.words (entries_of plain) acts →
+    IsKept (changed_by (steps_of acts) c) plain
+
+-- ---- where sectors of the table's segment may take no write
+
+-- an append, all of it done
+abbrev pub AppendsLeaveOpen : Type 0
+AppendsLeaveOpen =
+    (c : Cartridge) (plain : Plain) (name : List ℕ) (date : ℕ) (bytes : List ℕ) → IsOpen c plain → IsAppendable name date bytes →
+    has_room plain.words (entries_of plain) (last_segment c) (length bytes) ≡ true →
+    IsOpen (changed_by (settle_and_append c plain name date bytes) c) (with_bytes plain name date bytes)
+
+-- a sector that is worn behind the table
+abbrev pub WearsLeaveOpen : Type 0
+WearsLeaveOpen =
+    (c : Cartridge) (plain : Plain) (segment sector : ℕ) → IsOpen c plain → 3 ≤ segment → sector < 32 → IsOpen (worn segment sector c) plain
+
+abbrev pub ScrubsLeaveOpen : Type 0
+ScrubsLeaveOpen =
+    (c : Cartridge) (plain : Plain) (acts : List Act) → IsOpen c plain → Scrubs c plain.words (entries_of plain) acts →
+    IsOpen (changed_by (steps_of acts) c) plain

@@ -1,0 +1,7 @@
+-- The bytes of the volumes that `make` appends, and their sums (this project's own).
+use Rattle.std.specs.Prelude.{ℕ, ◌+◌, ◌%◌, List, map}
+use Rattle.std.specs.List.{range_with_len}
+
+-- so many bytes that count on from a byte, modulo 251
+unfoldable pub made_from : (first count : ℕ) → List ℕ
+made_from first count = map (λ i. (first + i) % 251) (range_with_len 0 count)

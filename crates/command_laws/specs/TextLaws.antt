@@ -1,0 +1,11 @@
+-- What is read is printed again (this project's own).
+use Rattle.std.specs.Prelude.{◌≡◌, ℕ, List}
+use Rattle.command_spec.specs.CommandWords.{IsDateWord}
+use Rattle.command_spec.specs.Lines.{date_text, name_text}
+use Rattle.qic_base.specs.Name.{IsNameText, filled}
+
+abbrev pub DateIsPrintedAsRead : Type 0
+DateIsPrintedAsRead = (word : List ℕ) (date : ℕ) → IsDateWord word date → date_text date ≡ word
+
+abbrev pub NameIsPrintedAsRead : Type 0
+NameIsPrintedAsRead = (word : List ℕ) → IsNameText word → name_text (filled word) ≡ word

@@ -1,0 +1,5 @@
+-- What a reading of a line took from a source, and what it found (this project's own).
+use Rattle.std.specs.Prelude.{◌≢◌, ℕ, List, All}
+
+abbrev pub NoNewline : List ℕ → Type 0
+NoNewline bytes = All (λ b. b ≢ 0x0A) bytes

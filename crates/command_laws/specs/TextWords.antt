@@ -1,0 +1,16 @@
+-- The forms of a command's words (this project's own): the table of all commands.
+use Rattle.std.specs.Prelude.{ℕ, List, ◌≡◌, ◌⊎◌}
+use Rattle.command_spec.specs.CommandWords.{IsCommand}
+use Rattle.command_spec.specs.declared.words.Words.{Words}
+
+-- no command has these words
+abbrev pub IsNoCommand : List (List ℕ) → Type 0
+IsNoCommand words = (command : Words) → IsCommand words command → ⊥
+
+-- each list of words has at most one command
+abbrev pub OneCommand : Type 0
+OneCommand = (words : List (List ℕ)) (a b : Words) → IsCommand words a → IsCommand words b → a ≡ b
+
+-- each list of words is that of a command or of none
+abbrev pub EachWords : Type 0
+EachWords = (words : List (List ℕ)) → ((command : Words) × IsCommand words command) ⊎ IsNoCommand words

@@ -1,0 +1,24 @@
+//! Laws of the plain machine. Each is the contract of a function that does nothing.
+
+ghost use Rattle.command_laws.specs.CommandLaws.{MachineIsFunction, MachineAnswers, OneOutcome, DoneWhereAllIsThere};
+
+/// Words, what the drive holds and the input determine what is held then, the output, the bytes taken and the status.
+pub fn machine_is_function()
+    ensures { MachineIsFunction }
+{}
+
+/// Over any words, a whole cartridge or none, and any input the machine makes a step.
+pub fn machine_answers()
+    ensures { MachineAnswers }
+{}
+
+/// A command has one outcome: its acts, the bytes taken and the answer.
+pub fn a_command_has_one_outcome()
+    ensures { OneOutcome }
+{}
+
+/// Where all is there that a command needs it is carried out: a cartridge that mounts, room, a volume that can be read,
+/// an input without a fault.
+pub fn a_command_with_its_needs_is_done()
+    ensures { DoneWhereAllIsThere }
+{}

@@ -1,0 +1,169 @@
+-- The plain machine of `append`: what is taken of the input, and the acts that write the volume and its entry (this project's own).
+use Rattle.std.specs.Prelude.{ℕ, List, [], ◌∷◌, length, drop, nat_le, if◌then◌else◌, ◌&&◌, Bool, take, nat_lt, Option, Some, None, ◌+◌, min, is_some, ◌++◌, ◌-◌, ◌≡◌}
+use Rattle.cartridge_spec.specs.Appending.{part_writes, in_sectors, room, free_segments, new_entry, taken_by, table_writes}
+use Rattle.cartridge_spec.specs.HeaderAndTable.{last_segment}
+use Rattle.cartridge_spec.specs.Mounting.{settled}
+use Rattle.cartridge_spec.specs.Settling.{settling_steps}
+use Rattle.cartridge_spec.specs.Shape.{mask_at, data_count, capacity}
+use Rattle.cartridge_spec.specs.Table.{Entry, slot_bytes, with_slot, slot_sector}
+use Rattle.command_spec.specs.Lines.{reply_behind}
+use Rattle.command_spec.specs.Outcome.{settling_act, CommandOutcome, Going, WritableOutcome}
+use Rattle.command_spec.specs.declared.status.Status.{Status}
+use Rattle.qic_base.specs.Acts.{Act}
+use Rattle.qic_base.specs.Cartridge.{Cartridge}
+use Rattle.qic_base.specs.Step.{Step}
+use Rattle.command_spec.specs.declared.status.Status.TheVariants as status
+
+-- ---- the acts
+
+-- a segment is written with the first of some bytes, as many as it carries
+abbrev pub segment_act : (words : List ℕ) → (segment : ℕ) → (bytes : List ℕ) → Act
+segment_act words segment bytes = record {
+  steps = part_writes words (record { segment = segment; sectors = in_sectors (data_count (mask_at words segment)) bytes });
+  text = [];
+}
+
+-- all of these bytes, in as many of some carrying segments as they take: one act for each, and one for no byte
+abbrev pub volume_acts : (words segments : List ℕ) → (bytes : List ℕ) → List Act
+volume_acts words [] bytes = []
+volume_acts words (s ∷ ss) bytes =
+    segment_act words s bytes
+    ∷ (if nat_le (length bytes) (capacity (mask_at words s)) then [] else volume_acts words ss (drop (capacity (mask_at words s)) bytes))
+
+-- those of the segments that these bytes fill
+abbrev pub filled_acts : (words segments : List ℕ) → (bytes : List ℕ) → List Act
+filled_acts words [] bytes = []
+filled_acts words (s ∷ ss) bytes =
+    if nat_le (capacity (mask_at words s)) (length bytes)
+    then segment_act words s bytes ∷ filled_acts words ss (drop (capacity (mask_at words s)) bytes)
+    else []
+
+-- Of an input at most so many bytes are wanted. Where just as many are and it has fewer, only segments that it fills are
+-- written.
+abbrev pub input_acts : (words segments : List ℕ) → (most : ℕ) → (exact : Bool) → (input : List ℕ) → List Act
+input_acts words segments most exact input =
+    if exact && nat_lt (length input) most then filled_acts words segments input
+    else volume_acts words segments (take most input)
+
+-- ---- the input
+
+-- What becomes of an input: these bytes are the volume's; or there is no room for so many; or it ends before so many as were
+-- promised.
+pub data Taking : Type 0 where
+  Fits : (bytes : List ℕ) → Taking
+  TooLong : (need have : ℕ) → Taking
+  TooShort : (promised read : ℕ) → Taking
+
+-- There is room for a byte at least, and for as many as are promised.
+abbrev pub has_promised_room : (have : ℕ) → (promised : Option ℕ) → Bool
+has_promised_room have None = nat_le 1 have
+has_promised_room have (Some n) = nat_le 1 have && nat_le n have
+
+-- With nothing promised all of the input is taken, and of one that is too long a byte more than there is room for; with a
+-- promise just as many bytes, and none where there is no room for them.
+abbrev pub taking : (have : ℕ) → (promised : Option ℕ) → (input : List ℕ) → Taking
+taking have None input =
+    if nat_le 1 have && nat_le (length input) have then Fits input else TooLong (min (length input) (have + 1)) have
+taking have (Some n) input =
+    if has_promised_room have (Some n)
+    then (if nat_lt (length input) n then TooShort n (length input) else Fits (take n input))
+    else TooLong n have
+
+-- how many bytes are taken
+abbrev pub bytes_taken : (promised : Option ℕ) → Taking → ℕ
+bytes_taken promised (Fits bytes) = length bytes
+bytes_taken None (TooLong need have) = need
+bytes_taken (Some n) (TooLong need have) = 0
+bytes_taken promised (TooShort n read) = read
+
+-- at most so many bytes are written
+abbrev pub most_written : (have : ℕ) → (promised : Option ℕ) → ℕ
+most_written have None = have
+most_written have (Some n) = n
+
+-- ---- the acts
+
+-- what an append goes by: the words of the map, the list, the last segment, the table's data, and the steps that settle it
+pub record Kept : Type 0 where
+  pub words : List ℕ
+  pub entries : List Entry
+  pub last : ℕ
+  pub table : List (List ℕ)
+  pub settling : List Step
+
+abbrev pub room_in : Kept → ℕ
+room_in kept = room kept.words kept.entries kept.last
+
+abbrev pub free_in : Kept → List ℕ
+free_in kept = free_segments kept.words kept.entries kept.last
+
+-- the segments that the bytes of the input fill, where there is room: one act for each
+abbrev pub input_writes : Kept → (promised : Option ℕ) → (input : List ℕ) → List Act
+input_writes kept promised input =
+    if has_promised_room (room_in kept) promised
+    then input_acts kept.words (free_in kept) (most_written (room_in kept) promised) (is_some promised) input
+    else []
+
+-- the entry of a volume of these bytes
+abbrev pub entry_for : Kept → (name : List ℕ) → (date : ℕ) → (bytes : List ℕ) → Entry
+entry_for kept name date bytes = new_entry (taken_by kept.words (length bytes) (free_in kept)) name date (length bytes)
+
+-- the table's data with an entry in the slot behind the last one
+abbrev pub table_with : Kept → Entry → List (List ℕ)
+table_with kept entry = with_slot kept.table (length kept.entries) (slot_bytes entry)
+
+-- last, where all bytes are there, the writes of the table, and the reply
+abbrev pub entry_acts : Kept → (name : List ℕ) → (date : ℕ) → (reply : Entry → List ℕ) → Taking → List Act
+entry_acts kept name date reply (Fits bytes) =
+    record {
+      steps = table_writes (slot_sector (length kept.entries)) (table_with kept (entry_for kept name date bytes));
+      text = reply (entry_for kept name date bytes);
+    } ∷ []
+entry_acts kept name date reply (TooLong need have) = []
+entry_acts kept name date reply (TooShort promised read) = []
+
+-- the settling of the table, the volume's segments, and the table
+abbrev pub append_acts : Kept → (name : List ℕ) → (date : ℕ) → (promised : Option ℕ) → (reply : Entry → List ℕ) → (input : List ℕ) → List Act
+append_acts kept name date promised reply input =
+    record { steps = kept.settling; text = [] }
+    ∷ (input_writes kept promised input ++ entry_acts kept name date reply (taking (room_in kept) promised input))
+
+-- no reply
+abbrev pub silently : Entry → List ℕ
+silently entry = []
+
+-- ---- how the input was taken
+
+-- what an append goes by but for the table
+abbrev pub kept_in : (words : List ℕ) → (entries : List Entry) → Kept
+kept_in words entries = record { words = words; entries = entries; last = length words - 1; table = []; settling = [] }
+
+-- what it goes by once the table is settled: a sector that takes no write is written again
+abbrev pub kept_on : Cartridge → (words : List ℕ) → (table : List (List ℕ)) → List Entry → Kept
+kept_on c words table entries = record {
+  words = words;
+  entries = entries;
+  last = last_segment c;
+  table = table;
+  settling = settling_steps table (settled table c);
+}
+
+-- the answer, with room for so many bytes: full where there is none for all of the input, or for no byte
+abbrev pub append_status : (have : ℕ) → (input : List ℕ) → Status
+append_status have input =
+    if nat_le 1 have && nat_le (length input) have then status.Done else status.Full (min (length input) (have + 1)) have
+
+-- the table is settled, and the whole input appended
+abbrev pub appended : (name : List ℕ) → (date : ℕ) → (input : List ℕ) → Cartridge → (words : List ℕ) → (table : List (List ℕ)) → List Entry → CommandOutcome
+appended name date input c words table entries =
+    let kept : Kept = kept_on c words table entries in record {
+      acts = settling_act table c ∷ append_acts kept name date None (reply_behind (length entries)) input;
+      taken = bytes_taken None (taking (room_in kept) None input);
+      status = append_status (room_in kept) input;
+    }
+
+abbrev pub Appends : (name : List ℕ) → (date : ℕ) → (input : List ℕ) → Going
+Appends name date input c header words table entries outcome = outcome ≡ appended name date input c words table entries
+
+abbrev pub AppendOutcome : (name : List ℕ) → (date : ℕ) → Option Cartridge → (input : List ℕ) → CommandOutcome → Type 0
+AppendOutcome name date held input outcome = WritableOutcome (Appends name date input) held outcome

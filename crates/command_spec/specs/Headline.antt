@@ -1,0 +1,145 @@
+-- The clauses of the headline, one by one (this project's own).
+use Rattle.std.specs.Prelude.{◌≡◌, ℕ, List, ◌++◌, Option, Some, ◌⊎◌, true, IsSomeAnd, IfSome, ◌≤◌, is_some, Bool, false}
+use Rattle.std.specs.Option.{option_map}
+use Rattle.command_spec.specs.Machine.{Step, Yields, Spells, HasInputFault, CommandPrints, RefusedPrints, FrontPrints}
+use Rattle.command_spec.specs.Outcome.{CommandOutcome}
+use Rattle.command_spec.specs.Runs.{InputLeft, OverTold, IsCutOff, IsOfBytes}
+use Rattle.command_spec.specs.Traits.{Traits, traits_of}
+use Rattle.command_spec.specs.declared.status.Status.{Status}
+use Rattle.command_spec.specs.declared.words.Words.{Words}
+use Rattle.qic_base.specs.Acts.{Outside, Failing, steps_of, NoneFell}
+use Rattle.qic_base.specs.Cartridge.{Cartridge}
+use Rattle.qic_base.specs.Cause.{Rose}
+use Rattle.qic_base.specs.Stop.{Torn}
+use Rattle.qic_base.specs.Sink as sinks
+use Rattle.qic_base.specs.Source as sources
+use Rattle.qic_base.specs.Tape as tapes
+use Rattle.command_spec.specs.declared.status.Status.TheVariants as status
+
+-- ---- a step of the plain machine
+
+-- It took place: over the cartridge that the tape told, and this input.
+pub record Stepped {T S K : Type 0} (t : tapes.Meaning T) (s : sources.Meaning S) (k : sinks.Meaning K) (words : List (List ℕ)) (held : Option Cartridge) (input : List ℕ) (old new : Outside T S K) (answer : Status) : Type 0 where
+  pub held' : Option Cartridge
+  pub output : List ℕ
+  pub taken : ℕ
+  pub step : Step words held input held' output taken answer
+  pub tape : t.told new.tape ≡ Some held'
+  pub source : InputLeft answer taken (s.left old.source) (s.left new.source)
+  pub took : k.took old.sink output new.sink
+  pub written : k.written new.sink ≡ option_map (λ bytes. bytes ++ output) (k.written old.sink)
+
+-- the answer is want of memory, or the step was made
+abbrev pub Answers : {T S K : Type 0} (t : tapes.Meaning T) (s : sources.Meaning S) (k : sinks.Meaning K) (words : List (List ℕ)) (old new : Outside T S K) → Status → Type 0
+Answers t s k words old new answer =
+    OverTold t s old (λ held input. (answer ≡ status.NoMemory) ⊎ Stepped t s k words held input old new answer)
+
+-- no count of faults rose
+pub record NoneRose {T S K : Type 0} (t : tapes.Meaning T) (s : sources.Meaning S) (k : sinks.Meaning K) (old new : Outside T S K) : Type 0 where
+  pub tape : ¬ (Rose (t.faults old.tape) (t.faults new.tape))
+  pub source : ¬ (Rose (s.faults old.source) (s.faults new.source))
+  pub sink : ¬ (Rose (k.faults old.sink) (k.faults new.sink))
+
+-- ---- a fault of the outside
+
+-- it cut off the acts of the plain machine's outcome
+pub record WasCut {T S K : Type 0} (t : tapes.Meaning T) (s : sources.Meaning S) (k : sinks.Meaning K) (command : Words) (held : Option Cartridge) (input : List ℕ) (old new : Outside T S K) (failing : Failing) : Type 0 where
+  pub outcome : CommandOutcome
+  pub plain : Yields command held input outcome
+  pub off : IsCutOff t s k command old new failing outcome
+
+-- of a command that the words spell, over what is told
+abbrev pub IsCut : {T S K : Type 0} (t : tapes.Meaning T) (s : sources.Meaning S) (k : sinks.Meaning K) (words : List (List ℕ)) (old new : Outside T S K) → Failing → Type 0
+IsCut t s k words old new failing =
+    (command : Words) × Spells words command × OverTold t s old (λ held input. WasCut t s k command held input old new failing)
+
+-- ---- a stop
+
+-- Each cartridge that a run leaves, by what the drive held: that which the tape tells when the run is over, whatever it
+-- answered; and, where the tape tells its stops, each that a stop since the run's start might have left, and each that
+-- one now may leave.
+pub record EachLeft {T : Type 0} (t : tapes.Meaning T) (old new : T) (P : (held left : Option Cartridge) → Type 0) : Type 0 where
+  pub told : (held : Option Cartridge) → t.told old ≡ Some held → IsSomeAnd (t.told new) (P held)
+  pub since : (held left : Option Cartridge) → t.tells_stops old ≡ true → t.told old ≡ Some held → t.left_since new (t.moment old) left → P held left
+  pub now : (held left : Option Cartridge) → t.tells_stops old ≡ true → t.told old ≡ Some held → t.left_since new (t.moment new) left → P held left
+
+-- Each cartridge that stands when a run is over: that which the tape tells, and, where it told its stops, each that a stop
+-- now may leave.
+pub record EachNow {T : Type 0} (t : tapes.Meaning T) (old new : T) (P : (left : Option Cartridge) → Type 0) : Type 0 where
+  pub told : IsSomeAnd (t.told new) P
+  pub now : (left : Option Cartridge) → t.tells_stops old ≡ true → t.left_since new (t.moment new) left → P left
+
+-- a stop in the steps of an outcome leaves this, over the input that is told, or some input where none is
+pub record StopLeaves (told : Option (List ℕ)) (command : Words) (held left : Option Cartridge) : Type 0 where
+  pub input : List ℕ
+  pub is_told : IfSome told (λ bytes. input ≡ bytes)
+  pub bytes : IsOfBytes command told input
+  pub outcome : CommandOutcome
+  pub plain : Yields command held input outcome
+  pub torn : Torn (steps_of outcome.acts) held left
+
+-- what a run leaves: what stood, or what a stop in its command leaves
+abbrev pub WordsLeave : (told : Option (List ℕ)) → List (List ℕ) → (held left : Option Cartridge) → Type 0
+WordsLeave told words held left =
+    (left ≡ held) ⊎ ((command : Words) × Spells words command × StopLeaves told command held left)
+
+-- ---- runs one after the other
+
+-- what was told of stops before is told of them still, and time has not run backwards
+pub record StopsGoOn {T : Type 0} (t : tapes.Meaning T) (old new : T) : Type 0 where
+  pub telling : t.tells_stops new ≡ t.tells_stops old
+  pub clock : t.moment old ≤ t.moment new
+  pub kept : (time : ℕ) (left : Option Cartridge) → time ≤ t.moment old → t.left_since old time left → t.left_since new time left
+  pub parted : (time later : ℕ) (left : Option Cartridge) → time ≤ later → later ≤ t.moment old →
+      t.left_since new time left → t.left_since old time left ⊎ t.left_since new later left
+
+-- the clauses of two runs over the same objects can be put together
+pub record Joins {T S K : Type 0} (t : tapes.Meaning T) (s : sources.Meaning S) (k : sinks.Meaning K) (old new : Outside T S K) : Type 0 where
+  -- no count has fallen
+  pub counts : NoneFell t s k old new
+  -- each object tells as before
+  pub tape : is_some (t.told new.tape) ≡ is_some (t.told old.tape)
+  pub source : is_some (s.left new.source) ≡ is_some (s.left old.source)
+  pub sink : is_some (k.written new.sink) ≡ is_some (k.written old.sink)
+  pub stops : StopsGoOn t old.tape new.tape
+
+-- ---- what is answered and printed over any tape, source and sink
+
+-- the words are those of a command with this trait
+abbrev pub SpellsOne : (words : List (List ℕ)) → (Traits → Bool) → Type 0
+SpellsOne words trait = (command : Words) × Spells words command × (trait (traits_of command) ≡ true)
+
+-- they are of none with it
+abbrev pub SpellsNoneThat : (words : List (List ℕ)) → (Traits → Bool) → Type 0
+SpellsNoneThat words trait = (command : Words) → Spells words command → trait (traits_of command) ≡ false
+
+-- a fault of the input comes from a command that reads lines of it, and is where it is named
+abbrev pub HasNamedFault : (told : Option (List ℕ)) (words : List (List ℕ)) (line place : ℕ) → Type 0
+HasNamedFault told words line place =
+    (command : Words) × Spells words command × ((traits_of command).lines ≡ true)
+    × IfSome told (λ input. HasInputFault command input line place)
+
+-- the input has none
+abbrev pub HasNoFault : (told : Option (List ℕ)) (words : List (List ℕ)) → Type 0
+HasNoFault told words =
+    (command : Words) → Spells words command → IfSome told (λ input. (line place : ℕ) → ¬ (HasInputFault command input line place))
+
+-- the sink took the text of a command that was carried out
+pub record PrintsText {K : Type 0} (k : sinks.Meaning K) (words : List (List ℕ)) (old new : K) : Type 0 where
+  pub command : Words
+  pub spelled : Spells words command
+  pub text : List ℕ
+  pub is_text : CommandPrints command text
+  pub took : k.took old text new
+
+-- it took what a command prints that was refused with this answer
+pub record PrintsRefused {K : Type 0} (k : sinks.Meaning K) (command : Words) (answer : Status) (old new : K) : Type 0 where
+  pub text : List ℕ
+  pub is_text : RefusedPrints command answer text
+  pub took : k.took old text new
+
+-- it took a front of the text of a command that was carried out
+pub record PrintsFront {K : Type 0} (k : sinks.Meaning K) (command : Words) (old new : K) : Type 0 where
+  pub text : List ℕ
+  pub is_front : FrontPrints command text
+  pub took : k.took old text new

@@ -1,0 +1,123 @@
+-- The inputs of `script` and of `pulses`: items, and what ends them (this project's own).
+use Rattle.std.specs.Prelude.{◌≡◌, ◌≢◌, ℕ, ◌+◌, ◌≤◌, List, [], ◌∷◌, ◌++◌, length, All, ◌==◌, codes}
+use Rattle.std.specs.List.{slice_split}
+use Rattle.command_spec.specs.CommandWords.{Part, Word, Name, dated, AnyNumber, HasForm, SpellsPart, Number}
+use Rattle.command_spec.specs.declared.line.Line.{Line}
+use Rattle.command_spec.specs.declared.line.Line.TheVariants as line
+
+-- ---- lines
+
+-- The text is a line with its newline: at most 127 bytes before it, none of them a newline, which have the property.
+pub record IsLined (P : List ℕ → Type 0) (text : List ℕ) : Type 0 where
+  pub before : List ℕ
+  pub short : length before ≤ 127
+  pub one_line : All (λ b. b ≢ 0x0A) before
+  pub whole : text ≡ before ++ 0x0A ∷ []
+  pub has : P before
+
+-- the words of a line: what stands before, between and behind its spaces, so that one space parts each two
+abbrev pub words_of : List ℕ → List (List ℕ)
+words_of text = slice_split (λ b. b == 0x20) text
+
+-- the forms of a script's lines
+abbrev pub line_forms : Line → List (List Part)
+line_forms (line.Append name length date) = dated (Word (codes "append") ∷ Name name ∷ AnyNumber length ∷ []) date
+line_forms line.List = (Word (codes "list") ∷ []) ∷ []
+line_forms (line.Restore number) = (Word (codes "restore") ∷ AnyNumber number ∷ []) ∷ []
+line_forms line.Scrub = (Word (codes "scrub") ∷ []) ∷ []
+line_forms (line.Lose segment sector) = (Word (codes "lose") ∷ AnyNumber segment ∷ AnyNumber sector ∷ []) ∷ []
+line_forms line.End = (Word (codes "end") ∷ []) ∷ []
+
+-- the words are those of a line
+abbrev pub HasLineForm : List (List ℕ) → Line → Type 0
+HasLineForm words line = HasForm words (line_forms line)
+
+-- the bytes before a newline are those of a script's line
+abbrev pub IsLine : List ℕ → Line → Type 0
+IsLine before line = HasLineForm (words_of before) line
+
+-- the bytes before a newline are a number of pulses
+abbrev pub IsTrain : List ℕ → ℕ → Type 0
+IsTrain before pulses = SpellsPart before (Number 0 255 pulses)
+
+-- ---- items
+
+-- how many bytes follow a line at once
+abbrev pub promised : Line → ℕ
+promised (line.Append name length date) = length
+promised line.List = 0
+promised (line.Restore number) = 0
+promised line.Scrub = 0
+promised (line.Lose segment sector) = 0
+promised line.End = 0
+
+-- what one line of a script asks for: the line, and the bytes of an append
+pub record Item : Type 0 where
+  pub line : Line
+  pub bytes : List ℕ
+
+-- the text of an item: any line but `end`, with its newline, and then the bytes that it promises
+pub record IsItem (text : List ℕ) (item : Item) : Type 0 where
+  pub front : List ℕ
+  pub lined : IsLined (λ before. IsLine before item.line) front
+  pub not_end : item.line ≢ line.End
+  pub whole : text ≡ front ++ item.bytes
+  pub kept : length item.bytes ≡ promised item.line
+
+-- the text of an item of `pulses`: a number, with its newline
+abbrev pub IsPulse : List ℕ → ℕ → Type 0
+IsPulse text pulses = IsLined (λ before. IsTrain before pulses) text
+
+-- ---- inputs
+
+-- the most items before the line `end`
+abbrev pub most_items : ℕ
+most_items = 65536
+
+-- what ends the items: the end of the input, the line `end`, or a fault in the line with this number, counted from 1,
+-- with so many bytes of the input before it
+pub data Ending : Type 0 where
+  AtEnd : Ending
+  AtStop : Ending
+  AtFault : ℕ → ℕ → Ending
+
+-- the line `end`, and anything behind it
+abbrev pub HasStop : List ℕ → Type 0
+HasStop input = (rest : List ℕ) × (input ≡ codes "end\n" ++ rest)
+
+-- an item begins the input
+abbrev pub HasItem : {I : Type 0} → (List ℕ → I → Type 0) → List ℕ → Type 0
+HasItem {I} Spelled input = (item : I) × ((text : List ℕ) × ((rest : List ℕ) × ((input ≡ text ++ rest) × Spelled text item)))
+
+-- No line is read here: some bytes are left, not those of the line `end`, and no item begins them or none may come any
+-- more.
+pub record IsFault {I : Type 0} (Spelled : List ℕ → I → Type 0) (line : ℕ) (input : List ℕ) : Type 0 where
+  pub some : input ≢ []
+  pub no_stop : ¬ (HasStop input)
+  pub no_item : line ≤ most_items → ¬ (HasItem Spelled input)
+
+-- how the items end, in front of the line with this number
+abbrev pub ItemsEnd : {I : Type 0} → (List ℕ → I → Type 0) → (line place : ℕ) → List ℕ → Ending → Type 0
+ItemsEnd Spelled line place input AtEnd = input ≡ []
+ItemsEnd Spelled line place input AtStop = HasStop input
+ItemsEnd Spelled line place input (AtFault number before) =
+    IsFault Spelled line input × (number ≡ line) × (before ≡ place)
+
+-- the input is these items and then this ending, from the line with this number and the place with so many bytes
+-- before it
+abbrev pub HasItems : {I : Type 0} → (List ℕ → I → Type 0) → (line place : ℕ) → List ℕ → List I → Ending → Type 0
+HasItems Spelled line place input [] ending = ItemsEnd Spelled line place input ending
+HasItems Spelled line place input (item ∷ items) ending =
+    (line ≤ most_items)
+    × ((text : List ℕ) × ((rest : List ℕ) × ((input ≡ text ++ rest) × Spelled text item
+    × HasItems Spelled (line + 1) (place + length text) rest items ending)))
+
+abbrev pub IsScript : List ℕ → List Item → Ending → Type 0
+IsScript input items ending = HasItems IsItem 1 0 input items ending
+
+abbrev pub IsPulses : List ℕ → List ℕ → Ending → Type 0
+IsPulses input trains ending = HasItems IsPulse 1 0 input trains ending
+
+-- a line of a script, with its newline
+abbrev pub IsLineText : List ℕ → Line → Type 0
+IsLineText text line = IsLined (λ before. IsLine before line) text

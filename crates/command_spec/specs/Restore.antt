@@ -1,0 +1,140 @@
+-- The plain machine of `restore`: a volume's bytes, segment by segment, and how their giving ends (this project's own).
+use Rattle.std.specs.Prelude.{ℕ, zero, suc, ◌-◌, List, [], ◌∷◌, min, sum_by, ◌≤◌, take, ◌≡◌, ◌++◌, codes, decimal, ◌<◌, All, length, slice_get, IsSomeAnd, Option, None, Some, ◌⊎◌}
+use Rattle.cartridge_spec.specs.Appending.{bytes_in}
+use Rattle.cartridge_spec.specs.Mounting.{settled}
+use Rattle.cartridge_spec.specs.Says.{cells_of, unreadable_count, Says, Data, LostSectors, Mismatch}
+use Rattle.cartridge_spec.specs.Settling.{settling_steps}
+use Rattle.cartridge_spec.specs.Shape.{mask_at, capacity}
+use Rattle.cartridge_spec.specs.Table.{Entry}
+use Rattle.cartridge_spec.specs.Volumes.{carrying_segments, volume_length, Plain, Volume}
+use Rattle.command_spec.specs.Outcome.{settling_act, CommandOutcome, Going, refused_behind, OpenOutcome}
+use Rattle.command_spec.specs.declared.status.Status.{Status}
+use Rattle.qic_base.specs.Acts.{Act}
+use Rattle.qic_base.specs.Cartridge.{Cartridge}
+use Rattle.qic_base.specs.declared.tape.SectorView.{SectorView}
+use Rattle.command_spec.specs.declared.status.Status.TheVariants as status
+
+-- ---- the segments that are read
+
+-- a segment, and how many bytes of the volume it holds
+pub record Piece : Type 0 where
+  pub segment : ℕ
+  pub count : ℕ
+
+-- so many bytes in these segments, each with as many as it carries: one that holds none of them is not read
+abbrev pub pieces_of : (words segments : List ℕ) (left : ℕ) → List Piece
+pieces_of words [] left = []
+pieces_of words (s ∷ ss) zero = []
+pieces_of words (s ∷ ss) (suc left) =
+    record { segment = s; count = min (suc left) (capacity (mask_at words s)) }
+    ∷ pieces_of words ss (suc left - capacity (mask_at words s))
+
+-- a volume's length in its carrying segments
+abbrev pub pieces : (words : List ℕ) → Entry → List Piece
+pieces words e = pieces_of words (carrying_segments words e) (volume_length words e)
+
+-- the bytes that some pieces hold
+abbrev pub bytes_held : List Piece → ℕ
+bytes_held needed = sum_by (λ piece. piece.count) needed
+
+-- ---- reading them
+
+-- the cells of a piece's segment
+abbrev pub piece_cells : Cartridge → (words : List ℕ) → Piece → List SectorView
+piece_cells c words piece = cells_of c piece.segment (mask_at words piece.segment)
+
+-- at most three of them are unreadable
+abbrev pub LosesFew : Cartridge → (words : List ℕ) → Piece → Type 0
+LosesFew c words piece = unreadable_count (piece_cells c words piece) ≤ 3
+
+-- the first bytes of a segment's data, as many as it holds of the volume; no step changes the tape
+abbrev pub act_of : Piece → (sectors : List (List ℕ)) → Act
+act_of piece sectors = record { steps = []; text = take piece.count (bytes_in sectors) }
+
+-- the segment says data, and the act is of them
+pub record IsRead (c : Cartridge) (words : List ℕ) (piece : Piece) (act : Act) : Type 0 where
+  pub sectors : List (List ℕ)
+  pub says : Says (piece_cells c words piece) (Data sectors)
+  pub shown : act ≡ act_of piece sectors
+
+-- how a restore ends: all was read; a segment has so many unreadable sectors, more than three; or at most three, and the
+-- others are those of no code block
+pub data Ending : Type 0 where
+  Restored : Ending
+  LostIn : (segment lost : ℕ) → Ending
+  MismatchIn : ℕ → Ending
+
+-- a piece's segment says no data, and so ends the restore
+abbrev pub PieceEnds : Cartridge → (words : List ℕ) → Piece → Ending → Type 0
+PieceEnds c words piece Restored = ⊥
+PieceEnds c words piece (LostIn segment lost) = (segment ≡ piece.segment) × Says (piece_cells c words piece) (LostSectors lost)
+PieceEnds c words piece (MismatchIn segment) = (segment ≡ piece.segment) × Says (piece_cells c words piece) Mismatch
+
+-- the acts of the pieces that are read, one for each in their order, and the ending: there is no act for the piece that
+-- ends it, and none behind
+abbrev pub Restores : Cartridge → (words : List ℕ) → List Piece → List Act → Ending → Type 0
+Restores c words [] acts ending = (acts ≡ []) × (ending ≡ Restored)
+Restores c words (piece ∷ needed) [] ending = PieceEnds c words piece ending
+Restores c words (piece ∷ needed) (act ∷ acts) ending = IsRead c words piece act × Restores c words needed acts ending
+
+-- ---- the framed form
+
+-- an act with the line `part K` before its text, where K is the count of its piece
+abbrev pub framed_act : Piece → Act → Act
+framed_act piece act = record {
+  steps = act.steps;
+  text = codes "part " ++ decimal piece.count ++ codes "\n" ++ act.text;
+}
+
+-- each act of these pieces in that form
+abbrev pub framed : List Piece → List Act → List Act
+framed [] acts = []
+framed (piece ∷ needed) [] = []
+framed (piece ∷ needed) (act ∷ acts) = framed_act piece act ∷ framed needed acts
+
+-- its pieces
+abbrev pub pieces_in : Plain → Volume → List Piece
+pieces_in plain volume = pieces plain.words volume.entry
+
+-- the first piece whose segment has more
+pub record FirstLost (c : Cartridge) (words : List ℕ) (needed : List Piece) : Type 0 where
+  pub front : List Piece
+  pub piece : Piece
+  pub rest : List Piece
+  pub whole : front ++ piece ∷ rest ≡ needed
+  pub few : All (LosesFew c words) front
+  pub many : 3 < unreadable_count (piece_cells c words piece)
+
+-- with so many pieces read: all of them, or the next one's segment is the one that says no data
+abbrev pub EndsAt : List Piece → (done : ℕ) → Ending → Type 0
+EndsAt needed done Restored = done ≡ length needed
+EndsAt needed done (LostIn segment lost) = (3 < lost) × IsSomeAnd (slice_get needed done) (λ piece. piece.segment ≡ segment)
+EndsAt needed done (MismatchIn segment) = IsSomeAnd (slice_get needed done) (λ piece. piece.segment ≡ segment)
+
+-- the volume with a number, counted from 1
+abbrev pub volume_at : List Entry → (number : ℕ) → Option Entry
+volume_at entries zero = None
+volume_at entries (suc n) = slice_get entries n
+
+-- the answer to how a restore ended
+abbrev pub ending_status : Ending → Status
+ending_status Restored = status.Done
+ending_status (LostIn segment lost) = status.Lost segment lost
+ending_status (MismatchIn segment) = status.Mismatch segment
+
+-- there is such a volume, and the settled cartridge gives this of it
+pub record RestoresOn (c : Cartridge) (words : List ℕ) (table : List (List ℕ)) (entries : List Entry) (number : ℕ) (outcome : CommandOutcome) : Type 0 where
+  pub entry : Entry
+  pub numbered : volume_at entries number ≡ Some entry
+  pub acts : List Act
+  pub ending : Ending
+  pub restores : Restores (settled table c) words (pieces words entry) acts ending
+  pub is : outcome ≡ record { acts = settling_act table c ∷ acts; taken = 0; status = ending_status ending }
+
+abbrev pub Gives : (number : ℕ) → Going
+Gives number c header words table entries outcome =
+    ((volume_at entries number ≡ None) × (outcome ≡ refused_behind (settling_steps table c) (status.NoVolume number (length entries))))
+    ⊎ RestoresOn c words table entries number outcome
+
+abbrev pub RestoreOutcome : (number : ℕ) → Option Cartridge → CommandOutcome → Type 0
+RestoreOutcome number held outcome = OpenOutcome (Gives number) held outcome

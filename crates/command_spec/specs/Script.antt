@@ -1,0 +1,272 @@
+-- The plain machine of `script`: its lines, one after the other, over a mounted cartridge, and their replies (this project's own).
+use Rattle.std.specs.Prelude.{ℕ, List, codes, ◌++◌, decimal, [], ◌+◌, ◌∷◌, ◌≡◌, true, false, ◌-◌, length, Some, ◌⊎◌, None, ◌<◌, ◌≤◌, drop, Option}
+use Rattle.cartridge_spec.specs.HeaderAndTable.{table_cells, TableIs}
+use Rattle.cartridge_spec.specs.Mounting.{settled}
+use Rattle.cartridge_spec.specs.Says.{ByCode, LostSectors, TableSays}
+use Rattle.cartridge_spec.specs.Settling.{settling_steps, changed_by}
+use Rattle.cartridge_spec.specs.Table.{Entry}
+use Rattle.cartridge_spec.specs.Volumes.{volume_length}
+use Rattle.command_spec.specs.Append.{Kept, append_acts, Taking, Fits, TooLong, TooShort, entry_for, room_in, taking}
+use Rattle.command_spec.specs.Input.{Item, IsLineText, most_items, Ending, AtEnd, AtStop, AtFault, IsItem, HasItems, IsScript}
+use Rattle.command_spec.specs.Lines.{place_line, number_line, reply_behind, lost_line, list_text}
+use Rattle.command_spec.specs.Outcome.{settling_act, CommandOutcome, Going, OpenOutcome}
+use Rattle.command_spec.specs.Restore.{Restored, LostIn, MismatchIn, Restores, framed, pieces, volume_at}
+use Rattle.command_spec.specs.Scrub.{Scrubs}
+use Rattle.command_spec.specs.declared.line.Line.{Line}
+use Rattle.command_spec.specs.declared.refusal.Refusal.{Refusal}
+use Rattle.command_spec.specs.declared.status.Status.{Status}
+use Rattle.qic_base.specs.Acts.{Act, steps_of}
+use Rattle.qic_base.specs.Cartridge.{Cartridge, IsPlace}
+use Rattle.qic_base.specs.Step.{Wear}
+use Rattle.command_spec.specs.declared.refusal.Refusal.TheVariants as why
+use Rattle.command_spec.specs.Restore as restoring
+use Rattle.command_spec.specs.declared.line.Line.TheVariants as line
+use Rattle.command_spec.specs.declared.status.Status.TheVariants as status
+
+-- a volume that was given back: its number, and its length in bytes
+abbrev pub restored_line : (number bytes : ℕ) → List ℕ
+restored_line number bytes = place_line (codes "restored") number bytes
+
+-- what is there of what was asked for
+unfoldable pub no_volume_line : (number count : ℕ) → List ℕ
+no_volume_line number count = codes "refused no volume " ++ decimal number ++ codes " of " ++ decimal count ++ codes "\n"
+
+-- the reply to a line that is refused
+abbrev pub refusal_line : Refusal → List ℕ
+refusal_line why.Protected = codes "refused protected\n"
+refusal_line (why.Full need have) = place_line (codes "refused full") need have
+refusal_line (why.NoVolume number count) = no_volume_line number count
+refusal_line (why.Lost segment lost) = place_line (codes "refused lost") segment lost
+refusal_line (why.Mismatch segment) = number_line (codes "refused mismatch") segment
+refusal_line (why.Place segment sector) = place_line (codes "refused place") segment sector
+
+-- the last reply of a script that came to its end
+abbrev pub end_line : List ℕ
+end_line = codes "end\n"
+
+-- ---- what an item has done
+
+-- its acts, and the volumes behind it
+pub record Did : Type 0 where
+  pub acts : List Act
+  pub entries : List Entry
+
+-- a reply alone
+abbrev pub reply : List ℕ → Act
+reply text = record { steps = []; text = text }
+
+-- it was refused behind some acts, and the volumes are as before
+abbrev pub refused : List Act → List Entry → Refusal → Did
+refused acts entries why = record { acts = acts ++ reply (refusal_line why) ∷ []; entries = entries }
+
+-- ---- append
+
+-- what an append meets before it takes a byte: a refusal, or the data of the table, which are settled
+pub data Meeting : Type 0 where
+  Refuses : Refusal → Meeting
+  Finds : (table : List (List ℕ)) → Meeting
+
+-- The protect mark comes first. The table's segment is read as it is then, also where a sector of it was lost since the
+-- cartridge was mounted.
+abbrev pub Meets : Cartridge → Meeting → Type 0
+Meets c (Refuses why.Protected) = c.info.protected ≡ true
+Meets c (Refuses (why.Lost segment lost)) =
+    (c.info.protected ≡ false) × (segment ≡ 2) × TableSays (table_cells c) (ByCode (LostSectors lost))
+Meets c (Refuses other) = ⊥
+Meets c (Finds table) = (c.info.protected ≡ false) × TableIs c table
+
+-- what it goes by where it finds these data
+abbrev pub kept_on : Cartridge → (words : List ℕ) → List Entry → (table : List (List ℕ)) → Kept
+kept_on c words entries table = record {
+  words = words;
+  entries = entries;
+  last = length words - 1;
+  table = table;
+  settling = settling_steps table c;
+}
+
+-- its acts over bytes that are as many as were promised, or fewer at the end of the input
+abbrev pub acts_on : Cartridge → (words : List ℕ) → List Entry → (name : List ℕ) → (promised date : ℕ) → (bytes : List ℕ) → Meeting → List Act
+acts_on c words entries name promised date bytes (Refuses why) = []
+acts_on c words entries name promised date bytes (Finds table) =
+    append_acts (kept_on c words entries table) name date (Some promised) (reply_behind (length entries)) bytes
+
+-- what it has done then, by what became of the bytes
+abbrev pub taken_as : Kept → (name : List ℕ) → (date : ℕ) → List Act → Taking → Did
+taken_as kept name date acts (Fits bytes) = record { acts = acts; entries = kept.entries ++ entry_for kept name date bytes ∷ [] }
+taken_as kept name date acts (TooLong need have) = refused acts kept.entries (why.Full need have)
+taken_as kept name date acts (TooShort promised read) = record { acts = acts; entries = kept.entries }
+
+-- all of the promised bytes are there
+abbrev pub appended : Cartridge → (words : List ℕ) → List Entry → (name : List ℕ) → (promised date : ℕ) → (bytes : List ℕ) → Meeting → Did
+appended c words entries name promised date bytes (Refuses why) = refused [] entries why
+appended c words entries name promised date bytes (Finds table) =
+    let kept : Kept = kept_on c words entries table in
+    taken_as kept name date (acts_on c words entries name promised date bytes (Finds table)) (taking (room_in kept) (Some promised) bytes)
+
+abbrev pub Appends : Cartridge → (words : List ℕ) → List Entry → (name : List ℕ) → (promised date : ℕ) → (bytes : List ℕ) → Did → Type 0
+Appends c words entries name promised date bytes did =
+    (meeting : Meeting) × Meets c meeting × (did ≡ appended c words entries name promised date bytes meeting)
+
+-- ---- restore
+
+-- what a restore has done that printed these parts
+abbrev pub given_as : (words : List ℕ) → List Entry → (number : ℕ) → Entry → List Act → restoring.Ending → Did
+given_as words entries number e parts Restored =
+    record { acts = parts ++ reply (restored_line number (volume_length words e)) ∷ []; entries = entries }
+given_as words entries number e parts (LostIn segment lost) = refused parts entries (why.Lost segment lost)
+given_as words entries number e parts (MismatchIn segment) = refused parts entries (why.Mismatch segment)
+
+-- the volume with this number, as the cartridge gives it
+pub record GivesBack (c : Cartridge) (words : List ℕ) (entries : List Entry) (number : ℕ) (did : Did) : Type 0 where
+  pub entry : Entry
+  pub numbered : volume_at entries number ≡ Some entry
+  pub acts : List Act
+  pub ending : restoring.Ending
+  pub restores : Restores c words (pieces words entry) acts ending
+  pub is : did ≡ given_as words entries number entry (framed (pieces words entry) acts) ending
+
+abbrev pub Restores_one : Cartridge → (words : List ℕ) → List Entry → (number : ℕ) → Did → Type 0
+Restores_one c words entries number did =
+    ((volume_at entries number ≡ None) × (did ≡ refused [] entries (why.NoVolume number (length entries))))
+    ⊎ GivesBack c words entries number did
+
+-- ---- scrub, lose and list
+
+abbrev pub Mends : Cartridge → (words : List ℕ) → List Entry → Did → Type 0
+Mends c words entries did =
+    ((c.info.protected ≡ true) × (did ≡ refused [] entries why.Protected))
+    ⊎ ((c.info.protected ≡ false) × ((acts : List Act) × Scrubs c words entries acts × (did ≡ record { acts = acts; entries = entries })))
+
+abbrev pub Loses : Cartridge → List Entry → (segment sector : ℕ) → Did → Type 0
+Loses c entries segment sector did =
+    (¬ (IsPlace c.info.segments_per_track segment sector) × (did ≡ refused [] entries (why.Place segment sector)))
+    ⊎ (IsPlace c.info.segments_per_track segment sector
+    × (did ≡ record { acts = record { steps = Wear segment sector ∷ []; text = lost_line segment sector } ∷ []; entries = entries }))
+
+-- ---- an item
+
+-- what a line does on a cartridge with this map and these volumes, with the bytes that follow it
+abbrev pub LineDoes : Cartridge → (words : List ℕ) → List Entry → Line → (bytes : List ℕ) → Did → Type 0
+LineDoes c words entries (line.Append name promised date) bytes did = Appends c words entries name promised date bytes did
+LineDoes c words entries line.List bytes did = did ≡ record { acts = reply (list_text words entries) ∷ []; entries = entries }
+LineDoes c words entries (line.Restore number) bytes did = Restores_one c words entries number did
+LineDoes c words entries line.Scrub bytes did = Mends c words entries did
+LineDoes c words entries (line.Lose segment sector) bytes did = Loses c entries segment sector did
+LineDoes c words entries line.End bytes did = ⊥
+
+abbrev pub ItemDoes : Cartridge → (words : List ℕ) → List Entry → Item → Did → Type 0
+ItemDoes c words entries item did = LineDoes c words entries item.line item.bytes did
+
+-- ---- items one after the other
+
+-- the acts of all
+abbrev pub acts_of : List Did → List Act
+acts_of [] = []
+acts_of (did ∷ dids) = did.acts ++ acts_of dids
+
+-- the volumes behind the last
+abbrev pub entries_behind : List Entry → List Did → List Entry
+entries_behind entries [] = entries
+entries_behind entries (did ∷ dids) = entries_behind did.entries dids
+
+-- the cartridge behind the last
+abbrev pub cartridge_behind : Cartridge → List Did → Cartridge
+cartridge_behind c [] = c
+cartridge_behind c (did ∷ dids) = cartridge_behind (changed_by (steps_of did.acts) c) dids
+
+-- each item did this, on the cartridge and with the volumes as those before it left them
+abbrev pub ItemsDo : Cartridge → (words : List ℕ) → List Entry → List Item → List Did → Type 0
+ItemsDo c words entries [] [] = Unit {0}
+ItemsDo c words entries [] (did ∷ dids) = ⊥
+ItemsDo c words entries (item ∷ items) [] = ⊥
+ItemsDo c words entries (item ∷ items) (did ∷ dids) =
+    ItemDoes c words entries item did × ItemsDo (changed_by (steps_of did.acts) c) words did.entries items dids
+
+-- ---- the end
+
+-- An append's line begins these bytes, and fewer than it promises stand behind it.
+pub record EndsEarly (rest : List ℕ) : Type 0 where
+  pub name : List ℕ
+  pub promised : ℕ
+  pub date : ℕ
+  pub text : List ℕ
+  pub bytes : List ℕ
+  pub lined : IsLineText text (line.Append name promised date)
+  pub parts : rest ≡ text ++ bytes
+  pub short : length bytes < promised
+
+-- the acts in front of a fault in the line with this number, which begins these bytes: those of an append whose bytes end
+-- early, and none where no line is read
+abbrev pub FaultDoes : Cartridge → (words : List ℕ) → List Entry → (number : ℕ) → (rest : List ℕ) → List Act → Type 0
+FaultDoes c words entries number rest acts =
+    ((number ≤ most_items) × ((early : EndsEarly rest) × ((meeting : Meeting) × Meets c meeting
+    × (acts ≡ acts_on c words entries early.name early.promised early.date early.bytes meeting))))
+    ⊎ (((number ≤ most_items) → ¬ (EndsEarly rest)) × (acts ≡ []))
+
+-- the last acts, behind which these bytes are left: the reply `end`, but for a fault
+abbrev pub EndDoes : Cartridge → (words : List ℕ) → List Entry → (rest : List ℕ) → Ending → List Act → Type 0
+EndDoes c words entries rest AtEnd acts = acts ≡ reply end_line ∷ []
+EndDoes c words entries rest AtStop acts = acts ≡ reply end_line ∷ []
+EndDoes c words entries rest (AtFault number place) acts = FaultDoes c words entries number rest acts
+
+-- ---- the outcome
+
+-- how a run is answered: all was carried out; or this line, counted from 1, is at fault, with so many bytes before it
+pub data Answer : Type 0 where
+  AllDone : Answer
+  FaultIn : (number place : ℕ) → Answer
+
+abbrev pub answer_by : Ending → Answer
+answer_by AtEnd = AllDone
+answer_by AtStop = AllDone
+answer_by (AtFault number place) = FaultIn number place
+
+-- how many bytes of the input stand before what ends the items
+abbrev pub place_behind : (number place : ℕ) (input : List ℕ) (items : List Item) (ending : Ending) → HasItems IsItem number place input items ending → ℕ
+place_behind number place input [] ending read = place
+place_behind number place input (item ∷ items) ending read =
+    place_behind (number + 1) (place + length read.1.0) read.1.1.0 items ending read.1.1.1.2
+
+-- how many bytes are taken: all of them; or those up to and with the line `end`; or at least those before the fault
+abbrev pub taken_by : (input : List ℕ) (items : List Item) (ending : Ending) → IsScript input items ending → ℕ
+taken_by input items AtEnd read = length input
+taken_by input items AtStop read = place_behind 1 0 input items AtStop read + length (codes "end\n")
+taken_by input items (AtFault number place) read = place
+
+pub record ScriptRun : Type 0 where
+  pub acts : List Act
+  pub taken : ℕ
+  pub answer : Answer
+
+-- The plain machine: an input over a mounted cartridge with this map and these volumes.
+pub record ScriptDoes (c : Cartridge) (words : List ℕ) (entries : List Entry) (input : List ℕ) (outcome : ScriptRun) : Type 0 where
+  pub items : List Item
+  pub ending : Ending
+  pub read : IsScript input items ending
+  pub dids : List Did
+  pub did : ItemsDo c words entries items dids
+  pub last : List Act
+  pub ends : EndDoes (cartridge_behind c dids) words (entries_behind entries dids) (drop (place_behind 1 0 input items ending read) input) ending last
+  pub is : outcome ≡ record { acts = acts_of dids ++ last; taken = taken_by input items ending read; answer = answer_by ending }
+
+-- how a script's answer is answered
+abbrev pub script_status : Answer → Status
+script_status AllDone = status.Done
+script_status (FaultIn number place) = status.ScriptFault number place
+
+-- the settling of the table, and then what the lines did
+abbrev pub scripted_on : (table : List (List ℕ)) → Cartridge → ScriptRun → CommandOutcome
+scripted_on table c came = record { acts = settling_act table c ∷ came.acts; taken = came.taken; status = script_status came.answer }
+
+-- the lines of an input are carried out on the settled cartridge
+pub record ScriptsOn (input : List ℕ) (c : Cartridge) (words : List ℕ) (table : List (List ℕ)) (entries : List Entry) (outcome : CommandOutcome) : Type 0 where
+  pub came : ScriptRun
+  pub does : ScriptDoes (settled table c) words entries input came
+  pub is : outcome ≡ scripted_on table c came
+
+abbrev pub Scripting : (input : List ℕ) → Going
+Scripting input c header words table entries outcome = ScriptsOn input c words table entries outcome
+
+abbrev pub ScriptOutcome : Option Cartridge → (input : List ℕ) → CommandOutcome → Type 0
+ScriptOutcome held input outcome = OpenOutcome (Scripting input) held outcome

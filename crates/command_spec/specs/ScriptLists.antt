@@ -1,0 +1,89 @@
+-- What a script leaves of a cartridge: what it stands for, and the list that it is mounted with, behind the lines that were carried out (this project's own).
+use Rattle.std.specs.Prelude.{ℕ, List, ◌==◌, length, if◌then◌else◌, [], ◌∷◌, suc, ◌≤◌, take, Option, IsSomeAnd, ◌<◌, ◌↔◌}
+use Rattle.cartridge_spec.specs.Appending.{with_bytes}
+use Rattle.cartridge_spec.specs.Header.{Header}
+use Rattle.cartridge_spec.specs.Mounting.{Lists}
+use Rattle.cartridge_spec.specs.Settling.{changed_by}
+use Rattle.cartridge_spec.specs.Table.{Entry}
+use Rattle.cartridge_spec.specs.Volumes.{Plain, entries_of, Stands}
+use Rattle.cartridge_spec.specs.Wear.{WearSpares}
+use Rattle.command_spec.specs.Input.{Item}
+use Rattle.command_spec.specs.Script.{Did, acts_of, entries_behind}
+use Rattle.command_spec.specs.declared.line.Line.{Line}
+use Rattle.qic_base.specs.Acts.{steps_of, text_of}
+use Rattle.qic_base.specs.Cartridge.{Cartridge, IsPlace}
+use Rattle.command_spec.specs.declared.line.Line.TheVariants as line
+
+-- ---- the plain cartridge behind items
+
+-- the plain cartridge with the volume that a line appends
+abbrev pub plain_with : Plain → Line → (bytes : List ℕ) → Plain
+plain_with plain (line.Append name promised date) bytes = with_bytes plain name date bytes
+plain_with plain other bytes = plain
+
+-- behind an item: a volume was added where the list is longer
+abbrev pub plain_after : Plain → Item → Did → Plain
+plain_after plain item did =
+    if length did.entries == length (entries_of plain) then plain else plain_with plain item.line item.bytes
+
+-- behind several
+abbrev pub plain_behind : Plain → List Item → List Did → Plain
+plain_behind plain [] dids = plain
+plain_behind plain (item ∷ items) [] = plain
+plain_behind plain (item ∷ items) (did ∷ dids) = plain_behind (plain_after plain item did) items dids
+
+-- ---- what is asked of the items
+
+-- a sector that a line wears spares the header and the table, on the cartridge as it then stands
+abbrev pub LineSpares : Cartridge → Plain → Line → Type 0
+LineSpares c plain (line.Lose segment sector) =
+    IsPlace c.info.segments_per_track segment sector → WearSpares c plain segment sector
+LineSpares c plain other = Unit {0}
+
+abbrev pub ItemsSpare : Cartridge → Plain → List Item → List Did → Type 0
+ItemsSpare c plain [] dids = Unit {0}
+ItemsSpare c plain (item ∷ items) [] = Unit {0}
+ItemsSpare c plain (item ∷ items) (did ∷ dids) =
+    LineSpares c plain item.line × ItemsSpare (changed_by (steps_of did.acts) c) (plain_after plain item did) items dids
+
+-- What is left stands for the plain cartridge behind so many items, where so many bytes were printed: all items whose reply
+-- was written whole are among them, and at most one more.
+pub record StandsAnswered (plain : Plain) (items : List Item) (dids : List Did) (printed : ℕ) (left : Option Cartridge) : Type 0 where
+  pub count : ℕ
+  pub within : count ≤ length items
+  pub stands : IsSomeAnd left (λ d. Stands d (plain_behind plain (take count items) (take count dids)))
+  pub answered : (n : ℕ) → n ≤ length items → length (text_of (acts_of (take n dids))) ≤ printed → n ≤ count
+  pub most : (n : ℕ) → suc n ≤ count → length (text_of (acts_of (take n dids))) ≤ printed
+
+-- a sector that a line wears lies behind the table's segment; each cartridge has the segments in front
+abbrev pub WearsBehind : Line → Type 0
+WearsBehind (line.Lose segment sector) = sector < 32 → 3 ≤ segment
+WearsBehind other = Unit {0}
+
+abbrev pub ItemsWearBehind : List Item → Type 0
+ItemsWearBehind [] = Unit {0}
+ItemsWearBehind (item ∷ items) = WearsBehind item.line × ItemsWearBehind items
+
+-- what is left is mounted with the list behind so many items, where none of them wore a sector of header or table
+abbrev pub ListsBehind : Header → (words : List ℕ) → List Entry → List Item → List Did → (count : ℕ) → (left : Option Cartridge) → Type 0
+ListsBehind header words entries items dids count left =
+    ItemsWearBehind (take count items) → IsSomeAnd left (λ d. Lists d header words (entries_behind entries (take count dids)))
+
+-- what so many items print, in bytes
+abbrev pub printed_by : List Did → (count : ℕ) → ℕ
+printed_by dids count = length (text_of (acts_of (take count dids)))
+
+-- What is left is mounted with the list behind those items whose reply was written whole, where so many bytes were printed.
+pub record ListsAnswered (header : Header) (words : List ℕ) (entries : List Entry) (items : List Item) (dids : List Did) (printed : ℕ) (left : Option Cartridge) : Type 0 where
+  pub count : ℕ
+  pub within : count ≤ length items
+  pub lists : ListsBehind header words entries items dids count left
+  pub answered : (n : ℕ) → n ≤ length items → (n ≤ count) ↔ (printed_by dids n ≤ printed)
+
+-- What is left is mounted with the list behind those items whose reply was written whole, and behind the next one, if there is one:
+-- that of which the sink broke the reply off.
+pub record ListsBroken (header : Header) (words : List ℕ) (entries : List Entry) (items : List Item) (dids : List Did) (printed : ℕ) (left : Option Cartridge) : Type 0 where
+  pub count : ℕ
+  pub within : count ≤ length items
+  pub lists : ListsBehind header words entries items dids count left
+  pub begun : (n : ℕ) → n < length items → (n < count) ↔ (printed_by dids n ≤ printed)

@@ -1,0 +1,167 @@
+-- The plain machine of `scrub`: the segments that it looks at, what it writes and prints of each, and its counts (this project's own).
+use Rattle.std.specs.Prelude.{ℕ, List, [], ◌∷◌, ◌+◌, ◌++◌, Bool, true, false, nat_lt, if◌then◌else◌, codes, decimal, length, ◌≡◌, Option}
+use Rattle.cartridge_spec.specs.Header.{has_signature}
+use Rattle.cartridge_spec.specs.Mounting.{settled}
+use Rattle.cartridge_spec.specs.Says.{whole_mask, cells_of, Saying, Data, LostSectors, Mismatch, with_parity, Says}
+use Rattle.cartridge_spec.specs.Settling.{changed_by}
+use Rattle.cartridge_spec.specs.Shape.{mask_at, is_unreadable, usable_places}
+use Rattle.cartridge_spec.specs.Table.{Entry}
+use Rattle.cartridge_spec.specs.Volumes.{carrying_segments}
+use Rattle.command_spec.specs.Outcome.{settling_act, CommandOutcome, Going, WritableOutcome}
+use Rattle.qic_base.specs.Acts.{Act, steps_of}
+use Rattle.qic_base.specs.Cartridge.{Cartridge, view_at}
+use Rattle.qic_base.specs.Step.{Step, WriteSector}
+use Rattle.qic_base.specs.declared.tape.SectorView.{SectorView}
+use Rattle.command_spec.specs.declared.status.Status.TheVariants as status
+
+-- ---- the segments that are looked at
+
+-- a segment, and the mask of its usable sectors
+pub record Looked : Type 0 where
+  pub segment : ℕ
+  pub mask : ℕ
+
+-- the header copies and the volume table have no bad sector
+abbrev pub whole_segment : ℕ → Looked
+whole_segment segment = record { segment = segment; mask = whole_mask }
+
+-- segments by the words of the map
+abbrev pub looked_segments : (words segments : List ℕ) → List Looked
+looked_segments words [] = []
+looked_segments words (s ∷ ss) = record { segment = s; mask = mask_at words s } ∷ looked_segments words ss
+
+-- the carrying segments of some volumes
+abbrev pub looked_volumes : (words : List ℕ) → List Entry → List Looked
+looked_volumes words [] = []
+looked_volumes words (e ∷ es) = looked_segments words (carrying_segments words e) ++ looked_volumes words es
+
+-- both header copies, the table's segment, and the carrying segments of all volumes, in this order
+abbrev pub looked_at : (words : List ℕ) → List Entry → List Looked
+looked_at words entries = whole_segment 0 ∷ whole_segment 1 ∷ whole_segment 2 ∷ looked_volumes words entries
+
+-- the views of its usable sectors
+abbrev pub cells_at : Cartridge → Looked → List SectorView
+cells_at c looked = cells_of c looked.segment looked.mask
+
+-- ---- one segment
+
+-- it reads where it says data; a header copy does so only where they begin with a header's signature
+abbrev pub reads : Looked → Saying → Bool
+reads looked (Data sectors) = if nat_lt looked.segment 2 then has_signature sectors else true
+reads looked (LostSectors n) = false
+reads looked Mismatch = false
+
+-- Of these sector indexes of a segment, a write for each that is unreadable, of its sector of a list, in order. A defect
+-- and a sector that was never formatted have their write as well, and take nothing.
+abbrev pub mending_writes : Cartridge → (segment : ℕ) → (places : List ℕ) → (sectors : List (List ℕ)) → List Step
+mending_writes c segment [] sectors = []
+mending_writes c segment (place ∷ places) [] = []
+mending_writes c segment (place ∷ places) (bytes ∷ sectors) =
+    if is_unreadable (view_at c segment place) then WriteSector segment place bytes ∷ mending_writes c segment places sectors
+    else mending_writes c segment places sectors
+
+-- the writes in a segment that says this: its unreadable usable sectors, ascending, with their sectors of its block, and
+-- none in one that does not read
+abbrev pub steps_in : Cartridge → Looked → Saying → List Step
+steps_in c looked (Data sectors) =
+    if reads looked (Data sectors) then mending_writes c looked.segment (usable_places looked.mask) (with_parity sectors) else []
+steps_in c looked (LostSectors n) = []
+steps_in c looked Mismatch = []
+
+-- the line of a segment other than a header copy that does not read
+abbrev pub fault_line : (segment : ℕ) → Saying → List ℕ
+fault_line segment (Data sectors) = []
+fault_line segment (LostSectors n) = codes "lost " ++ decimal segment ++ codes " " ++ decimal n ++ codes "\n"
+fault_line segment Mismatch = codes "mismatch " ++ decimal segment ++ codes "\n"
+
+abbrev pub header_line : (copy : ℕ) → List ℕ
+header_line copy = codes "header " ++ decimal copy ++ codes " unreadable\n"
+
+-- what is printed of a segment that says this: nothing of one that reads
+abbrev pub line_in : Looked → Saying → List ℕ
+line_in looked saying =
+    if reads looked saying then []
+    else if nat_lt looked.segment 2 then header_line looked.segment
+    else fault_line looked.segment saying
+
+abbrev pub look_act : Cartridge → Looked → Saying → Act
+look_act c looked saying = record { steps = steps_in c looked saying; text = line_in looked saying }
+
+-- ---- all of them, one after the other
+
+-- each of these segments says this, on the cartridge as it stands when it is looked at
+abbrev pub SayInTurn : Cartridge → List Looked → List Saying → Type 0
+SayInTurn c [] [] = Unit {0}
+SayInTurn c [] (s ∷ ss) = ⊥
+SayInTurn c (l ∷ ls) [] = ⊥
+SayInTurn c (l ∷ ls) (s ∷ ss) = Says (cells_at c l) s × SayInTurn (changed_by (steps_in c l s) c) ls ss
+
+-- the acts: in each segment its writes, then its line
+abbrev pub looking_acts : Cartridge → List Looked → List Saying → List Act
+looking_acts c [] ss = []
+looking_acts c (l ∷ ls) [] = []
+looking_acts c (l ∷ ls) (s ∷ ss) = look_act c l s ∷ looking_acts (changed_by (steps_in c l s) c) ls ss
+
+-- as many of them do not read
+abbrev pub unread_count : List Looked → List Saying → ℕ
+unread_count [] ss = 0
+unread_count (l ∷ ls) [] = 0
+unread_count (l ∷ ls) (s ∷ ss) = (if reads l s then 0 else 1) + unread_count ls ss
+
+-- what is counted: segments that were looked at, sectors for which a write was sent (whether they took it or not), and
+-- segments that do not read
+pub record Counts : Type 0 where
+  pub segments : ℕ
+  pub mended : ℕ
+  pub unreadable : ℕ
+
+abbrev pub counts_of : Cartridge → List Looked → List Saying → Counts
+counts_of c looked sayings = record {
+  segments = length looked;
+  mended = length (steps_of (looking_acts c looked sayings));
+  unreadable = unread_count looked sayings;
+}
+
+abbrev pub counts_line : Counts → List ℕ
+counts_line counts =
+    codes "scrub " ++ decimal counts.segments ++ codes " " ++ decimal counts.mended ++ codes " " ++ decimal counts.unreadable
+    ++ codes "\n"
+
+-- the last act: no step, and the line of the counts
+abbrev pub last_act : Counts → Act
+last_act counts = record { steps = []; text = counts_line counts }
+
+abbrev pub scrub_acts : Cartridge → List Looked → List Saying → List Act
+scrub_acts c looked sayings = looking_acts c looked sayings ++ last_act (counts_of c looked sayings) ∷ []
+
+-- the acts of scrubbing a cartridge with this map and these volumes
+pub record Scrubs (c : Cartridge) (words : List ℕ) (entries : List Entry) (acts : List Act) : Type 0 where
+  pub sayings : List Saying
+  pub said : SayInTurn c (looked_at words entries) sayings
+  pub are : acts ≡ scrub_acts c (looked_at words entries) sayings
+
+-- the lines of these segments, one after the other, where they say this
+abbrev pub lines_of : List Looked → List Saying → List ℕ
+lines_of [] ss = []
+lines_of (l ∷ ls) [] = []
+lines_of (l ∷ ls) (s ∷ ss) = line_in l s ++ lines_of ls ss
+
+-- The text of a scrubbing with these counts, whatever its segments say: a line for each that doesn't read, and the counts.
+pub record IsScrubText (looked : List Looked) (counts : Counts) (text : List ℕ) : Type 0 where
+  pub sayings : List Saying
+  pub each : length sayings ≡ length looked
+  pub lines : text ≡ lines_of looked sayings ++ counts_line counts
+  pub segments : counts.segments ≡ length looked
+  pub unreadable : counts.unreadable ≡ unread_count looked sayings
+
+-- the settled cartridge is scrubbed so
+pub record ScrubsOn (c : Cartridge) (words : List ℕ) (table : List (List ℕ)) (entries : List Entry) (outcome : CommandOutcome) : Type 0 where
+  pub acts : List Act
+  pub scrubs : Scrubs (settled table c) words entries acts
+  pub is : outcome ≡ record { acts = settling_act table c ∷ acts; taken = 0; status = status.Done }
+
+abbrev pub Mends : Going
+Mends c header words table entries outcome = ScrubsOn c words table entries outcome
+
+abbrev pub ScrubOutcome : Option Cartridge → CommandOutcome → Type 0
+ScrubOutcome held outcome = WritableOutcome Mends held outcome

@@ -1,0 +1,83 @@
+-- What runs of several items leave of the plain cartridge that a cartridge stands for: generated runs, and scripts (this project's
+-- own).
+use Rattle.std.specs.Prelude.{ℕ, List, ◌≡◌, ◌≤◌, Option, Some, IsSomeAnd, ◌≢◌, ◌⊎◌, [], ◌<◌, All, length, take}
+use Rattle.cartridge_spec.specs.Mounting.{IsTableLive, settled}
+use Rattle.cartridge_spec.specs.Volumes.{Plain, Stands, entries_of}
+use Rattle.command_spec.specs.Headline.{EachNow, EachLeft}
+use Rattle.command_spec.specs.Listing.{IsHeard}
+use Rattle.command_spec.specs.Machine.{Spells}
+use Rattle.command_spec.specs.MadeVolumes.{with_made}
+use Rattle.command_spec.specs.Script.{ScriptDoes}
+use Rattle.command_spec.specs.ScriptLists.{ItemsSpare, plain_behind, StandsAnswered}
+use Rattle.command_spec.specs.declared.status.Status.{Status}
+use Rattle.qic_base.specs.Cartridge.{Cartridge}
+use Rattle.command_spec.specs.declared.words.Words.TheVariants as commands
+use Rattle.qic_base.specs.Sink as sinks
+use Rattle.qic_base.specs.Tape as tapes
+use Rattle.command_spec.specs.declared.status.Status.TheVariants as status
+use Rattle.command_spec.specs.Script as scripts
+
+-- ---- a generated run
+
+-- the words ask for so many volumes from this seed, on a cartridge that stands for a plain one
+pub record Generated (words : List (List ℕ)) (seed count : ℕ) (c : Cartridge) (plain : Plain) : Type 0 where
+  pub spelled : Spells words (commands.Make seed count)
+  pub stands : Stands c plain
+
+-- Where each sector of its table's segment takes a write, what is left of it stands for the plain cartridge with the first ones of
+-- the volumes.
+abbrev pub SomeMade : (words : List (List ℕ)) → (held left : Option Cartridge) → Type 0
+SomeMade words held left =
+    (seed count : ℕ) (c : Cartridge) (plain : Plain) → held ≡ Some c → Generated words seed count c plain → IsTableLive c →
+    (n : ℕ) × (n ≤ count) × IsSomeAnd left (λ d. Stands d (with_made seed plain 1 n))
+
+-- When it is over this was printed; and once it was carried out, all of the volumes are there. Where each sector of the table's
+-- segment takes a write, they are there, too, where anything was printed, or the sink failed.
+pub record AllMade {T K : Type 0} (t : tapes.Meaning T) (k : sinks.Meaning K) (old new : T) (before behind : K) (answer : Status) (seed count : ℕ) (c : Cartridge) (plain : Plain) : Type 0 where
+  pub text : List ℕ
+  pub took : k.took before text behind
+  pub done : answer ≡ status.Done → EachNow t old new (λ left. IsSomeAnd left (λ d. Stands d (with_made seed plain 1 count)))
+  pub all : IsTableLive c → (text ≢ []) ⊎ (answer ≡ status.SinkFault) → EachNow t old new (λ left. IsSomeAnd left (λ d. Stands d (with_made seed plain 1 count)))
+
+-- A generated run may be stopped: each cartridge that it leaves is so; and so it is when it is over.
+pub record MakesVolumes {T K : Type 0} (t : tapes.Meaning T) (k : sinks.Meaning K) (words : List (List ℕ)) (old new : T) (before behind : K) (answer : Status) : Type 0 where
+  pub stopped : EachLeft t old new (SomeMade words)
+  pub over : (seed count : ℕ) (c : Cartridge) (plain : Plain) → t.told old ≡ Some (Some c) → Generated words seed count c plain →
+      AllMade t k old new before behind answer seed count c plain
+
+-- ---- a script
+
+-- The words ask for a script over an input of bytes that is told, on a cartridge that stands for a plain one. By the plain machine
+-- the lines do this on the settled cartridge; and each sector that they wear spares the header and the table.
+pub record Scripted (told : Option (List ℕ)) (words : List (List ℕ)) (c : Cartridge) (plain : Plain) : Type 0 where
+  pub spelled : Spells words commands.Script
+  pub input : List ℕ
+  pub is_told : told ≡ Some input
+  pub bytes : All (λ b. b < 256) input
+  pub stands : Stands c plain
+  pub outcome : scripts.ScriptRun
+  pub does : ScriptDoes (settled plain.table_area c) plain.words (entries_of plain) input outcome
+  pub spares : ItemsSpare (settled plain.table_area c) plain does.items does.dids
+
+-- Where each sector of its table's segment takes a write, what is left of it stands for the plain cartridge behind the first ones
+-- of the lines.
+abbrev pub SomeScripted : (told : Option (List ℕ)) → (words : List (List ℕ)) → (held left : Option Cartridge) → Type 0
+SomeScripted told words held left =
+    (c : Cartridge) (plain : Plain) → held ≡ Some c → (script : Scripted told words c plain) → IsTableLive c →
+    (n : ℕ) × (n ≤ length script.does.items)
+    × IsSomeAnd left (λ d. Stands d (plain_behind plain (take n script.does.items) (take n script.does.dids)))
+
+-- When it is over, whatever it answered, this was printed. Where each sector of the table's segment takes a write, all lines whose
+-- reply was written whole are among these, and at most one more; and all lines, also where some of these sectors take none, once
+-- the input was carried out.
+pub record AllAnswered {T K : Type 0} (t : tapes.Meaning T) (k : sinks.Meaning K) {told : Option (List ℕ)} {words : List (List ℕ)} {c : Cartridge} {plain : Plain} (old new : T) (before behind : K) (answer : Status) (script : Scripted told words c plain) : Type 0 where
+  pub text : List ℕ
+  pub took : k.took before text behind
+  pub answered : IsTableLive c → EachNow t old new (StandsAnswered plain script.does.items script.does.dids (length text))
+  pub all : IsHeard answer → EachNow t old new (λ left. IsSomeAnd left (λ d. Stands d (plain_behind plain script.does.items script.does.dids)))
+
+-- A script may be stopped: each cartridge that it leaves is so; and so it is when it is over.
+pub record CarriesOutLines {T K : Type 0} (t : tapes.Meaning T) (k : sinks.Meaning K) (told : Option (List ℕ)) (words : List (List ℕ)) (old new : T) (before behind : K) (answer : Status) : Type 0 where
+  pub stopped : EachLeft t old new (SomeScripted told words)
+  pub over : (c : Cartridge) (plain : Plain) → t.told old ≡ Some (Some c) → (script : Scripted told words c plain) →
+      AllAnswered t k old new before behind answer script

@@ -1,0 +1,24 @@
+//! The commands of `tape`, with their values.
+
+use qic_base::Name;
+
+/// A command with its values. Segments, sectors, volumes and counts are numbers up to 999,999,999; a date is a date
+/// word, and 0 where none is given.
+#[derive(Clone, Copy, Debug, PartialEq, Eq)]
+pub enum Words {
+    /// A new cartridge, with 3 to `LONGEST` segments per track.
+    New { segments: u16 },
+    Defect { segment: u32, sector: u32 },
+    Lose { segment: u32, sector: u32 },
+    Protect { on: bool },
+    Format { label: Name, date: u32 },
+    Info,
+    Append { name: Name, date: u32 },
+    List,
+    Restore { number: u32 },
+    Scrub,
+    Pulses,
+    Script,
+    /// A generated run of 1 to 200 volumes.
+    Make { seed: u32, count: u32 },
+}

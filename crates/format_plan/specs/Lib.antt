@@ -1,4 +1,0 @@
-pub mod Clean
-pub mod Formatting
-pub mod Fresh
-pub mod Laws

@@ -1,8 +1,0 @@
-use Rattle.made_volumes.proofs.Stops.{done_make_stands, stopped_make_stands}
-use Rattle.made_volumes.proofs.laws.a_run_keeps_what_stands.Goals as goal
-
-pub returns-clause-done : goal.returns-clause-done
-returns-clause-done c = done_make_stands
-
-pub returns-clause-stopped : goal.returns-clause-stopped
-returns-clause-stopped c = stopped_make_stands

@@ -1,8 +1,0 @@
-use Rattle.made_volumes.proofs.Leaving.{made_are_listed, make_lists}
-use Rattle.made_volumes.proofs.laws.made_volumes_are_listed.Goals as goal
-
-pub returns-clause-lists : goal.returns-clause-lists
-returns-clause-lists c = make_lists
-
-pub returns-clause-all : goal.returns-clause-all
-returns-clause-all c = made_are_listed

@@ -1,4 +1,0 @@
-pub mod Appended
-pub mod Counts
-pub mod Endings
-pub mod Standing

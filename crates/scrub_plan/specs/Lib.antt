@@ -1,3 +1,0 @@
-pub mod Laws
-pub mod Mended
-pub mod Scrubbing

@@ -1,8 +1,0 @@
-use Rattle.store_laws.proofs.Saying.{restores_anyway, scrubs_anyway}
-use Rattle.store_laws.proofs.laws.restores_and_scrubs_come_to_something.Goals as goal
-
-pub returns-clause-restores : goal.returns-clause-restores
-returns-clause-restores c = restores_anyway
-
-pub returns-clause-scrubs : goal.returns-clause-scrubs
-returns-clause-scrubs c = scrubs_anyway

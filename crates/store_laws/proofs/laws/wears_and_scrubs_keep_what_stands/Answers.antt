@@ -1,8 +1,0 @@
-use Rattle.store_laws.proofs.Keeping.{scrubbed_kept, worn_kept}
-use Rattle.store_laws.proofs.laws.wears_and_scrubs_keep_what_stands.Goals as goal
-
-pub returns-clause-wears : goal.returns-clause-wears
-returns-clause-wears c = worn_kept
-
-pub returns-clause-scrubs : goal.returns-clause-scrubs
-returns-clause-scrubs c = scrubbed_kept

@@ -1,4 +1,0 @@
-pub mod Held
-pub mod Kept
-pub mod Listed
-pub mod Listing

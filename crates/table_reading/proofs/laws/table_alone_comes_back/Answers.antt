@@ -1,8 +1,0 @@
-use Rattle.table_reading.proofs.ComesBack.{table_alone_comes_back, table_alone_is_clean}
-use Rattle.table_reading.proofs.laws.table_alone_comes_back.Goals as goal
-
-pub returns-clause-back : goal.returns-clause-back
-returns-clause-back c = table_alone_comes_back
-
-pub returns-clause-clean : goal.returns-clause-clean
-returns-clause-clean c = table_alone_is_clean

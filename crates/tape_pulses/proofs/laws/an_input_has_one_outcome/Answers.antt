@@ -1,5 +1,0 @@
-use Rattle.tape_pulses.proofs.MachineLaws.{one_outcome}
-use Rattle.tape_pulses.proofs.laws.an_input_has_one_outcome.Goals as goal
-
-pub returns : goal.returns
-returns c = one_outcome

@@ -1,8 +1,0 @@
-use Rattle.volume_script.proofs.Answered.{answered_behind, answered_between}
-use Rattle.volume_script.proofs.laws.answered_items_stand.Goals as goal
-
-pub returns-clause-between : goal.returns-clause-between
-returns-clause-between c = answered_between
-
-pub returns-clause-behind : goal.returns-clause-behind
-returns-clause-behind c = answered_behind
