@@ -25,9 +25,9 @@ use Rattle.command_laws.proofs.MountedListing.{append_front_lists, append_lists,
 use Rattle.command_laws.proofs.ScriptListing.{listed_behind_act, listed_between, listed_done, listed_none}
 use Rattle.command_laws.proofs.ScriptMachineLaws.{one_outcome as one_script}
 use Rattle.command_laws.proofs.TextCommands.{one_command}
-use Rattle.command_laws.specs.MountedListed.{IsListed, kept_of, listed_behind}
+use Rattle.command_laws.specs.MountedListed.{IsListed, listed_behind}
 use Rattle.command_laws.specs.MountedListing.{AddsNone}
-use Rattle.command_spec.specs.Append.{Kept, Taking, Fits, TooLong, append_acts, entry_for, kept_in, room_in, taking, Appends, AppendOutcome, append_status, appended, kept_on}
+use Rattle.command_spec.specs.Append.{Kept, Taking, Fits, TooLong, append_acts, entry_for, kept_in, room_in, taking, Appends, AppendOutcome, append_status, appended, kept_on, kept_over}
 use Rattle.command_spec.specs.Headline.{EachNow}
 use Rattle.command_spec.specs.Lines.{reply_behind}
 use Rattle.command_spec.specs.Listing.{IsHeard, ListsVolume, NowLists, WasListed, ListsAppends}
@@ -84,7 +84,7 @@ module _ (c : Cartridge) (header : Header) (words : List ℕ) (table : List (Lis
   same_info = (settled_keeps_table c table mounts.reads).info
 
   -- what an append goes by there
-  same_kept : kept_of still words entries table ≡ kept_on c words table entries
+  same_kept : kept_over still words entries table ≡ kept_on c words table entries
   same_kept =
       ap (λ (last : ℕ). record { words = words; entries = entries; last = last; table = table; settling = settling_steps table still })
       (listed.last ∙ ap (λ (i : TapeInfo). 28 * i.segments_per_track - 1) same_info)
@@ -118,7 +118,7 @@ module _ (c : Cartridge) (header : Header) (words : List ℕ) (table : List (Lis
         by_flag true is = refl
         by_flag false is = absurd (cc)
 
-    same_room : room_in (kept_of still words entries table) ≡ room_in (kept_on c words table entries)
+    same_room : room_in (kept_over still words entries table) ≡ room_in (kept_on c words table entries)
     same_room = ap room_in same_kept
 
     -- carried out, it leaves the list with the volume
@@ -127,16 +127,16 @@ module _ (c : Cartridge) (header : Header) (words : List ℕ) (table : List (Lis
     lists_with input outcome (inl (locked, is)) done = let other = ap (λ (o : CommandOutcome). o.status) is in absurd (cc)
     lists_with input outcome (inr (free, opened)) done =
         let is : outcome ≡ appended name date input c words table entries = went_on (Appends name date input) outcome opened in
-        let took : taking (room_in (kept_of still words entries table)) None input ≡ Fits input =
+        let took : taking (room_in (kept_over still words entries table)) None input ≡ Fits input =
         ap (λ (have : ℕ). taking have None input) same_room ∙ fits_where_done (room_in (kept_on c words table entries)) input (sym (ap (λ (o : CommandOutcome). o.status) is) ∙ done) in
-        let all : Lists (changed_by (steps_of (acts_by (kept_of still words entries table) input)) still) header words
-        (listed_behind (kept_of still words entries table) name date (taking (room_in (kept_of still words entries table)) None input)) =
+        let all : Lists (changed_by (steps_of (acts_by (kept_over still words entries table) input)) still) header words
+        (listed_behind (kept_over still words entries table) name date (taking (room_in (kept_over still words entries table)) None input)) =
         append_lists still header words entries table name date None (reply_behind (length entries)) input lists_still listed (ap (λ (i : TapeInfo). i.protected) same_info ∙ free) reads_still label word in
-        lists_as (entries ++ entry_for (kept_in words entries) name date input ∷ []) (changed_by (steps_of (acts_by (kept_of still words entries table) input)) still)
+        lists_as (entries ++ entry_for (kept_in words entries) name date input ∷ []) (changed_by (steps_of (acts_by (kept_over still words entries table) input)) still)
         (effects (steps_of outcome.acts) (Some c))
-        (subst (λ (became : Taking). Lists (changed_by (steps_of (acts_by (kept_of still words entries table) input)) still) header words (listed_behind (kept_of still words entries table) name date became)) took all)
+        (subst (λ (became : Taking). Lists (changed_by (steps_of (acts_by (kept_over still words entries table) input)) still) header words (listed_behind (kept_over still words entries table) name date became)) took all)
         (ap (λ (o : CommandOutcome). effects (steps_of o.acts) (Some c)) is ∙ ap (λ (k : Kept). effects (steps_of (settling ∷ acts_by k input)) (Some c)) (sym same_kept)
-        ∙ behind_acts (acts_by (kept_of still words entries table) input))
+        ∙ behind_acts (acts_by (kept_over still words entries table) input))
 
     -- and before its reply it leaves the list as it was
     lists_without : (input : List ℕ) (outcome : CommandOutcome) (front rest : List Act) → AppendOutcome name date (Some c) input outcome → front ++ rest ≡ outcome.acts →
@@ -153,23 +153,23 @@ module _ (c : Cartridge) (header : Header) (words : List ℕ) (table : List (Lis
         (elim before [ inl other ↦ inl (λ done. other (ap (λ (o : CommandOutcome). o.status) is ∙ done)) | inr quiet ↦ inr quiet ])
       where
         -- an entry is written by the last act, which prints
-        none_added : (front rest : List Act) → front ++ rest ≡ settling ∷ acts_by (kept_of still words entries table) input →
-            (append_status (room_in (kept_on c words table entries)) input ≢ status.Done) ⊎ (text_of front ≡ []) → AddsNone rest (taking (room_in (kept_of still words entries table)) None input)
+        none_added : (front rest : List Act) → front ++ rest ≡ settling ∷ acts_by (kept_over still words entries table) input →
+            (append_status (room_in (kept_on c words table entries)) input ≢ status.Done) ⊎ (text_of front ≡ []) → AddsNone rest (taking (room_in (kept_over still words entries table)) None input)
         none_added front (y ∷ ys) parts before = inl (λ none. cc)
         none_added front [] parts (inl other) =
             inr (λ bytes took. other (status_fits (room_in (kept_on c words table entries)) input bytes (ap (λ (have : ℕ). taking have None input) (sym same_room) ∙ took)))
         none_added front [] parts (inr quiet) = inr (λ bytes took.
-            let kept : Kept = kept_of still words entries table in
+            let kept : Kept = kept_over still words entries table in
             let e : Entry = entry_for kept name date bytes in
             appended_line_is_some (length entries + 1) e.size e.start e.end
             (sym (replied_text kept name date (reply_behind (length entries)) input bytes took) ∙ ap text_of (sym parts ∙ append-nil front) ∙ quiet))
 
-        by_front : (xs : List Act) → xs ++ rest ≡ settling ∷ acts_by (kept_of still words entries table) input →
+        by_front : (xs : List Act) → xs ++ rest ≡ settling ∷ acts_by (kept_over still words entries table) input →
             (append_status (room_in (kept_on c words table entries)) input ≢ status.Done) ⊎ (text_of xs ≡ []) → ListsNow entries (effects (steps_of xs) (Some c))
         by_front [] parts before = lists_before (Some c) refl
         by_front (x ∷ more) parts before =
             let first : x ≡ settling = cc in
-            let behind : more ++ rest ≡ acts_by (kept_of still words entries table) input = cc in
+            let behind : more ++ rest ≡ acts_by (kept_over still words entries table) input = cc in
             lists_as entries (changed_by (steps_of more) still) (effects (steps_of (x ∷ more)) (Some c))
             (append_front_lists still header words entries table name date None (reply_behind (length entries)) input more rest lists_still listed
             (ap (λ (i : TapeInfo). i.protected) same_info ∙ free) reads_still behind (none_added (x ∷ more) rest parts before))

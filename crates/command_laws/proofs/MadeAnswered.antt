@@ -11,10 +11,10 @@ use Rattle.command_laws.proofs.MadeStops.{StillBehind, behind_next, done_append_
 use Rattle.command_laws.proofs.MountedKeeping.{changed_by_acts, kept_open}
 use Rattle.command_laws.specs.MadeLaws.{MadeAreAnswered}
 use Rattle.command_laws.specs.MountedKept.{IsKept}
-use Rattle.command_spec.specs.Append.{input_acts, Kept, free_in, has_promised_room, input_writes, most_written, room_in, Taking, Fits, TooLong, TooShort, entry_acts, silently, append_acts, taking}
+use Rattle.command_spec.specs.Append.{input_acts, Kept, free_in, has_promised_room, input_writes, most_written, room_in, Taking, Fits, TooLong, TooShort, entry_acts, silently, append_acts, taking, kept_over}
 use Rattle.command_spec.specs.Generator.{made_length, made_bytes}
 use Rattle.command_spec.specs.MadeVolumes.{made_volume, with_made}
-use Rattle.command_spec.specs.Make.{AppendMade, made_name, Answer, Does, kept_on, Item, appending, Done, Runs, ScrubAll, wearing_volumes, summing, made_list}
+use Rattle.command_spec.specs.Make.{AppendMade, made_name, Answer, Does, Item, appending, Done, Runs, ScrubAll, wearing_volumes, summing, made_list}
 use Rattle.qic_base.proofs.Joins.{text_of-append, steps_of-append}
 use Rattle.qic_base.proofs.Steps.{Torn-front, Torn-behind}
 use Rattle.qic_base.specs.Acts.{Act, text_of, steps_of, next_steps}
@@ -55,7 +55,7 @@ pub append_prints_nothing : (seed : ℕ) (c : Cartridge) (words : List ℕ) (es 
     Does seed c words es (AppendMade volume) acts answer → text_of acts ≡ []
 append_prints_nothing seed c words es volume acts answer (inl refused) = ap text_of refused.does
 append_prints_nothing seed c words es volume acts answer (inr (free, inl appended)) =
-    ap text_of appended.does ∙ quiet_acts (kept_on c words es appended.table) (made_name volume) 0 (Some (made_length seed volume)) (made_bytes seed volume)
+    ap text_of appended.does ∙ quiet_acts (kept_over c words es appended.table) (made_name volume) 0 (Some (made_length seed volume)) (made_bytes seed volume)
 append_prints_nothing seed c words es volume acts answer (inr (free, inr lost)) = ap text_of lost.does
 
 -- ---- a stop behind a front of acts

@@ -14,8 +14,8 @@ use Rattle.command_laws.proofs.MountedKeeping.{changed_by_acts}
 use Rattle.command_laws.proofs.MountedListed.{append_listed, scrub_listed, wear_listed}
 use Rattle.command_laws.proofs.MountedListing.{append_front_lists, append_lists, scrub_lists, wear_lists}
 use Rattle.command_laws.specs.MadeLaws.{MakeLists, MadeAreListed}
-use Rattle.command_laws.specs.MountedListed.{IsListed, kept_of, listed_behind}
-use Rattle.command_spec.specs.Append.{Kept, Taking, Fits, TooLong, TooShort, has_promised_room, room_in, silently, taking}
+use Rattle.command_laws.specs.MountedListed.{IsListed, listed_behind}
+use Rattle.command_spec.specs.Append.{Kept, Taking, Fits, TooLong, TooShort, has_promised_room, room_in, silently, taking, kept_over}
 use Rattle.command_spec.specs.Generator.{made_length, made_bytes}
 use Rattle.command_spec.specs.Make.{Item, AppendMade, WearSector, ScrubAll, SumVolume, made_name, made_entry, Answer, Done, Full, Does, IsAppended, made_acts, made_answer, Runs, after_items, appending, wearing_volumes, summing, made_list, Makes}
 use Rattle.qic_base.proofs.Joins.{text_of-append}
@@ -33,7 +33,7 @@ module _ (seed : ℕ) (c : Cartridge) (header : Header) (words : List ℕ) (entr
 
   module _ (volume : ℕ) (table : List (List ℕ)) where
     abbrev kept : Kept
-    kept = kept_of c words entries table
+    kept = kept_over c words entries table
 
     abbrev n : ℕ
     n = made_length seed volume
@@ -81,13 +81,13 @@ module _ (seed : ℕ) (c : Cartridge) (header : Header) (words : List ℕ) (entr
       let list = made_behind seed c words entries listed table volume (sym is.1.answered) in (
         subst (λ (es : List Entry). Lists (changed_by (steps_of acts) c) header words es) list
             (subst (λ (xs : List Act). Lists (changed_by (steps_of xs) c) header words
-            (listed_behind (kept_of c words entries table) (made_name volume) 0 (taking (room_in (kept_of c words entries table)) (Some (made_length seed volume)) (made_bytes seed volume))))
+            (listed_behind (kept_over c words entries table) (made_name volume) 0 (taking (room_in (kept_over c words entries table)) (Some (made_length seed volume)) (made_bytes seed volume))))
             (sym is.1.does)
             (append_lists c header words entries table (made_name volume) 0 (Some (made_length seed volume)) silently (made_bytes seed volume) lists listed is.0 is.1.reads
             (made_label volume few) (omega arith))),
         subst (λ (es : List Entry). IsListed (changed_by (steps_of acts) c) words es) list
             (subst (λ (xs : List Act). IsListed (changed_by (steps_of xs) c) words
-            (listed_behind (kept_of c words entries table) (made_name volume) 0 (taking (room_in (kept_of c words entries table)) (Some (made_length seed volume)) (made_bytes seed volume))))
+            (listed_behind (kept_over c words entries table) (made_name volume) 0 (taking (room_in (kept_over c words entries table)) (Some (made_length seed volume)) (made_bytes seed volume))))
             (sym is.1.does)
             (append_listed c words entries table (made_name volume) 0 (Some (made_length seed volume)) silently (made_bytes seed volume) listed is.0 is.1.reads
             (made_label volume few) (omega arith))),

@@ -12,8 +12,8 @@ use Rattle.command_laws.proofs.MadeStops.{made_label, sum_in_no_step}
 use Rattle.command_laws.proofs.MountedListed.{append_listed, listed_reads, scrub_listed, wear_listed}
 use Rattle.command_laws.proofs.MountedSaying.{restores_anyway, scrubs_anyway}
 use Rattle.command_laws.specs.MadeLaws.{MakesSomething}
-use Rattle.command_laws.specs.MountedListed.{IsListed, kept_of, listed_behind}
-use Rattle.command_spec.specs.Append.{Kept, Taking, Fits, TooLong, TooShort, has_promised_room, room_in, silently, taking}
+use Rattle.command_laws.specs.MountedListed.{IsListed, listed_behind}
+use Rattle.command_spec.specs.Append.{Kept, Taking, Fits, TooLong, TooShort, has_promised_room, room_in, silently, taking, kept_over}
 use Rattle.command_spec.specs.Generator.{made_length, made_bytes}
 use Rattle.command_spec.specs.Make.{Item, AppendMade, WearSector, ScrubAll, SumVolume, after_item, Answer, Done, Does, made_name, made_entry, Protected, Full, Lost, made_acts, made_answer, sum_acts, ending_answer, Runs, after_items, appending, wearing, first_two, wearing_in, wearing_volumes, summing, made_list, making}
 use Rattle.command_spec.specs.Restore.{volume_at, pieces}
@@ -46,13 +46,13 @@ all_taken n xs long = take_all n xs (omega arith)
 module _ (seed : ℕ) (c : Cartridge) (words : List ℕ) (entries : List Entry) (listed : IsListed c words entries) where
   -- the list behind a made volume that had room
   pub made_behind : (table : List (List ℕ)) (volume : ℕ) → made_answer seed words entries volume ≡ Done →
-      listed_behind (kept_of c words entries table) (made_name volume) 0
-      (taking (room_in (kept_of c words entries table)) (Some (made_length seed volume)) (made_bytes seed volume))
+      listed_behind (kept_over c words entries table) (made_name volume) 0
+      (taking (room_in (kept_over c words entries table)) (Some (made_length seed volume)) (made_bytes seed volume))
       ≡ entries ++ made_entry seed words entries volume ∷ []
   made_behind table volume done = by_room (has_promised_room have (Some n)) refl done
     where
       kept : Kept
-      kept = kept_of c words entries table
+      kept = kept_over c words entries table
 
       bytes : List ℕ
       bytes = made_bytes seed volume

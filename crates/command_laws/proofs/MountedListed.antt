@@ -43,10 +43,10 @@ use Rattle.command_laws.proofs.StoreEnding.{list_more, took_fits}
 use Rattle.command_laws.proofs.StoreSettled.{settled_list, steps_settle}
 use Rattle.command_laws.proofs.StoreTaking.{both_true}
 use Rattle.command_laws.proofs.StoreWorn.{worn_list}
-use Rattle.command_laws.specs.MountedListed.{ListedReads, MountedListed, IsListed, kept_of, listed_behind, AppendListed, WearListed, ScrubListed}
+use Rattle.command_laws.specs.MountedListed.{ListedReads, MountedListed, IsListed, listed_behind, AppendListed, WearListed, ScrubListed}
 use Rattle.command_laws.specs.ScrubMended.{IsBeingMended}
 use Rattle.command_laws.specs.StoreMounting.{HasList}
-use Rattle.command_spec.specs.Append.{Kept, Taking, Fits, TooLong, TooShort, append_acts, entry_acts, entry_for, input_writes, room_in, taking}
+use Rattle.command_spec.specs.Append.{Kept, Taking, Fits, TooLong, TooShort, append_acts, entry_acts, entry_for, input_writes, room_in, taking, kept_over}
 use Rattle.command_spec.specs.Scrub.{looked_at, whole_segment}
 use Rattle.qic_base.specs.Acts.{Act, steps_of}
 use Rattle.qic_base.specs.Cartridge.{Cartridge, IsLength, view_at}
@@ -134,7 +134,7 @@ writes_in_table n area few = ((refl, omega arith), ((refl, omega arith), ((refl,
 
 module _ (c : Cartridge) (words : List ℕ) (entries : List Entry) (table : List (List ℕ)) (listed : IsListed c words entries) (mark : c.info.protected ≡ false) (reads : TableIs c table) where
   abbrev kept : Kept
-  kept = kept_of c words entries table
+  kept = kept_over c words entries table
 
   abbrev last : ℕ
   last = length words - 1
@@ -269,8 +269,8 @@ module _ (c : Cartridge) (words : List ℕ) (entries : List Entry) (table : List
 
 pub append_listed : AppendListed
 append_listed c words entries table name date promised reply input listed mark reads label word =
-    leaves_listed c words entries table listed mark reads (changed_by (steps_of (append_acts (kept_of c words entries table) name date promised reply input)) c)
-    (listed_behind (kept_of c words entries table) name date (taking (room_in (kept_of c words entries table)) promised input))
+    leaves_listed c words entries table listed mark reads (changed_by (steps_of (append_acts (kept_over c words entries table) name date promised reply input)) c)
+    (listed_behind (kept_over c words entries table) name date (taking (room_in (kept_over c words entries table)) promised input))
     (append_leaves c words entries table listed mark reads name date promised reply input label word)
 
 -- ---- a worn sector, and a scrub

@@ -17,9 +17,9 @@ use Rattle.command_laws.proofs.MountedFronts.{front_within}
 use Rattle.command_laws.proofs.MountedListed.{LeavesTable, append_leaves, behind_leaves, ins_behind}
 use Rattle.command_laws.proofs.ScrubMounted.{stopped_scrub_mounts}
 use Rattle.command_laws.proofs.StoreBehind.{AreBehind, front_behind}
-use Rattle.command_laws.specs.MountedListed.{kept_of, listed_behind, IsListed}
+use Rattle.command_laws.specs.MountedListed.{listed_behind, IsListed}
 use Rattle.command_laws.specs.MountedListing.{SettledLists, AppendLists, AppendFrontLists, WearLists, ScrubLists}
-use Rattle.command_spec.specs.Append.{Kept, append_acts, room_in, taking, Taking, Fits, TooLong, TooShort, entry_acts, input_writes}
+use Rattle.command_spec.specs.Append.{Kept, append_acts, room_in, taking, Taking, Fits, TooLong, TooShort, entry_acts, input_writes, kept_over}
 use Rattle.qic_base.proofs.Joins.{steps_of-append}
 use Rattle.qic_base.proofs.Steps.{Torn-all, Torn-front}
 use Rattle.qic_base.specs.Acts.{steps_of, Act}
@@ -59,7 +59,7 @@ left_lists c d header words entries es (table, mounted) last leaves =
 
 pub append_lists : AppendLists
 append_lists c header words entries table name date promised reply input lists listed mark reads label word =
-    let kept : Kept = kept_of c words entries table in
+    let kept : Kept = kept_over c words entries table in
     left_lists c (changed_by (steps_of (append_acts kept name date promised reply input)) c) header words entries
     (listed_behind kept name date (taking (room_in kept) promised input)) lists listed.last
     (append_leaves c words entries table listed mark reads name date promised reply input label word)
@@ -93,7 +93,7 @@ front_lists c header words entries table first front lists listed mark reads is 
 pub append_front_lists : AppendFrontLists
 append_front_lists c header words entries table name date promised reply input [] rest lists listed mark reads parts none = lists
 append_front_lists c header words entries table name date promised reply input (x ∷ front) rest lists listed mark reads parts none =
-    let kept : Kept = kept_of c words entries table in
+    let kept : Kept = kept_over c words entries table in
     let became : Taking = taking (room_in kept) promised input in
     let ins : List Act = input_writes kept promised input in
     let entry : List Act = entry_acts kept name date reply became in

@@ -20,11 +20,11 @@ use Rattle.command_laws.proofs.ScriptStanding.{given_entries, given_steps}
 use Rattle.command_laws.proofs.ScriptValues.{append_values}
 use Rattle.command_laws.specs.MountedListed.{IsListed, listed_behind}
 use Rattle.command_laws.specs.ScriptListing.{ListedBetween, ListedBehind, ListedDone, ListedNone}
-use Rattle.command_spec.specs.Append.{Kept, Taking, Fits, TooLong, TooShort, room_in, taking}
+use Rattle.command_spec.specs.Append.{Kept, Taking, Fits, TooLong, TooShort, room_in, taking, kept_over}
 use Rattle.command_spec.specs.Input.{Item, IsLine, IsLined, IsItem, Ending, HasItems, AtEnd, AtStop, AtFault}
 use Rattle.command_spec.specs.Lines.{lost_line, reply_behind}
 use Rattle.command_spec.specs.Restore.{framed, pieces}
-use Rattle.command_spec.specs.Script.{Did, refusal_line, EndDoes, Finds, GivesBack, LineDoes, Meeting, Meets, Refuses, acts_on, appended, kept_on, refused, reply, taken_as, entries_behind, ItemsDo, cartridge_behind, ScriptRun, ScriptDoes, place_behind, acts_of}
+use Rattle.command_spec.specs.Script.{Did, refusal_line, EndDoes, Finds, GivesBack, LineDoes, Meeting, Meets, Refuses, acts_on, appended, refused, reply, taken_as, entries_behind, ItemsDo, cartridge_behind, ScriptRun, ScriptDoes, place_behind, acts_of}
 use Rattle.command_spec.specs.ScriptLists.{WearsBehind, ItemsWearBehind, ListsBehind, ListsAnswered}
 use Rattle.command_spec.specs.Scrub.{Scrubs}
 use Rattle.command_spec.specs.declared.line.Line.{Line}
@@ -137,7 +137,7 @@ module _ (c : Cartridge) (header : Header) (words : List ℕ) (entries : List En
 
   module _ (name : List ℕ) (n date : ℕ) (bytes : List ℕ) (table : List (List ℕ)) (mark : c.info.protected ≡ false) (reads : TableIs c table) where
     abbrev kept : Kept
-    kept = kept_on c words entries table
+    kept = kept_over c words entries table
 
     abbrev acts : List Act
     acts = acts_on c words entries name n date bytes (Finds table)
@@ -194,7 +194,7 @@ module _ (c : Cartridge) (header : Header) (words : List ℕ) (entries : List En
       ItemLists c header words entries Before (Unit {0}) (appended c words entries name n date bytes m)
   append_leaves name n date bytes (Refuses w) label word meets = still_lists (Unit {0}) (refused [] entries w) refl refl
   append_leaves name n date bytes (Finds table) label word meets =
-      taking_lists name n date bytes table meets.0 meets.1 label word (taking (room_in (kept_on c words entries table)) (Some n) bytes) refl
+      taking_lists name n date bytes table meets.0 meets.1 label word (taking (room_in (kept_over c words entries table)) (Some n) bytes) refl
 
   -- ---- the other lines
 
@@ -248,7 +248,7 @@ module _ (c : Cartridge) (header : Header) (words : List ℕ) (entries : List En
   early_lists early_name promised date bytes (Refuses w) front rest last short meets is parts = lists_by (steps_of front) (front_still front rest last parts (ap steps_of is))
   early_lists early_name promised date bytes (Finds table) front rest last short meets is parts =
       front_lists early_name promised date bytes table meets.0 meets.1 front rest (parts ∙ is)
-      (inr (λ xs took. absurd (let enough : promised ≤ length bytes = (took_enough (room_in (kept_on c words entries table)) promised bytes xs took).0 in omega arith)))
+      (inr (λ xs took. absurd (let enough : promised ≤ length bytes = (took_enough (room_in (kept_over c words entries table)) promised bytes xs took).0 in omega arith)))
 
   end_lists : (bytes : List ℕ) (ending : Ending) (last front rest : List Act) → EndDoes c words entries bytes ending last → front ++ rest ≡ last → Before →
       Lists (changed_by (steps_of front) c) header words entries

@@ -13,11 +13,11 @@ use Rattle.command_laws.proofs.TextDeciding.{Decided, at_most}
 use Rattle.command_laws.proofs.TextReadings.{each_script}
 use Rattle.command_laws.specs.MountedListed.{IsListed, listed_behind}
 use Rattle.command_laws.specs.ScriptLaws.{EachOutcome}
-use Rattle.command_spec.specs.Append.{Kept, Taking, Fits, TooLong, TooShort, room_in, taking}
+use Rattle.command_spec.specs.Append.{Kept, Taking, Fits, TooLong, TooShort, room_in, taking, kept_over}
 use Rattle.command_spec.specs.Input.{Item, IsLineText, IsItem, Ending, HasItems, most_items, AtEnd, AtStop, AtFault}
 use Rattle.command_spec.specs.Lines.{reply_behind, lost_line, list_text}
 use Rattle.command_spec.specs.Restore.{framed, pieces, volume_at}
-use Rattle.command_spec.specs.Script.{reply, Did, LineDoes, refused, taken_as, given_as, ItemsDo, cartridge_behind, entries_behind, Finds, Meeting, Meets, Refuses, acts_on, appended, kept_on, EndsEarly, FaultDoes, end_line, EndDoes, acts_of, answer_by, place_behind, taken_by}
+use Rattle.command_spec.specs.Script.{reply, Did, LineDoes, refused, taken_as, given_as, ItemsDo, cartridge_behind, entries_behind, Finds, Meeting, Meets, Refuses, acts_on, appended, EndsEarly, FaultDoes, end_line, EndDoes, acts_of, answer_by, place_behind, taken_by}
 use Rattle.command_spec.specs.declared.line.Line.{Line}
 use Rattle.qic_base.proofs.Joins.{steps_of-append}
 use Rattle.qic_base.specs.Acts.{Act, steps_of}
@@ -97,8 +97,8 @@ append_done c words entries name count date bytes label word listed (Refuses (wh
 append_done c words entries name count date bytes label word listed (Finds table) meets = record {
   did = appended c words entries name count date bytes (Finds table);
   does = (Finds table, meets, refl);
-  listed = taken_listed c words (kept_on c words entries table) name date (acts_on c words entries name count date bytes (Finds table))
-      (taking (room_in (kept_on c words entries table)) (Some count) bytes)
+  listed = taken_listed c words (kept_over c words entries table) name date (acts_on c words entries name count date bytes (Finds table))
+      (taking (room_in (kept_over c words entries table)) (Some count) bytes)
       (append_listed c words entries table name date (Some count) (reply_behind (length entries)) bytes listed meets.0 meets.1 label word);
 }
 

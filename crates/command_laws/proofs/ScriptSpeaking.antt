@@ -6,11 +6,11 @@ use Rattle.cartridge_spec.specs.Appending.{table_writes}
 use Rattle.cartridge_spec.specs.Settling.{changed_by}
 use Rattle.cartridge_spec.specs.Table.{Entry, slot_sector}
 use Rattle.command_laws.proofs.ScriptActs.{fits_acts, front_acts, full_taking}
-use Rattle.command_spec.specs.Append.{Kept, Taking, Fits, TooLong, TooShort, append_acts, entry_for, has_promised_room, room_in, table_with, taking}
+use Rattle.command_spec.specs.Append.{Kept, Taking, Fits, TooLong, TooShort, append_acts, entry_for, has_promised_room, room_in, table_with, taking, kept_over}
 use Rattle.command_spec.specs.Input.{promised, Item, IsItem, Ending, HasItems}
 use Rattle.command_spec.specs.Lines.{number_line, place_line, appended_line, list_text, count_line, volume_lines, reply_behind}
 use Rattle.command_spec.specs.Restore.{Restored, LostIn, MismatchIn}
-use Rattle.command_spec.specs.Script.{no_volume_line, refusal_line, refused, reply, given_as, taken_as, Did, LineDoes, Meeting, Finds, Refuses, appended, kept_on, ItemsDo, ScriptRun, ScriptDoes}
+use Rattle.command_spec.specs.Script.{no_volume_line, refusal_line, refused, reply, given_as, taken_as, Did, LineDoes, Meeting, Finds, Refuses, appended, ItemsDo, ScriptRun, ScriptDoes}
 use Rattle.command_spec.specs.Scrub.{Counts, counts_line, counts_of, last_act, looked_at, looking_acts}
 use Rattle.command_spec.specs.declared.line.Line.{Line}
 use Rattle.command_spec.specs.declared.refusal.Refusal.{Refusal}
@@ -150,7 +150,7 @@ speaks_line c words entries (line.Append name promised date) bytes did long (m, 
   where
     by_meeting : (m : Meeting) → Speaks (appended c words entries name promised date bytes m).acts
     by_meeting (Refuses w) = refused_speaks [] entries w
-    by_meeting (Finds table) = appended_speaks (kept_on c words entries table) name promised date bytes long
+    by_meeting (Finds table) = appended_speaks (kept_over c words entries table) name promised date bytes long
 speaks_line c words entries line.List bytes did long is =
     subst (λ (d : Did). Speaks d.acts) (sym is) (speaks_so [] (reply (list_text words entries)) (list_some words entries))
 speaks_line c words entries (line.Restore number) bytes did long (inl (none, is)) =

@@ -11,7 +11,7 @@ use Rattle.cartridge_spec.specs.Settling.{settling_steps, changed_by}
 use Rattle.cartridge_spec.specs.Table.{Entry, Shows}
 use Rattle.cartridge_spec.specs.Wear.{worn}
 use Rattle.command_laws.specs.StoreMounting.{HasList}
-use Rattle.command_spec.specs.Append.{Kept, Taking, Fits, TooLong, TooShort, entry_for, append_acts, room_in, taking}
+use Rattle.command_spec.specs.Append.{Kept, Taking, Fits, TooLong, TooShort, entry_for, append_acts, room_in, taking, kept_over}
 use Rattle.command_spec.specs.Restore.{Ending, Piece, Restores}
 use Rattle.command_spec.specs.Scrub.{Scrubs}
 use Rattle.qic_base.specs.Acts.{steps_of, Act}
@@ -48,16 +48,6 @@ ListedReads =
 
 -- ---- an append
 
--- what it goes by, where the table's data are these
-abbrev pub kept_of : Cartridge → (words : List ℕ) → List Entry → (table : List (List ℕ)) → Kept
-kept_of c words entries table = record {
-  words = words;
-  entries = entries;
-  last = length words - 1;
-  table = table;
-  settling = settling_steps table c;
-}
-
 -- the list behind it, by what became of its input
 abbrev pub listed_behind : Kept → (name : List ℕ) → (date : ℕ) → Taking → List Entry
 listed_behind kept name date (Fits bytes) = kept.entries ++ entry_for kept name date bytes ∷ []
@@ -69,8 +59,8 @@ AppendListed =
     (c : Cartridge) (words : List ℕ) (entries : List Entry) (table : List (List ℕ)) (name : List ℕ) (date : ℕ)
     (promised : Option ℕ) (reply : Entry → List ℕ) (input : List ℕ) → IsListed c words entries → c.info.protected ≡ false →
     TableIs c table → IsLabel name → date < 2 ^ 32 →
-    IsListed (changed_by (steps_of (append_acts (kept_of c words entries table) name date promised reply input)) c) words
-    (listed_behind (kept_of c words entries table) name date (taking (room_in (kept_of c words entries table)) promised input))
+    IsListed (changed_by (steps_of (append_acts (kept_over c words entries table) name date promised reply input)) c) words
+    (listed_behind (kept_over c words entries table) name date (taking (room_in (kept_over c words entries table)) promised input))
 
 -- ---- a worn sector, and a scrub
 

@@ -8,8 +8,8 @@ use Rattle.cartridge_spec.specs.Mounting.{Mounted, Mounts, settled, Lists}
 use Rattle.cartridge_spec.specs.Settling.{changed_by}
 use Rattle.cartridge_spec.specs.Table.{Entry}
 use Rattle.cartridge_spec.specs.Wear.{worn}
-use Rattle.command_laws.specs.MountedListed.{IsListed, kept_of, listed_behind}
-use Rattle.command_spec.specs.Append.{append_acts, room_in, taking, Taking, Fits}
+use Rattle.command_laws.specs.MountedListed.{IsListed, listed_behind}
+use Rattle.command_spec.specs.Append.{append_acts, room_in, taking, Taking, Fits, kept_over}
 use Rattle.command_spec.specs.Scrub.{Scrubs}
 use Rattle.qic_base.specs.Acts.{steps_of, Act}
 use Rattle.qic_base.specs.Cartridge.{Cartridge}
@@ -28,8 +28,8 @@ AppendLists =
     (c : Cartridge) (header : Header) (words : List ℕ) (entries : List Entry) (table : List (List ℕ)) (name : List ℕ) (date : ℕ)
     (promised : Option ℕ) (reply : Entry → List ℕ) (input : List ℕ) → Lists c header words entries → IsListed c words entries →
     c.info.protected ≡ false → TableIs c table → IsLabel name → date < 2 ^ 32 →
-    Lists (changed_by (steps_of (append_acts (kept_of c words entries table) name date promised reply input)) c) header words
-    (listed_behind (kept_of c words entries table) name date (taking (room_in (kept_of c words entries table)) promised input))
+    Lists (changed_by (steps_of (append_acts (kept_over c words entries table) name date promised reply input)) c) header words
+    (listed_behind (kept_over c words entries table) name date (taking (room_in (kept_over c words entries table)) promised input))
 
 -- .. and a front of its acts the list before it, but for all acts where an entry is written
 abbrev pub AddsNone : (rest : List Act) → Taking → Type 0
@@ -40,8 +40,8 @@ AppendFrontLists =
     (c : Cartridge) (header : Header) (words : List ℕ) (entries : List Entry) (table : List (List ℕ)) (name : List ℕ) (date : ℕ)
     (promised : Option ℕ) (reply : Entry → List ℕ) (input : List ℕ) (front rest : List Act) → Lists c header words entries →
     IsListed c words entries → c.info.protected ≡ false → TableIs c table →
-    front ++ rest ≡ append_acts (kept_of c words entries table) name date promised reply input →
-    AddsNone rest (taking (room_in (kept_of c words entries table)) promised input) →
+    front ++ rest ≡ append_acts (kept_over c words entries table) name date promised reply input →
+    AddsNone rest (taking (room_in (kept_over c words entries table)) promised input) →
     Lists (changed_by (steps_of front) c) header words entries
 
 -- ---- a worn sector, and a scrub

@@ -138,15 +138,13 @@ silently entry = []
 abbrev pub kept_in : (words : List ℕ) → (entries : List Entry) → Kept
 kept_in words entries = record { words = words; entries = entries; last = length words - 1; table = []; settling = [] }
 
+-- what it goes by over a cartridge whose table has these data
+abbrev pub kept_over : Cartridge → (words : List ℕ) → (entries : List Entry) → (table : List (List ℕ)) → Kept
+kept_over c words entries table = record (kept_in words entries) { table = table; settling = settling_steps table c }
+
 -- what it goes by once the table is settled: a sector that takes no write is written again
 abbrev pub kept_on : Cartridge → (words : List ℕ) → (table : List (List ℕ)) → List Entry → Kept
-kept_on c words table entries = record {
-  words = words;
-  entries = entries;
-  last = last_segment c;
-  table = table;
-  settling = settling_steps table (settled table c);
-}
+kept_on c words table entries = record (kept_over (settled table c) words entries table) { last = last_segment c }
 
 -- the answer, with room for so many bytes: full where there is none for all of the input, or for no byte
 abbrev pub append_status : (have : ℕ) → (input : List ℕ) → Status

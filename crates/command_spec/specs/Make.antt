@@ -7,7 +7,7 @@ use Rattle.cartridge_spec.specs.Settling.{settling_steps, changed_by}
 use Rattle.cartridge_spec.specs.Shape.{mask_at, usable_places}
 use Rattle.cartridge_spec.specs.Table.{Entry}
 use Rattle.cartridge_spec.specs.Volumes.{carrying_segments, volume_length}
-use Rattle.command_spec.specs.Append.{kept_in, entry_for, Kept, append_acts, silently, room_in, has_promised_room}
+use Rattle.command_spec.specs.Append.{kept_in, entry_for, Kept, append_acts, silently, room_in, has_promised_room, kept_over}
 use Rattle.command_spec.specs.Generator.{made_bytes, made_length}
 use Rattle.command_spec.specs.Outcome.{settling_act, CommandOutcome, Going, WritableOutcome}
 use Rattle.command_spec.specs.Restore.{Ending, Restored, LostIn, MismatchIn, Restores, pieces, volume_at, EndsAt}
@@ -104,20 +104,10 @@ pub data Answer : Type 0 where
 
 -- ---- an append
 
--- what the append to a cartridge goes by, where the table's data are these
-abbrev pub kept_on : Cartridge → (words : List ℕ) → List Entry → (table : List (List ℕ)) → Kept
-kept_on c words entries table = record {
-  words = words;
-  entries = entries;
-  last = length words - 1;
-  table = table;
-  settling = settling_steps table c;
-}
-
 -- the table is settled, and a volume's bytes are appended, as many as are promised
 abbrev pub made_acts : (seed : ℕ) → Cartridge → (words : List ℕ) → List Entry → (table : List (List ℕ)) → (volume : ℕ) → List Act
 made_acts seed c words entries table volume =
-    append_acts (kept_on c words entries table) (made_name volume) 0 (Some (made_length seed volume)) silently (made_bytes seed volume)
+    append_acts (kept_over c words entries table) (made_name volume) 0 (Some (made_length seed volume)) silently (made_bytes seed volume)
 
 -- it is full where fewer bytes have room than are promised
 abbrev pub made_answer : (seed : ℕ) → (words : List ℕ) → List Entry → (volume : ℕ) → Answer

@@ -6,7 +6,7 @@ use Rattle.cartridge_spec.specs.Says.{ByCode, LostSectors, TableSays}
 use Rattle.cartridge_spec.specs.Settling.{settling_steps, changed_by}
 use Rattle.cartridge_spec.specs.Table.{Entry}
 use Rattle.cartridge_spec.specs.Volumes.{volume_length}
-use Rattle.command_spec.specs.Append.{Kept, append_acts, Taking, Fits, TooLong, TooShort, entry_for, room_in, taking}
+use Rattle.command_spec.specs.Append.{Kept, append_acts, Taking, Fits, TooLong, TooShort, entry_for, room_in, taking, kept_over}
 use Rattle.command_spec.specs.Input.{Item, IsLineText, most_items, Ending, AtEnd, AtStop, AtFault, IsItem, HasItems, IsScript}
 use Rattle.command_spec.specs.Lines.{place_line, number_line, reply_behind, lost_line, list_text}
 use Rattle.command_spec.specs.Outcome.{settling_act, CommandOutcome, Going, OpenOutcome}
@@ -75,21 +75,11 @@ Meets c (Refuses (why.Lost segment lost)) =
 Meets c (Refuses other) = ⊥
 Meets c (Finds table) = (c.info.protected ≡ false) × TableIs c table
 
--- what it goes by where it finds these data
-abbrev pub kept_on : Cartridge → (words : List ℕ) → List Entry → (table : List (List ℕ)) → Kept
-kept_on c words entries table = record {
-  words = words;
-  entries = entries;
-  last = length words - 1;
-  table = table;
-  settling = settling_steps table c;
-}
-
 -- its acts over bytes that are as many as were promised, or fewer at the end of the input
 abbrev pub acts_on : Cartridge → (words : List ℕ) → List Entry → (name : List ℕ) → (promised date : ℕ) → (bytes : List ℕ) → Meeting → List Act
 acts_on c words entries name promised date bytes (Refuses why) = []
 acts_on c words entries name promised date bytes (Finds table) =
-    append_acts (kept_on c words entries table) name date (Some promised) (reply_behind (length entries)) bytes
+    append_acts (kept_over c words entries table) name date (Some promised) (reply_behind (length entries)) bytes
 
 -- what it has done then, by what became of the bytes
 abbrev pub taken_as : Kept → (name : List ℕ) → (date : ℕ) → List Act → Taking → Did
@@ -101,7 +91,7 @@ taken_as kept name date acts (TooShort promised read) = record { acts = acts; en
 abbrev pub appended : Cartridge → (words : List ℕ) → List Entry → (name : List ℕ) → (promised date : ℕ) → (bytes : List ℕ) → Meeting → Did
 appended c words entries name promised date bytes (Refuses why) = refused [] entries why
 appended c words entries name promised date bytes (Finds table) =
-    let kept : Kept = kept_on c words entries table in
+    let kept : Kept = kept_over c words entries table in
     taken_as kept name date (acts_on c words entries name promised date bytes (Finds table)) (taking (room_in kept) (Some promised) bytes)
 
 abbrev pub Appends : Cartridge → (words : List ℕ) → List Entry → (name : List ℕ) → (promised date : ℕ) → (bytes : List ℕ) → Did → Type 0

@@ -31,7 +31,7 @@ use Rattle.command_spec.specs.Lines.{appended_line, reply_behind}
 use Rattle.volume_store.specs.declared.appended.Appended.{Appended}
 use Rattle.volume_store.specs.declared.fault.StoreFault.{StoreFault}
 use Rattle.volume_store.specs.declared.fault.StoreFault.TheVariants as store_fault
-use Rattle.command_spec.specs.Append.{Kept, Taking, Fits, TooLong, TooShort, taking, room_in, entry_for, append_acts, silently, table_with}
+use Rattle.command_spec.specs.Append.{Kept, Taking, Fits, TooLong, TooShort, taking, room_in, entry_for, append_acts, silently, table_with, kept_over}
 use Rattle.volume_store.specs.Appending.{kept_by, AppendRan, HasAppended, TableRefused, AppendCut, CutUnread, KeepsList}
 use Rattle.volume_store.specs.Mounting.{StoreView, StoreFits}
 use Rattle.drive_spec.specs.Deck.{is_protected}
@@ -47,7 +47,7 @@ use Rattle.volume_script.specs.Items.{ItemDone, ItemShort, ItemCut, ItemMismatch
 use Rattle.volume_script.specs.Limited.{limited_means}
 use Rattle.command_spec.specs.Script.{refusal_line}
 use Rattle.volume_script.specs.Promised.{RanPromised, Refuses, replied_so}
-use Rattle.command_spec.specs.Script.{Did, LineDoes, Meeting, Finds, Meets, acts_on, kept_on, refused, reply, taken_as}
+use Rattle.command_spec.specs.Script.{Did, LineDoes, Meeting, Finds, Meets, acts_on, refused, reply, taken_as}
 use Rattle.command_spec.specs.Script as script
 use Rattle.command_laws.proofs.ScriptActs.{quietly, same_acts, same_taking, took_enough, took_too_long, took_short, full_acts, full_taking, short_acts, fits_acts, front_acts, front_and_last, replied_steps, replied_text, input_texts}
 use Rattle.command_laws.proofs.ScriptGiven.{gave_all, gave_few, Behind, behind}
@@ -176,7 +176,7 @@ module _ {T S K : Type 0} (t : tapes.Meaning T) (s : sources.Meaning S) (k : sin
       does entries added =
           Tells-map t a (Known store has.ran.table has.ran.settling) (λ c. LineDoes c store.words store.entries asked has.bytes (record { acts = whole; entries = entries }))
           (λ c known.
-          let settles : kept ≡ kept_on c store.words store.entries has.ran.table = ap (λ (ss : List Step). kept_by store has.ran.table ss) known.0.1 in
+          let settles : kept ≡ kept_over c store.words store.entries has.ran.table = ap (λ (ss : List Step). kept_by store has.ran.table ss) known.0.1 in
           let entry : entries ≡ store.entries ++ entry_for kept name date has.bytes ∷ [] = added ∙ ap (λ (e : Entry). store.entries ++ e ∷ []) has.is_entry in (
             Finds has.ran.table,
             (known.1, known.0.0),
@@ -331,7 +331,7 @@ module _ {T S K : Type 0} (t : tapes.Meaning T) (s : sources.Meaning S) (k : sin
         by_cases at c each lost off acts (inl (bytes, (more, (parts, long, (did, same, (script.Refuses meeting, meets, is)))))) =
             cut_is_longer t s k (out a i x) (out b j x) [] acts failing (lift_cut [] failing other (lost (unbegun c off meeting meets)))
         by_cases at c each lost off acts (inl (bytes, (more, (parts, long, (did, same, (Finds table, meets, is)))))) =
-            let kept : Kept = kept_on c store.words store.entries table in
+            let kept : Kept = kept_over c store.words store.entries table in
             let enough : promised ≤ length cut.input = at.enough (let l = ap length parts in let m = length-append bytes more in omega arith) in
             let first : take promised cut.input ≡ bytes = sym at.front ∙ ap (take promised) parts ∙ first_of bytes more promised long in
             let whole : append_acts kept name date (Some promised) reply_of cut.input ≡ append_acts kept name date (Some promised) reply_of bytes =
@@ -344,7 +344,7 @@ module _ {T S K : Type 0} (t : tapes.Meaning T) (s : sources.Meaning S) (k : sin
         by_cases at c each lost off acts (inr (short, (script.Refuses meeting, meets, is))) =
             cut_is_longer t s k (out a i x) (out b j x) [] acts failing (lift_cut [] failing other (lost (unbegun c off meeting meets)))
         by_cases at c each lost off acts (inr (short, (Finds table, meets, is))) =
-            let kept : Kept = kept_on c store.words store.entries table in
+            let kept : Kept = kept_over c store.words store.entries table in
             let input : cut.input ≡ at.rest = at.few short in
             subst (λ (zs : List Act). Cut t s k (out a i x) (out b j x) zs failing) (ap (λ (bs : List ℕ). append_acts kept name date (Some promised) reply_of bs) input ∙ sym is)
             (lift_cut (append_acts kept name date (Some promised) reply_of cut.input) failing other (each table meets.1 reply_of))
@@ -366,7 +366,7 @@ module _ {T S K : Type 0} (t : tapes.Meaning T) (s : sources.Meaning S) (k : sin
           went = lift (quietly full.settling ∷ []) (subst (λ (zs : List Act). Went t (limited_means s) no_sink (reading a ran.before) (reading b ran.behind) zs) (full_acts kept name date promised small.0 silently full.input) full.went);
           told = Tells-map t a (Known store full.table full.settling) _
               (λ c known.
-              let by : Kept = kept_on c store.words store.entries full.table in
+              let by : Kept = kept_over c store.words store.entries full.table in
               let settles : kept ≡ by = ap (λ (ss : List Step). kept_by store full.table ss) known.0.1 in
               let alone : (bytes : List ℕ) → append_acts by name date (Some promised) reply_of bytes ≡ quietly full.settling ∷ [] =
               λ bytes. full_acts by name date promised small.0 reply_of bytes ∙ ap (λ (ss : List Step). quietly ss ∷ []) (sym known.0.1) in (
