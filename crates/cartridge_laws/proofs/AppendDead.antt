@@ -14,7 +14,7 @@ use Rattle.cartridge_laws.proofs.MountStops.{block_written}
 use Rattle.cartridge_laws.proofs.MountWriting.{IsAllWritten, all_written}
 use Rattle.cartridge_laws.proofs.Segments.{length-whole_cells}
 use Rattle.cartridge_laws.specs.AppendBetween.{IsWhole}
-use Rattle.cartridge_laws.specs.AppendLaws.{IsReady}
+use Rattle.cartridge_laws.specs.AppendLaws.{IsReadyFor}
 use Rattle.cartridge_laws.specs.AppendSettled.{IsSettledFor, SettledIsSettledFor}
 use Rattle.cartridge_spec.specs.Appending.{table_writes}
 use Rattle.cartridge_spec.specs.HeaderAndTable.{IsArea, table_cells}
@@ -36,7 +36,7 @@ whole_settled c area is whole = record {
   live = λ i h live. whole i h;
 }
 
-pub ready_settled : {c : Cartridge} {plain : Plain} {name : List ℕ} {date : ℕ} {bytes : List ℕ} → IsReady c plain name date bytes →
+pub ready_settled : {c : Cartridge} {plain : Plain} {name : List ℕ} {date : ℕ} {bytes : List ℕ} → IsReadyFor c plain name date bytes →
     IsSettledFor c plain.table_area
 ready_settled {c = c} {plain = plain} ready = whole_settled c plain.table_area ready.stands.whole.table_area ready.whole
 

@@ -17,7 +17,7 @@ use Rattle.cartridge_laws.proofs.FormatWriting.{changed_by-append, effects-some,
 use Rattle.cartridge_laws.proofs.MountParts.{data_read}
 use Rattle.cartridge_laws.proofs.TableOrders.{sound_is_faultless}
 use Rattle.cartridge_laws.specs.AppendBetween.{IsWhole, IsBegun, Between}
-use Rattle.cartridge_laws.specs.AppendLaws.{IsReady, StoppedList, AppendedIsWhole, AppendedStands, StoppedAppend}
+use Rattle.cartridge_laws.specs.AppendLaws.{IsReadyFor, StoppedList, AppendedIsWhole, AppendedStands, StoppedAppend}
 use Rattle.cartridge_laws.specs.AppendSettled.{MayAppendTo, IsSettledFor, DoneIsSettledFor, DoneStands}
 use Rattle.cartridge_laws.specs.AppendSteps.{volume_writes, list_writes, append_steps}
 use Rattle.cartridge_laws.specs.Shape.{Carries}
@@ -149,7 +149,7 @@ table_kept c plain name date bytes may =
     kept_to c (changed_by writes c) plain 2 (last_end_least c plain may.stands)
     (steps_kept (Behind plain) writes c (volume_writes_behind c plain name date bytes volume may))
 
-whole_then : (c : Cartridge) (plain : Plain) (name : List ℕ) (date : ℕ) (bytes : List ℕ) → IsReady c plain name date bytes →
+whole_then : (c : Cartridge) (plain : Plain) (name : List ℕ) (date : ℕ) (bytes : List ℕ) → IsReadyFor c plain name date bytes →
     IsWhole (changed_by (volume_writes plain (last_segment c) bytes (appended_volume plain (last_segment c) name date bytes)) c) plain.table_area
 whole_then c plain name date bytes ready =
     let volume : Volume = appended_volume plain (last_segment c) name date bytes in
@@ -223,7 +223,7 @@ pub record IsReadAs (d : Cartridge) (plain : Plain) : Type 0 where
   pub table : TableIs d plain.table_area
 
 -- what stands while the table is written
-by_between : (c e : Cartridge) (plain : Plain) (name : List ℕ) (date : ℕ) (bytes : List ℕ) → IsReady c plain name date bytes →
+by_between : (c e : Cartridge) (plain : Plain) (name : List ℕ) (date : ℕ) (bytes : List ℕ) → IsReadyFor c plain name date bytes →
     IsKeptBut OfTable (changed_by (volume_writes plain (last_segment c) bytes (appended_volume plain (last_segment c) name date bytes)) c) e →
     Between e plain.table_area (appended_table plain (appended_volume plain (last_segment c) name date bytes).entry) (slot_sector (length plain.volumes)) →
     IsReadAs e plain ⊎ IsReadAs e (with_volume plain (appended_volume plain (last_segment c) name date bytes))
@@ -266,7 +266,7 @@ by_between c e plain name date bytes ready next between = by_state between
         })
 
 pub stopped_reads : (c : Cartridge) (plain : Plain) (name : List ℕ) (date : ℕ) (bytes : List ℕ) (left : Option Cartridge) →
-    IsReady c plain name date bytes →
+    IsReadyFor c plain name date bytes →
     Torn (append_steps plain (last_segment c) bytes (appended_volume plain (last_segment c) name date bytes)) (Some c) left →
     IsSomeAnd left (λ d. IsReadAs d plain ⊎ IsReadAs d (with_volume plain (appended_volume plain (last_segment c) name date bytes)))
 stopped_reads c plain name date bytes left ready torn =

@@ -10,7 +10,7 @@ use Rattle.cartridge_laws.proofs.AppendWhole.{sector_writes_are_cartridge}
 use Rattle.cartridge_laws.proofs.FormatStanding.{same_cells}
 use Rattle.cartridge_laws.proofs.FormatWriting.{some_weaker}
 use Rattle.cartridge_laws.proofs.MountStanding.{can_be_read, standing_mounts}
-use Rattle.cartridge_laws.specs.AppendLaws.{AppendedMounts, StoppedAppendMounts, AppendedIsClean, StoppedAppendIsClean, steps_of, AppendTouchesOnly, FreeWritesAreClean, FreeWritesLeaveReady}
+use Rattle.cartridge_laws.specs.AppendLaws.{AppendedMounts, StoppedAppendMounts, AppendedIsClean, StoppedAppendIsClean, append_steps_of, AppendTouchesOnly, FreeWritesAreClean, FreeWritesLeaveReady}
 use Rattle.cartridge_laws.specs.AppendSettled.{DoneMounts, MayAppendTo, DoneIsClean, DoneTouchesOnly, FreeWritesLeaveSettled}
 use Rattle.cartridge_laws.specs.AppendSteps.{append_steps, volume_writes, list_writes, IsNamed}
 use Rattle.cartridge_laws.specs.AppendWrites.{KeepsTo, AreWrites, IsFree, IsOfSector}
@@ -108,7 +108,7 @@ stopped_append_is_clean c plain name date bytes left ready clean torn =
 -- ---- which sectors are written
 
 named_in : (c : Cartridge) (plain : Plain) (name : List ℕ) (date : ℕ) (bytes : List ℕ) → MayAppendTo c plain name date bytes →
-    AreIn (IsNamed plain (last_segment c) bytes) (steps_of c plain name date bytes)
+    AreIn (IsNamed plain (last_segment c) bytes) (append_steps_of c plain name date bytes)
 named_in c plain name date bytes ready =
     let last : ℕ = last_segment c in
     let volume : Volume = appended_volume plain last name date bytes in
@@ -131,14 +131,14 @@ named_in c plain name date bytes ready =
 
 pub done_touches_only : DoneTouchesOnly
 done_touches_only c plain name date bytes may =
-    let steps : List Step = steps_of c plain name date bytes in
+    let steps : List Step = append_steps_of c plain name date bytes in
     let kept = steps_kept (IsNamed plain (last_segment c) bytes) steps c (named_in c plain name date bytes may) in
     (kept.info, kept.others)
 
 pub append_touches_only : AppendTouchesOnly
 append_touches_only c plain name date bytes left ready torn =
     some_weaker left (λ d kept. (kept.info, kept.others))
-    (steps_stopped (IsNamed plain (last_segment c) bytes) (steps_of c plain name date bytes) c left
+    (steps_stopped (IsNamed plain (last_segment c) bytes) (append_steps_of c plain name date bytes) c left
     (named_in c plain name date bytes (may_append ready)) torn)
 
 -- ---- whatever is written behind the last volume

@@ -9,7 +9,7 @@ use Rattle.cartridge_laws.proofs.FormatWriting.{some_weaker}
 use Rattle.cartridge_laws.proofs.MountKeeping.{stopped_stands}
 use Rattle.cartridge_laws.proofs.MountSettled.{settled_keeps_table, settled_stands, settled_is_whole}
 use Rattle.cartridge_laws.proofs.MountWhole.{settled_is_cartridge, settling_effects}
-use Rattle.cartridge_laws.specs.AppendLaws.{SettledIsReady, steps_of, StoppedFromTheStart, AppendedIsReady}
+use Rattle.cartridge_laws.specs.AppendLaws.{SettledIsReady, append_steps_of, StoppedFromTheStart, AppendedIsReady}
 use Rattle.cartridge_laws.specs.AppendSettled.{SettledMayAppendTo, ReadyIsSettledFor, MayAppendTo, DoneMayAppendTo}
 use Rattle.cartridge_spec.specs.Appending.{has_room, new_plain}
 use Rattle.cartridge_spec.specs.Mounting.{settled}
@@ -48,7 +48,7 @@ pub stopped_from_the_start : StoppedFromTheStart
 stopped_from_the_start c plain name date bytes left may torn =
     let first : List Step = settling_steps plain.table_area c in
     let d : Cartridge = settled plain.table_area c in
-    let next : List Step = steps_of d plain name date bytes in
+    let next : List Step = append_steps_of d plain name date bytes in
     elim (Torn-append first next (Some c) left torn) [
       | inl front ↦ some_weaker left (λ e stood. inl stood) (stopped_stands c plain plain.table_area left may.stands may.table front)
       | inr behind ↦

@@ -9,7 +9,7 @@ use Rattle.cartridge_laws.proofs.FormatStanding.{same_cells}
 use Rattle.cartridge_laws.proofs.FormatWriting.{some_weaker}
 use Rattle.cartridge_laws.proofs.TableOrders.{faultless_is_sound}
 use Rattle.cartridge_laws.specs.AppendBetween.{IsWhole}
-use Rattle.cartridge_laws.specs.AppendLaws.{IsReady, FreeWritesStand, StoppedVolume}
+use Rattle.cartridge_laws.specs.AppendLaws.{IsReadyFor, FreeWritesStand, StoppedVolume}
 use Rattle.cartridge_laws.specs.AppendSettled.{MayAppendTo}
 use Rattle.cartridge_laws.specs.AppendSteps.{volume_writes}
 use Rattle.cartridge_laws.specs.Table.{LieBehind}
@@ -22,7 +22,7 @@ use Rattle.qic_base.specs.declared.tape.SectorView.{SectorView}
 
 -- ---- what is known of a cartridge that is ready
 
-pub may_append : {c : Cartridge} {plain : Plain} {name : List ℕ} {date : ℕ} {bytes : List ℕ} → IsReady c plain name date bytes →
+pub may_append : {c : Cartridge} {plain : Plain} {name : List ℕ} {date : ℕ} {bytes : List ℕ} → IsReadyFor c plain name date bytes →
     MayAppendTo c plain name date bytes
 may_append ready = record {
   cartridge = ready.cartridge;
@@ -34,7 +34,7 @@ may_append ready = record {
 }
 
 pub is_ready : {c : Cartridge} {plain : Plain} {name : List ℕ} {date : ℕ} {bytes : List ℕ} → MayAppendTo c plain name date bytes →
-    IsWhole c plain.table_area → IsReady c plain name date bytes
+    IsWhole c plain.table_area → IsReadyFor c plain name date bytes
 is_ready may whole = record {
   cartridge = may.cartridge;
   stands = may.stands;

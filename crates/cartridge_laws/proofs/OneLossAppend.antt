@@ -11,7 +11,7 @@ use Rattle.cartridge_laws.proofs.Slots.{other_sector}
 use Rattle.cartridge_laws.proofs.TableSlotLaws.{used_not_free}
 use Rattle.cartridge_laws.specs.AppendLaws.{new_table}
 use Rattle.cartridge_laws.specs.OneLossLaws.{AppendChangesOneSector, StoppedAppendReadsEither}
-use Rattle.cartridge_laws.specs.OneLossTables.{IsLastUsed}
+use Rattle.cartridge_laws.specs.OneLossTables.{IsLastInUse}
 use Rattle.cartridge_spec.specs.Appending.{new_plain, volume_of}
 use Rattle.cartridge_spec.specs.Shape.{sector_at}
 use Rattle.cartridge_spec.specs.Table.{slot, is_used, is_free, slot_sector, Entry, Shows, slot_bytes}
@@ -67,7 +67,7 @@ free_not_used bytes free =
 
 -- that of the last volume
 last_used_shown : (area : List (List ℕ)) (entries : List Entry) (n : ℕ) → Shows area entries → length entries ≡ n + 1 → n < 232 →
-    IsLastUsed area (slot_sector n)
+    IsLastInUse area (slot_sector n)
 last_used_shown area entries n shows count within =
     let same : n ≡ 8 * (n / 8) + n % 8 = omega arith in
     record {

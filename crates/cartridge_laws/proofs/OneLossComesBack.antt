@@ -12,7 +12,7 @@ use Rattle.cartridge_laws.proofs.MountSettled.{settled_keeps_table, settled_is_w
 use Rattle.cartridge_laws.proofs.OneLossAppend.{stopped_append_reads_either, append_changes_one_sector}
 use Rattle.cartridge_laws.proofs.OneLossRead.{before_reads_old_still}
 use Rattle.cartridge_laws.specs.AppendBetween.{IsWhole}
-use Rattle.cartridge_laws.specs.AppendLaws.{volume_steps, IsReady, list_steps, new_table}
+use Rattle.cartridge_laws.specs.AppendLaws.{volume_steps, IsReadyFor, list_steps, new_table}
 use Rattle.cartridge_laws.specs.AppendSteps.{list_writes}
 use Rattle.cartridge_laws.specs.OneLossLaws.{TableAloneComesBack, TableAloneIsClean, StoppedAppendComesBack, DoneAppendReadsNew, DoneAppendComesBack}
 use Rattle.cartridge_spec.specs.Appending.{new_plain, volume_of}
@@ -132,7 +132,7 @@ list_in : (plain : Plain) (volume : Volume) → length plain.volumes < 232 → A
 list_in plain volume few = ((refl, omega arith), ((refl, omega arith), ((refl, omega arith), ((refl, omega arith), tt))))
 
 -- what the volume's writes left, and what the table's writes leave behind them
-old_stands : (c : Cartridge) (plain : Plain) (name : List ℕ) (date : ℕ) (bytes : List ℕ) → IsReady c plain name date bytes →
+old_stands : (c : Cartridge) (plain : Plain) (name : List ℕ) (date : ℕ) (bytes : List ℕ) → IsReadyFor c plain name date bytes →
     Stands (changed_by (volume_steps c plain name date bytes) c) plain
 old_stands c plain name date bytes ready =
     let steps : List Step = volume_steps c plain name date bytes in
@@ -141,7 +141,7 @@ old_stands c plain name date bytes ready =
     (stopped_volume c plain name date bytes (effects steps (Some c)) ready (Torn-all steps (Some c))) in
     subst (λ (o : Option Cartridge). IsSomeAnd o (λ d. Stands d plain)) (effects-some steps c) all
 
-new_stands : (c : Cartridge) (plain : Plain) (name : List ℕ) (date : ℕ) (bytes : List ℕ) → IsReady c plain name date bytes →
+new_stands : (c : Cartridge) (plain : Plain) (name : List ℕ) (date : ℕ) (bytes : List ℕ) → IsReadyFor c plain name date bytes →
     Stands (changed_by (list_steps c plain name date bytes) (changed_by (volume_steps c plain name date bytes) c))
     (new_plain c plain name date bytes)
 new_stands c plain name date bytes ready =
@@ -179,7 +179,7 @@ stopped_append_comes_back c d plain name date bytes left ready is torn =
 
 -- ---- a done append
 
-new_whole : (c : Cartridge) (plain : Plain) (name : List ℕ) (date : ℕ) (bytes : List ℕ) → IsReady c plain name date bytes →
+new_whole : (c : Cartridge) (plain : Plain) (name : List ℕ) (date : ℕ) (bytes : List ℕ) → IsReadyFor c plain name date bytes →
     IsWhole (changed_by (list_steps c plain name date bytes) (changed_by (volume_steps c plain name date bytes) c))
     (new_table c plain name date bytes)
 new_whole c plain name date bytes ready =

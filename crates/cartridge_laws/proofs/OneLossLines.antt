@@ -8,7 +8,7 @@ use Rattle.cartridge_laws.proofs.OneLossParity.{same_data, parity_differs}
 use Rattle.cartridge_laws.proofs.Segments.{cells_of_whole}
 use Rattle.cartridge_laws.proofs.Sets.{IsNoneOf, IsOneOf}
 use Rattle.cartridge_laws.specs.MountBlocks.{HoldsPart}
-use Rattle.cartridge_laws.specs.OneLossTables.{DifferInOne, IsLastUsed}
+use Rattle.cartridge_laws.specs.OneLossTables.{DifferInOne, IsLastInUse}
 use Rattle.cartridge_spec.specs.HeaderAndTable.{IsArea, table_cells, TableIs}
 use Rattle.cartridge_spec.specs.Says.{with_parity, HasFirstBlock, unreadable_count}
 use Rattle.cartridge_spec.specs.Shape.{sector_at, is_unreadable}
@@ -22,7 +22,7 @@ use Rattle.qic_base.specs.declared.tape.SectorView.TheVariants.{Lost, Holds}
 -- the data are new, but for a sector that is lost
 pub record IsBroken (d : Cartridge) (old new : List (List ℕ)) (changed lost : ℕ) : Type 0 where
   pub differ : DifferInOne old new changed
-  pub last : IsLastUsed new changed
+  pub last : IsLastInUse new changed
   pub small : lost < 29
   pub here : view_at d 2 lost ≡ Lost
   pub data_sectors : (i : ℕ) → i < 29 → i ≢ lost → HoldsPart d new i

@@ -9,7 +9,7 @@ use Rattle.cartridge_laws.proofs.OneLossLines.{IsBroken, all_old, first_lost, al
 use Rattle.cartridge_laws.specs.AppendBetween.{IsWhole, IsBegun, IsTurned}
 use Rattle.cartridge_laws.specs.MountBlocks.{HoldsPart}
 use Rattle.cartridge_laws.specs.OneLossLaws.{BeforeReadsOldStill, LostParityReadsNew, LostDataReadsOld, LostDataReadsNew, OneLossReadsEither}
-use Rattle.cartridge_laws.specs.OneLossTables.{DifferInOne, IsLastUsed}
+use Rattle.cartridge_laws.specs.OneLossTables.{DifferInOne, IsLastInUse}
 use Rattle.cartridge_spec.specs.HeaderAndTable.{table_cells, TableIs}
 use Rattle.cartridge_spec.specs.OneLoss.{LosesOne}
 use Rattle.cartridge_spec.specs.Says.{unreadable_count, with_parity}
@@ -66,7 +66,7 @@ lost_parity_reads_new c d old new m is turned from loses =
 
 -- ---- a sector of data
 
-broken_by : (c d : Cartridge) (old new : List (List ℕ)) (k m : ℕ) → DifferInOne old new k → IsLastUsed new k → IsTurned c old new → m < 29 →
+broken_by : (c d : Cartridge) (old new : List (List ℕ)) (k m : ℕ) → DifferInOne old new k → IsLastInUse new k → IsTurned c old new → m < 29 →
     LosesOne c d m → IsBroken d old new k m
 broken_by c d old new k m differ last turned small loses =
     let begins : 29 ≤ turned.turn = turned.from in
@@ -147,7 +147,7 @@ lost_data_reads_new c d old new k m differ last turned small loses least apart =
 
 -- ---- either
 
-turned_reads_either : (c d : Cartridge) (old new : List (List ℕ)) (k m : ℕ) → DifferInOne old new k → IsLastUsed new k →
+turned_reads_either : (c d : Cartridge) (old new : List (List ℕ)) (k m : ℕ) → DifferInOne old new k → IsLastInUse new k →
     IsTurned c old new → m < 29 →
     LosesOne c d m → TableIs d old ⊎ TableIs d new
 turned_reads_either c d old new k m differ last turned small loses =

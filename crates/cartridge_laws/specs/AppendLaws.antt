@@ -27,14 +27,14 @@ volume_steps c plain name date bytes = volume_writes plain (last_segment c) byte
 abbrev pub list_steps : Cartridge → Plain → (name : List ℕ) → (date : ℕ) → (bytes : List ℕ) → List Step
 list_steps c plain name date bytes = list_writes plain (volume_of c plain name date bytes)
 
-abbrev pub steps_of : Cartridge → Plain → (name : List ℕ) → (date : ℕ) → (bytes : List ℕ) → List Step
-steps_of c plain name date bytes = append_steps plain (last_segment c) bytes (volume_of c plain name date bytes)
+abbrev pub append_steps_of : Cartridge → Plain → (name : List ℕ) → (date : ℕ) → (bytes : List ℕ) → List Step
+append_steps_of c plain name date bytes = append_steps plain (last_segment c) bytes (volume_of c plain name date bytes)
 
 -- ---- before an append
 
 -- The cartridge stands for a plain one, its table is settled with all sectors readable, and a volume with this name of 44
 -- bytes, this date word and these bytes has room.
-pub record IsReady (c : Cartridge) (plain : Plain) (name : List ℕ) (date : ℕ) (bytes : List ℕ) : Type 0 where
+pub record IsReadyFor (c : Cartridge) (plain : Plain) (name : List ℕ) (date : ℕ) (bytes : List ℕ) : Type 0 where
   pub cartridge : IsCartridge c
   pub stands : Stands c plain
   pub whole : IsWhole c plain.table_area
@@ -59,7 +59,7 @@ pub record MayAppend (c : Cartridge) (plain : Plain) (name : List ℕ) (date : �
 abbrev pub SettledIsReady : Type 0
 SettledIsReady =
     (c : Cartridge) (plain : Plain) (name : List ℕ) (date : ℕ) (bytes : List ℕ) → MayAppend c plain name date bytes →
-    IsReady (settled plain.table_area c) plain name date bytes
+    IsReadyFor (settled plain.table_area c) plain name date bytes
 
 -- ---- a state between two tables
 
@@ -77,7 +77,7 @@ TurnedReadsNew = (c : Cartridge) (old new : List (List ℕ)) → IsArea new → 
 -- the new data are 29 sectors, which show the old list and the new entry behind it, in order
 abbrev pub AppendedTableShows : Type 0
 AppendedTableShows =
-    (c : Cartridge) (plain : Plain) (name : List ℕ) (date : ℕ) (bytes : List ℕ) → IsReady c plain name date bytes →
+    (c : Cartridge) (plain : Plain) (name : List ℕ) (date : ℕ) (bytes : List ℕ) → IsReadyFor c plain name date bytes →
     IsArea (new_table c plain name date bytes) × Shows (new_table c plain name date bytes)
     (entries_of (new_plain c plain name date bytes))
     × IsSoundList (last_segment c) (entries_of (new_plain c plain name date bytes))
@@ -87,7 +87,7 @@ AppendedTableShows =
 -- its length is the number of the bytes that were appended, and its bytes are those
 abbrev pub AppendedBytes : Type 0
 AppendedBytes =
-    (c : Cartridge) (plain : Plain) (name : List ℕ) (date : ℕ) (bytes : List ℕ) → IsReady c plain name date bytes →
+    (c : Cartridge) (plain : Plain) (name : List ℕ) (date : ℕ) (bytes : List ℕ) → IsReadyFor c plain name date bytes →
     (volume_length plain.words (volume_of c plain name date bytes).entry ≡ length bytes)
     × (volume_bytes plain.words (volume_of c plain name date bytes) ≡ bytes)
 
@@ -118,41 +118,41 @@ SectorsTakeTheirs = (count : ℕ) (bytes : List ℕ) → in_sectors count (take 
 -- the cartridge stands for the plain one with the volume
 abbrev pub AppendedStands : Type 0
 AppendedStands =
-    (c : Cartridge) (plain : Plain) (name : List ℕ) (date : ℕ) (bytes : List ℕ) → IsReady c plain name date bytes →
-    Stands (changed_by (steps_of c plain name date bytes) c) (new_plain c plain name date bytes)
+    (c : Cartridge) (plain : Plain) (name : List ℕ) (date : ℕ) (bytes : List ℕ) → IsReadyFor c plain name date bytes →
+    Stands (changed_by (append_steps_of c plain name date bytes) c) (new_plain c plain name date bytes)
 
 -- and it is mounted as that
 abbrev pub AppendedMounts : Type 0
 AppendedMounts =
-    (c : Cartridge) (plain : Plain) (name : List ℕ) (date : ℕ) (bytes : List ℕ) → IsReady c plain name date bytes →
-    Mounts (changed_by (steps_of c plain name date bytes) c) (mounted_as (new_plain c plain name date bytes))
+    (c : Cartridge) (plain : Plain) (name : List ℕ) (date : ℕ) (bytes : List ℕ) → IsReadyFor c plain name date bytes →
+    Mounts (changed_by (append_steps_of c plain name date bytes) c) (mounted_as (new_plain c plain name date bytes))
 
 -- header copies that formatting may begin over stay so
 abbrev pub AppendedIsClean : Type 0
 AppendedIsClean =
-    (c : Cartridge) (plain : Plain) (name : List ℕ) (date : ℕ) (bytes : List ℕ) → IsReady c plain name date bytes → StandsCleanly c plain →
-    StandsCleanly (changed_by (steps_of c plain name date bytes) c) (new_plain c plain name date bytes)
+    (c : Cartridge) (plain : Plain) (name : List ℕ) (date : ℕ) (bytes : List ℕ) → IsReadyFor c plain name date bytes → StandsCleanly c plain →
+    StandsCleanly (changed_by (append_steps_of c plain name date bytes) c) (new_plain c plain name date bytes)
 
 -- the table's segment is whole
 abbrev pub AppendedIsWhole : Type 0
 AppendedIsWhole =
-    (c : Cartridge) (plain : Plain) (name : List ℕ) (date : ℕ) (bytes : List ℕ) → IsReady c plain name date bytes →
-    IsWhole (changed_by (steps_of c plain name date bytes) c) (new_table c plain name date bytes)
+    (c : Cartridge) (plain : Plain) (name : List ℕ) (date : ℕ) (bytes : List ℕ) → IsReadyFor c plain name date bytes →
+    IsWhole (changed_by (append_steps_of c plain name date bytes) c) (new_table c plain name date bytes)
 
 -- what is left is a cartridge
 abbrev pub AppendedIsCartridge : Type 0
 AppendedIsCartridge =
-    (c : Cartridge) (plain : Plain) (name : List ℕ) (date : ℕ) (bytes : List ℕ) → IsReady c plain name date bytes →
-    IsCartridge (changed_by (steps_of c plain name date bytes) c)
+    (c : Cartridge) (plain : Plain) (name : List ℕ) (date : ℕ) (bytes : List ℕ) → IsReadyFor c plain name date bytes →
+    IsCartridge (changed_by (append_steps_of c plain name date bytes) c)
 
 -- it is ready for an append that has room behind it
 abbrev pub AppendedIsReady : Type 0
 AppendedIsReady =
     (c : Cartridge) (plain : Plain) (name : List ℕ) (date : ℕ) (bytes : List ℕ) (other : List ℕ) (day : ℕ) (more : List ℕ) →
-    IsReady c plain name date bytes →
+    IsReadyFor c plain name date bytes →
     has_room plain.words (entries_of (new_plain c plain name date bytes)) (last_segment c) (length more) ≡ true →
     IsLabel other → day < 2 ^ 32 → All (λ b. b < 256) more →
-    IsReady (changed_by (steps_of c plain name date bytes) c) (new_plain c plain name date bytes) other day more
+    IsReadyFor (changed_by (append_steps_of c plain name date bytes) c) (new_plain c plain name date bytes) other day more
 
 -- ---- writes behind the volumes
 
@@ -167,8 +167,8 @@ FreeWritesStand =
 abbrev pub FreeWritesLeaveReady : Type 0
 FreeWritesLeaveReady =
     (c : Cartridge) (plain : Plain) (name : List ℕ) (date : ℕ) (bytes : List ℕ) (steps : List Step) (left : Option Cartridge) →
-    IsReady c plain name date bytes → AreWrites (IsFree (last_end (entries_of plain))) steps → AreWrites IsOfSector steps →
-    Torn steps (Some c) left → IsSomeAnd left (λ d. IsReady d plain name date bytes)
+    IsReadyFor c plain name date bytes → AreWrites (IsFree (last_end (entries_of plain))) steps → AreWrites IsOfSector steps →
+    Torn steps (Some c) left → IsSomeAnd left (λ d. IsReadyFor d plain name date bytes)
 
 -- and header copies that formatting may begin over stay so
 abbrev pub FreeWritesAreClean : Type 0
@@ -189,14 +189,14 @@ SectorWritesAreCartridge =
 abbrev pub StoppedVolume : Type 0
 StoppedVolume =
     (c : Cartridge) (plain : Plain) (name : List ℕ) (date : ℕ) (bytes : List ℕ) (left : Option Cartridge) →
-    IsReady c plain name date bytes → Torn (volume_steps c plain name date bytes) (Some c) left →
+    IsReadyFor c plain name date bytes → Torn (volume_steps c plain name date bytes) (Some c) left →
     IsSomeAnd left (λ d. Stands d plain × IsWhole d plain.table_area)
 
 -- a stop among the writes of the table leaves its segment between its two data
 abbrev pub StoppedList : Type 0
 StoppedList =
     (c d : Cartridge) (plain : Plain) (name : List ℕ) (date : ℕ) (bytes : List ℕ) (left : Option Cartridge) →
-    IsReady c plain name date bytes → d ≡ changed_by (volume_steps c plain name date bytes) c →
+    IsReadyFor c plain name date bytes → d ≡ changed_by (volume_steps c plain name date bytes) c →
     Torn (list_steps c plain name date bytes) (Some d) left →
     IsSomeAnd left (λ e. Between e plain.table_area
     (new_table c plain name date bytes) (slot_sector (length plain.volumes)))
@@ -205,7 +205,7 @@ StoppedList =
 abbrev pub StoppedAppend : Type 0
 StoppedAppend =
     (c : Cartridge) (plain : Plain) (name : List ℕ) (date : ℕ) (bytes : List ℕ) (left : Option Cartridge) →
-    IsReady c plain name date bytes → Torn (steps_of c plain name date bytes) (Some c) left →
+    IsReadyFor c plain name date bytes → Torn (append_steps_of c plain name date bytes) (Some c) left →
     IsSomeAnd left (λ d. Stands d plain ⊎ Stands d (new_plain c plain name date bytes))
 
 -- so does a stop among the steps that settle the table and those that append behind them
@@ -213,14 +213,14 @@ abbrev pub StoppedFromTheStart : Type 0
 StoppedFromTheStart =
     (c : Cartridge) (plain : Plain) (name : List ℕ) (date : ℕ) (bytes : List ℕ) (left : Option Cartridge) →
     MayAppend c plain name date bytes →
-    Torn (settling_steps plain.table_area c ++ steps_of (settled plain.table_area c) plain name date bytes) (Some c) left →
+    Torn (settling_steps plain.table_area c ++ append_steps_of (settled plain.table_area c) plain name date bytes) (Some c) left →
     IsSomeAnd left (λ d. Stands d plain ⊎ Stands d (new_plain (settled plain.table_area c) plain name date bytes))
 
 -- no sector changes but those that the steps name; a stop may come behind the last of them
 abbrev pub AppendTouchesOnly : Type 0
 AppendTouchesOnly =
     (c : Cartridge) (plain : Plain) (name : List ℕ) (date : ℕ) (bytes : List ℕ) (left : Option Cartridge) →
-    IsReady c plain name date bytes → Torn (steps_of c plain name date bytes) (Some c) left →
+    IsReadyFor c plain name date bytes → Torn (append_steps_of c plain name date bytes) (Some c) left →
     IsSomeAnd left (λ d. (d.info ≡ c.info) × ((segment sector : ℕ) → sector < 32 →
     (IsNamed plain (last_segment c) bytes segment sector → ⊥) → view_at d segment sector ≡ view_at c segment sector))
 
@@ -228,19 +228,19 @@ AppendTouchesOnly =
 abbrev pub StoppedAppendMounts : Type 0
 StoppedAppendMounts =
     (c : Cartridge) (plain : Plain) (name : List ℕ) (date : ℕ) (bytes : List ℕ) (left : Option Cartridge) →
-    IsReady c plain name date bytes → Torn (steps_of c plain name date bytes) (Some c) left →
+    IsReadyFor c plain name date bytes → Torn (append_steps_of c plain name date bytes) (Some c) left →
     IsSomeAnd left (λ d. Mounts d (mounted_as plain) ⊎ Mounts d (mounted_as (new_plain c plain name date bytes)))
 
 -- header copies that formatting may begin over stay so
 abbrev pub StoppedAppendIsClean : Type 0
 StoppedAppendIsClean =
     (c : Cartridge) (plain : Plain) (name : List ℕ) (date : ℕ) (bytes : List ℕ) (left : Option Cartridge) →
-    IsReady c plain name date bytes → StandsCleanly c plain → Torn (steps_of c plain name date bytes) (Some c) left →
+    IsReadyFor c plain name date bytes → StandsCleanly c plain → Torn (append_steps_of c plain name date bytes) (Some c) left →
     IsSomeAnd left (λ d. StandsCleanly d plain ⊎ StandsCleanly d (new_plain c plain name date bytes))
 
 -- and it is a cartridge
 abbrev pub StoppedAppendIsCartridge : Type 0
 StoppedAppendIsCartridge =
     (c : Cartridge) (plain : Plain) (name : List ℕ) (date : ℕ) (bytes : List ℕ) (left : Option Cartridge) →
-    IsReady c plain name date bytes → Torn (steps_of c plain name date bytes) (Some c) left →
+    IsReadyFor c plain name date bytes → Torn (append_steps_of c plain name date bytes) (Some c) left →
     IsSomeAnd left IsCartridge

@@ -1,6 +1,6 @@
 -- What a done append leaves where sectors of the table's segment take no write, as facts.
 use Rattle.std.specs.Prelude.{◌≡◌, ℕ, ◌^◌, ◌<◌, true, List, length, All, false, Option, Some, IsSomeAnd}
-use Rattle.cartridge_laws.specs.AppendLaws.{IsReady, new_table, steps_of}
+use Rattle.cartridge_laws.specs.AppendLaws.{IsReadyFor, new_table, append_steps_of}
 use Rattle.cartridge_laws.specs.AppendSteps.{IsNamed}
 use Rattle.cartridge_laws.specs.AppendWrites.{AreWrites, IsFree, IsOfSector}
 use Rattle.cartridge_laws.specs.MountBlocks.{HoldsPart}
@@ -48,7 +48,7 @@ SettledMayAppendTo =
 -- a cartridge that is ready, with all sectors of the table's segment readable, is both
 abbrev pub ReadyIsSettledFor : Type 0
 ReadyIsSettledFor =
-    (c : Cartridge) (plain : Plain) (name : List ℕ) (date : ℕ) (bytes : List ℕ) → IsReady c plain name date bytes →
+    (c : Cartridge) (plain : Plain) (name : List ℕ) (date : ℕ) (bytes : List ℕ) → IsReadyFor c plain name date bytes →
     MayAppendTo c plain name date bytes × IsSettledFor c plain.table_area
 
 -- whatever is written behind the last volume, stopped or not, leaves both
@@ -82,42 +82,42 @@ DoneBytes =
 abbrev pub DoneStands : Type 0
 DoneStands =
     (c : Cartridge) (plain : Plain) (name : List ℕ) (date : ℕ) (bytes : List ℕ) → MayAppendTo c plain name date bytes →
-    IsSettledFor c plain.table_area → Stands (changed_by (steps_of c plain name date bytes) c) (new_plain c plain name date bytes)
+    IsSettledFor c plain.table_area → Stands (changed_by (append_steps_of c plain name date bytes) c) (new_plain c plain name date bytes)
 
 -- .. is mounted as that, ..
 abbrev pub DoneMounts : Type 0
 DoneMounts =
     (c : Cartridge) (plain : Plain) (name : List ℕ) (date : ℕ) (bytes : List ℕ) → MayAppendTo c plain name date bytes →
     IsSettledFor c plain.table_area →
-    Mounts (changed_by (steps_of c plain name date bytes) c) (mounted_as (new_plain c plain name date bytes))
+    Mounts (changed_by (append_steps_of c plain name date bytes) c) (mounted_as (new_plain c plain name date bytes))
 
 -- .. and is settled for the new table
 abbrev pub DoneIsSettledFor : Type 0
 DoneIsSettledFor =
     (c : Cartridge) (plain : Plain) (name : List ℕ) (date : ℕ) (bytes : List ℕ) → MayAppendTo c plain name date bytes →
     IsSettledFor c plain.table_area →
-    IsSettledFor (changed_by (steps_of c plain name date bytes) c) (new_table c plain name date bytes)
+    IsSettledFor (changed_by (append_steps_of c plain name date bytes) c) (new_table c plain name date bytes)
 
 -- header copies that formatting may begin over stay so
 abbrev pub DoneIsClean : Type 0
 DoneIsClean =
     (c : Cartridge) (plain : Plain) (name : List ℕ) (date : ℕ) (bytes : List ℕ) → MayAppendTo c plain name date bytes →
     IsSettledFor c plain.table_area → StandsCleanly c plain →
-    StandsCleanly (changed_by (steps_of c plain name date bytes) c) (new_plain c plain name date bytes)
+    StandsCleanly (changed_by (append_steps_of c plain name date bytes) c) (new_plain c plain name date bytes)
 
 -- what is left is a cartridge
 abbrev pub DoneIsCartridge : Type 0
 DoneIsCartridge =
     (c : Cartridge) (plain : Plain) (name : List ℕ) (date : ℕ) (bytes : List ℕ) → MayAppendTo c plain name date bytes →
-    IsCartridge (changed_by (steps_of c plain name date bytes) c)
+    IsCartridge (changed_by (append_steps_of c plain name date bytes) c)
 
 -- its marks are as they were, and so is each sector that the steps don't name
 abbrev pub DoneTouchesOnly : Type 0
 DoneTouchesOnly =
     (c : Cartridge) (plain : Plain) (name : List ℕ) (date : ℕ) (bytes : List ℕ) → MayAppendTo c plain name date bytes →
-    ((changed_by (steps_of c plain name date bytes) c).info ≡ c.info) × ((segment sector : ℕ) → sector < 32 →
+    ((changed_by (append_steps_of c plain name date bytes) c).info ≡ c.info) × ((segment sector : ℕ) → sector < 32 →
     (IsNamed plain (last_segment c) bytes segment sector → ⊥) →
-    view_at (changed_by (steps_of c plain name date bytes) c) segment sector ≡ view_at c segment sector)
+    view_at (changed_by (append_steps_of c plain name date bytes) c) segment sector ≡ view_at c segment sector)
 
 -- one may append to it again what has room behind the volume
 abbrev pub DoneMayAppendTo : Type 0
@@ -126,4 +126,4 @@ DoneMayAppendTo =
     MayAppendTo c plain name date bytes → IsSettledFor c plain.table_area →
     has_room plain.words (entries_of (new_plain c plain name date bytes)) (last_segment c) (length more) ≡ true →
     IsLabel other → day < 2 ^ 32 → All (λ b. b < 256) more →
-    MayAppendTo (changed_by (steps_of c plain name date bytes) c) (new_plain c plain name date bytes) other day more
+    MayAppendTo (changed_by (append_steps_of c plain name date bytes) c) (new_plain c plain name date bytes) other day more

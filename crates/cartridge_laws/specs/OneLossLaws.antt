@@ -1,10 +1,10 @@
 -- What is read of the table's segment where an append wrote it and one sector more is lost, as facts.
 use Rattle.std.specs.Prelude.{◌≢◌, ℕ, ◌<◌, ◌≤◌, List, slice_index, ◌≡◌, length, ◌⊎◌, Option, Some, IsSomeAnd, false}
 use Rattle.cartridge_laws.specs.AppendBetween.{IsWhole, IsBegun, IsTurned, Between}
-use Rattle.cartridge_laws.specs.AppendLaws.{new_table, volume_steps, list_steps, IsReady}
+use Rattle.cartridge_laws.specs.AppendLaws.{new_table, volume_steps, list_steps, IsReadyFor}
 use Rattle.cartridge_laws.specs.AppendSettled.{MayAppendTo}
 use Rattle.cartridge_laws.specs.MountBlocks.{HoldsPart}
-use Rattle.cartridge_laws.specs.OneLossTables.{DifferInOne, IsLastUsed}
+use Rattle.cartridge_laws.specs.OneLossTables.{DifferInOne, IsLastInUse}
 use Rattle.cartridge_spec.specs.Appending.{new_plain}
 use Rattle.cartridge_spec.specs.Code.{IsCodeBlock}
 use Rattle.cartridge_spec.specs.Formatting.{StandsCleanly}
@@ -60,7 +60,7 @@ LostParityReadsNew =
 -- itself is lost, also while the second one is old, ..
 abbrev pub LostDataReadsOld : Type 0
 LostDataReadsOld =
-    (c d : Cartridge) (old new : List (List ℕ)) (changed lost : ℕ) → DifferInOne old new changed → IsLastUsed new changed →
+    (c d : Cartridge) (old new : List (List ℕ)) (changed lost : ℕ) → DifferInOne old new changed → IsLastInUse new changed →
     (turned : IsTurned c old new) → lost < 29 → LosesOne c d lost →
     (turned.turn ≡ 29) ⊎ ((turned.turn ≡ 30) × HoldsPart c old 30 × (lost ≡ changed)) →
     TableIs d old
@@ -68,7 +68,7 @@ LostDataReadsOld =
 -- .. and else the new ones
 abbrev pub LostDataReadsNew : Type 0
 LostDataReadsNew =
-    (c d : Cartridge) (old new : List (List ℕ)) (changed lost : ℕ) → DifferInOne old new changed → IsLastUsed new changed →
+    (c d : Cartridge) (old new : List (List ℕ)) (changed lost : ℕ) → DifferInOne old new changed → IsLastInUse new changed →
     (turned : IsTurned c old new) → lost < 29 → LosesOne c d lost →
     30 ≤ turned.turn → (turned.turn ≡ 30 → HoldsPart c old 30 → lost ≢ changed) →
     TableIs d new
@@ -76,7 +76,7 @@ LostDataReadsNew =
 -- in each state between the two tables one of them is read
 abbrev pub OneLossReadsEither : Type 0
 OneLossReadsEither =
-    (c d : Cartridge) (old new : List (List ℕ)) (changed lost : ℕ) → DifferInOne old new changed → IsLastUsed new changed →
+    (c d : Cartridge) (old new : List (List ℕ)) (changed lost : ℕ) → DifferInOne old new changed → IsLastInUse new changed →
     Between c old new changed → LosesOne c d lost → TableIs d old ⊎ TableIs d new
 
 -- ---- an append
@@ -86,13 +86,13 @@ abbrev pub AppendChangesOneSector : Type 0
 AppendChangesOneSector =
     (c : Cartridge) (plain : Plain) (name : List ℕ) (date : ℕ) (bytes : List ℕ) → MayAppendTo c plain name date bytes →
     DifferInOne plain.table_area (new_table c plain name date bytes) (slot_sector (length plain.volumes))
-    × IsLastUsed (new_table c plain name date bytes) (slot_sector (length plain.volumes))
+    × IsLastInUse (new_table c plain name date bytes) (slot_sector (length plain.volumes))
 
 -- where it was stopped among the writes of the table, and one sector more of the table's segment is lost, one of the two is read
 abbrev pub StoppedAppendReadsEither : Type 0
 StoppedAppendReadsEither =
     (c d : Cartridge) (plain : Plain) (name : List ℕ) (date : ℕ) (bytes : List ℕ) (left : Option Cartridge) →
-    IsReady c plain name date bytes → d ≡ changed_by (volume_steps c plain name date bytes) c →
+    IsReadyFor c plain name date bytes → d ≡ changed_by (volume_steps c plain name date bytes) c →
     Torn (list_steps c plain name date bytes) (Some d) left →
     IsSomeAnd left (λ e. (f : Cartridge) (lost : ℕ) → LosesOne e f lost →
     TableIs f plain.table_area ⊎ TableIs f (new_table c plain name date bytes))
@@ -100,7 +100,7 @@ StoppedAppendReadsEither =
 -- and where all its writes were done, and one sector of the table's segment is lost, the table with the volume is read
 abbrev pub DoneAppendReadsNew : Type 0
 DoneAppendReadsNew =
-    (c e : Cartridge) (plain : Plain) (name : List ℕ) (date : ℕ) (bytes : List ℕ) → IsReady c plain name date bytes →
+    (c e : Cartridge) (plain : Plain) (name : List ℕ) (date : ℕ) (bytes : List ℕ) → IsReadyFor c plain name date bytes →
     e ≡ changed_by (list_steps c plain name date bytes) (changed_by (volume_steps c plain name date bytes) c) →
     (f : Cartridge) (lost : ℕ) → LosesOne e f lost → TableIs f (new_table c plain name date bytes)
 
@@ -121,7 +121,7 @@ TableAloneIsClean =
 abbrev pub StoppedAppendComesBack : Type 0
 StoppedAppendComesBack =
     (c d : Cartridge) (plain : Plain) (name : List ℕ) (date : ℕ) (bytes : List ℕ) (left : Option Cartridge) →
-    IsReady c plain name date bytes → d ≡ changed_by (volume_steps c plain name date bytes) c →
+    IsReadyFor c plain name date bytes → d ≡ changed_by (volume_steps c plain name date bytes) c →
     Torn (list_steps c plain name date bytes) (Some d) left →
     IsSomeAnd left (λ e. (f : Cartridge) (lost : ℕ) → LosesOneAlone e f lost →
     ComesBackAs f plain ⊎ ComesBackAs f (new_plain c plain name date bytes))
@@ -129,6 +129,6 @@ StoppedAppendComesBack =
 -- and where all its writes were done, as the one with it
 abbrev pub DoneAppendComesBack : Type 0
 DoneAppendComesBack =
-    (c e : Cartridge) (plain : Plain) (name : List ℕ) (date : ℕ) (bytes : List ℕ) → IsReady c plain name date bytes →
+    (c e : Cartridge) (plain : Plain) (name : List ℕ) (date : ℕ) (bytes : List ℕ) → IsReadyFor c plain name date bytes →
     e ≡ changed_by (list_steps c plain name date bytes) (changed_by (volume_steps c plain name date bytes) c) →
     (f : Cartridge) (lost : ℕ) → LosesOneAlone e f lost → ComesBackAs f (new_plain c plain name date bytes)

@@ -13,6 +13,6 @@ pub record DifferInOne (old new : List (List ℕ)) (changed : ℕ) : Type 0 wher
   pub differs : sector_at old changed ≢ sector_at new changed
 
 -- the sector has a used slot, and no sector of data behind it has one
-pub record IsLastUsed (area : List (List ℕ)) (place : ℕ) : Type 0 where
+pub record IsLastInUse (area : List (List ℕ)) (place : ℕ) : Type 0 where
   pub used : has_used_slot (sector_at area place) ≡ true
   pub behind : (i : ℕ) → place < i → i < 29 → has_used_slot (sector_at area i) ≡ false

@@ -13,7 +13,7 @@ use Rattle.cartridge_laws.proofs.MountKeeping.{stopped_stands}
 use Rattle.cartridge_laws.proofs.MountSettled.{settled_keeps_table, settled_twice, settled_stands}
 use Rattle.cartridge_laws.proofs.MountStanding.{standing_mounts_only_so}
 use Rattle.cartridge_laws.proofs.MountWhole.{settling_effects}
-use Rattle.cartridge_laws.specs.AppendLaws.{IsReady}
+use Rattle.cartridge_laws.specs.AppendLaws.{IsReadyFor}
 use Rattle.cartridge_laws.specs.AppendSettled.{MayAppendTo}
 use Rattle.cartridge_laws.specs.AppendSteps.{writes_into, append_steps}
 use Rattle.cartridge_laws.specs.AppendWrites.{AreWrites, IsFree}
@@ -210,7 +210,7 @@ same_plain name date input c plain table =
 -- they are all the writes of an append to the settled cartridge
 pub steps_are : (name : List ℕ) (date : ℕ) (input : List ℕ) (c : Cartridge) (plain : Plain) → TableIs c plain.table_area → fits c plain input ≡ true →
     steps_of (segments_acts c plain input ++ table_acts c plain name date input)
-    ≡ appends.steps_of (settled plain.table_area c) plain name date input
+    ≡ appends.append_steps_of (settled plain.table_area c) plain name date input
 steps_are name date input c plain table enough =
     steps_of-append (segments_acts c plain input) (table_acts c plain name date input)
     ∙ ap (λ (front : List Step). front ++ steps_of (table_acts c plain name date input)) (segments_write c plain input enough)
@@ -226,11 +226,11 @@ run_stopped : (name : List ℕ) (date : ℕ) (input : List ℕ) (c : Cartridge) 
 run_stopped name date input c plain left label word content whole stood live unprotected table torn =
     let s : Cartridge = settled plain.table_area c in
     elim (cases_Bool (fits c plain input)) [
-      | inl enough ↦ elim (stopped_behind c plain (appends.steps_of s plain name date input) left stood table
+      | inl enough ↦ elim (stopped_behind c plain (appends.append_steps_of s plain name date input) left stood table
           (subst (λ (steps : List Step). Torn (behind_settling c plain steps) (Some c) left) (steps_are name date input c plain table enough) torn)) [
             | inl stands ↦ some_weaker left (λ d stands. inl stands) stands
             | inr behind ↦
-                let ready : IsReady s plain name date input = settled_is_ready c plain name date input (record {
+                let ready : IsReadyFor s plain name date input = settled_is_ready c plain name date input (record {
                   cartridge = whole;
                   stands = stood;
                   table = table;
@@ -285,16 +285,16 @@ append_done name date input c plain outcome label word content whole stood machi
           some_and (λ d. Stands d (new_plain c plain name date input)) _ (effects (steps_of outcome.acts) (Some c)) (stands run.unprotected run.table enough)
           (ap (λ (o : CommandOutcome). effects (steps_of o.acts) (Some c)) run.is
           ∙ ap (λ (steps : List Step). effects (behind_settling c plain steps) (Some c)) (steps_are name date input c plain run.table enough)
-          ∙ done_behind c plain (appends.steps_of (settled plain.table_area c) plain name date input) run.table)
+          ∙ done_behind c plain (appends.append_steps_of (settled plain.table_area c) plain name date input) run.table)
     ]
   where
     stands : c.info.protected ≡ false → TableIs c plain.table_area → fits c plain input ≡ true →
-        Stands (changed_by (appends.steps_of (settled plain.table_area c) plain name date input) (settled plain.table_area c)) (new_plain c plain name date input)
+        Stands (changed_by (appends.append_steps_of (settled plain.table_area c) plain name date input) (settled plain.table_area c)) (new_plain c plain name date input)
     stands unprotected table enough =
         let s : Cartridge = settled plain.table_area c in
         let before : MayAppendTo c plain name date input =
         record { cartridge = whole; stands = stood; room = enough; label = label; word = word; content = content } in
-        subst (λ (p : Plain). Stands (changed_by (appends.steps_of s plain name date input) s) p) (same_plain name date input c plain table)
+        subst (λ (p : Plain). Stands (changed_by (appends.append_steps_of s plain name date input) s) p) (same_plain name date input c plain table)
         (done_stands s plain name date input (settled_may_append_to c plain name date input before table)
         (settled_is_settled_for c plain.table_area table unprotected))
 

@@ -109,11 +109,11 @@ pulses_go : (held : Option Cartridge) (input : List ℕ) (outcome : CommandOutco
 pulses_go held input outcome (trains, reads) (came, plain, is) =
     ap status_of is ∙ ap (λ (o : pulses.PulseRun). sent_status o.answer) plain.comes ∙ by_ending reads
   where
-    by_ending : IsPulses input trains AtEnd ⊎ IsPulses input trains AtStop → sent_status (pulses.answer_by plain.ending) ≡ status.Done
+    by_ending : IsPulses input trains AtEnd ⊎ IsPulses input trains AtStop → sent_status (pulses.pulses_answer plain.ending) ≡ status.Done
     by_ending (inl read) =
-        ap (λ (e : Ending). sent_status (pulses.answer_by e)) (inputs.one_reading IsPulse inputs.pulses 1 0 input plain.trains trains plain.ending AtEnd plain.read read).1
+        ap (λ (e : Ending). sent_status (pulses.pulses_answer e)) (inputs.one_reading IsPulse inputs.pulses 1 0 input plain.trains trains plain.ending AtEnd plain.read read).1
     by_ending (inr read) =
-        ap (λ (e : Ending). sent_status (pulses.answer_by e)) (inputs.one_reading IsPulse inputs.pulses 1 0 input plain.trains trains plain.ending AtStop plain.read read).1
+        ap (λ (e : Ending). sent_status (pulses.pulses_answer e)) (inputs.one_reading IsPulse inputs.pulses 1 0 input plain.trains trains plain.ending AtStop plain.read read).1
 
 script_goes : (input : List ℕ) (c : Cartridge) (plain : Plain) (outcome : CommandOutcome) → ReadsAs c plain → IsOfLines input → ScriptOutcome (Some c) input outcome → outcome.status ≡ status.Done
 script_goes input c plain outcome there (items, reads) does =
@@ -123,11 +123,11 @@ script_goes input c plain outcome there (items, reads) does =
     ap status_of did.is ∙ ap (λ (o : scripts.ScriptRun). script_status o.answer) lines.is ∙ by_ending lines.items lines.ending lines.read reads
   where
     by_ending : (found : List Item) (ending : Ending) → IsScript input found ending → IsScript input items AtEnd ⊎ IsScript input items AtStop →
-        script_status (scripts.answer_by ending) ≡ status.Done
+        script_status (scripts.script_answer ending) ≡ status.Done
     by_ending found ending known (inl read) =
-        ap (λ (e : Ending). script_status (scripts.answer_by e)) (inputs.one_reading IsItem inputs.items 1 0 input found items ending AtEnd known read).1
+        ap (λ (e : Ending). script_status (scripts.script_answer e)) (inputs.one_reading IsItem inputs.items 1 0 input found items ending AtEnd known read).1
     by_ending found ending known (inr read) =
-        ap (λ (e : Ending). script_status (scripts.answer_by e)) (inputs.one_reading IsItem inputs.items 1 0 input found items ending AtStop known read).1
+        ap (λ (e : Ending). script_status (scripts.script_answer e)) (inputs.one_reading IsItem inputs.items 1 0 input found items ending AtStop known read).1
 
 -- ---- every command
 

@@ -24,7 +24,7 @@ use Rattle.command_laws.specs.RestoreLaws.{HasVolume, GivesFront}
 use Rattle.command_spec.specs.Headline.{Answers, Stepped, IsCut, WasCut}
 use Rattle.command_spec.specs.Machine.{Spells, Step, Yields}
 use Rattle.command_spec.specs.Outcome.{settling_act, CommandOutcome, Opened, output_of}
-use Rattle.command_spec.specs.Restore.{Piece, pieces_of, piece_cells, pieces_in, LosesFew, Ending, Restores, ending_status, pieces, volume_at, Gives, RestoreOutcome, FirstLost, bytes_held}
+use Rattle.command_spec.specs.Restore.{Piece, pieces_of, piece_cells, pieces_in, LosesFew, GivingEnd, Restores, ending_status, pieces, volume_at, Gives, RestoreOutcome, FirstLost, bytes_held}
 use Rattle.command_spec.specs.Runs.{is_fault, fault_of}
 use Rattle.command_spec.specs.Volumes.{HasNumber, CameToEnd, GivesBack}
 use Rattle.command_spec.specs.declared.status.Status.{Status}
@@ -120,7 +120,7 @@ lost_alike c d words needed first alike =
 pub record IsGiven (number : ℕ) (c : Cartridge) (plain : Plain) (volume : Volume) (outcome : CommandOutcome) : Type 0 where
   pub table : TableIs c plain.table_area
   pub acts : List Act
-  pub ending : Ending
+  pub ending : GivingEnd
   pub restores : Restores (settled plain.table_area c) plain.words (pieces_in plain volume) acts ending
   pub is : outcome ≡ record { acts = settling_act plain.table_area c ∷ acts; taken = 0; status = ending_status ending }
 

@@ -9,7 +9,7 @@ use Rattle.cartridge_laws.proofs.MountWhole.{settling_effects, table_is_area}
 use Rattle.cartridge_laws.proofs.OneLossComesBack.{table_alone_comes_back, stopped_append_comes_back, done_append_comes_back}
 use Rattle.cartridge_laws.proofs.OneLossRead.{before_reads_old_still}
 use Rattle.cartridge_laws.specs.AppendBetween.{IsWhole}
-use Rattle.cartridge_laws.specs.AppendLaws.{IsReady}
+use Rattle.cartridge_laws.specs.AppendLaws.{IsReadyFor}
 use Rattle.cartridge_laws.specs.AppendWrites.{KeepsTo}
 use Rattle.cartridge_spec.specs.Appending.{new_plain, last_end}
 use Rattle.cartridge_spec.specs.Formatting.{IsLabel}
@@ -76,7 +76,7 @@ module _ (name : List ℕ) (date : ℕ) (input : List ℕ) (c : Cartridge) (plai
   is_area : IsArea plain.table_area
   is_area = table_is_area c plain.table_area cartridge table
 
-  ready : fits c plain input ≡ true → IsReady s plain name date input
+  ready : fits c plain input ≡ true → IsReadyFor s plain name date input
   ready enough = settled_is_ready c plain name date input (record {
     cartridge = cartridge;
     stands = stood;
@@ -100,7 +100,7 @@ module _ (name : List ℕ) (date : ℕ) (input : List ℕ) (c : Cartridge) (plai
       (free_writes_stand s plain (steps_of (segments_acts c plain input)) left s_stands (segments_are_free c plain input) torn)
 
   -- among the writes of an append
-  append_survives : fits c plain input ≡ true → (left : Option Cartridge) → Torn (appends.steps_of s plain name date input) (Some s) left →
+  append_survives : fits c plain input ≡ true → (left : Option Cartridge) → Torn (appends.append_steps_of s plain name date input) (Some s) left →
       IsSomeAnd left (Either plain (new_plain c plain name date input))
   append_survives enough left torn =
       let front : List Step = appends.volume_steps s plain name date input in
@@ -119,7 +119,7 @@ module _ (name : List ℕ) (date : ℕ) (input : List ℕ) (c : Cartridge) (plai
       Torn (settling_steps plain.table_area c) (Some c) left ⊎ IsSomeAnd left (Either plain (new_plain c plain name date input))
   run_survives left torn =
       elim (cases_Bool (fits c plain input)) [
-        | inl enough ↦ elim (settled_or_not c plain (appends.steps_of s plain name date input) left table live
+        | inl enough ↦ elim (settled_or_not c plain (appends.append_steps_of s plain name date input) left table live
             (subst (λ (steps : List Step). Torn (behind_settling c plain steps) (Some c) left) (steps_are name date input c plain table enough) torn)) [
               | inl settling ↦ inl settling
               | inr behind ↦ inr (append_survives enough left behind)
@@ -133,10 +133,10 @@ module _ (name : List ℕ) (date : ℕ) (input : List ℕ) (c : Cartridge) (plai
 
   -- once all is done
   done_survives : fits c plain input ≡ true → (f : Cartridge) (lost : ℕ) →
-      LosesOneAlone (changed_by (appends.steps_of s plain name date input) s) f lost → ComesBackAs f (new_plain c plain name date input)
+      LosesOneAlone (changed_by (appends.append_steps_of s plain name date input) s) f lost → ComesBackAs f (new_plain c plain name date input)
   done_survives enough f lost loses =
       subst (λ (p : Plain). ComesBackAs f p) (same_plain name date input c plain table)
-      (done_append_comes_back s (changed_by (appends.steps_of s plain name date input) s) plain name date input (ready enough)
+      (done_append_comes_back s (changed_by (appends.append_steps_of s plain name date input) s) plain name date input (ready enough)
       (changed_by-append (appends.volume_steps s plain name date input) (appends.list_steps s plain name date input) s) f lost loses)
 
 -- so does the settled cartridge itself
@@ -181,10 +181,10 @@ done_comes_back name date input c plain outcome label word content whole stood l
           let enough : fits c plain input ≡ true =
           done_fits (fits c plain input) (min (length input) (have + 1)) have (sym (ap (λ (o : CommandOutcome). o.status) run.is) ∙ is_done) in
           some_and (λ d. (f : Cartridge) (lost : ℕ) → LosesOneAlone d f lost → ComesBackAs f (new_plain c plain name date input))
-          (changed_by (appends.steps_of (settled plain.table_area c) plain name date input) (settled plain.table_area c))
+          (changed_by (appends.append_steps_of (settled plain.table_area c) plain name date input) (settled plain.table_area c))
           (effects (steps_of outcome.acts) (Some c))
           (done_survives name date input c plain label word content whole stood live run.unprotected run.table enough)
           (ap (λ (o : CommandOutcome). effects (steps_of o.acts) (Some c)) run.is
           ∙ ap (λ (steps : List Step). effects (behind_settling c plain steps) (Some c)) (steps_are name date input c plain run.table enough)
-          ∙ done_behind c plain (appends.steps_of (settled plain.table_area c) plain name date input) run.table)
+          ∙ done_behind c plain (appends.append_steps_of (settled plain.table_area c) plain name date input) run.table)
     ]

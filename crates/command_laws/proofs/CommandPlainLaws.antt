@@ -27,7 +27,7 @@ use Rattle.command_spec.specs.Make.{Making, made_on}
 use Rattle.command_spec.specs.Outcome.{CommandOutcome, Going, Opened, OpenOutcome, WritableOutcome, Printing, Shows, settling_act, HasPlace}
 use Rattle.command_spec.specs.Protect.{ProtectOutcome}
 use Rattle.command_spec.specs.Pulses.{sent, info_of, SentOutcome, train_acts}
-use Rattle.command_spec.specs.Restore.{Ending, Restores, pieces, Gives, ending_status, RestoreOutcome}
+use Rattle.command_spec.specs.Restore.{GivingEnd, Restores, pieces, Gives, ending_status, RestoreOutcome}
 use Rattle.command_spec.specs.Script.{Scripting, scripted_on}
 use Rattle.command_spec.specs.Scrub.{Mends, Scrubs, ScrubOutcome}
 use Rattle.command_spec.specs.declared.status.Status.{Status}
@@ -313,7 +313,7 @@ gives_one number c header ws table entries a b (inr is) (inr was) =
     let both = restores_is_function (settled table c) ws (pieces ws was.entry) is.acts was.acts is.ending was.ending
     (subst (λ (e : Entry). Restores (settled table c) ws (pieces ws e) is.acts is.ending) same is.restores) was.restores in
     is.is ∙ ap (λ (xs : List Act). given table c xs (ending_status is.ending)) both.0
-    ∙ ap (λ (e : Ending). given table c was.acts (ending_status e)) both.1 ∙ sym was.is
+    ∙ ap (λ (e : GivingEnd). given table c was.acts (ending_status e)) both.1 ∙ sym was.is
 
 mends_one : IsOne Mends
 mends_one c header ws table entries a b is was =

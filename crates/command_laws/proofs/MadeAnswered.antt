@@ -14,7 +14,7 @@ use Rattle.command_laws.specs.MountedKept.{IsKept}
 use Rattle.command_spec.specs.Append.{input_acts, Kept, free_in, has_promised_room, input_writes, most_written, room_in, Taking, Fits, TooLong, TooShort, entry_acts, silently, append_acts, taking, kept_over}
 use Rattle.command_spec.specs.Generator.{made_length, made_bytes}
 use Rattle.command_spec.specs.MadeVolumes.{made_volume, with_made}
-use Rattle.command_spec.specs.Make.{AppendMade, made_name, Answer, Does, Item, appending, Done, Runs, ScrubAll, wearing_volumes, summing, made_list}
+use Rattle.command_spec.specs.Make.{AppendMade, made_name, Answer, StepDoes, MakeStep, appending, Done, Runs, ScrubAll, wearing_volumes, summing, made_list}
 use Rattle.qic_base.proofs.Joins.{text_of-append, steps_of-append}
 use Rattle.qic_base.proofs.Steps.{Torn-front, Torn-behind}
 use Rattle.qic_base.specs.Acts.{Act, text_of, steps_of, next_steps}
@@ -52,7 +52,7 @@ quiet_acts kept name date promised input =
     ∙ entry_texts kept name date (taking (room_in kept) promised input)
 
 pub append_prints_nothing : (seed : ℕ) (c : Cartridge) (words : List ℕ) (es : List Entry) (volume : ℕ) (acts : List Act) (answer : Answer) →
-    Does seed c words es (AppendMade volume) acts answer → text_of acts ≡ []
+    StepDoes seed c words es (AppendMade volume) acts answer → text_of acts ≡ []
 append_prints_nothing seed c words es volume acts answer (inl refused) = ap text_of refused.does
 append_prints_nothing seed c words es volume acts answer (inr (free, inl appended)) =
     ap text_of appended.does ∙ quiet_acts (kept_over c words es appended.table) (made_name volume) 0 (Some (made_length seed volume)) (made_bytes seed volume)
@@ -87,7 +87,7 @@ two_fronts (x ∷ xs) ys (u ∷ us) vs same =
 
 -- ---- the appends, and what comes behind them
 
-module _ (seed : ℕ) (rest : List Item) where
+module _ (seed : ℕ) (rest : List MakeStep) where
   appends_answered : (n : ℕ) (c : Cartridge) (plain : Plain) (volume : ℕ) (acts front rear : List Act) (answer : Answer) (left : Option Cartridge) → volume + n ≤ 201 → IsKept c plain →
       StillBehind seed plain.words (entries_of plain) volume n rest →
       Runs seed c plain.words (entries_of plain) (appending volume n ++ rest) acts answer → front ++ rear ≡ acts → text_of front ≢ [] →
@@ -115,5 +115,5 @@ module _ (seed : ℕ) (rest : List Item) where
 
 pub made_are_answered : MadeAreAnswered
 made_are_answered seed count c plain acts front rest answer left few held makes parts printed torn =
-    let behind : List Item = wearing_volumes plain.words (drop (length (entries_of plain)) (made_list seed count plain.words (entries_of plain))) ++ ScrubAll ∷ summing (length (entries_of plain) + 1) count in
+    let behind : List MakeStep = wearing_volumes plain.words (drop (length (entries_of plain)) (made_list seed count plain.words (entries_of plain))) ++ ScrubAll ∷ summing (length (entries_of plain) + 1) count in
     appends_answered seed behind count c plain 1 acts front rest answer left (omega arith) held (behind_is_still seed count plain.words (entries_of plain)) makes parts printed torn

@@ -14,7 +14,7 @@ use Rattle.command_laws.specs.MadeLaws.{MadeWhereThereIsRoom}
 use Rattle.command_laws.specs.MountedKept.{IsOpen}
 use Rattle.command_laws.specs.RestoreLaws.{HasVolume}
 use Rattle.command_spec.specs.MadeVolumes.{made_volume, with_made, before_sums}
-use Rattle.command_spec.specs.Make.{Item, AppendMade, WearSector, ScrubAll, SumVolume, wearing, first_two, wearing_in, wearing_volumes, after_items, Answer, Done, Does, Runs, made_answer, appending, IsSummed, ending_answer, summing, made_list, making}
+use Rattle.command_spec.specs.Make.{MakeStep, AppendMade, WearSector, ScrubAll, SumVolume, wearing, first_two, wearing_in, wearing_volumes, after_items, Answer, Done, StepDoes, Runs, made_answer, appending, IsSummed, ending_answer, summing, made_list, making}
 use Rattle.command_spec.specs.Restore.{volume_at, LosesFew, pieces, Restores}
 use Rattle.qic_base.specs.Acts.{Act, steps_of, text_of}
 use Rattle.qic_base.specs.Cartridge.{Cartridge}
@@ -22,17 +22,17 @@ use Rattle.qic_base.specs.Step.{Step}
 
 -- ---- worn sectors, and a scrub
 
-abbrev IsMending : Item → Type 0
+abbrev IsMending : MakeStep → Type 0
 IsMending (AppendMade volume) = ⊥
 IsMending (WearSector segment sector) = Unit {0}
 IsMending ScrubAll = Unit {0}
 IsMending (SumVolume number) = ⊥
 
-abbrev AreMending : List Item → Type 0
+abbrev AreMending : List MakeStep → Type 0
 AreMending [] = Unit {0}
 AreMending (item ∷ items) = IsMending item × AreMending items
 
-mending_append : (xs ys : List Item) → AreMending xs → AreMending ys → AreMending (xs ++ ys)
+mending_append : (xs ys : List MakeStep) → AreMending xs → AreMending ys → AreMending (xs ++ ys)
 mending_append [] ys one other = other
 mending_append (x ∷ xs) ys one other = (one.0, mending_append xs ys one.1 other)
 
@@ -40,7 +40,7 @@ mending_wearing : (segment : ℕ) (sectors : List ℕ) → AreMending (wearing s
 mending_wearing segment [] = tt
 mending_wearing segment (sector ∷ sectors) = (tt, mending_wearing segment sectors)
 
-mending_if : (b : Bool) (items : List Item) → AreMending items → AreMending (cond b items [])
+mending_if : (b : Bool) (items : List MakeStep) → AreMending items → AreMending (cond b items [])
 mending_if true items mends = mends
 mending_if false items mends = tt
 
@@ -56,22 +56,22 @@ mending_volumes words (e ∷ es) =
     mending_append (wearing_in words (carrying_segments words e)) (wearing_volumes words es) (mending_in words (carrying_segments words e)) (mending_volumes words es)
 
 -- they leave the list
-mending_after : (seed : ℕ) (words : List ℕ) (es : List Entry) (items : List Item) → AreMending items → after_items seed words es items ≡ es
+mending_after : (seed : ℕ) (words : List ℕ) (es : List Entry) (items : List MakeStep) → AreMending items → after_items seed words es items ≡ es
 mending_after seed words es [] mends = refl
 mending_after seed words es (AppendMade volume ∷ items) mends = absurd mends.0
 mending_after seed words es (WearSector segment sector ∷ items) mends = mending_after seed words es items mends.1
 mending_after seed words es (ScrubAll ∷ items) mends = mending_after seed words es items mends.1
 mending_after seed words es (SumVolume number ∷ items) mends = absurd mends.0
 
-mending_goes : (seed : ℕ) (c : Cartridge) (plain : Plain) (item : Item) (acts : List Act) (answer : Answer) → IsMending item → IsOpen c plain →
-    Does seed c plain.words (entries_of plain) item acts answer → answer ≡ Done
+mending_goes : (seed : ℕ) (c : Cartridge) (plain : Plain) (item : MakeStep) (acts : List Act) (answer : Answer) → IsMending item → IsOpen c plain →
+    StepDoes seed c plain.words (entries_of plain) item acts answer → answer ≡ Done
 mending_goes seed c plain (AppendMade volume) acts answer mends held does = absurd mends
 mending_goes seed c plain (WearSector segment sector) acts answer mends held does = does.answered
 mending_goes seed c plain ScrubAll acts answer mends held (inl refused) = absurd (never_unlocked c refused.mark held.unprotected)
 mending_goes seed c plain ScrubAll acts answer mends held (inr (free, done)) = done.answered
 mending_goes seed c plain (SumVolume number) acts answer mends held does = absurd mends
 
-all_mending_go : (seed : ℕ) (items : List Item) (c : Cartridge) (plain : Plain) (acts : List Act) (answer : Answer) → AreStill items → AreMending items → IsOpen c plain →
+all_mending_go : (seed : ℕ) (items : List MakeStep) (c : Cartridge) (plain : Plain) (acts : List Act) (answer : Answer) → AreStill items → AreMending items → IsOpen c plain →
     Runs seed c plain.words (entries_of plain) items acts answer → answer ≡ Done
 all_mending_go seed [] c plain acts answer still mends held (none, done) = done
 all_mending_go seed (item ∷ items) c plain acts answer still mends held (inl (other, does)) =
@@ -84,7 +84,7 @@ all_mending_go seed (item ∷ items) c plain acts answer still mends held (inr (
 -- ---- the appends, and these steps behind them
 
 append_goes : (seed : ℕ) (c : Cartridge) (plain : Plain) (volume : ℕ) (acts : List Act) (answer : Answer) → IsOpen c plain →
-    made_answer seed plain.words (entries_of plain) volume ≡ Done → Does seed c plain.words (entries_of plain) (AppendMade volume) acts answer → answer ≡ Done
+    made_answer seed plain.words (entries_of plain) volume ≡ Done → StepDoes seed c plain.words (entries_of plain) (AppendMade volume) acts answer → answer ≡ Done
 append_goes seed c plain volume acts answer held room (inl refused) = absurd (never_unlocked c refused.mark held.unprotected)
 append_goes seed c plain volume acts answer held room (inr (free, inl appended)) = appended.answered ∙ room
 append_goes seed c plain volume acts answer held room (inr (free, inr lost)) = absurd (never_lost c plain.table_area lost.lost held.table lost.says)
@@ -106,7 +106,7 @@ room_next seed plain volume n room k small =
     ∙ ap (λ (v : ℕ). made_answer seed plain.words (after_items seed plain.words (entries_of plain) (appending volume (suc k))) v) same
     ∙ room (suc k) (omega arith)
 
-front_goes : (seed : ℕ) (rest : List Item) (n : ℕ) (c : Cartridge) (plain : Plain) (volume : ℕ) (acts : List Act) (answer : Answer) → volume + n ≤ 201 → IsOpen c plain →
+front_goes : (seed : ℕ) (rest : List MakeStep) (n : ℕ) (c : Cartridge) (plain : Plain) (volume : ℕ) (acts : List Act) (answer : Answer) → volume + n ≤ 201 → IsOpen c plain →
     HaveRoomFrom seed plain.words (entries_of plain) volume n → StillBehind seed plain.words (entries_of plain) volume n rest → AreMending rest →
     Runs seed c plain.words (entries_of plain) (appending volume n ++ rest) acts answer → answer ≡ Done
 front_goes seed rest zero c plain volume acts answer few held room still mends runs =
@@ -175,7 +175,7 @@ made_entries seed (suc n) plain volume =
     made_entries seed n (with_volume plain (made_volume seed plain volume)) (volume + 1)
     ∙ ap (λ (es : List Entry). after_items seed plain.words es (appending (volume + 1) n)) (entries_more seed plain volume)
 
-stills_front : (xs ys : List Item) → AreStill (xs ++ ys) → AreStill xs
+stills_front : (xs ys : List MakeStep) → AreStill (xs ++ ys) → AreStill xs
 stills_front [] ys all = tt
 stills_front (x ∷ xs) ys all = (all.0, stills_front xs ys all.1)
 
@@ -183,17 +183,17 @@ pub made_where_there_is_room : MadeWhereThereIsRoom
 made_where_there_is_room seed count c plain acts answer small held room few makes =
     let words : List ℕ = plain.words in
     let es : List Entry = entries_of plain in
-    let worn : List Item = wearing_volumes words (drop (length es) (made_list seed count words es)) in
-    let rest : List Item = worn ++ ScrubAll ∷ [] in
-    let sums : List Item = summing (length es + 1) count in
-    let front : List Item = before_sums seed count plain in
+    let worn : List MakeStep = wearing_volumes words (drop (length es) (made_list seed count words es)) in
+    let rest : List MakeStep = worn ++ ScrubAll ∷ [] in
+    let sums : List MakeStep = summing (length es + 1) count in
+    let front : List MakeStep = before_sums seed count plain in
     let rear : rest ++ sums ≡ worn ++ ScrubAll ∷ sums = append_assoc worn (ScrubAll ∷ []) sums in
     let all : front ++ sums ≡ making seed count words es =
-    append_assoc (appending 1 count) rest sums ∙ ap (λ (items : List Item). appending 1 count ++ items) rear in
+    append_assoc (appending 1 count) rest sums ∙ ap (λ (items : List MakeStep). appending 1 count ++ items) rear in
     let still : StillBehind seed words es 1 count rest =
     λ d p stands same list. stills_front rest sums (subst AreStill (sym rear) (behind_is_still seed count words es d p stands same list)) in
     let mends : AreMending rest = mending_append worn (ScrubAll ∷ []) (mending_volumes words (drop (length es) (made_list seed count words es))) (tt, tt) in
-    let here : Runs seed c words es (front ++ sums) acts answer = subst (λ (items : List Item). Runs seed c words es items acts answer) (sym all) makes in
+    let here : Runs seed c words es (front ++ sums) acts answer = subst (λ (items : List MakeStep). Runs seed c words es items acts answer) (sym all) makes in
     let begun : RunsFront seed c words es front acts answer = runs_front seed c words es front sums acts answer here in
     let done : begun.answer ≡ Done = front_goes seed rest count c plain 1 begun.acts begun.answer (omega arith) held room still mends begun.runs in
     let ran : Runs seed c words es front begun.acts Done = subst (λ (a : Answer). Runs seed c words es front begun.acts a) done begun.runs in

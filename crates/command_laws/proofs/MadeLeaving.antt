@@ -17,7 +17,7 @@ use Rattle.command_laws.specs.MadeLaws.{MakeLists, MadeAreListed}
 use Rattle.command_laws.specs.MountedListed.{IsListed, listed_behind}
 use Rattle.command_spec.specs.Append.{Kept, Taking, Fits, TooLong, TooShort, has_promised_room, room_in, silently, taking, kept_over}
 use Rattle.command_spec.specs.Generator.{made_length, made_bytes}
-use Rattle.command_spec.specs.Make.{Item, AppendMade, WearSector, ScrubAll, SumVolume, made_name, made_entry, Answer, Done, Full, Does, IsAppended, made_acts, made_answer, Runs, after_items, appending, wearing_volumes, summing, made_list, Makes}
+use Rattle.command_spec.specs.Make.{MakeStep, AppendMade, WearSector, ScrubAll, SumVolume, made_name, made_entry, Answer, Done, Full, StepDoes, IsAppended, made_acts, made_answer, Runs, after_items, appending, wearing_volumes, summing, made_list, Makes}
 use Rattle.qic_base.proofs.Joins.{text_of-append}
 use Rattle.qic_base.specs.Acts.{Act, steps_of, text_of}
 use Rattle.qic_base.specs.Cartridge.{Cartridge}
@@ -53,7 +53,7 @@ module _ (seed : ℕ) (c : Cartridge) (header : Header) (words : List ℕ) (entr
             absurd (let same : TooLong n (room_in kept) ≡ Fits bytes = sym full ∙ fits in cc)
 
   -- a front of its acts leaves the list, but for all acts of one that was carried out
-  append_front : (volume : ℕ) (acts front rest : List Act) (answer : Answer) → Does seed c words entries (AppendMade volume) acts answer → front ++ rest ≡ acts →
+  append_front : (volume : ℕ) (acts front rest : List Act) (answer : Answer) → StepDoes seed c words entries (AppendMade volume) acts answer → front ++ rest ≡ acts →
       (rest ≢ []) ⊎ (answer ≢ Done) → Lists (changed_by (steps_of front) c) header words entries
   append_front volume acts front rest answer (inl refused) parts none = lists_by (steps_of front) (front_still front rest acts parts (ap steps_of refused.does))
   append_front volume acts front rest answer (inr (free, inr lost)) parts none = lists_by (steps_of front) (front_still front rest acts parts (ap steps_of lost.does))
@@ -65,13 +65,13 @@ module _ (seed : ℕ) (c : Cartridge) (header : Header) (words : List ℕ) (entr
       ])
 
   -- one that was carried out
-  done_append : (volume : ℕ) (acts : List Act) → Does seed c words entries (AppendMade volume) acts Done →
+  done_append : (volume : ℕ) (acts : List Act) → StepDoes seed c words entries (AppendMade volume) acts Done →
       (c.info.protected ≡ false) × IsAppended seed c words entries volume acts Done
   done_append volume acts (inl refused) = absurd (let same = refused.answered in cc)
   done_append volume acts (inr (free, inl appended)) = (free, appended)
   done_append volume acts (inr (free, inr lost)) = absurd (let same = lost.answered in cc)
 
-  append_all : (volume : ℕ) (acts : List Act) → volume ≤ 200 → Does seed c words entries (AppendMade volume) acts Done →
+  append_all : (volume : ℕ) (acts : List Act) → volume ≤ 200 → StepDoes seed c words entries (AppendMade volume) acts Done →
       Lists (changed_by (steps_of acts) c) header words (entries ++ made_entry seed words entries volume ∷ [])
       × IsListed (changed_by (steps_of acts) c) words (entries ++ made_entry seed words entries volume ∷ [])
   append_all volume acts few does =
@@ -104,7 +104,7 @@ module _ (seed : ℕ) (c : Cartridge) (header : Header) (words : List ℕ) (entr
       (wear_lists c header words entries segment sector lists behind small)
   wear_front segment sector (x ∷ y ∷ front) rest behind small parts = let none : y ∷ (front ++ rest) ≡ [] = cc in absurd (cc)
 
-  still_front : (item : Item) (acts front rest : List Act) (answer : Answer) → IsStill item → Does seed c words entries item acts answer → front ++ rest ≡ acts →
+  still_front : (item : MakeStep) (acts front rest : List Act) (answer : Answer) → IsStill item → StepDoes seed c words entries item acts answer → front ++ rest ≡ acts →
       Lists (changed_by (steps_of front) c) header words entries
   still_front (AppendMade volume) acts front rest answer still does parts = absurd still
   still_front (WearSector segment sector) acts front rest answer still does parts = wear_front segment sector front rest still.0 still.1 (parts ∙ does.does)
@@ -114,7 +114,7 @@ module _ (seed : ℕ) (c : Cartridge) (header : Header) (words : List ℕ) (entr
       lists_by (steps_of front) (front_still front rest acts parts
       (ap steps_of does.does ∙ sum_in_no_step number (volume_length words does.entry) (text_of does.given) does.ending))
 
-  still_listed : (item : Item) (acts : List Act) → IsStill item → Does seed c words entries item acts Done → IsListed (changed_by (steps_of acts) c) words entries
+  still_listed : (item : MakeStep) (acts : List Act) → IsStill item → StepDoes seed c words entries item acts Done → IsListed (changed_by (steps_of acts) c) words entries
   still_listed (AppendMade volume) acts still does = absurd still
   still_listed (WearSector segment sector) acts still does =
       subst (λ (xs : List Act). IsListed (changed_by (steps_of xs) c) words entries) (sym does.does) (wear_listed c words entries segment sector listed)
@@ -130,7 +130,7 @@ module _ (seed : ℕ) (c : Cartridge) (header : Header) (words : List ℕ) (entr
 past_there : (front acts next : List Act) (c : Cartridge) → front ≡ acts ++ next → changed_by (steps_of next) (changed_by (steps_of acts) c) ≡ changed_by (steps_of front) c
 past_there front acts next c is = sym (ap (λ (xs : List Act). changed_by (steps_of xs) c) is ∙ changed_by_acts acts next c)
 
-stills_list : (seed : ℕ) (items : List Item) (c : Cartridge) (header : Header) (words : List ℕ) (entries : List Entry) (acts front rest : List Act) (answer : Answer) → AreStill items →
+stills_list : (seed : ℕ) (items : List MakeStep) (c : Cartridge) (header : Header) (words : List ℕ) (entries : List Entry) (acts front rest : List Act) (answer : Answer) → AreStill items →
     Lists c header words entries → IsListed c words entries → Runs seed c words entries items acts answer → front ++ rest ≡ acts → Lists (changed_by (steps_of front) c) header words entries
 stills_list seed [] c header words entries acts front rest answer still lists listed (none, done) parts =
     lists_by seed c header words entries lists listed (steps_of front) (front_still front rest acts parts (ap steps_of none))
@@ -157,10 +157,10 @@ record ListsFrom (seed : ℕ) (header : Header) (words : List ℕ) (entries : Li
   all : ((rest ≡ []) × (answer ≡ Done)) ⊎ (text_of front ≢ []) → appended ≡ n
 
 -- what comes behind the appends is still where all of them are listed
-abbrev StillListed : (seed : ℕ) (words : List ℕ) (es : List Entry) (volume n : ℕ) (behind : List Item) → Type 0
+abbrev StillListed : (seed : ℕ) (words : List ℕ) (es : List Entry) (volume n : ℕ) (behind : List MakeStep) → Type 0
 StillListed seed words es volume n behind = (d : Cartridge) → IsListed d words (after_items seed words es (appending volume n)) → AreStill behind
 
-module _ (seed : ℕ) (header : Header) (words : List ℕ) (behind : List Item) where
+module _ (seed : ℕ) (header : Header) (words : List ℕ) (behind : List MakeStep) where
   appends_list : (n : ℕ) (c : Cartridge) (entries : List Entry) (volume : ℕ) (acts front rest : List Act) (answer : Answer) → volume + n ≤ 201 → Lists c header words entries →
       IsListed c words entries → StillListed seed words entries volume n behind → Runs seed c words entries (appending volume n ++ behind) acts answer → front ++ rest ≡ acts →
       ListsFrom seed header words entries volume n front rest answer (changed_by (steps_of front) c)
@@ -215,8 +215,8 @@ run_lists : (seed count : ℕ) (c : Cartridge) (header : Header) (words : List �
     ListsFrom seed header words entries 1 count front rest answer (changed_by (steps_of front) c)
 run_lists seed count c header words entries acts front rest answer few lists listed makes parts =
     let made : List Entry = made_list seed count words entries in
-    let wears : List Item = wearing_volumes words (drop (length entries) made) in
-    let sums : List Item = summing (length entries + 1) count in
+    let wears : List MakeStep = wearing_volumes words (drop (length entries) made) in
+    let sums : List MakeStep = summing (length entries + 1) count in
     appends_list seed header words (wears ++ ScrubAll ∷ sums) count c entries 1 acts front rest answer (omega arith) lists listed
     (λ d now. stills_append wears (ScrubAll ∷ sums) (still_wearing_behind words (length entries) 2 (last_segment d) made (omega arith) now.order) (tt, still_summing (length entries + 1) count))
     makes parts

@@ -3,7 +3,7 @@ use Rattle.std.proofs.Common.{◌≡◌, ℕ, zero, suc, ◌+◌, ◌-◌, List,
 use Rattle.cartridge_spec.specs.Table.{Entry}
 use Rattle.cartridge_spec.specs.Volumes.{carrying_segments}
 use Rattle.command_laws.proofs.MadeMachineLaws.{after_items-append}
-use Rattle.command_spec.specs.Make.{made_entry, after_items, appending, wearing, Item, first_two, wearing_in, wearing_volumes}
+use Rattle.command_spec.specs.Make.{made_entry, after_items, appending, wearing, MakeStep, first_two, wearing_in, wearing_volumes}
 
 pub length-made : (seed : ℕ) (words : List ℕ) (es : List Entry) (v n : ℕ) → length (after_items seed words es (appending v n)) ≡ length es + n
 length-made seed words es v zero = omega arith
@@ -24,12 +24,12 @@ pub after_wearing : (seed : ℕ) (words : List ℕ) (es : List Entry) (segment :
 after_wearing seed words es segment [] = refl
 after_wearing seed words es segment (sector ∷ sectors) = after_wearing seed words es segment sectors
 
-after_if : (seed : ℕ) (words : List ℕ) (es : List Entry) (items : List Item) (due : Bool) → after_items seed words es items ≡ es →
+after_if : (seed : ℕ) (words : List ℕ) (es : List Entry) (items : List MakeStep) (due : Bool) → after_items seed words es items ≡ es →
     after_items seed words es (cond due items []) ≡ es
 after_if seed words es items true kept = kept
 after_if seed words es items false kept = refl
 
-after_both : (seed : ℕ) (words : List ℕ) (es : List Entry) (xs ys : List Item) → after_items seed words es xs ≡ es → after_items seed words es ys ≡ es →
+after_both : (seed : ℕ) (words : List ℕ) (es : List Entry) (xs ys : List MakeStep) → after_items seed words es xs ≡ es → after_items seed words es ys ≡ es →
     after_items seed words es (xs ++ ys) ≡ es
 after_both seed words es xs ys one other =
     after_items-append seed words es xs ys ∙ ap (λ (now : List Entry). after_items seed words now ys) one ∙ other

@@ -10,8 +10,8 @@ use Rattle.cartridge_spec.specs.Volumes.{volume_length}
 use Rattle.command_laws.proofs.MountedKeeping.{changed_by_acts}
 use Rattle.command_laws.proofs.RestoreEndings.{restores_is_function}
 use Rattle.command_laws.proofs.ScrubTurns.{scrubs_is_function}
-use Rattle.command_spec.specs.Make.{Answer, Lost, IsAppended, IsTableLost, made_acts, made_answer, IsSummed, sum_acts, ending_answer, Item, AppendMade, WearSector, ScrubAll, SumVolume, Done, Protected, Does, after_item, after_items, Runs, TableMismatch, Full, Mismatch}
-use Rattle.command_spec.specs.Restore.{Ending, Restores, pieces}
+use Rattle.command_spec.specs.Make.{Answer, Lost, IsAppended, IsTableLost, made_acts, made_answer, IsSummed, sum_acts, ending_answer, MakeStep, AppendMade, WearSector, ScrubAll, SumVolume, Done, Protected, StepDoes, after_item, after_items, Runs, TableMismatch, Full, Mismatch}
+use Rattle.command_spec.specs.Restore.{GivingEnd, Restores, pieces}
 use Rattle.qic_base.specs.Acts.{Act, text_of, steps_of}
 use Rattle.qic_base.specs.Cartridge.{Cartridge}
 
@@ -60,11 +60,11 @@ one_sum c words es number a b x y one other =
     both_are a b x y (sum_acts number (volume_length words other.entry) (text_of other.given) other.ending) (ending_answer other.ending)
     (one.does ∙ ap (λ (e : Entry). sum_acts number (volume_length words e) (text_of one.given) one.ending) entry
     ∙ ap (λ (given : List Act). sum_acts number (volume_length words other.entry) (text_of given) one.ending) same.0
-    ∙ ap (λ (ending : Ending). sum_acts number (volume_length words other.entry) (text_of other.given) ending) same.1) other.does
+    ∙ ap (λ (ending : GivingEnd). sum_acts number (volume_length words other.entry) (text_of other.given) ending) same.1) other.does
     (one.answered ∙ ap ending_answer same.1) other.answered
 
-pub does_one : (seed : ℕ) (c : Cartridge) (words : List ℕ) (es : List Entry) (item : Item) (a b : List Act) (x y : Answer) →
-    Does seed c words es item a x → Does seed c words es item b y → Same a b x y
+pub does_one : (seed : ℕ) (c : Cartridge) (words : List ℕ) (es : List Entry) (item : MakeStep) (a b : List Act) (x y : Answer) →
+    StepDoes seed c words es item a x → StepDoes seed c words es item b y → Same a b x y
 does_one seed c words es (AppendMade volume) a b x y (inl one) (inl other) =
     both_are a b x y [] Protected one.does other.does one.answered other.answered
 does_one seed c words es (AppendMade volume) a b x y (inl one) (inr (free, other)) = absurd (never_unlocked c one.mark free)
@@ -83,13 +83,13 @@ does_one seed c words es (SumVolume number) a b x y one other = one_sum c words 
 
 -- ---- steps one after the other
 
-pub after_items-append : (seed : ℕ) (words : List ℕ) (es : List Entry) (xs ys : List Item) →
+pub after_items-append : (seed : ℕ) (words : List ℕ) (es : List Entry) (xs ys : List MakeStep) →
     after_items seed words es (xs ++ ys) ≡ after_items seed words (after_items seed words es xs) ys
 after_items-append seed words es [] ys = refl
 after_items-append seed words es (x ∷ xs) ys = after_items-append seed words (after_item seed words es x) xs ys
 
 -- a run that was carried out, and a run behind it
-pub runs_both : (seed : ℕ) (c : Cartridge) (words : List ℕ) (es : List Entry) (xs ys : List Item) (a b : List Act) (y : Answer) →
+pub runs_both : (seed : ℕ) (c : Cartridge) (words : List ℕ) (es : List Entry) (xs ys : List MakeStep) (a b : List Act) (y : Answer) →
     Runs seed c words es xs a Done → Runs seed (changed_by (steps_of a) c) words (after_items seed words es xs) ys b y →
     Runs seed c words es (xs ++ ys) (a ++ b) y
 runs_both seed c words es [] ys a b y (none, done) behind =
@@ -105,7 +105,7 @@ runs_both seed c words es (x ∷ xs) ys a b y (inr (first, rest, parts, does, mo
     inr (first, rest ++ b, sym (append_assoc first rest b) ∙ ap (λ (zs : List Act). zs ++ b) parts, does, joined)
 
 -- a run that was refused, whatever would have come behind it
-pub runs_longer : (seed : ℕ) (c : Cartridge) (words : List ℕ) (es : List Entry) (xs ys : List Item) (a : List Act) (x : Answer) → x ≢ Done →
+pub runs_longer : (seed : ℕ) (c : Cartridge) (words : List ℕ) (es : List Entry) (xs ys : List MakeStep) (a : List Act) (x : Answer) → x ≢ Done →
     Runs seed c words es xs a x → Runs seed c words es (xs ++ ys) a x
 runs_longer seed c words es [] ys a x other (none, done) = absurd (other done)
 runs_longer seed c words es (item ∷ xs) ys a x other (inl refused) = inl refused
@@ -113,12 +113,12 @@ runs_longer seed c words es (item ∷ xs) ys a x other (inr (first, rest, parts,
     inr (first, rest, parts, does, runs_longer seed (changed_by (steps_of first) c) words (after_item seed words es item) xs ys rest x other more)
 
 -- what a run does behind a front that was carried out
-pub record RunsBehind (seed : ℕ) (c : Cartridge) (words : List ℕ) (es : List Entry) (xs ys : List Item) (a b : List Act) (y : Answer) : Type 0 where
+pub record RunsBehind (seed : ℕ) (c : Cartridge) (words : List ℕ) (es : List Entry) (xs ys : List MakeStep) (a b : List Act) (y : Answer) : Type 0 where
   pub rest : List Act
   pub parts : a ++ rest ≡ b
   pub runs : Runs seed (changed_by (steps_of a) c) words (after_items seed words es xs) ys rest y
 
-pub runs_behind : (seed : ℕ) (c : Cartridge) (words : List ℕ) (es : List Entry) (xs ys : List Item) (a b : List Act) (y : Answer) →
+pub runs_behind : (seed : ℕ) (c : Cartridge) (words : List ℕ) (es : List Entry) (xs ys : List MakeStep) (a b : List Act) (y : Answer) →
     Runs seed c words es xs a Done → Runs seed c words es (xs ++ ys) b y → RunsBehind seed c words es xs ys a b y
 runs_behind seed c words es [] ys a b y (none, done) all = record {
   rest = b;
@@ -144,7 +144,7 @@ runs_behind seed c words es (x ∷ xs) ys a b y (inr (first, rest, parts, does, 
     }
 
 -- what a front of its steps does
-pub record RunsFront (seed : ℕ) (c : Cartridge) (words : List ℕ) (es : List Entry) (xs : List Item) (b : List Act) (y : Answer) : Type 0 where
+pub record RunsFront (seed : ℕ) (c : Cartridge) (words : List ℕ) (es : List Entry) (xs : List MakeStep) (b : List Act) (y : Answer) : Type 0 where
   pub acts : List Act
   pub answer : Answer
   pub either : (answer ≡ Done) ⊎ (answer ≡ y)
@@ -152,7 +152,7 @@ pub record RunsFront (seed : ℕ) (c : Cartridge) (words : List ℕ) (es : List 
   pub parts : acts ++ rest ≡ b
   pub runs : Runs seed c words es xs acts answer
 
-pub runs_front : (seed : ℕ) (c : Cartridge) (words : List ℕ) (es : List Entry) (xs ys : List Item) (b : List Act) (y : Answer) →
+pub runs_front : (seed : ℕ) (c : Cartridge) (words : List ℕ) (es : List Entry) (xs ys : List MakeStep) (b : List Act) (y : Answer) →
     Runs seed c words es (xs ++ ys) b y → RunsFront seed c words es xs b y
 runs_front seed c words es [] ys b y all = record { acts = []; answer = Done; either = inl refl; rest = b; parts = refl; runs = (refl, refl) }
 runs_front seed c words es (x ∷ xs) ys b y (inl refused) = record { acts = b; answer = y; either = inr refl; rest = []; parts = append-nil b; runs = inl refused }
@@ -169,7 +169,7 @@ runs_front seed c words es (x ∷ xs) ys b y (inr (first, rest, parts, does, mor
     }
 
 -- a run does one thing
-pub runs_one : (seed : ℕ) (c : Cartridge) (words : List ℕ) (es : List Entry) (xs : List Item) (a b : List Act) (x y : Answer) →
+pub runs_one : (seed : ℕ) (c : Cartridge) (words : List ℕ) (es : List Entry) (xs : List MakeStep) (a b : List Act) (x y : Answer) →
     Runs seed c words es xs a x → Runs seed c words es xs b y → Same a b x y
 runs_one seed c words es [] a b x y one other = both_are a b x y [] Done one.0 other.0 one.1 other.1
 runs_one seed c words es (item ∷ xs) a b x y (inl (p, one)) (inl (q, other)) = does_one seed c words es item a b x y one other
@@ -197,16 +197,16 @@ done_or_not (Full need have) = inr (λ same. cc)
 done_or_not (Lost segment lost) = inr (λ same. cc)
 done_or_not (Mismatch segment) = inr (λ same. cc)
 
-pub run_of : (seed : ℕ) (c : Cartridge) (words : List ℕ) (es : List Entry) (item : Item) (a : List Act) (x : Answer) →
-    Does seed c words es item a x → Runs seed c words es (item ∷ []) a x
+pub run_of : (seed : ℕ) (c : Cartridge) (words : List ℕ) (es : List Entry) (item : MakeStep) (a : List Act) (x : Answer) →
+    StepDoes seed c words es item a x → Runs seed c words es (item ∷ []) a x
 run_of seed c words es item a x does = elim (done_or_not x) [
-  | inl done ↦ inr (a, [], append-nil a, subst (Does seed c words es item a) done does, (refl, done))
+  | inl done ↦ inr (a, [], append-nil a, subst (StepDoes seed c words es item a) done does, (refl, done))
   | inr other ↦ inl (other, does)
 ]
 
-pub done_of : (seed : ℕ) (c : Cartridge) (words : List ℕ) (es : List Entry) (item : Item) (a : List Act) (x : Answer) →
-    Runs seed c words es (item ∷ []) a x → Does seed c words es item a x
+pub done_of : (seed : ℕ) (c : Cartridge) (words : List ℕ) (es : List Entry) (item : MakeStep) (a : List Act) (x : Answer) →
+    Runs seed c words es (item ∷ []) a x → StepDoes seed c words es item a x
 done_of seed c words es item a x (inl refused) = refused.1
 done_of seed c words es item a x (inr (first, rest, parts, does, behind)) =
     let all : first ≡ a = sym (append-nil first) ∙ ap (λ (zs : List Act). first ++ zs) (sym behind.0) ∙ parts in
-    subst (λ (y : Answer). Does seed c words es item a y) (sym behind.1) (subst (λ (zs : List Act). Does seed c words es item zs Done) all does)
+    subst (λ (y : Answer). StepDoes seed c words es item a y) (sym behind.1) (subst (λ (zs : List Act). StepDoes seed c words es item zs Done) all does)

@@ -2,9 +2,9 @@
 use Rattle.std.proofs.Common.{inl, inr, ℕ, List, [], ◌∷◌, ◌++◌, refl, sym, ap, ◌∙◌, subst, append_assoc, ◌≢◌, append-nil, ◌≡◌}
 use Rattle.cartridge_spec.specs.Table.{Entry}
 use Rattle.command_laws.proofs.MadeMachineLaws.{done_or_not}
-use Rattle.command_spec.specs.Make.{Item, after_item, after_items, Answer, Done, MayRun, MayDo}
+use Rattle.command_spec.specs.Make.{MakeStep, after_item, after_items, Answer, Done, MayRun, MayDo}
 
-pub may_both : (seed : ℕ) (words : List ℕ) (es : List Entry) (xs ys : List Item) (a b : List ℕ) (y : Answer) →
+pub may_both : (seed : ℕ) (words : List ℕ) (es : List Entry) (xs ys : List MakeStep) (a b : List ℕ) (y : Answer) →
     MayRun seed words es xs a Done → MayRun seed words (after_items seed words es xs) ys b y → MayRun seed words es (xs ++ ys) (a ++ b) y
 may_both seed words es [] ys a b y (none, done) behind =
     subst (λ (text : List ℕ). MayRun seed words es ys (text ++ b) y) (sym none) behind
@@ -18,21 +18,21 @@ may_both seed words es (x ∷ xs) ys a b y (inr (first, rest, parts, does, more)
       may_both seed words (after_item seed words es x) xs ys rest b y more behind,
     )
 
-pub may_longer : (seed : ℕ) (words : List ℕ) (es : List Entry) (xs ys : List Item) (a : List ℕ) (x : Answer) → x ≢ Done →
+pub may_longer : (seed : ℕ) (words : List ℕ) (es : List Entry) (xs ys : List MakeStep) (a : List ℕ) (x : Answer) → x ≢ Done →
     MayRun seed words es xs a x → MayRun seed words es (xs ++ ys) a x
 may_longer seed words es [] ys a x other (none, done) = absurd (other done)
 may_longer seed words es (item ∷ xs) ys a x other (inl refused) = inl refused
 may_longer seed words es (item ∷ xs) ys a x other (inr (first, rest, parts, does, more)) =
     inr (first, rest, parts, does, may_longer seed words (after_item seed words es item) xs ys rest x other more)
 
-pub may_of : (seed : ℕ) (words : List ℕ) (es : List Entry) (item : Item) (a : List ℕ) (x : Answer) →
+pub may_of : (seed : ℕ) (words : List ℕ) (es : List Entry) (item : MakeStep) (a : List ℕ) (x : Answer) →
     MayDo seed words es item a x → MayRun seed words es (item ∷ []) a x
 may_of seed words es item a x does = elim (done_or_not x) [
   | inl done ↦ inr (a, [], append-nil a, subst (MayDo seed words es item a) done does, (refl, done))
   | inr other ↦ inl (other, does)
 ]
 
-pub may_done : (seed : ℕ) (words : List ℕ) (es : List Entry) (item : Item) (a : List ℕ) (x : Answer) →
+pub may_done : (seed : ℕ) (words : List ℕ) (es : List Entry) (item : MakeStep) (a : List ℕ) (x : Answer) →
     MayRun seed words es (item ∷ []) a x → MayDo seed words es item a x
 may_done seed words es item a x (inl refused) = refused.1
 may_done seed words es item a x (inr (first, rest, parts, does, behind)) =

@@ -15,7 +15,7 @@ use Rattle.command_laws.specs.MadeLaws.{MakesSomething}
 use Rattle.command_laws.specs.MountedListed.{IsListed, listed_behind}
 use Rattle.command_spec.specs.Append.{Kept, Taking, Fits, TooLong, TooShort, has_promised_room, room_in, silently, taking, kept_over}
 use Rattle.command_spec.specs.Generator.{made_length, made_bytes}
-use Rattle.command_spec.specs.Make.{Item, AppendMade, WearSector, ScrubAll, SumVolume, after_item, Answer, Done, Does, made_name, made_entry, Protected, Full, Lost, made_acts, made_answer, sum_acts, ending_answer, Runs, after_items, appending, wearing, first_two, wearing_in, wearing_volumes, summing, made_list, making}
+use Rattle.command_spec.specs.Make.{MakeStep, AppendMade, WearSector, ScrubAll, SumVolume, after_item, Answer, Done, StepDoes, made_name, made_entry, Protected, Full, Lost, made_acts, made_answer, sum_acts, ending_answer, Runs, after_items, appending, wearing, first_two, wearing_in, wearing_volumes, summing, made_list, making}
 use Rattle.command_spec.specs.Restore.{volume_at, pieces}
 use Rattle.qic_base.specs.Acts.{Act, steps_of, text_of}
 use Rattle.qic_base.specs.Cartridge.{Cartridge}
@@ -24,17 +24,17 @@ use Rattle.qic_base.specs.Step.{Step, Wear}
 -- ---- one step
 
 -- what it asks: a made volume's number is small, and a volume that is summed is in the list
-abbrev CanDo : List Entry → Item → Type 0
+abbrev CanDo : List Entry → MakeStep → Type 0
 CanDo entries (AppendMade volume) = volume ≤ 200
 CanDo entries (WearSector segment sector) = Unit {0}
 CanDo entries ScrubAll = Unit {0}
 CanDo entries (SumVolume number) = (e : Entry) × (volume_at entries number ≡ Some e)
 
 -- it does something, and where it was carried out its list stands
-record DoesSomething (seed : ℕ) (c : Cartridge) (words : List ℕ) (entries : List Entry) (item : Item) : Type 0 where
+record DoesSomething (seed : ℕ) (c : Cartridge) (words : List ℕ) (entries : List Entry) (item : MakeStep) : Type 0 where
   acts : List Act
   answer : Answer
-  does : Does seed c words entries item acts answer
+  does : StepDoes seed c words entries item acts answer
   next : answer ≡ Done → IsListed (changed_by (steps_of acts) c) words (after_item seed words entries item)
 
 no_less : (x y : ℕ) → x ≡ y → nat_lt x y ≡ false
@@ -144,7 +144,7 @@ module _ (seed : ℕ) (c : Cartridge) (words : List ℕ) (entries : List Entry) 
             (sym (sum_in_no_step number (volume_length words e) (text_of gives.0) gives.1)) listed;
       }
 
-  does_something : (item : Item) → CanDo entries item → DoesSomething seed c words entries item
+  does_something : (item : MakeStep) → CanDo entries item → DoesSomething seed c words entries item
   does_something (AppendMade volume) can = append_does volume can
   does_something (WearSector segment sector) can = wear_does segment sector
   does_something ScrubAll can = scrub_does
@@ -152,11 +152,11 @@ module _ (seed : ℕ) (c : Cartridge) (words : List ℕ) (entries : List Entry) 
 
 -- ---- steps one after the other
 
-abbrev CanRun : (seed : ℕ) (words : List ℕ) → List Entry → List Item → Type 0
+abbrev CanRun : (seed : ℕ) (words : List ℕ) → List Entry → List MakeStep → Type 0
 CanRun seed words entries [] = Unit {0}
 CanRun seed words entries (item ∷ items) = CanDo entries item × CanRun seed words (after_item seed words entries item) items
 
-runs_somehow : (seed : ℕ) (words : List ℕ) (items : List Item) (c : Cartridge) (entries : List Entry) → IsListed c words entries → CanRun seed words entries items →
+runs_somehow : (seed : ℕ) (words : List ℕ) (items : List MakeStep) (c : Cartridge) (entries : List Entry) → IsListed c words entries → CanRun seed words entries items →
     (acts : List Act) × (answer : Answer) × Runs seed c words entries items acts answer
 runs_somehow seed words [] c entries listed can = ([], Done, (refl, refl))
 runs_somehow seed words (item ∷ items) c entries listed can =
@@ -166,12 +166,12 @@ runs_somehow seed words (item ∷ items) c entries listed can =
           let rest = runs_somehow seed words items (changed_by (steps_of some.acts) c) (after_item seed words entries item) (some.next done) can.1 in (
             some.acts ++ rest.0,
             rest.1,
-            inr (some.acts, rest.0, refl, subst (Does seed c words entries item some.acts) done some.does, rest.2),
+            inr (some.acts, rest.0, refl, subst (StepDoes seed c words entries item some.acts) done some.does, rest.2),
           )
       | inr other ↦ (some.acts, some.answer, inl (other, some.does))
     ]
 
-can_both : (seed : ℕ) (words : List ℕ) (xs ys : List Item) (entries : List Entry) → CanRun seed words entries xs → CanRun seed words (after_items seed words entries xs) ys →
+can_both : (seed : ℕ) (words : List ℕ) (xs ys : List MakeStep) (entries : List Entry) → CanRun seed words entries xs → CanRun seed words (after_items seed words entries xs) ys →
     CanRun seed words entries (xs ++ ys)
 can_both seed words [] ys entries first next = next
 can_both seed words (x ∷ xs) ys entries first next = (first.0, can_both seed words xs ys (after_item seed words entries x) first.1 next)
@@ -183,21 +183,21 @@ can_append seed words volume zero entries few = tt
 can_append seed words volume (suc count) entries few =
     (omega arith, can_append seed words (volume + 1) count (entries ++ made_entry seed words entries volume ∷ []) (omega arith))
 
-abbrev AreWears : List Item → Type 0
+abbrev AreWears : List MakeStep → Type 0
 AreWears [] = Unit {0}
 AreWears (AppendMade volume ∷ items) = ⊥
 AreWears (WearSector segment sector ∷ items) = AreWears items
 AreWears (ScrubAll ∷ items) = ⊥
 AreWears (SumVolume number ∷ items) = ⊥
 
-wears_both : (xs ys : List Item) → AreWears xs → AreWears ys → AreWears (xs ++ ys)
+wears_both : (xs ys : List MakeStep) → AreWears xs → AreWears ys → AreWears (xs ++ ys)
 wears_both [] ys first next = next
 wears_both (AppendMade volume ∷ xs) ys first next = absurd first
 wears_both (WearSector segment sector ∷ xs) ys first next = wears_both xs ys first next
 wears_both (ScrubAll ∷ xs) ys first next = absurd first
 wears_both (SumVolume number ∷ xs) ys first next = absurd first
 
-can_wear : (seed : ℕ) (words : List ℕ) (entries : List Entry) (items : List Item) → AreWears items → CanRun seed words entries items
+can_wear : (seed : ℕ) (words : List ℕ) (entries : List Entry) (items : List MakeStep) → AreWears items → CanRun seed words entries items
 can_wear seed words entries [] are = tt
 can_wear seed words entries (AppendMade volume ∷ items) are = absurd are
 can_wear seed words entries (WearSector segment sector ∷ items) are = (tt, can_wear seed words entries items are)
@@ -208,7 +208,7 @@ wears_one : (segment : ℕ) (sectors : List ℕ) → AreWears (wearing segment s
 wears_one segment [] = tt
 wears_one segment (sector ∷ sectors) = wears_one segment sectors
 
-wears_if : (b : Bool) (items : List Item) → AreWears items → AreWears (cond b items [])
+wears_if : (b : Bool) (items : List MakeStep) → AreWears items → AreWears (cond b items [])
 wears_if true items are = are
 wears_if false items are = tt
 
@@ -242,8 +242,8 @@ can_sum seed words es number (suc count) some within =
 pub makes_something : MakesSomething
 makes_something seed count c words entries listed few =
     let made : List Entry = made_list seed count words entries in
-    let wears : List Item = wearing_volumes words (drop (length entries) made) in
-    let sums : List Item = summing (length entries + 1) count in
+    let wears : List MakeStep = wearing_volumes words (drop (length entries) made) in
+    let sums : List MakeStep = summing (length entries + 1) count in
     let long : length made ≡ length entries + count = length-made seed words entries 1 count in
     runs_somehow seed words (making seed count words entries) c entries listed
     (can_both seed words (appending 1 count) (wears ++ ScrubAll ∷ sums) entries (can_append seed words 1 count entries (omega arith))

@@ -31,8 +31,8 @@ use Rattle.command_laws.specs.MountedKept.{IsAppendable, IsOpen, settle_and_appe
 use Rattle.command_spec.specs.Append.{Kept, append_acts, silently, room_in, kept_in, has_promised_room}
 use Rattle.command_spec.specs.Generator.{made_length, made_byte, made_bytes}
 use Rattle.command_spec.specs.MadeVolumes.{made_volume, with_made}
-use Rattle.command_spec.specs.Make.{made_name, AppendMade, Answer, Done, Full, Does, IsAppended, made_acts, made_answer, Item, WearSector, ScrubAll, SumVolume, after_item, sum_acts, Runs, wearing, first_two, wearing_in, wearing_volumes, summing, made_entry, after_items, appending, made_list, making}
-use Rattle.command_spec.specs.Restore.{Ending, Restored, LostIn, MismatchIn}
+use Rattle.command_spec.specs.Make.{made_name, AppendMade, Answer, Done, Full, StepDoes, IsAppended, made_acts, made_answer, MakeStep, WearSector, ScrubAll, SumVolume, after_item, sum_acts, Runs, wearing, first_two, wearing_in, wearing_volumes, summing, made_entry, after_items, appending, made_list, making}
+use Rattle.command_spec.specs.Restore.{GivingEnd, Restored, LostIn, MismatchIn}
 use Rattle.qic_base.proofs.Steps.{Torn-all}
 use Rattle.qic_base.specs.Acts.{Act, steps_of, text_of}
 use Rattle.qic_base.specs.Cartridge.{Cartridge}
@@ -147,14 +147,14 @@ module _ (seed : ℕ) (c : Cartridge) (plain : Plain) (held : IsOpen c plain) (v
       ∙ append-nil settling
 
   -- what the step is: the table reads, and there is room or not
-  append_is : (acts : List Act) (answer : Answer) → Does seed c plain.words (entries_of plain) (AppendMade volume) acts answer →
+  append_is : (acts : List Act) (answer : Answer) → StepDoes seed c plain.words (entries_of plain) (AppendMade volume) acts answer →
       IsAppended seed c plain.words (entries_of plain) volume acts answer
   append_is acts answer (inl refused) = absurd (never_unlocked c refused.mark held.unprotected)
   append_is acts answer (inr (free, inl appended)) = appended
   append_is acts answer (inr (free, inr lost)) = absurd (never_lost c plain.table_area lost.lost held.table lost.says)
 
   -- where it was carried out there was room, and all its steps were done
-  done_append : (acts : List Act) → Does seed c plain.words (entries_of plain) (AppendMade volume) acts Done →
+  done_append : (acts : List Act) → StepDoes seed c plain.words (entries_of plain) (AppendMade volume) acts Done →
       (has_room plain.words (entries_of plain) (last_segment c) (length bytes) ≡ true) × (steps_of acts ≡ all_steps)
   done_append acts does =
       let is = append_is acts Done does in
@@ -171,7 +171,7 @@ module _ (seed : ℕ) (c : Cartridge) (plain : Plain) (held : IsOpen c plain) (v
 
 -- what it leaves, done
 pub done_append_open : (seed : ℕ) (c : Cartridge) (plain : Plain) → IsOpen c plain → (volume : ℕ) → volume ≤ 200 → (acts : List Act) →
-    Does seed c plain.words (entries_of plain) (AppendMade volume) acts Done → IsOpen (changed_by (steps_of acts) c) (with_volume plain (made_volume seed plain volume))
+    StepDoes seed c plain.words (entries_of plain) (AppendMade volume) acts Done → IsOpen (changed_by (steps_of acts) c) (with_volume plain (made_volume seed plain volume))
 done_append_open seed c plain held volume small acts does =
     let did = done_append seed c plain held volume acts does in
     subst (λ (steps : List Step). IsOpen (changed_by steps c) (with_volume plain (made_volume seed plain volume))) (sym did.1)
@@ -185,13 +185,13 @@ module _ (seed : ℕ) (c : Cartridge) (plain : Plain) (held : IsKept c plain) (v
   named : IsAppendable (made_name volume) 0 (made_bytes seed volume)
   named = made_named seed volume small
 
-  pub done_append_kept : (acts : List Act) → Does seed c plain.words (entries_of plain) (AppendMade volume) acts Done → IsKept (changed_by (steps_of acts) c) more
+  pub done_append_kept : (acts : List Act) → StepDoes seed c plain.words (entries_of plain) (AppendMade volume) acts Done → IsKept (changed_by (steps_of acts) c) more
   done_append_kept acts does =
       let did = done_append seed c plain (kept_open c plain held) volume acts does in
       subst (λ (steps : List Step). IsKept (changed_by steps c) more) (sym did.1)
       (kept_appended (made_name volume) 0 (made_bytes seed volume) named.label named.word named.content c plain held did.0)
 
-  pub stopped_append_stands : (acts : List Act) (answer : Answer) (left : Option Cartridge) → Does seed c plain.words (entries_of plain) (AppendMade volume) acts answer →
+  pub stopped_append_stands : (acts : List Act) (answer : Answer) (left : Option Cartridge) → StepDoes seed c plain.words (entries_of plain) (AppendMade volume) acts answer →
       Torn (steps_of acts) (Some c) left → IsSomeAnd left (λ d. Stands d plain ⊎ Stands d more)
   stopped_append_stands acts answer left does torn =
       let here : IsOpen c plain = kept_open c plain held in
@@ -207,24 +207,24 @@ module _ (seed : ℕ) (c : Cartridge) (plain : Plain) (held : IsKept c plain) (v
 -- ---- the other steps
 
 -- a step that leaves the volumes: a worn sector lies behind the table
-abbrev pub IsStill : Item → Type 0
+abbrev pub IsStill : MakeStep → Type 0
 IsStill (AppendMade volume) = ⊥
 IsStill (WearSector segment sector) = (3 ≤ segment) × (sector < 32)
 IsStill ScrubAll = Unit {0}
 IsStill (SumVolume number) = Unit {0}
 
-abbrev pub AreStill : List Item → Type 0
+abbrev pub AreStill : List MakeStep → Type 0
 AreStill [] = Unit {0}
 AreStill (item ∷ items) = IsStill item × AreStill items
 
-pub still_after : (seed : ℕ) (words : List ℕ) (es : List Entry) (item : Item) → IsStill item → after_item seed words es item ≡ es
+pub still_after : (seed : ℕ) (words : List ℕ) (es : List Entry) (item : MakeStep) → IsStill item → after_item seed words es item ≡ es
 still_after seed words es (AppendMade volume) still = absurd still
 still_after seed words es (WearSector segment sector) still = refl
 still_after seed words es ScrubAll still = refl
 still_after seed words es (SumVolume number) still = refl
 
 -- the acts of a sum take no step
-pub sum_in_no_step : (number size : ℕ) (given : List ℕ) (ending : Ending) → steps_of (sum_acts number size given ending) ≡ []
+pub sum_in_no_step : (number size : ℕ) (given : List ℕ) (ending : GivingEnd) → steps_of (sum_acts number size given ending) ≡ []
 sum_in_no_step number size given Restored = refl
 sum_in_no_step number size given (LostIn segment lost) = refl
 sum_in_no_step number size given (MismatchIn segment) = refl
@@ -232,8 +232,8 @@ sum_in_no_step number size given (MismatchIn segment) = refl
 nothing_changed : (c : Cartridge) (plain : Plain) (acts : List Act) → steps_of acts ≡ [] → IsOpen c plain → IsOpen (changed_by (steps_of acts) c) plain
 nothing_changed c plain acts none held = subst (λ (steps : List Step). IsOpen (changed_by steps c) plain) (sym none) held
 
-pub still_done : (seed : ℕ) (c : Cartridge) (plain : Plain) (item : Item) (acts : List Act) → IsStill item → IsOpen c plain →
-    Does seed c plain.words (entries_of plain) item acts Done → IsOpen (changed_by (steps_of acts) c) plain
+pub still_done : (seed : ℕ) (c : Cartridge) (plain : Plain) (item : MakeStep) (acts : List Act) → IsStill item → IsOpen c plain →
+    StepDoes seed c plain.words (entries_of plain) item acts Done → IsOpen (changed_by (steps_of acts) c) plain
 still_done seed c plain (AppendMade volume) acts still held does = absurd still
 still_done seed c plain (WearSector segment sector) acts still held does =
     subst (λ (zs : List Act). IsOpen (changed_by (steps_of zs) c) plain) (sym does.does) (worn_open c plain segment sector held still.0 still.1)
@@ -245,8 +245,8 @@ still_done seed c plain (SumVolume number) acts still held does =
 stands_there : (c : Cartridge) (plain : Plain) (left : Option Cartridge) → IsOpen c plain → left ≡ Some c → IsSomeAnd left (λ d. Stands d plain)
 stands_there c plain left held is = some_and (λ d. Stands d plain) c left held.stands is
 
-still_stopped : (seed : ℕ) (c : Cartridge) (plain : Plain) (item : Item) (acts : List Act) (answer : Answer) (left : Option Cartridge) → IsStill item → IsOpen c plain →
-    Does seed c plain.words (entries_of plain) item acts answer → Torn (steps_of acts) (Some c) left → IsSomeAnd left (λ d. Stands d plain)
+still_stopped : (seed : ℕ) (c : Cartridge) (plain : Plain) (item : MakeStep) (acts : List Act) (answer : Answer) (left : Option Cartridge) → IsStill item → IsOpen c plain →
+    StepDoes seed c plain.words (entries_of plain) item acts answer → Torn (steps_of acts) (Some c) left → IsSomeAnd left (λ d. Stands d plain)
 still_stopped seed c plain (AppendMade volume) acts answer left still held does torn = absurd still
 still_stopped seed c plain (WearSector segment sector) acts answer left still held does torn =
     by_torn (subst (λ (zs : List Act). Torn (steps_of zs) (Some c) left) does.does torn)
@@ -264,7 +264,7 @@ still_stopped seed c plain (SumVolume number) acts answer left still held does t
 
 -- ---- several steps
 
-pub stills_stopped : (seed : ℕ) (items : List Item) (c : Cartridge) (plain : Plain) (acts : List Act) (answer : Answer) (left : Option Cartridge) → AreStill items → IsOpen c plain →
+pub stills_stopped : (seed : ℕ) (items : List MakeStep) (c : Cartridge) (plain : Plain) (acts : List Act) (answer : Answer) (left : Option Cartridge) → AreStill items → IsOpen c plain →
     Runs seed c plain.words (entries_of plain) items acts answer → Torn (steps_of acts) (Some c) left → IsSomeAnd left (λ d. Stands d plain)
 stills_stopped seed [] c plain acts answer left still held (none, done) torn =
     stands_there c plain left held (subst (λ (zs : List Act). Torn (steps_of zs) (Some c) left) none torn)
@@ -278,7 +278,7 @@ stills_stopped seed (item ∷ items) c plain acts answer left still held (inr (f
           (still_after seed plain.words (entries_of plain) item still.0) more) behind
     ]
 
-stills_done : (seed : ℕ) (items : List Item) (c : Cartridge) (plain : Plain) (acts : List Act) → AreStill items → IsOpen c plain →
+stills_done : (seed : ℕ) (items : List MakeStep) (c : Cartridge) (plain : Plain) (acts : List Act) → AreStill items → IsOpen c plain →
     Runs seed c plain.words (entries_of plain) items acts Done → IsOpen (changed_by (steps_of acts) c) plain
 stills_done seed [] c plain acts still held (none, done) = nothing_changed c plain acts (ap steps_of none) held
 stills_done seed (item ∷ items) c plain acts still held (inl (other, does)) = absurd (other refl)
@@ -290,7 +290,7 @@ stills_done seed (item ∷ items) c plain acts still held (inr (first, rest, par
 
 -- ---- which steps are still
 
-pub stills_append : (xs ys : List Item) → AreStill xs → AreStill ys → AreStill (xs ++ ys)
+pub stills_append : (xs ys : List MakeStep) → AreStill xs → AreStill ys → AreStill (xs ++ ys)
 stills_append [] ys one other = other
 stills_append (x ∷ xs) ys one other = (one.0, stills_append xs ys one.1 other)
 
@@ -299,7 +299,7 @@ still_wearing segment [] behind small = tt
 still_wearing segment (sector ∷ sectors) behind small =
     ((behind, All-head (λ s. s < 32) sector sectors small), still_wearing segment sectors behind (All-tail (λ s. s < 32) sector sectors small))
 
-still_if : (b : Bool) (items : List Item) → AreStill items → AreStill (cond b items [])
+still_if : (b : Bool) (items : List MakeStep) → AreStill items → AreStill (cond b items [])
 still_if true items still = still
 still_if false items still = tt
 
@@ -343,11 +343,11 @@ pub entries_more : (seed : ℕ) (plain : Plain) (volume : ℕ) →
 entries_more seed plain volume = map-append (λ (v : Volume). v.entry) plain.volumes (made_volume seed plain volume ∷ [])
 
 -- what comes behind the appends is still where they all stand
-abbrev pub StillBehind : (seed : ℕ) (words : List ℕ) (es : List Entry) (volume n : ℕ) (rest : List Item) → Type 0
+abbrev pub StillBehind : (seed : ℕ) (words : List ℕ) (es : List Entry) (volume n : ℕ) (rest : List MakeStep) → Type 0
 StillBehind seed words es volume n rest =
     (d : Cartridge) (p : Plain) → Stands d p → p.words ≡ words → entries_of p ≡ after_items seed words es (appending volume n) → AreStill rest
 
-module _ (seed : ℕ) (rest : List Item) where
+module _ (seed : ℕ) (rest : List MakeStep) where
   -- with one volume more the same comes behind
   pub behind_next : (plain : Plain) (volume n : ℕ) → StillBehind seed plain.words (entries_of plain) volume (suc n) rest →
       StillBehind seed plain.words (entries_of (with_volume plain (made_volume seed plain volume))) (volume + 1) n rest
@@ -424,19 +424,19 @@ behind_is_still seed count words es d p stands same list =
 
 pub stopped_make_stands : StoppedMakeStands
 stopped_make_stands seed count c plain acts answer left few held makes torn =
-    let rest : List Item = wearing_volumes plain.words (drop (length (entries_of plain)) (made_list seed count plain.words (entries_of plain))) ++ ScrubAll ∷ summing (length (entries_of plain) + 1) count in
+    let rest : List MakeStep = wearing_volumes plain.words (drop (length (entries_of plain)) (made_list seed count plain.words (entries_of plain))) ++ ScrubAll ∷ summing (length (entries_of plain) + 1) count in
     let from = appends_stopped seed rest count c plain 1 acts answer left (omega arith) held (behind_is_still seed count plain.words (entries_of plain)) makes torn in
     record { appended = from.appended; within = from.within; stands = from.stands }
 
 pub done_make_stands : DoneMakeStands
 done_make_stands seed count c plain acts few held makes =
-    let rest : List Item = wearing_volumes plain.words (drop (length (entries_of plain)) (made_list seed count plain.words (entries_of plain))) ++ ScrubAll ∷ summing (length (entries_of plain) + 1) count in
+    let rest : List MakeStep = wearing_volumes plain.words (drop (length (entries_of plain)) (made_list seed count plain.words (entries_of plain))) ++ ScrubAll ∷ summing (length (entries_of plain) + 1) count in
     (appends_done seed rest count c plain 1 acts (omega arith) held (behind_is_still seed count plain.words (entries_of plain)) makes).stands
 
 -- ---- a stop is in one step
 
-stops_behind : (seed : ℕ) (c : Cartridge) (words : List ℕ) (es : List Entry) (item : Item) (items : List Item) (first : List Act) (left : Option Cartridge) →
-    Does seed c words es item first Done → StopsInStep seed (changed_by (steps_of first) c) words (after_item seed words es item) items left →
+stops_behind : (seed : ℕ) (c : Cartridge) (words : List ℕ) (es : List Entry) (item : MakeStep) (items : List MakeStep) (first : List Act) (left : Option Cartridge) →
+    StepDoes seed c words es item first Done → StopsInStep seed (changed_by (steps_of first) c) words (after_item seed words es item) items left →
     StopsInStep seed c words es (item ∷ items) left
 stops_behind seed c words es item items first left does stops =
     let d : Cartridge = changed_by (steps_of first) c in
@@ -445,17 +445,17 @@ stops_behind seed c words es item items first left does stops =
       front = item ∷ stops.front;
       item = stops.item;
       rest = stops.rest;
-      parts = ap (λ (xs : List Item). item ∷ xs) stops.parts;
+      parts = ap (λ (xs : List MakeStep). item ∷ xs) stops.parts;
       done = first ++ stops.done;
       ran = inr (first, stops.done, refl, does, stops.ran);
       acts = stops.acts;
       answer = stops.answer;
-      does = subst (λ (e : Cartridge). Does seed e words (after_items seed words (after_item seed words es item) stops.front) stops.item stops.acts stops.answer) (sym same) stops.does;
+      does = subst (λ (e : Cartridge). StepDoes seed e words (after_items seed words (after_item seed words es item) stops.front) stops.item stops.acts stops.answer) (sym same) stops.does;
       torn = subst (λ (e : Cartridge). Torn (steps_of stops.acts) (Some e) left) (sym same) stops.torn;
     }
 
-stops_here : (seed : ℕ) (c : Cartridge) (words : List ℕ) (es : List Entry) (item : Item) (items : List Item) (acts : List Act) (answer : Answer) (left : Option Cartridge) →
-    Does seed c words es item acts answer → Torn (steps_of acts) (Some c) left → StopsInStep seed c words es (item ∷ items) left
+stops_here : (seed : ℕ) (c : Cartridge) (words : List ℕ) (es : List Entry) (item : MakeStep) (items : List MakeStep) (acts : List Act) (answer : Answer) (left : Option Cartridge) →
+    StepDoes seed c words es item acts answer → Torn (steps_of acts) (Some c) left → StopsInStep seed c words es (item ∷ items) left
 stops_here seed c words es item items acts answer left does torn = record {
   front = [];
   item = item;

@@ -12,7 +12,7 @@ use Rattle.cartridge_laws.proofs.FormatWriting.{changed_by-append}
 use Rattle.cartridge_laws.proofs.MountSettled.{settled_keeps_table}
 use Rattle.cartridge_laws.proofs.MountSettles.{settling_settles}
 use Rattle.cartridge_laws.specs.AppendBetween.{IsWhole}
-use Rattle.cartridge_laws.specs.AppendLaws.{new_table, IsReady, MayAppend}
+use Rattle.cartridge_laws.specs.AppendLaws.{new_table, IsReadyFor, MayAppend}
 use Rattle.cartridge_laws.specs.AppendSettled.{MayAppendTo, IsSettledFor}
 use Rattle.cartridge_laws.specs.AppendSteps.{writes_into}
 use Rattle.cartridge_laws.specs.Shape.{Carries}
@@ -88,7 +88,7 @@ module _ (c : Cartridge) (plain : Plain) (name : List ℕ) (date : ℕ) (bytes :
       ∙ append-nil (table_writes (slot_sector (length (entries_of plain))) (with_slot plain.table_area (length (entries_of plain)) slot))
       ∙ ap (λ (n : ℕ). table_writes (slot_sector n) (with_slot plain.table_area n slot)) (length-map plain.volumes (λ (v : Volume). v.entry))
 
-  pub all_writes : fits ≡ true → steps_of (segments ++ rear) ≡ appends.steps_of c plain name date bytes
+  pub all_writes : fits ≡ true → steps_of (segments ++ rear) ≡ appends.append_steps_of c plain name date bytes
   all_writes enough =
       steps_of-append segments rear
       ∙ ap (λ (front : List Step). front ++ steps_of rear) (segments_write enough)
@@ -108,9 +108,9 @@ settled_last c area reads = ap (λ (i : TapeInfo). 28 * i.segments_per_track - 1
 -- what all steps leave is what those of the append leave of the settled cartridge
 appended_behind : (c : Cartridge) (plain : Plain) (name : List ℕ) (date : ℕ) (bytes : List ℕ) → TableIs c plain.table_area →
     changed_by (settle_and_append c plain name date bytes) c
-    ≡ changed_by (appends.steps_of (settled plain.table_area c) plain name date bytes) (settled plain.table_area c)
+    ≡ changed_by (appends.append_steps_of (settled plain.table_area c) plain name date bytes) (settled plain.table_area c)
 appended_behind c plain name date bytes reads =
-    let next : List Step = appends.steps_of (settled plain.table_area c) plain name date bytes in
+    let next : List Step = appends.append_steps_of (settled plain.table_area c) plain name date bytes in
     changed_by-append (settling_steps plain.table_area c) next c ∙ ap (changed_by next) (settling_settles c plain.table_area reads)
 
 -- the plain cartridge with the volume
@@ -133,7 +133,7 @@ open_appended c plain name date bytes held named room =
       content = named.content;
     }) held.table in
     let known : IsSettledFor still plain.table_area = settled_is_settled_for c plain.table_area held.table held.unprotected in
-    let done : Cartridge = changed_by (appends.steps_of still plain name date bytes) still in
+    let done : Cartridge = changed_by (appends.append_steps_of still plain name date bytes) still in
     let info : done.info ≡ c.info = (done_touches_only still plain name date bytes may).0 ∙ (settled_keeps_table c plain.table_area held.table).info in
     let all : IsOpen done (new_plain still plain name date bytes) = record {
       cartridge = done_is_cartridge still plain name date bytes may;
@@ -182,8 +182,8 @@ module _ (name : List ℕ) (date : ℕ) (bytes : List ℕ) (label : IsLabel name
 
   pub kept_appended : has_room plain.words (entries_of plain) (last_segment c) (length bytes) ≡ true → IsKept (changed_by steps c) more
   kept_appended room =
-      let done : Cartridge = changed_by (appends.steps_of still plain name date bytes) still in
-      let is : IsReady still plain name date bytes = settled_is_ready c plain name date bytes (may room) in
+      let done : Cartridge = changed_by (appends.append_steps_of still plain name date bytes) still in
+      let is : IsReadyFor still plain name date bytes = settled_is_ready c plain name date bytes (may room) in
       live_kept (changed_by steps c) more
       (open_appended c plain name date bytes (kept_open c plain held) (record { label = label; word = word; content = content }) room)
       (subst IsTableLive (sym (appended_behind c plain name date bytes held.table))

@@ -8,12 +8,12 @@ use Rattle.command_laws.proofs.OutputJoining.{EndsAt-more}
 use Rattle.command_laws.proofs.RestoreCounts.{FitsIn, read_count, pieces_fit}
 use Rattle.command_laws.specs.OutputLaws.{RestoredAreOf, PrintedInNoStep, TextOfFirst}
 use Rattle.command_laws.specs.OutputText.{AreOf}
-use Rattle.command_spec.specs.Restore.{Piece, Ending, Restores, Restored, LostIn, MismatchIn, PieceEnds, EndsAt, framed, bytes_held}
+use Rattle.command_spec.specs.Restore.{Piece, GivingEnd, Restores, Restored, LostIn, MismatchIn, PieceEnds, EndsAt, framed, bytes_held}
 use Rattle.qic_base.specs.Acts.{Act, steps_of, text_of}
 use Rattle.qic_base.specs.Cartridge.{Cartridge}
 use Rattle.qic_base.specs.Step.{Step}
 
-are_of : (c : Cartridge) (words : List ℕ) (needed : List Piece) (acts : List Act) (ending : Ending) → All (FitsIn words) needed →
+are_of : (c : Cartridge) (words : List ℕ) (needed : List Piece) (acts : List Act) (ending : GivingEnd) → All (FitsIn words) needed →
     Restores c words needed acts ending → AreOf needed acts
 are_of c words [] acts ending fit h = subst (λ (xs : List Act). AreOf [] xs) (sym h.0) tt
 are_of c words (piece ∷ needed) [] ending fit h = tt
@@ -23,16 +23,16 @@ are_of c words (piece ∷ needed) (act ∷ acts) ending fit h = (
   are_of c words needed acts ending (All-tail (FitsIn words) piece needed fit) h.1,
 )
 
-ends_first : (c : Cartridge) (words : List ℕ) (piece : Piece) (needed : List Piece) (ending : Ending) → PieceEnds c words piece ending →
+ends_first : (c : Cartridge) (words : List ℕ) (piece : Piece) (needed : List Piece) (ending : GivingEnd) → PieceEnds c words piece ending →
     EndsAt (piece ∷ needed) 0 ending
 ends_first c words piece needed Restored ends = absurd ends
 ends_first c words piece needed (LostIn segment lost) ends = (ends.1.1, sym ends.0)
 ends_first c words piece needed (MismatchIn segment) ends = sym ends.0
 
-ends_at : (c : Cartridge) (words : List ℕ) (needed : List Piece) (acts : List Act) (ending : Ending) → Restores c words needed acts ending →
+ends_at : (c : Cartridge) (words : List ℕ) (needed : List Piece) (acts : List Act) (ending : GivingEnd) → Restores c words needed acts ending →
     EndsAt needed (length acts) ending
 ends_at c words [] acts ending h =
-    subst (λ (e : Ending). EndsAt [] (length acts) e) (sym h.1) (ap (λ (xs : List Act). length xs) h.0)
+    subst (λ (e : GivingEnd). EndsAt [] (length acts) e) (sym h.1) (ap (λ (xs : List Act). length xs) h.0)
 ends_at c words (piece ∷ needed) [] ending h = ends_first c words piece needed ending h
 ends_at c words (piece ∷ needed) (act ∷ acts) ending h = EndsAt-more piece needed (length acts) ending (ends_at c words needed acts ending h.1)
 

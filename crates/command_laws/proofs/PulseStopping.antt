@@ -1,11 +1,11 @@
 -- What a stop in trains leaves.
 use Rattle.std.proofs.Common.{◌≡◌, List, [], ◌∷◌, Bool, true, false, if◌then◌else◌, refl, is_none, Option, Some, None, ℕ, ◌++◌, ◌⊎◌, inl, inr, subst, ◌∙◌}
 use Rattle.command_laws.specs.PulseLaws.{StopsLeave}
-use Rattle.command_spec.specs.Pulses.{train_steps, after_train, train_acts}
+use Rattle.command_spec.specs.Pulses.{train_changes, pulsed_row, train_acts}
 use Rattle.drive_spec.specs.Deck.{refusal_of}
 use Rattle.drive_spec.specs.Effects.{ticked}
 use Rattle.drive_spec.specs.Record.{Record}
-use Rattle.drive_spec.specs.Steps.{steps_of, command_steps, is_idle}
+use Rattle.drive_spec.specs.Steps.{reference_steps, command_steps, is_idle}
 use Rattle.drive_spec.specs.declared.deck.Deck.{Deck}
 use Rattle.qic117_commands.specs.Commands.{command_at}
 use Rattle.qic117_commands.specs.declared.command.Command.{Command}
@@ -24,16 +24,16 @@ chosen : (b : Bool) (steps : List Step) → AreReferences steps → AreReference
 chosen true steps are = are
 chosen false steps are = tt
 
-of_command : (c : Command) → AreReferences (steps_of c)
+of_command : (c : Command) → AreReferences (reference_steps c)
 of_command WriteReference = (refl, tt)
 of_command c = tt
 
 of_number : (d : Deck) (o : Option Command) → AreReferences (command_steps d o)
 of_number d None = tt
-of_number d (Some c) = chosen (is_none (refusal_of d c)) (steps_of c) (of_command c)
+of_number d (Some c) = chosen (is_none (refusal_of d c)) (reference_steps c) (of_command c)
 
-of_train : (r : Record) (train : ℕ) → AreReferences (train_steps r train)
-unfolding train_steps
+of_train : (r : Record) (train : ℕ) → AreReferences (train_changes r train)
+unfolding train_changes
 of_train r train = chosen (is_idle r.under_way) (command_steps (ticked r.deck) (command_at train)) (of_number (ticked r.deck) (command_at train))
 
 of_both : (xs ys : List Step) → AreReferences xs → AreReferences ys → AreReferences (xs ++ ys)
@@ -42,7 +42,7 @@ of_both (x ∷ xs) ys first next = (first.0, of_both xs ys first.1 next)
 
 of_trains : (r : Record) (trains : List ℕ) → AreReferences (acts.steps_of (train_acts r trains))
 of_trains r [] = tt
-of_trains r (train ∷ trains) = of_both (train_steps r train) (acts.steps_of (train_acts (after_train r train) trains)) (of_train r train) (of_trains (after_train r train) trains)
+of_trains r (train ∷ trains) = of_both (train_changes r train) (acts.steps_of (train_acts (pulsed_row r train) trains)) (of_train r train) (of_trains (pulsed_row r train) trains)
 
 -- they are written once for all
 once : (held : Option Cartridge) → effect SetReferenced (effect SetReferenced held) ≡ effect SetReferenced held

@@ -3,7 +3,7 @@ use Rattle.std.proofs.Common.{◌≡◌, ℕ, List, [], ◌∷◌, ◌++◌, ◌
 use Rattle.std.proofs.lemmas.List.{length_push}
 use Rattle.std.proofs.lemmas.Bool.Decides.{nat_tests}
 use Rattle.command_spec.specs.Input.{IsPulse}
-use Rattle.command_spec.specs.Pulses.{after_train, after_trains, train_act, train_acts, train_line, train_lines, train_steps}
+use Rattle.command_spec.specs.Pulses.{pulsed_row, after_trains, train_act, train_acts, train_line, train_lines, train_changes}
 use Rattle.drive_spec.specs.Deck.{refusal_of, is_streaming}
 use Rattle.drive_spec.specs.Effects.{given, reset, ticked}
 use Rattle.drive_spec.specs.Parameters.{longer, parameter_trains, parameter_values, parameter_code}
@@ -24,11 +24,11 @@ use Rattle.qic_base.specs.Acts.{Act}
 
 pub after_trains-append : (r : Record) (ps qs : List ℕ) → after_trains r (ps ++ qs) ≡ after_trains (after_trains r ps) qs
 after_trains-append r [] qs = refl
-after_trains-append r (p ∷ ps) qs = after_trains-append (after_train r p) ps qs
+after_trains-append r (p ∷ ps) qs = after_trains-append (pulsed_row r p) ps qs
 
 pub train_acts-append : (r : Record) (ps qs : List ℕ) → train_acts r (ps ++ qs) ≡ train_acts r ps ++ train_acts (after_trains r ps) qs
 train_acts-append r [] qs = refl
-train_acts-append r (p ∷ ps) qs = ap (λ (acts : List Act). train_act r p ∷ acts) (train_acts-append (after_train r p) ps qs)
+train_acts-append r (p ∷ ps) qs = ap (λ (acts : List Act). train_act r p ∷ acts) (train_acts-append (pulsed_row r p) ps qs)
 
 pub train_lines-append : (ps qs : List ℕ) → train_lines (ps ++ qs) ≡ train_lines ps ++ train_lines qs
 train_lines-append [] qs = refl
@@ -90,8 +90,8 @@ module _ (b : Record) (train : ℕ) where
   idled-counted true = refl
   idled-counted false = refl
 
-pub after_train-counted : (r : Record) (train : ℕ) → (after_train r train).train ≡ 0
-unfolding after_train
+pub after_train-counted : (r : Record) (train : ℕ) → (pulsed_row r train).train ≡ 0
+unfolding pulsed_row
 after_train-counted r train = by_count (train == 0) refl
   where
     by_count : (none : Bool) → (train == 0) ≡ none →
@@ -104,10 +104,10 @@ after_train-counted r train = by_count (train == 0) refl
 -- ---- the pulses of one train
 
 -- so many pulses were sent, and a gap
-pub sent : (start counted : Record) (n train : ℕ) → counted ≡ record start { train = n } → n ≡ train → after_gap counted ≡ after_train start train
-unfolding after_train
+pub sent : (start counted : Record) (n train : ℕ) → counted ≡ record start { train = n } → n ≡ train → after_gap counted ≡ pulsed_row start train
+unfolding pulsed_row
 sent start counted n train same all = ap after_gap same ∙ ap (λ (k : ℕ). after_gap (record start { train = k })) all
 
-pub sent_steps : (start counted : Record) (n train : ℕ) → counted ≡ record start { train = n } → n ≡ train → gap_steps counted ≡ train_steps start train
-unfolding train_steps
+pub sent_steps : (start counted : Record) (n train : ℕ) → counted ≡ record start { train = n } → n ≡ train → gap_steps counted ≡ train_changes start train
+unfolding train_changes
 sent_steps start counted n train same all = ap gap_steps same ∙ ap (λ (k : ℕ). gap_steps (record start { train = k })) all

@@ -17,7 +17,7 @@ use Rattle.cartridge_spec.specs.Shape.{mask_at, capacity, usable_count, data_cou
 use Rattle.cartridge_spec.specs.Table.{Entry}
 use Rattle.cartridge_spec.specs.Volumes.{capacity_between, carrying_segments, volume_length}
 use Rattle.command_laws.specs.RestoreLaws.{RestoresInNoStep, FramedInNoStep, PiecesHoldAll, TextHoldsPieces, RestoredIsLong}
-use Rattle.command_spec.specs.Restore.{framed, Piece, pieces_of, bytes_held, IsRead, piece_cells, Ending, Restores, pieces, Restored}
+use Rattle.command_spec.specs.Restore.{framed, Piece, pieces_of, bytes_held, IsRead, piece_cells, GivingEnd, Restores, pieces, Restored}
 use Rattle.qic_base.specs.Acts.{Act, steps_of, text_of}
 use Rattle.qic_base.specs.Cartridge.{IsSector, Cartridge}
 use Rattle.qic_base.specs.Step.{Step}
@@ -125,7 +125,7 @@ read_count c words piece act fits read =
     let within : piece.count ≤ capacity mask = fits.within in
     ap (λ (a : Act). length a.text) read.shown ∙ length-take-le piece.count (bytes_in read.sectors) (omega arith)
 
-text_held : (c : Cartridge) (words : List ℕ) (needed : List Piece) (acts : List Act) (ending : Ending) → All (FitsIn words) needed →
+text_held : (c : Cartridge) (words : List ℕ) (needed : List Piece) (acts : List Act) (ending : GivingEnd) → All (FitsIn words) needed →
     Restores c words needed acts ending → length (text_of acts) ≡ bytes_held (take (length acts) needed)
 text_held c words [] acts ending fit h =
     subst (λ (xs : List Act). length (text_of xs) ≡ bytes_held (take (length xs) [])) (sym h.0) refl

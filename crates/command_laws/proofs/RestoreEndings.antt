@@ -6,7 +6,7 @@ use Rattle.cartridge_laws.proofs.Segments.{cells_are_views}
 use Rattle.cartridge_spec.specs.Says.{Data, LostSectors, Says, Mismatch, Saying}
 use Rattle.cartridge_spec.specs.Shape.{mask_at}
 use Rattle.command_laws.specs.RestoreLaws.{RestoresIsFunction, RestoresAlways}
-use Rattle.command_spec.specs.Restore.{Piece, Ending, Restored, LostIn, MismatchIn, IsRead, PieceEnds, piece_cells, act_of, Restores}
+use Rattle.command_spec.specs.Restore.{Piece, GivingEnd, Restored, LostIn, MismatchIn, IsRead, PieceEnds, piece_cells, act_of, Restores}
 use Rattle.qic_base.specs.Acts.{Act}
 use Rattle.qic_base.specs.Cartridge.{Cartridge}
 use Rattle.qic_base.specs.declared.tape.SectorView.{SectorView}
@@ -21,14 +21,14 @@ not_mismatch : (cells : List SectorView) (sectors : List (List ℕ)) → Says ce
 not_mismatch cells sectors data_said none = none.1 data_said.1.block data_said.1.code data_said.1.agrees
 
 -- a piece that is read ends nothing
-read_goes_on : (c : Cartridge) (words : List ℕ) (piece : Piece) (act : Act) (ending : Ending) → IsRead c words piece act →
+read_goes_on : (c : Cartridge) (words : List ℕ) (piece : Piece) (act : Act) (ending : GivingEnd) → IsRead c words piece act →
     PieceEnds c words piece ending → ⊥
 read_goes_on c words piece act Restored read ends = ends
 read_goes_on c words piece act (LostIn s n) read ends = not_lost (piece_cells c words piece) read.sectors n read.says ends.1
 read_goes_on c words piece act (MismatchIn s) read ends = not_mismatch (piece_cells c words piece) read.sectors read.says ends.1
 
 -- it ends in one way
-one_ending : (c : Cartridge) (words : List ℕ) (piece : Piece) (x y : Ending) → PieceEnds c words piece x → PieceEnds c words piece y → x ≡ y
+one_ending : (c : Cartridge) (words : List ℕ) (piece : Piece) (x y : GivingEnd) → PieceEnds c words piece x → PieceEnds c words piece y → x ≡ y
 one_ending c words piece Restored y hx hy = absurd hx
 one_ending c words piece (LostIn s m) Restored hx hy = absurd hy
 one_ending c words piece (LostIn s m) (LostIn t n) hx hy = ap (λ (segment : ℕ). LostIn segment m) (hx.0 ∙ sym hy.0) ∙ ap (LostIn t) (sym hx.1.0 ∙ hy.1.0)
@@ -62,7 +62,7 @@ restores_is_function c words (piece ∷ needed) (a ∷ rest_a) (b ∷ rest_b) x 
 -- ---- at least one
 
 abbrev pub GivesSome : (c : Cartridge) (words : List ℕ) (needed : List Piece) → Type 0
-GivesSome c words needed = (acts : List Act) × (ending : Ending) × Restores c words needed acts ending
+GivesSome c words needed = (acts : List Act) × (ending : GivingEnd) × Restores c words needed acts ending
 
 pub by_saying : (c : Cartridge) (words : List ℕ) (piece : Piece) (needed : List Piece) (saying : Saying) →
     Says (piece_cells c words piece) saying → GivesSome c words needed → GivesSome c words (piece ∷ needed)

@@ -24,7 +24,7 @@ use Rattle.command_spec.specs.Append.{Kept, Taking, Fits, TooLong, TooShort, roo
 use Rattle.command_spec.specs.Input.{Item, IsLine, IsLined, IsItem, Ending, HasItems, AtEnd, AtStop, AtFault}
 use Rattle.command_spec.specs.Lines.{lost_line, reply_behind}
 use Rattle.command_spec.specs.Restore.{framed, pieces}
-use Rattle.command_spec.specs.Script.{Did, refusal_line, EndDoes, Finds, GivesBack, LineDoes, Meeting, Meets, Refuses, acts_on, appended, refused, reply, taken_as, entries_behind, ItemsDo, cartridge_behind, ScriptRun, ScriptDoes, place_behind, acts_of}
+use Rattle.command_spec.specs.Script.{Did, refusal_line, EndDoes, Finds, RestoreDoes, LineDoes, Meeting, Meets, Refuses, acts_on, append_did, line_refused, reply, taken_as, entries_behind, ItemsDo, cartridge_behind, ScriptRun, ScriptDoes, place_behind, acts_of}
 use Rattle.command_spec.specs.ScriptLists.{WearsBehind, ItemsWearBehind, ListsBehind, ListsAnswered}
 use Rattle.command_spec.specs.Scrub.{Scrubs}
 use Rattle.command_spec.specs.declared.line.Line.{Line}
@@ -191,14 +191,14 @@ module _ (c : Cartridge) (header : Header) (words : List ℕ) (entries : List En
         }
 
   append_leaves : (name : List ℕ) (n date : ℕ) (bytes : List ℕ) (m : Meeting) → IsLabel name → date < 2 ^ 32 → Meets c m →
-      ItemLists c header words entries Before (Unit {0}) (appended c words entries name n date bytes m)
-  append_leaves name n date bytes (Refuses w) label word meets = still_lists (Unit {0}) (refused [] entries w) refl refl
+      ItemLists c header words entries Before (Unit {0}) (append_did c words entries name n date bytes m)
+  append_leaves name n date bytes (Refuses w) label word meets = still_lists (Unit {0}) (line_refused [] entries w) refl refl
   append_leaves name n date bytes (Finds table) label word meets =
       taking_lists name n date bytes table meets.0 meets.1 label word (taking (room_in (kept_over c words entries table)) (Some n) bytes) refl
 
   -- ---- the other lines
 
-  gives_lists : (number : ℕ) (did : Did) → GivesBack c words entries number did → ItemLists c header words entries Before (Unit {0}) did
+  gives_lists : (number : ℕ) (did : Did) → RestoreDoes c words entries number did → ItemLists c header words entries Before (Unit {0}) did
   gives_lists number did gives =
       let parts : List Act = framed (pieces words gives.entry) gives.acts in
       still_lists (Unit {0}) did

@@ -10,7 +10,7 @@ use Rattle.command_laws.proofs.TextInputs.{one_reading}
 use Rattle.command_laws.specs.ScriptItems.{EarlyDoes}
 use Rattle.command_laws.specs.ScriptLaws.{OneOutcome, StopsInOne}
 use Rattle.command_spec.specs.Input.{Item, IsItem, Ending, HasItems, IsScript, AtEnd, AtStop, AtFault}
-use Rattle.command_spec.specs.Script.{place_behind, taken_by, Meeting, acts_on, FaultDoes, EndDoes, Did, ItemsDo, cartridge_behind, entries_behind, ScriptRun, acts_of, answer_by}
+use Rattle.command_spec.specs.Script.{place_behind, items_taken, Meeting, acts_on, FaultDoes, EndDoes, Did, ItemsDo, cartridge_behind, entries_behind, ScriptRun, acts_of, script_answer}
 use Rattle.command_spec.specs.declared.line.Line.{Line}
 use Rattle.qic_base.proofs.Joins.{steps_of-append}
 use Rattle.qic_base.proofs.Steps.{Torn-append}
@@ -45,7 +45,7 @@ same_place input items ending a b =
     let bytes = bytes_of 1 0 input items ending a in
     place_is items bytes.texts bytes.rest 1 0 input ending a bytes.parts bytes.reads ∙ sym (place_is items bytes.texts bytes.rest 1 0 input ending b bytes.parts bytes.reads)
 
-same_taken : (input : List ℕ) (items : List Item) (ending : Ending) (a b : IsScript input items ending) → taken_by input items ending a ≡ taken_by input items ending b
+same_taken : (input : List ℕ) (items : List Item) (ending : Ending) (a b : IsScript input items ending) → items_taken input items ending a ≡ items_taken input items ending b
 same_taken input items AtEnd a b = refl
 same_taken input items AtStop a b = ap (λ (n : ℕ). n + length (codes "end\n")) (same_place input items AtStop a b)
 same_taken input items (AtFault number place) a b = refl
@@ -89,7 +89,7 @@ one_doing c words entries items a b first second =
     nothing (r ∷ rears) ran_so = absurd ran_so
 
 made : List Did → List Act → ℕ → Ending → ScriptRun
-made dids last taken ending = record { acts = acts_of dids ++ last; taken = taken; answer = answer_by ending }
+made dids last taken ending = record { acts = acts_of dids ++ last; taken = taken; answer = script_answer ending }
 
 pub one_outcome : OneOutcome
 unfolding made
@@ -104,24 +104,24 @@ one_outcome c words entries input x y a b =
     same_so : (is js : List Item) (e d : Ending) → js ≡ is → d ≡ e → (r : IsScript input is e) (q : IsScript input js d) (xs ys : List Did) → ys ≡ xs → (last other : List Act) →
         EndDoes (cartridge_behind c xs) words (entries_behind entries xs) (drop (place_behind 1 0 input is e r) input) e last →
         EndDoes (cartridge_behind c ys) words (entries_behind entries ys) (drop (place_behind 1 0 input js d q) input) d other →
-        made ys other (taken_by input js d q) d ≡ made xs last (taken_by input is e r) e
+        made ys other (items_taken input js d q) d ≡ made xs last (items_taken input is e r) e
     same_so is js e d items endings r q xs ys dids last other ends again =
         let R : (List Item) → Type 0 = λ ks. (q : IsScript input ks d) → EndDoes (cartridge_behind c ys) words (entries_behind entries ys) (drop (place_behind 1 0 input ks d q) input) d other →
-        made ys other (taken_by input ks d q) d ≡ made xs last (taken_by input is e r) e in
+        made ys other (items_taken input ks d q) d ≡ made xs last (items_taken input is e r) e in
         subst R (sym items) (λ q again. by_ending d endings q again) q again
       where
         by_ending : (d : Ending) → d ≡ e → (q : IsScript input is d) → EndDoes (cartridge_behind c ys) words (entries_behind entries ys) (drop (place_behind 1 0 input is d q) input) d other →
-            made ys other (taken_by input is d q) d ≡ made xs last (taken_by input is e r) e
+            made ys other (items_taken input is d q) d ≡ made xs last (items_taken input is e r) e
         by_ending d endings =
             let R : Ending → Type 0 = λ f. (q : IsScript input is f) → EndDoes (cartridge_behind c ys) words (entries_behind entries ys) (drop (place_behind 1 0 input is f q) input) f other →
-            made ys other (taken_by input is f q) f ≡ made xs last (taken_by input is e r) e in
+            made ys other (items_taken input is f q) f ≡ made xs last (items_taken input is e r) e in
             subst R (sym endings) (λ q again.
             let P : ℕ → Type 0 = λ n. EndDoes (cartridge_behind c ys) words (entries_behind entries ys) (drop n input) e other in
             let Q : List Did → Type 0 = λ ds. EndDoes (cartridge_behind c ds) words (entries_behind entries ds) (drop (place_behind 1 0 input is e r) input) e other in
             let lasts : other ≡ last = one_last (cartridge_behind c xs) words (entries_behind entries xs) (drop (place_behind 1 0 input is e r) input) e other last
             (subst Q dids (subst P (same_place input is e q r) again)) ends in
-            ap (λ (ds : List Did). made ds other (taken_by input is e q) e) dids
-            ∙ ap (λ (acts : List Act). made xs acts (taken_by input is e q) e) lasts
+            ap (λ (ds : List Did). made ds other (items_taken input is e q) e) dids
+            ∙ ap (λ (acts : List Act). made xs acts (items_taken input is e q) e) lasts
             ∙ ap (λ (n : ℕ). made xs last n e) (same_taken input is e q r))
 
 -- ---- stops

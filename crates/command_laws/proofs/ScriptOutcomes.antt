@@ -17,7 +17,7 @@ use Rattle.command_spec.specs.Append.{Kept, Taking, Fits, TooLong, TooShort, roo
 use Rattle.command_spec.specs.Input.{Item, IsLineText, IsItem, Ending, HasItems, most_items, AtEnd, AtStop, AtFault}
 use Rattle.command_spec.specs.Lines.{reply_behind, lost_line, list_text}
 use Rattle.command_spec.specs.Restore.{framed, pieces, volume_at}
-use Rattle.command_spec.specs.Script.{reply, Did, LineDoes, refused, taken_as, given_as, ItemsDo, cartridge_behind, entries_behind, Finds, Meeting, Meets, Refuses, acts_on, appended, EndsEarly, FaultDoes, end_line, EndDoes, acts_of, answer_by, place_behind, taken_by}
+use Rattle.command_spec.specs.Script.{reply, Did, LineDoes, line_refused, taken_as, given_as, ItemsDo, cartridge_behind, entries_behind, Finds, Meeting, Meets, Refuses, acts_on, append_did, EndsEarly, FaultDoes, end_line, EndDoes, acts_of, script_answer, place_behind, items_taken}
 use Rattle.command_spec.specs.declared.line.Line.{Line}
 use Rattle.qic_base.proofs.Joins.{steps_of-append}
 use Rattle.qic_base.specs.Acts.{Act, steps_of}
@@ -48,19 +48,19 @@ pub taken_listed : (c : Cartridge) (words : List ℕ) (kept : Kept) (name : List
     IsListed (changed_by (steps_of (taken_as kept name date acts taken).acts) c) words (taken_as kept name date acts taken).entries
 taken_listed c words kept name date acts (Fits bytes) listed = listed
 taken_listed c words kept name date acts (TooLong need have) listed =
-    listed_by c words kept.entries (steps_of (refused acts kept.entries (why.Full need have)).acts) (steps_of acts) (replied acts _) listed
+    listed_by c words kept.entries (steps_of (line_refused acts kept.entries (why.Full need have)).acts) (steps_of acts) (replied acts _) listed
 taken_listed c words kept name date acts (TooShort promised read) listed = listed
 
 -- .. a restore, which takes no step
-given_listed : (c : Cartridge) (words : List ℕ) (entries : List Entry) (number : ℕ) (e : Entry) (parts : List Act) (ending : restoring.Ending) → steps_of parts ≡ [] →
+given_listed : (c : Cartridge) (words : List ℕ) (entries : List Entry) (number : ℕ) (e : Entry) (parts : List Act) (ending : restoring.GivingEnd) → steps_of parts ≡ [] →
     IsListed c words entries →
     IsListed (changed_by (steps_of (given_as words entries number e parts ending).acts) c) words (given_as words entries number e parts ending).entries
 given_listed c words entries number e parts restoring.Restored none listed =
     listed_by c words entries (steps_of (given_as words entries number e parts restoring.Restored).acts) [] (replied parts _ ∙ none) listed
 given_listed c words entries number e parts (restoring.LostIn segment lost) none listed =
-    listed_by c words entries (steps_of (refused parts entries (why.Lost segment lost)).acts) [] (replied parts _ ∙ none) listed
+    listed_by c words entries (steps_of (line_refused parts entries (why.Lost segment lost)).acts) [] (replied parts _ ∙ none) listed
 given_listed c words entries number e parts (restoring.MismatchIn segment) none listed =
-    listed_by c words entries (steps_of (refused parts entries (why.Mismatch segment)).acts) [] (replied parts _ ∙ none) listed
+    listed_by c words entries (steps_of (line_refused parts entries (why.Mismatch segment)).acts) [] (replied parts _ ∙ none) listed
 
 -- ---- a place
 
@@ -87,15 +87,15 @@ meets_some c words entries listed = by_mark c.info.protected refl
 append_done : (c : Cartridge) (words : List ℕ) (entries : List Entry) (name : List ℕ) (count date : ℕ) (bytes : List ℕ) → IsLabel name → date < 2 ^ 32 → IsListed c words entries →
     (meeting : Meeting) → Meets c meeting → Doing c words entries (line.Append name count date) bytes
 append_done c words entries name count date bytes label word listed (Refuses why.Protected) meets =
-    record { did = refused [] entries why.Protected; does = (Refuses why.Protected, meets, refl); listed = listed }
+    record { did = line_refused [] entries why.Protected; does = (Refuses why.Protected, meets, refl); listed = listed }
 append_done c words entries name count date bytes label word listed (Refuses (why.Lost segment lost)) meets =
-    record { did = refused [] entries (why.Lost segment lost); does = (Refuses (why.Lost segment lost), meets, refl); listed = listed }
+    record { did = line_refused [] entries (why.Lost segment lost); does = (Refuses (why.Lost segment lost), meets, refl); listed = listed }
 append_done c words entries name count date bytes label word listed (Refuses (why.Full need have)) meets = absurd meets
 append_done c words entries name count date bytes label word listed (Refuses (why.NoVolume number have)) meets = absurd meets
 append_done c words entries name count date bytes label word listed (Refuses (why.Mismatch segment)) meets = absurd meets
 append_done c words entries name count date bytes label word listed (Refuses (why.Place segment sector)) meets = absurd meets
 append_done c words entries name count date bytes label word listed (Finds table) meets = record {
-  did = appended c words entries name count date bytes (Finds table);
+  did = append_did c words entries name count date bytes (Finds table);
   does = (Finds table, meets, refl);
   listed = taken_listed c words (kept_over c words entries table) name date (acts_on c words entries name count date bytes (Finds table))
       (taking (room_in (kept_over c words entries table)) (Some count) bytes)
@@ -106,7 +106,7 @@ restore_done : (c : Cartridge) (words : List ℕ) (entries : List Entry) (number
 restore_done c words entries number bytes listed = by_volume (volume_at entries number) refl
   where
     by_volume : (found : Option Entry) → volume_at entries number ≡ found → Doing c words entries (line.Restore number) bytes
-    by_volume None is = record { did = refused [] entries (why.NoVolume number (length entries)); does = inl (is, refl); listed = listed }
+    by_volume None is = record { did = line_refused [] entries (why.NoVolume number (length entries)); does = inl (is, refl); listed = listed }
     by_volume (Some e) is =
         let some = restores_anyway c words (pieces words e) in
         let still = framed_in_no_step c words (pieces words e) some.0 some.1 some.2 in
@@ -120,7 +120,7 @@ scrub_done : (c : Cartridge) (words : List ℕ) (entries : List Entry) (bytes : 
 scrub_done c words entries bytes listed = by_mark c.info.protected refl
   where
     by_mark : (mark : Bool) → c.info.protected ≡ mark → Doing c words entries line.Scrub bytes
-    by_mark true is = record { did = refused [] entries why.Protected; does = inl (is, refl); listed = listed }
+    by_mark true is = record { did = line_refused [] entries why.Protected; does = inl (is, refl); listed = listed }
     by_mark false is =
         let some = scrubs_anyway c words entries in
         record {
@@ -136,7 +136,7 @@ lose_done c words entries segment sector bytes listed = elim (place_or_not c.inf
     does = inr (place, refl);
     listed = wear_listed c words entries segment sector listed;
   }
-  | inr none ↦ record { did = refused [] entries (why.Place segment sector); does = inl (none, refl); listed = listed }
+  | inr none ↦ record { did = line_refused [] entries (why.Place segment sector); does = inl (none, refl); listed = listed }
 ]
 
 -- each line but `end` is carried out
@@ -187,7 +187,7 @@ each_outcome c words entries input listed =
     let reading = each_script input in
     let all = items_done 1 0 c words entries input reading.0 reading.1.0 reading.1.1 listed in
     let last = end_does (cartridge_behind c all.dids) words (entries_behind entries all.dids) (drop (place_behind 1 0 input reading.0 reading.1.0 reading.1.1) input) reading.1.0 all.listed in (
-      record { acts = acts_of all.dids ++ last.0; taken = taken_by input reading.0 reading.1.0 reading.1.1; answer = answer_by reading.1.0 },
+      record { acts = acts_of all.dids ++ last.0; taken = items_taken input reading.0 reading.1.0 reading.1.1; answer = script_answer reading.1.0 },
       record {
         items = reading.0;
         ending = reading.1.0;

@@ -8,7 +8,7 @@ use Rattle.command_laws.proofs.RestoreEndings.{restores_is_function}
 use Rattle.command_laws.proofs.ScrubTurns.{scrubs_is_function}
 use Rattle.command_laws.proofs.StoreAgain.{table_one}
 use Rattle.command_spec.specs.Restore.{framed, pieces, Restores}
-use Rattle.command_spec.specs.Script.{Meeting, Refuses, Finds, Meets, Did, given_as, GivesBack, LineDoes, appended}
+use Rattle.command_spec.specs.Script.{Meeting, Refuses, Finds, Meets, Did, given_as, RestoreDoes, LineDoes, append_did}
 use Rattle.command_spec.specs.declared.line.Line.{Line}
 use Rattle.qic_base.specs.Acts.{Act}
 use Rattle.qic_base.specs.Cartridge.{Cartridge}
@@ -73,10 +73,10 @@ meets_one c (Finds table) n first second = meets_table c n table first.0 first.1
 -- ---- each line does one thing
 
 -- what a restore has done, by its parts
-abbrev pub given : (words : List ℕ) → List Entry → (number : ℕ) → Entry → List Act → restoring.Ending → Did
+abbrev pub given : (words : List ℕ) → List Entry → (number : ℕ) → Entry → List Act → restoring.GivingEnd → Did
 given words entries number e acts ending = given_as words entries number e (framed (pieces words e) acts) ending
 
-gives_one : (c : Cartridge) (words : List ℕ) (entries : List Entry) (number : ℕ) (a b : Did) → GivesBack c words entries number a → GivesBack c words entries number b → b ≡ a
+gives_one : (c : Cartridge) (words : List ℕ) (entries : List Entry) (number : ℕ) (a b : Did) → RestoreDoes c words entries number a → RestoreDoes c words entries number b → b ≡ a
 gives_one c words entries number a b first second =
     let o : Some second.entry ≡ Some first.entry = sym second.numbered ∙ first.numbered in
     let e : second.entry ≡ first.entry = cc in
@@ -85,13 +85,13 @@ gives_one c words entries number a b first second =
     second.is
     ∙ ap (λ (d : Entry). given words entries number d second.acts second.ending) e
     ∙ ap (λ (xs : List Act). given words entries number first.entry xs second.ending) same.0
-    ∙ ap (λ (d : restoring.Ending). given words entries number first.entry first.acts d) same.1
+    ∙ ap (λ (d : restoring.GivingEnd). given words entries number first.entry first.acts d) same.1
     ∙ sym first.is
 
 pub line_one : (c : Cartridge) (words : List ℕ) (entries : List Entry) (asked : Line) (bytes : List ℕ) (a b : Did) → LineDoes c words entries asked bytes a →
     LineDoes c words entries asked bytes b → b ≡ a
 line_one c words entries (line.Append name n date) bytes a b (m, meets, is) (other, again, too) =
-    too ∙ ap (λ (x : Meeting). appended c words entries name n date bytes x) (meets_one c m other meets again) ∙ sym is
+    too ∙ ap (λ (x : Meeting). append_did c words entries name n date bytes x) (meets_one c m other meets again) ∙ sym is
 line_one c words entries line.List bytes a b first second = second ∙ sym first
 line_one c words entries (line.Restore number) bytes a b (inl (none, is)) (inl (again, too)) = too ∙ sym is
 line_one c words entries (line.Restore number) bytes a b (inl (none, is)) (inr some) = let e : None ≡ Some some.entry = sym none ∙ some.numbered in absurd (cc)

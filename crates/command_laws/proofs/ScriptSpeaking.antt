@@ -10,7 +10,7 @@ use Rattle.command_spec.specs.Append.{Kept, Taking, Fits, TooLong, TooShort, app
 use Rattle.command_spec.specs.Input.{promised, Item, IsItem, Ending, HasItems}
 use Rattle.command_spec.specs.Lines.{number_line, place_line, appended_line, list_text, count_line, volume_lines, reply_behind}
 use Rattle.command_spec.specs.Restore.{Restored, LostIn, MismatchIn}
-use Rattle.command_spec.specs.Script.{no_volume_line, refusal_line, refused, reply, given_as, taken_as, Did, LineDoes, Meeting, Finds, Refuses, appended, ItemsDo, ScriptRun, ScriptDoes}
+use Rattle.command_spec.specs.Script.{no_volume_line, refusal_line, line_refused, reply, given_as, taken_as, Did, LineDoes, Meeting, Finds, Refuses, append_did, ItemsDo, ScriptRun, ScriptDoes}
 use Rattle.command_spec.specs.Scrub.{Counts, counts_line, counts_of, last_act, looked_at, looking_acts}
 use Rattle.command_spec.specs.declared.line.Line.{Line}
 use Rattle.command_spec.specs.declared.refusal.Refusal.{Refusal}
@@ -109,10 +109,10 @@ refusal_some (why.Place segment sector) = place_some (codes "refused place") seg
 speaks_so : (acts : List Act) (last : Act) → 0 < length last.text → Speaks (acts ++ last ∷ [])
 speaks_so acts last some = record { front = acts; last = last; parts = refl; some = some }
 
-refused_speaks : (acts : List Act) (entries : List Entry) (w : Refusal) → Speaks (refused acts entries w).acts
+refused_speaks : (acts : List Act) (entries : List Entry) (w : Refusal) → Speaks (line_refused acts entries w).acts
 refused_speaks acts entries w = speaks_so acts (reply (refusal_line w)) (refusal_some w)
 
-given_speaks : (words : List ℕ) (entries : List Entry) (number : ℕ) (e : Entry) (parts : List Act) (ending : restoring.Ending) → Speaks (given_as words entries number e parts ending).acts
+given_speaks : (words : List ℕ) (entries : List Entry) (number : ℕ) (e : Entry) (parts : List Act) (ending : restoring.GivingEnd) → Speaks (given_as words entries number e parts ending).acts
 given_speaks words entries number e parts Restored = speaks_so parts (reply _) (place_some (codes "restored") number _)
 given_speaks words entries number e parts (LostIn segment lost) = refused_speaks parts entries (why.Lost segment lost)
 given_speaks words entries number e parts (MismatchIn segment) = refused_speaks parts entries (why.Mismatch segment)
@@ -148,7 +148,7 @@ pub speaks_line : (c : Cartridge) (words : List ℕ) (entries : List Entry) (ask
 speaks_line c words entries (line.Append name promised date) bytes did long (m, meets, is) =
     subst (λ (d : Did). Speaks d.acts) (sym is) (by_meeting m)
   where
-    by_meeting : (m : Meeting) → Speaks (appended c words entries name promised date bytes m).acts
+    by_meeting : (m : Meeting) → Speaks (append_did c words entries name promised date bytes m).acts
     by_meeting (Refuses w) = refused_speaks [] entries w
     by_meeting (Finds table) = appended_speaks (kept_over c words entries table) name promised date bytes long
 speaks_line c words entries line.List bytes did long is =

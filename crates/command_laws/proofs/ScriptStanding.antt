@@ -34,7 +34,7 @@ use Rattle.command_spec.specs.Append.{Kept, Taking, Fits, TooLong, TooShort, app
 use Rattle.command_spec.specs.Input.{IsLine, IsLined, promised, Item, IsItem, Ending, HasItems}
 use Rattle.command_spec.specs.Lines.{reply_behind, lost_line}
 use Rattle.command_spec.specs.Restore.{Restored, LostIn, MismatchIn, framed, pieces}
-use Rattle.command_spec.specs.Script.{Did, Meeting, Finds, Meets, Refuses, appended, refused, taken_as, given_as, GivesBack, LineDoes, ItemDoes, ItemsDo, entries_behind, acts_on}
+use Rattle.command_spec.specs.Script.{Did, Meeting, Finds, Meets, Refuses, append_did, line_refused, taken_as, given_as, RestoreDoes, LineDoes, ItemDoes, ItemsDo, entries_behind, acts_on}
 use Rattle.command_spec.specs.ScriptLists.{plain_after, plain_with, LineSpares}
 use Rattle.command_spec.specs.Scrub.{Scrubs}
 use Rattle.command_spec.specs.declared.line.Line.{Line}
@@ -163,7 +163,7 @@ module _ (c : Cartridge) (plain : Plain) (name : List ℕ) (date : ℕ) (bytes :
       taken_as (kept_at table last) name date (append_acts (kept_at table last) name date (Some n) replies bytes) (taking (room_in (kept_at table last)) (Some n) bytes)
 
   same_doing : (table : List (List ℕ)) (n : ℕ) → table ≡ plain.table_area → size ≡ n →
-      appended c plain.words (entries_of plain) name n date bytes (Finds table) ≡ does_by plain.table_area (last_segment c) size
+      append_did c plain.words (entries_of plain) name n date bytes (Finds table) ≡ does_by plain.table_area (last_segment c) size
   same_doing table n area long =
       ap (λ (t : List (List ℕ)). does_by t (length plain.words - 1) n) area
       ∙ ap (λ (last : ℕ). does_by plain.table_area last n) held.last
@@ -181,7 +181,7 @@ module _ (c : Cartridge) (plain : Plain) (name : List ℕ) (date : ℕ) (bytes :
     fits_doing = ap (λ (became : Taking). taken_as kept_now name date its_acts became) fits_taking
 
     fits_steps : IsOpen c plain →
-        steps_of its_acts ≡ settling_steps plain.table_area c ++ appends.steps_of (settled plain.table_area c) plain name date bytes
+        steps_of its_acts ≡ settling_steps plain.table_area c ++ appends.append_steps_of (settled plain.table_area c) plain name date bytes
     fits_steps ready =
         sym (replied_steps kept_now name date size bytes bytes fits_taking replies)
         ∙ ap (λ (rest : List Step). settling_steps plain.table_area c ++ rest)
@@ -201,7 +201,7 @@ module _ (c : Cartridge) (plain : Plain) (name : List ℕ) (date : ℕ) (bytes :
         let item : Item = record { line = line.Append name n date; bytes = bytes } in
         let list : did.entries ≡ entries_of plain ++ entry_for kept_now name date bytes ∷ [] = ap (λ (d : Did). d.entries) is in
         let more : plain_after plain item did ≡ with_bytes plain name date bytes = more_after plain item did (entry_for kept_now name date bytes) list in
-        let steps : steps_of did.acts ≡ settling_steps plain.table_area c ++ appends.steps_of (settled plain.table_area c) plain name date bytes =
+        let steps : steps_of did.acts ≡ settling_steps plain.table_area c ++ appends.append_steps_of (settled plain.table_area c) plain name date bytes =
         ap (λ (d : Did). steps_of d.acts) is ∙ fits_steps ready in
         let kept : IsTableLive c → IsKept c plain = live_kept c plain ready in
         record {
@@ -219,14 +219,14 @@ module _ (c : Cartridge) (plain : Plain) (name : List ℕ) (date : ℕ) (bytes :
 
   -- where there is none, the table is settled alone
   module _ (small : has_room plain.words (entries_of plain) (last_segment c) size ≡ false) where
-    full_doing : does_by plain.table_area (last_segment c) size ≡ refused its_acts (entries_of plain) (why.Full size (room_in kept_now))
+    full_doing : does_by plain.table_area (last_segment c) size ≡ line_refused its_acts (entries_of plain) (why.Full size (room_in kept_now))
     full_doing = ap (λ (became : Taking). taken_as kept_now name date its_acts became) (full_taking kept_now name date size small bytes)
 
-    full_stills : (did : Did) → IsOpen c plain → did ≡ refused its_acts (entries_of plain) (why.Full size (room_in kept_now)) → Stills c plain did
+    full_stills : (did : Did) → IsOpen c plain → did ≡ line_refused its_acts (entries_of plain) (why.Full size (room_in kept_now)) → Stills c plain did
     full_stills did ready is =
         let steps : steps_of did.acts ≡ settling_steps plain.table_area c =
         ap (λ (d : Did). steps_of d.acts) is
-        ∙ ap (λ (xs : List Act). steps_of (refused xs (entries_of plain) (why.Full size (room_in kept_now))).acts) (full_acts kept_now name date size small replies bytes)
+        ∙ ap (λ (xs : List Act). steps_of (line_refused xs (entries_of plain) (why.Full size (room_in kept_now))).acts) (full_acts kept_now name date size small replies bytes)
         ∙ append-nil (settling_steps plain.table_area c) in
         record {
           done = subst (λ (ss : List Step). IsHeld (changed_by ss c) plain) (sym steps) (settled_held c plain ready);
@@ -235,7 +235,7 @@ module _ (c : Cartridge) (plain : Plain) (name : List ℕ) (date : ℕ) (bytes :
           stopped = λ left torn. stopped_stands c plain plain.table_area left ready.stands ready.table (subst (λ (ss : List Step). Torn ss (Some c) left) steps torn);
         }
 
-  pub append_leaves : (n : ℕ) (did : Did) → IsAppendable name date bytes → size ≡ n → (m : Meeting) → Meets c m → did ≡ appended c plain.words (entries_of plain) name n date bytes m →
+  pub append_leaves : (n : ℕ) (did : Did) → IsAppendable name date bytes → size ≡ n → (m : Meeting) → Meets c m → did ≡ append_did c plain.words (entries_of plain) name n date bytes m →
       ItemLeaves c plain (record { line = line.Append name n date; bytes = bytes }) did
   append_leaves n did may long (Refuses w) meets is =
       leaves_still c plain (record { line = line.Append name n date; bytes = bytes }) did
@@ -250,18 +250,18 @@ module _ (c : Cartridge) (plain : Plain) (name : List ℕ) (date : ℕ) (bytes :
 
 -- ---- the other lines
 
-pub given_entries : (words : List ℕ) (entries : List Entry) (number : ℕ) (e : Entry) (parts : List Act) (ending : restoring.Ending) → (given_as words entries number e parts ending).entries ≡ entries
+pub given_entries : (words : List ℕ) (entries : List Entry) (number : ℕ) (e : Entry) (parts : List Act) (ending : restoring.GivingEnd) → (given_as words entries number e parts ending).entries ≡ entries
 given_entries words entries number e parts Restored = refl
 given_entries words entries number e parts (LostIn segment lost) = refl
 given_entries words entries number e parts (MismatchIn segment) = refl
 
 -- a reply takes no step
-pub given_steps : (words : List ℕ) (entries : List Entry) (number : ℕ) (e : Entry) (parts : List Act) (ending : restoring.Ending) → steps_of parts ≡ [] → steps_of (given_as words entries number e parts ending).acts ≡ []
+pub given_steps : (words : List ℕ) (entries : List Entry) (number : ℕ) (e : Entry) (parts : List Act) (ending : restoring.GivingEnd) → steps_of parts ≡ [] → steps_of (given_as words entries number e parts ending).acts ≡ []
 given_steps words entries number e parts Restored none = steps_of-append parts _ ∙ append-nil (steps_of parts) ∙ none
 given_steps words entries number e parts (LostIn segment lost) none = steps_of-append parts _ ∙ append-nil (steps_of parts) ∙ none
 given_steps words entries number e parts (MismatchIn segment) none = steps_of-append parts _ ∙ append-nil (steps_of parts) ∙ none
 
-gives_stills : (c : Cartridge) (plain : Plain) (number : ℕ) (did : Did) → IsHeld c plain → GivesBack c plain.words (entries_of plain) number did → Stills c plain did
+gives_stills : (c : Cartridge) (plain : Plain) (number : ℕ) (did : Did) → IsHeld c plain → RestoreDoes c plain.words (entries_of plain) number did → Stills c plain did
 gives_stills c plain number did held gives =
     let parts : List Act = framed (pieces plain.words gives.entry) gives.acts in
     no_steps c plain did held

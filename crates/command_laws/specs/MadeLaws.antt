@@ -8,7 +8,7 @@ use Rattle.cartridge_spec.specs.Volumes.{Plain, Stands, entries_of}
 use Rattle.command_laws.specs.MountedKept.{IsKept, IsOpen}
 use Rattle.command_laws.specs.MountedListed.{IsListed}
 use Rattle.command_spec.specs.MadeVolumes.{with_made, HaveRoom, LoseFewBehind}
-use Rattle.command_spec.specs.Make.{Answer, Makes, Item, after_items, Done, Does, Runs, made_list}
+use Rattle.command_spec.specs.Make.{Answer, Makes, MakeStep, after_items, Done, StepDoes, Runs, made_list}
 use Rattle.qic_base.specs.Acts.{Act, steps_of, text_of, next_steps}
 use Rattle.qic_base.specs.Cartridge.{Cartridge}
 use Rattle.qic_base.specs.Stop.{Torn}
@@ -28,22 +28,22 @@ MakesSomething =
     (acts : List Act) × (answer : Answer) × Makes seed count c words entries acts answer
 
 -- a stop inside one of the steps, with all of those before it carried out
-pub record StopsInStep (seed : ℕ) (c : Cartridge) (words : List ℕ) (entries : List Entry) (items : List Item) (left : Option Cartridge) : Type 0 where
-  pub front : List Item
-  pub item : Item
-  pub rest : List Item
+pub record StopsInStep (seed : ℕ) (c : Cartridge) (words : List ℕ) (entries : List Entry) (items : List MakeStep) (left : Option Cartridge) : Type 0 where
+  pub front : List MakeStep
+  pub item : MakeStep
+  pub rest : List MakeStep
   pub parts : front ++ item ∷ rest ≡ items
   pub done : List Act
   pub ran : Runs seed c words entries front done Done
   pub acts : List Act
   pub answer : Answer
-  pub does : Does seed (changed_by (steps_of done) c) words (after_items seed words entries front) item acts answer
+  pub does : StepDoes seed (changed_by (steps_of done) c) words (after_items seed words entries front) item acts answer
   pub torn : Torn (steps_of acts) (Some (changed_by (steps_of done) c)) left
 
 -- a stop among all acts of some steps is one inside a step; where there is no step, nothing was changed
 abbrev pub StopsAreInSteps : Type 0
 StopsAreInSteps =
-    (seed : ℕ) (c : Cartridge) (words : List ℕ) (entries : List Entry) (items : List Item) (acts : List Act) (answer : Answer)
+    (seed : ℕ) (c : Cartridge) (words : List ℕ) (entries : List Entry) (items : List MakeStep) (acts : List Act) (answer : Answer)
     (left : Option Cartridge) → Runs seed c words entries items acts answer → Torn (steps_of acts) (Some c) left →
     ((items ≡ []) × (left ≡ Some c)) ⊎ StopsInStep seed c words entries items left
 

@@ -39,7 +39,7 @@ pub record IsAppendable (name : List ℕ) (date : ℕ) (bytes : List ℕ) : Type
 
 -- the steps that settle the table, and those that append the bytes behind them
 abbrev pub settle_and_append : Cartridge → Plain → (name : List ℕ) → (date : ℕ) → (bytes : List ℕ) → List Step
-settle_and_append c plain name date bytes = settling_steps plain.table_area c ++ appends.steps_of (settled plain.table_area c) plain name date bytes
+settle_and_append c plain name date bytes = settling_steps plain.table_area c ++ appends.append_steps_of (settled plain.table_area c) plain name date bytes
 
 -- all of them done, the plain cartridge with the volume stands, and may be appended to again; a stop in them leaves that, or
 -- what stood

@@ -12,7 +12,7 @@ use Rattle.cartridge_spec.specs.Table.{Entry, Shows}
 use Rattle.cartridge_spec.specs.Wear.{worn}
 use Rattle.command_laws.specs.StoreMounting.{HasList}
 use Rattle.command_spec.specs.Append.{Kept, Taking, Fits, TooLong, TooShort, entry_for, append_acts, room_in, taking, kept_over}
-use Rattle.command_spec.specs.Restore.{Ending, Piece, Restores}
+use Rattle.command_spec.specs.Restore.{GivingEnd, Piece, Restores}
 use Rattle.command_spec.specs.Scrub.{Scrubs}
 use Rattle.qic_base.specs.Acts.{steps_of, Act}
 use Rattle.qic_base.specs.Cartridge.{Cartridge, IsLength, IsCartridge}
@@ -81,7 +81,7 @@ ScrubListed =
 abbrev pub RestoresAnyway : Type 0
 RestoresAnyway =
     (c : Cartridge) (words : List ℕ) (needed : List Piece) →
-    (acts : List Act) × (ending : Ending) × Restores c words needed acts ending
+    (acts : List Act) × (ending : GivingEnd) × Restores c words needed acts ending
 
 -- .. and a scrub does something
 abbrev pub ScrubsAnyway : Type 0

@@ -2,7 +2,7 @@
 use Rattle.std.specs.Prelude.{ℕ, List, length, ◌≡◌, Bool, [], ◌≤◌, take}
 use Rattle.cartridge_spec.specs.Volumes.{carrying}
 use Rattle.command_laws.specs.OutputText.{AreOf, printed}
-use Rattle.command_spec.specs.Restore.{Piece, pieces_of, Ending, Restores, EndsAt, bytes_held}
+use Rattle.command_spec.specs.Restore.{Piece, pieces_of, GivingEnd, Restores, EndsAt, bytes_held}
 use Rattle.qic_base.specs.Acts.{Act, steps_of, text_of}
 use Rattle.qic_base.specs.Cartridge.{Cartridge}
 
@@ -13,7 +13,7 @@ pieces_between words start end bytes = pieces_of words (carrying words start end
 -- what is said of the acts over any tape follows where the tape tells that they are those of a restore
 abbrev pub RestoredAreOf : Type 0
 RestoredAreOf =
-    (c : Cartridge) (words : List ℕ) (start end bytes : ℕ) (acts : List Act) (ending : Ending) →
+    (c : Cartridge) (words : List ℕ) (start end bytes : ℕ) (acts : List Act) (ending : GivingEnd) →
     Restores c words (pieces_between words start end bytes) acts ending →
     AreOf (pieces_between words start end bytes) acts × EndsAt (pieces_between words start end bytes) (length acts) ending
 

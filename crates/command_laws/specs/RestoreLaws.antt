@@ -6,7 +6,7 @@ use Rattle.cartridge_spec.specs.Says.{unreadable_count}
 use Rattle.cartridge_spec.specs.Settling.{changed_by}
 use Rattle.cartridge_spec.specs.Table.{Entry}
 use Rattle.cartridge_spec.specs.Volumes.{volume_length, Plain, Volume, Stands}
-use Rattle.command_spec.specs.Restore.{Piece, Ending, Restores, framed, pieces, bytes_held, Restored, LosesFew, pieces_in, FirstLost, LostIn, piece_cells, MismatchIn}
+use Rattle.command_spec.specs.Restore.{Piece, GivingEnd, Restores, framed, pieces, bytes_held, Restored, LosesFew, pieces_in, FirstLost, LostIn, piece_cells, MismatchIn}
 use Rattle.qic_base.specs.Acts.{Act, steps_of, text_of}
 use Rattle.qic_base.specs.Cartridge.{Cartridge, IsCartridge}
 use Rattle.cartridge_laws.specs.AppendLaws as appends
@@ -16,25 +16,25 @@ use Rattle.cartridge_laws.specs.AppendLaws as appends
 -- it gives at most one thing
 abbrev pub RestoresIsFunction : Type 0
 RestoresIsFunction =
-    (c : Cartridge) (words : List ℕ) (needed : List Piece) (xs ys : List Act) (x y : Ending) →
+    (c : Cartridge) (words : List ℕ) (needed : List Piece) (xs ys : List Act) (x y : GivingEnd) →
     Restores c words needed xs x → Restores c words needed ys y → (xs ≡ ys) × (x ≡ y)
 
 -- and it gives something
 abbrev pub RestoresAlways : Type 0
 RestoresAlways =
     (c : Cartridge) (words : List ℕ) (needed : List Piece) → IsCartridge c →
-    (acts : List Act) × (ending : Ending) × Restores c words needed acts ending
+    (acts : List Act) × (ending : GivingEnd) × Restores c words needed acts ending
 
 -- it takes no step of the tape
 abbrev pub RestoresInNoStep : Type 0
 RestoresInNoStep =
-    (c : Cartridge) (words : List ℕ) (needed : List Piece) (acts : List Act) (ending : Ending) →
+    (c : Cartridge) (words : List ℕ) (needed : List Piece) (acts : List Act) (ending : GivingEnd) →
     Restores c words needed acts ending → steps_of acts ≡ []
 
 -- nor does its framed form, which has an act for each of its acts
 abbrev pub FramedInNoStep : Type 0
 FramedInNoStep =
-    (c : Cartridge) (words : List ℕ) (needed : List Piece) (acts : List Act) (ending : Ending) →
+    (c : Cartridge) (words : List ℕ) (needed : List Piece) (acts : List Act) (ending : GivingEnd) →
     Restores c words needed acts ending →
     (steps_of (framed needed acts) ≡ []) × (length (framed needed acts) ≡ length acts)
 
@@ -49,7 +49,7 @@ PiecesHoldAll =
 -- the text has the bytes of the pieces that were read
 abbrev pub TextHoldsPieces : Type 0
 TextHoldsPieces =
-    (c : Cartridge) (words : List ℕ) (e : Entry) (acts : List Act) (ending : Ending) →
+    (c : Cartridge) (words : List ℕ) (e : Entry) (acts : List Act) (ending : GivingEnd) →
     Restores c words (pieces words e) acts ending →
     length (text_of acts) ≡ bytes_held (take (length acts) (pieces words e))
 
@@ -75,7 +75,7 @@ VolumeIsLong =
 -- a restore gives just these bytes where no segment that holds some of them has more than three unreadable sectors
 abbrev pub RestoresByteForByte : Type 0
 RestoresByteForByte =
-    (c : Cartridge) (plain : Plain) (volume : Volume) (acts : List Act) (ending : Ending) → HasVolume c plain volume →
+    (c : Cartridge) (plain : Plain) (volume : Volume) (acts : List Act) (ending : GivingEnd) → HasVolume c plain volume →
     All (LosesFew c plain.words) (pieces_in plain volume) → Restores c plain.words (pieces_in plain volume) acts ending →
     (ending ≡ Restored) × (text_of acts ≡ volume_bytes plain.words volume)
 
@@ -85,7 +85,7 @@ FewOrFirstLost =
     (c : Cartridge) (words : List ℕ) (needed : List Piece) → All (LosesFew c words) needed ⊎ FirstLost c words needed
 
 -- a restore ends there with that number, and gives the bytes of the pieces before it: the first ones of the volume
-pub record GivesFront (c : Cartridge) (plain : Plain) (volume : Volume) (first : FirstLost c plain.words (pieces_in plain volume)) (acts : List Act) (ending : Ending) : Type 0 where
+pub record GivesFront (c : Cartridge) (plain : Plain) (volume : Volume) (first : FirstLost c plain.words (pieces_in plain volume)) (acts : List Act) (ending : GivingEnd) : Type 0 where
   pub ends : ending ≡ LostIn first.piece.segment (unreadable_count (piece_cells c plain.words first.piece))
   pub text : text_of acts ≡ take (bytes_held first.front) (volume_bytes plain.words volume)
   pub count : length (text_of acts) ≡ bytes_held first.front
@@ -93,7 +93,7 @@ pub record GivesFront (c : Cartridge) (plain : Plain) (volume : Volume) (first :
 abbrev pub RestoresFront : Type 0
 RestoresFront =
     (c : Cartridge) (plain : Plain) (volume : Volume) (first : FirstLost c plain.words (pieces_in plain volume))
-    (acts : List Act) (ending : Ending) → HasVolume c plain volume →
+    (acts : List Act) (ending : GivingEnd) → HasVolume c plain volume →
     Restores c plain.words (pieces_in plain volume) acts ending → GivesFront c plain volume first acts ending
 
 -- it never ends with a mismatch
@@ -106,7 +106,7 @@ NeverMismatch =
 abbrev pub StandingRestores : Type 0
 StandingRestores =
     (c : Cartridge) (plain : Plain) (volume : Volume) → HasVolume c plain volume →
-    (acts : List Act) × (ending : Ending) × Restores c plain.words (pieces_in plain volume) acts ending
+    (acts : List Act) × (ending : GivingEnd) × Restores c plain.words (pieces_in plain volume) acts ending
 
 -- ---- over a cartridge to which the volume was appended
 
@@ -115,14 +115,14 @@ abbrev pub AppendedIsAmong : Type 0
 AppendedIsAmong =
     (c : Cartridge) (plain : Plain) (name : List ℕ) (date : ℕ) (bytes : List ℕ) → MayAppendTo c plain name date bytes →
     IsSettledFor c plain.table_area →
-    HasVolume (changed_by (appends.steps_of c plain name date bytes) c) (new_plain c plain name date bytes) (volume_of c plain name date bytes)
+    HasVolume (changed_by (appends.append_steps_of c plain name date bytes) c) (new_plain c plain name date bytes) (volume_of c plain name date bytes)
 
 -- as long as it is, on the same map, and each of its segments has at most three unreadable sectors, a restore gives just the
 -- bytes that were appended
 abbrev pub AppendedIsRestored : Type 0
 AppendedIsRestored =
     (c : Cartridge) (plain : Plain) (name : List ℕ) (date : ℕ) (bytes : List ℕ) → MayAppendTo c plain name date bytes →
-    (later : Cartridge) (stood : Plain) (acts : List Act) (ending : Ending) → stood.words ≡ plain.words →
+    (later : Cartridge) (stood : Plain) (acts : List Act) (ending : GivingEnd) → stood.words ≡ plain.words →
     HasVolume later stood (volume_of c plain name date bytes) →
     All (LosesFew later stood.words) (pieces_in stood (volume_of c plain name date bytes)) →
     Restores later stood.words (pieces_in stood (volume_of c plain name date bytes)) acts ending →

@@ -5,7 +5,7 @@ use Rattle.cartridge_spec.specs.Settling.{changed_by}
 use Rattle.cartridge_spec.specs.Table.{Entry}
 use Rattle.cartridge_spec.specs.Volumes.{Plain, Volume, entries_of}
 use Rattle.command_spec.specs.Generator.{made_bytes}
-use Rattle.command_spec.specs.Make.{made_name, made_list, Done, made_answer, Item, ScrubAll, appending, wearing_volumes, Runs}
+use Rattle.command_spec.specs.Make.{made_name, made_list, Done, made_answer, MakeStep, ScrubAll, appending, wearing_volumes, Runs}
 use Rattle.command_spec.specs.Restore.{LosesFew, pieces, volume_at}
 use Rattle.qic_base.specs.Acts.{Act, steps_of}
 use Rattle.qic_base.specs.Cartridge.{Cartridge}
@@ -29,7 +29,7 @@ HaveRoom seed count plain =
     (n : ℕ) → n < count → made_answer seed plain.words (made_list seed n plain.words (entries_of plain)) (1 + n) ≡ Done
 
 -- the steps in front of the sums: the appends, the worn sectors and the scrub
-abbrev pub before_sums : (seed count : ℕ) → Plain → List Item
+abbrev pub before_sums : (seed count : ℕ) → Plain → List MakeStep
 before_sums seed count plain =
     appending 1 count
     ++ (wearing_volumes plain.words (drop (length (entries_of plain)) (made_list seed count plain.words (entries_of plain))) ++ ScrubAll ∷ [])

@@ -10,7 +10,7 @@ use Rattle.cartridge_spec.specs.Volumes.{carrying_segments, volume_length}
 use Rattle.command_spec.specs.Append.{kept_in, entry_for, Kept, append_acts, silently, room_in, has_promised_room, kept_over}
 use Rattle.command_spec.specs.Generator.{made_bytes, made_length}
 use Rattle.command_spec.specs.Outcome.{settling_act, CommandOutcome, Going, WritableOutcome}
-use Rattle.command_spec.specs.Restore.{Ending, Restored, LostIn, MismatchIn, Restores, pieces, volume_at, EndsAt}
+use Rattle.command_spec.specs.Restore.{GivingEnd, Restored, LostIn, MismatchIn, Restores, pieces, volume_at, EndsAt}
 use Rattle.command_spec.specs.Scrub.{Scrubs, Counts, looked_at, IsScrubText}
 use Rattle.command_spec.specs.declared.status.Status.{Status}
 use Rattle.qic_base.specs.Acts.{Act, text_of, steps_of}
@@ -21,11 +21,11 @@ use Rattle.command_spec.specs.declared.status.Status.TheVariants as status
 
 -- A step of a run: the made volume with this number is appended; a sector is worn; all is scrubbed; the volume with this
 -- number in the list is restored, and summed.
-pub data Item : Type 0 where
-  AppendMade : (volume : ℕ) → Item
-  WearSector : (segment sector : ℕ) → Item
-  ScrubAll : Item
-  SumVolume : (number : ℕ) → Item
+pub data MakeStep : Type 0 where
+  AppendMade : (volume : ℕ) → MakeStep
+  WearSector : (segment sector : ℕ) → MakeStep
+  ScrubAll : MakeStep
+  SumVolume : (number : ℕ) → MakeStep
 
 -- ---- the volumes
 
@@ -38,26 +38,26 @@ abbrev pub made_entry : (seed : ℕ) → (words : List ℕ) → List Entry → (
 made_entry seed words entries volume = entry_for (kept_in words entries) (made_name volume) 0 (made_bytes seed volume)
 
 -- the volumes behind a step that was carried out
-abbrev pub after_item : (seed : ℕ) → (words : List ℕ) → List Entry → Item → List Entry
+abbrev pub after_item : (seed : ℕ) → (words : List ℕ) → List Entry → MakeStep → List Entry
 after_item seed words entries (AppendMade volume) = entries ++ made_entry seed words entries volume ∷ []
 after_item seed words entries (WearSector segment sector) = entries
 after_item seed words entries ScrubAll = entries
 after_item seed words entries (SumVolume number) = entries
 
 -- and behind several, one after the other
-abbrev pub after_items : (seed : ℕ) → (words : List ℕ) → List Entry → List Item → List Entry
+abbrev pub after_items : (seed : ℕ) → (words : List ℕ) → List Entry → List MakeStep → List Entry
 after_items seed words entries [] = entries
 after_items seed words entries (item ∷ items) = after_items seed words (after_item seed words entries item) items
 
 -- ---- the steps
 
 -- so many made volumes are appended, from this one on
-abbrev pub appending : (volume count : ℕ) → List Item
+abbrev pub appending : (volume count : ℕ) → List MakeStep
 appending volume zero = []
 appending volume (suc count) = AppendMade volume ∷ appending (volume + 1) count
 
 -- these sectors of a segment are worn
-abbrev pub wearing : (segment : ℕ) → (sectors : List ℕ) → List Item
+abbrev pub wearing : (segment : ℕ) → (sectors : List ℕ) → List MakeStep
 wearing segment [] = []
 wearing segment (sector ∷ sectors) = WearSector segment sector ∷ wearing segment sectors
 
@@ -66,17 +66,17 @@ abbrev pub first_two : (words : List ℕ) → (segment : ℕ) → List ℕ
 first_two words segment = take 2 (usable_places (mask_at words segment))
 
 -- they are worn in each of these segments whose number is a multiple of 100
-abbrev pub wearing_in : (words segments : List ℕ) → List Item
+abbrev pub wearing_in : (words segments : List ℕ) → List MakeStep
 wearing_in words [] = []
 wearing_in words (s ∷ ss) = (if s % 100 == 0 then wearing s (first_two words s) else []) ++ wearing_in words ss
 
 -- .. and so in the carrying segments of these volumes
-abbrev pub wearing_volumes : (words : List ℕ) → List Entry → List Item
+abbrev pub wearing_volumes : (words : List ℕ) → List Entry → List MakeStep
 wearing_volumes words [] = []
 wearing_volumes words (e ∷ es) = wearing_in words (carrying_segments words e) ++ wearing_volumes words es
 
 -- so many volumes are restored and summed, from this number on
-abbrev pub summing : (number count : ℕ) → List Item
+abbrev pub summing : (number count : ℕ) → List MakeStep
 summing number zero = []
 summing number (suc count) = SumVolume number ∷ summing (number + 1) count
 
@@ -85,7 +85,7 @@ abbrev pub made_list : (seed count : ℕ) → (words : List ℕ) → List Entry 
 made_list seed count words entries = after_items seed words entries (appending 1 count)
 
 -- all steps of a run
-abbrev pub making : (seed count : ℕ) → (words : List ℕ) → List Entry → List Item
+abbrev pub making : (seed count : ℕ) → (words : List ℕ) → List Entry → List MakeStep
 making seed count words entries =
     appending 1 count
     ++ (wearing_volumes words (drop (length entries) (made_list seed count words entries)) ++ ScrubAll ∷ summing (length entries + 1) count)
@@ -153,12 +153,12 @@ sum_line number bytes total =
     codes "volume " ++ decimal number ++ codes " " ++ decimal bytes ++ codes " " ++ decimal total ++ codes "\n"
 
 -- the line of a volume of which these are the bytes, once all of them were read; nothing of them is printed
-abbrev pub sum_acts : (number bytes : ℕ) → (given : List ℕ) → Ending → List Act
+abbrev pub sum_acts : (number bytes : ℕ) → (given : List ℕ) → GivingEnd → List Act
 sum_acts number bytes given Restored = record { steps = []; text = sum_line number bytes (sum given % 2 ^ 32) } ∷ []
 sum_acts number bytes given (LostIn segment lost) = []
 sum_acts number bytes given (MismatchIn segment) = []
 
-abbrev pub ending_answer : Ending → Answer
+abbrev pub ending_answer : GivingEnd → Answer
 ending_answer Restored = Done
 ending_answer (LostIn segment lost) = Lost segment lost
 ending_answer (MismatchIn segment) = Mismatch segment
@@ -167,7 +167,7 @@ pub record IsSummed (c : Cartridge) (words : List ℕ) (entries : List Entry) (n
   pub entry : Entry
   pub numbered : volume_at entries number ≡ Some entry
   pub given : List Act
-  pub ending : Ending
+  pub ending : GivingEnd
   pub restores : Restores c words (pieces words entry) given ending
   pub does : acts ≡ sum_acts number (volume_length words entry) (text_of given) ending
   pub answered : answer ≡ ending_answer ending
@@ -175,22 +175,22 @@ pub record IsSummed (c : Cartridge) (words : List ℕ) (entries : List Entry) (n
 -- ---- one step, and a run
 
 -- what a step does on a cartridge with this map and these volumes, and how it is answered
-abbrev pub Does : (seed : ℕ) → Cartridge → (words : List ℕ) → List Entry → Item → List Act → Answer → Type 0
-Does seed c words entries (AppendMade volume) acts answer =
+abbrev pub StepDoes : (seed : ℕ) → Cartridge → (words : List ℕ) → List Entry → MakeStep → List Act → Answer → Type 0
+StepDoes seed c words entries (AppendMade volume) acts answer =
     IsRefused c acts answer
     ⊎ ((c.info.protected ≡ false) × (IsAppended seed c words entries volume acts answer ⊎ IsTableLost c acts answer))
-Does seed c words entries (WearSector segment sector) acts answer = IsWorn segment sector acts answer
-Does seed c words entries ScrubAll acts answer =
+StepDoes seed c words entries (WearSector segment sector) acts answer = IsWorn segment sector acts answer
+StepDoes seed c words entries ScrubAll acts answer =
     IsRefused c acts answer ⊎ ((c.info.protected ≡ false) × IsScrubbed c words entries acts answer)
-Does seed c words entries (SumVolume number) acts answer = IsSummed c words entries number acts answer
+StepDoes seed c words entries (SumVolume number) acts answer = IsSummed c words entries number acts answer
 
 -- Steps, one after the other, each on the cartridge that the ones before it leave. The first refusal ends them, and is the
 -- answer.
-abbrev pub Runs : (seed : ℕ) → Cartridge → (words : List ℕ) → List Entry → List Item → List Act → Answer → Type 0
+abbrev pub Runs : (seed : ℕ) → Cartridge → (words : List ℕ) → List Entry → List MakeStep → List Act → Answer → Type 0
 Runs seed c words entries [] acts answer = (acts ≡ []) × (answer ≡ Done)
 Runs seed c words entries (item ∷ items) acts answer =
-    ((answer ≢ Done) × Does seed c words entries item acts answer)
-    ⊎ ((first : List Act) × (rest : List Act) × (first ++ rest ≡ acts) × Does seed c words entries item first Done
+    ((answer ≢ Done) × StepDoes seed c words entries item acts answer)
+    ⊎ ((first : List Act) × (rest : List Act) × (first ++ rest ≡ acts) × StepDoes seed c words entries item first Done
     × Runs seed (changed_by (steps_of first) c) words (after_item seed words entries item) items rest answer)
 
 -- the plain machine over a mounted cartridge with this map and these volumes
@@ -218,7 +218,7 @@ MaySum words number e text (Lost segment lost) = (text ≡ []) × ((read : ℕ) 
 MaySum words number e text (Mismatch segment) = (text ≡ []) × ((read : ℕ) × EndsAt (pieces words e) read (MismatchIn segment))
 MaySum words number e text answer = ⊥
 
-abbrev pub MayDo : (seed : ℕ) → (words : List ℕ) → List Entry → Item → (text : List ℕ) → Answer → Type 0
+abbrev pub MayDo : (seed : ℕ) → (words : List ℕ) → List Entry → MakeStep → (text : List ℕ) → Answer → Type 0
 MayDo seed words entries (AppendMade volume) text answer = (text ≡ []) × MayAppend seed words entries volume answer
 MayDo seed words entries (WearSector segment sector) text answer = (text ≡ []) × (answer ≡ Done)
 MayDo seed words entries ScrubAll text answer = MayScrub words entries text answer
@@ -226,7 +226,7 @@ MayDo seed words entries (SumVolume number) text answer =
     (e : Entry) × (volume_at entries number ≡ Some e) × MaySum words number e text answer
 
 -- steps, one after the other
-abbrev pub MayRun : (seed : ℕ) → (words : List ℕ) → List Entry → List Item → (text : List ℕ) → Answer → Type 0
+abbrev pub MayRun : (seed : ℕ) → (words : List ℕ) → List Entry → List MakeStep → (text : List ℕ) → Answer → Type 0
 MayRun seed words entries [] text answer = (text ≡ []) × (answer ≡ Done)
 MayRun seed words entries (item ∷ items) text answer =
     ((answer ≢ Done) × MayDo seed words entries item text answer)

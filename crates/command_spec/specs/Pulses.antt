@@ -16,17 +16,17 @@ use Rattle.command_spec.specs.declared.status.Status.TheVariants as status
 -- ---- trains
 
 -- the drive after so many pulses and a gap
-unfoldable pub after_train : Record → (train : ℕ) → Record
-after_train r train = after_gap (record r { train = train })
+unfoldable pub pulsed_row : Record → (train : ℕ) → Record
+pulsed_row r train = after_gap (record r { train = train })
 
 -- what they do to the cartridge
-unfoldable pub train_steps : Record → (train : ℕ) → List Step
-train_steps r train = gap_steps (record r { train = train })
+unfoldable pub train_changes : Record → (train : ℕ) → List Step
+train_changes r train = gap_steps (record r { train = train })
 
 -- the drive after several trains, each with its gap
 abbrev pub after_trains : Record → (trains : List ℕ) → Record
 after_trains r [] = r
-after_trains r (train ∷ trains) = after_trains (after_train r train) trains
+after_trains r (train ∷ trains) = after_trains (pulsed_row r train) trains
 
 -- ---- what is printed
 
@@ -40,12 +40,12 @@ level_line false = codes "0\n"
 -- what a train does: to the cartridge, which is referenced where a train 16 was accepted; and then the level that it
 -- leaves is printed
 abbrev pub train_act : Record → (train : ℕ) → Act
-train_act r train = record { steps = train_steps r train; text = level_line (after_train r train).line }
+train_act r train = record { steps = train_changes r train; text = level_line (pulsed_row r train).line }
 
 -- and several, one after the other
 abbrev pub train_acts : Record → (trains : List ℕ) → List Act
 train_acts r [] = []
-train_acts r (train ∷ trains) = train_act r train ∷ train_acts (after_train r train) trains
+train_acts r (train ∷ trains) = train_act r train ∷ train_acts (pulsed_row r train) trains
 
 -- ---- the input
 
@@ -75,23 +75,23 @@ pub record PulseRun : Type 0 where
   pub answer : Answer
 
 -- all bytes are taken; or those of the trains and of the line `end`; or those before the line that is none
-abbrev pub taken_by : (input trains : List ℕ) → Ending → ℕ
-taken_by input trains AtEnd = length input
-taken_by input trains AtStop = length (train_lines trains) + length (codes "end\n")
-taken_by input trains (AtFault line place) = place
+abbrev pub pulses_taken : (input trains : List ℕ) → Ending → ℕ
+pulses_taken input trains AtEnd = length input
+pulses_taken input trains AtStop = length (train_lines trains) + length (codes "end\n")
+pulses_taken input trains (AtFault line place) = place
 
-abbrev pub answer_by : Ending → Answer
-answer_by AtEnd = AllSent
-answer_by AtStop = AllSent
-answer_by (AtFault line place) = ScriptFault line place
+abbrev pub pulses_answer : Ending → Answer
+pulses_answer AtEnd = AllSent
+pulses_answer AtStop = AllSent
+pulses_answer (AtFault line place) = ScriptFault line place
 
 -- what comes of an input with these trains and this ending, over a drive
 abbrev pub outcome_of : Record → (input trains : List ℕ) → Ending → PulseRun
 outcome_of r input trains ending = record {
   acts = train_acts r trains;
   drive = after_trains r trains;
-  taken = taken_by input trains ending;
-  answer = answer_by ending;
+  taken = pulses_taken input trains ending;
+  answer = pulses_answer ending;
 }
 
 -- The plain machine: the outcome of an input, over what the drive knows of its cartridge once that was put in. At most

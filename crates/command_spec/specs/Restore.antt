@@ -59,20 +59,20 @@ pub record IsRead (c : Cartridge) (words : List ℕ) (piece : Piece) (act : Act)
 
 -- how a restore ends: all was read; a segment has so many unreadable sectors, more than three; or at most three, and the
 -- others are those of no code block
-pub data Ending : Type 0 where
-  Restored : Ending
-  LostIn : (segment lost : ℕ) → Ending
-  MismatchIn : ℕ → Ending
+pub data GivingEnd : Type 0 where
+  Restored : GivingEnd
+  LostIn : (segment lost : ℕ) → GivingEnd
+  MismatchIn : ℕ → GivingEnd
 
 -- a piece's segment says no data, and so ends the restore
-abbrev pub PieceEnds : Cartridge → (words : List ℕ) → Piece → Ending → Type 0
+abbrev pub PieceEnds : Cartridge → (words : List ℕ) → Piece → GivingEnd → Type 0
 PieceEnds c words piece Restored = ⊥
 PieceEnds c words piece (LostIn segment lost) = (segment ≡ piece.segment) × Says (piece_cells c words piece) (LostSectors lost)
 PieceEnds c words piece (MismatchIn segment) = (segment ≡ piece.segment) × Says (piece_cells c words piece) Mismatch
 
 -- the acts of the pieces that are read, one for each in their order, and the ending: there is no act for the piece that
 -- ends it, and none behind
-abbrev pub Restores : Cartridge → (words : List ℕ) → List Piece → List Act → Ending → Type 0
+abbrev pub Restores : Cartridge → (words : List ℕ) → List Piece → List Act → GivingEnd → Type 0
 Restores c words [] acts ending = (acts ≡ []) × (ending ≡ Restored)
 Restores c words (piece ∷ needed) [] ending = PieceEnds c words piece ending
 Restores c words (piece ∷ needed) (act ∷ acts) ending = IsRead c words piece act × Restores c words needed acts ending
@@ -106,7 +106,7 @@ pub record FirstLost (c : Cartridge) (words : List ℕ) (needed : List Piece) : 
   pub many : 3 < unreadable_count (piece_cells c words piece)
 
 -- with so many pieces read: all of them, or the next one's segment is the one that says no data
-abbrev pub EndsAt : List Piece → (done : ℕ) → Ending → Type 0
+abbrev pub EndsAt : List Piece → (done : ℕ) → GivingEnd → Type 0
 EndsAt needed done Restored = done ≡ length needed
 EndsAt needed done (LostIn segment lost) = (3 < lost) × IsSomeAnd (slice_get needed done) (λ piece. piece.segment ≡ segment)
 EndsAt needed done (MismatchIn segment) = IsSomeAnd (slice_get needed done) (λ piece. piece.segment ≡ segment)
@@ -117,7 +117,7 @@ volume_at entries zero = None
 volume_at entries (suc n) = slice_get entries n
 
 -- the answer to how a restore ended
-abbrev pub ending_status : Ending → Status
+abbrev pub ending_status : GivingEnd → Status
 ending_status Restored = status.Done
 ending_status (LostIn segment lost) = status.Lost segment lost
 ending_status (MismatchIn segment) = status.Mismatch segment
@@ -127,7 +127,7 @@ pub record RestoresOn (c : Cartridge) (words : List ℕ) (table : List (List ℕ
   pub entry : Entry
   pub numbered : volume_at entries number ≡ Some entry
   pub acts : List Act
-  pub ending : Ending
+  pub ending : GivingEnd
   pub restores : Restores (settled table c) words (pieces words entry) acts ending
   pub is : outcome ≡ record { acts = settling_act table c ∷ acts; taken = 0; status = ending_status ending }
 

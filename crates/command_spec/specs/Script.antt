@@ -56,8 +56,8 @@ abbrev pub reply : List ℕ → Act
 reply text = record { steps = []; text = text }
 
 -- it was refused behind some acts, and the volumes are as before
-abbrev pub refused : List Act → List Entry → Refusal → Did
-refused acts entries why = record { acts = acts ++ reply (refusal_line why) ∷ []; entries = entries }
+abbrev pub line_refused : List Act → List Entry → Refusal → Did
+line_refused acts entries why = record { acts = acts ++ reply (refusal_line why) ∷ []; entries = entries }
 
 -- ---- append
 
@@ -84,53 +84,53 @@ acts_on c words entries name promised date bytes (Finds table) =
 -- what it has done then, by what became of the bytes
 abbrev pub taken_as : Kept → (name : List ℕ) → (date : ℕ) → List Act → Taking → Did
 taken_as kept name date acts (Fits bytes) = record { acts = acts; entries = kept.entries ++ entry_for kept name date bytes ∷ [] }
-taken_as kept name date acts (TooLong need have) = refused acts kept.entries (why.Full need have)
+taken_as kept name date acts (TooLong need have) = line_refused acts kept.entries (why.Full need have)
 taken_as kept name date acts (TooShort promised read) = record { acts = acts; entries = kept.entries }
 
 -- all of the promised bytes are there
-abbrev pub appended : Cartridge → (words : List ℕ) → List Entry → (name : List ℕ) → (promised date : ℕ) → (bytes : List ℕ) → Meeting → Did
-appended c words entries name promised date bytes (Refuses why) = refused [] entries why
-appended c words entries name promised date bytes (Finds table) =
+abbrev pub append_did : Cartridge → (words : List ℕ) → List Entry → (name : List ℕ) → (promised date : ℕ) → (bytes : List ℕ) → Meeting → Did
+append_did c words entries name promised date bytes (Refuses why) = line_refused [] entries why
+append_did c words entries name promised date bytes (Finds table) =
     let kept : Kept = kept_over c words entries table in
     taken_as kept name date (acts_on c words entries name promised date bytes (Finds table)) (taking (room_in kept) (Some promised) bytes)
 
-abbrev pub Appends : Cartridge → (words : List ℕ) → List Entry → (name : List ℕ) → (promised date : ℕ) → (bytes : List ℕ) → Did → Type 0
-Appends c words entries name promised date bytes did =
-    (meeting : Meeting) × Meets c meeting × (did ≡ appended c words entries name promised date bytes meeting)
+abbrev pub AppendDoes : Cartridge → (words : List ℕ) → List Entry → (name : List ℕ) → (promised date : ℕ) → (bytes : List ℕ) → Did → Type 0
+AppendDoes c words entries name promised date bytes did =
+    (meeting : Meeting) × Meets c meeting × (did ≡ append_did c words entries name promised date bytes meeting)
 
 -- ---- restore
 
 -- what a restore has done that printed these parts
-abbrev pub given_as : (words : List ℕ) → List Entry → (number : ℕ) → Entry → List Act → restoring.Ending → Did
+abbrev pub given_as : (words : List ℕ) → List Entry → (number : ℕ) → Entry → List Act → restoring.GivingEnd → Did
 given_as words entries number e parts Restored =
     record { acts = parts ++ reply (restored_line number (volume_length words e)) ∷ []; entries = entries }
-given_as words entries number e parts (LostIn segment lost) = refused parts entries (why.Lost segment lost)
-given_as words entries number e parts (MismatchIn segment) = refused parts entries (why.Mismatch segment)
+given_as words entries number e parts (LostIn segment lost) = line_refused parts entries (why.Lost segment lost)
+given_as words entries number e parts (MismatchIn segment) = line_refused parts entries (why.Mismatch segment)
 
 -- the volume with this number, as the cartridge gives it
-pub record GivesBack (c : Cartridge) (words : List ℕ) (entries : List Entry) (number : ℕ) (did : Did) : Type 0 where
+pub record RestoreDoes (c : Cartridge) (words : List ℕ) (entries : List Entry) (number : ℕ) (did : Did) : Type 0 where
   pub entry : Entry
   pub numbered : volume_at entries number ≡ Some entry
   pub acts : List Act
-  pub ending : restoring.Ending
+  pub ending : restoring.GivingEnd
   pub restores : Restores c words (pieces words entry) acts ending
   pub is : did ≡ given_as words entries number entry (framed (pieces words entry) acts) ending
 
 abbrev pub Restores_one : Cartridge → (words : List ℕ) → List Entry → (number : ℕ) → Did → Type 0
 Restores_one c words entries number did =
-    ((volume_at entries number ≡ None) × (did ≡ refused [] entries (why.NoVolume number (length entries))))
-    ⊎ GivesBack c words entries number did
+    ((volume_at entries number ≡ None) × (did ≡ line_refused [] entries (why.NoVolume number (length entries))))
+    ⊎ RestoreDoes c words entries number did
 
 -- ---- scrub, lose and list
 
-abbrev pub Mends : Cartridge → (words : List ℕ) → List Entry → Did → Type 0
-Mends c words entries did =
-    ((c.info.protected ≡ true) × (did ≡ refused [] entries why.Protected))
+abbrev pub ScrubDoes : Cartridge → (words : List ℕ) → List Entry → Did → Type 0
+ScrubDoes c words entries did =
+    ((c.info.protected ≡ true) × (did ≡ line_refused [] entries why.Protected))
     ⊎ ((c.info.protected ≡ false) × ((acts : List Act) × Scrubs c words entries acts × (did ≡ record { acts = acts; entries = entries })))
 
 abbrev pub Loses : Cartridge → List Entry → (segment sector : ℕ) → Did → Type 0
 Loses c entries segment sector did =
-    (¬ (IsPlace c.info.segments_per_track segment sector) × (did ≡ refused [] entries (why.Place segment sector)))
+    (¬ (IsPlace c.info.segments_per_track segment sector) × (did ≡ line_refused [] entries (why.Place segment sector)))
     ⊎ (IsPlace c.info.segments_per_track segment sector
     × (did ≡ record { acts = record { steps = Wear segment sector ∷ []; text = lost_line segment sector } ∷ []; entries = entries }))
 
@@ -138,10 +138,10 @@ Loses c entries segment sector did =
 
 -- what a line does on a cartridge with this map and these volumes, with the bytes that follow it
 abbrev pub LineDoes : Cartridge → (words : List ℕ) → List Entry → Line → (bytes : List ℕ) → Did → Type 0
-LineDoes c words entries (line.Append name promised date) bytes did = Appends c words entries name promised date bytes did
+LineDoes c words entries (line.Append name promised date) bytes did = AppendDoes c words entries name promised date bytes did
 LineDoes c words entries line.List bytes did = did ≡ record { acts = reply (list_text words entries) ∷ []; entries = entries }
 LineDoes c words entries (line.Restore number) bytes did = Restores_one c words entries number did
-LineDoes c words entries line.Scrub bytes did = Mends c words entries did
+LineDoes c words entries line.Scrub bytes did = ScrubDoes c words entries did
 LineDoes c words entries (line.Lose segment sector) bytes did = Loses c entries segment sector did
 LineDoes c words entries line.End bytes did = ⊥
 
@@ -207,10 +207,10 @@ pub data Answer : Type 0 where
   AllDone : Answer
   FaultIn : (number place : ℕ) → Answer
 
-abbrev pub answer_by : Ending → Answer
-answer_by AtEnd = AllDone
-answer_by AtStop = AllDone
-answer_by (AtFault number place) = FaultIn number place
+abbrev pub script_answer : Ending → Answer
+script_answer AtEnd = AllDone
+script_answer AtStop = AllDone
+script_answer (AtFault number place) = FaultIn number place
 
 -- how many bytes of the input stand before what ends the items
 abbrev pub place_behind : (number place : ℕ) (input : List ℕ) (items : List Item) (ending : Ending) → HasItems IsItem number place input items ending → ℕ
@@ -219,10 +219,10 @@ place_behind number place input (item ∷ items) ending read =
     place_behind (number + 1) (place + length read.1.0) read.1.1.0 items ending read.1.1.1.2
 
 -- how many bytes are taken: all of them; or those up to and with the line `end`; or at least those before the fault
-abbrev pub taken_by : (input : List ℕ) (items : List Item) (ending : Ending) → IsScript input items ending → ℕ
-taken_by input items AtEnd read = length input
-taken_by input items AtStop read = place_behind 1 0 input items AtStop read + length (codes "end\n")
-taken_by input items (AtFault number place) read = place
+abbrev pub items_taken : (input : List ℕ) (items : List Item) (ending : Ending) → IsScript input items ending → ℕ
+items_taken input items AtEnd read = length input
+items_taken input items AtStop read = place_behind 1 0 input items AtStop read + length (codes "end\n")
+items_taken input items (AtFault number place) read = place
 
 pub record ScriptRun : Type 0 where
   pub acts : List Act
@@ -238,7 +238,7 @@ pub record ScriptDoes (c : Cartridge) (words : List ℕ) (entries : List Entry) 
   pub did : ItemsDo c words entries items dids
   pub last : List Act
   pub ends : EndDoes (cartridge_behind c dids) words (entries_behind entries dids) (drop (place_behind 1 0 input items ending read) input) ending last
-  pub is : outcome ≡ record { acts = acts_of dids ++ last; taken = taken_by input items ending read; answer = answer_by ending }
+  pub is : outcome ≡ record { acts = acts_of dids ++ last; taken = items_taken input items ending read; answer = script_answer ending }
 
 -- how a script's answer is answered
 abbrev pub script_status : Answer → Status

@@ -18,14 +18,14 @@ is_idle (Report levels) = false
 is_idle (Awaited a) = false
 
 -- what an accepted command does to the cartridge
-abbrev pub steps_of : Command → List Step
-steps_of WriteReference = SetReferenced ∷ []
-steps_of command = []
+abbrev pub reference_steps : Command → List Step
+reference_steps WriteReference = SetReferenced ∷ []
+reference_steps command = []
 
 -- what a command of its own does to the cartridge: nothing where a row refuses it
 abbrev pub command_steps : Deck → Option Command → List Step
 command_steps d None = []
-command_steps d (Some command) = if is_none (refusal_of d command) then steps_of command else []
+command_steps d (Some command) = if is_none (refusal_of d command) then reference_steps command else []
 
 -- what a train does to the cartridge, and a gap
 abbrev pub train_steps : Record → (train : ℕ) → List Step

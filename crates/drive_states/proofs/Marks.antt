@@ -19,7 +19,7 @@ use Rattle.drive_spec.specs.Effects.{accepted, given, reset, ticked}
 use Rattle.drive_spec.specs.Record.{Record}
 use Rattle.drive_spec.specs.Parameters.{parameter_trains, parameter_values, parameter_code, longer}
 use Rattle.drive_spec.specs.Row.{latched, given_more, taking, showing, by_refusal, by_command, heard, obeyed, moved_on, idled, after_gap}
-use Rattle.drive_spec.specs.Steps.{is_idle, steps_of, command_steps, gap_steps}
+use Rattle.drive_spec.specs.Steps.{is_idle, reference_steps, command_steps, gap_steps}
 use Rattle.drive_states.specs.Laws.{marked_by}
 
 -- no other train writes the reference bursts
@@ -30,14 +30,14 @@ gap_steps-none r other = chosen (is_idle r.under_way) (command_steps (ticked r.d
     chosen true xs e = e
     chosen false xs e = refl
 
-    steps : (c : Command) → ¬ (c ≡ WriteReference) → steps_of c ≡ []
+    steps : (c : Command) → ¬ (c ≡ WriteReference) → reference_steps c ≡ []
     steps WriteReference n = absurd (n refl)
     steps c n = refl
 
     by_command_at : (o : Option Command) → command_at r.train ≡ o → command_steps (ticked r.deck) o ≡ []
     by_command_at None e = refl
     by_command_at (Some c) e =
-        chosen (is_none (refusal_of (ticked r.deck) c)) (steps_of c)
+        chosen (is_none (refusal_of (ticked r.deck) c)) (reference_steps c)
         (steps c (λ is. other (sym (number_of-command_at r.train c e) ∙ ap number_of is)))
 
 cartridge-given : (c : Command) (parameter : ℕ) (d : Deck) → (given c parameter d).cartridge ≡ d.cartridge
@@ -47,7 +47,7 @@ cartridge-given SkipForward parameter d = refl
 cartridge-given SetFormatSegments parameter d = refl
 cartridge-given c parameter d = refl
 
-cartridge-accepted : (c : Command) (d : Deck) → (accepted c d).cartridge ≡ marked_by (steps_of c) d.cartridge
+cartridge-accepted : (c : Command) (d : Deck) → (accepted c d).cartridge ≡ marked_by (reference_steps c) d.cartridge
 cartridge-accepted LogicalForward d = by_test (is_stopped d.motion && nat_lt d.offset (limit d))
   where
     by_test : (b : Bool) → (if b then record d { motion = Streaming 0; at_load_point = false } else d).cartridge ≡ d.cartridge
@@ -59,7 +59,7 @@ cartridge-command : (r : Record) (train : ℕ) (o : Option Command) → (by_comm
 cartridge-command r train None = refl
 cartridge-command r train (Some c) = by_row (refusal_of r.deck c)
   where
-    by_row : (refused : Option ErrorCode) → (by_refusal r c refused).deck.cartridge ≡ marked_by (if is_none refused then steps_of c else []) r.deck.cartridge
+    by_row : (refused : Option ErrorCode) → (by_refusal r c refused).deck.cartridge ≡ marked_by (if is_none refused then reference_steps c else []) r.deck.cartridge
     by_row None = cartridge-accepted c r.deck
     by_row (Some code) = refl
 

@@ -12,7 +12,7 @@ use Rattle.drive_spec.specs.declared.deck.Motion.TheVariants.{Stopped, Streaming
 use Rattle.drive_spec.specs.Deck.{seen_motion, is_stopped, view_of, refusal_of}
 use Rattle.drive_spec.specs.Effects.{accepted}
 use Rattle.drive_spec.specs.Parameters.{parameter_trains, parameter_values}
-use Rattle.drive_spec.specs.Steps.{steps_of}
+use Rattle.drive_spec.specs.Steps.{reference_steps}
 use Rattle.drive_states.specs.Typed.{is_seeking}
 use Rattle.drive_states.proofs.Bounds.{while_stopped, with_cartridge}
 use Rattle.drive_states.proofs.Taken.{is_taken}
@@ -61,7 +61,7 @@ pub legal_in_verify : (c : Command) (d : Deck) → d.mode ≡ Verify → refusal
 legal_in_verify c d in_mode taken = legal (illegal_in_verify c) (is_verify d.mode) (is_taken (view_of d) c taken).verify (ap is_verify in_mode)
 
 -- a command that does nothing to the cartridge
-pub steps-none : (c : Command) → Not c WriteReference → steps_of c ≡ []
+pub steps-none : (c : Command) → Not c WriteReference → reference_steps c ≡ []
 steps-none WriteReference n = absurd (n refl)
 steps-none c n = refl
 

@@ -8,7 +8,7 @@ ghost use Rattle.drive_spec.specs.Deck.{refusal_of, is_streaming};
 ghost use Rattle.drive_spec.specs.Effects.{ticked, reset, given};
 ghost use Rattle.drive_spec.specs.Parameters.{parameter_trains};
 ghost use Rattle.drive_spec.specs.Row.{obeying, by_command, taking, showing, obeyed, moved_on, idled, after_gap, latched};
-ghost use Rattle.drive_spec.specs.Steps.{steps_of, command_steps, train_steps, gap_steps};
+ghost use Rattle.drive_spec.specs.Steps.{reference_steps, command_steps, train_steps, gap_steps};
 ghost use Rattle.drive_states.specs.AnyDrive.{drive_of};
 ghost use Rattle.drive_states.specs.Cable.{record_of, unit_of};
 ghost use Rattle.drive_states.specs.Sound.{IsParameter, IsUnderWay, IsSoundRecord};
@@ -75,11 +75,11 @@ impl<T: Tape> Dialogue<T> {
     /// A command that no row refuses is obeyed.
     fn accept(&mut self, command: Command) -> Result<(), TapeFailed>
         requires { refusal_of (record_of self.old).deck command ≡ None }
-        ensures did { Does T.means (unit_of self.old).tape (unit_of self.new).tape (steps_of command) result }
+        ensures did { Does T.means (unit_of self.old).tape (unit_of self.new).tape (reference_steps command) result }
         ensures ok { OnOk result (record_of self.new ≡ obeying (record_of self.old) command) }
-        ensures failed { OnErr result ((steps_of command ≡ SetReferenced ∷ [])
+        ensures failed { OnErr result ((reference_steps command ≡ SetReferenced ∷ [])
             × (record_of self.new ≡ without_reference (obeying (record_of self.old) command))) }
-        ensures untouched { steps_of command ≡ [] → (unit_of self.new).tape ≡ (unit_of self.old).tape }
+        ensures untouched { reference_steps command ≡ [] → (unit_of self.new).tape ≡ (unit_of self.old).tape }
         ensures over { OnErr result (self.new.under_way ≡ UnderWay.Nothing) }
         ensures size { T.means.size (unit_of self.new).tape ≡ T.means.size (unit_of self.old).tape }
     {

@@ -7,7 +7,7 @@ ghost use Rattle.qic_base.specs.Tape.{Does};
 ghost use Rattle.drive_spec.specs.Deck.{refusal_of};
 ghost use Rattle.drive_spec.specs.Effects.{accepted, given};
 ghost use Rattle.drive_spec.specs.Parameters.{parameter_trains};
-ghost use Rattle.drive_spec.specs.Steps.{steps_of};
+ghost use Rattle.drive_spec.specs.Steps.{reference_steps};
 ghost use Rattle.drive_states.specs.AnyDrive.{drive_of};
 ghost use Rattle.drive_states.specs.Unreferenced.{unreferenced};
 ghost use Rattle.drive_states.specs.Sound.{IsParameter};
@@ -174,11 +174,11 @@ impl<T: Tape> AnyDrive<T> {
     /// Carries out a command that no row refuses. The Err is a tape that failed to write the reference bursts.
     pub fn obey(self, command: Command) -> (AnyDrive<T>, Result<(), TapeFailed>)
         requires { refusal_of (drive_of self).deck command ≡ None }
-        ensures did { Does T.means (drive_of self).tape (drive_of result.0).tape (steps_of command) result.1 }
+        ensures did { Does T.means (drive_of self).tape (drive_of result.0).tape (reference_steps command) result.1 }
         ensures ok { OnOk result.1 ((drive_of result.0).deck ≡ accepted command (drive_of self).deck) }
         ensures failed { OnErr result.1 ((command ≡ named.WriteReference)
             × ((drive_of result.0).deck ≡ unreferenced (accepted command (drive_of self).deck))) }
-        ensures untouched { steps_of command ≡ [] → (drive_of result.0).tape ≡ (drive_of self).tape }
+        ensures untouched { reference_steps command ≡ [] → (drive_of result.0).tape ≡ (drive_of self).tape }
         ensures size { T.means.size (drive_of result.0).tape ≡ T.means.size (drive_of self).tape }
     {
         match command {

@@ -27,7 +27,7 @@ use Rattle.made_volumes.specs.declared.fault.MakeFault.{MakeFault}
 use Rattle.made_volumes.specs.declared.fault.MakeFault.TheVariants as fault
 use Rattle.made_volumes.specs.Faults.{is_of_step, fault_of}
 use Rattle.command_spec.specs.Make.{AppendMade, made_name, made_entry}
-use Rattle.command_spec.specs.Make.{Answer, Done, Protected, TableMismatch, Full, Lost, Does, Runs, IsTableLost, made_acts, made_answer}
+use Rattle.command_spec.specs.Make.{Answer, Done, Protected, TableMismatch, Full, Lost, StepDoes, Runs, IsTableLost, made_acts, made_answer}
 use Rattle.command_spec.specs.Make.{MayAppend}
 use Rattle.made_volumes.specs.Runs.{HasRun, RunCut, RunEnds}
 use Rattle.command_laws.proofs.MadeMachineLaws.{run_of, done_of, never_lost}
@@ -127,12 +127,12 @@ module _ {T : Type 0} (t : tapes.Meaning T) (seed volume : ℕ) (before : StoreV
 
   -- the acts went up to this answer
   went_so : (acts : List Act) (answer : Answer) → Acts acts → MayAppend seed words entries volume answer →
-      tapes.Tells t a (λ c. Does seed c words entries (AppendMade volume) acts answer) →
+      tapes.Tells t a (λ c. StepDoes seed c words entries (AppendMade volume) acts answer) →
       HasRun t no_sink seed words entries (AppendMade volume ∷ []) (around a tt) (around b tt) answer
   went_so acts answer went may told = record {
     acts = acts;
     went = around_went acts went;
-    told = Tells-map t a (λ c. Does seed c words entries (AppendMade volume) acts answer) (λ c. Runs seed c words entries (AppendMade volume ∷ []) acts answer)
+    told = Tells-map t a (λ c. StepDoes seed c words entries (AppendMade volume) acts answer) (λ c. Runs seed c words entries (AppendMade volume ∷ []) acts answer)
         (λ c does. run_of seed c words entries (AppendMade volume) acts answer does) told;
     may = may_of seed words entries (AppendMade volume) (text_of acts) answer (went.wrote.took, may);
   }
@@ -152,7 +152,7 @@ module _ {T : Type 0} (t : tapes.Meaning T) (seed volume : ℕ) (before : StoreV
       let acts : List Act = append_acts (kept_by before ran.table ran.settling) (made_name volume) 0 promise silently ran.input in
       went_so acts answer ran.went may
       (tells_two t a (λ c. c.info.protected ≡ false) (λ c. TableIs c ran.table × (ran.settling ≡ settling_steps ran.table c))
-      (λ c. Does seed c words entries (AppendMade volume) acts answer)
+      (λ c. StepDoes seed c words entries (AppendMade volume) acts answer)
       (λ c mark known. inr (
         mark,
         inl (record {
@@ -175,7 +175,7 @@ module _ {T : Type 0} (t : tapes.Meaning T) (seed volume : ℕ) (before : StoreV
   refused_so Says answer free refused may means =
       went_so refused.acts answer refused.went may
       (tells_two t a (λ c. c.info.protected ≡ false) (λ c. (refused.acts ≡ []) × (rest ≡ bytes) × Says c)
-      (λ c. Does seed c words entries (AppendMade volume) refused.acts answer)
+      (λ c. StepDoes seed c words entries (AppendMade volume) refused.acts answer)
       (λ c mark known. inr (mark, inr (means c refused.acts known.0 known.2))) (told_mark t before u fits false free) refused.told)
 
   around_cut : (acts : List Act) → Cut t made_means no_sink (reading a bytes) (reading b rest) acts TapeFails → Cut t no_source no_sink (around a tt) (around b tt) acts TapeFails
@@ -212,7 +212,7 @@ module _ {T : Type 0} (t : tapes.Meaning T) (seed volume : ℕ) (before : StoreV
     cut = around_cut cut.acts cut.cut;
   }
     where
-      by_does : (c : Cartridge) → (c.info.protected ≡ false) × CutReading cut.input c → CutBefore c → (acts : List Act) (answer : Answer) → Does seed c words entries (AppendMade volume) acts answer →
+      by_does : (c : Cartridge) → (c.info.protected ≡ false) × CutReading cut.input c → CutBefore c → (acts : List Act) (answer : Answer) → StepDoes seed c words entries (AppendMade volume) acts answer →
           Cut t no_source no_sink (around a tt) (around b tt) acts TapeFails
       by_does c (mark, known) none acts answer (inl refused) = absurd (let same : true ≡ false = sym refused.mark ∙ mark in cc)
       by_does c (mark, known) none acts answer (inr (free', inl appended)) =

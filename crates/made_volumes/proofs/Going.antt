@@ -12,7 +12,7 @@ use Rattle.cartridge_spec.specs.Table.{Entry}
 use Rattle.cartridge_spec.specs.Volumes.{carrying, carrying_segments}
 use Rattle.cartridge_laws.proofs.Places.{none_below, front_of_places, front_of_all}
 use Rattle.made_volumes.specs.declared.fault.MakeFault.{MakeFault}
-use Rattle.command_spec.specs.Make.{Item, AppendMade, WearSector, ScrubAll, SumVolume, made_entry, appending, wearing, first_two, wearing_in, wearing_volumes, summing, made_list, making}
+use Rattle.command_spec.specs.Make.{MakeStep, AppendMade, WearSector, ScrubAll, SumVolume, made_entry, appending, wearing, first_two, wearing_in, wearing_volumes, summing, made_list, making}
 use Rattle.command_spec.specs.Make.{Done}
 use Rattle.made_volumes.specs.Runs.{HasRun, RunEnds}
 use Rattle.made_volumes.proofs.Joining.{run_none, ends_behind, ends_longer, ends_quietly}
@@ -37,14 +37,14 @@ module _ {T : Type 0} (t : tapes.Meaning T) (seed : ℕ) (words : List ℕ) (es 
       subst (λ (n : ℕ). RunEnds t no_sink seed words (made_list seed (v - 1) words es) (AppendMade n ∷ []) (around b tt) (around c tt) r) number
       (subst (λ (now' : List Entry). RunEnds t no_sink seed words now' (AppendMade v ∷ []) (around b tt) (around c tt) r) is
       (subst (λ (ws : List ℕ). RunEnds t no_sink seed ws list (AppendMade v ∷ []) (around b tt) (around c tt) r) same ends)) in
-      subst (λ (items : List Item). RunEnds t no_sink seed words es items (around a tt) (around c tt) r) (appending_next (v - 1) ∙ ap (appending 1) more)
+      subst (λ (items : List MakeStep). RunEnds t no_sink seed words es items (around a tt) (around c tt) r) (appending_next (v - 1) ∙ ap (appending 1) more)
       (ends_behind t no_sink seed words none_takes_both es (appending 1 (v - 1)) (AppendMade (1 + (v - 1)) ∷ []) (around a tt) (around b tt) (around c tt) r ran here)
 
   pub append_failed : (count : ℕ) → v ≤ count → (f : MakeFault) → HasRun t no_sink seed words es (appending 1 (v - 1)) (around a tt) (around b tt) Done →
       RunEnds t no_sink seed now list (AppendMade v ∷ []) (around b tt) (around c tt) (Err f) →
       RunEnds t no_sink seed words es (appending 1 count) (around a tt) (around c tt) (Err f)
   append_failed count few f ran ends =
-      subst (λ (items : List Item). RunEnds t no_sink seed words es items (around a tt) (around c tt) (Err f)) (appending_whole (v + 1 - 1) count (omega arith))
+      subst (λ (items : List MakeStep). RunEnds t no_sink seed words es items (around a tt) (around c tt) (Err f)) (appending_whole (v + 1 - 1) count (omega arith))
       (ends_longer t no_sink seed words es (appending 1 (v + 1 - 1)) (appending (1 + (v + 1 - 1)) (count - (v + 1 - 1))) (around a tt) (around c tt) f (append_next (Err f) ran ends))
 
   pub append_listed : (after : List Entry) → after ≡ list ++ made_entry seed now list v ∷ [] → after ≡ made_list seed (v + 1 - 1) words es
@@ -80,7 +80,7 @@ module _ {T : Type 0} (t : tapes.Meaning T) (words : List ℕ) (es : List Entry)
       RunEnds t no_sink seed words es (WearSector segment sector ∷ []) (around b tt) (around c tt) r →
       RunEnds t no_sink seed words es (wearing segment (two_below mask (sector + 1))) (around a tt) (around c tt) r
   wear_next seed sector r usable few ran ends =
-      subst (λ (items : List Item). RunEnds t no_sink seed words es items (around a tt) (around c tt) r)
+      subst (λ (items : List MakeStep). RunEnds t no_sink seed words es items (around a tt) (around c tt) r)
       (wearing_next segment (two_below mask sector) sector ∙ ap (wearing segment) (sym (two_next mask sector usable few)))
       (ends_after t no_sink seed words es none_takes_both (wearing segment (two_below mask sector)) (WearSector segment sector ∷ []) (around a tt) (around b tt) (around c tt) r
       (after_wearing seed words es segment (two_below mask sector)) ran ends)
@@ -92,7 +92,7 @@ module _ {T : Type 0} (t : tapes.Meaning T) (words : List ℕ) (es : List Entry)
   wear_failed seed sector f within usable few ran ends =
       let front = front_of_all mask (sector + 1) (omega arith) in
       let two = two_front (lost_places mask (sector + 1)) front.rest in
-      subst (λ (items : List Item). RunEnds t no_sink seed words es items (around a tt) (around c tt) (Err f))
+      subst (λ (items : List MakeStep). RunEnds t no_sink seed words es items (around a tt) (around c tt) (Err f))
       (sym (wearing_part segment (two_below mask (sector + 1)) two.0) ∙ ap (wearing segment) (two.1 ∙ ap (take 2) (sym front.parts)))
       (ends_longer t no_sink seed words es (wearing segment (two_below mask (sector + 1))) (wearing segment two.0) (around a tt) (around c tt) f
       (wear_next seed sector (Err f) usable few ran ends))
@@ -146,7 +146,7 @@ module _ {T : Type 0} (t : tapes.Meaning T) (words : List ℕ) (es : List Entry)
       RunEnds t no_sink seed words es (wearing_in words (carrying words segment segment)) (around b tt) (around c tt) r →
       RunEnds t no_sink seed words es (wearing_in words (carrying_below words start (segment + 1))) (around a tt) (around c tt) r
   segments_next seed r ran ends =
-      subst (λ (items : List Item). RunEnds t no_sink seed words es items (around a tt) (around c tt) r)
+      subst (λ (items : List MakeStep). RunEnds t no_sink seed words es items (around a tt) (around c tt) r)
       (sym (wearing_in_part words (carrying_below words start segment) (carrying words segment segment))
       ∙ ap (wearing_in words) (sym (segments_part words start segment (segment + 1) low (omega arith))))
       (ends_after t no_sink seed words es none_takes_both (wearing_in words (carrying_below words start segment)) (wearing_in words (carrying words segment segment))
@@ -157,7 +157,7 @@ module _ {T : Type 0} (t : tapes.Meaning T) (words : List ℕ) (es : List Entry)
       RunEnds t no_sink seed words es (wearing_in words (carrying words segment segment)) (around b tt) (around c tt) (Err f) →
       RunEnds t no_sink seed words es (wearing_in words (carrying_below words start last)) (around a tt) (around c tt) (Err f)
   segments_failed seed last f high ran ends =
-      subst (λ (items : List Item). RunEnds t no_sink seed words es items (around a tt) (around c tt) (Err f))
+      subst (λ (items : List MakeStep). RunEnds t no_sink seed words es items (around a tt) (around c tt) (Err f))
       (sym (wearing_in_part words (carrying_below words start (segment + 1)) (carrying_below words (segment + 1) last))
       ∙ ap (wearing_in words) (sym (segments_part words start (segment + 1) last (omega arith) (omega arith))))
       (ends_longer t no_sink seed words es (wearing_in words (carrying_below words start (segment + 1))) (wearing_in words (carrying_below words (segment + 1) last))
@@ -176,7 +176,7 @@ module _ {T : Type 0} (t : tapes.Meaning T) (words : List ℕ) (es : List Entry)
   volumes_go_on seed r ran ends =
       let place : index ≡ first + (index - first) = omega arith in
       let more : index - first + 1 ≡ index + 1 - first = omega arith in
-      subst (λ (items : List Item). RunEnds t no_sink seed words es items (around a tt) (around c tt) r)
+      subst (λ (items : List MakeStep). RunEnds t no_sink seed words es items (around a tt) (around c tt) r)
       (volumes_next words first (index - first) es e (ap (slice_get es) (sym place) ∙ at) ∙ ap (λ (n : ℕ). wearing_volumes words (take n rest)) more)
       (ends_after t no_sink seed words es none_takes_both (wearing_volumes words (take (index - first) rest)) (wearing_in words (carrying_segments words e))
       (around a tt) (around b tt) (around c tt) r (after_wearing_volumes seed words es (take (index - first) rest)) ran ends)
@@ -186,7 +186,7 @@ module _ {T : Type 0} (t : tapes.Meaning T) (words : List ℕ) (es : List Entry)
       RunEnds t no_sink seed words es (wearing_in words (carrying_segments words e)) (around b tt) (around c tt) (Err f) →
       RunEnds t no_sink seed words es (wearing_volumes words rest) (around a tt) (around c tt) (Err f)
   volumes_failed seed f ran ends =
-      subst (λ (items : List Item). RunEnds t no_sink seed words es items (around a tt) (around c tt) (Err f)) (volumes_whole words (index + 1 - first) rest)
+      subst (λ (items : List MakeStep). RunEnds t no_sink seed words es items (around a tt) (around c tt) (Err f)) (volumes_whole words (index + 1 - first) rest)
       (ends_longer t no_sink seed words es (wearing_volumes words (take (index + 1 - first) rest)) (wearing_volumes words (drop (index + 1 - first) rest))
       (around a tt) (around c tt) f (volumes_go_on seed (Err f) ran ends))
 
@@ -198,7 +198,7 @@ module _ {T K : Type 0} (t : tapes.Meaning T) (k : sinks.Meaning K) (both : Take
   sums_next seed r ran ends =
       let here : number ≡ first + 1 + (number - (first + 1)) = omega arith in
       let more : number - (first + 1) + 1 ≡ number + 1 - (first + 1) = omega arith in
-      subst (λ (items : List Item). RunEnds t k seed words es items a c r) (summing_next (first + 1) (number - (first + 1)) ∙ ap (summing (first + 1)) more)
+      subst (λ (items : List MakeStep). RunEnds t k seed words es items a c r) (summing_next (first + 1) (number - (first + 1)) ∙ ap (summing (first + 1)) more)
       (ends_after t k seed words es both (summing (first + 1) (number - (first + 1))) (SumVolume (first + 1 + (number - (first + 1))) ∷ []) a b c r
       (after_summing seed words es (first + 1) (number - (first + 1))) ran
       (subst (λ (n : ℕ). RunEnds t k seed words es (SumVolume n ∷ []) b c r) here ends))
@@ -206,20 +206,20 @@ module _ {T K : Type 0} (t : tapes.Meaning T) (k : sinks.Meaning K) (both : Take
   pub sums_failed : (seed count : ℕ) (f : MakeFault) → number < first + 1 + count → HasRun t k seed words es (summing (first + 1) (number - (first + 1))) a b Done →
       RunEnds t k seed words es (SumVolume number ∷ []) b c (Err f) → RunEnds t k seed words es (summing (first + 1) count) a c (Err f)
   sums_failed seed count f high ran ends =
-      subst (λ (items : List Item). RunEnds t k seed words es items a c (Err f)) (summing_whole (first + 1) (number + 1 - (first + 1)) count (omega arith))
+      subst (λ (items : List MakeStep). RunEnds t k seed words es items a c (Err f)) (summing_whole (first + 1) (number + 1 - (first + 1)) count (omega arith))
       (ends_longer t k seed words es (summing (first + 1) (number + 1 - (first + 1))) (summing (first + 1 + (number + 1 - (first + 1))) (count - (number + 1 - (first + 1))))
       a c f (sums_next seed (Err f) ran ends))
 
 -- ---- the whole run
 
 module _ {T K : Type 0} (t : tapes.Meaning T) (k : sinks.Meaning K) (both : TakesBoth k) (none : (z : K) → k.took z [] z) (seed count : ℕ) (words : List ℕ) (es made : List Entry) (is : made ≡ made_list seed count words es) (x : K) (a b : T) where
-  abbrev wears : List Item
+  abbrev wears : List MakeStep
   wears = wearing_volumes words (drop (length es) (made_list seed count words es))
 
-  abbrev sums : List Item
+  abbrev sums : List MakeStep
   sums = summing (length es + 1) count
 
-  abbrev behind : List Item
+  abbrev behind : List MakeStep
   behind = wears ++ ScrubAll ∷ sums
 
   -- the appends failed
@@ -293,7 +293,7 @@ sums_begun t k none words es number a seed =
     subst (λ (n : ℕ). HasRun t k seed words es (summing number n) a a Done) zero_more (run_none t k seed words es a none)
 
 -- steps of a store with the same map and list
-pub same_store : {T K : Type 0} (t : tapes.Meaning T) (k : sinks.Meaning K) (seed : ℕ) (words now : List ℕ) (es list : List Entry) (items : List Item) (a b : Outside T (Unit {0}) K) (r : Result (Unit {0}) MakeFault) →
+pub same_store : {T K : Type 0} (t : tapes.Meaning T) (k : sinks.Meaning K) (seed : ℕ) (words now : List ℕ) (es list : List Entry) (items : List MakeStep) (a b : Outside T (Unit {0}) K) (r : Result (Unit {0}) MakeFault) →
     now ≡ words → list ≡ es → RunEnds t k seed now list items a b r → RunEnds t k seed words es items a b r
 same_store t k seed words now es list items a b r same is ends =
     subst (λ (l : List Entry). RunEnds t k seed words l items a b r) is (subst (λ (ws : List ℕ). RunEnds t k seed ws list items a b r) same ends)

@@ -15,7 +15,7 @@ use Rattle.volume_store.proofs.Copies.{tells_two}
 use Rattle.command_laws.proofs.MadeTelling.{tells_before}
 use Rattle.made_volumes.specs.declared.fault.MakeFault.{MakeFault}
 use Rattle.made_volumes.specs.declared.fault.MakeFault.TheVariants as fault
-use Rattle.command_spec.specs.Make.{Item, after_items}
+use Rattle.command_spec.specs.Make.{MakeStep, after_items}
 use Rattle.command_spec.specs.Make.{Answer, Done, Protected, TableMismatch, Full, Lost, Mismatch, Runs}
 use Rattle.command_spec.specs.Make.{MayRun}
 use Rattle.made_volumes.specs.Runs.{HasRun, RunCut, RunEnds}
@@ -31,7 +31,7 @@ module _ {T K : Type 0} (t : tapes.Meaning T) (k : sinks.Meaning K) (seed : ℕ)
     may = (refl, refl);
   }
 
-  pub run_both : TakesBoth k → (es : List Entry) (xs ys : List Item) (a b c : Outside T (Unit {0}) K) (y : Answer) →
+  pub run_both : TakesBoth k → (es : List Entry) (xs ys : List MakeStep) (a b c : Outside T (Unit {0}) K) (y : Answer) →
       HasRun t k seed words es xs a b Done → HasRun t k seed words (after_items seed words es xs) ys b c y → HasRun t k seed words es (xs ++ ys) a c y
   run_both both es xs ys a b c y first next =
       let after : List Entry = after_items seed words es xs in
@@ -47,7 +47,7 @@ module _ {T K : Type 0} (t : tapes.Meaning T) (k : sinks.Meaning K) (seed : ℕ)
             (may_both seed words es xs ys (text_of first.acts) (text_of next.acts) y first.may next.may);
       }
 
-  pub run_longer : (es : List Entry) (xs ys : List Item) (a b : Outside T (Unit {0}) K) (y : Answer) → y ≢ Done →
+  pub run_longer : (es : List Entry) (xs ys : List MakeStep) (a b : Outside T (Unit {0}) K) (y : Answer) → y ≢ Done →
       HasRun t k seed words es xs a b y → HasRun t k seed words es (xs ++ ys) a b y
   run_longer es xs ys a b y other run = record {
     acts = run.acts;
@@ -58,11 +58,11 @@ module _ {T K : Type 0} (t : tapes.Meaning T) (k : sinks.Meaning K) (seed : ℕ)
   }
 
   -- what a cut in these steps tells of a cartridge
-  abbrev CutOver : List Entry → List Item → (a b : Outside T (Unit {0}) K) → Failing → Cartridge → Type 0
+  abbrev CutOver : List Entry → List MakeStep → (a b : Outside T (Unit {0}) K) → Failing → Cartridge → Type 0
   CutOver es items a b failing d =
       (acts : List Act) (answer : Answer) → Runs seed d words es items acts answer → Cut t no_source k a b acts failing
 
-  pub cut_behind : TakesBoth k → (es : List Entry) (xs ys : List Item) (a b c : Outside T (Unit {0}) K) (failing : Failing) →
+  pub cut_behind : TakesBoth k → (es : List Entry) (xs ys : List MakeStep) (a b c : Outside T (Unit {0}) K) (failing : Failing) →
       HasRun t k seed words es xs a b Done → RunCut t k seed words (after_items seed words es xs) ys b c failing →
       RunCut t k seed words es (xs ++ ys) a c failing
   cut_behind both es xs ys a b c failing first next =
@@ -79,7 +79,7 @@ module _ {T K : Type 0} (t : tapes.Meaning T) (k : sinks.Meaning K) (seed : ℕ)
         cut = went_then_cut t no_source k both a b c first.acts next.acts failing first.went next.cut;
       }
 
-  pub cut_longer : (es : List Entry) (xs ys : List Item) (a b : Outside T (Unit {0}) K) (failing : Failing) →
+  pub cut_longer : (es : List Entry) (xs ys : List MakeStep) (a b : Outside T (Unit {0}) K) (failing : Failing) →
       RunCut t k seed words es xs a b failing → RunCut t k seed words es (xs ++ ys) a b failing
   cut_longer es xs ys a b failing cut = record {
     told = Tells-map t a.tape (CutOver es xs a b failing) (CutOver es (xs ++ ys) a b failing)
@@ -95,7 +95,7 @@ module _ {T K : Type 0} (t : tapes.Meaning T) (k : sinks.Meaning K) (seed : ℕ)
   -- ---- by the answer
 
   -- steps behind others that were carried out
-  pub ends_behind : TakesBoth k → (es : List Entry) (xs ys : List Item) (a b c : Outside T (Unit {0}) K) (r : Result (Unit {0}) MakeFault) →
+  pub ends_behind : TakesBoth k → (es : List Entry) (xs ys : List MakeStep) (a b c : Outside T (Unit {0}) K) (r : Result (Unit {0}) MakeFault) →
       HasRun t k seed words es xs a b Done → RunEnds t k seed words (after_items seed words es xs) ys b c r → RunEnds t k seed words es (xs ++ ys) a c r
   ends_behind both es xs ys a b c (Ok done) first next = run_both both es xs ys a b c Done first next
   ends_behind both es xs ys a b c (Err fault.Protected) first next = run_both both es xs ys a b c Protected first next
@@ -107,7 +107,7 @@ module _ {T K : Type 0} (t : tapes.Meaning T) (k : sinks.Meaning K) (seed : ℕ)
   ends_behind both es xs ys a b c (Err fault.Tape) first next = cut_behind both es xs ys a b c TapeFails first next
 
   -- steps that were refused or cut off, whatever would have come behind them
-  pub ends_longer : (es : List Entry) (xs ys : List Item) (a b : Outside T (Unit {0}) K) (f : MakeFault) →
+  pub ends_longer : (es : List Entry) (xs ys : List MakeStep) (a b : Outside T (Unit {0}) K) (f : MakeFault) →
       RunEnds t k seed words es xs a b (Err f) → RunEnds t k seed words es (xs ++ ys) a b (Err f)
   ends_longer es xs ys a b fault.Protected run = run_longer es xs ys a b Protected (λ is. cc) run
   ends_longer es xs ys a b fault.TableMismatch run = run_longer es xs ys a b TableMismatch (λ is. cc) run
@@ -155,7 +155,7 @@ module _ {T K : Type 0} (t : tapes.Meaning T) (k : sinks.Meaning K) (a b : T) (x
   }
   cut_quietly acts SinkFails cut = absurd (let rose = cut.broke.cause in omega arith)
 
-module _ {T K : Type 0} (t : tapes.Meaning T) (k : sinks.Meaning K) (seed : ℕ) (words : List ℕ) (es : List Entry) (items : List Item) (a b : T) (x : K) (none : k.took x [] x) where
+module _ {T K : Type 0} (t : tapes.Meaning T) (k : sinks.Meaning K) (seed : ℕ) (words : List ℕ) (es : List Entry) (items : List MakeStep) (a b : T) (x : K) (none : k.took x [] x) where
   run_quietly : (y : Answer) → HasRun t no_sink seed words es items (around a tt) (around b tt) y → HasRun t k seed words es items (around a x) (around b x) y
   run_quietly y run = record { acts = run.acts; went = went_quietly t k a b x none run.acts run.went; told = run.told; may = run.may }
 

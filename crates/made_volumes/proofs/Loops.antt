@@ -5,7 +5,7 @@ use Rattle.std.proofs.lemmas.Option.{slice_get_within, get_or_from_slice_get}
 use Rattle.cartridge_spec.specs.Table.{Entry}
 use Rattle.cartridge_spec.specs.Volumes.{carrying_segments}
 use Rattle.command_laws.proofs.MadeMachineLaws.{after_items-append}
-use Rattle.command_spec.specs.Make.{Item, AppendMade, appending, made_entry, after_items, made_list, summing, Done, WearSector, wearing, first_two, wearing_in, wearing_volumes, SumVolume}
+use Rattle.command_spec.specs.Make.{MakeStep, AppendMade, appending, made_entry, after_items, made_list, summing, Done, WearSector, wearing, first_two, wearing_in, wearing_volumes, SumVolume}
 use Rattle.made_volumes.proofs.Joining.{ends_behind}
 use Rattle.made_volumes.specs.Runs.{HasRun, RunEnds}
 use Rattle.made_volumes.specs.declared.fault.MakeFault.{MakeFault}
@@ -26,7 +26,7 @@ appending_part v zero n =
 appending_part v (suc m) n =
     let first : suc m + n ≡ suc (m + n) = omega arith in
     let here : v + 1 + m ≡ v + suc m = omega arith in
-    ap (appending v) first ∙ ap (λ (xs : List Item). AppendMade v ∷ xs) (appending_part (v + 1) m n)
+    ap (appending v) first ∙ ap (λ (xs : List MakeStep). AppendMade v ∷ xs) (appending_part (v + 1) m n)
     ∙ ap (λ (w : ℕ). AppendMade v ∷ (appending (v + 1) m ++ appending w n)) here
 
 -- the appends up to a volume, which is the next one
@@ -49,7 +49,7 @@ after_summing seed words es number (suc count) = after_summing seed words es (nu
 
 -- behind these, steps go on with the same list
 module _ {T K : Type 0} (t : tapes.Meaning T) (k : sinks.Meaning K) (seed : ℕ) (words : List ℕ) (es : List Entry) where
-  pub ends_after : TakesBoth k → (xs ys : List Item) (a b c : Outside T (Unit {0}) K) (r : Result (Unit {0}) MakeFault) → after_items seed words es xs ≡ es →
+  pub ends_after : TakesBoth k → (xs ys : List MakeStep) (a b c : Outside T (Unit {0}) K) (r : Result (Unit {0}) MakeFault) → after_items seed words es xs ≡ es →
       HasRun t k seed words es xs a b Done → RunEnds t k seed words es ys b c r → RunEnds t k seed words es (xs ++ ys) a c r
   ends_after both xs ys a b c r kept first next =
       ends_behind t k seed words both es xs ys a b c r first (subst (λ (now : List Entry). RunEnds t k seed words now ys b c r) (sym kept) next)
@@ -79,24 +79,24 @@ two_passed mask sector bad = ap (take 2) (lost_places-kept mask sector bad)
 
 pub wearing_next : (segment : ℕ) (xs : List ℕ) (x : ℕ) → wearing segment xs ++ WearSector segment x ∷ [] ≡ wearing segment (xs ++ x ∷ [])
 wearing_next segment [] x = refl
-wearing_next segment (y ∷ xs) x = ap (λ (items : List Item). WearSector segment y ∷ items) (wearing_next segment xs x)
+wearing_next segment (y ∷ xs) x = ap (λ (items : List MakeStep). WearSector segment y ∷ items) (wearing_next segment xs x)
 
 pub wearing_part : (segment : ℕ) (xs ys : List ℕ) → wearing segment (xs ++ ys) ≡ wearing segment xs ++ wearing segment ys
 wearing_part segment [] ys = refl
-wearing_part segment (x ∷ xs) ys = ap (λ (items : List Item). WearSector segment x ∷ items) (wearing_part segment xs ys)
+wearing_part segment (x ∷ xs) ys = ap (λ (items : List MakeStep). WearSector segment x ∷ items) (wearing_part segment xs ys)
 
 pub wearing_in_part : (words xs ys : List ℕ) → wearing_in words (xs ++ ys) ≡ wearing_in words xs ++ wearing_in words ys
 wearing_in_part words [] ys = refl
 wearing_in_part words (x ∷ xs) ys =
-    let here : List Item = cond (x % 100 == 0) (wearing x (first_two words x)) [] in
-    ap (λ (items : List Item). here ++ items) (wearing_in_part words xs ys)
+    let here : List MakeStep = cond (x % 100 == 0) (wearing x (first_two words x)) [] in
+    ap (λ (items : List MakeStep). here ++ items) (wearing_in_part words xs ys)
     ∙ sym (append_assoc here (wearing_in words xs) (wearing_in words ys))
 
 pub wearing_volumes_part : (words : List ℕ) (xs ys : List Entry) → wearing_volumes words (xs ++ ys) ≡ wearing_volumes words xs ++ wearing_volumes words ys
 wearing_volumes_part words [] ys = refl
 wearing_volumes_part words (x ∷ xs) ys =
-    let here : List Item = wearing_in words (carrying_segments words x) in
-    ap (λ (items : List Item). here ++ items) (wearing_volumes_part words xs ys)
+    let here : List MakeStep = wearing_in words (carrying_segments words x) in
+    ap (λ (items : List MakeStep). here ++ items) (wearing_volumes_part words xs ys)
     ∙ sym (append_assoc here (wearing_volumes words xs) (wearing_volumes words ys))
 
 -- a list without its first ones, at a place
@@ -116,7 +116,7 @@ volumes_next words first n xs e at =
     let next : take (n + 1) rest ≡ take n rest ++ e ∷ [] =
     take_more rest n e (slice_get_within rest n e there) ∙ ap (λ (x : Entry). take n rest ++ x ∷ []) (get_or_from_slice_get rest n e e there) in
     sym (ap (wearing_volumes words) next ∙ wearing_volumes_part words (take n rest) (e ∷ [])
-    ∙ ap (λ (items : List Item). wearing_volumes words (take n rest) ++ items) (append-nil (wearing_in words (carrying_segments words e))))
+    ∙ ap (λ (items : List MakeStep). wearing_volumes words (take n rest) ++ items) (append-nil (wearing_in words (carrying_segments words e))))
 
 pub volumes_whole : (words : List ℕ) (n : ℕ) (xs : List Entry) → wearing_volumes words (take n xs) ++ wearing_volumes words (drop n xs) ≡ wearing_volumes words xs
 volumes_whole words n xs = sym (wearing_volumes_part words (take n xs) (drop n xs)) ∙ ap (wearing_volumes words) (take-append-drop n xs)
@@ -131,7 +131,7 @@ summing_part v zero n =
 summing_part v (suc m) n =
     let first : suc m + n ≡ suc (m + n) = omega arith in
     let here : v + 1 + m ≡ v + suc m = omega arith in
-    ap (summing v) first ∙ ap (λ (xs : List Item). SumVolume v ∷ xs) (summing_part (v + 1) m n)
+    ap (summing v) first ∙ ap (λ (xs : List MakeStep). SumVolume v ∷ xs) (summing_part (v + 1) m n)
     ∙ ap (λ (w : ℕ). SumVolume v ∷ (summing (v + 1) m ++ summing w n)) here
 
 pub summing_next : (v n : ℕ) → summing v n ++ SumVolume (v + n) ∷ [] ≡ summing v (n + 1)

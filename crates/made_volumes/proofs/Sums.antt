@@ -12,7 +12,7 @@ use Rattle.qic_base.specs.Acts.{no_source, around}
 use Rattle.qic_base.proofs.Joins.{steps_of-append, sink_cut_one}
 use Rattle.cartridge_spec.specs.Table.{Entry}
 use Rattle.cartridge_spec.specs.Volumes.{volume_length}
-use Rattle.command_spec.specs.Restore.{Piece, Ending, Restored, LostIn, MismatchIn, Restores, pieces}
+use Rattle.command_spec.specs.Restore.{Piece, GivingEnd, Restored, LostIn, MismatchIn, Restores, pieces}
 use Rattle.command_laws.proofs.RestoreCounts.{restores_in_no_step}
 use Rattle.tape_script.specs.Generator.{sum_means}
 use Rattle.command_laws.specs.OutputText.{AreOf}
@@ -25,7 +25,7 @@ use Rattle.volume_store.specs.Restoring.{RestoreEnds}
 use Rattle.made_volumes.specs.declared.fault.MakeFault.TheVariants as fault
 use Rattle.made_volumes.specs.Faults.{is_of_step, fault_of, printed}
 use Rattle.command_spec.specs.Make.{SumVolume}
-use Rattle.command_spec.specs.Make.{Answer, Done, Does, Runs, IsSummed, sum_line, sum_acts, ending_answer}
+use Rattle.command_spec.specs.Make.{Answer, Done, StepDoes, Runs, IsSummed, sum_line, sum_acts, ending_answer}
 use Rattle.command_spec.specs.Make.{MaySum}
 use Rattle.made_volumes.specs.Runs.{HasRun, RunEnds, NeverFull}
 use Rattle.command_laws.proofs.MadeMachineLaws.{run_of, done_of, does_one}
@@ -52,7 +52,7 @@ of_no_step [] (act ∷ acts) are = absurd are
 of_no_step (piece ∷ needed) (act ∷ acts) (none, long, are) = ap (λ (steps : List Step). steps ++ steps_of acts) none ∙ of_no_step needed acts are
 
 -- the acts of a line take no step
-sum_next : (number bytes : ℕ) (given : List ℕ) (ending : Ending) → next_steps (sum_acts number bytes given ending) ≡ []
+sum_next : (number bytes : ℕ) (given : List ℕ) (ending : GivingEnd) → next_steps (sum_acts number bytes given ending) ≡ []
 sum_next number bytes given Restored = refl
 sum_next number bytes given (LostIn segment lost) = refl
 sum_next number bytes given (MismatchIn segment) = refl
@@ -76,23 +76,23 @@ module _ {T K : Type 0} (t : tapes.Meaning T) (k : sinks.Meaning K) (seed : ℕ)
   entries = before.entries
 
   -- a volume of this number was read up to this ending, and its bytes summed
-  abbrev Gave : Entry → Ending → Type 0
+  abbrev Gave : Entry → GivingEnd → Type 0
   Gave e ending = GaveVolume t sum_means words (pieces words e) false (around a 0) (around b total) ending
 
-  no_steps : (e : Entry) (ending : Ending) (gave : Gave e ending) → steps_of gave.acts ≡ []
+  no_steps : (e : Entry) (ending : GivingEnd) (gave : Gave e ending) → steps_of gave.acts ≡ []
   no_steps e ending gave = of_no_step (pieces words e) gave.acts gave.are
 
-  did_nothing : (e : Entry) (ending : Ending) → Gave e ending → tapes.Done t a b []
+  did_nothing : (e : Entry) (ending : GivingEnd) → Gave e ending → tapes.Done t a b []
   did_nothing e ending gave = subst (λ (steps : List Step). tapes.Done t a b steps) (no_steps e ending gave) gave.went.did
 
-  total_is : (e : Entry) (ending : Ending) (gave : Gave e ending) → total < 2 ^ 32 → sum (text_of gave.acts) % 2 ^ 32 ≡ total
+  total_is : (e : Entry) (ending : GivingEnd) (gave : Gave e ending) → total < 2 ^ 32 → sum (text_of gave.acts) % 2 ^ 32 ≡ total
   total_is e ending gave small =
       let took : total % 2 ^ 32 ≡ (0 + sum (text_of gave.acts)) % 2 ^ 32 = gave.went.wrote.took in
       omega arith
 
-  summed_so : (e : Entry) (ending : Ending) (gave : Gave e ending) (c : Cartridge) → volume_at entries number ≡ Some e →
+  summed_so : (e : Entry) (ending : GivingEnd) (gave : Gave e ending) (c : Cartridge) → volume_at entries number ≡ Some e →
       Restores c words (pieces words e) gave.acts ending →
-      Does seed c words entries (SumVolume number) (sum_acts number (volume_length words e) (text_of gave.acts) ending) (ending_answer ending)
+      StepDoes seed c words entries (SumVolume number) (sum_acts number (volume_length words e) (text_of gave.acts) ending) (ending_answer ending)
   summed_so e ending gave c numbered restores = record {
     entry = e;
     numbered = numbered;
@@ -115,10 +115,10 @@ module _ {T K : Type 0} (t : tapes.Meaning T) (k : sinks.Meaning K) (seed : ℕ)
   acts_are e gave small = ap (λ (n : ℕ). record { steps = []; text = sum_line number (volume_length words e) n } ∷ []) (total_is e Restored gave small)
 
   line_told : (e : Entry) (gave : Gave e Restored) → total < 2 ^ 32 → volume_at entries number ≡ Some e →
-      tapes.Tells t a (λ c. Does seed c words entries (SumVolume number) (line_act e ∷ []) Done)
+      tapes.Tells t a (λ c. StepDoes seed c words entries (SumVolume number) (line_act e ∷ []) Done)
   line_told e gave small numbered =
-      Tells-map t a (λ c. Restores c words (pieces words e) gave.acts Restored) (λ c. Does seed c words entries (SumVolume number) (line_act e ∷ []) Done)
-      (λ c restores. subst (λ (acts : List Act). Does seed c words entries (SumVolume number) acts Done) (acts_are e gave small) (summed_so e Restored gave c numbered restores))
+      Tells-map t a (λ c. Restores c words (pieces words e) gave.acts Restored) (λ c. StepDoes seed c words entries (SumVolume number) (line_act e ∷ []) Done)
+      (λ c restores. subst (λ (acts : List Act). StepDoes seed c words entries (SumVolume number) acts Done) (acts_are e gave small) (summed_so e Restored gave c numbered restores))
       gave.told
 
   line_written : (y : K) (e : Entry) → Gave e Restored → total < 2 ^ 32 → volume_at entries number ≡ Some e → sinks.Wrote k x y (line_of e) →
@@ -130,7 +130,7 @@ module _ {T K : Type 0} (t : tapes.Meaning T) (k : sinks.Meaning K) (seed : ℕ)
       wrote = subst (λ (text : List ℕ). sinks.Wrote k x y text) (sym (append-nil (line_of e))) wrote;
       source_later = omega arith;
     };
-    told = Tells-map t a (λ c. Does seed c words entries (SumVolume number) (line_act e ∷ []) Done)
+    told = Tells-map t a (λ c. StepDoes seed c words entries (SumVolume number) (line_act e ∷ []) Done)
         (λ c. Runs seed c words entries (SumVolume number ∷ []) (line_act e ∷ []) Done)
         (λ c does. run_of seed c words entries (SumVolume number) (line_act e ∷ []) Done does) (line_told e gave small numbered);
     may = may_of seed words entries (SumVolume number) (line_of e ++ []) Done (e, numbered, (total, small, append-nil (line_of e)));
@@ -142,7 +142,7 @@ module _ {T K : Type 0} (t : tapes.Meaning T) (k : sinks.Meaning K) (seed : ℕ)
   line_broke : (y : K) (e : Entry) → Gave e Restored → total < 2 ^ 32 → volume_at entries number ≡ Some e → sinks.BrokeOff k x y (line_of e) →
       RunEnds t k seed words entries (SumVolume number ∷ []) (around a x) (around b y) (Err fault.Sink)
   line_broke y e gave small numbered broke = record {
-    told = Tells-map t a (λ c. Does seed c words entries (SumVolume number) (line_act e ∷ []) Done)
+    told = Tells-map t a (λ c. StepDoes seed c words entries (SumVolume number) (line_act e ∷ []) Done)
         (λ c. (acts : List Act) (answer : Answer) → Runs seed c words entries (SumVolume number ∷ []) acts answer →
         Cut t no_source k (around a x) (around b y) acts SinkFails)
         (λ c does acts answer runs.
@@ -164,7 +164,7 @@ module _ {T K : Type 0} (t : tapes.Meaning T) (k : sinks.Meaning K) (seed : ℕ)
 
   -- ---- a segment that does not read
 
-  refused_went : (e : Entry) (ending : Ending) (gave : Gave e ending) → volume_at entries number ≡ Some e →
+  refused_went : (e : Entry) (ending : GivingEnd) (gave : Gave e ending) → volume_at entries number ≡ Some e →
       sum_acts number (volume_length words e) (text_of gave.acts) ending ≡ [] →
       MaySum words number e [] (ending_answer ending) →
       HasRun t k seed words entries (SumVolume number ∷ []) (around a x) (around b x) (ending_answer ending)
@@ -174,7 +174,7 @@ module _ {T K : Type 0} (t : tapes.Meaning T) (k : sinks.Meaning K) (seed : ℕ)
     told = Tells-map t a (λ c. Restores c words (pieces words e) gave.acts ending)
         (λ c. Runs seed c words entries (SumVolume number ∷ []) [] (ending_answer ending))
         (λ c restores. run_of seed c words entries (SumVolume number) [] (ending_answer ending)
-        (subst (λ (acts : List Act). Does seed c words entries (SumVolume number) acts (ending_answer ending)) silent (summed_so e ending gave c numbered restores))) gave.told;
+        (subst (λ (acts : List Act). StepDoes seed c words entries (SumVolume number) acts (ending_answer ending)) silent (summed_so e ending gave c numbered restores))) gave.told;
     may = may_of seed words entries (SumVolume number) [] (ending_answer ending) (e, numbered, may);
   }
 
@@ -208,7 +208,7 @@ module _ {T K : Type 0} (t : tapes.Meaning T) (k : sinks.Meaning K) (seed : ℕ)
       RunEnds t k seed words entries (SumVolume number ∷ []) (around a x) (around b x) (Err fault.Tape)
   tape_cut e numbered cut = record {
     told = Tells-map t a
-        (λ c. (given : List Act) (ending : Ending) → Restores c words (pieces words e) given ending →
+        (λ c. (given : List Act) (ending : GivingEnd) → Restores c words (pieces words e) given ending →
         Cut t no_source sum_means (around a 0) (around b total) given TapeFails)
         (λ c. (acts : List Act) (answer : Answer) → Runs seed c words entries (SumVolume number ∷ []) acts answer →
         Cut t no_source k (around a x) (around b x) acts TapeFails)
@@ -217,7 +217,7 @@ module _ {T K : Type 0} (t : tapes.Meaning T) (k : sinks.Meaning K) (seed : ℕ)
     cut = no_step_cut cut.acts [] (of_no_step (pieces words e) cut.acts cut.are) refl cut.cut;
   }
     where
-      by_does : (c : Cartridge) → ((given : List Act) (ending : Ending) → Restores c words (pieces words e) given ending →
+      by_does : (c : Cartridge) → ((given : List Act) (ending : GivingEnd) → Restores c words (pieces words e) given ending →
           Cut t no_source sum_means (around a 0) (around b total) given TapeFails) →
           (acts : List Act) (answer : Answer) → IsSummed c words entries number acts answer → Cut t no_source k (around a x) (around b x) acts TapeFails
       by_does c known acts answer summed =

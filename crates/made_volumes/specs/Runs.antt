@@ -8,12 +8,12 @@ use Rattle.cartridge_spec.specs.Table.{Entry}
 use Rattle.volume_store.specs.Mounting.{StoreView}
 use Rattle.made_volumes.specs.declared.fault.MakeFault.{MakeFault}
 use Rattle.made_volumes.specs.declared.fault.MakeFault.TheVariants as fault
-use Rattle.command_spec.specs.Make.{Item, made_list, making}
+use Rattle.command_spec.specs.Make.{MakeStep, made_list, making}
 use Rattle.command_spec.specs.Make.{Answer, Done, Protected, TableMismatch, Full, Lost, Mismatch, Runs, made_answer}
 use Rattle.command_spec.specs.Make.{MayRun}
 
 -- All acts of some steps went, up to this answer: over a cartridge that is told those of the plain machine.
-pub record HasRun {T K : Type 0} (t : tapes.Meaning T) (k : sinks.Meaning K) (seed : ℕ) (words : List ℕ) (entries : List Entry) (items : List Item) (old new : Outside T (Unit {0}) K) (answer : Answer) : Type 0 where
+pub record HasRun {T K : Type 0} (t : tapes.Meaning T) (k : sinks.Meaning K) (seed : ℕ) (words : List ℕ) (entries : List Entry) (items : List MakeStep) (old new : Outside T (Unit {0}) K) (answer : Answer) : Type 0 where
   pub acts : List Act
   pub went : Went t no_source k old new acts
   pub told : tapes.Tells t old.tape (λ c. Runs seed c words entries items acts answer)
@@ -21,7 +21,7 @@ pub record HasRun {T K : Type 0} (t : tapes.Meaning T) (k : sinks.Meaning K) (se
   pub may : MayRun seed words entries items (text_of acts) answer
 
 -- A fault of the tape or of the sink cut them off: over a cartridge that is told in the acts of the plain machine.
-pub record RunCut {T K : Type 0} (t : tapes.Meaning T) (k : sinks.Meaning K) (seed : ℕ) (words : List ℕ) (entries : List Entry) (items : List Item) (old new : Outside T (Unit {0}) K) (failing : Failing) : Type 0 where
+pub record RunCut {T K : Type 0} (t : tapes.Meaning T) (k : sinks.Meaning K) (seed : ℕ) (words : List ℕ) (entries : List Entry) (items : List MakeStep) (old new : Outside T (Unit {0}) K) (failing : Failing) : Type 0 where
   pub told : tapes.Tells t old.tape (λ c. (acts : List Act) (answer : Answer) → Runs seed c words entries items acts answer →
       Cut t no_source k old new acts failing)
   -- and over any tape
@@ -29,7 +29,7 @@ pub record RunCut {T K : Type 0} (t : tapes.Meaning T) (k : sinks.Meaning K) (se
   pub cut : Cut t no_source k old new acts failing
 
 -- how some steps ended
-abbrev pub RunEnds : {T K : Type 0} (t : tapes.Meaning T) (k : sinks.Meaning K) (seed : ℕ) (words : List ℕ) (entries : List Entry) (items : List Item) (old new : Outside T (Unit {0}) K) → Result (Unit {0}) MakeFault → Type 0
+abbrev pub RunEnds : {T K : Type 0} (t : tapes.Meaning T) (k : sinks.Meaning K) (seed : ℕ) (words : List ℕ) (entries : List Entry) (items : List MakeStep) (old new : Outside T (Unit {0}) K) → Result (Unit {0}) MakeFault → Type 0
 RunEnds t k seed words entries items old new (Ok done) = HasRun t k seed words entries items old new Done
 RunEnds t k seed words entries items old new (Err fault.Protected) = HasRun t k seed words entries items old new Protected
 RunEnds t k seed words entries items old new (Err fault.TableMismatch) = HasRun t k seed words entries items old new TableMismatch

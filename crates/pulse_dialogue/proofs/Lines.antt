@@ -18,7 +18,7 @@ use Rattle.command_laws.proofs.TextLined.{one_before}
 use Rattle.pulse_dialogue.specs.declared.line.Line.{Line}
 use Rattle.pulse_dialogue.specs.declared.line.Line.TheVariants.{Pulse, Sample}
 use Rattle.pulse_dialogue.specs.Lines.{time_of, level_digit, line_text, line_bytes, greatest_time, IsLine, IsNoLine, Follows}
-use Rattle.pulse_dialogue.specs.Reading.{IsLineText, GaveOn}
+use Rattle.pulse_dialogue.specs.Reading.{IsLineText, GaveBytes}
 
 -- ---- a text that ends with a space and one byte
 
@@ -202,6 +202,6 @@ line_given m a b before line n is gave long short =
 
 -- a line's bytes are some, and no more than 128
 pub gave_on : {S : Type 0} (m : Meaning S) (a b : S) (line : Line) (n : ℕ) → length (line_bytes line) ≡ n → time_of line ≤ greatest_time → n ≤ 128 →
-    Gave m a b (line_bytes line) → GaveOn m a b
+    Gave m a b (line_bytes line) → GaveBytes m a b
 gave_on m a b line n long few short gave =
     (n, (let s = (bytes_some line few).0 in omega arith), short, (line_bytes line, long, gave))

@@ -20,7 +20,7 @@ use Rattle.pulse_dialogue.specs.Lines.{time_of, line_bytes, most_lines, Ending, 
 use Rattle.pulse_dialogue.specs.Dialogue.{dialogue, IsSound}
 use Rattle.pulse_dialogue.specs.Telling.{HasRoom, continues, continued, told_at, after_line}
 use Rattle.pulse_dialogue.specs.Steps.{Scene, Told, ToldEnd, LineBroke, EndBroke, HasNoLine, Hears, HearsEnd}
-use Rattle.pulse_dialogue.specs.Reading.{GaveOn}
+use Rattle.pulse_dialogue.specs.Reading.{GaveBytes}
 use Rattle.pulse_dialogue.specs.Runs.{Streams, IsInput, Ended, Unread, Unwritten, Tells}
 use Rattle.pulse_dialogue.proofs.Inputs.{lined_from, AreLines, AreLines-push, last_time, last_time-push, lines_bytes, lines_bytes-push, push, read_behind, fault_rest}
 use Rattle.pulse_dialogue.proofs.Tellings.{to_tell, one_line_more, told_at_end, told_at_fault}
@@ -149,7 +149,7 @@ module _ {S K : Type 0} (s : sources.Meaning S) (k : sinks.Meaning K) (gap : ℕ
         }
 
     -- a line is none
-    pub faulty : (number before : ℕ) → count ≤ most_lines → number ≡ count + 1 → before ≡ place → new.sink ≡ now.sink → GaveOn s now.source new.source →
+    pub faulty : (number before : ℕ) → count ≤ most_lines → number ≡ count + 1 → before ≡ place → new.sink ≡ now.sink → GaveBytes s now.source new.source →
         (count + 1 ≤ most_lines → HasNoLine s now.teller now.source) → Ended s k gap start (record { source = new.source; sink = new.sink }) (AtFault number before)
     faulty number before few same equal sink on none =
         let n = on.0 in

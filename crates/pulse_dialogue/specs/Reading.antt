@@ -18,13 +18,13 @@ abbrev pub BeginsWithNoLine : {S : Type 0} → Meaning S → S → Type 0
 BeginsWithNoLine m s = (line : Line) → BeginsWithNo m s (λ text. IsLineText text line)
 
 -- it gave some bytes, no more than a line's
-abbrev pub GaveOn : {S : Type 0} → Meaning S → (old new : S) → Type 0
-GaveOn m old new = (n : ℕ) × (0 < n) × (n ≤ 128) × GaveSome m old new n
+abbrev pub GaveBytes : {S : Type 0} → Meaning S → (old new : S) → Type 0
+GaveBytes m old new = (n : ℕ) × (0 < n) × (n ≤ 128) × GaveSome m old new n
 
 -- the end of the source before any byte; bytes that begin with no line; or a line, with its newline
 abbrev pub ReadsLine : {S E : Type 0} → Meaning S → (old new : S) → Result LineRead E → Type 0
 ReadsLine m old new (Ok read.End) = HasEnded m old × Gave m old new []
-ReadsLine m old new (Ok read.Bad) = GaveOn m old new × BeginsWithNoLine m old
+ReadsLine m old new (Ok read.Bad) = GaveBytes m old new × BeginsWithNoLine m old
 ReadsLine m old new (Ok (read.Line line n)) =
     (time_of line ≤ greatest_time) × (length (line_bytes line) ≡ n) × (n ≤ 128)
     × Gave m old new (line_bytes line)

@@ -10,7 +10,7 @@ use Rattle.pulse_dialogue.specs.declared.line.Line.{Line}
 use Rattle.pulse_dialogue.specs.declared.teller.Teller.{Teller}
 use Rattle.pulse_dialogue.specs.Lines.{line_bytes, Follows}
 use Rattle.pulse_dialogue.specs.Dialogue.{IsSound}
-use Rattle.pulse_dialogue.specs.Reading.{GaveOn}
+use Rattle.pulse_dialogue.specs.Reading.{GaveBytes}
 use Rattle.pulse_dialogue.specs.Telling.{told_at, after_line, ended_text}
 
 -- a teller, the source and the sink
@@ -60,7 +60,7 @@ abbrev pub Hears : {S K : Type 0} (s : sources.Meaning S) (k : sinks.Meaning K) 
 Hears s k old new line place (Ok (Some n)) = Told s k old new n
 Hears s k old new line place (Ok None) = ToldEnd s k old new
 Hears s k old new line place (Err (fault.Line number before)) =
-    (number ≡ line) × (before ≡ place) × (new.sink ≡ old.sink) × GaveOn s old.source new.source
+    (number ≡ line) × (before ≡ place) × (new.sink ≡ old.sink) × GaveBytes s old.source new.source
     × HasNoLine s old.teller old.source
 Hears s k old new line place (Err fault.Source) = new.sink ≡ old.sink
 Hears s k old new line place (Err fault.Sink) = LineBroke s k old new ⊎ EndBroke s k old new
@@ -69,6 +69,6 @@ Hears s k old new line place (Err fault.Sink) = LineBroke s k old new ⊎ EndBro
 abbrev pub HearsEnd : {S K : Type 0} (s : sources.Meaning S) (k : sinks.Meaning K) (old new : Scene S K) (line place : ℕ) → Result (Unit {0}) TraceFault → Type 0
 HearsEnd s k old new line place (Ok done) = ToldEnd s k old new
 HearsEnd s k old new line place (Err (fault.Line number before)) =
-    (number ≡ line) × (before ≡ place) × (new.sink ≡ old.sink) × GaveOn s old.source new.source
+    (number ≡ line) × (before ≡ place) × (new.sink ≡ old.sink) × GaveBytes s old.source new.source
 HearsEnd s k old new line place (Err fault.Source) = new.sink ≡ old.sink
 HearsEnd s k old new line place (Err fault.Sink) = EndBroke s k old new

@@ -20,7 +20,7 @@ use Rattle.volume_store.specs.Mounting.{StoreView}
 use Rattle.command_laws.proofs.StoreTaking.{both_true}
 use Rattle.made_volumes.specs.declared.fault.MakeFault.{MakeFault}
 use Rattle.made_volumes.specs.declared.fault.MakeFault.TheVariants as fault
-use Rattle.command_spec.specs.Make.{Item, AppendMade, WearSector, ScrubAll, SumVolume, after_item, making}
+use Rattle.command_spec.specs.Make.{MakeStep, AppendMade, WearSector, ScrubAll, SumVolume, after_item, making}
 use Rattle.command_spec.specs.Make as made
 use Rattle.command_spec.specs.Make.{Answer, Makes, made_answer}
 use Rattle.command_spec.specs.Make.{MayDo, MayRun}
@@ -75,7 +75,7 @@ full_sound seed count ws es volume need have is = by_room (has_promised_room (ro
 lost_sound : (seed count segment lost : ℕ) → 3 < lost → may_come_from (status.Lost segment lost) (words.Make seed count) ≡ true
 lost_sound seed count segment lost many = both_true (nat_lt 3 lost) true (lt-ltb 3 lost many) refl
 
-do_sound : (seed count : ℕ) (ws : List ℕ) (es : List Entry) (item : Item) (text : List ℕ) (answer : Answer) → MayDo seed ws es item text answer →
+do_sound : (seed count : ℕ) (ws : List ℕ) (es : List Entry) (item : MakeStep) (text : List ℕ) (answer : Answer) → MayDo seed ws es item text answer →
     may_come_from (make_status answer) (words.Make seed count) ≡ true
 do_sound seed count ws es item text made.Done may = refl
 do_sound seed count ws es item text made.Protected may = refl
@@ -90,7 +90,7 @@ do_sound seed count ws es ScrubAll text (made.Lost segment lost) may = absurd ma
 do_sound seed count ws es (SumVolume number) text (made.Lost segment lost) may = let at = may.2.1.1 in lost_sound seed count segment lost at.0
 do_sound seed count ws es item text (made.Mismatch segment) may = refl
 
-run_sound : (seed count : ℕ) (ws : List ℕ) (items : List Item) (es : List Entry) (text : List ℕ) (answer : Answer) → MayRun seed ws es items text answer →
+run_sound : (seed count : ℕ) (ws : List ℕ) (items : List MakeStep) (es : List Entry) (text : List ℕ) (answer : Answer) → MayRun seed ws es items text answer →
     may_come_from (make_status answer) (words.Make seed count) ≡ true
 run_sound seed count ws [] es text answer (none, done) = subst (λ (a : Answer). may_come_from (make_status a) (words.Make seed count) ≡ true) (sym done) refl
 run_sound seed count ws (item ∷ items) es text answer (inl (other, may)) = do_sound seed count ws es item text answer may

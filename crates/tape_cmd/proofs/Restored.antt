@@ -17,7 +17,7 @@ use Rattle.cartridge_spec.specs.Mounting.{Mounting}
 use Rattle.cartridge_spec.specs.Table.{Entry}
 use Rattle.drive_states.specs.Unit.{UnitView}
 use Rattle.cartridge_laws.proofs.MountOnce.{mounts_is_function}
-use Rattle.command_spec.specs.Restore.{Piece, Ending, Restored, LostIn, MismatchIn, Restores, pieces}
+use Rattle.command_spec.specs.Restore.{Piece, GivingEnd, Restored, LostIn, MismatchIn, Restores, pieces}
 use Rattle.command_spec.specs.declared.words.Words.TheVariants as words
 use Rattle.volume_output.specs.Output.{GaveVolume, VolumeCut}
 use Rattle.volume_store.specs.Mounting.{StoreView}
@@ -79,13 +79,13 @@ pub restore_refused : {T K : Type 0} (t : tapes.Meaning T) (k : sinks.Meaning K)
     OpeningEnds t a b (Err why) → EndsBlind t k (words.Restore number) a b.tape x x why
 restore_refused t k number a b x why nothing ends = refuses t k (words.Restore number) (Gives number) a b x why (restore_follows number) nothing ends
 
-ending_sound : (number : ℕ) (needed : List Piece) (done : ℕ) (ending : Ending) → EndsAt needed done ending → may_come_from (ending_status ending) (words.Restore number) ≡ true
+ending_sound : (number : ℕ) (needed : List Piece) (done : ℕ) (ending : GivingEnd) → EndsAt needed done ending → may_come_from (ending_status ending) (words.Restore number) ≡ true
 ending_sound number needed done Restored at = refl
 ending_sound number needed done (LostIn segment lost) at = both_true (nat_lt 3 lost) true (lt-ltb 3 lost at.0) refl
 ending_sound number needed done (MismatchIn segment) at = refl
 
 -- some of the bytes, where a segment doesn't read
-refused_prints : (number : ℕ) (ending : Ending) (text : List ℕ) → ending_status ending ≢ status.Done → RefusedPrints (words.Restore number) (ending_status ending) text
+refused_prints : (number : ℕ) (ending : GivingEnd) (text : List ℕ) → ending_status ending ≢ status.Done → RefusedPrints (words.Restore number) (ending_status ending) text
 refused_prints number Restored text other = absurd (other refl)
 refused_prints number (LostIn segment lost) text other = tt
 refused_prints number (MismatchIn segment) text other = tt
@@ -108,7 +108,7 @@ module _ {T K : Type 0} (t : tapes.Meaning T) (k : sinks.Meaning K) (number : �
       (λ c table there mounts settles. inl (none, ap (λ (ss : List TapeStep). refused_behind ss (status.NoVolume number (length store.entries))) settles)))) opening.did
 
   -- its bytes were given, up to this ending
-  pub restored : (c : T) (x y : K) (e : Entry) (ending : Ending) → TakesBoth k → ((z : K) → k.took z [] z) → volume_at store.entries number ≡ Some e →
+  pub restored : (c : T) (x y : K) (e : Entry) (ending : GivingEnd) → TakesBoth k → ((z : K) → k.took z [] z) → volume_at store.entries number ≡ Some e →
       GaveVolume t k store.words (needed e) false (around b.tape x) (around c y) ending → EndsBlind t k (words.Restore number) a c x y (ending_status ending)
   restored c x y e ending both nothing numbered gave =
       let outcome : CommandOutcome = given (quiet opening.steps ∷ gave.acts) (ending_status ending) in
@@ -146,7 +146,7 @@ module _ {T K : Type 0} (t : tapes.Meaning T) (k : sinks.Meaning K) (number : �
 
   -- over a mounted cartridge the acts of the outcome were cut off
   restoring_cut : (c : T) (x y : K) (e : Entry) (failing : Failing) → TakesBoth k → ((z : K) → k.took z [] z) → volume_at store.entries number ≡ Some e → (d : Cartridge) → (is : IsOpened d store opening.steps) →
-      ((acts : List Act) (ending : Ending) → Restores (mounting.settled is.table d) store.words (needed e) acts ending → Cut t no_source k (around b.tape x) (around c y) acts failing) →
+      ((acts : List Act) (ending : GivingEnd) → Restores (mounting.settled is.table d) store.words (needed e) acts ending → Cut t no_source k (around b.tape x) (around c y) acts failing) →
       (outcome : CommandOutcome) → RestoreOutcome number (Some d) outcome → IsCutOff t no_source k (words.Restore number) (around a x) (around c y) failing outcome
   restoring_cut c x y e failing both nothing numbered d is each outcome (m, mounts, does) =
       let same : m ≡ mounting.Mounted store.header store.words is.table store.entries = mounts_is_function d m _ mounts is.mounts in
@@ -178,7 +178,7 @@ module _ {T K : Type 0} (t : tapes.Meaning T) (k : sinks.Meaning K) (number : �
     refl,
     record {
       told = settled_told t a b store opening
-          (λ d. (acts : List Act) (ending : Ending) → Restores d store.words (needed e) acts ending → Cut t no_source k (around b.tape x) (around c y) acts failing) _ cut.told
+          (λ d. (acts : List Act) (ending : GivingEnd) → Restores d store.words (needed e) acts ending → Cut t no_source k (around b.tape x) (around c y) acts failing) _ cut.told
           (λ d is each. (
             [],
             tt,

@@ -21,7 +21,7 @@ use Rattle.volume_script.specs.declared.fault.ScriptFault.TheVariants as fault
 use Rattle.command_spec.specs.Script.{end_line}
 use Rattle.volume_script.specs.Runs as runs
 use Rattle.command_spec.specs.Script as scripts
-use Rattle.command_spec.specs.Script.{Answer, AllDone, FaultIn, ScriptDoes, answer_by}
+use Rattle.command_spec.specs.Script.{Answer, AllDone, FaultIn, ScriptDoes, script_answer}
 use Rattle.volume_store.specs.Mounting.{StoreView}
 use Rattle.command_spec.specs.declared.status.Status.{Status}
 use Rattle.command_spec.specs.declared.status.Status.TheVariants as status
@@ -40,7 +40,7 @@ use Rattle.command_laws.proofs.CommandTold.{input_of, input_told}
 
 -- ---- the fault of an input
 
-fault_ended : (ending : Ending) (line place : ℕ) → answer_by ending ≡ FaultIn line place → ending ≡ AtFault line place
+fault_ended : (ending : Ending) (line place : ℕ) → script_answer ending ≡ FaultIn line place → ending ≡ AtFault line place
 fault_ended AtEnd line place is = cc
 fault_ended AtStop line place is = cc
 fault_ended (AtFault number before) line place is = cc
@@ -53,12 +53,12 @@ answer_done : (answer : Answer) → script_status answer ≡ status.Done → ans
 answer_done AllDone is = refl
 answer_done (FaultIn number before) is = cc
 
-names_fault : (input : List ℕ) (items : List Item) (ending : Ending) (answer : Answer) → IsScript input items ending → answer ≡ answer_by ending → NamesFault words.Script input (script_status answer)
+names_fault : (input : List ℕ) (items : List Item) (ending : Ending) (answer : Answer) → IsScript input items ending → answer ≡ script_answer ending → NamesFault words.Script input (script_status answer)
 names_fault input items ending answer read is = record {
   named = λ line place same. (items, subst (IsScript input items) (fault_ended ending line place (sym is ∙ answer_named answer line place same)) read);
   none = λ done line place fault.
       let same = inputs.one_reading IsItem inputs.items 1 0 input items fault.0 ending (AtFault line place) read fault.1 in
-      let other : answer_by ending ≡ FaultIn line place = ap answer_by same.1 in
+      let other : script_answer ending ≡ FaultIn line place = ap script_answer same.1 in
       let all : answer ≡ AllDone = answer_done answer done in
       cc;
 }

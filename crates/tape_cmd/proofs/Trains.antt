@@ -14,7 +14,7 @@ use Rattle.command_laws.proofs.TextInputs as inputs
 use Rattle.tape_pulses.specs.declared.fault.PulseFault.{PulseFault}
 use Rattle.tape_pulses.specs.declared.fault.PulseFault.TheVariants as fault
 use Rattle.command_spec.specs.Pulses as pulses
-use Rattle.command_spec.specs.Pulses.{PulsesOutcome, Answer, AllSent, ScriptFault, answer_by}
+use Rattle.command_spec.specs.Pulses.{PulsesOutcome, Answer, AllSent, ScriptFault, pulses_answer}
 use Rattle.tape_pulses.specs.Runs as runs
 use Rattle.command_laws.proofs.PulseMachineLaws.{one_outcome}
 use Rattle.command_spec.specs.declared.status.Status.{Status}
@@ -25,7 +25,7 @@ use Rattle.command_spec.specs.Runs.{InputLeft, fault_of, may_come_from, NamesFau
 
 -- ---- the fault of an input
 
-fault_ended : (ending : Ending) (line place : ℕ) → answer_by ending ≡ ScriptFault line place → ending ≡ AtFault line place
+fault_ended : (ending : Ending) (line place : ℕ) → pulses_answer ending ≡ ScriptFault line place → ending ≡ AtFault line place
 fault_ended AtEnd line place is = cc
 fault_ended AtStop line place is = cc
 fault_ended (AtFault number before) line place is = cc
@@ -41,14 +41,14 @@ answer_done (ScriptFault number before) is = cc
 names_fault : (known : Option TapeInfo) (input : List ℕ) (came : pulses.PulseRun) (answer : Answer) → PulsesOutcome known input came → came.answer ≡ answer →
     NamesFault words.Pulses input (sent_status answer)
 names_fault known input came answer plain is =
-    let ends : came.answer ≡ answer_by plain.ending = ap (λ (o : pulses.PulseRun). o.answer) plain.comes in record {
+    let ends : came.answer ≡ pulses_answer plain.ending = ap (λ (o : pulses.PulseRun). o.answer) plain.comes in record {
       named = λ line place same. (
         plain.trains,
         subst (IsPulses input plain.trains) (fault_ended plain.ending line place (sym ends ∙ is ∙ answer_named answer line place same)) plain.read,
       );
       none = λ done line place fault.
           let same = inputs.one_reading IsPulse inputs.pulses 1 0 input plain.trains fault.0 plain.ending (AtFault line place) plain.read fault.1 in
-          let other : answer_by plain.ending ≡ ScriptFault line place = ap answer_by same.1 in
+          let other : pulses_answer plain.ending ≡ ScriptFault line place = ap pulses_answer same.1 in
           let all : answer ≡ AllSent = answer_done answer done in
           cc;
     }

@@ -14,8 +14,8 @@ use Rattle.command_spec.specs.Input.{IsPulse, IsTrain}
 use Rattle.qic_base.specs.Source.{Gave}
 use Rattle.command_laws.proofs.TextInputs as inputs
 use Rattle.tape_script.proofs.Lined.{IsLined-one_newline}
-use Rattle.command_spec.specs.Pulses.{after_train, train_steps, train_act, level_line, train_line}
-use Rattle.tape_pulses.specs.Lines.{Heard, GaveOn}
+use Rattle.command_spec.specs.Pulses.{pulsed_row, train_changes, train_act, level_line, train_line}
+use Rattle.tape_pulses.specs.Lines.{Heard, GaveNoTrain}
 use Rattle.command_laws.proofs.PulseTrains.{pulse_line, pulse_short}
 
 -- the source gave the text of a train, of so many bytes
@@ -36,7 +36,7 @@ some_bytes text train zero pulse none = absurd (inputs.pulses.some text train pu
 some_bytes text train (suc n) pulse more = omega arith
 
 -- a train, where no more may come
-pub gave_on : {S : Type 0} (s : sources.Meaning S) (old new : S) (train n : ℕ) → GaveTrain s old new train n → GaveOn s old new
+pub gave_on : {S : Type 0} (s : sources.Meaning S) (old new : S) (train n : ℕ) → GaveTrain s old new train n → GaveNoTrain s old new
 gave_on s old new train n read = record {
   n = n;
   some = some_bytes read.0 train n read.1 read.2;
@@ -84,31 +84,31 @@ module _ {T S K : Type 0} (t : tapes.Meaning T) (s : sources.Meaning S) (k : sin
       }
 
   -- it was not sent
-  pub unsent : k.took a.sink [] b.sink → k.faults a.sink ≤ k.faults b.sink → tapes.Broke t a.tape b.tape (train_steps r train) →
+  pub unsent : k.took a.sink [] b.sink → k.faults a.sink ≤ k.faults b.sink → tapes.Broke t a.tape b.tape (train_changes r train) →
       Heard s a.source b.source (λ p. Cut t s k a b (train_act r p ∷ []) TapeFails)
   unsent nothing sink_later broke =
       heard (λ p. Cut t s k a b (train_act r p ∷ []) TapeFails)
       (steps_cut a b (train_act r train ∷ []) later broke (record { took = nothing; later = sink_later }))
 
-  module _ (line : Bool) (now : Record) (text : List ℕ) (text_is : text ≡ level_line line) (line_is : line ≡ now.line) (now_is : now ≡ after_train r train) (did : tapes.Done t a.tape b.tape (train_steps r train)) where
+  module _ (line : Bool) (now : Record) (text : List ℕ) (text_is : text ≡ level_line line) (line_is : line ≡ now.line) (now_is : now ≡ pulsed_row r train) (did : tapes.Done t a.tape b.tape (train_changes r train)) where
     -- it was sent, and its level not written
     pub unshown : sinks.BrokeOff k a.sink b.sink text → Heard s a.source b.source (λ p. Cut t s k a b (train_act r p ∷ []) SinkFails)
     unshown broke =
-        let level = level_is line now (after_train r train) text text_is line_is now_is in
+        let level = level_is line now (pulsed_row r train) text text_is line_is now_is in
         heard (λ p. Cut t s k a b (train_act r p ∷ []) SinkFails)
         (sink_cut_one t s k a b (train_act r train) did (subst (sinks.BrokeOff k a.sink b.sink) level broke) later)
 
     -- its level was written, too
     pub shown : sinks.Wrote k a.sink b.sink text →
-        Heard s a.source b.source (λ p. (n ≡ length (train_line p)) × (now ≡ after_train r p) × Went t s k a b (train_act r p ∷ []))
+        Heard s a.source b.source (λ p. (n ≡ length (train_line p)) × (now ≡ pulsed_row r p) × Went t s k a b (train_act r p ∷ []))
     shown wrote =
-        let level = level_is line now (after_train r train) text text_is line_is now_is in
-        heard (λ p. (n ≡ length (train_line p)) × (now ≡ after_train r p) × Went t s k a b (train_act r p ∷ [])) (
+        let level = level_is line now (pulsed_row r train) text text_is line_is now_is in
+        heard (λ p. (n ≡ length (train_line p)) × (now ≡ pulsed_row r p) × Went t s k a b (train_act r p ∷ [])) (
           sym read.2 ∙ ap length (pulse_line read.0 train read.1),
           now_is,
           record {
-            did = subst (tapes.Done t a.tape b.tape) (sym (append-nil (train_steps r train))) did;
-            wrote = subst (sinks.Wrote k a.sink b.sink) (level ∙ sym (append-nil (level_line (after_train r train).line))) wrote;
+            did = subst (tapes.Done t a.tape b.tape) (sym (append-nil (train_changes r train))) did;
+            wrote = subst (sinks.Wrote k a.sink b.sink) (level ∙ sym (append-nil (level_line (pulsed_row r train).line))) wrote;
             source_later = later;
           },
         )

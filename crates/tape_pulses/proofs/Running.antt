@@ -20,10 +20,10 @@ use Rattle.command_laws.proofs.TextReadings.{each_pulses}
 use Rattle.tape_script.proofs.Rests.{any_rest, ended_rest, whole_told, left_behind}
 use Rattle.tape_pulses.specs.declared.fault.PulseFault.{PulseFault}
 use Rattle.tape_pulses.specs.declared.fault.PulseFault.TheVariants as fault
-use Rattle.command_spec.specs.Pulses.{after_train, after_trains, train_act, train_acts, train_line, train_lines, Answer, AllSent, ScriptFault, taken_by, answer_by, outcome_of}
+use Rattle.command_spec.specs.Pulses.{pulsed_row, after_trains, train_act, train_acts, train_line, train_lines, Answer, AllSent, ScriptFault, pulses_taken, pulses_answer, outcome_of}
 use Rattle.tape_pulses.specs.Runs.{Leaves, Ended, CutOff}
 use Rattle.tape_pulses.specs.Runs as runs
-use Rattle.tape_pulses.specs.Lines.{Heard, GaveOn, HasNoTrain, Hears, HearsEnd}
+use Rattle.tape_pulses.specs.Lines.{Heard, GaveNoTrain, HasNoTrain, Hears, HearsEnd}
 use Rattle.tape_pulses.proofs.Hearing.{rests, source_cut, steps_cut}
 use Rattle.tape_pulses.proofs.Inputs.{ArePulses, ArePulses-push, read_behind, comes_first, stop_rest, fault_rest}
 use Rattle.command_laws.proofs.PulseMachineLaws.{fronts_do_fronts}
@@ -120,7 +120,7 @@ module _ {T S K : Type 0} {t : tapes.Meaning T} {s : sources.Meaning S} {k : sin
     pub next : (n : ℕ) → Hears t s k now new r after (lines + 1) place (Ok (Some n)) → SoFar t s k start new after (lines + 1) (place + n)
     next n heard =
         let before : Record = after_trains (power_on far.known) far.trains in
-        let drive : after ≡ after_train before heard.train = heard.came.1 ∙ ap (λ (x : Record). after_train x heard.train) far.drive in
+        let drive : after ≡ pulsed_row before heard.train = heard.came.1 ∙ ap (λ (x : Record). pulsed_row x heard.train) far.drive in
         record {
           known = far.known;
           cartridge = far.cartridge;
@@ -142,8 +142,8 @@ module _ {T S K : Type 0} {t : tapes.Meaning T} {s : sources.Meaning S} {k : sin
 
     -- how the input ends behind the trains is how it ends
     ended_so : (rest : List ℕ) (ending : Ending) (answer : Answer) → lines ≤ most_items → Went t s k now new [] → after ≡ r →
-        IfSome (s.left now.source) (λ bytes. bytes ≡ rest) → ItemsEnd IsPulse (lines + 1) place rest ending → answer_by ending ≡ answer →
-        Leaves s start.source new.source (taken_by (train_lines far.trains ++ rest) far.trains ending) answer → Ended t s k start new after answer
+        IfSome (s.left now.source) (λ bytes. bytes ≡ rest) → ItemsEnd IsPulse (lines + 1) place rest ending → pulses_answer ending ≡ answer →
+        Leaves s start.source new.source (pulses_taken (train_lines far.trains ++ rest) far.trains ending) answer → Ended t s k start new after answer
     ended_so rest ending answer few none drive told ends answered left =
         let input : List ℕ = train_lines far.trains ++ rest in
         let acts : List Act = train_acts (power_on far.known) far.trains in
@@ -179,7 +179,7 @@ module _ {T S K : Type 0} {t : tapes.Meaning T} {s : sources.Meaning S} {k : sin
         (sym (length-append (train_lines far.trains) (codes "end\n"))))
 
     -- a line is none
-    faulty : (number at : ℕ) → lines ≤ most_items → Went t s k now new [] → after ≡ r → number ≡ lines + 1 → at ≡ place → (on : GaveOn s now.source new.source) →
+    faulty : (number at : ℕ) → lines ≤ most_items → Went t s k now new [] → after ≡ r → number ≡ lines + 1 → at ≡ place → (on : GaveNoTrain s now.source new.source) →
         (lines + 1 ≤ most_items → HasNoTrain s now.source) → Ended t s k start new after (ScriptFault number at)
     faulty number at few none drive same equal on no_train =
         let behind = fault_rest (s.left now.source) (s.left new.source) (lines + 1) on.n on.gave.0 on.some on.gave.1 on.gave.2 on.no_stop no_train in

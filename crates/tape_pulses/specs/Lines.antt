@@ -11,7 +11,7 @@ use Rattle.qic_base.specs.Source.{Gave, HasEnded}
 use Rattle.tape_script.specs.Reading.{GaveInLine, BeginsWithNo}
 use Rattle.tape_pulses.specs.declared.fault.PulseFault.{PulseFault}
 use Rattle.tape_pulses.specs.declared.fault.PulseFault.TheVariants as fault
-use Rattle.command_spec.specs.Pulses.{after_train, train_act, train_line}
+use Rattle.command_spec.specs.Pulses.{pulsed_row, train_act, train_line}
 
 -- ---- the source
 
@@ -23,7 +23,7 @@ pub record Heard {S : Type 0} (s : sources.Meaning S) (old new : S) (Came : ℕ 
   pub came : Came train
 
 -- it gave some bytes, no more than a line's and none behind a newline, and the line `end` did not begin there
-pub record GaveOn {S : Type 0} (s : sources.Meaning S) (old new : S) : Type 0 where
+pub record GaveNoTrain {S : Type 0} (s : sources.Meaning S) (old new : S) : Type 0 where
   pub n : ℕ
   pub some : 0 < n
   pub few : n ≤ 128
@@ -46,11 +46,11 @@ GaveEnd s old new = (HasEnded s old × Gave s old new []) ⊎ Gave s old new (co
 abbrev pub Hears : {T S K : Type 0} (t : tapes.Meaning T) (s : sources.Meaning S) (k : sinks.Meaning K) (old new : Outside T S K) (before after : Record) (line place : ℕ) → Result (Option ℕ) PulseFault → Type 0
 Hears t s k old new before after line place (Ok (Some n)) =
     Heard s old.source new.source (λ train.
-    (n ≡ length (train_line train)) × (after ≡ after_train before train) × Went t s k old new (train_act before train ∷ []))
+    (n ≡ length (train_line train)) × (after ≡ pulsed_row before train) × Went t s k old new (train_act before train ∷ []))
 Hears t s k old new before after line place (Ok None) =
     Went t s k old new [] × (after ≡ before) × GaveEnd s old.source new.source
 Hears t s k old new before after line place (Err (fault.Script number at)) =
-    Went t s k old new [] × (after ≡ before) × (number ≡ line) × (at ≡ place) × GaveOn s old.source new.source × HasNoTrain s old.source
+    Went t s k old new [] × (after ≡ before) × (number ≡ line) × (at ≡ place) × GaveNoTrain s old.source new.source × HasNoTrain s old.source
 Hears t s k old new before after line place (Err fault.Source) = Cut t s k old new [] SourceFails
 Hears t s k old new before after line place (Err fault.Sink) =
     Heard s old.source new.source (λ train. Cut t s k old new (train_act before train ∷ []) SinkFails)
@@ -60,7 +60,7 @@ Hears t s k old new before after line place (Err fault.Tape) =
 -- what the line did behind the last that may be a train
 abbrev pub HearsEnd : {S : Type 0} (s : sources.Meaning S) (old new : S) (line place : ℕ) → Result (Unit {0}) PulseFault → Type 0
 HearsEnd s old new line place (Ok done) = GaveEnd s old new
-HearsEnd s old new line place (Err (fault.Script number at)) = (number ≡ line) × (at ≡ place) × GaveOn s old new
+HearsEnd s old new line place (Err (fault.Script number at)) = (number ≡ line) × (at ≡ place) × GaveNoTrain s old new
 HearsEnd s old new line place (Err fault.Source) = Rose (s.faults old) (s.faults new)
 HearsEnd s old new line place (Err fault.Sink) = ⊥
 HearsEnd s old new line place (Err fault.Tape) = ⊥

@@ -2,7 +2,7 @@
 
 ghost use Rattle.std.specs.Prelude.{◌≡◌, OnOk};
 ghost use Rattle.qic_base.specs.Tape.{Does};
-ghost use Rattle.command_spec.specs.Pulses.{after_train, train_steps, level_line};
+ghost use Rattle.command_spec.specs.Pulses.{pulsed_row, train_changes, level_line};
 
 use drive_states::Unit;
 use qic_base::{Tape, TapeFailed};
@@ -17,9 +17,9 @@ pub fn level_text(level: bool) -> &'static [u8]
 /// Sends so many pulses and a gap. Each refusal of the drive is a latched error code.
 pub fn send_train<T: Tape>(unit: &mut Unit<T>, train: u8) -> Result<(), TapeFailed>
     requires no_pulse { unit.old.drive.train ≡ 0 }
-    ensures row { OnOk result (unit.new.drive ≡ after_train unit.old.drive train) }
+    ensures row { OnOk result (unit.new.drive ≡ pulsed_row unit.old.drive train) }
     ensures did { Does T.means unit.old.tape unit.new.tape
-        (train_steps unit.old.drive train) result }
+        (train_changes unit.old.drive train) result }
 {
     for _pulse in 0..train {
         unit.step();

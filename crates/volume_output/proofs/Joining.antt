@@ -3,7 +3,7 @@ use Rattle.std.proofs.Common.{◌≡◌, Bool, true, false, List, [], ◌∷◌,
 use Rattle.command_laws.proofs.OutputJoining.{EndsAt-more}
 use Rattle.command_laws.proofs.RestoreEndings.{restores_is_function}
 use Rattle.command_laws.specs.OutputText.{printed, AreOf}
-use Rattle.command_spec.specs.Restore.{Piece, Restored, IsRead, Ending, PieceEnds, LostIn, MismatchIn, Restores, EndsAt}
+use Rattle.command_spec.specs.Restore.{Piece, Restored, IsRead, GivingEnd, PieceEnds, LostIn, MismatchIn, Restores, EndsAt}
 use Rattle.qic_base.proofs.Joins.{nothing_went, went_both, went_then_cut, cut_is_longer}
 use Rattle.qic_base.proofs.Steps.{Tells-map, Tells-read}
 use Rattle.qic_base.proofs.Writing.{TakesBoth}
@@ -41,7 +41,7 @@ one_act c words piece x y read other =
     let same : x ∷ [] ≡ y ∷ [] =
     (restores_is_function c words (piece ∷ []) (x ∷ []) (y ∷ []) Restored Restored (read, (refl, refl)) (other, (refl, refl))).0 in cc
 
-goes_on : (c : Cartridge) (words : List ℕ) (piece : Piece) (act : Act) (ending : Ending) → IsRead c words piece act → PieceEnds c words piece ending → ⊥
+goes_on : (c : Cartridge) (words : List ℕ) (piece : Piece) (act : Act) (ending : GivingEnd) → IsRead c words piece act → PieceEnds c words piece ending → ⊥
 goes_on c words piece act ending read ends =
     let same : act ∷ [] ≡ [] =
     (restores_is_function c words (piece ∷ []) (act ∷ []) [] Restored ending (read, (refl, refl)) ends).0 in
@@ -90,7 +90,7 @@ module _ {T K : Type 0} (t : tapes.Meaning T) (k : sinks.Meaning K) (words : Lis
     -- ---- it went, and then those behind it ended
 
     module _ (both : TakesBoth k) (new : Outside T (Unit {0}) K) (one : Given) where
-      gave_more : (ending : Ending) → GaveVolume t k words needed lined b new ending → GaveVolume t k words (piece ∷ needed) lined a new ending
+      gave_more : (ending : GivingEnd) → GaveVolume t k words needed lined b new ending → GaveVolume t k words (piece ∷ needed) lined a new ending
       gave_more ending gave =
           let P : Cartridge → Type 0 = λ c. Restores c words needed gave.acts ending in
           let Q : Cartridge → Type 0 = λ c. Restores c words (piece ∷ needed) (one.act ∷ gave.acts) ending in
@@ -113,8 +113,8 @@ module _ {T K : Type 0} (t : tapes.Meaning T) (k : sinks.Meaning K) (words : Lis
           (went_then_cut t no_source k both a b new (printed lined (piece ∷ []) (one.act ∷ [])) (printed lined needed acts) failing one.went cut)
 
       cut_acts : (failing : Failing) (c : Cartridge) → IsRead c words piece one.act →
-          ((acts : List Act) (ending : Ending) → Restores c words needed acts ending → Cut t no_source k b new (printed lined needed acts) failing) →
-          (acts : List Act) (ending : Ending) → Restores c words (piece ∷ needed) acts ending →
+          ((acts : List Act) (ending : GivingEnd) → Restores c words needed acts ending → Cut t no_source k b new (printed lined needed acts) failing) →
+          (acts : List Act) (ending : GivingEnd) → Restores c words (piece ∷ needed) acts ending →
           Cut t no_source k a new (printed lined (piece ∷ needed) acts) failing
       cut_acts failing c read rest [] ending restores = absurd (goes_on c words piece one.act ending read restores)
       cut_acts failing c read rest (act ∷ acts) ending restores =
@@ -124,9 +124,9 @@ module _ {T K : Type 0} (t : tapes.Meaning T) (k : sinks.Meaning K) (words : Lis
 
       cut_more : (failing : Failing) → VolumeCut t k words needed lined b new failing → VolumeCut t k words (piece ∷ needed) lined a new failing
       cut_more failing cut =
-          let P : Cartridge → Type 0 = λ c. (acts : List Act) (ending : Ending) → Restores c words needed acts ending →
+          let P : Cartridge → Type 0 = λ c. (acts : List Act) (ending : GivingEnd) → Restores c words needed acts ending →
           Cut t no_source k b new (printed lined needed acts) failing in
-          let Q : Cartridge → Type 0 = λ c. (acts : List Act) (ending : Ending) → Restores c words (piece ∷ needed) acts ending →
+          let Q : Cartridge → Type 0 = λ c. (acts : List Act) (ending : GivingEnd) → Restores c words (piece ∷ needed) acts ending →
           Cut t no_source k a new (printed lined (piece ∷ needed) acts) failing in
           record {
             told = tells_then t a.tape P Q
@@ -149,7 +149,7 @@ module _ {T K : Type 0} (t : tapes.Meaning T) (k : sinks.Meaning K) (words : Lis
     -- ---- it ended, and those behind it were not begun
 
     -- no act went
-    pub none_given : (ending : Ending) (xs : List Piece) → Went t no_source k a b (printed lined xs []) →
+    pub none_given : (ending : GivingEnd) (xs : List Piece) → Went t no_source k a b (printed lined xs []) →
         tapes.Tells t a.tape (λ c. PieceEnds c words piece ending) → EndsAt (piece ∷ needed) 0 ending →
         GaveVolume t k words (piece ∷ needed) lined a b ending
     none_given ending xs went told ends = record {
@@ -187,8 +187,8 @@ module _ {T K : Type 0} (t : tapes.Meaning T) (k : sinks.Meaning K) (words : Lis
           (cut_is_longer t no_source k a b (printed lined (piece ∷ []) (act ∷ [])) (printed lined needed acts) failing cut)
 
       first_acts : (c : Cartridge) →
-          ((acts : List Act) (ending : Ending) → Restores c words (piece ∷ []) acts ending → Cut t no_source k a b (printed lined (piece ∷ []) acts) failing) →
-          (acts : List Act) (ending : Ending) → Restores c words (piece ∷ needed) acts ending →
+          ((acts : List Act) (ending : GivingEnd) → Restores c words (piece ∷ []) acts ending → Cut t no_source k a b (printed lined (piece ∷ []) acts) failing) →
+          (acts : List Act) (ending : GivingEnd) → Restores c words (piece ∷ needed) acts ending →
           Cut t no_source k a b (printed lined (piece ∷ needed) acts) failing
       first_acts c first [] ending restores = cut_none (first [] ending restores)
       first_acts c first (act ∷ acts) ending restores = cut_one act acts (first (act ∷ []) Restored (restores.0, (refl, refl)))
@@ -207,9 +207,9 @@ module _ {T K : Type 0} (t : tapes.Meaning T) (k : sinks.Meaning K) (words : Lis
       cut_first : VolumeCut t k words (piece ∷ []) lined a b failing → VolumeCut t k words (piece ∷ needed) lined a b failing
       cut_first cut = record {
         told = Tells-map t a.tape
-            (λ c. (acts : List Act) (ending : Ending) → Restores c words (piece ∷ []) acts ending →
+            (λ c. (acts : List Act) (ending : GivingEnd) → Restores c words (piece ∷ []) acts ending →
             Cut t no_source k a b (printed lined (piece ∷ []) acts) failing)
-            (λ c. (acts : List Act) (ending : Ending) → Restores c words (piece ∷ needed) acts ending →
+            (λ c. (acts : List Act) (ending : GivingEnd) → Restores c words (piece ∷ needed) acts ending →
             Cut t no_source k a b (printed lined (piece ∷ needed) acts) failing)
             first_acts cut.told;
         acts = cut.acts;

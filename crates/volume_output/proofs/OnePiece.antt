@@ -15,7 +15,7 @@ use Rattle.cartridge_laws.proofs.Segments.{count_of_cells}
 use Rattle.cartridge_spec.specs.Appending.{bytes_in}
 use Rattle.segment_io.specs.Reading.{HasSolved}
 use Rattle.segment_io.proofs.Going.{tells_always}
-use Rattle.command_spec.specs.Restore.{Piece, Ending, Restored, LostIn, MismatchIn, IsRead, PieceEnds, Restores, act_of}
+use Rattle.command_spec.specs.Restore.{Piece, GivingEnd, Restored, LostIn, MismatchIn, IsRead, PieceEnds, Restores, act_of}
 use Rattle.command_laws.proofs.RestoreEndings.{restores_is_function}
 use Rattle.command_laws.specs.OutputText.{printed}
 use Rattle.volume_output.specs.Output.{GaveVolume, VolumeCut}
@@ -101,7 +101,7 @@ module _ {T K : Type 0} (t : tapes.Meaning T) (k : sinks.Meaning K) (words : Lis
       VolumeCut t k words (piece ∷ []) lined (around old sink) (around new sink) TapeFails
   unread sink none broke = record {
     told = tells_always t old
-        (λ c. (acts : List Act) (ending : Ending) → Restores c words (piece ∷ []) acts ending →
+        (λ c. (acts : List Act) (ending : GivingEnd) → Restores c words (piece ∷ []) acts ending →
         Cut t no_source k (around old sink) (around new sink) (printed lined (piece ∷ []) acts) TapeFails)
         (λ c acts ending restores. before (printed lined (piece ∷ []) acts));
     acts = [];
@@ -158,7 +158,7 @@ module _ {T K : Type 0} (t : tapes.Meaning T) (k : sinks.Meaning K) (words : Lis
         VolumeCut t k words (piece ∷ []) lined (around old a) (around new b) SinkFails
     ungiven broke solved = record {
       told = Tells-map t old (λ c. HasSolved (cells_of c segment mask) sectors)
-          (λ c. (acts : List Act) (ending : Ending) → Restores c words (piece ∷ []) acts ending →
+          (λ c. (acts : List Act) (ending : GivingEnd) → Restores c words (piece ∷ []) acts ending →
           Cut t no_source k (around old a) (around new b) (printed lined (piece ∷ []) acts) SinkFails)
           (λ c has acts ending restores.
           let same : act ∷ [] ≡ acts =

@@ -47,7 +47,7 @@ use Rattle.volume_script.specs.Items.{ItemDone, ItemShort, ItemCut, ItemMismatch
 use Rattle.volume_script.specs.Limited.{limited_means}
 use Rattle.command_spec.specs.Script.{refusal_line}
 use Rattle.volume_script.specs.Promised.{RanPromised, Refuses, replied_so}
-use Rattle.command_spec.specs.Script.{Did, LineDoes, Meeting, Finds, Meets, acts_on, refused, reply, taken_as}
+use Rattle.command_spec.specs.Script.{Did, LineDoes, Meeting, Finds, Meets, acts_on, line_refused, reply, taken_as}
 use Rattle.command_spec.specs.Script as script
 use Rattle.command_laws.proofs.ScriptActs.{quietly, same_acts, same_taking, took_enough, took_too_long, took_short, full_acts, full_taking, short_acts, fits_acts, front_acts, front_and_last, replied_steps, replied_text, input_texts}
 use Rattle.command_laws.proofs.ScriptGiven.{gave_all, gave_few, Behind, behind}
@@ -355,7 +355,7 @@ module _ {T S K : Type 0} (t : tapes.Meaning T) (s : sources.Meaning S) (k : sin
     pub record Refusing (acts : List Act) (refusal : Refusal) : Type 0 where
       pub went : Went t s k (out a i x) (out b j x) acts
       pub told : tapes.Tells t a (λ c. (meeting : Meeting) × Meets c meeting × (((bytes : List ℕ) → acts_on c store.words store.entries name promised date bytes meeting ≡ acts)
-          × ((bytes : List ℕ) → script.appended c store.words store.entries name promised date bytes meeting ≡ refused acts store.entries refusal)))
+          × ((bytes : List ℕ) → script.append_did c store.words store.entries name promised date bytes meeting ≡ line_refused acts store.entries refusal)))
 
     pub refusing_full : (need have : ℕ) → tapes.Tells t a (λ c. c.info.protected ≡ false) →
         (full : AppendRan t (limited_means s) (reading a ran.before) (reading b ran.behind) store name date (Some promised) (TooLong need have)) → Refusing (quietly full.settling ∷ []) (why.Full need have)
@@ -376,9 +376,9 @@ module _ {T S K : Type 0} (t : tapes.Meaning T) (s : sources.Meaning S) (k : sin
                   alone,
                   λ bytes.
                       ap (λ (became : Taking). taken_as by name date (append_acts by name date (Some promised) reply_of bytes) became) (full_taking by name date promised small.0 bytes)
-                      ∙ ap (λ (acts : List Act). refused acts store.entries (why.Full promised (room_in by))) (alone bytes)
-                      ∙ ap (λ (n : ℕ). refused (quietly full.settling ∷ []) store.entries (why.Full n (room_in by))) (sym small.1)
-                      ∙ ap (λ (n : ℕ). refused (quietly full.settling ∷ []) store.entries (why.Full need n)) (sym small.2),
+                      ∙ ap (λ (acts : List Act). line_refused acts store.entries (why.Full promised (room_in by))) (alone bytes)
+                      ∙ ap (λ (n : ℕ). line_refused (quietly full.settling ∷ []) store.entries (why.Full n (room_in by))) (sym small.1)
+                      ∙ ap (λ (n : ℕ). line_refused (quietly full.settling ∷ []) store.entries (why.Full need n)) (sym small.2),
                 ),
               )) (known_so free full.table full.settling full.known);
         }
@@ -393,7 +393,7 @@ module _ {T S K : Type 0} (t : tapes.Meaning T) (s : sources.Meaning S) (k : sin
             (off, is, says.2),
             (
               (λ bytes. sym says.0),
-              λ bytes. ap (λ (acts : List Act). refused acts store.entries (why.Lost segment lost)) (sym says.0),
+              λ bytes. ap (λ (acts : List Act). line_refused acts store.entries (why.Lost segment lost)) (sym says.0),
             ),
           )) free refusal.told;
     }
@@ -482,12 +482,12 @@ module _ {T S K : Type 0} (t : tapes.Meaning T) (s : sources.Meaning S) (k : sin
           })
         where
           by_would : (c : Cartridge) (meeting : Meeting) → Meets c meeting → ((bytes : List ℕ) → acts_on c store.words store.entries name promised date bytes meeting ≡ acts) →
-              ((bytes : List ℕ) → script.appended c store.words store.entries name promised date bytes meeting ≡ refused acts store.entries refusal) → (rest : List ℕ) (zs : List Act) →
+              ((bytes : List ℕ) → script.append_did c store.words store.entries name promised date bytes meeting ≡ line_refused acts store.entries refusal) → (rest : List ℕ) (zs : List Act) →
               WouldDo c store.words store.entries asked rest zs → Cut t s k (out a i x) (out b j2 x) acts SourceFails → Cut t s k (out a i x) (out b j2 x) zs SourceFails
           by_would c meeting meets alone whole rest zs (inl (bytes, (more, (parts, long, (did, is, (other, again, too)))))) cut =
               let one : other ≡ meeting = meets_one c meeting other meets again in
               let acts_are : acts ++ reply (refusal_line refusal) ∷ [] ≡ zs =
-              ap (λ (d : Did). d.acts) (sym (whole bytes) ∙ ap (λ (m : Meeting). script.appended c store.words store.entries name promised date bytes m) (sym one) ∙ sym too) ∙ is in
+              ap (λ (d : Did). d.acts) (sym (whole bytes) ∙ ap (λ (m : Meeting). script.append_did c store.words store.entries name promised date bytes m) (sym one) ∙ sym too) ∙ is in
               subst (λ (ws : List Act). Cut t s k (out a i x) (out b j2 x) ws SourceFails) acts_are
               (cut_is_longer t s k (out a i x) (out b j2 x) acts (reply (refusal_line refusal) ∷ []) SourceFails cut)
           by_would c meeting meets alone whole rest zs (inr (short, (other, again, too))) cut =

@@ -21,7 +21,7 @@ use Rattle.command_spec.specs.Input.{IsLineText}
 use Rattle.qic_base.proofs.Giving.{Gave-Gave}
 use Rattle.tape_script.proofs.Rests.{any_rest, whole_told}
 use Rattle.volume_store.specs.Mounting.{StoreView}
-use Rattle.volume_script.specs.Ending.{GaveOn}
+use Rattle.volume_script.specs.Ending.{GaveNoEnd}
 use Rattle.volume_script.specs.Heard.{HeardItem, HeardShort, HeardCut, HeardMismatch, NextDoes}
 use Rattle.command_laws.specs.ScriptItems.{EarlyDoes}
 use Rattle.volume_script.specs.Items.{ItemDone, ItemShort, ItemCut, ItemMismatched, WouldDo}
@@ -51,7 +51,7 @@ no_stop_behind (Some all) (Some behind) text asked is other gave = λ t rest par
     other (same_line text (codes "end\n") behind rest asked line.End is end_is_line (sym same ∙ parts ∙ ap (λ (l : List ℕ). l ++ rest) stop)).lines
 
 pub on_line : {S : Type 0} (s : sources.Meaning S) (i j : S) (asked : Line) (n : ℕ) → asked ≢ line.End →
-    (text : List ℕ) × IsLineText text asked × (length text ≡ n) × Gave s i j text → GaveOn s i j
+    (text : List ℕ) × IsLineText text asked × (length text ≡ n) × Gave s i j text → GaveNoEnd s i j
 on_line s i j asked n other read = record {
   n = n;
   some = let l = some_text read.0 asked read.1 in let m = read.2 in omega arith;
@@ -64,7 +64,7 @@ no_stop_there : (o : Option (List ℕ)) → IfSome o (λ all. (text rest : List 
 no_stop_there None no_line = tt
 no_stop_there (Some all) no_line = λ t rest parts stop. no_line t rest parts (subst (λ (l : List ℕ). IsLineText l line.End) (sym stop) end_is_line)
 
-pub on_bad : {S : Type 0} (s : sources.Meaning S) (i j : S) (n : ℕ) → 0 < n → GaveInLine s i j n → ((asked : Line) → BeginsWithNo s i (λ text. IsLineText text asked)) → GaveOn s i j
+pub on_bad : {S : Type 0} (s : sources.Meaning S) (i j : S) (n : ℕ) → 0 < n → GaveInLine s i j n → ((asked : Line) → BeginsWithNo s i (λ text. IsLineText text asked)) → GaveNoEnd s i j
 on_bad s i j n some gave no_line = record { n = n; some = some; gave = (gave.0, gave.1, gave.2); no_stop = no_stop_there (s.left i) (no_line line.End) }
 
 module _ {T S K : Type 0} (t : tapes.Meaning T) (s : sources.Meaning S) (k : sinks.Meaning K) where

@@ -117,7 +117,7 @@ listed t s k store after a i x y both none r same wrote =
 -- ---- restore
 
 -- acts behind which there is a reply
-longer_given : {T S K : Type 0} (t : tapes.Meaning T) (s : sources.Meaning S) (k : sinks.Meaning K) (old new : Outside T S K) (words : List ℕ) (entries : List Entry) (number : ℕ) (e : Entry) (parts : List Act) (ending : restoring.Ending) (failing : Failing) →
+longer_given : {T S K : Type 0} (t : tapes.Meaning T) (s : sources.Meaning S) (k : sinks.Meaning K) (old new : Outside T S K) (words : List ℕ) (entries : List Entry) (number : ℕ) (e : Entry) (parts : List Act) (ending : restoring.GivingEnd) (failing : Failing) →
     Cut t s k old new parts failing → Cut t s k old new (given_as words entries number e parts ending).acts failing
 longer_given t s k old new words entries number e parts Restored failing cut = cut_is_longer t s k old new parts (reply (restored_line number (volume_length words e)) ∷ []) failing cut
 longer_given t s k old new words entries number e parts (LostIn segment lost) failing cut =
@@ -130,7 +130,7 @@ module _ {T S K : Type 0} (t : tapes.Meaning T) (s : sources.Meaning S) (k : sin
   restores = line.Restore number
 
   -- this was given, and this replied
-  gave_back : (e : Entry) (ending : restoring.Ending) (text : List ℕ) (r : Result (Unit {0}) SinkFailed) → volume_at store.entries number ≡ Some e →
+  gave_back : (e : Entry) (ending : restoring.GivingEnd) (text : List ℕ) (r : Result (Unit {0}) SinkFailed) → volume_at store.entries number ≡ Some e →
       (gave : GaveVolume t k store.words (pieces store.words e) true (around a x) (around b z) ending) → sinks.Writes k z y text r →
       given store.words store.entries number e gave.acts ending ≡ record { acts = framed (pieces store.words e) gave.acts ++ reply text ∷ []; entries = store.entries } →
       ItemEnds t s k store after (out a i x) (out b i y) restores (replied_so r)
@@ -172,11 +172,11 @@ module _ {T S K : Type 0} (t : tapes.Meaning T) (s : sources.Meaning S) (k : sin
       let needed = pieces store.words e in
       quiet_cut t s k store after restores refl a b i x z failing (framed needed cut.acts)
       (printed_cut t s k a b i i x z (framed needed cut.acts) failing other (omega arith) cut.cut)
-      (Tells-map t a (λ c. (acts : List Act) (ending : restoring.Ending) → Restores c store.words needed acts ending → Cut t no_source k (around a x) (around b z) (framed needed acts) failing)
+      (Tells-map t a (λ c. (acts : List Act) (ending : restoring.GivingEnd) → Restores c store.words needed acts ending → Cut t no_source k (around a x) (around b z) (framed needed acts) failing)
       (λ c. (did : Did) → LineDoes c store.words store.entries restores [] did → Cut t s k (out a i x) (out b i z) did.acts failing)
       (λ c each did does. by_cases c each did does) cut.told)
     where
-      by_cases : (c : Cartridge) → ((acts : List Act) (ending : restoring.Ending) → Restores c store.words (pieces store.words e) acts ending →
+      by_cases : (c : Cartridge) → ((acts : List Act) (ending : restoring.GivingEnd) → Restores c store.words (pieces store.words e) acts ending →
           Cut t no_source k (around a x) (around b z) (framed (pieces store.words e) acts) failing) → (did : Did) → LineDoes c store.words store.entries restores [] did →
           Cut t s k (out a i x) (out b i z) did.acts failing
       by_cases c each did (inl (missing, is)) = let e : None ≡ Some e = sym missing ∙ numbered in absurd (cc)

@@ -34,7 +34,7 @@ use Rattle.command_laws.specs.ScriptItems.{EarlyDoes}
 use Rattle.command_spec.specs.Script.{end_line}
 use Rattle.volume_script.specs.Runs.{Leaves, Ended, CutOff}
 use Rattle.volume_script.specs.Runs as runs
-use Rattle.command_spec.specs.Script.{Answer, AllDone, FaultIn, Did, EndDoes, EndsEarly, FaultDoes, ItemDoes, ItemsDo, ScriptRun, ScriptDoes, acts_of, answer_by, cartridge_behind, entries_behind, place_behind, reply, taken_by}
+use Rattle.command_spec.specs.Script.{Answer, AllDone, FaultIn, Did, EndDoes, EndsEarly, FaultDoes, ItemDoes, ItemsDo, ScriptRun, ScriptDoes, acts_of, script_answer, cartridge_behind, entries_behind, place_behind, reply, items_taken}
 use Rattle.volume_script.proofs.Appended.{flip}
 use Rattle.volume_script.proofs.Hearing.{early_of}
 use Rattle.volume_script.proofs.Input.{no_line_fault, no_line_early, early_fault, none_rest, on_rest, stop_rest}
@@ -128,9 +128,9 @@ module _ {T S K : Type 0} {t : tapes.Meaning T} {s : sources.Meaning S} {k : sin
 
     -- how the input ends behind the items is how it ends
     ended_so : (rest : List ℕ) (ending : Ending) (answer : Answer) (last : List Act) → lines ≤ most_items → Went t s k now new last → IfSome (s.left now.source) (λ bytes. bytes ≡ rest) →
-        ItemsEnd IsItem (lines + 1) place rest ending → answer_by ending ≡ answer → tapes.Tells t now.tape (λ c. EndDoes c store.words store.entries rest ending last) →
+        ItemsEnd IsItem (lines + 1) place rest ending → script_answer ending ≡ answer → tapes.Tells t now.tape (λ c. EndDoes c store.words store.entries rest ending last) →
         (answer ≡ AllDone → last ≡ reply end_line ∷ []) →
-        ((read : IsScript (far.texts ++ rest) far.items ending) → Leaves s start.source new.source (taken_by (far.texts ++ rest) far.items ending read) answer) →
+        ((read : IsScript (far.texts ++ rest) far.items ending) → Leaves s start.source new.source (items_taken (far.texts ++ rest) far.items ending read) answer) →
         Ended t s k first start new answer
     ended_so rest ending answer last few went told ends answered does only left =
         let input : List ℕ = far.texts ++ rest in
@@ -141,8 +141,8 @@ module _ {T S K : Type 0} {t : tapes.Meaning T} {s : sources.Meaning S} {k : sin
         record {
           input = input;
           is_told = whole_told (s.left start.source) (s.left now.source) far.texts rest far.gave told;
-          outcome = record { acts = far.acts ++ last; taken = taken_by input far.items ending read; answer = answer_by ending };
-          told = Tells-map t start.tape _ (λ c. ScriptDoes c first.words first.entries input (record { acts = far.acts ++ last; taken = taken_by input far.items ending read; answer = answer_by ending }))
+          outcome = record { acts = far.acts ++ last; taken = items_taken input far.items ending read; answer = script_answer ending };
+          told = Tells-map t start.tape _ (λ c. ScriptDoes c first.words first.entries input (record { acts = far.acts ++ last; taken = items_taken input far.items ending read; answer = script_answer ending }))
               (λ c both_told.
               let ran = both_told.0 in
               let P : Cartridge → Type 0 = λ d. EndDoes d store.words store.entries rest ending last in
@@ -157,7 +157,7 @@ module _ {T S K : Type 0} {t : tapes.Meaning T} {s : sources.Meaning S} {k : sin
                 did = ran.ran_so;
                 last = last;
                 ends = subst V (sym behind) (subst R (sym ran.entries) (subst Q far.words (subst P (behind_is c ran) both_told.1)));
-                is = ap (λ (acts : List Act). record { acts = acts ++ last; taken = taken_by input far.items ending read; answer = answer_by ending }) ran.are;
+                is = ap (λ (acts : List Act). record { acts = acts ++ last; taken = items_taken input far.items ending read; answer = script_answer ending }) ran.are;
               }) (at_start (λ c. EndDoes c store.words store.entries rest ending last) does);
           answered = answered;
           went = went_both t s k both start now new far.acts last far.went went;
@@ -257,8 +257,8 @@ module _ {T S K : Type 0} {t : tapes.Meaning T} {s : sources.Meaning S} {k : sin
     module _ (tape : T) (source : S) (sink y : K) (rest : List ℕ) (ending : Ending) (told : IfSome (s.left now.source) (λ bytes. bytes ≡ rest)) (ends : ItemsEnd IsItem (lines + 1) place rest ending)
         (went : Went t s k now (out tape source sink) []) (does : (c : Cartridge) → EndDoes c store.words store.entries rest ending (reply end_line ∷ []))
         (only : (c : Cartridge) (acts : List Act) → EndDoes c store.words store.entries rest ending acts → (reply end_line ∷ []) ≡ acts) where
-      replied_end : sinks.Wrote k sink y end_line → answer_by ending ≡ AllDone →
-          ((read : IsScript (far.texts ++ rest) far.items ending) → Leaves s start.source source (taken_by (far.texts ++ rest) far.items ending read) AllDone) →
+      replied_end : sinks.Wrote k sink y end_line → script_answer ending ≡ AllDone →
+          ((read : IsScript (far.texts ++ rest) far.items ending) → Leaves s start.source source (items_taken (far.texts ++ rest) far.items ending read) AllDone) →
           Ended t s k first start (out tape source y) AllDone
       replied_end wrote answered left =
           ended_so both first store store start now (out tape source y) lines place far rest ending AllDone (reply end_line ∷ []) few
@@ -293,7 +293,7 @@ module _ {T S K : Type 0} {t : tapes.Meaning T} {s : sources.Meaning S} {k : sin
     at_end tape source sink y went (inr stop) (Ok done) wrote =
         let behind = stop_rest (s.left now.source) (s.left source) stop in
         replied_end tape source sink y behind.rest AtStop behind.told behind.has went (λ c. refl) (λ c acts is. sym is) wrote refl
-        (λ read. left_behind (s.left start.source) (s.left source) (far.texts ++ codes "end\n") (taken_by (far.texts ++ behind.rest) far.items AtStop read)
+        (λ read. left_behind (s.left start.source) (s.left source) (far.texts ++ codes "end\n") (items_taken (far.texts ++ behind.rest) far.items AtStop read)
         (Gave-Gave s start.source now.source source far.texts (codes "end\n") far.gave stop)
         (ap (λ (n : ℕ). n + length (codes "end\n")) (place_is far.items far.texts behind.rest 1 0 (far.texts ++ behind.rest) AtStop read refl far.reads ∙ plain_place far.texts) ∙ sym (length-append far.texts (codes "end\n"))))
     at_end tape source sink y went (inr stop) (Err fault.Sink) broke =

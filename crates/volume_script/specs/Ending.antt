@@ -11,7 +11,7 @@ use Rattle.volume_script.specs.Heard.{GaveEnd}
 use Rattle.command_spec.specs.Script.{end_line}
 
 -- some bytes were taken, and the line `end` did not begin there
-pub record GaveOn {S : Type 0} (s : sources.Meaning S) (old new : S) : Type 0 where
+pub record GaveNoEnd {S : Type 0} (s : sources.Meaning S) (old new : S) : Type 0 where
   pub n : ℕ
   pub some : 0 < n
   pub gave : GaveSome s old new n
@@ -19,7 +19,7 @@ pub record GaveOn {S : Type 0} (s : sources.Meaning S) (old new : S) : Type 0 wh
 
 abbrev pub HearsEnd : {S : Type 0} (s : sources.Meaning S) (old new : S) (number place : ℕ) → Result (Unit {0}) ScriptFault → Type 0
 HearsEnd s old new number place (Ok done) = GaveEnd s old new
-HearsEnd s old new number place (Err (fault.Input line at)) = (line ≡ number) × (at ≡ place) × GaveOn s old new
+HearsEnd s old new number place (Err (fault.Input line at)) = (line ≡ number) × (at ≡ place) × GaveNoEnd s old new
 HearsEnd s old new number place (Err fault.Source) = Rose (s.faults old) (s.faults new)
 HearsEnd s old new number place (Err other) = ⊥
 

@@ -10,7 +10,7 @@ use Rattle.volume_store.specs.Mounting.{StoreView}
 use Rattle.volume_script.specs.declared.fault.ScriptFault.{ScriptFault}
 use Rattle.volume_script.specs.declared.fault.ScriptFault.TheVariants as fault
 use Rattle.command_spec.specs.Script.{end_line}
-use Rattle.command_spec.specs.Script.{Answer, AllDone, FaultIn, ScriptRun, ScriptDoes, answer_by}
+use Rattle.command_spec.specs.Script.{Answer, AllDone, FaultIn, ScriptRun, ScriptDoes, script_answer}
 
 -- What is left of the source: the bytes behind those taken; or, after a fault of the input, an end of the bytes from its
 -- place on.
@@ -32,7 +32,7 @@ pub record Ended {T S K : Type 0} (t : tapes.Meaning T) (s : sources.Meaning S) 
   pub items : List Item
   pub ending : Ending
   pub read : IsScript input items ending
-  pub by_ending : answer ≡ answer_by ending
+  pub by_ending : answer ≡ script_answer ending
   -- where all was carried out, the reply `end` is the last
   pub replied : answer ≡ AllDone → (replies : List ℕ) × (text_of outcome.acts ≡ replies ++ end_line)
 

@@ -15,7 +15,7 @@ use Rattle.cartridge_spec.specs.Volumes.{carrying, volume_length}
 use Rattle.drive_states.specs.Unit.{UnitView}
 use Rattle.host_driver.specs.Calls.{Keeps}
 use Rattle.host_driver.specs.Fits.{segments_of}
-use Rattle.command_spec.specs.Restore.{Piece, Ending, framed, pieces, pieces_of}
+use Rattle.command_spec.specs.Restore.{Piece, GivingEnd, framed, pieces, pieces_of}
 use Rattle.volume_output.specs.declared.fault.OutputFault.{OutputFault}
 use Rattle.volume_output.specs.declared.fault.OutputFault.TheVariants as output
 use Rattle.volume_output.specs.Output.{GaveVolume, VolumeCut, OutputEnds}
@@ -92,7 +92,7 @@ told_still m old new steps P none done told =
     subst (λ (held : Option (Option Cartridge)). IfSome held (λ h. IfSome h P)) (sym (Done-told (subst (Done m old new) none done))) told
 
 module _ {T K : Type 0} (t : Meaning T) (k : sinks.Meaning K) (words : List ℕ) (needed : List Piece) (lined : Bool) (old new : Outside T (Unit {0}) K) (P : Cartridge → Type 0) where
-  given_told : (ending : Ending) → GaveVolume t k words needed lined old new ending → Tells t old.tape P → Tells t new.tape P
+  given_told : (ending : GivingEnd) → GaveVolume t k words needed lined old new ending → Tells t old.tape P → Tells t new.tape P
   given_told ending gave told =
       told_still t old.tape new.tape (steps_of (printed lined needed gave.acts)) P (printed_in_no_step needed lined gave.acts gave.are) gave.went.did told
 
