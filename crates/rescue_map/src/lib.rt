@@ -1,0 +1,14 @@
+//! The map of a rescued medium: the text of GNU ddrescue's mapfile, read into a mask of sectors and written from one. No
+//! call takes memory.
+#![tactic(auto)]
+
+mod ahead;
+mod form;
+mod line;
+mod reading;
+mod scan;
+mod spelling;
+mod words;
+
+pub use form::Block;
+pub use reading::{MapError, read_map};
