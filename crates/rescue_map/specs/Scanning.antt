@@ -11,14 +11,19 @@ pub record AreWords (words : LineWords) (list : List (List ℕ)) : Type 0 where
   pub third : words.third ≡ word_at list 2
   pub count : words.count ≡ min (length list) 4
 
--- The bytes of a line, cut into words so far: these are over, and of the one that has begun 32 bytes at most are kept.
+-- of the word that has begun 32 bytes at most are kept
+pub record IsBegun (scan : Scan) (begun : List ℕ) : Type 0 where
+  pub kept : take scan.len scan.begun ≡ take 32 begun
+  pub long : scan.len ≡ min (length begun) 32
+
+-- the bytes of a line, cut into words so far: those that are over, and the one that has begun
 pub record Cut (scan : Scan) (bytes : List ℕ) : Type 0 where
   pub over : List (List ℕ)
   pub begun : List ℕ
   pub words : (rest : List ℕ) → words_from [] (bytes ++ rest) ≡ over ++ (if scan.comment then [] else words_from begun rest)
   pub are : AreWords scan.words over
-  pub kept : take scan.len scan.begun ≡ take 32 begun
-  pub long : scan.len ≡ min (length begun) 32
+  pub is_begun : IsBegun scan begun
+  pub quiet : scan.comment ≡ true → scan.len ≡ 0
 
 -- a carriage return is held back, since a newline may come behind it
 abbrev pub held_bytes : Bool → List ℕ

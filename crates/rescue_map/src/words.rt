@@ -34,13 +34,19 @@ impl LineWords {
             AreWords self.new (list ++ bytes ∷ []) }
     {
         match self.count {
-            0 => self.first = word,
-            1 => self.second = word,
-            2 => self.third = word,
-            _ => {}
-        }
-        if self.count < 4 {
-            self.count += 1;
+            0 => {
+                self.first = word;
+                self.count = 1;
+            }
+            1 => {
+                self.second = word;
+                self.count = 2;
+            }
+            2 => {
+                self.third = word;
+                self.count = 3;
+            }
+            _ => self.count = 4,
         }
     }
 }

@@ -1,0 +1,6 @@
+use Rattle.std.proofs.Common.{◌≡◌, ◌∙◌, Bool, true, false, List, ℕ, [], ◌∷◌, ◌++◌, sym, subst, ap, append-nil}
+use Rattle.rescue_map.proofs.Cutting.{ended_cut}
+use Rattle.rescue_map.proofs.scan.Scan.settle.Goals as goal
+
+pub returns-else-not-ended : goal.returns-else-not-ended
+returns-else-not-ended c = λ line scanned. ended_cut c.args.self.now line c.args.ended c.if-not-ended.false scanned
