@@ -1,3 +1,5 @@
 pub mod Cutting
 pub mod Digits
+pub mod Giving
+pub mod Lining
 mod Worked

@@ -1,7 +1,7 @@
 -- The form of a map's lines: the status line, and blocks that meet (GNU ddrescue's mapfile).
 use Rattle.std.specs.Prelude.{ℕ, ◌+◌, ◌^◌, ◌==◌, Bool, true, false, List, Option, Some, None, length, if◌then◌else◌, ◌&&◌, ◌||◌, nat_lt, nat_le}
 use Rattle.rescue_map.specs.declared.spelling.Word.{Word}
-use Rattle.rescue_map.specs.declared.spelling.Word.TheVariants.{Missing, Number, Mark, Other}
+use Rattle.rescue_map.specs.declared.spelling.Word.TheVariants.{Missing, Number, Mark}
 use Rattle.rescue_map.specs.declared.form.Block.{Block}
 use Rattle.rescue_map.specs.declared.form.Expected.{Expected}
 use Rattle.rescue_map.specs.declared.form.Expected.TheVariants as awaits
@@ -44,12 +44,14 @@ words_say awaits.Status first second third =
 words_say awaits.First first second third = first_block (block_form first second third)
 words_say (awaits.Next end) first second third = next_block end (block_form first second third)
 
+abbrev pub is_missing : Word → Bool
+is_missing Missing = true
+is_missing _ = false
+
 -- a line without words says nothing
 abbrev pub says : Expected → Word → Word → Word → Said
-says expected Missing second third = said.Nothing
-says expected (Number n d) second third = words_say expected (Number n d) second third
-says expected (Mark m) second third = words_say expected (Mark m) second third
-says expected Other second third = words_say expected Other second third
+says expected first second third =
+    if is_missing first then said.Nothing else words_say expected first second third
 
 -- no line has a fourth word
 abbrev pub line_says : Expected → List (List ℕ) → Said

@@ -5,6 +5,7 @@
 mod ahead;
 mod form;
 mod line;
+mod mask;
 mod reading;
 mod scan;
 mod spelling;

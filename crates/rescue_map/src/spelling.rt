@@ -17,7 +17,7 @@ pub enum Word {
 const LONGEST: usize = 31;
 
 /// The greatest number.
-const GREATEST: u64 = 0x7FFF_FFFF_FFFF_FFFF;
+pub const GREATEST: u64 = 0x7FFF_FFFF_FFFF_FFFF;
 
 fn digit_value(byte: u8) -> u8
     ensures { result ≡ digit_value byte }
