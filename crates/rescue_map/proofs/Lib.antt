@@ -1,7 +1,9 @@
 pub mod Cutting
 pub mod Digits
+pub mod Following
 pub mod Giving
 pub mod Lining
 pub mod Marking
 pub mod Masking
+pub mod Moving
 mod Worked

@@ -82,6 +82,14 @@ lines_of-long line rest none some =
     let P : List Line → Type 0 = λ lines. LongLine lines (length line) in
     subst P (sym (lines_from-bytes [] line rest none)) (lines_from-long line rest some)
 
+-- where a byte is, there is a line
+pub first_line : (byte : ℕ) (rest : List ℕ) → LongLine (lines_of (byte ∷ rest)) 0
+first_line byte rest = by_test (byte == 10) (lines_from-long (byte ∷ []) rest (omega arith)) where
+  by_test : (t : Bool) → LongLine (lines_from (byte ∷ []) rest) 1 →
+      LongLine (if t then record { bytes = []; ended = true } ∷ lines_from [] rest else lines_from (byte ∷ []) rest) 0
+  by_test true next = record { line = record { bytes = []; ended = true }; lines_behind = lines_from [] rest; are = refl; long = omega arith }
+  by_test false next = record { line = next.line; lines_behind = next.lines_behind; are = next.are; long = omega arith }
+
 -- ---- what a line's reading gives
 
 abbrev pub TookLine : (old now : Option (List ℕ)) (words : LineWords) (ended : Bool) → Type 0

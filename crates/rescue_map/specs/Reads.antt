@@ -79,6 +79,12 @@ pub record ReadFault {S : Type 0} (m : Meaning S) (old : S) (line : ℕ) : Type 
   pub told : IsText m old text
   pub reading : reading_of text ≡ Fault line
 
+-- a map that is over: a reading, and the answer to it
+abbrev pub Ends : Reading → List Block → Result (Unit {0}) MapError → Type 0
+Ends reading blocks (Ok done) = reading ≡ Blocks blocks
+Ends reading blocks (Err (error.Fault line)) = reading ≡ Fault line
+Ends reading blocks (Err error.Source) = ⊥
+
 -- how a reading ended
 abbrev pub Reads : {S : Type 0} (m : Meaning S) (old new : S) (mask : List ℕ) → Result (Unit {0}) MapError → Type 0
 Reads m old new mask (Ok done) = ReadWhole m old new mask

@@ -1,7 +1,9 @@
 //! The form of a map's lines.
 
-ghost use Rattle.std.specs.Prelude.{◌≡◌, List, ℕ};
+ghost use Rattle.std.specs.Prelude.{◌≡◌, List, ℕ, IfSome};
+ghost use Rattle.std.specs.Option.{ForSome};
 ghost use Rattle.rescue_map.specs.Form.{is_status, is_block_mark, block_form, first_block, next_block, words_say, is_missing, says, line_says};
+ghost use Rattle.rescue_map.specs.Marking.{IsBlock, IsSound};
 ghost use Rattle.rescue_map.specs.Scanning.{AreWords};
 
 use crate::spelling::{GREATEST, Word};
@@ -50,7 +52,8 @@ fn is_block_mark(byte: u8) -> bool
 }
 
 fn block_form(first: Word, second: Word, third: Word) -> Option<Block>
-    ensures { result ≡ block_form first second third }
+    ensures form { result ≡ block_form first second third }
+    ensures sound { IfSome result IsBlock }
 {
     let (Word::Number { value: start, .. }, Word::Number { value: size, .. }, Word::Mark { mark }) =
         (first, second, third)
@@ -66,7 +69,9 @@ fn block_form(first: Word, second: Word, third: Word) -> Option<Block>
 
 /// The first block may start anywhere.
 fn first_block(block: Option<Block>) -> Said
-    ensures { result ≡ first_block block }
+    requires { ForSome block IsBlock }
+    ensures said { result ≡ first_block block }
+    ensures sound { IsSound result }
 {
     match block {
         Some(block) => Said::Block { block },
@@ -75,7 +80,9 @@ fn first_block(block: Option<Block>) -> Said
 }
 
 fn next_block(end: u64, block: Option<Block>) -> Said
-    ensures { result ≡ next_block end block }
+    requires { ForSome block IsBlock }
+    ensures said { result ≡ next_block end block }
+    ensures sound { IsSound result }
 {
     match block {
         Some(block) if block.start == end => Said::Block { block },
@@ -85,7 +92,8 @@ fn next_block(end: u64, block: Option<Block>) -> Said
 
 /// What a line with these words says.
 fn words_say(expected: Expected, first: Word, second: Word, third: Word) -> Said
-    ensures { result ≡ words_say expected first second third }
+    ensures said { result ≡ words_say expected first second third }
+    ensures sound { IsSound result }
 {
     match expected {
         Expected::Status => {
@@ -108,7 +116,8 @@ fn is_missing(word: Word) -> bool
 
 /// What a line says, where this is expected.
 pub fn line_says(expected: Expected, words: LineWords) -> Said
-    ensures { (list : List (List ℕ)) → AreWords words list → result ≡ line_says expected list }
+    ensures said { (list : List (List ℕ)) → AreWords words list → result ≡ line_says expected list }
+    ensures sound { IsSound result }
 {
     if words.count > 3 {
         return Said::Bad;

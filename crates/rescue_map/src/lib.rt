@@ -9,6 +9,7 @@ mod mask;
 mod reading;
 mod scan;
 mod spelling;
+mod text;
 mod words;
 
 pub use form::Block;

@@ -1,8 +1,8 @@
 //! Masks of sectors.
 
-ghost use Rattle.std.specs.Prelude.{◌≡◌, ◌⊎◌, ◌↔◌, ◌≤◌, ◌<◌, ◌+◌, ◌*◌, ◌^◌, ◌++◌, ◌∷◌, [], List, ℕ, length, slice_index};
+ghost use Rattle.std.specs.Prelude.{◌≡◌, ◌⊎◌, ◌↔◌, ◌≤◌, ◌<◌, ◌+◌, ◌*◌, ◌++◌, ◌∷◌, [], List, ℕ, length, slice_index};
 ghost use Rattle.rescue_map.specs.Mask.{IsMarked};
-ghost use Rattle.rescue_map.specs.Marking.{Marks};
+ghost use Rattle.rescue_map.specs.Marking.{IsBlock, Marks};
 ghost use Rattle.rescue_map.specs.declared.form.Block.{Block};
 
 use crate::form::Block;
@@ -33,9 +33,7 @@ fn mark(mask: &mut [u32], first: u64, end: u64)
 /// A block more: of the bytes before it those from `from` on were rescued without a gap. Answers the same of the bytes
 /// before the block's end.
 pub fn mark_block(mask: &mut [u32], from: u64, block: Block) -> u64
-    requires low { from ≤ block.start }
-    requires fits { block.start + block.size < 2 ^ 63 }
-    requires some { 1 ≤ block.size }
+    requires { IsBlock block }
     ensures { (blocks : List Block) → Marks mask.old blocks from block.start →
         Marks mask.new (blocks ++ block ∷ []) result (block.start + block.size) }
 {
