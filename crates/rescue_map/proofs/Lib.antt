@@ -6,4 +6,5 @@ pub mod Lining
 pub mod Marking
 pub mod Masking
 pub mod Moving
+pub mod Texting
 mod Worked

@@ -1,5 +1,5 @@
 -- The text that a mask is written as (GNU ddrescue's mapfile).
-use Rattle.std.specs.Prelude.{ℕ, zero, suc, ◌+◌, ◌*◌, ◌/◌, ◌%◌, ◌==◌, Bool, List, [], ◌∷◌, ◌++◌, length, slice_index, codes, if◌then◌else◌, nat_lt}
+use Rattle.std.specs.Prelude.{ℕ, zero, suc, ◌+◌, ◌-◌, ◌*◌, ◌/◌, ◌%◌, ◌==◌, Bool, List, [], ◌∷◌, ◌++◌, length, slice_index, codes, if◌then◌else◌, nat_lt}
 use Rattle.std.specs.Int.{bit_at}
 use Rattle.rescue_map.specs.declared.form.Block.{Block}
 
@@ -12,6 +12,11 @@ is_marked mask sector = bit_at (slice_index mask (sector / 32)) (sector % 32) ==
 abbrev pub sector_block : (sector : ℕ) (marked : Bool) → Block
 sector_block sector marked =
     record { start = 1024 * sector; size = 1024; mark = if marked then 43 else 45 }
+
+-- the sectors from one up to another, as a block
+abbrev pub run_block : (first end : ℕ) (marked : Bool) → Block
+run_block first end marked =
+    record { start = 1024 * first; size = 1024 * (end - first); mark = if marked then 43 else 45 }
 
 -- a block and those behind it: it is one with the next where both have the same mark
 abbrev pub joined : Block → List Block → List Block
