@@ -1,3 +1,4 @@
+pub mod BackLaws
 pub mod Cutting
 pub mod Digits
 pub mod Following
@@ -6,5 +7,6 @@ pub mod Lining
 pub mod Marking
 pub mod Masking
 pub mod Moving
+pub mod RunLaws
 pub mod Texting
 mod Worked

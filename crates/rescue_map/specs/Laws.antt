@@ -1,7 +1,6 @@
 -- The laws of maps (this project's own).
 use Rattle.std.specs.Prelude.{◌≡◌, ◌↔◌, ℕ, ◌*◌, ◌/◌, ◌≤◌, ◌<◌, List, length}
-use Rattle.rescue_map.specs.declared.form.Block.{Block}
-use Rattle.rescue_map.specs.Map.{Blocks, Fault, reading_of, Rescued}
+use Rattle.rescue_map.specs.Map.{Blocks, reading_of, Rescued}
 use Rattle.rescue_map.specs.Mask.{IsMarked}
 use Rattle.rescue_map.specs.Text.{runs_of, map_text}
 
@@ -16,4 +15,5 @@ ReadsBack = (mask : List ℕ) → length mask ≤ most_words → reading_of (map
 -- the runs rescue just the bytes of the sectors in the mask
 abbrev pub RescuesMarked : Type 0
 RescuesMarked =
-    (mask : List ℕ) (byte : ℕ) → byte < 32768 * length mask → (Rescued (runs_of mask) byte ↔ IsMarked mask (byte / 1024))
+    (mask : List ℕ) (byte : ℕ) → length mask ≤ most_words → byte < 32768 * length mask →
+    (Rescued (runs_of mask) byte ↔ IsMarked mask (byte / 1024))

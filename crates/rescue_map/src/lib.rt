@@ -4,6 +4,7 @@
 
 mod ahead;
 mod form;
+pub mod laws;
 mod line;
 mod mask;
 mod reading;
