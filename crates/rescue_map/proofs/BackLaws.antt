@@ -1,22 +1,19 @@
 -- What is written of a mask reads back.
-use Rattle.std.proofs.Common.{◌≡◌, ◌≢◌, ◌⊎◌, inl, inr, ⊎_elim, ℕ, zero, suc, ◌+◌, ◌-◌, ◌*◌, ◌/◌, ◌%◌, ◌^◌, ◌<◌, ◌≤◌, ◌==◌, Bool, true, false, List, [], ◌∷◌, ◌++◌, length, Option, Some, None, if◌then◌else◌, ◌&&◌, ◌||◌, nat_lt, nat_le, refl, sym, ap, ◌∙◌, subst, arith, append_assoc, append-nil, codes}
-use Rattle.std.proofs.lemmas.Bool.{cases_lt, ne_eqb, eq-eqb, lt-ltb, le-leb}
+use Rattle.std.proofs.Common.{◌≡◌, ◌≢◌, ◌⊎◌, inl, inr, ⊎_elim, ℕ, zero, suc, ◌+◌, ◌*◌, ◌/◌, ◌%◌, ◌^◌, ◌<◌, ◌≤◌, ◌==◌, Bool, true, false, List, [], ◌∷◌, ◌++◌, length, Some, None, if◌then◌else◌, ◌&&◌, nat_lt, nat_le, refl, sym, ap, ◌∙◌, subst, arith, append_assoc, append-nil, codes}
+use Rattle.std.proofs.lemmas.Bool.{ne_eqb, eq-eqb, lt-ltb, le-leb}
 use Rattle.std.proofs.lemmas.Bool.Decides.{nat_tests}
-use Rattle.std.proofs.lemmas.List.{length_push, length-append}
-use Rattle.rescue_map.specs.declared.spelling.Word.{Word}
-use Rattle.rescue_map.specs.declared.spelling.Word.TheVariants.{Number, Mark, Other}
+use Rattle.rescue_map.specs.declared.spelling.Word.TheVariants.{Number, Mark}
 use Rattle.rescue_map.specs.declared.form.Block.{Block}
 use Rattle.rescue_map.specs.declared.form.Expected.{Expected}
 use Rattle.rescue_map.specs.declared.form.Expected.TheVariants as awaits
-use Rattle.rescue_map.specs.declared.form.Said.{Said}
 use Rattle.rescue_map.specs.declared.form.Said.TheVariants as said
 use Rattle.rescue_map.specs.Spelling.{digit_value, digits_from, limited, word_is}
-use Rattle.rescue_map.specs.Lines.{Line, lines_of, words_from, words_of, is_blank, begun_word, content_of, without_return, word_at}
+use Rattle.rescue_map.specs.Lines.{Line, lines_of, words_from, words_of, is_blank, content_of}
 use Rattle.rescue_map.specs.Form.{block_form, is_block_mark, line_says}
-use Rattle.rescue_map.specs.Map.{State, Going, Blocks, behind_said, behind_line, behind_lines, behind_all, reading_of, most_lines, endless}
+use Rattle.rescue_map.specs.Map.{State, Going, Blocks, behind_said, behind_line, behind_lines, behind_all, most_lines, endless}
 use Rattle.rescue_map.specs.Reads.{NoNewline}
-use Rattle.rescue_map.specs.Text.{hex_digit, hex_digits, hex_text, block_text, blocks_text, head_text, map_text, runs_of}
-use Rattle.rescue_map.specs.Laws.{ReadsBack, most_words}
+use Rattle.rescue_map.specs.Text.{hex_digit, hex_digits, hex_text, block_text, blocks_text, head_text, runs_of}
+use Rattle.rescue_map.specs.Laws.{ReadsBack}
 use Rattle.rescue_map.proofs.Cutting.{without_return-push}
 use Rattle.rescue_map.proofs.Digits.{digits_from-digit, limited-small}
 use Rattle.std.proofs.Math.Nat.{pow-suc}
@@ -183,8 +180,7 @@ line_no_newline : (block : Block) → 36 ≤ block.mark → NoNewline (line_fron
 line_no_newline block high =
     not_newline (line_front block ++ block.mark ∷ [])
     (OtherBytes-append (line_front block) (block.mark ∷ [])
-    (OtherBytes-append (hex_text block.start) (32 ∷ 32 ∷ (hex_text block.size ++ (32 ∷ 32 ∷ []))) (OtherBytes-plain (hex_text block.start) (Plain-hex_text block.start))
-    (
+    (OtherBytes-append (hex_text block.start) (32 ∷ 32 ∷ (hex_text block.size ++ (32 ∷ 32 ∷ []))) (OtherBytes-plain (hex_text block.start) (Plain-hex_text block.start)) (
       (λ e. omega arith),
       (
         (λ e. omega arith),

@@ -1,5 +1,5 @@
 -- The reading of a map, line by line.
-use Rattle.std.proofs.Common.{◌≡◌, ℕ, ◌+◌, ◌-◌, ◌*◌, ◌^◌, ◌<◌, ◌≤◌, Bool, true, false, List, [], ◌∷◌, ◌++◌, length, take, drop, Option, Some, None, IfSome, Result, Ok, Err, if◌then◌else◌, ◌||◌, nat_lt, nat_le, refl, sym, ap, ◌∙◌, subst, arith, append_assoc, append-nil}
+use Rattle.std.proofs.Common.{◌≡◌, ℕ, ◌+◌, ◌-◌, ◌*◌, ◌^◌, ◌<◌, ◌≤◌, Bool, true, false, List, [], ◌∷◌, ◌++◌, length, take, drop, Option, Some, None, IfSome, Result, Ok, Err, ◌||◌, nat_lt, nat_le, refl, sym, ap, ◌∙◌, arith, append_assoc, append-nil}
 use Rattle.std.specs.Option.{option_map}
 use Rattle.std.proofs.lemmas.Bool.{le-ltb, lt-ltb, lt-leb, le-leb}
 use Rattle.qic_base.specs.Source.{Meaning}
@@ -12,10 +12,10 @@ use Rattle.rescue_map.specs.declared.reading.MapError.TheVariants as error
 use Rattle.rescue_map.specs.declared.words.LineWords.{LineWords}
 use Rattle.rescue_map.specs.Form.{line_says}
 use Rattle.rescue_map.specs.Lines.{Line, lines_of, words_of}
-use Rattle.rescue_map.specs.Map.{State, Going, Failed, most_lines, endless, behind_said, behind_line, behind_lines, behind_all, reading_of, Reading, Blocks, Fault}
-use Rattle.rescue_map.specs.Marking.{Tracked, Moves, NoneMarked, Marks}
-use Rattle.rescue_map.specs.Mask.{IsMarked, IsMaskOf}
-use Rattle.rescue_map.specs.Reads.{left_of, Gave, HasEnded, NoNewline, newline_of, IsText, ReadWhole, ReadFault, Reads, Ends}
+use Rattle.rescue_map.specs.Map.{State, Going, Failed, most_lines, endless, behind_said, behind_line, behind_lines, behind_all, reading_of, Reading, Fault}
+use Rattle.rescue_map.specs.Marking.{Tracked, Moves, NoneMarked}
+use Rattle.rescue_map.specs.Mask.{IsMaskOf}
+use Rattle.rescue_map.specs.Reads.{left_of, Gave, HasEnded, NoNewline, ReadFault, Reads, Ends}
 use Rattle.rescue_map.specs.Scanning.{AreWords}
 use Rattle.rescue_map.proofs.Giving.{Gave-Gave, Gave-nothing}
 use Rattle.rescue_map.proofs.Lining.{TookLine, lines_of-ended, lines_of-last, lines_of-long, first_line}

@@ -1,9 +1,9 @@
 -- The mask, block by block.
-use Rattle.std.proofs.Common.{◌≡◌, ◌≢◌, ◌⊎◌, ◌↔◌, inl, inr, ⊎_elim, ℕ, ◌+◌, ◌-◌, ◌*◌, ◌/◌, ◌%◌, ◌<◌, ◌≤◌, List, [], ◌∷◌, ◌++◌, length, refl, sym, ap, ◌∙◌, subst, arith}
+use Rattle.std.proofs.Common.{◌≡◌, ◌≢◌, ◌⊎◌, ◌↔◌, inl, inr, ⊎_elim, ℕ, ◌+◌, ◌-◌, ◌*◌, ◌/◌, ◌<◌, ◌≤◌, List, [], ◌∷◌, ◌++◌, length, arith}
 use Rattle.std.proofs.lemmas.Bool.{cases_lt}
 use Rattle.rescue_map.specs.declared.form.Block.{Block}
 use Rattle.rescue_map.specs.Map.{IsIn, Rescued, IsWhole}
-use Rattle.rescue_map.specs.Mask.{IsMarked, IsMaskOf}
+use Rattle.rescue_map.specs.Mask.{IsMarked}
 use Rattle.rescue_map.specs.Marking.{Marks}
 
 -- ---- a block more

@@ -1,14 +1,12 @@
 -- What a line does to the reading of a map.
-use Rattle.std.proofs.Common.{◌≡◌, ℕ, ◌+◌, ◌==◌, Bool, true, false, List, [], ◌∷◌, ◌++◌, length, Option, Some, None, if◌then◌else◌, nat_lt, refl, sym, ap, ◌∙◌, subst, arith}
+use Rattle.std.proofs.Common.{◌≡◌, ℕ, ◌==◌, Bool, true, false, List, [], length, Option, Some, None, if◌then◌else◌, nat_lt, refl, sym, ap, ◌∙◌}
 use Rattle.std.proofs.lemmas.Bool.{eqb-true}
 use Rattle.rescue_map.specs.declared.form.Block.{Block}
 use Rattle.rescue_map.specs.declared.form.Expected.{Expected}
 use Rattle.rescue_map.specs.declared.form.Expected.TheVariants as awaits
-use Rattle.rescue_map.specs.declared.form.Said.{Said}
 use Rattle.rescue_map.specs.declared.form.Said.TheVariants as said
 use Rattle.rescue_map.specs.Lines.{word_at}
 use Rattle.rescue_map.specs.Form.{block_form, first_block, next_block, is_missing, line_says}
-use Rattle.rescue_map.specs.Map.{State, Going, behind_said}
 use Rattle.rescue_map.specs.Marking.{Continues, NoneMarked, Tracked}
 
 -- only where it is expected a line says the status

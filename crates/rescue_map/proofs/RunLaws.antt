@@ -1,11 +1,11 @@
 -- The runs of a mask: which bytes they rescue, and that they meet.
-use Rattle.std.proofs.Common.{◌≡◌, ◌≢◌, ◌⊎◌, ◌↔◌, inl, inr, ⊎_elim, ℕ, zero, suc, ◌+◌, ◌-◌, ◌*◌, ◌/◌, ◌%◌, ◌^◌, ◌<◌, ◌≤◌, ◌==◌, Bool, true, false, List, [], ◌∷◌, ◌++◌, length, if◌then◌else◌, refl, sym, ap, ◌∙◌, subst, arith}
-use Rattle.std.proofs.lemmas.Bool.{cases_lt, eqb-true, eq-eqb, false≢true}
+use Rattle.std.proofs.Common.{◌≡◌, ◌⊎◌, inl, inr, ⊎_elim, ℕ, zero, suc, ◌+◌, ◌*◌, ◌/◌, ◌^◌, ◌<◌, ◌≤◌, ◌==◌, Bool, true, false, List, [], ◌∷◌, length, if◌then◌else◌, refl, sym, ◌∙◌, subst, arith}
+use Rattle.std.proofs.lemmas.Bool.{cases_lt, eqb-true, eq-eqb}
 use Rattle.rescue_map.specs.declared.form.Block.{Block}
 use Rattle.rescue_map.specs.Map.{IsIn, Rescued}
 use Rattle.rescue_map.specs.Mask.{IsMarked}
-use Rattle.rescue_map.specs.Text.{is_marked, sector_block, joined, runs_from, runs_of}
-use Rattle.rescue_map.specs.Laws.{RescuesMarked, most_words}
+use Rattle.rescue_map.specs.Text.{is_marked, sector_block, joined, runs_from}
+use Rattle.rescue_map.specs.Laws.{RescuesMarked}
 
 -- ---- blocks that meet
 
@@ -94,8 +94,8 @@ joined_rescued block (next ∷ blocks) byte meet r = by_test (block.mark == next
       ⊎_elim
       (λ h. let low = h.1.0 in let high = h.1.1 in inl (h.0, (low, omega arith)))
       (λ h. ⊎_elim
-          (λ n. let low = n.1.0 in let high = n.1.1 in inl (eqb-true block.mark next.mark (sym e) ∙ n.0, (omega arith, omega arith)))
-          (λ n. inr n) h)
+      (λ n. let low = n.1.0 in let high = n.1.1 in inl (eqb-true block.mark next.mark (sym e) ∙ n.0, (omega arith, omega arith)))
+      (λ n. inr n) h)
       r
   by_test false e = r
 

@@ -1,5 +1,5 @@
 -- Worked maps, by evaluation.
-use Rattle.std.proofs.Common.{◌≡◌, ℕ, List, [], ◌∷◌, ◌++◌, codes, refl}
+use Rattle.std.proofs.Common.{◌≡◌, ℕ, [], ◌∷◌, codes, refl}
 use Rattle.rescue_map.specs.declared.form.Block.{Block}
 use Rattle.rescue_map.specs.Map.{Blocks, Fault, reading_of}
 use Rattle.rescue_map.specs.Text.{head_text, hex_text, map_text, runs_of}

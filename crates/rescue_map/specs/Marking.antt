@@ -1,11 +1,11 @@
 -- The mask while blocks come (this project's own).
-use Rattle.std.specs.Prelude.{◌≡◌, ℕ, ◌+◌, ◌^◌, ◌≤◌, ◌<◌, Bool, true, false, List, [], Result, Ok, Err}
+use Rattle.std.specs.Prelude.{◌≡◌, ℕ, ◌+◌, ◌^◌, ◌≤◌, ◌<◌, Bool, true, false, List, []}
 use Rattle.rescue_map.specs.declared.form.Block.{Block}
 use Rattle.rescue_map.specs.declared.form.Expected.{Expected}
 use Rattle.rescue_map.specs.declared.form.Expected.TheVariants as awaits
 use Rattle.rescue_map.specs.declared.form.Said.{Said}
 use Rattle.rescue_map.specs.declared.form.Said.TheVariants as said
-use Rattle.rescue_map.specs.Map.{Rescued, State, Going, Failed, behind_said}
+use Rattle.rescue_map.specs.Map.{Rescued, Going, Failed, behind_said}
 use Rattle.rescue_map.specs.Mask.{IsMarked, IsMaskOf}
 
 -- a block has at least a byte, and its end is a number

@@ -1,8 +1,8 @@
 -- What is kept of a line while its bytes come (this project's own).
-use Rattle.std.specs.Prelude.{◌≡◌, ℕ, ◌≤◌, Bool, true, false, List, [], ◌∷◌, ◌++◌, length, take, min, if◌then◌else◌}
+use Rattle.std.specs.Prelude.{◌≡◌, ℕ, Bool, true, false, List, [], ◌∷◌, ◌++◌, length, take, min, if◌then◌else◌}
 use Rattle.rescue_map.specs.declared.words.LineWords.{LineWords}
 use Rattle.rescue_map.specs.declared.scan.Scan.{Scan}
-use Rattle.rescue_map.specs.Lines.{without_return, words_from, begun_word, word_at}
+use Rattle.rescue_map.specs.Lines.{without_return, words_from, word_at}
 
 -- the first three words, and how many there are, where 4 stands for more than three
 pub record AreWords (words : LineWords) (list : List (List ℕ)) : Type 0 where

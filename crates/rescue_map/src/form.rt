@@ -56,8 +56,7 @@ fn block_form(first: Word, second: Word, third: Word) -> Option<Block>
     ensures sound { IfSome result IsBlock }
 {
     let (Word::Number { value: start, .. }, Word::Number { value: size, .. }, Word::Mark { mark }) =
-        (first, second, third)
-    else {
+        (first, second, third) else {
         return None;
     };
     if size >= 1 && size <= GREATEST && start <= GREATEST - size && is_block_mark(mark) {

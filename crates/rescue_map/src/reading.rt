@@ -67,7 +67,7 @@ impl Progress {
         ensures { (blocks : List Block) (line : ℕ) (list : List (List ℕ)) → AreWords words list →
             Tracked mask.old blocks self.old.expected self.old.from →
             Moves mask.new blocks self.old.expected self.new.expected self.new.from line
-                (line_says self.old.expected list) result }
+            (line_says self.old.expected list) result }
     {
         match line_says(self.expected, words) {
             Said::Nothing => true,

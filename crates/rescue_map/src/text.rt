@@ -80,7 +80,7 @@ fn run_end(mask: &[u32], first: u32) -> u32
     requires long { length mask.now ≤ most_words }
     ensures run { runs_from mask.now first (32 * length mask.now - first) ≡
         run_block first result (is_marked mask.now first)
-            ∷ runs_from mask.now result (32 * length mask.now - result) }
+        ∷ runs_from mask.now result (32 * length mask.now - result) }
     ensures some { first < result }
     ensures within { result ≤ 32 * length mask.now }
 {

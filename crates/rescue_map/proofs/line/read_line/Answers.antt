@@ -1,6 +1,5 @@
-use Rattle.std.proofs.Common.{ℕ, [], ◌∷◌, ◌≡◌, length, sym, subst, arith}
+use Rattle.std.proofs.Common.{ℕ, [], ◌∷◌, subst, arith}
 use Rattle.rescue_map.specs.Reads.{left_of, Gave}
-use Rattle.rescue_map.proofs.Giving.{Gave-Gave}
 use Rattle.rescue_map.proofs.Lining.{next_byte, took_ended, took_last, took_none}
 use Rattle.rescue_map.proofs.line.read_line.Goals as goal
 

@@ -1,4 +1,4 @@
-use Rattle.std.proofs.Common.{◌<◌, ◌*◌, ◌≤◌, ◌⊎◌, inl, inr, ⊎_elim, length, arith}
+use Rattle.std.proofs.Common.{arith}
 use Rattle.std.proofs.lemmas.List.{length-set}
 use Rattle.rescue_map.proofs.Masking.{mark_next, mark_until, mark_end}
 use Rattle.rescue_map.proofs.mask.mark.Goals as goal

@@ -1,4 +1,4 @@
-use Rattle.std.proofs.Common.{◌*◌, ◌≤◌, ◌+◌, ◌/◌, refl, arith}
+use Rattle.std.proofs.Common.{◌+◌, ◌/◌, refl, arith}
 use Rattle.rescue_map.proofs.Marking.{marks_other, marks_plus}
 use Rattle.rescue_map.proofs.mask.mark_block.Goals as goal
 

@@ -1,5 +1,4 @@
-use Rattle.std.proofs.Common.{◌≡◌, ◌+◌, ◌≤◌, ℕ, Bool, true, false, refl, sym, subst, arith}
-use Rattle.rescue_map.specs.Map.{most_lines}
+use Rattle.std.proofs.Common.{◌≡◌, ◌+◌, ℕ, Bool, refl, subst, arith}
 use Rattle.rescue_map.specs.Reads.{left_of, ReadFault}
 use Rattle.rescue_map.proofs.Giving.{ended_same}
 use Rattle.rescue_map.proofs.Lining.{TookLine}

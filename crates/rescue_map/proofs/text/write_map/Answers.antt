@@ -1,4 +1,4 @@
-use Rattle.std.proofs.Common.{◌≡◌, ◌++◌, List, ℕ, refl, sym, ap, ◌∙◌, subst}
+use Rattle.std.proofs.Common.{◌≡◌, List, ℕ, refl, subst}
 use Rattle.qic_base.specs.Sink.{Wrote, BrokeOff}
 use Rattle.qic_base.proofs.Writing.{BrokeOff-longer}
 use Rattle.rescue_map.specs.Text.{head_text, blocks_text, runs_of, map_text}

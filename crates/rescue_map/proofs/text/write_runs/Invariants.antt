@@ -1,5 +1,4 @@
-use Rattle.std.proofs.Common.{◌≡◌, ◌≤◌, ◌-◌, ◌*◌, ◌++◌, List, ℕ, length}
-use Rattle.qic_base.specs.Sink.{Wrote}
+use Rattle.std.proofs.Common.{◌≤◌, ◌-◌, ◌*◌, length}
 use Rattle.rescue_map.specs.Text.{runs_from, runs_of, blocks_text}
 use Rattle.rescue_map.proofs.Texting.{Written}
 use Rattle.rescue_map.proofs.text.write_runs.Given as goal

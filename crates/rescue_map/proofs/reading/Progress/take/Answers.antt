@@ -18,6 +18,6 @@ returns-in-Block c = λ blocks line list are tracked.
     let is = c.in-Block.ensures.said list are in (
       blocks ++ c.in-Block.block ∷ [],
       ap (λ (s : Said). behind_said blocks c.args.self.now.expected line s) (sym is)
-      ∙ ap (λ (e : Expected). Going (blocks ++ c.in-Block.block ∷ []) e (line + 1)) (sym c.add.ensures.expected),
+          ∙ ap (λ (e : Expected). Going (blocks ++ c.in-Block.block ∷ []) e (line + 1)) (sym c.add.ensures.expected),
       c.add.ensures.tracked blocks (block_continues c.args.self.now.expected list c.in-Block.block is) tracked,
     )

@@ -1,6 +1,4 @@
-use Rattle.std.proofs.Common.{sym, subst}
 use Rattle.rescue_map.specs.Lines.{content_of}
-use Rattle.rescue_map.specs.Scanning.{AreWords}
 use Rattle.rescue_map.proofs.Cutting.{cut_words}
 use Rattle.rescue_map.proofs.scan.Scan.finish.Goals as goal
 

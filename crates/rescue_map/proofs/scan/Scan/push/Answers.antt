@@ -1,6 +1,4 @@
-use Rattle.std.proofs.Common.{◌≡◌, ◌∙◌, false, sym, subst, arith}
-use Rattle.std.proofs.lemmas.Bool.{false≢true}
-use Rattle.rescue_map.specs.Lines.{is_blank}
+use Rattle.std.proofs.Common.{◌∙◌, sym}
 use Rattle.rescue_map.proofs.Cutting.{push_blank, push_byte}
 use Rattle.rescue_map.proofs.scan.Scan.push.Goals as goal
 use Rattle.rescue_map.proofs.scan.Scan.push.Goals.{else-byte-eq35-via-then-byte-eq35+else-self-eq0, else-byte-eq35-via-else-byte-eq35}

@@ -1,4 +1,3 @@
-use Rattle.std.proofs.Common.{◌≡◌, ◌∙◌, Bool, true, false, List, ℕ, [], ◌∷◌, ◌++◌, sym, subst, ap, append-nil}
 use Rattle.rescue_map.proofs.Cutting.{ended_cut}
 use Rattle.rescue_map.proofs.scan.Scan.settle.Goals as goal
 
