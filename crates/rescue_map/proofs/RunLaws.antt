@@ -1,11 +1,11 @@
 -- The runs of a mask: which bytes they rescue, and that they meet.
 use Rattle.std.proofs.Common.{◌≡◌, ◌⊎◌, inl, inr, ⊎_elim, ℕ, zero, suc, ◌+◌, ◌*◌, ◌/◌, ◌^◌, ◌<◌, ◌≤◌, ◌==◌, Bool, true, false, List, [], ◌∷◌, length, if◌then◌else◌, refl, sym, ◌∙◌, subst, arith}
-use Rattle.std.proofs.lemmas.Bool.{cases_lt, eqb-true, eq-eqb}
+use Rattle.std.proofs.lemmas.Bool.{cases_lt, eqb-true, eqb-false, eq-eqb}
 use Rattle.rescue_map.specs.declared.form.Block.{Block}
 use Rattle.rescue_map.specs.Map.{IsIn, Rescued}
 use Rattle.rescue_map.specs.Mask.{IsMarked}
 use Rattle.rescue_map.specs.Text.{is_marked, sector_block, joined, runs_from}
-use Rattle.rescue_map.specs.Laws.{RescuesMarked}
+use Rattle.rescue_map.specs.Laws.{Alternate, RunsAlternate, RescuesMarked}
 
 -- ---- blocks that meet
 
@@ -147,3 +147,25 @@ rescues_marked mask byte few within = (
   (λ r. (runs_rescue mask 0 (32 * length mask) byte (omega arith) r).1),
   (λ marked. rescued_by_runs mask 0 (32 * length mask) byte (omega arith) (omega arith) (omega arith) marked),
 )
+
+-- ---- and that they are the longest
+
+joined-alternate : (block : Block) (rest : List Block) → Alternate rest → Alternate (joined block rest)
+joined-alternate block [] other = tt
+joined-alternate block (next ∷ []) other = by_test (block.mark == next.mark) refl where
+  by_test : (t : Bool) → t ≡ (block.mark == next.mark) →
+      Alternate (if t then record { start = block.start; size = block.size + next.size; mark = block.mark } ∷ [] else block ∷ next ∷ [])
+  by_test true e = tt
+  by_test false e = (eqb-false block.mark next.mark (sym e), tt)
+joined-alternate block (next ∷ third ∷ blocks) other = by_test (block.mark == next.mark) refl where
+  by_test : (t : Bool) → t ≡ (block.mark == next.mark) →
+      Alternate (if t then record { start = block.start; size = block.size + next.size; mark = block.mark } ∷ third ∷ blocks else block ∷ next ∷ third ∷ blocks)
+  by_test true e = ((λ same. other.0 (sym (eqb-true block.mark next.mark (sym e)) ∙ same)), other.1)
+  by_test false e = (eqb-false block.mark next.mark (sym e), other)
+
+runs_from-alternate : (mask : List ℕ) (sector left : ℕ) → Alternate (runs_from mask sector left)
+runs_from-alternate mask sector zero = tt
+runs_from-alternate mask sector (suc left) = joined-alternate (sector_block sector (is_marked mask sector)) (runs_from mask (sector + 1) left) (runs_from-alternate mask (sector + 1) left)
+
+pub runs_alternate : RunsAlternate
+runs_alternate mask = runs_from-alternate mask 0 (32 * length mask)
