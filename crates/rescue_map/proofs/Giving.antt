@@ -1,0 +1,60 @@
+-- What a source gave, call after call.
+use Rattle.std.proofs.Common.{◌≡◌, ℕ, ◌+◌, ◌<◌, List, [], ◌∷◌, ◌++◌, length, take, drop, get_or, Option, Some, None, IfSome, refl, sym, ap, ◌∙◌, arith, append_assoc}
+use Rattle.std.specs.Option.{option_map}
+use Rattle.std.proofs.lemmas.List.{take-append-drop, drop_more, length-take-le, get_or-take}
+use Rattle.qic_base.specs.Source.{Meaning, Gives}
+use Rattle.rescue_map.specs.declared.ahead.Ahead.{Ahead}
+use Rattle.rescue_map.specs.Reads.{left_of, Gave, HasEnded, IsAhead}
+
+pub Gave-nothing : (o : Option (List ℕ)) → Gave o o []
+Gave-nothing None = refl
+Gave-nothing (Some bytes) = refl
+
+-- bytes given one after the other are given as one list
+pub Gave-Gave : (xs ys : List ℕ) (o p q : Option (List ℕ)) → Gave o p xs → Gave p q ys → Gave o q (xs ++ ys)
+Gave-Gave xs ys o p None first next = first ∙ ap (option_map (λ rest. xs ++ rest)) next
+Gave-Gave xs ys o p (Some bytes) first next =
+    first ∙ ap (option_map (λ rest. xs ++ rest)) next ∙ ap (λ (text : List ℕ). Some text) (sym (append_assoc xs ys bytes))
+
+-- nothing is read ahead
+pub left_none : {S : Type 0} (m : Meaning S) (s : S) (buffer : List ℕ) (ahead : Ahead) → drop ahead.at (take ahead.end buffer) ≡ [] → left_of m s buffer ahead ≡ m.left s
+left_none m s buffer ahead none = by_left (m.left s) where
+  by_left : (o : Option (List ℕ)) → option_map (λ rest. drop ahead.at (take ahead.end buffer) ++ rest) o ≡ o
+  by_left None = refl
+  by_left (Some bytes) = ap (λ (front : List ℕ). Some (front ++ bytes)) none
+
+-- what a read gave is read ahead
+pub left_read : {S : Type 0} (m : Meaning S) (a b : S) (into : List ℕ) (ahead : Ahead) → IfSome (m.left a) (λ bytes. Gives bytes into ahead.end) →
+    m.left b ≡ option_map (drop ahead.end) (m.left a) → ahead.at ≡ 0 → left_of m b into ahead ≡ m.left a
+left_read m a b into ahead gives left start = by_left (m.left a) (m.left b) gives left where
+  by_left : (o p : Option (List ℕ)) → IfSome o (λ bytes. Gives bytes into ahead.end) → p ≡ option_map (drop ahead.end) o →
+      option_map (λ rest. drop ahead.at (take ahead.end into) ++ rest) p ≡ o
+  by_left None p gives left = ap (option_map (λ rest. drop ahead.at (take ahead.end into) ++ rest)) left
+  by_left (Some bytes) p gives left =
+      ap (option_map (λ rest. drop ahead.at (take ahead.end into) ++ rest)) left
+      ∙ ap (λ (text : List ℕ). Some text)
+      (ap (λ (n : ℕ). drop n (take ahead.end into) ++ drop ahead.end bytes) start
+      ∙ ap (λ front. front ++ drop ahead.end bytes) gives.front ∙ take-append-drop ahead.end bytes)
+
+-- a byte that is read ahead is taken
+pub left_byte : {S : Type 0} (m : Meaning S) (s : S) (buffer : List ℕ) (old new : Ahead) → IsAhead buffer old → old.at < old.end → new.end ≡ old.end → new.at ≡ old.at + 1 →
+    Gave (left_of m s buffer old) (left_of m s buffer new) (get_or buffer old.at 0 ∷ [])
+left_byte m s buffer old new is some end at = by_left (m.left s) where
+  front : drop old.at (take old.end buffer) ≡ get_or buffer old.at 0 ∷ drop new.at (take new.end buffer)
+  front =
+      let within = is.within in
+      let long : length (take old.end buffer) ≡ old.end = length-take-le old.end buffer within in
+      drop_more (take old.end buffer) old.at 0 (omega arith)
+      ∙ ap (λ (b : ℕ). b ∷ drop (old.at + 1) (take old.end buffer)) (get_or-take old.end buffer old.at 0 some)
+      ∙ ap (λ (n : ℕ). get_or buffer old.at 0 ∷ drop n (take old.end buffer)) (sym at)
+      ∙ ap (λ (n : ℕ). get_or buffer old.at 0 ∷ drop new.at (take n buffer)) (sym end)
+
+  by_left : (o : Option (List ℕ)) → option_map (λ rest. drop old.at (take old.end buffer) ++ rest) o
+      ≡ option_map (λ rest. (get_or buffer old.at 0 ∷ []) ++ rest) (option_map (λ rest. drop new.at (take new.end buffer) ++ rest) o)
+  by_left None = refl
+  by_left (Some bytes) = ap (λ (xs : List ℕ). Some (xs ++ bytes)) front
+
+-- at the end nothing is given
+pub ended_same : (o p : Option (List ℕ)) → HasEnded o → Gave o p [] → HasEnded p
+ended_same o None ended gave = tt
+ended_same o (Some bytes) ended gave = rw gave at ended

@@ -1,0 +1,10 @@
+pub mod Form
+pub mod Laws
+pub mod Lines
+pub mod Map
+pub mod Marking
+pub mod Mask
+pub mod Reads
+pub mod Scanning
+pub mod Spelling
+pub mod Text

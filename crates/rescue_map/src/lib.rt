@@ -1,0 +1,18 @@
+//! The map of a rescued medium: the text of GNU ddrescue's mapfile, read into a mask of sectors and written from one. No
+//! call takes memory.
+#![tactic(auto)]
+
+mod ahead;
+mod form;
+pub mod laws;
+mod line;
+mod mask;
+mod reading;
+mod scan;
+mod spelling;
+mod text;
+mod words;
+
+pub use form::Block;
+pub use reading::{MapError, read_map};
+pub use text::write_map;
