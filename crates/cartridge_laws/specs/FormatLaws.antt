@@ -5,6 +5,7 @@ use Rattle.cartridge_laws.specs.Segment.{IsUnreadable}
 use Rattle.cartridge_laws.specs.Writes.{named_writes}
 use Rattle.cartridge_spec.specs.Formatting.{HasNoHeader, copy_writes, clearing_steps, IsDefect, format_steps, HasNoDefectInFront, StandsCleanly, IsFreshFor, fresh_plain, MarksDefects}
 use Rattle.cartridge_spec.specs.HeaderAndTable.{copy_cells, IsUnformatted, IsArea}
+use Rattle.cartridge_spec.specs.Mounting.{IsTableLive}
 use Rattle.cartridge_spec.specs.Says.{whole_mask, Zero}
 use Rattle.cartridge_spec.specs.Settling.{changed_by}
 use Rattle.cartridge_spec.specs.Volumes.{Plain, Stands}
@@ -58,6 +59,11 @@ FormattedStands =
     (old new : Cartridge) (label : List ℕ) (date : ℕ) (words : List ℕ) (area : List (List ℕ)) → IsCartridge old →
     IsFreshFor old label date words area → IsFormattedFrom old new area →
     StandsCleanly new (fresh_plain old label date words area)
+
+-- each sector of its table's segment takes a write
+abbrev pub FormattedIsLive : Type 0
+FormattedIsLive =
+    (old new : Cartridge) (area : List (List ℕ)) → IsCartridge old → HasNoDefectInFront old → IsFormattedFrom old new area → IsTableLive new
 
 -- and the map marks its defects
 abbrev pub FormattedIsMarked : Type 0
