@@ -1,5 +1,5 @@
--- What a run leaves of the plain cartridge that a cartridge stands for, with its header and its volumes, and of the list
--- that it is mounted with (this project's own).
+-- What a run leaves of the plain cartridge that a cartridge stands for, with its header and its volumes, of the list that it
+-- is mounted with, and of the sectors of its table's segment (this project's own).
 use Rattle.std.specs.Prelude.{◌≡◌, true, ℕ, List, Option, Some, IsSomeAnd, ◌≤◌, ◌⊎◌, IfSome, ◌<◌, All, suc, slice_get, ◌≢◌, false, take}
 use Rattle.cartridge_spec.specs.Appending.{new_plain, volume_bytes}
 use Rattle.cartridge_spec.specs.Formatting.{IsFreshFor, fresh_plain, StandsCleanly, HasNoHeader}
@@ -76,6 +76,14 @@ StillMounts words held left =
 -- The list stays: each cartridge that a run leaves is still mounted so.
 abbrev pub ListStays : {T : Type 0} (t : tapes.Meaning T) (words : List (List ℕ)) (old new : T) → Type 0
 ListStays t words old new = EachLeft t old new (StillMounts words)
+
+-- ---- the table's segment
+
+-- What is left of a cartridge each sector of whose table's segment takes a write is such a one, unless the words are those of `new`.
+abbrev pub StillLive : List (List ℕ) → (held left : Option Cartridge) → Type 0
+StillLive words held left =
+    (c : Cartridge) → held ≡ Some c → IsTableLive c → ((segments : ℕ) → ¬ (Spells words (commands.New segments))) →
+    IsSomeAnd left IsTableLive
 
 -- ---- formatting
 
@@ -160,12 +168,14 @@ pub record GivesBack {T K : Type 0} (t : tapes.Meaning T) (k : sinks.Meaning K) 
 
 -- ---- when a run is over
 
--- the cartridge stands for that empty one with clean header copies, so that a next formatting may be stopped, too
+-- The cartridge stands for that empty one with clean header copies, so that a next formatting may be stopped, too; and each
+-- sector of its table's segment takes a write, so that an append may.
 pub record StandsFresh (c : Cartridge) (label : List ℕ) (date : ℕ) (d : Cartridge) : Type 0 where
   pub words : List ℕ
   pub area : List (List ℕ)
   pub fresh : IsFreshFor c label date words area
   pub stands : StandsCleanly d (fresh_plain c label date words area)
+  pub live : IsTableLive d
 
 -- the command was carried out, though its output may be cut off
 abbrev pub IsCarriedOut : Status → Type 0
