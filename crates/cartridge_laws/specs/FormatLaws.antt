@@ -87,13 +87,13 @@ StoppedClearingNew =
     Torn (clearing_steps c.info.segments_per_track) (Some c) left →
     IsSomeAnd left IsUnformatted
 
--- a stop among all steps leaves what stood, or an unformatted cartridge, or the empty one
+-- a stop among all steps leaves what stood, or an unformatted cartridge, or the empty one, whose table's segment takes writes
 abbrev pub StoppedFormat : Type 0
 StoppedFormat =
     (c : Cartridge) (plain : Plain) (label : List ℕ) (date : ℕ) (words : List ℕ) (area : List (List ℕ))
     (left : Option Cartridge) → IsCartridge c → StandsCleanly c plain → IsFreshFor c label date words area →
     Torn (format_steps c.info.segments_per_track area) (Some c) left →
-    IsSomeAnd left (λ d. Stands d plain ⊎ IsUnformatted d ⊎ Stands d (fresh_plain c label date words area))
+    IsSomeAnd left (λ d. Stands d plain ⊎ IsUnformatted d ⊎ (Stands d (fresh_plain c label date words area) × IsTableLive d))
 
 -- and an unformatted or the empty one, where no header stood
 abbrev pub StoppedFormatNew : Type 0
@@ -101,4 +101,4 @@ StoppedFormatNew =
     (c : Cartridge) (label : List ℕ) (date : ℕ) (words : List ℕ) (area : List (List ℕ)) (left : Option Cartridge) →
     IsCartridge c → HasNoHeader c → IsFreshFor c label date words area →
     Torn (format_steps c.info.segments_per_track area) (Some c) left →
-    IsSomeAnd left (λ d. IsUnformatted d ⊎ Stands d (fresh_plain c label date words area))
+    IsSomeAnd left (λ d. IsUnformatted d ⊎ (Stands d (fresh_plain c label date words area) × IsTableLive d))

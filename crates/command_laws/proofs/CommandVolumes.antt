@@ -242,7 +242,7 @@ format_standing label date c plain left whole stood (inr (inr (free, none, (word
     (λ d is. elim is [
       | inl stands ↦ inl stands
       | inr (inl bare) ↦ inr (inl bare)
-      | inr (inr empty) ↦ inr (inr (record { words = words; area = area; fresh = is_fresh; stands = empty }))
+      | inr (inr empty) ↦ inr (inr (record { words = words; area = area; fresh = is_fresh; stands = empty.0; live = empty.1 }))
     ])
     (stopped_format c plain label date words area left whole stood is_fresh torn)
 
@@ -257,7 +257,7 @@ format_bare label date c left whole bare unformatted (inr (inr (free, none, (wor
     some_weaker left
     (λ d is. elim is [
       | inl bare ↦ inl bare
-      | inr empty ↦ inr (record { words = words; area = area; fresh = is_fresh; stands = empty })
+      | inr empty ↦ inr (record { words = words; area = area; fresh = is_fresh; stands = empty.0; live = empty.1 })
     ])
     (stopped_format_new c label date words area left whole bare is_fresh torn)
 

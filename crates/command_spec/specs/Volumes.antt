@@ -88,12 +88,13 @@ StillLive words held left =
 -- ---- formatting
 
 -- a cartridge stands for the empty plain one with the label and the date word, whose map marks the defects of the old
--- cartridge; none of these lies in the segments 0 to 2
+-- cartridge; none of these lies in the segments 0 to 2, and each sector of its table's segment takes a write
 pub record StandsEmpty (c : Cartridge) (label : List ℕ) (date : ℕ) (d : Cartridge) : Type 0 where
   pub words : List ℕ
   pub area : List (List ℕ)
   pub fresh : IsFreshFor c label date words area
   pub stands : Stands d (fresh_plain c label date words area)
+  pub live : IsTableLive d
 
 -- What words of formatting leave of a cartridge that stood for a plain one, with clean header copies: it stands for that,
 -- or is unformatted, or stands for the empty one. Where both header copies were bare, it is unformatted or stands for the
