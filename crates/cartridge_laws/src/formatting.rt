@@ -41,7 +41,8 @@ pub fn stopped_clearing()
     ensures new { StoppedClearingNew }
 {}
 
-/// A stop among all steps leaves what stood, or an unformatted cartridge, or the empty one.
+/// A stop among all steps leaves what stood, or an unformatted cartridge, or the empty one, whose table's segment takes
+/// writes.
 pub fn stopped_format()
     ensures standing { StoppedFormat }
     ensures new { StoppedFormatNew }
