@@ -49,7 +49,7 @@ view_of_other c segment sector s i view small h apart =
     view_elsewhere c segment sector s i view (λ same. let one : s ≡ segment = omega arith in apart one)
 
 -- each sector stays, or is changed
-one_view : (c : Cartridge) (segment sector : ℕ) (change : SectorView → SectorView) (s i : ℕ) →
+pub one_view : (c : Cartridge) (segment sector : ℕ) (change : SectorView → SectorView) (s i : ℕ) →
     (view_at (with_view c segment sector (change (view_at c segment sector))) s i ≡ view_at c s i)
     ⊎ (view_at (with_view c segment sector (change (view_at c segment sector))) s i ≡ change (view_at c s i))
 one_view c segment sector change s i =

@@ -7,14 +7,14 @@ use Rattle.cartridge_laws.proofs.FormatCopies.{HoldsZeros, IsCopyOf, copy_is_wri
 use Rattle.cartridge_laws.proofs.FormatEmpty.{empty_stands}
 use Rattle.cartridge_laws.proofs.FormatFresh.{fresh_are_sound}
 use Rattle.cartridge_laws.proofs.FormatWriting.{IsWritable, IsWritten, copy_written, changed_by-append, view_of_written}
-use Rattle.cartridge_laws.specs.FormatLaws.{FormattingFormats, FormattedStands, FormattedIsMarked}
+use Rattle.cartridge_laws.specs.FormatLaws.{FormattingFormats, FormattedStands, FormattedIsLive, FormattedIsMarked}
 use Rattle.cartridge_laws.specs.FormatMarks.{IsFormattedFrom}
 use Rattle.cartridge_spec.specs.Code.{parity_sectors}
 use Rattle.cartridge_spec.specs.Formatting.{IsDefect, clearing_steps, copy_writes, HasNoDefectInFront, format_steps, IsFreshFor, fresh_plain}
 use Rattle.cartridge_spec.specs.HeaderAndTable.{IsArea}
 use Rattle.cartridge_spec.specs.Says.{with_parity}
 use Rattle.cartridge_spec.specs.Settling.{changed_by}
-use Rattle.cartridge_spec.specs.Shape.{sector_at}
+use Rattle.cartridge_spec.specs.Shape.{sector_at, IsLive}
 use Rattle.cartridge_spec.specs.Volumes.{Stands}
 use Rattle.gf256_qic.proofs.Parities.{length-parity_sectors}
 use Rattle.qic_base.specs.Cartridge.{zero_sector, Cartridge, IsCartridge, view_at}
@@ -150,6 +150,14 @@ formatted_stands old new label date words area whole for formatted =
       first = inl (copy_is_written new 0 area long first);
       second = inl (copy_is_written new 1 area long second);
     }
+
+-- its table's segment takes writes
+pub formatted_is_live : FormattedIsLive
+formatted_is_live old new area whole front formatted i h =
+    let least : 3 ≤ old.info.segments_per_track = whole.long.shortest in
+    let zeros : view_at new 2 i ≡ Holds zero_sector =
+    formatted.others 2 i (omega arith) (omega arith) h ∙ formatted_holds (view_at old 2 i) (front 2 (omega arith) i h) in
+    subst IsLive (sym zeros) tt
 
 -- ---- the defects
 

@@ -10,7 +10,9 @@ use Rattle.cartridge_laws.proofs.Segments.{zero_does_not_read}
 use Rattle.cartridge_laws.specs.FormatLaws.{StoppedClearing, StoppedClearingNew, StoppedFormat, StoppedFormatNew}
 use Rattle.cartridge_spec.specs.Formatting.{StandsCleanly, IsBareCopy, HasNoHeader, HasNoDefectInFront, IsFreshFor, fresh_plain, clearing_steps, copy_writes, format_steps}
 use Rattle.cartridge_spec.specs.HeaderAndTable.{IsUnformatted}
+use Rattle.cartridge_spec.specs.Mounting.{IsTableLive}
 use Rattle.cartridge_spec.specs.Says.{with_parity}
+use Rattle.cartridge_spec.specs.Shape.{IsLive}
 use Rattle.cartridge_spec.specs.Volumes.{Plain, Stands}
 use Rattle.qic_base.proofs.Steps.{Torn-append}
 use Rattle.qic_base.specs.Cartridge.{Cartridge, IsCartridge, view_at, zero_sector}
@@ -43,9 +45,9 @@ stopped_clearing_new c left whole none torn =
 
 -- ---- among all of them
 
--- what is left: what the clearing leaves, an unformatted cartridge, or one that stands for the empty one
+-- what is left: what the clearing leaves, an unformatted cartridge, or one that stands for the empty one, and takes writes
 abbrev LeftByFormat : (c : Cartridge) (empty : Plain) (d : Cartridge) → Type 0
-LeftByFormat c empty d = IsKeptOrBare c d ⊎ IsUnformatted d ⊎ Stands d empty
+LeftByFormat c empty d = IsKeptOrBare c d ⊎ IsUnformatted d ⊎ (Stands d empty × IsTableLive d)
 
 -- sector 0 of copy 0 still holds zero bytes, and so does copy 1
 untouched_unformatted : (c d : Cartridge) → IsCartridge c → HasNoDefectInFront c → IsUntouched 0 1 (cleared c) d → IsUnformatted d
@@ -69,6 +71,10 @@ table_zeros c d whole front same = record {
       cc;
 }
 
+-- and each of its sectors takes a write
+table_live : (c d : Cartridge) → IsCartridge c → HasNoDefectInFront c → ((i : ℕ) → i < 32 → view_at d 2 i ≡ view_at (cleared c) 2 i) → IsTableLive d
+table_live c d whole front same i h = subst IsLive (sym (same i h ∙ cleared_front c 2 i whole front (omega arith) h)) tt
+
 almost_copy : {segment : ℕ} {block : List (List ℕ)} {c d : Cartridge} → IsAlmostWritten segment block c d → IsCopyOf d segment block
 almost_copy almost = record { first = almost.first; here = almost.here }
 
@@ -78,8 +84,12 @@ first_left : (c d : Cartridge) (label : List ℕ) (date : ℕ) (words : List ℕ
     LeftByFormat c (fresh_plain c label date words area) d
 first_left c d label date words area whole for (inl kept) = inr (inl (untouched_unformatted c d whole for.front kept))
 first_left c d label date words area whole for (inr almost) =
-    inr (inr (copy_stands c d label date words area whole for (almost.info ∙ (cleared_to_the_end c whole).info) (almost_copy almost)
-    (table_zeros c d whole for.front (λ i h. almost.others 2 i h (λ same. absurd (omega arith))))))
+    let table : (i : ℕ) → i < 32 → view_at d 2 i ≡ view_at (cleared c) 2 i = λ i h. almost.others 2 i h (λ same. absurd (omega arith)) in
+    inr (inr (
+      copy_stands c d label date words area whole for (almost.info ∙ (cleared_to_the_end c whole).info) (almost_copy almost)
+          (table_zeros c d whole for.front table),
+      table_live c d whole for.front table,
+    ))
 
 -- all but segment 1 is as it was
 record IsLeftFrom (c d : Cartridge) : Type 0 where
@@ -102,10 +112,13 @@ second_left c d label date words area whole for partly =
           first.almost.first bytes (sym (left.others 0 0 (omega arith) (λ same. absurd (omega arith))) ∙ view);
       here = λ i from h. left.others 0 i h (λ same. absurd (omega arith)) ∙ first.almost.here i from h;
     } in
-    inr (inr (copy_stands c d label date words area whole for
-    (left.info ∙ first.almost.info ∙ (cleared_to_the_end c whole).info) copy
-    (table_zeros c d whole for.front (λ i h.
-    left.others 2 i h (λ same. absurd (omega arith)) ∙ first.almost.others 2 i h (λ same. absurd (omega arith))))))
+    let table : (i : ℕ) → i < 32 → view_at d 2 i ≡ view_at (cleared c) 2 i =
+    λ i h. left.others 2 i h (λ same. absurd (omega arith)) ∙ first.almost.others 2 i h (λ same. absurd (omega arith)) in
+    inr (inr (
+      copy_stands c d label date words area whole for (left.info ∙ first.almost.info ∙ (cleared_to_the_end c whole).info) copy
+          (table_zeros c d whole for.front table),
+      table_live c d whole for.front table,
+    ))
 
 format_stopped : (c : Cartridge) (label : List ℕ) (date : ℕ) (words : List ℕ) (area : List (List ℕ)) (left : Option Cartridge) → IsCartridge c →
     IsFreshFor c label date words area → Torn (format_steps c.info.segments_per_track area) (Some c) left →
@@ -133,7 +146,7 @@ format_stopped c label date words area left whole for torn =
     ]
 
 standing_left : (c d : Cartridge) (plain empty : Plain) → StandsCleanly c plain → LeftByFormat c empty d →
-    Stands d plain ⊎ IsUnformatted d ⊎ Stands d empty
+    Stands d plain ⊎ IsUnformatted d ⊎ (Stands d empty × IsTableLive d)
 standing_left c d plain empty stood (inl kept) =
     elim (kept_or_bare_stands c d plain stood kept) [
       | inl stands ↦ inl stands
@@ -141,7 +154,7 @@ standing_left c d plain empty stood (inl kept) =
     ]
 standing_left c d plain empty stood (inr rest) = inr rest
 
-new_left : (c d : Cartridge) (empty : Plain) → HasNoHeader c → LeftByFormat c empty d → IsUnformatted d ⊎ Stands d empty
+new_left : (c d : Cartridge) (empty : Plain) → HasNoHeader c → LeftByFormat c empty d → IsUnformatted d ⊎ (Stands d empty × IsTableLive d)
 new_left c d empty none (inl kept) = inl (kept_or_bare_unformatted c d none kept)
 new_left c d empty none (inr rest) = rest
 

@@ -17,6 +17,7 @@ pub mod AppendWhole
 pub mod Blocks
 pub mod Cells
 pub mod ChangeClean
+pub mod ChangeLive
 pub mod ChangeMounted
 pub mod ChangeStanding
 pub mod ChangeTable

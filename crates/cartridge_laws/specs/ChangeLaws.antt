@@ -1,15 +1,18 @@
--- What a change of one sector, or of a mark, leaves of what a cartridge stands for, and of what it is mounted as, as facts.
-use Rattle.std.specs.Prelude.{ℕ, ◌<◌, ◌≤◌, List, Bool}
+-- What a change of one sector, or of a mark, leaves of what a cartridge stands for, and of what it is mounted as, as facts;
+-- and what all changes leave of the table's segment.
+use Rattle.std.specs.Prelude.{ℕ, ◌<◌, ◌≤◌, List, Bool, Option, Some, IsSomeAnd}
+use Rattle.cartridge_laws.specs.ChangeSteps.{HasNoRenew}
 use Rattle.cartridge_laws.specs.ChangeWear.{FewLost}
 use Rattle.cartridge_spec.specs.Formatting.{StandsCleanly, HasNoHeader}
 use Rattle.cartridge_spec.specs.Header.{Header}
 use Rattle.cartridge_spec.specs.HeaderAndTable.{HasHeader}
-use Rattle.cartridge_spec.specs.Mounting.{Mounted, Mounts}
+use Rattle.cartridge_spec.specs.Mounting.{Mounted, Mounts, IsTableLive}
 use Rattle.cartridge_spec.specs.Table.{Entry}
 use Rattle.cartridge_spec.specs.Volumes.{Plain, Stands}
 use Rattle.cartridge_spec.specs.Wear.{worn, WearSpares}
 use Rattle.qic_base.specs.Cartridge.{Cartridge}
-use Rattle.qic_base.specs.Step.{Spoil, changed, SetProtected, SetReferenced}
+use Rattle.qic_base.specs.Step.{Step, Spoil, changed, SetProtected, SetReferenced}
+use Rattle.qic_base.specs.Stop.{Torn}
 
 -- ---- a worn sector
 
@@ -91,3 +94,11 @@ ProtectedIsBare = (c : Cartridge) (on : Bool) → HasNoHeader c → HasNoHeader 
 
 abbrev pub ReferencedIsBare : Type 0
 ReferencedIsBare = (c : Cartridge) → HasNoHeader c → HasNoHeader (changed SetReferenced c)
+
+-- ---- the table's segment
+
+-- each of its sectors goes on to take writes, whatever the steps but for a new cartridge, and wherever they are stopped
+abbrev pub StepsKeepLive : Type 0
+StepsKeepLive =
+    (steps : List Step) (c : Cartridge) (left : Option Cartridge) → HasNoRenew steps → IsTableLive c → Torn steps (Some c) left →
+    IsSomeAnd left IsTableLive

@@ -5,6 +5,7 @@ use Rattle.cartridge_laws.specs.Segment.{IsUnreadable}
 use Rattle.cartridge_laws.specs.Writes.{named_writes}
 use Rattle.cartridge_spec.specs.Formatting.{HasNoHeader, copy_writes, clearing_steps, IsDefect, format_steps, HasNoDefectInFront, StandsCleanly, IsFreshFor, fresh_plain, MarksDefects}
 use Rattle.cartridge_spec.specs.HeaderAndTable.{copy_cells, IsUnformatted, IsArea}
+use Rattle.cartridge_spec.specs.Mounting.{IsTableLive}
 use Rattle.cartridge_spec.specs.Says.{whole_mask, Zero}
 use Rattle.cartridge_spec.specs.Settling.{changed_by}
 use Rattle.cartridge_spec.specs.Volumes.{Plain, Stands}
@@ -59,6 +60,11 @@ FormattedStands =
     IsFreshFor old label date words area → IsFormattedFrom old new area →
     StandsCleanly new (fresh_plain old label date words area)
 
+-- each sector of its table's segment takes a write
+abbrev pub FormattedIsLive : Type 0
+FormattedIsLive =
+    (old new : Cartridge) (area : List (List ℕ)) → IsCartridge old → HasNoDefectInFront old → IsFormattedFrom old new area → IsTableLive new
+
 -- and the map marks its defects
 abbrev pub FormattedIsMarked : Type 0
 FormattedIsMarked =
@@ -81,13 +87,13 @@ StoppedClearingNew =
     Torn (clearing_steps c.info.segments_per_track) (Some c) left →
     IsSomeAnd left IsUnformatted
 
--- a stop among all steps leaves what stood, or an unformatted cartridge, or the empty one
+-- a stop among all steps leaves what stood, or an unformatted cartridge, or the empty one, whose table's segment takes writes
 abbrev pub StoppedFormat : Type 0
 StoppedFormat =
     (c : Cartridge) (plain : Plain) (label : List ℕ) (date : ℕ) (words : List ℕ) (area : List (List ℕ))
     (left : Option Cartridge) → IsCartridge c → StandsCleanly c plain → IsFreshFor c label date words area →
     Torn (format_steps c.info.segments_per_track area) (Some c) left →
-    IsSomeAnd left (λ d. Stands d plain ⊎ IsUnformatted d ⊎ Stands d (fresh_plain c label date words area))
+    IsSomeAnd left (λ d. Stands d plain ⊎ IsUnformatted d ⊎ (Stands d (fresh_plain c label date words area) × IsTableLive d))
 
 -- and an unformatted or the empty one, where no header stood
 abbrev pub StoppedFormatNew : Type 0
@@ -95,4 +101,4 @@ StoppedFormatNew =
     (c : Cartridge) (label : List ℕ) (date : ℕ) (words : List ℕ) (area : List (List ℕ)) (left : Option Cartridge) →
     IsCartridge c → HasNoHeader c → IsFreshFor c label date words area →
     Torn (format_steps c.info.segments_per_track area) (Some c) left →
-    IsSomeAnd left (λ d. IsUnformatted d ⊎ Stands d (fresh_plain c label date words area))
+    IsSomeAnd left (λ d. IsUnformatted d ⊎ (Stands d (fresh_plain c label date words area) × IsTableLive d))

@@ -4,6 +4,7 @@ pub mod AppendSettled
 pub mod AppendSteps
 pub mod AppendWrites
 pub mod ChangeLaws
+pub mod ChangeSteps
 pub mod ChangeWear
 pub mod FormatLaws
 pub mod FormatMarks

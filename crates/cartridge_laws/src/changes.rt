@@ -1,7 +1,7 @@
 //! What each change leaves of what a cartridge stands for, and of what it is mounted as. Each law is the contract of a
 //! function that does nothing, so that other crates can rest on it; their proofs import the lemmas of this crate's `proofs`.
 
-ghost use Rattle.cartridge_laws.specs.ChangeLaws.{WornStands, WornMounts, WornIsClean, WornIsBare, FewLostIsInForce, SpoiledStands, SpoiledMounts, SpoiledIsClean, SpoiledIsBare, ProtectedStands, ProtectedMounts, ProtectedIsClean, ProtectedIsBare, ReferencedStands, ReferencedMounts, ReferencedIsClean, ReferencedIsBare};
+ghost use Rattle.cartridge_laws.specs.ChangeLaws.{WornStands, WornMounts, WornIsClean, WornIsBare, FewLostIsInForce, SpoiledStands, SpoiledMounts, SpoiledIsClean, SpoiledIsBare, ProtectedStands, ProtectedMounts, ProtectedIsClean, ProtectedIsBare, ReferencedStands, ReferencedMounts, ReferencedIsClean, ReferencedIsBare, StepsKeepLive};
 
 /// A cartridge with a worn sector stands for the same, where header and table are spared. It is mounted as before where
 /// the sector lies behind them.
@@ -36,4 +36,9 @@ pub fn header_copies()
     ensures protected_is_bare { ProtectedIsBare }
     ensures referenced_is_clean { ReferencedIsClean }
     ensures referenced_is_bare { ReferencedIsBare }
+{}
+
+/// Where each sector of the table's segment takes a write, each does so at any moment of steps without a new cartridge.
+pub fn live_sectors()
+    ensures { StepsKeepLive }
 {}

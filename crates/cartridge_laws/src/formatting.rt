@@ -1,7 +1,7 @@
 //! What the steps of formatting leave, done or stopped. Each is the contract of a function that does nothing, so that
 //! other crates can rest on it; their proofs import the lemmas of this crate's `proofs`.
 
-ghost use Rattle.cartridge_laws.specs.FormatLaws.{CopyWritesByPlaces, NewHasNoHeader, ClearingClears, ClearedShowsDefects, ClearedCopiesAreZero, ClearedIsUnformatted, FormattingFormats, FormattedStands, FormattedIsMarked, StoppedClearing, StoppedClearingNew, StoppedFormat, StoppedFormatNew};
+ghost use Rattle.cartridge_laws.specs.FormatLaws.{CopyWritesByPlaces, NewHasNoHeader, ClearingClears, ClearedShowsDefects, ClearedCopiesAreZero, ClearedIsUnformatted, FormattingFormats, FormattedStands, FormattedIsLive, FormattedIsMarked, StoppedClearing, StoppedClearingNew, StoppedFormat, StoppedFormatNew};
 
 /// The reference bursts and the formatting of all segments clear a cartridge. One that was cleared shows its
 /// defects, and is unformatted.
@@ -22,9 +22,11 @@ pub fn formatting_formats()
     ensures { FormattingFormats }
 {}
 
-/// A cartridge that was formatted with a fresh header stands for the empty one, and the header's map marks its defects.
+/// A cartridge that was formatted with a fresh header stands for the empty one, each sector of its table's segment takes a
+/// write, and the header's map marks its defects.
 pub fn formatted_stands()
     ensures empty { FormattedStands }
+    ensures live { FormattedIsLive }
     ensures marked { FormattedIsMarked }
 {}
 
@@ -39,7 +41,8 @@ pub fn stopped_clearing()
     ensures new { StoppedClearingNew }
 {}
 
-/// A stop among all steps leaves what stood, or an unformatted cartridge, or the empty one.
+/// A stop among all steps leaves what stood, or an unformatted cartridge, or the empty one, whose table's segment takes
+/// writes.
 pub fn stopped_format()
     ensures standing { StoppedFormat }
     ensures new { StoppedFormatNew }

@@ -1,10 +1,11 @@
 -- What a run leaves of what a cartridge stands for, by what a stop in its command leaves.
 use Rattle.std.proofs.Common.{◌≡◌, List, Option, Some, IsSomeAnd, sym, ◌∙◌, subst, refl, ℕ, IfSome, ap, inl, inr, false, Bool, true, [], ◌∷◌, ◌⊎◌, ◌<◌, All, IfNone, None, append-nil, arith}
+use Rattle.cartridge_laws.proofs.ChangeLive.{steps_keep_live}
 use Rattle.cartridge_laws.proofs.ChangeMounted.{worn_mounts, spoiled_mounts, protected_mounts, referenced_mounts}
 use Rattle.cartridge_laws.proofs.ChangeStanding.{protected_stands, referenced_stands, worn_stands, spoiled_stands}
 use Rattle.cartridge_laws.proofs.FormatClearing.{clearing_clears, cleared_copies_are_zero}
 use Rattle.cartridge_laws.proofs.FormatCopies.{unformatted_from_bare}
-use Rattle.cartridge_laws.proofs.FormatDone.{formatting_formats, formatted_stands}
+use Rattle.cartridge_laws.proofs.FormatDone.{formatting_formats, formatted_stands, formatted_is_live}
 use Rattle.cartridge_laws.proofs.FormatStops.{stopped_clearing, stopped_format, stopped_clearing_new, stopped_format_new}
 use Rattle.cartridge_laws.proofs.FormatWriting.{some_and, some_weaker, effects-some}
 use Rattle.cartridge_laws.proofs.MountKeeping.{stopped_stands, stopped_mounts}
@@ -15,13 +16,14 @@ use Rattle.cartridge_spec.specs.Appending.{new_plain}
 use Rattle.cartridge_spec.specs.Formatting.{HasNoDefectInFront, IsFreshFor, IsFreshWith, StandsCleanly, HasNoHeader, format_steps, clearing_steps}
 use Rattle.cartridge_spec.specs.Header.{Header}
 use Rattle.cartridge_spec.specs.HeaderAndTable.{IsUnformatted}
-use Rattle.cartridge_spec.specs.Mounting.{Mounting, TableLost, Mounts, mounted_as, Mounted, settled}
+use Rattle.cartridge_spec.specs.Mounting.{Mounting, TableLost, Mounts, mounted_as, Mounted, settled, IsTableLive}
 use Rattle.cartridge_spec.specs.Settling.{changed_by}
 use Rattle.cartridge_spec.specs.Table.{Entry}
 use Rattle.cartridge_spec.specs.Volumes.{Plain, Stands, entries_of}
 use Rattle.command_laws.proofs.CommandAppends.{append_stopped, append_refused, append_unanswered, append_done}
 use Rattle.command_laws.proofs.CommandEnds.{after_steps, told_weaker, over_at, told_whole, Laws, ends_finished}
 use Rattle.command_laws.proofs.CommandPlainLaws.{SectorLeaves, OpeningLeaves, ScrubbingLeaves, FormatLeaves, CommandLeaves, plain_leaves}
+use Rattle.command_laws.proofs.CommandSteps.{only_new_renews}
 use Rattle.command_laws.proofs.CommandTotals.{plain_answers}
 use Rattle.command_laws.proofs.ScrubMounted.{stopped_scrub_stands, stopped_scrub_mounts}
 use Rattle.command_laws.proofs.TextCommands.{one_command}
@@ -32,7 +34,7 @@ use Rattle.command_spec.specs.Outcome.{CommandOutcome, HasPlace}
 use Rattle.command_spec.specs.Runs.{IsOfBytes, fault_of, may_come_from, IsCutOff, Finished, CommandEnds, is_fault}
 use Rattle.command_spec.specs.Scrub.{Scrubs}
 use Rattle.command_spec.specs.Traits.{traits_of}
-use Rattle.command_spec.specs.Volumes.{IsCarriedOut, KeepsVolumes, StillStands, VolumesStay, KeepsList, StillMounts, ListStays, StandsEmpty, FormatsOrNot, StopsFormat, AreBytes, StandsAppended, AppendedOrNot, StopsAppend, StandsFresh, IsBare, WasNotDone, IsChanged}
+use Rattle.command_spec.specs.Volumes.{IsCarriedOut, KeepsVolumes, StillStands, VolumesStay, KeepsList, StillMounts, ListStays, StillLive, StandsEmpty, FormatsOrNot, StopsFormat, AreBytes, StandsAppended, AppendedOrNot, StopsAppend, StandsFresh, IsBare, WasNotDone, IsChanged}
 use Rattle.command_spec.specs.declared.status.Status.{Status}
 use Rattle.command_spec.specs.declared.words.Words.{Words}
 use Rattle.qic_base.proofs.Steps.{Done-nothing}
@@ -208,6 +210,19 @@ still_mounts told words held left (inr (command, spells, leaves)) c header map_w
 pub list_stays : {T : Type 0} (t : tapes.Meaning T) (told : Option (List ℕ)) (words : List (List ℕ)) (a b : T) → tapes.IsToldRight (t.told a) (t.size a) → EachLeft t a b (WordsLeave told words) → ListStays t words a b
 list_stays t told words a b right leaves = each_weaker t a b right (λ held left whole is. still_mounts told words held left is) leaves
 
+-- ---- the table's segment
+
+still_live : (told : Option (List ℕ)) (words : List (List ℕ)) (held left : Option Cartridge) → WordsLeave told words held left → StillLive words held left
+still_live told words held left (inl same) c is live none = some_and IsTableLive c left live (same ∙ is)
+still_live told words held left (inr (command, spells, leaves)) c is live none =
+    steps_keep_live (steps_of leaves.outcome.acts) c left
+    (only_new_renews command held leaves.input leaves.outcome
+    (λ segments same. none segments (subst (λ (w : Words). Spells words w) same spells)) leaves.plain)
+    live (subst (λ (h : Option Cartridge). Torn (steps_of leaves.outcome.acts) h left) is leaves.torn)
+
+pub stays_live : {T : Type 0} (t : tapes.Meaning T) (told : Option (List ℕ)) (words : List (List ℕ)) (a b : T) → tapes.IsToldRight (t.told a) (t.size a) → EachLeft t a b (WordsLeave told words) → EachLeft t a b (StillLive words)
+stays_live t told words a b right leaves = each_weaker t a b right (λ held left whole is. still_live told words held left is) leaves
+
 -- ---- formatting
 
 fresh_for : (c : Cartridge) (label : List ℕ) (date : ℕ) (words : List ℕ) (area : List (List ℕ)) → HasNoDefectInFront c → IsFreshWith c label date words area →
@@ -227,7 +242,7 @@ format_standing label date c plain left whole stood (inr (inr (free, none, (word
     (λ d is. elim is [
       | inl stands ↦ inl stands
       | inr (inl bare) ↦ inr (inl bare)
-      | inr (inr empty) ↦ inr (inr (record { words = words; area = area; fresh = is_fresh; stands = empty }))
+      | inr (inr empty) ↦ inr (inr (record { words = words; area = area; fresh = is_fresh; stands = empty.0; live = empty.1 }))
     ])
     (stopped_format c plain label date words area left whole stood is_fresh torn)
 
@@ -242,7 +257,7 @@ format_bare label date c left whole bare unformatted (inr (inr (free, none, (wor
     some_weaker left
     (λ d is. elim is [
       | inl bare ↦ inl bare
-      | inr empty ↦ inr (record { words = words; area = area; fresh = is_fresh; stands = empty })
+      | inr empty ↦ inr (record { words = words; area = area; fresh = is_fresh; stands = empty.0; live = empty.1 })
     ])
     (stopped_format_new c label date words area left whole bare is_fresh torn)
 
@@ -391,6 +406,7 @@ formatted_fresh label date c outcome whole (inr (inr (free, none, (words, (area,
       area = area;
       fresh = is_fresh;
       stands = formatted_stands c (changed_by (format_steps n area) c) label date words area whole is_fresh (formatting_formats c area whole fresh.fresh.size none);
+      live = formatted_is_live c (changed_by (format_steps n area) c) area whole none (formatting_formats c area whole fresh.fresh.size none);
     })
     (ap (λ (o : CommandOutcome). effects (steps_of o.acts) (Some c)) is ∙ ap (λ (steps : List TapeStep). effects steps (Some c)) (append-nil (format_steps n area)) ∙ effects-some (format_steps n area) c)
 

@@ -12,6 +12,7 @@ pub mod CommandOpened
 pub mod CommandPlainLaws
 pub mod CommandPromises
 pub mod CommandSeveral
+pub mod CommandSteps
 pub mod CommandSurvives
 pub mod CommandTold
 pub mod CommandTotals

@@ -1,6 +1,6 @@
 //! Laws of the plain machine. Each is the contract of a function that does nothing.
 
-ghost use Rattle.command_laws.specs.CommandLaws.{MachineIsFunction, MachineAnswers, OneOutcome, DoneWhereAllIsThere};
+ghost use Rattle.command_laws.specs.CommandLaws.{MachineIsFunction, MachineAnswers, OneOutcome, DoneWhereAllIsThere, OnlyNewRenews};
 
 /// Words, what the drive holds and the input determine what is held then, the output, the bytes taken and the status.
 pub fn machine_is_function()
@@ -21,4 +21,9 @@ pub fn a_command_has_one_outcome()
 /// an input without a fault.
 pub fn a_command_with_its_needs_is_done()
     ensures { DoneWhereAllIsThere }
+{}
+
+/// No command but `new` puts in a new cartridge.
+pub fn only_new_puts_in_a_cartridge()
+    ensures { OnlyNewRenews }
 {}

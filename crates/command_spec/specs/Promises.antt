@@ -7,7 +7,7 @@ use Rattle.command_spec.specs.Machine.{Spells, SpellsNone}
 use Rattle.command_spec.specs.OneLoss.{SurvivesOneLoss}
 use Rattle.command_spec.specs.Runs.{OverTold, is_fault, fault_of, is_outcome, may_come_from}
 use Rattle.command_spec.specs.Several.{MakesVolumes, CarriesOutLines}
-use Rattle.command_spec.specs.Volumes.{VolumesStay, ListStays, StopsFormat, StopsAppend, IsChanged, GivesBack}
+use Rattle.command_spec.specs.Volumes.{VolumesStay, ListStays, StillLive, StopsFormat, StopsAppend, IsChanged, GivesBack}
 use Rattle.command_spec.specs.declared.status.Status.{Status}
 use Rattle.command_spec.specs.declared.words.Words.{Words}
 use Rattle.qic_base.specs.Acts.{Outside, Failing, FailingRose}
@@ -34,14 +34,18 @@ pub record Promises {T S K : Type 0} (t : tapes.Meaning T) (s : sources.Meaning 
   pub stops : EachLeft t old.tape new.tape (WordsLeave (s.left old.source) words)
   -- The volumes: each cartridge so left stands for what the old one stood for, but for `new` and `script`, for `format`, `append`
   -- and `make` of a cartridge that is not protected, and a `lose` that doesn't spare header and table; and likewise it has the old
-  -- one's list. Formatting a cartridge with clean header copies leaves that, or an unformatted one, or the empty one; appending
-  -- leaves what stood, or that with the volume of the input.
+  -- one's list.
   pub volumes : VolumesStay t words old.tape new.tape
   pub lists : ListStays t words old.tape new.tape
+  -- Where each sector of the table's segment takes a write, so it is of each cartridge so left, but for `new`: what the clauses on
+  -- `append`, `make` and `script` ask for goes on from run to run.
+  pub live : EachLeft t old.tape new.tape (StillLive words)
+  -- Formatting a cartridge with clean header copies leaves that, or an unformatted one, or the empty one; appending leaves what
+  -- stood, or that with the volume of the input.
   pub formats : StopsFormat t words old.tape new.tape
   pub appends : StopsAppend t (s.left old.source) words old.tape new.tape
-  -- After Done or a fault of the sink the cartridge of `new`, the empty one of `format`, or the one with the volume of
-  -- `append` stands; after a defect in front a bare one; after a refused append, or a fault of its input, what stood.
+  -- After Done or a fault of the sink the cartridge of `new`, the empty one of `format`, whose table's segment takes writes, or
+  -- the one with the volume of `append` stands; after a defect in front a bare one; after a refused append, or a fault of its input, what stood.
   pub changed : IsChanged t (s.left old.source) words old.tape new.tape answer
   -- Where then one sector more of the table's segment is lost, what appending left comes back as what stood, or as that with the
   -- volume; and once it was carried out, as that.

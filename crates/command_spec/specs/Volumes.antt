@@ -1,5 +1,5 @@
--- What a run leaves of the plain cartridge that a cartridge stands for, with its header and its volumes, and of the list
--- that it is mounted with (this project's own).
+-- What a run leaves of the plain cartridge that a cartridge stands for, with its header and its volumes, of the list that it
+-- is mounted with, and of the sectors of its table's segment (this project's own).
 use Rattle.std.specs.Prelude.{◌≡◌, true, ℕ, List, Option, Some, IsSomeAnd, ◌≤◌, ◌⊎◌, IfSome, ◌<◌, All, suc, slice_get, ◌≢◌, false, take}
 use Rattle.cartridge_spec.specs.Appending.{new_plain, volume_bytes}
 use Rattle.cartridge_spec.specs.Formatting.{IsFreshFor, fresh_plain, StandsCleanly, HasNoHeader}
@@ -77,15 +77,24 @@ StillMounts words held left =
 abbrev pub ListStays : {T : Type 0} (t : tapes.Meaning T) (words : List (List ℕ)) (old new : T) → Type 0
 ListStays t words old new = EachLeft t old new (StillMounts words)
 
+-- ---- the table's segment
+
+-- What is left of a cartridge each sector of whose table's segment takes a write is such a one, unless the words are those of `new`.
+abbrev pub StillLive : List (List ℕ) → (held left : Option Cartridge) → Type 0
+StillLive words held left =
+    (c : Cartridge) → held ≡ Some c → IsTableLive c → ((segments : ℕ) → ¬ (Spells words (commands.New segments))) →
+    IsSomeAnd left IsTableLive
+
 -- ---- formatting
 
 -- a cartridge stands for the empty plain one with the label and the date word, whose map marks the defects of the old
--- cartridge; none of these lies in the segments 0 to 2
+-- cartridge; none of these lies in the segments 0 to 2, and each sector of its table's segment takes a write
 pub record StandsEmpty (c : Cartridge) (label : List ℕ) (date : ℕ) (d : Cartridge) : Type 0 where
   pub words : List ℕ
   pub area : List (List ℕ)
   pub fresh : IsFreshFor c label date words area
   pub stands : Stands d (fresh_plain c label date words area)
+  pub live : IsTableLive d
 
 -- What words of formatting leave of a cartridge that stood for a plain one, with clean header copies: it stands for that,
 -- or is unformatted, or stands for the empty one. Where both header copies were bare, it is unformatted or stands for the
@@ -160,12 +169,14 @@ pub record GivesBack {T K : Type 0} (t : tapes.Meaning T) (k : sinks.Meaning K) 
 
 -- ---- when a run is over
 
--- the cartridge stands for that empty one with clean header copies, so that a next formatting may be stopped, too
+-- The cartridge stands for that empty one with clean header copies, so that a next formatting may be stopped, too; and each
+-- sector of its table's segment takes a write, so that an append may.
 pub record StandsFresh (c : Cartridge) (label : List ℕ) (date : ℕ) (d : Cartridge) : Type 0 where
   pub words : List ℕ
   pub area : List (List ℕ)
   pub fresh : IsFreshFor c label date words area
   pub stands : StandsCleanly d (fresh_plain c label date words area)
+  pub live : IsTableLive d
 
 -- the command was carried out, though its output may be cut off
 abbrev pub IsCarriedOut : Status → Type 0
