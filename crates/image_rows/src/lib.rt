@@ -11,6 +11,8 @@ mod files;
 #[cfg(test)]
 mod heads;
 #[cfg(test)]
+mod scratched;
+#[cfg(test)]
 mod sectors;
 #[cfg(test)]
 mod stops;

@@ -94,13 +94,15 @@ pub record Stored {D : Type 0} (m : Meaning D) (old new : D) (step : DiskStep) :
   pub leaves : Leaves m old new step
   pub crashes : Crashes m old new step
 
--- From old on a fault of the disk broke the step off: what a read gives then is what a crash inside the step leaves, and
--- nothing is pending.
+-- From old on a fault of the disk broke the step off: the disk is as after a crash inside the step. What a read gives
+-- then, and what a crash then leaves, is what one inside the step leaves; and nothing is pending. So a step that only
+-- looks leaves the bytes as they were where nothing was pending, and else what a crash then may leave.
 pub record Failed {D : Type 0} (m : Meaning D) (old new : D) (step : DiskStep) : Type 0 where
   pub cause : Rose (m.faults old) (m.faults new)
   pub later : m.faults old ≤ m.faults new
   pub tells : is_some (m.told new) ≡ is_some (m.told old)
   pub torn : (left : List ℕ) → m.told new ≡ Some left → Inside m old step left
+  pub leaves : (left : List ℕ) → m.may_leave new left → Inside m old step left
   pub settled : IsSettled m new
   pub crashes : Crashes m old new step
 

@@ -261,6 +261,9 @@ disk-broke old new s noted is torn later rose = record {
   torn = λ left told.
       let same : broken s (bytes_state old.bytes).bytes ≡ left = cc in
       ((bytes_state old.bytes).bytes, leave-told old.log (bytes_state old.bytes).bytes old.recorded, subst (λ (l : List ℕ). Unsynced s (bytes_state old.bytes).bytes l) same torn);
+  leaves = λ left may.
+      let same : left ≡ broken s (bytes_state old.bytes).bytes = broke-rests old.log (bytes_state old.bytes).bytes left s old.recorded (rw (noted, is) at may) in
+      ((bytes_state old.bytes).bytes, leave-told old.log (bytes_state old.bytes).bytes old.recorded, subst (λ (l : List ℕ). Unsynced s (bytes_state old.bytes).bytes l) (sym same) torn);
   settled = record {
     only = λ bytes left told may.
         let same : (bytes_state new.bytes).bytes ≡ bytes = cc in
@@ -279,6 +282,9 @@ disk-refused old new s noted is torn later rose = record {
   torn = λ left told.
       let same : (bytes_state old.bytes).bytes ≡ left = cc in
       ((bytes_state old.bytes).bytes, leave-told old.log (bytes_state old.bytes).bytes old.recorded, subst (λ (l : List ℕ). Unsynced s (bytes_state old.bytes).bytes l) same torn);
+  leaves = λ left may.
+      let same : left ≡ (bytes_state old.bytes).bytes = settled-rests old.log (bytes_state old.bytes).bytes left old.recorded (rw (noted, is) at may) in
+      ((bytes_state old.bytes).bytes, leave-told old.log (bytes_state old.bytes).bytes old.recorded, subst (λ (l : List ℕ). Unsynced s (bytes_state old.bytes).bytes l) (sym same) torn);
   settled = record {
     only = λ bytes left told may.
         let same : (bytes_state new.bytes).bytes ≡ bytes = cc in

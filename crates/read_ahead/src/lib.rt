@@ -1,11 +1,13 @@
 //! A disk that is read ahead: sectors that lie together are read by one call.
 //!
 //! What it means is what the disk under it means, so whatever is proved over a disk is proved over one that is read
-//! ahead. A read that is made ahead fails where the disk fails anywhere in what it reads.
+//! ahead. A read that is made ahead and fails is made again for just the bytes that were asked for, so a call fails only
+//! where the disk fails in these. A disk in which something is pending is not read ahead, since a call that fails may
+//! lose what is pending.
 #![tactic(auto)]
 
-ghost use Rattle.std.specs.Prelude.{◌≡◌, ℕ, ◌+◌, ◌-◌, ◌≤◌, List, length, Some, take, drop, min, slice_range, IfOk, IfSome};
-ghost use Rattle.qic_base.specs.Disk.{Look, Stores};
+ghost use Rattle.std.specs.Prelude.{◌≡◌, ℕ, ◌+◌, ◌-◌, ◌≤◌, List, length, true, Some, take, drop, min, slice_range, IsTrue, IfOk, IfSome};
+ghost use Rattle.qic_base.specs.Disk.{Look, Stored, Stores, IsSettled};
 ghost use Rattle.read_ahead.specs.declared.TheConstants.{MOST};
 
 use qic_base::{Disk, DiskFailed};
@@ -25,6 +27,10 @@ pub struct ReadAhead<'a, D: Disk> {
     place: u64,
     /// How many bytes of the disk the room holds: 0 behind a call that may have changed the disk's bytes.
     held: usize,
+    /// Whether it is known that nothing is pending in the disk.
+    settled: bool,
+    ghost rests: { (bytes left : List ℕ) → IsTrue settled → D.means.told disk ≡ Some bytes →
+        D.means.may_leave disk left → left ≡ bytes },
     ghost right: { (bytes : List ℕ) → D.means.told disk ≡ Some bytes →
         take held room.now ≡ take held (drop place bytes) },
     ghost reach: { (bytes : List ℕ) → D.means.told disk ≡ Some bytes →
@@ -37,6 +43,7 @@ impl<'a, D: Disk> ReadAhead<'a, D> {
 
     /// A disk of which nothing was read yet, and a room whose bytes mean nothing. It makes no call of the disk.
     pub fn new(disk: D, room: &'a mut [u8; MOST]) -> ReadAhead<'a, D>
+        requires { D.means.tells_stops disk ≡ true → IsSettled D.means disk }
         ensures { disk_of result ≡ disk }
     {
         ReadAhead {
@@ -44,6 +51,7 @@ impl<'a, D: Disk> ReadAhead<'a, D> {
             room,
             place: 0,
             held: 0,
+            settled: true,
         }
     }
 
@@ -60,16 +68,18 @@ impl<'a, D: Disk> ReadAhead<'a, D> {
         }
     }
 
-    /// Reads as many bytes as there are from a place on and fit into the room.
-    fn fill(&mut self, place: u64) -> Result<(), DiskFailed>
-        ensures did { Stores D.means (disk_of self.old) (disk_of self.new) Look result }
+    /// Reads as many bytes as there are from a place on and fit into the room, which is empty where the disk fails in
+    /// them.
+    fn fill(&mut self, place: u64)
+        requires { IsTrue self.old.settled }
+        ensures did { Stored D.means (disk_of self.old) (disk_of self.new) Look }
         ensures seen { D.means.seen_len (disk_of self.new) ≡ D.means.seen_len (disk_of self.old) }
     {
         self.held = 0;
-        let held = read_whole(&mut self.disk, place, self.room)?;
-        self.place = place;
-        self.held = held;
-        Ok(())
+        if let Ok(held) = read_whole(&mut self.disk, place, self.room) {
+            self.place = place;
+            self.held = held;
+        }
     }
 
     /// Reads from the disk, past the room.
@@ -90,17 +100,18 @@ impl<'a, D: Disk> ReadAhead<'a, D> {
     }
 
     /// Where in the room this many bytes from a place on begin, which is filled where it doesn't hold them; None where
-    /// they are too many, or behind the end.
-    fn make_ready(&mut self, place: u64, count: usize) -> Result<Option<usize>, DiskFailed>
-        ensures did { Stores D.means (disk_of self.old) (disk_of self.new) Look result }
-        ensures place { IfOk result (λ found. IfSome found (λ from. place ≡ self.new.place + from)) }
-        ensures held { IfOk result (λ found. IfSome found (λ from. from + count ≤ self.new.held)) }
+    /// they are too many, or behind the end, or the disk fails in what is read ahead.
+    fn make_ready(&mut self, place: u64, count: usize) -> Option<usize>
+        requires { IsTrue self.old.settled }
+        ensures did { Stored D.means (disk_of self.old) (disk_of self.new) Look }
+        ensures place { IfSome result (λ from. place ≡ self.new.place + from) }
+        ensures held { IfSome result (λ from. from + count ≤ self.new.held) }
         ensures seen { D.means.seen_len (disk_of self.new) ≡ D.means.seen_len (disk_of self.old) }
     {
         if self.find(place, count).is_none() {
-            self.fill(place)?;
+            self.fill(place);
         }
-        Ok(self.find(place, count))
+        self.find(place, count)
     }
 
     /// Gives bytes that the room holds.
@@ -131,10 +142,10 @@ impl<'a, D: Disk> Disk for ReadAhead<'a, D> {
     }
 
     fn read_at(&mut self, place: u64, into: &mut [u8]) -> Result<usize, DiskFailed> {
-        if into.len() < LEAST {
+        if into.len() < LEAST || !self.settled {
             return self.read_past(place, into);
         }
-        match self.make_ready(place, into.len())? {
+        match self.make_ready(place, into.len()) {
             Some(from) => {
                 self.give(from, into);
                 Ok(into.len())
@@ -145,16 +156,21 @@ impl<'a, D: Disk> Disk for ReadAhead<'a, D> {
 
     fn write_at(&mut self, place: u64, from: &[u8]) -> Result<(), DiskFailed> {
         self.held = 0;
-        self.disk.write_at(place, from)
+        let answer = self.disk.write_at(place, from);
+        self.settled = answer.is_err();
+        answer
     }
 
     fn set_len(&mut self, length: u64) -> Result<(), DiskFailed> {
         self.held = 0;
-        self.disk.set_len(length)
+        let answer = self.disk.set_len(length);
+        self.settled = answer.is_err();
+        answer
     }
 
     fn sync(&mut self) -> Result<(), DiskFailed> {
         self.held = 0;
+        self.settled = true;
         self.disk.sync()
     }
 }

@@ -36,6 +36,7 @@ file_failed old new step rose later = record {
   later = later;
   tells = refl;
   torn = λ left told. cc;
+  leaves = λ left may. absurd may;
   settled = settled new;
   crashes = crashes old new step;
 }
