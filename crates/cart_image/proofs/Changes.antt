@@ -9,7 +9,7 @@ use Rattle.qic_base.specs.declared.tape.SectorView.{SectorView}
 use Rattle.qic_base.specs.declared.tape.SectorView.TheVariants.{Blank}
 use Rattle.qic_base.specs.declared.tape.TapeInfo.{TapeInfo}
 use Rattle.qic_base.specs.Cartridge.{with_view, view_at, place_of}
-use Rattle.cart_image.specs.Layout.{sectors, gate_place, defect_place, sector_place, image_len}
+use Rattle.cart_image.specs.Layout.{version, sectors, gate_place, defect_place, sector_place, image_len}
 use Rattle.cart_image.specs.Image.{info_of, view_in, views_in, cartridge_of}
 use Rattle.cart_image.specs.Whole.{read_as, cartridge_of-read, length-views}
 use Rattle.cart_image.proofs.Bytes.{OnlyIn, info-same, gate-other, defect-other, bytes-other}
@@ -86,12 +86,12 @@ pub cartridge-beside : (info : TapeInfo) (segment sector : ℕ) (old new : List 
     → view_in info.segments_per_track new (place_of segment sector) ≡ view → cartridge_of new ≡ Some (with_view (read_as info old) segment sector view)
 cartridge-beside info segment sector old new view is on beside now =
     cartridge_of-read new info (beside.info ∙ is)
-    ∙ ap (λ (vs : List SectorView). Some (record { info = info; views = vs })) (views-beside info.segments_per_track (place_of segment sector) old new on beside)
+    ∙ ap (λ (vs : List SectorView). Some (record { info = info; version = version; views = vs })) (views-beside info.segments_per_track (place_of segment sector) old new on beside)
     ∙ ap (λ v. Some (with_view (read_as info old) segment sector v)) now
 
 -- a view put where it stands changes nothing
 pub same-view : (info : TapeInfo) (bytes : List ℕ) (segment sector : ℕ) (view : SectorView) → place_of segment sector < sectors info.segments_per_track → view_in info.segments_per_track bytes (place_of segment sector) ≡ view → with_view (read_as info bytes) segment sector view ≡ read_as info bytes
 same-view info bytes segment sector view on is =
-    ap (λ (vs : List SectorView). record { info = info; views = vs })
+    ap (λ (vs : List SectorView). record { info = info; version = version; views = vs })
     (ap (slice_set (views_in info.segments_per_track bytes) (place_of segment sector)) (sym is ∙ sym (get_or-views info.segments_per_track bytes (place_of segment sector) Blank on))
     ∙ set-get_or (views_in info.segments_per_track bytes) (place_of segment sector) Blank)

@@ -14,7 +14,7 @@ use Rattle.qic_base.specs.Field.{overwritten}
 use Rattle.qic_base.specs.Step.{FormatSegment, effect, formatted_view}
 use Rattle.qic_base.specs.Stop.{ClosingView, OpeningView, SegmentBecame, HalfFormatted}
 use Rattle.qic_base.proofs.FieldLaws.{get_or-overwritten}
-use Rattle.cart_image.specs.Layout.{sectors, gate_place, formed_place, defect_place, sector_place, image_len, open_gate, closed_gate, formed_byte, defect_byte, zero_segment, put, write_runs, put_chosen, format_segment_steps}
+use Rattle.cart_image.specs.Layout.{version, sectors, gate_place, formed_place, defect_place, sector_place, image_len, open_gate, closed_gate, formed_byte, defect_byte, zero_segment, put, write_runs, put_chosen, format_segment_steps}
 use Rattle.cart_image.specs.Image.{info_of, view_in, views_in, sector_bytes, cartridge_of}
 use Rattle.cart_image.specs.Run.{after_steps}
 use Rattle.cart_image.specs.Whole.{read_as, cartridge_of-read, length-views}
@@ -198,6 +198,7 @@ module _ (info : TapeInfo) (bytes : List ℕ) (segment : ℕ) (is : info_of byte
       → SegmentBecame Became segment (read_as info bytes) (read_as info left)
   became Became left stage each = record {
     info = refl;
+    version = refl;
     sectors = length-views info.segments_per_track left ∙ sym (length-views info.segments_per_track bytes);
     within = λ i less.
         let there : 32 * segment + i < sectors info.segments_per_track = omega arith in
@@ -237,7 +238,7 @@ module _ (info : TapeInfo) (bytes : List ℕ) (segment : ℕ) (is : info_of byte
       → cartridge_of left ≡ effect (FormatSegment segment) (cartridge_of bytes)
   all-formatted left stage each =
       cartridge_of-read left info (stage.info ∙ is)
-      ∙ ap (λ (vs : List SectorView). Some (record { info = info; views = vs })) views
+      ∙ ap (λ (vs : List SectorView). Some (record { info = info; version = version; views = vs })) views
       ∙ ap (effect (FormatSegment segment)) (sym (cartridge_of-read bytes info is))
     where
       lengths : length (views_in info.segments_per_track bytes) ≡ sectors info.segments_per_track

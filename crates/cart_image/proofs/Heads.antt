@@ -11,7 +11,7 @@ use Rattle.qic_base.specs.Cartridge.{Cartridge}
 use Rattle.qic_base.specs.Field.{little_endian, number_at}
 use Rattle.qic_base.specs.Step.{SetProtected, SetReferenced, effect}
 use Rattle.qic_base.specs.Stop.{Torn}
-use Rattle.cart_image.specs.Layout.{signature, version_place, length_place, protected_place, referenced_place, mark_byte, sectors, image_len, gate_place, formed_place, defect_place, put, mark_steps}
+use Rattle.cart_image.specs.Layout.{signature, version, version_place, length_place, protected_place, referenced_place, mark_byte, sectors, image_len, gate_place, formed_place, defect_place, put, mark_steps}
 use Rattle.cart_image.specs.Image.{read_len, is_image, info_by, info_of, view_in, views_in, cartridge_of}
 use Rattle.cart_image.specs.Whole.{info-parts, cartridge_of-read, length-views}
 use Rattle.cart_image.proofs.Carries.{Means}
@@ -82,7 +82,7 @@ head-views n place old new only low whole =
 
 -- a cartridge with these marks
 abbrev with_marks : ℕ → Bool → Bool → List SectorView → Cartridge
-with_marks n protected referenced views = record { info = record { segments_per_track = n; protected = protected; referenced = referenced }; views = views }
+with_marks n protected referenced views = record { info = record { segments_per_track = n; protected = protected; referenced = referenced }; version = version; views = views }
 
 module _ (info : TapeInfo) (bytes : List ℕ) (is : info_of bytes ≡ Some info) where
   marks-read : (place : ℕ) (left : List ℕ) → 12 ≤ place → place < 64 → OnlyIn place 1 bytes left

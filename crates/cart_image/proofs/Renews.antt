@@ -16,7 +16,7 @@ use Rattle.qic_base.specs.Field.{little_endian_bytes, number_at, overwritten}
 use Rattle.qic_base.specs.Step.{Renew, effect}
 use Rattle.qic_base.specs.Stop.{Torn}
 use Rattle.qic_base.proofs.FieldLaws.{get_or-overwritten, length-overwritten}
-use Rattle.cart_image.specs.Layout.{signature, first_letter, head_len, sectors, image_len, formed_place, defect_place, new_head, put, resize, renew_steps}
+use Rattle.cart_image.specs.Layout.{signature, version, first_letter, head_len, sectors, image_len, formed_place, defect_place, new_head, put, resize, renew_steps}
 use Rattle.cart_image.specs.Image.{read_len, info_by, info_of, view_by, view_in, views_in, cartridge_of}
 use Rattle.cart_image.specs.Run.{after_steps, Crashed}
 use Rattle.cart_image.specs.Whole.{info-parts, and_true, cartridge_of-read, cartridge_of-none, length-views}
@@ -152,7 +152,7 @@ module _ (n : ℕ) (long : IsLength n) where
   unfolding info_of
   reads-new bytes new =
       cartridge_of-read bytes (record { segments_per_track = n; protected = false; referenced = false }) (info bytes new)
-      ∙ ap (λ (vs : List SectorView). Some (record { info = record { segments_per_track = n; protected = false; referenced = false }; views = vs })) (new-views bytes new)
+      ∙ ap (λ (vs : List SectorView). Some (record { info = record { segments_per_track = n; protected = false; referenced = false }; version = version; views = vs })) (new-views bytes new)
     where
       info : (bytes : List ℕ) → IsNew bytes → info_of bytes ≡ Some (record { segments_per_track = n; protected = false; referenced = false })
       info bytes new = ap (λ len. info_by len (slice_range bytes 0 read_len)) new.size ∙ ap (info_by whole) (new-head bytes new) ∙ new-info

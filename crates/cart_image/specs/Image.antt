@@ -54,7 +54,7 @@ info_of bytes = info_by (length bytes) (slice_range bytes 0 read_len)
 
 -- the cartridge that the bytes of a file are read as; None where they are no image
 unfoldable pub cartridge_of : List ℕ → Option Cartridge
-cartridge_of bytes = option_map (λ info. record { info = info; views = views_in info.segments_per_track bytes }) (info_of bytes)
+cartridge_of bytes = option_map (λ info. record { info = info; version = version; views = views_in info.segments_per_track bytes }) (info_of bytes)
 
 -- the segments per track of that cartridge
 unfoldable pub size_of : List ℕ → Option ℕ

@@ -12,7 +12,7 @@ use Rattle.qic_base.specs.declared.TheConstants.{LONGEST}
 use Rattle.qic_base.specs.Cartridge.{Cartridge, IsCartridge, IsView, IsSector}
 use Rattle.qic_base.specs.Disk.{AreBytes}
 use Rattle.qic_base.specs.Field.{number_at}
-use Rattle.cart_image.specs.Layout.{length_place, defect_place, formed_place, gate_place, sector_place, defect_byte, formed_byte, open_gate, sectors, image_len}
+use Rattle.cart_image.specs.Layout.{version, length_place, defect_place, formed_place, gate_place, sector_place, defect_byte, formed_byte, open_gate, sectors, image_len}
 use Rattle.cart_image.specs.Image.{read_len, is_image, marks, info_by, info_of, view_in, views_in, sector_bytes, cartridge_of, size_of}
 
 pub and_true : (a b : Bool) → (a && b) ≡ true → (a ≡ true) × (b ≡ true)
@@ -60,7 +60,7 @@ info-parts bytes info is = head-parts (length bytes) (slice_range bytes 0 read_l
 
 -- the cartridge that bytes with this head are read as
 abbrev pub read_as : TapeInfo → List ℕ → Cartridge
-read_as info bytes = record { info = info; views = views_in info.segments_per_track bytes }
+read_as info bytes = record { info = info; version = version; views = views_in info.segments_per_track bytes }
 
 pub cartridge_of-read : (bytes : List ℕ) (info : TapeInfo) → info_of bytes ≡ Some info → cartridge_of bytes ≡ Some (read_as info bytes)
 unfolding cartridge_of
@@ -140,6 +140,7 @@ reads-whole bytes c are is = by_info (info_of bytes) refl is
         let same : read_as info bytes ≡ c = (let e : Some (read_as info bytes) ≡ Some c = reads in cc) in
         subst IsCartridge same (record {
           long = record { shortest = h.shortest; longest = h.longest };
+          version = record { oldest = omega arith; newest = omega arith };
           sectors = length-views info.segments_per_track bytes;
           views = views-are info.segments_per_track bytes are (omega arith);
         })

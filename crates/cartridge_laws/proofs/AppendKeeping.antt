@@ -12,7 +12,7 @@ use Rattle.cartridge_spec.specs.Settling.{changed_by, writes_of}
 use Rattle.cartridge_spec.specs.Shape.{mask_at, usable_places, data_count}
 use Rattle.cartridge_spec.specs.Volumes.{Part, parts_of}
 use Rattle.qic_base.specs.Cartridge.{Cartridge, view_at, with_view}
-use Rattle.qic_base.specs.Step.{Step, WriteSector, FormatSegment, SetReferenced, SetProtected, Renew, Wear, Spoil, changed, written_view, worn_view}
+use Rattle.qic_base.specs.Step.{Step, WriteSector, FormatSegment, SetReferenced, SetProtected, Renew, Wear, Spoil, Upgrade, changed, written_view, worn_view}
 use Rattle.qic_base.specs.Stop.{Halfway, Torn}
 use Rattle.qic_base.specs.declared.tape.SectorView.{SectorView}
 
@@ -60,6 +60,7 @@ step_kept allowed (SetProtected on) c is = absurd is
 step_kept allowed (Renew n) c is = absurd is
 step_kept allowed (Wear segment sector) c is = absurd is
 step_kept allowed (Spoil segment sector) c is = absurd is
+step_kept allowed Upgrade c is = absurd is
 
 step_stopped : (allowed : ℕ → ℕ → Type 0) (s : Step) (c : Cartridge) (left : Option Cartridge) → IsIn allowed s → Halfway s (Some c) left →
     IsSomeAnd left (IsKeptBut allowed c)
@@ -72,6 +73,7 @@ step_stopped allowed (SetProtected on) c left is half = absurd is
 step_stopped allowed (Renew n) c left is half = absurd is
 step_stopped allowed (Wear segment sector) c left is half = absurd is
 step_stopped allowed (Spoil segment sector) c left is half = absurd is
+step_stopped allowed Upgrade c left is half = absurd is
 
 pub steps_kept : (allowed : ℕ → ℕ → Type 0) (ss : List Step) (c : Cartridge) → AreIn allowed ss → IsKeptBut allowed c (changed_by ss c)
 steps_kept allowed [] c are = kept_begun allowed c

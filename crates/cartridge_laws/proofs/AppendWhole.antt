@@ -25,7 +25,7 @@ use Rattle.cartridge_spec.specs.Volumes.{Part, parts_of, Plain, Volume, sectors_
 use Rattle.gf256_qic.proofs.Parities.{parity_sectors-are_sectors}
 use Rattle.qic_base.proofs.Steps.{Torn-all}
 use Rattle.qic_base.specs.Cartridge.{Cartridge, IsCartridge, view_at, IsSector}
-use Rattle.qic_base.specs.Step.{Step, WriteSector, FormatSegment, SetReferenced, SetProtected, Renew, Wear, Spoil, changed, written_view, worn_view, effects}
+use Rattle.qic_base.specs.Step.{Step, WriteSector, FormatSegment, SetReferenced, SetProtected, Renew, Wear, Spoil, Upgrade, changed, written_view, worn_view, effects}
 use Rattle.qic_base.specs.Stop.{Halfway, Torn}
 
 -- ---- writes of whole sectors
@@ -44,6 +44,7 @@ step_whole (SetProtected on) c is whole = absurd is
 step_whole (Renew n) c is whole = absurd is
 step_whole (Wear segment sector) c is whole = absurd is
 step_whole (Spoil segment sector) c is whole = absurd is
+step_whole Upgrade c is whole = absurd is
 
 step_stopped : (s : Step) (c : Cartridge) (left : Option Cartridge) → IsWrite IsOfSector s → IsCartridge c → Halfway s (Some c) left →
     IsSomeAnd left IsCartridge
@@ -57,6 +58,7 @@ step_stopped (SetProtected on) c left is whole half = absurd is
 step_stopped (Renew n) c left is whole half = absurd is
 step_stopped (Wear segment sector) c left is whole half = absurd is
 step_stopped (Spoil segment sector) c left is whole half = absurd is
+step_stopped Upgrade c left is whole half = absurd is
 
 steps_stopped : (ss : List Step) (c : Cartridge) (left : Option Cartridge) → AreWrites IsOfSector ss → IsCartridge c → Torn ss (Some c) left →
     IsSomeAnd left IsCartridge

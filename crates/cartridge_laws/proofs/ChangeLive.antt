@@ -12,7 +12,7 @@ use Rattle.cartridge_laws.specs.ChangeSteps.{IsNoRenew}
 use Rattle.cartridge_spec.specs.Mounting.{IsTableLive}
 use Rattle.cartridge_spec.specs.Shape.{IsLive}
 use Rattle.qic_base.specs.Cartridge.{Cartridge, view_at, with_view, with_segment}
-use Rattle.qic_base.specs.Step.{Step, WriteSector, FormatSegment, SetReferenced, SetProtected, Renew, Wear, Spoil, changed, written_view, formatted_view, worn_view, spoiled_view}
+use Rattle.qic_base.specs.Step.{Step, WriteSector, FormatSegment, SetReferenced, SetProtected, Renew, Wear, Spoil, Upgrade, changed, written_view, formatted_view, worn_view, spoiled_view}
 use Rattle.qic_base.specs.Stop.{ClosingView, OpeningView, SegmentBecame, HalfFormatted, Halfway}
 use Rattle.qic_base.specs.declared.tape.SectorView.{SectorView}
 use Rattle.qic_base.specs.declared.tape.SectorView.TheVariants.{Blank, Defect, Lost, Holds}
@@ -133,6 +133,7 @@ step_live (SetProtected on) c none live = live
 step_live (Renew n) c none live = absurd none
 step_live (Wear segment sector) c none live = sector_live c segment sector worn_view worn_live live
 step_live (Spoil segment sector) c none live = sector_live c segment sector spoiled_view spoiled_live live
+step_live Upgrade c none live = live
 
 step_stopped : (s : Step) (c : Cartridge) (left : Option Cartridge) → IsNoRenew s → IsTableLive c → Halfway s (Some c) left → IsSomeAnd left IsTableLive
 step_stopped (WriteSector segment sector bytes) c left none live half =
@@ -143,6 +144,7 @@ step_stopped (SetProtected on) c left none live half = absurd half
 step_stopped (Renew n) c left none live half = absurd none
 step_stopped (Wear segment sector) c left none live half = absurd half
 step_stopped (Spoil segment sector) c left none live half = absurd half
+step_stopped Upgrade c left none live half = absurd half
 
 pub steps_keep_live : StepsKeepLive
 steps_keep_live [] c left none live is = some_and IsTableLive c left live is

@@ -35,15 +35,17 @@ some_weaker (Some d) follows holds = follows d holds
 -- nothing changed but sectors of the segment from this one on
 pub record IsUntouched (segment from : ℕ) (c d : Cartridge) : Type 0 where
   pub info : d.info ≡ c.info
+  pub version : d.version ≡ c.version
   pub others : (s i : ℕ) → i < 32 → (s ≡ segment → i < from) → view_at d s i ≡ view_at c s i
 
 pub untouched : (segment from : ℕ) (c : Cartridge) → IsUntouched segment from c c
-untouched segment from c = record { info = refl; others = λ s i h other. refl }
+untouched segment from c = record { info = refl; version = refl; others = λ s i h other. refl }
 
 untouched_then : {segment from : ℕ} {c d e : Cartridge} → IsUntouched segment from c d → IsUntouched segment (from + 1) d e →
     IsUntouched segment from c e
 untouched_then first next = record {
   info = next.info ∙ first.info;
+  version = next.version ∙ first.version;
   others = λ s i h other.
       next.others s i h (λ same. let below = other same in omega arith) ∙ first.others s i h other;
 }
@@ -52,6 +54,7 @@ write_untouched : (segment from : ℕ) (bytes : List ℕ) (c : Cartridge) → fr
     IsUntouched segment from c (changed (WriteSector segment from bytes) c)
 write_untouched segment from bytes c small = record {
   info = refl;
+  version = refl;
   others = λ s i h other.
       view_of_other_sector c segment from s i (written_view bytes (view_at c segment from)) small h
       (λ same e. let below = other same in omega arith);
@@ -60,6 +63,7 @@ write_untouched segment from bytes c small = record {
 wear_untouched : (segment from : ℕ) (c : Cartridge) → from < 32 → IsUntouched segment from c (changed (Wear segment from) c)
 wear_untouched segment from c small = record {
   info = refl;
+  version = refl;
   others = λ s i h other.
       view_of_other_sector c segment from s i (worn_view (view_at c segment from)) small h
       (λ same e. let below = other same in omega arith);

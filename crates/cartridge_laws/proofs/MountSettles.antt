@@ -69,6 +69,7 @@ written_then block p c e small rest =
     let view : SectorView = written_view (sector_at block p) (view_at c 2 p) in
     record {
       info = rest.info;
+      version = rest.version;
       size = rest.size ∙ length-set c.views (32 * 2 + p) view;
       table = λ i h. rest.table i h ∙ takes_still block p i c small h;
       others = λ s i h apart. rest.others s i h apart ∙ view_of_other_sector c 2 p s i view small h (λ same e. absurd (apart same));
@@ -79,6 +80,7 @@ places_written : (block : List (List ℕ)) (ps : List ℕ) (c : Cartridge) → A
     IsAllWritten block c (changed_by (block_writes block ps) c)
 places_written block [] c small stays = record {
   info = refl;
+  version = refl;
   size = refl;
   table = λ i h. stays i h tt;
   others = λ s i h apart. refl;

@@ -89,18 +89,20 @@ with_change d i f = with_view d 2 i (f (view_at d 2 i))
 -- nothing but sectors of the table's segment changed, and each takes what is written to it as before
 pub record IsOnTheWay (c d : Cartridge) : Type 0 where
   pub info : d.info ≡ c.info
+  pub version : d.version ≡ c.version
   pub size : length d.views ≡ length c.views
   pub others : (s i : ℕ) → i < 32 → s ≢ 2 → view_at d s i ≡ view_at c s i
   pub takes : (i : ℕ) (bytes : List ℕ) → i < 32 → written_view bytes (view_at d 2 i) ≡ written_view bytes (view_at c 2 i)
 
 pub way_begun : (c : Cartridge) → IsOnTheWay c c
-way_begun c = record { info = refl; size = refl; others = λ s i h apart. refl; takes = λ i bytes h. refl }
+way_begun c = record { info = refl; version = refl; size = refl; others = λ s i h apart. refl; takes = λ i bytes h. refl }
 
 pub way_more : (c d : Cartridge) (i : ℕ) (f : SectorView → SectorView) → i < 32 → IsMild f → IsOnTheWay c d → IsOnTheWay c (with_change d i f)
 way_more c d i f small mild way =
     let view : SectorView = f (view_at d 2 i) in
     record {
       info = way.info;
+      version = way.version;
       size = length-set d.views (32 * 2 + i) view ∙ way.size;
       others = λ s j h apart.
           view_of_other_sector d 2 i s j view small h (λ same e. absurd (apart same)) ∙ way.others s j h apart;
@@ -281,6 +283,7 @@ plain_stopped c area left (inr says) torn =
 way_written : (block : List (List ℕ)) (c d e : Cartridge) → IsOnTheWay c d → IsAllWritten block d e → IsAllWritten block c e
 way_written block c d e way written = record {
   info = written.info ∙ way.info;
+  version = written.version ∙ way.version;
   size = written.size ∙ way.size;
   table = λ i h. written.table i h ∙ way.takes i (sector_at block i) h;
   others = λ s i h apart. written.others s i h apart ∙ way.others s i h apart;

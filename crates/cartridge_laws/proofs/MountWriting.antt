@@ -74,19 +74,21 @@ same_views xs ys long same =
     ∙ unwrap_or-slice_get ys k Blank in
     get_or_default xs k d Blank h ∙ here ∙ get_or_default ys k Blank d (omega arith))
 
-same_parts : (c : Cartridge) (info : TapeInfo) (views : List SectorView) → c.info ≡ info → c.views ≡ views → c ≡ record { info = info; views = views }
-same_parts c info views i v = rw (sym i, sym v) refl
+same_parts : (c : Cartridge) (info : TapeInfo) (version : ℕ) (views : List SectorView) → c.info ≡ info → c.version ≡ version → c.views ≡ views →
+    c ≡ record { info = info; version = version; views = views }
+same_parts c info version views i n v = rw (sym i, sym n, sym v) refl
 
--- two cartridges with the same marks and the same views are one
-pub same_cartridge : (c d : Cartridge) → c.info ≡ d.info → length c.views ≡ length d.views →
+-- two cartridges with the same marks, the same version and the same views are one
+pub same_cartridge : (c d : Cartridge) → c.info ≡ d.info → c.version ≡ d.version → length c.views ≡ length d.views →
     ((s i : ℕ) → i < 32 → view_at c s i ≡ view_at d s i) → c ≡ d
-same_cartridge c d info long same = same_parts c d.info d.views info (same_views c.views d.views long same)
+same_cartridge c d info version long same = same_parts c d.info d.version d.views info version (same_views c.views d.views long same)
 
 -- ---- the whole segment written
 
 -- each sector of the table's segment takes its sector of the block, and nothing else changed
 pub record IsAllWritten (block : List (List ℕ)) (c d : Cartridge) : Type 0 where
   pub info : d.info ≡ c.info
+  pub version : d.version ≡ c.version
   pub size : length d.views ≡ length c.views
   pub table : (i : ℕ) → i < 32 → view_at d 2 i ≡ written_view (sector_at block i) (view_at c 2 i)
   pub others : (s i : ℕ) → i < 32 → s ≢ 2 → view_at d s i ≡ view_at c s i
@@ -101,7 +103,7 @@ same_choice block c d e left right s i h =
 
 pub same_written : (block : List (List ℕ)) (c d e : Cartridge) → IsAllWritten block c d → IsAllWritten block c e → d ≡ e
 same_written block c d e left right =
-    same_cartridge d e (left.info ∙ sym right.info) (left.size ∙ sym right.size) (same_choice block c d e left right)
+    same_cartridge d e (left.info ∙ sym right.info) (left.version ∙ sym right.version) (left.size ∙ sym right.size) (same_choice block c d e left right)
 
 pub length-writes_of : (places : List ℕ) (sectors : List (List ℕ)) (segment : ℕ) (c : Cartridge) →
     length (changed_by (writes_of segment places sectors) c).views ≡ length c.views
@@ -117,6 +119,7 @@ range_written block c long =
     let rest = writes_untouched 32 0 block 2 c (omega arith) in
     record {
       info = rest.info;
+      version = rest.version;
       size = length-writes_of (range_with_len 0 32) block 2 c;
       table = λ i h.
           subst (λ (j : ℕ). view_at (changed_by (writes_of 2 (range_with_len 0 32) block) c) 2 j ≡ written_view (sector_at block i) (view_at c 2 j)) (zero-add i)

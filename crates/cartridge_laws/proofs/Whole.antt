@@ -11,6 +11,7 @@ pub with_view_whole : (d : Cartridge) (segment i : ℕ) (view : SectorView) → 
     IsCartridge (with_view d segment i view)
 with_view_whole d segment i view whole good = record {
   long = whole.long;
+  version = whole.version;
   sectors = length-set d.views (32 * segment + i) view ∙ whole.sectors;
   views = All-set IsView d.views (32 * segment + i) view good whole.views;
 }

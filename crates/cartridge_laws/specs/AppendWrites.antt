@@ -1,7 +1,7 @@
 -- Lists of steps that are writes of sectors alone.
 use Rattle.std.specs.Prelude.{ℕ, List, [], ◌∷◌, ◌<◌, ◌≡◌, ◌≤◌}
 use Rattle.qic_base.specs.Cartridge.{IsSector, Cartridge, view_at}
-use Rattle.qic_base.specs.Step.{Step, WriteSector, FormatSegment, SetReferenced, SetProtected, Renew, Wear, Spoil}
+use Rattle.qic_base.specs.Step.{Step, WriteSector, FormatSegment, SetReferenced, SetProtected, Renew, Wear, Spoil, Upgrade}
 
 -- a write of which this is true: its segment, its sector index and its bytes
 abbrev pub IsWrite : (of : ℕ → ℕ → List ℕ → Type 0) → Step → Type 0
@@ -12,6 +12,7 @@ IsWrite of (SetProtected on) = ⊥
 IsWrite of (Renew n) = ⊥
 IsWrite of (Wear segment sector) = ⊥
 IsWrite of (Spoil segment sector) = ⊥
+IsWrite of Upgrade = ⊥
 
 abbrev pub AreWrites : (of : ℕ → ℕ → List ℕ → Type 0) → List Step → Type 0
 AreWrites of [] = Unit {0}

@@ -1,6 +1,6 @@
 -- Steps that put in no new cartridge.
 use Rattle.std.specs.Prelude.{ℕ, List, [], ◌∷◌}
-use Rattle.qic_base.specs.Step.{Step, WriteSector, FormatSegment, SetReferenced, SetProtected, Renew, Wear, Spoil}
+use Rattle.qic_base.specs.Step.{Step, WriteSector, FormatSegment, SetReferenced, SetProtected, Renew, Wear, Spoil, Upgrade}
 
 abbrev pub IsNoRenew : Step → Type 0
 IsNoRenew (WriteSector segment sector bytes) = Unit {0}
@@ -10,6 +10,7 @@ IsNoRenew (SetProtected on) = Unit {0}
 IsNoRenew (Renew n) = ⊥
 IsNoRenew (Wear segment sector) = Unit {0}
 IsNoRenew (Spoil segment sector) = Unit {0}
+IsNoRenew Upgrade = Unit {0}
 
 abbrev pub HasNoRenew : List Step → Type 0
 HasNoRenew [] = Unit {0}

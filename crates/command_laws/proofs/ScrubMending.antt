@@ -23,7 +23,7 @@ use Rattle.command_spec.specs.Scrub.{Looked, cells_at, steps_in, looked_at, look
 use Rattle.qic_base.proofs.Steps.{Torn-all}
 use Rattle.qic_base.specs.Acts.{steps_of, Act}
 use Rattle.qic_base.specs.Cartridge.{Cartridge, view_at, with_view, IsCartridge}
-use Rattle.qic_base.specs.Step.{written_view, worn_view, WriteSector, changed, Wear, Step, FormatSegment, SetReferenced, SetProtected, Renew, Spoil, effects}
+use Rattle.qic_base.specs.Step.{written_view, worn_view, WriteSector, changed, Wear, Step, FormatSegment, SetReferenced, SetProtected, Renew, Spoil, Upgrade, effects}
 use Rattle.qic_base.specs.Stop.{Halfway, Torn}
 use Rattle.qic_base.specs.declared.tape.SectorView.{SectorView}
 use Rattle.qic_base.specs.declared.tape.SectorView.TheVariants.{Blank, Defect, Lost, Holds}
@@ -114,6 +114,7 @@ step_more looked c d (SetProtected on) is way = absurd is
 step_more looked c d (Renew n) is way = absurd is
 step_more looked c d (Wear segment sector) is way = absurd is
 step_more looked c d (Spoil segment sector) is way = absurd is
+step_more looked c d Upgrade is way = absurd is
 
 step_stopped : (looked : List Looked) (c d : Cartridge) (s : Step) (left : Option Cartridge) → IsWrite (IsNamed c looked) s →
     IsBeingMended looked c d →
@@ -126,6 +127,7 @@ step_stopped looked c d (SetProtected on) left is way half = absurd is
 step_stopped looked c d (Renew n) left is way half = absurd is
 step_stopped looked c d (Wear segment sector) left is way half = absurd is
 step_stopped looked c d (Spoil segment sector) left is way half = absurd is
+step_stopped looked c d Upgrade left is way half = absurd is
 
 steps_stopped : (looked : List Looked) (c d : Cartridge) (ss : List Step) (left : Option Cartridge) → AreWrites (IsNamed c looked) ss →
     IsBeingMended looked c d →

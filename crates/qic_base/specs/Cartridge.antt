@@ -1,13 +1,16 @@
--- A cartridge: its marks, and the view of each of its sectors (this project's profile of a QIC-80 minicartridge).
+-- A cartridge: its marks, the version of what keeps it, and the view of each of its sectors (this project's profile of a
+-- QIC-80 minicartridge).
 use Rattle.std.specs.Prelude.{◌≡◌, ℕ, ◌+◌, ◌*◌, ◌<◌, ◌≤◌, List, length, replicate, take, drop, map, ◌++◌, All, false, slice_get, slice_set, unwrap_or}
 use Rattle.qic_base.specs.declared.tape.SectorView.{SectorView}
 use Rattle.qic_base.specs.declared.tape.SectorView.TheVariants.{Blank, Defect, Lost, Holds}
 use Rattle.qic_base.specs.declared.tape.TapeInfo.{TapeInfo}
 use Rattle.qic_base.specs.declared.TheConstants.{LONGEST}
 
--- Its length and marks, and the views of its sectors, 32 to a segment, segment after segment.
+-- Its length and marks, the version of the layout in which it is kept, and the views of its sectors, 32 to a segment,
+-- segment after segment.
 pub record Cartridge : Type 0 where
   pub info : TapeInfo
+  pub version : ℕ
   pub views : List SectorView
 
 -- A sector has 1,024 bytes (QIC-80-MC).
@@ -31,9 +34,19 @@ pub record IsLength (segments_per_track : ℕ) : Type 0 where
   pub shortest : 3 ≤ segments_per_track
   pub longest : segments_per_track ≤ LONGEST
 
+-- the version of a layout: there are two
+pub record IsVersion (version : ℕ) : Type 0 where
+  pub oldest : 1 ≤ version
+  pub newest : version ≤ 2
+
+-- the version of a new cartridge
+abbrev pub new_version : ℕ
+new_version = 1
+
 -- 28 tracks of 32 sectors a segment: 896 sectors for each segment per track (QIC-80-MC)
 pub record IsCartridge (c : Cartridge) : Type 0 where
   pub long : IsLength c.info.segments_per_track
+  pub version : IsVersion c.version
   pub sectors : length c.views ≡ 896 * c.info.segments_per_track
   pub views : All IsView c.views
 
@@ -56,7 +69,7 @@ with_view c segment sector view = record c { views = slice_set c.views (place_of
 
 -- a new cartridge: no sector was ever formatted, and no mark stands
 abbrev pub new_cartridge : ℕ → Cartridge
-new_cartridge n = record { info = record { segments_per_track = n; protected = false; referenced = false }; views = replicate (896 * n) Blank }
+new_cartridge n = record { info = record { segments_per_track = n; protected = false; referenced = false }; version = new_version; views = replicate (896 * n) Blank }
 
 -- the cartridge with the 32 views of one segment changed
 abbrev pub with_segment : Cartridge → ℕ → (SectorView → SectorView) → Cartridge

@@ -4,7 +4,7 @@ use Rattle.qic_base.specs.declared.tape.SectorView.{SectorView}
 use Rattle.qic_base.specs.declared.tape.SectorView.TheVariants.{Blank, Defect, Lost, Holds}
 use Rattle.qic_base.specs.Cartridge.{Cartridge, view_at, with_view, with_segment, new_cartridge, zero_sector}
 
--- a change of the cartridge, with its segment, sector index and bytes
+-- a change of the cartridge, with its segment, sector index and bytes; or of the version that it is kept in
 pub data Step : Type 0 where
   WriteSector : ℕ → ℕ → List ℕ → Step
   FormatSegment : ℕ → Step
@@ -13,6 +13,7 @@ pub data Step : Type 0 where
   Renew : ℕ → Step
   Wear : ℕ → ℕ → Step
   Spoil : ℕ → ℕ → Step
+  Upgrade : Step
 
 -- a write is taken by a formatted sector that is no defect
 abbrev pub written_view : List ℕ → SectorView → SectorView
@@ -51,6 +52,7 @@ changed (SetProtected on) c = record c { info = record c.info { protected = on }
 changed (Renew n) c = new_cartridge n
 changed (Wear segment sector) c = with_view c segment sector (worn_view (view_at c segment sector))
 changed (Spoil segment sector) c = with_view c segment sector (spoiled_view (view_at c segment sector))
+changed Upgrade c = record c { version = 2 }
 
 -- a change of what the drive holds: only a new cartridge makes one where there is none
 abbrev pub effect : Step → Option Cartridge → Option Cartridge

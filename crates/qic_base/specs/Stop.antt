@@ -3,7 +3,7 @@ use Rattle.std.specs.Prelude.{◌≡◌, ℕ, ◌+◌, ◌*◌, ◌<◌, ◌≤�
 use Rattle.qic_base.specs.declared.tape.SectorView.{SectorView}
 use Rattle.qic_base.specs.declared.tape.SectorView.TheVariants.{Blank, Defect, Lost, Holds}
 use Rattle.qic_base.specs.Cartridge.{Cartridge, view_at, zero_sector}
-use Rattle.qic_base.specs.Step.{Step, WriteSector, FormatSegment, SetReferenced, SetProtected, Renew, Wear, Spoil, effect}
+use Rattle.qic_base.specs.Step.{Step, WriteSector, FormatSegment, SetReferenced, SetProtected, Renew, Wear, Spoil, Upgrade, effect}
 
 -- a sector of a segment whose formatting has begun: as it was, or lost where it was formatted and is no defect
 abbrev pub ClosingView : SectorView → SectorView → Type 0
@@ -22,6 +22,7 @@ OpeningView (Holds bytes) new = (new ≡ Lost) ⊎ (new ≡ Holds zero_sector)
 -- each sector of one segment changed so, and nothing else changed
 pub record SegmentBecame (Became : SectorView → SectorView → Type 0) (segment : ℕ) (old new : Cartridge) : Type 0 where
   pub info : new.info ≡ old.info
+  pub version : new.version ≡ old.version
   pub sectors : length new.views ≡ length old.views
   pub within : (sector : ℕ) → sector < 32 → Became (view_at old segment sector) (view_at new segment sector)
   pub below : (place : ℕ) → place < 32 * segment → slice_get new.views place ≡ slice_get old.views place
@@ -45,6 +46,7 @@ Halfway (SetProtected on) held left = ⊥
 Halfway (Renew n) held left = left ≡ None
 Halfway (Wear segment sector) held left = ⊥
 Halfway (Spoil segment sector) held left = ⊥
+Halfway Upgrade held left = ⊥
 
 -- What a stop before a list of steps, inside it or after it leaves: a front of them was done, with at most the next
 -- one stopped.

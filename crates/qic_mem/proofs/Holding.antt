@@ -8,7 +8,7 @@ use Rattle.std.proofs.lemmas.Option.{unwrap_or-slice_get}
 use Rattle.qic_base.specs.declared.tape.SectorView.{SectorView}
 use Rattle.qic_base.specs.declared.tape.SectorView.TheVariants.{Blank}
 use Rattle.qic_base.specs.declared.tape.TapeInfo.{TapeInfo}
-use Rattle.qic_base.specs.Cartridge.{Cartridge, IsPlace, place_of, view_at, with_segment}
+use Rattle.qic_base.specs.Cartridge.{Cartridge, IsPlace, place_of, view_at, with_segment, new_version}
 use Rattle.qic_base.specs.Step.{WriteSector, FormatSegment, Wear, Spoil, effect, written_view, formatted_view, worn_view, spoiled_view}
 use Rattle.qic_mem.specs.Held.{held, size_told, FitsRoom}
 use Rattle.qic_mem.specs.Sectors.{view_in, changed_at, changed_from}
@@ -42,7 +42,7 @@ change-held : (told : Bool) (info : Option TapeInfo) (views : List SectorView) (
 change-held false info views segment sector change on = absurd on
 change-held true None views segment sector change on = absurd on
 change-held true (Some i) views segment sector change on =
-    ap (λ vs. Some (record { info = i; views = vs })) (changed_at-take views (896 * i.segments_per_track) (place_of segment sector) change (place_below i.segments_per_track segment sector on))
+    ap (λ vs. Some (record { info = i; version = new_version; views = vs })) (changed_at-take views (896 * i.segments_per_track) (place_of segment sector) change (place_below i.segments_per_track segment sector on))
 
 option_map-write : (segment sector : ℕ) (bytes : List ℕ) (h : Option Cartridge) → option_map (λ (c : Cartridge). record c { views = changed_at c.views (place_of segment sector) (written_view bytes) }) h ≡ effect (WriteSector segment sector bytes) h
 option_map-write segment sector bytes None = refl
@@ -102,7 +102,7 @@ segment-held-at i views segment change on within =
     let next : 32 * (segment + 1) ≡ first + 32 = omega arith in
     let changes : take n (changed_from views first change) ≡ changed_from (take n views) first change =
     rw (← split) (changed_from-take views first more change (omega arith)) in
-    ap (λ vs. Some (record { info = i; views = vs })) (rw (start, next) changes)
+    ap (λ vs. Some (record { info = i; version = new_version; views = vs })) (rw (start, next) changes)
 
 -- the cartridge with one segment changed stands in the changed views
 pub segment-held : (told : Bool) (info : Option TapeInfo) (room : ℕ) (views after : List SectorView) (segment place : ℕ) (change : SectorView → SectorView) → ForSome info (FitsRoom room) → length views ≡ 896 * room → IsOn told info segment 0 → place ≡ place_of segment 0 → after ≡ changed_from views place change → held info after ≡ option_map (λ c. with_segment c segment change) (held info views)

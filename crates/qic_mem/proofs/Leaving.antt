@@ -6,7 +6,7 @@ use Rattle.std.proofs.lemmas.Option.{unwrap_or-slice_get}
 use Rattle.qic_base.specs.declared.tape.SectorView.{SectorView}
 use Rattle.qic_base.specs.declared.tape.SectorView.TheVariants.{Blank, Defect, Lost, Holds}
 use Rattle.qic_base.specs.Cartridge.{Cartridge, IsPlace, view_at, with_segment}
-use Rattle.qic_base.specs.Step.{Step, WriteSector, FormatSegment, SetReferenced, SetProtected, Renew, Wear, Spoil, worn_view}
+use Rattle.qic_base.specs.Step.{Step, WriteSector, FormatSegment, SetReferenced, SetProtected, Renew, Wear, Spoil, Upgrade, worn_view}
 use Rattle.qic_base.specs.Stop.{Torn, ClosingView, SegmentBecame, HalfFormatted}
 use Rattle.qic_base.specs.Tape.{IsToldRight}
 use Rattle.qic_mem.specs.declared.tape.outcome.Outcome.{Outcome}
@@ -68,6 +68,7 @@ segment-worn c segment within =
     let long : length (changed_views c.views segment worn_view) ≡ length c.views = length-changed c.views segment worn_view within in
     record {
       info = refl;
+      version = refl;
       sectors = long;
       within = λ sector in_segment.
           let new : view_at (with_segment c segment worn_view) segment sector ≡ worn_view (view_at c segment sector) =
@@ -95,6 +96,7 @@ torn-lost size held (SetProtected on) right reached = inl refl
 torn-lost size held (Renew n) right reached = inr (inl refl)
 torn-lost size held (Wear segment sector) right reached = inl refl
 torn-lost size held (Spoil segment sector) right reached = inl refl
+torn-lost size held Upgrade right reached = inl refl
 
 pub torn-left : (size : Option ℕ) (held : Option Cartridge) (left : Outcome) (s : Step) → IsToldRight (Some held) size → IsReached size s → Torn (s ∷ []) held (left_by left s held)
 torn-left size held outcome.Old s right reached = inl refl

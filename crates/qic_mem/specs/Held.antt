@@ -5,12 +5,12 @@ use Rattle.std.proofs.Common.{arith, length-take}
 use Rattle.std.proofs.lemmas.List.Elements.{All-take}
 use Rattle.qic_base.specs.declared.tape.SectorView.{SectorView}
 use Rattle.qic_base.specs.declared.tape.TapeInfo.{TapeInfo}
-use Rattle.qic_base.specs.Cartridge.{Cartridge, IsLength, IsCartridge, IsView}
+use Rattle.qic_base.specs.Cartridge.{Cartridge, IsLength, IsCartridge, IsView, new_version}
 use Rattle.qic_base.specs.Tape.{IsToldRight}
 
--- the cartridge with these marks: its views are the first of the list
+-- the cartridge with these marks: its version is that of a new one, and its views are the first of the list
 abbrev pub held : Option TapeInfo → List SectorView → Option Cartridge
-held info views = option_map (λ i. record { info = i; views = take (896 * i.segments_per_track) views }) info
+held info views = option_map (λ i. record { info = i; version = new_version; views = take (896 * i.segments_per_track) views }) info
 
 -- the size, where it was told
 abbrev pub size_told : Bool → Option TapeInfo → Option ℕ
@@ -27,9 +27,10 @@ size_told-fits false info room fits = tt
 size_told-fits true None room fits = tt
 size_told-fits true (Some i) room fits = (fits i refl).long
 
-whole_cartridge : (i : TapeInfo) (room : ℕ) (views : List SectorView) → FitsRoom room i → length views ≡ 896 * room → All IsView views → IsCartridge (record { info = i; views = take (896 * i.segments_per_track) views })
+whole_cartridge : (i : TapeInfo) (room : ℕ) (views : List SectorView) → FitsRoom room i → length views ≡ 896 * room → All IsView views → IsCartridge (record { info = i; version = new_version; views = take (896 * i.segments_per_track) views })
 whole_cartridge i room views fits long whole = record {
   long = fits.long;
+  version = record { oldest = omega arith; newest = omega arith };
   sectors = let within = fits.within in omega (arith, length-take (896 * i.segments_per_track) views);
   views = All-take IsView (896 * i.segments_per_track) views whole;
 }

@@ -1,7 +1,7 @@
 -- The changes that the calls of a tape in memory make, as steps (this project's profile).
 use Rattle.std.specs.Prelude.{ℕ, Bool, false, Option, IsSome, IsSomeAnd, nat_lt}
 use Rattle.qic_base.specs.Cartridge.{IsLength, IsPlace}
-use Rattle.qic_base.specs.Step.{Step, WriteSector, FormatSegment, SetReferenced, SetProtected, Renew, Wear, Spoil}
+use Rattle.qic_base.specs.Step.{Step, WriteSector, FormatSegment, SetReferenced, SetProtected, Renew, Wear, Spoil, Upgrade}
 use Rattle.qic_mem.specs.declared.tape.change.TapeChange.{TapeChange}
 use Rattle.qic_mem.specs.declared.tape.change.TapeChange.TheVariants as change
 
@@ -23,6 +23,7 @@ IsReached size (SetProtected on) = IsSome size
 IsReached size (Renew n) = IsLength n
 IsReached size (Wear segment sector) = IsSomeAnd size (λ n. IsPlace n segment sector)
 IsReached size (Spoil segment sector) = IsSomeAnd size (λ n. IsPlace n segment sector)
+IsReached size Upgrade = IsSome size
 
 -- a new cartridge is longer than the room, in segments per track
 abbrev pub is_past : ℕ → Step → Bool
