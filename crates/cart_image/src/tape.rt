@@ -1,3 +1,5 @@
+//! A tape over any disk: its calls, as reads and writes of the image.
+
 ghost use Rattle.std.specs.Prelude.{◌≡◌, ◌≢◌, ◌≤◌, ℕ, List, [], ◌∷◌, true, Some, None, slice_index, IsSome, IfOk, IfSome, OnOk, OnErr};
 ghost use Rattle.std.specs.Option.{option_map};
 ghost use Rattle.qic_base.specs.Cartridge.{IsLength, view_at, place_of};

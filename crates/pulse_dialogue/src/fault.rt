@@ -1,3 +1,5 @@
+//! How a telling ends early.
+
 /// Why a telling was broken off.
 #[derive(Clone, Copy, Debug, PartialEq, Eq)]
 pub enum TraceFault {

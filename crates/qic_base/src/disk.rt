@@ -1,3 +1,5 @@
+//! The outside below an image: a file of bytes.
+
 ghost use Rattle.std.specs.Prelude.{◌≡◌, ◌+◌, ◌-◌, ◌≤◌, length, take, drop, min, IfOk, IfSome, OnOk, OnErr};
 ghost use Rattle.qic_base.specs.Disk.{Meaning, Stores, Look, WriteAt, SetLen, Sync, IsToldRight, IsLeftNow};
 

@@ -1,3 +1,5 @@
+//! Want of memory, and lists with room that was taken before.
+
 ghost use Rattle.std.specs.Prelude.{◌≡◌, ◌+◌, ◌<◌, ◌≤◌, ◌++◌, ◌∷◌, []};
 ghost use Rattle.std.specs.Vec.{vec_len, vec_capacity};
 

@@ -1,3 +1,5 @@
+//! A disk in memory.
+
 ghost use Rattle.std.specs.Prelude.{◌≡◌, ◌↔◌, ◌+◌, ◌-◌, ◌≤◌, [], None, Some, length, take, drop, min, is_err, IsErr, IfOk, IfSome, OnOk, OnErr};
 ghost use Rattle.qic_base.specs.Disk.{Stores, Look, WriteAt, SetLen, Sync};
 ghost use Rattle.qic_mem.specs.DiskLog.{new_log};

@@ -1,3 +1,5 @@
+//! Calls that are chosen to fail, and the count of faults.
+
 ghost use Rattle.std.specs.Prelude.{◌≡◌, ◌↔◌, ◌≤◌, IsTrue};
 ghost use Rattle.qic_mem.specs.Plan.{new_plan, IsChosen, plan_after};
 

@@ -1,3 +1,5 @@
+//! A sink that never fails.
+
 ghost use Rattle.std.specs.Prelude.{◌≡◌, ◌<◌, length};
 ghost use Rattle.qic_base.specs.Cause.{HasCause};
 ghost use Rattle.qic_base.specs.Sink.{Takes};

@@ -1,3 +1,5 @@
+//! Sectors filled with the bytes of a source.
+
 ghost use Rattle.std.specs.Prelude.{◌≡◌, ◌≤◌, length, take, drop, IfOk};
 ghost use Rattle.qic_base.specs.Cause.{HasCause};
 ghost use Rattle.sector_fill.specs.Filling.{FillsFront, FillsBytes, FillsSectors, IsFrontOf};

@@ -1,3 +1,5 @@
+//! Sectors lent as one run of bytes.
+
 ghost use Rattle.std.specs.Prelude.{◌≡◌, ◌*◌, ◌≤◌, length, take, drop};
 ghost use Rattle.std.specs.Borrow.{sem};
 ghost use Rattle.cartridge_spec.specs.Appending.{bytes_in};

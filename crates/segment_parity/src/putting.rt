@@ -1,3 +1,5 @@
+//! Parity put behind the data of a segment.
+
 ghost use Rattle.std.specs.Prelude.{◌≡◌, ◌+◌, ◌≤◌, ◌++◌, length, take, drop, All};
 ghost use Rattle.cartridge_spec.specs.Code.{parity_sectors, IsSector};
 

@@ -1,3 +1,5 @@
+//! The top calls, and the way to each command.
+
 ghost use Rattle.std.specs.Prelude.{◌≡◌, ◌≢◌, ◌⊎◌, ℕ, List, true, false, map, string_bytes};
 ghost use Rattle.command_spec.specs.Machine.{HasValues, Spells, ReadsCommand};
 ghost use Rattle.command_spec.specs.Promises.{Promises};

@@ -1,3 +1,5 @@
+//! A file as a disk.
+
 ghost use Rattle.std.specs.Prelude.{◌≡◌, ◌≤◌, IfOk, OnOk, OnErr};
 ghost use Rattle.qic_base.specs.Cause.{Rose};
 ghost use Rattle.tape_files.specs.Apart.{IsApart};

@@ -1,3 +1,5 @@
+//! The opening of an image file.
+
 ghost use Rattle.std.specs.Prelude.{◌≡◌, ◌↔◌, IfErr, IfOk, IsErr, IsOk};
 ghost use Rattle.std.specs.Fs.{IsFile, file_type};
 ghost use Rattle.tape_files.specs.Apart.{IsApart};

@@ -1,3 +1,5 @@
+//! The null device in the place of closed standard streams.
+
 use std::fs::{File, Files};
 
 /// The null device in place of each standard stream that the program was started without: such an input is empty, and a

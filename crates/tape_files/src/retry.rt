@@ -1,3 +1,5 @@
+//! Calls that a signal interrupted, made again.
+
 ghost use Rattle.std.specs.Prelude.{◌≤◌, ◌≢◌, length, IfErr, IfOk};
 ghost use Rattle.std.specs.IoError.{error_kind};
 

@@ -1,3 +1,5 @@
+//! The standard streams.
+
 ghost use Rattle.std.specs.Prelude.{◌≡◌, ◌≤◌, IfSome};
 
 use crate::retry::{read_some, write_some};

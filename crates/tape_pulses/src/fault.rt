@@ -1,3 +1,5 @@
+//! How trains end early.
+
 /// Why the trains were broken off.
 #[derive(Clone, Copy, Debug, PartialEq, Eq)]
 pub enum PulseFault {

@@ -1,3 +1,5 @@
+//! The bytes of a generated volume.
+
 ghost use Rattle.std.specs.Prelude.{◌≡◌, ◌<◌, ◌+◌, ◌%◌, length};
 ghost use Rattle.command_spec.specs.Generator.{made_bytes};
 ghost use Rattle.command_laws.specs.TextGenerator.{made_from};

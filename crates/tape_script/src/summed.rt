@@ -1,3 +1,5 @@
+//! A sink that adds what it takes.
+
 ghost use Rattle.std.specs.Prelude.{◌≡◌, ◌+◌, ◌%◌, ◌^◌, sum};
 ghost use Rattle.tape_script.specs.Generator.{sum_means};
 

@@ -1,3 +1,5 @@
+//! A word compared with a text.
+
 ghost use Rattle.std.specs.Prelude.{◌≡◌, ◌↔◌, IsTrue};
 
 /// Whether the word is this text.

@@ -1,3 +1,5 @@
+//! The gap that the words of a command line give.
+
 ghost use Rattle.std.specs.Prelude.{◌≡◌, ◌↔◌, IsTrue, map, string_bytes, MatchResult};
 ghost use Rattle.trace_words.specs.Words.{HasGap, IsRefusedBy};
 

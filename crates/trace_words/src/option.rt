@@ -1,3 +1,5 @@
+//! The command line of the second program, as `clap` has it.
+
 ghost use Rattle.std.specs.Prelude.{IfOk};
 ghost use Rattle.trace_words.specs.Options.{IsGapOption, IsTraceCommand};
 

@@ -1,3 +1,5 @@
+//! How a script ends early, and one of its lines.
+
 /// Why a script was broken off.
 #[derive(Clone, Copy, Debug, PartialEq, Eq)]
 pub enum ScriptFault {

@@ -1,3 +1,5 @@
+//! The bytes of a disk in memory, without its failures and its record.
+
 ghost use Rattle.std.specs.Prelude.{◌≡◌, ◌≤◌, ◌+◌, ◌-◌, ◌/◌, [], length, take, drop, min, IfOk};
 ghost use Rattle.std.specs.Vec.{vec_capacity};
 ghost use Rattle.qic_base.specs.Disk.{AreBytes, resized};

@@ -1,3 +1,5 @@
+//! The entries of a disk's record.
+
 ghost use Rattle.std.specs.Prelude.{◌≡◌};
 
 /// The change of a disk that a call was to make, without its bytes: a write has a place and a number of bytes, in

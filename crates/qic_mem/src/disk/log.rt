@@ -1,3 +1,5 @@
+//! The record of a disk in memory.
+
 ghost use Rattle.std.specs.Prelude.{◌≡◌, false, Some, length, IfOk};
 ghost use Rattle.qic_mem.specs.DiskLog.{new_log, is_full, logged, settled};
 ghost use Rattle.qic_mem.specs.DiskEntry.{entry_size, event_of};

@@ -1,3 +1,5 @@
+//! The changes that calls of a tape in memory make.
+
 /// A change that a call of a tape is to make, with all that it was given.
 #[derive(Drop)]
 pub(crate) enum TapeChange {

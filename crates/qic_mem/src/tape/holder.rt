@@ -1,3 +1,5 @@
+//! What a tape in memory holds, without its failures and its record.
+
 ghost use Rattle.std.specs.Prelude.{◌≡◌, ◌≢◌, ◌*◌, false, true, None, length, IfOk, IfSome, IsSomeAnd};
 ghost use Rattle.std.specs.Option.{option_map, ForSome};
 ghost use Rattle.qic_base.specs.Cartridge.{IsLength, IsPlace, view_at, place_of};

@@ -1,3 +1,5 @@
+//! The record of a tape in memory.
+
 ghost use Rattle.std.specs.Prelude.{◌≡◌, None, Some, IfOk};
 ghost use Rattle.qic_mem.specs.Call.{call_of};
 ghost use Rattle.qic_mem.specs.TapeLog.{new_log, is_full, logged};

@@ -1,3 +1,5 @@
+//! The sectors of a cartridge in memory.
+
 ghost use Rattle.std.specs.Prelude.{◌≡◌, ◌≢◌, ◌<◌, ◌≤◌, ◌+◌, ◌++◌, length, drop, map, replicate, All, IfOk};
 ghost use Rattle.qic_base.specs.Cartridge.{IsView, zero_sector};
 ghost use Rattle.qic_base.specs.Step.{written_view, formatted_view, worn_view, spoiled_view};
