@@ -1,4 +1,4 @@
-ghost use Rattle.std.specs.Prelude.{◌↔◌, IsOk, OnOk};
+ghost use Rattle.std.specs.Prelude.{◌≡◌, ◌↔◌, IsOk, OnOk};
 ghost use Rattle.tape_files.specs.Answers.{IsSynced};
 ghost use Rattle.tape_files.specs.Apart.{IsApart};
 ghost use Rattle.tape_files.specs.Edge.{SyncKind, Whole, DataAlone};
@@ -40,17 +40,23 @@ impl ImageFile {
     /// A file that was opened for reading alone, or also for writing.
     pub(crate) fn new(file: File, reads_only: bool) -> ImageFile
         requires { IsApart file }
+        ensures file { result.file ≡ file }
+        ensures reads_only { result.reads_only ≡ reads_only }
     {
         ImageFile { file, reads_only }
     }
 
     /// The file itself.
-    pub(crate) fn file(&self) -> &File {
+    pub(crate) fn file(&self) -> &File
+        ensures { result.now ≡ self.now.file }
+    {
         &self.file
     }
 
     /// Whether it was opened for reading alone.
-    pub(crate) fn reads_only(&self) -> bool {
+    pub(crate) fn reads_only(&self) -> bool
+        ensures { result ≡ self.now.reads_only }
+    {
         self.reads_only
     }
 }

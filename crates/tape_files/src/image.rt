@@ -99,6 +99,7 @@ fn forbids_writing(error: &io::Error) -> bool
 
 fn as_image(file: File, reads_only: bool) -> Result<ImageFile, NoImage>
     ensures apart { IsOk result ↔ IsApart file }
+    ensures reads_only { IfOk result (λ image. image.reads_only ≡ reads_only) }
     ensures refused { IfErr result (λ cause. cause ≡ NoImage.IsStream) }
 {
     if file.as_raw_fd() > LAST_STREAM {
