@@ -27,6 +27,27 @@ the status 2, and nothing else happens: neither the cartridge nor the input is t
   usage: tape IMAGE COMMAND
   a volume
 
+A word that is no UTF-8 text is no word of a command, and no path of an image either: no file is created.
+
+  $ tape cart.img $'\xFF'
+  usage: tape IMAGE COMMAND
+  [2]
+  $ tape cart.img append $'a\xC3' < before.img
+  usage: tape IMAGE COMMAND
+  [2]
+  $ tape $'new\xFF.img' new 3
+  usage: tape IMAGE COMMAND
+  [2]
+  $ tape new.img new $'3\xFF'
+  usage: tape IMAGE COMMAND
+  [2]
+  $ tape cart.img $'\xFF' 2>&-
+  [2]
+  $ ls
+  before.img
+  cart.img
+  $ cmp cart.img before.img
+
 In what follows such words are told by `no`, which prints them if they should be a command after all.
 
   $ no() { line=$(tape cart.img "$@" 2>&1); [ "$? $line" = '2 usage: tape IMAGE COMMAND' ] || echo "a command: $* ($line)"; }
