@@ -120,8 +120,9 @@ Nor is an empty one whose folder can't be synced, or can't be opened for that.
   $ for fault in fsync:error=EIO:when=1 fsync:error=EINVAL:when=1 openat:error=EACCES:when=2 readlink:error=EIO; do
   >     faulty $fault cart.img new 3
   >     wc -c < cart.img
-  > done 2>&1 | uniq -c | sed 's/^ *//'
-  1 tape: cannot open the image
+  > done 2>&1 | sort | uniq -c | sed 's/^ *//'
+  4 0
+  4 tape: cannot open the image
   $ faulty readlink:error=ENOMEM cart.img new 3
   tape: no memory
   [19]

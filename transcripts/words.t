@@ -182,13 +182,6 @@ A date has all of its digits, in the years 1970 to 2097. How long a month is isn
   formatted 84 0
   formatted 2097-12-31T23:59:59
 
-A word that is no UTF-8 text can't be had: the program ends with status 19 and prints nothing.
-
-  $ tape cart.img $'list\xff'
-  [19]
-  $ tape cart.img format $'\xe4'
-  [19]
-
 After all this the cartridge is as it was.
 
   $ cmp cart.img before.img
