@@ -70,4 +70,7 @@ done
 refusing numbers append two
 refusing lines script
 refusing trains pulses
+# An empty image takes memory for the name of its folder, too.
+: > before.img
+refusing /dev/null new 3
 exit $failed

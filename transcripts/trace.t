@@ -125,3 +125,28 @@ Words that the program does not take end it before anything is read.
   [2]
   $ pulse_trace --help < /dev/null
   [2]
+  $ pulse_trace --gap= < /dev/null
+  [2]
+
+Nor is a word that is no UTF-8 text one of them.
+
+  $ echo 0 | pulse_trace $'\xFF'
+  [2]
+  $ echo 0 | pulse_trace --gap $'5\xFF'
+  [2]
+
+Closed streams and broken ones
+------------------------------
+
+A closed input is empty, a closed output fails, and no text is printed for a status.
+
+  $ pulse_trace <&-
+  $ echo 0 | pulse_trace >&-
+  [17]
+  $ pulse_trace <&- >&-
+  $ pulse_trace more <&- >&- 2>&-
+  [2]
+  $ echo 0 | pulse_trace > /dev/full
+  [17]
+  $ pulse_trace < .
+  [16]

@@ -27,6 +27,27 @@ the status 2, and nothing else happens: neither the cartridge nor the input is t
   usage: tape IMAGE COMMAND
   a volume
 
+A word that is no UTF-8 text is no word of a command, and no path of an image either: no file is created.
+
+  $ tape cart.img $'\xFF'
+  usage: tape IMAGE COMMAND
+  [2]
+  $ tape cart.img append $'a\xC3' < before.img
+  usage: tape IMAGE COMMAND
+  [2]
+  $ tape $'new\xFF.img' new 3
+  usage: tape IMAGE COMMAND
+  [2]
+  $ tape new.img new $'3\xFF'
+  usage: tape IMAGE COMMAND
+  [2]
+  $ tape cart.img $'\xFF' 2>&-
+  [2]
+  $ ls
+  before.img
+  cart.img
+  $ cmp cart.img before.img
+
 In what follows such words are told by `no`, which prints them if they should be a command after all.
 
   $ no() { line=$(tape cart.img "$@" 2>&1); [ "$? $line" = '2 usage: tape IMAGE COMMAND' ] || echo "a command: $* ($line)"; }
@@ -160,13 +181,6 @@ A date has all of its digits, in the years 1970 to 2097. How long a month is isn
   formatted 1994-02-31T23:59:59
   formatted 84 0
   formatted 2097-12-31T23:59:59
-
-A word that is no UTF-8 text can't be had: the program ends with status 19 and prints nothing.
-
-  $ tape cart.img $'list\xff'
-  [19]
-  $ tape cart.img format $'\xe4'
-  [19]
 
 After all this the cartridge is as it was.
 

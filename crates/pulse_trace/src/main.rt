@@ -4,21 +4,22 @@
 mod run;
 mod status;
 
-use run::run_trace;
-use status::TraceStatus;
+use run::{run_trace, unread};
 use std::env::Env;
 use std::process::ExitCode;
 use std::{env, io};
-use tape_files::{StdinSource, StdoutSink};
+use tape_files::{NullStreams, StdinSource, StdoutSink};
 
 fn main(rt: HostRuntime) -> ExitCode {
+    // A standard stream that is closed is so to the end.
+    let _streams = NullStreams::take(&rt);
     let status = match read_words(&rt) {
         Ok(words) => {
             let mut source = StdinSource::new(rt.stdin());
             let mut sink = StdoutSink::new(rt.stdout());
             run_trace(rt.alloc(), &words, &mut source, &mut sink)
         }
-        Err(_) => TraceStatus::NoMemory,
+        Err(error) => unread(error.kind()),
     };
     ExitCode::from(status.code())
 }

@@ -1,6 +1,6 @@
 //! A run of the program.
 
-ghost use Rattle.std.specs.Prelude.{◌≡◌, ◌≤◌, map, string_bytes};
+ghost use Rattle.std.specs.Prelude.{◌≡◌, ◌≢◌, ◌≤◌, map, string_bytes};
 ghost use Rattle.qic_base.specs.Cause.{Rose};
 ghost use Rattle.pulse_trace.specs.Runs.{Runs, status_told, status_refused};
 
@@ -8,6 +8,7 @@ use crate::status::TraceStatus;
 use pulse_dialogue::{TraceFault, tell_recording};
 use qic_base::{Sink, Source};
 use std::alloc::Global;
+use std::io::ErrorKind;
 use trace_words::{BadWords, read_gap};
 
 /// The status of a run whose telling ended so.
@@ -29,6 +30,18 @@ fn refused(bad: BadWords) -> TraceStatus
     match bad {
         BadWords::Refused => TraceStatus::Usage,
         BadWords::NoMemory => TraceStatus::NoMemory,
+    }
+}
+
+/// The status of a run whose words could not be had: there was no memory for them, or one is no UTF-8 text, so none of
+/// the words that the command takes.
+pub fn unread(kind: ErrorKind) -> TraceStatus
+    ensures memory { kind ≡ ErrorKind.OutOfMemory → result ≡ TraceStatus.NoMemory }
+    ensures usage { kind ≢ ErrorKind.OutOfMemory → result ≡ TraceStatus.Usage }
+{
+    match kind {
+        ErrorKind::OutOfMemory => TraceStatus::NoMemory,
+        _ => TraceStatus::Usage,
     }
 }
 

@@ -1,13 +1,14 @@
 //! The program: a run over a cartridge in an image file, with the standard streams.
 #![tactic(auto)]
 
-ghost use Rattle.std.specs.Prelude.{◌≡◌};
+ghost use Rattle.std.specs.Prelude.{◌≡◌, ◌≢◌};
 ghost use Rattle.tape_cmd.specs.Lines.{status_code};
 
 use cart_image::ImageTape;
 use drive_states::Unit;
 use read_ahead::{MOST, ReadAhead};
 use std::env::Env;
+use std::io::ErrorKind;
 use std::process::ExitCode;
 use std::{env, io};
 use tape_cmd::{Status, exit_status, run, write_status};
@@ -29,7 +30,7 @@ fn main(rt: HostRuntime) -> ExitCode {
     let _streams = NullStreams::take(&rt);
     ExitCode::from(match read_arguments(&rt) {
         Ok(arguments) => run_over_image(&rt, &arguments),
-        Err(_) => exit_status(&Status::NoMemory),
+        Err(error) => refuse_words(error.kind(), &mut StderrSink::new(rt.stderr())),
     })
 }
 
@@ -67,13 +68,30 @@ fn run_over_image(rt: &HostRuntime, arguments: &Arguments) -> u8 {
     finish(status, &mut errors)
 }
 
+/// Answers the exit status where the words can't be had: there is no memory for them, which prints nothing, or one is no
+/// UTF-8 text, so no word of any command.
+fn refuse_words(kind: ErrorKind, errors: &mut StderrSink) -> u8
+    ensures memory { kind ≡ ErrorKind.OutOfMemory → result ≡ status_code Status.NoMemory }
+    ensures usage { kind ≢ ErrorKind.OutOfMemory → result ≡ status_code Status.Usage }
+{
+    match kind {
+        ErrorKind::OutOfMemory => exit_status(&Status::NoMemory),
+        _ => finish(Status::Usage, errors),
+    }
+}
+
 /// Prints that the image can't be opened, and answers the exit status. Nothing is printed into the image.
 fn refuse(cause: NoImage, errors: &mut StderrSink) -> u8
-    ensures { result ≡ NO_IMAGE }
+    ensures memory { cause ≡ NoImage.NoMemory → result ≡ status_code Status.NoMemory }
+    ensures refused { cause ≢ NoImage.NoMemory → result ≡ NO_IMAGE }
 {
-    if cause != NoImage::IsErrorStream {
-        // The exit status tells it, too, where standard error can't.
-        let _printed = write_text(b"tape: cannot open the image\n", errors);
+    match cause {
+        NoImage::NoMemory => return finish(Status::NoMemory, errors),
+        NoImage::IsErrorStream => {}
+        _ => {
+            // The exit status tells it, too, where standard error can't.
+            let _printed = write_text(b"tape: cannot open the image\n", errors);
+        }
     }
     NO_IMAGE
 }

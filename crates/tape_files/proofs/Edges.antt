@@ -4,10 +4,10 @@ use Rattle.qic_base.specs.Cause.{Rose}
 use Rattle.qic_base.specs.Disk.{DiskStep, Look, WriteAt, SetLen, Sync, Stored, Failed, IsSettled, Crashes, Leaves}
 use Rattle.tape_files.specs.Edge.{FileState, file_means}
 
-settled : (f : FileState) → IsSettled file_means f
+settled : {F : Type 0} (f : FileState F) → IsSettled file_means f
 settled f = record { only = λ bytes left told may. absurd may }
 
-crashes : (old new : FileState) (step : DiskStep) → Crashes file_means old new step
+crashes : {F : Type 0} (old new : FileState F) (step : DiskStep) → Crashes file_means old new step
 crashes old new step = record {
   telling = refl;
   clock = omega arith;
@@ -16,13 +16,13 @@ crashes old new step = record {
   since = λ t left early is. inl is;
 }
 
-leaves : (old new : FileState) (step : DiskStep) → Leaves file_means old new step
+leaves : {F : Type 0} (old new : FileState F) (step : DiskStep) → Leaves file_means old new step
 leaves old new Look = λ left may. absurd may
 leaves old new (WriteAt place part) = λ left may. absurd may
 leaves old new (SetLen n) = λ left may. absurd may
 leaves old new Sync = settled new
 
-pub file_stored : (old new : FileState) (step : DiskStep) → old.faults ≤ new.faults → Stored file_means old new step
+pub file_stored : {F : Type 0} (old new : FileState F) (step : DiskStep) → old.faults ≤ new.faults → Stored file_means old new step
 file_stored old new step later = record {
   told = refl;
   later = later;
@@ -30,7 +30,7 @@ file_stored old new step later = record {
   crashes = crashes old new step;
 }
 
-pub file_failed : (old new : FileState) (step : DiskStep) → Rose old.faults new.faults → old.faults ≤ new.faults → Failed file_means old new step
+pub file_failed : {F : Type 0} (old new : FileState F) (step : DiskStep) → Rose old.faults new.faults → old.faults ≤ new.faults → Failed file_means old new step
 file_failed old new step rose later = record {
   cause = rose;
   later = later;

@@ -1,17 +1,30 @@
 -- What real files and streams mean to the code above them: they count their failures, and tell nothing else (this
 -- project's own).
-use Rattle.std.specs.Prelude.{ℕ, false, None}
+use Rattle.std.specs.Prelude.{ℕ, Bool, true, false, None}
 use Rattle.qic_base.specs.Disk as disks
 use Rattle.qic_base.specs.Sink as sinks
 use Rattle.qic_base.specs.Source as sources
 
--- a file: the length that it was seen to have, and how often a call of it failed
-pub record FileState : Type 0 where
+-- A sync of a file asks for all that the system keeps of it, or for its data and what finds them.
+pub data SyncKind : Type 0 where
+  Whole : SyncKind
+  DataAlone : SyncKind
+
+-- the kind that is to be asked for, by whether the length may have changed since the last sync that succeeded
+abbrev pub sync_kind : Bool → SyncKind
+sync_kind true = Whole
+sync_kind false = DataAlone
+
+-- a file as a disk: the file, whether its length may have changed since the last sync that succeeded, the length that
+-- it was seen to have, and how often a call of it failed
+pub record FileState (F : Type 0) : Type 0 where
+  pub file : F
+  pub resized : Bool
   pub seen : ℕ
   pub faults : ℕ
 
 -- it tells neither its bytes nor what a crash leaves
-abbrev pub file_means : disks.Meaning FileState
+abbrev pub file_means : {F : Type 0} → disks.Meaning (FileState F)
 file_means = record {
   told = λ _. None;
   seen_len = λ f. f.seen;

@@ -1,3 +1,5 @@
+pub mod Answers
 pub mod Apart
 pub mod Edge
 pub mod EdgeLaws
+pub mod Streams

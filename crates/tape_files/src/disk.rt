@@ -1,50 +1,56 @@
 //! A file as a disk.
 
-ghost use Rattle.std.specs.Prelude.{◌≡◌, ◌≤◌, IfOk, OnOk, OnErr};
+ghost use Rattle.std.specs.Prelude.{◌≡◌, ◌≤◌, true, false, IfOk, OnOk, OnErr};
 ghost use Rattle.qic_base.specs.Cause.{Rose};
-ghost use Rattle.tape_files.specs.Apart.{IsApart};
+ghost use Rattle.qic_base.specs.Disk.{SetLen, Sync, Stores};
+ghost use Rattle.tape_files.specs.Edge.{Whole, sync_kind, file_means};
 
+use crate::file::{DiskFile, ImageFile};
 use crate::retry::read_from;
 use qic_base::{Disk, DiskFailed};
-use std::fs::{File, OpenFile};
 use std::io;
 use std::marker::Model;
-use std::os::unix::fs::FileExt;
 
-/// A file as a disk, whose descriptor is none of the standard streams. A failure of the system is a failure of the
-/// call, and counted.
+/// A file as a disk. A failure of the system is a failure of the call, and counted.
 #[derive(Drop)]
-pub struct FileDisk {
-    file: File,
+pub struct FileDisk<F: DiskFile + Drop = ImageFile> {
+    file: F,
     seen: u64,
     faults: u64,
-    /// Whether the length may have changed since the last `sync` that succeeded.
+    /// Whether the length may have changed since the last sync that succeeded.
     resized: bool,
 }
 
-impl Model for FileDisk {
-    ghost use Rattle.tape_files.specs.Apart.{IsApart};
+impl<F: DiskFile + Drop> Model for FileDisk<F> {
     ghost use Rattle.tape_files.specs.Edge.{FileState};
 
-    ghost Value = { FileState };
+    ghost Value = { FileState F };
 
-    ghost view = { λ d. record { seen = d.seen; faults = d.faults } };
-
-    ghost invariant = { λ d. IsApart d.file };
+    ghost view = { λ d. record {
+      file = d.file;
+      resized = d.resized;
+      seen = d.seen;
+      faults = d.faults;
+    } };
 }
 
-impl FileDisk {
-    /// A file that was opened to be read and written.
-    pub(crate) fn new(file: File) -> FileDisk
-        requires { IsApart file }
-        ensures { result ≡ record { seen = 0; faults = 0 } }
+impl<F: DiskFile + Drop> FileDisk<F> {
+    /// A file that was opened. It is synced first, bytes and length: a run before may have ended between a write and its
+    /// sync, and what this run reads has to be on the disk.
+    pub(crate) fn open(file: F) -> Result<FileDisk<F>, DiskFailed>
+        ensures synced { IfOk result (λ disk. F.synced Whole file disk.file) }
+        ensures settled { IfOk result (λ disk. disk.resized ≡ false) }
+        ensures seen { IfOk result (λ disk. disk.seen ≡ 0) }
+        ensures faults { IfOk result (λ disk. disk.faults ≡ 0) }
     {
-        FileDisk {
+        let mut disk = FileDisk {
             file,
             seen: 0,
             faults: 0,
             resized: true,
-        }
+        };
+        disk.sync()?;
+        Ok(disk)
     }
 
     /// Counts a failure of the system.
@@ -52,6 +58,8 @@ impl FileDisk {
         ensures failed { Rose self.old.faults self.new.faults }
         ensures later { self.old.faults ≤ self.new.faults }
         ensures seen { self.new.seen ≡ self.old.seen }
+        ensures file { self.new.file ≡ self.old.file }
+        ensures resized { self.new.resized ≡ self.old.resized }
     {
         self.faults = self.faults.saturating_add(1);
     }
@@ -63,6 +71,8 @@ impl FileDisk {
         ensures failed { OnErr result (Rose self.old.faults self.new.faults) }
         ensures later { self.old.faults ≤ self.new.faults }
         ensures seen { self.new.seen ≡ self.old.seen }
+        ensures file { self.new.file ≡ self.old.file }
+        ensures resized { self.new.resized ≡ self.old.resized }
     {
         match answer {
             Ok(value) => Ok(value),
@@ -74,8 +84,7 @@ impl FileDisk {
     }
 }
 
-impl Disk for FileDisk {
-    ghost use Rattle.tape_files.specs.Edge.{file_means};
+impl<F: DiskFile + Drop> Disk for FileDisk<F> {
     ghost use Rattle.tape_files.specs.EdgeLaws.{file_told_right, file_left_now};
 
     ghost means = { file_means };
@@ -86,8 +95,8 @@ impl Disk for FileDisk {
 
     #[tactic(auto, using(crate::proofs::Edges::file_calls))]
     fn len(&mut self) -> Result<u64, DiskFailed> {
-        let answer = self.file.metadata();
-        let len = self.counted(answer)?.len();
+        let answer = self.file.len();
+        let len = self.counted(answer)?;
         self.seen = len;
         Ok(len)
     }
@@ -105,7 +114,12 @@ impl Disk for FileDisk {
     }
 
     #[tactic(auto, using(crate::proofs::Edges::file_calls))]
-    fn set_len(&mut self, length: u64) -> Result<(), DiskFailed> {
+    fn set_len(&mut self, length: u64) -> Result<(), DiskFailed>
+        ensures did { Stores file_means self.old self.new (SetLen length) result }
+        ensures seen { OnOk result (self.new.seen ≡ length) }
+        ensures failed { OnErr result (self.new.seen ≡ 0) }
+        ensures resized { self.new.resized ≡ true }
+    {
         self.resized = true;
         let answer = self.file.set_len(length);
         match self.counted(answer) {
@@ -121,7 +135,17 @@ impl Disk for FileDisk {
     }
 
     #[tactic(auto, using(crate::proofs::Edges::file_calls))]
-    fn sync(&mut self) -> Result<(), DiskFailed> {
+    fn sync(&mut self) -> Result<(), DiskFailed>
+        ensures did { Stores file_means self.old self.new Sync result }
+        ensures seen { self.new.seen ≡ self.old.seen }
+
+        // One call of the file's own, of the kind that its length asks for.
+        ensures synced { OnOk result (
+            F.synced (sync_kind self.old.resized) self.old.file self.new.file) }
+        ensures settled { OnOk result (self.new.resized ≡ false) }
+        ensures unsettled { OnErr result (self.new.resized ≡ self.old.resized) }
+        ensures succeeded { OnOk result (self.new.faults ≡ self.old.faults) }
+    {
         let answer = if self.resized {
             self.file.sync_all()
         } else {
@@ -129,6 +153,102 @@ impl Disk for FileDisk {
         };
         self.counted(answer)?;
         self.resized = false;
+        Ok(())
+    }
+}
+
+#[cfg(test)]
+mod tests {
+    use super::*;
+    use std::io::ErrorKind;
+    use std::os::unix::fs::FileExt;
+    use std::test::Fail;
+
+    /// Counts its syncs, by kind, and fails where it is told to.
+    #[derive(Drop)]
+    struct Counting {
+        fails: bool,
+        whole: u32,
+        data_alone: u32,
+    }
+
+    impl Counting {
+        fn answer(&self) -> io::Result<()> {
+            if self.fails {
+                Err(io::Error::from(ErrorKind::Other))
+            } else {
+                Ok(())
+            }
+        }
+    }
+
+    impl FileExt for Counting {
+        fn read_at(&self, _into: &mut [u8], _place: u64) -> io::Result<usize> {
+            Ok(0)
+        }
+
+        fn write_at(&self, from: &[u8], _place: u64) -> io::Result<usize> {
+            Ok(from.len())
+        }
+    }
+
+    impl DiskFile for Counting {
+        ghost synced = { λ kind old new. Unit {0} };
+
+        fn len(&self) -> io::Result<u64> {
+            Ok(0)
+        }
+
+        fn set_len(&self, _length: u64) -> io::Result<()> {
+            self.answer()
+        }
+
+        fn sync_all(&mut self) -> io::Result<()> {
+            self.answer()?;
+            self.whole = self.whole.saturating_add(1);
+            Ok(())
+        }
+
+        fn sync_data(&mut self) -> io::Result<()> {
+            self.answer()?;
+            self.data_alone = self.data_alone.saturating_add(1);
+            Ok(())
+        }
+    }
+
+    fn make_counting(fails: bool) -> Counting {
+        Counting {
+            fails,
+            whole: 0,
+            data_alone: 0,
+        }
+    }
+
+    /// Whether a sync succeeds, and how many of each kind have so far.
+    type Synced = (bool, u32, u32);
+
+    fn sync(disk: &mut FileDisk<Counting>, fails: bool) -> Synced {
+        disk.file.fails = fails;
+        let synced = disk.sync().is_ok();
+        disk.file.fails = false;
+        (synced, disk.file.whole, disk.file.data_alone)
+    }
+
+    /// The syncs behind an opening, behind a length that is set, the first of them failing, and behind a write.
+    fn syncs() -> Result<[Synced; 4], DiskFailed> {
+        let mut disk = FileDisk::open(make_counting(false))?;
+        let opened = sync(&mut disk, false);
+        disk.set_len(4)?;
+        let resized = [sync(&mut disk, true), sync(&mut disk, false)];
+        disk.write_at(0, b"")?;
+        Ok([opened, resized[0], resized[1], sync(&mut disk, false)])
+    }
+
+    #[test]
+    fn each_sync_is_one_of_the_kind_that_the_length_asks_for(rt: HostRuntime) -> Result<(), Fail> {
+        let seen = (syncs()?, FileDisk::open(make_counting(true)).is_err());
+        let want = [(true, 1, 1), (false, 1, 1), (true, 2, 1), (true, 2, 2)];
+        assert_eq!(rt; seen, (want, true));
         Ok(())
     }
 }

@@ -3,12 +3,14 @@
 #![tactic(auto)]
 
 mod disk;
+mod file;
 mod image;
 mod null;
 mod retry;
 mod streams;
 
 pub use disk::FileDisk;
+pub use file::{DiskFile, ImageFile};
 pub use image::{NoImage, open_image};
 pub use null::NullStreams;
 pub use streams::{StderrSink, StdinSource, StdoutSink};

@@ -1,0 +1,232 @@
+What is put on the disk
+=======================
+
+The calls by which the program has the system put an image on the disk, and what comes of their failures. They are seen, and
+made to fail, by `strace`; where there is none, or it may trace nothing, this page is skipped.
+
+  $ strace -o probe -e inject=fsync:error=EIO true 2> probe.errors || exit 80
+  $ . "$TESTDIR/syncs.sh"
+  $ mkdir tapes
+  $ cd tapes
+
+Opening
+-------
+
+An image is synced as it is opened, whatever the command is, and so is its folder where it is empty. Here the file is new.
+
+  $ syncs cart.img list
+  tape: no cartridge
+  fsync tapes 0
+  fsync cart.img 0
+  [4]
+
+It is still empty. A new cartridge gets two lengths, each of which is synced whole, then its head, and last its first letter.
+
+  $ syncs cart.img new 3
+  blank 3
+  fsync tapes 0
+  fsync cart.img 0
+  fsync cart.img 0
+  fsync cart.img 0
+  fdatasync cart.img 0
+  fdatasync cart.img 0
+  $ syncs cart.img info
+  tape: the cartridge is not formatted
+  fsync cart.img 0
+  [6]
+  $ syncs cart.img pulses < /dev/null
+  fsync cart.img 0
+  $ syncs cart.img rewind
+  usage: tape IMAGE COMMAND
+  fsync cart.img 0
+  [2]
+
+The length stays as it is when a mark is set, so that asks for the data alone; and where the mark stands nothing is written.
+
+  $ syncs cart.img protect on
+  protected on
+  fsync cart.img 0
+  fdatasync cart.img 0
+  $ syncs cart.img protect on
+  protected on
+  fsync cart.img 0
+
+The entry of a file is in the folder of what a link to it names.
+
+  $ mkdir away
+  $ ln -s away/later.img later.link
+  $ syncs later.link list
+  tape: no cartridge
+  fsync away 0
+  fsync later.img 0
+  [4]
+  $ syncs ./away/../cart.img protect off
+  protected off
+  fsync cart.img 0
+  fdatasync cart.img 0
+
+A run that is killed
+--------------------
+
+Amid its write and its sync: the byte stands, and may not be on the disk. The next run has nothing to write, but syncs it
+before it says so.
+
+  $ cp cart.img before.img
+  $ killed fdatasync cart.img protect on
+  [137]
+  $ cmp -l before.img cart.img | tr -s ' '
+   13 0 132
+  $ strace --quiet=all -o ../calls -e trace=fsync,fdatasync,write tape cart.img protect on
+  protected on
+  $ sed 's/(.*//' ../calls
+  fsync
+  write
+
+Before the folder of a new image is synced: the next run finds it empty, and syncs the folder.
+
+  $ rm cart.img
+  $ killed fsync:when=1 cart.img new 3
+  [137]
+  $ wc -c < cart.img
+  0
+  $ syncs cart.img list
+  tape: no cartridge
+  fsync tapes 0
+  fsync cart.img 0
+  [4]
+  $ tape cart.img new 3
+  blank 3
+  $ cmp cart.img before.img
+
+Calls that fail
+---------------
+
+An image whose sync fails is not opened, and nothing of it is written.
+
+  $ faulty fsync:error=EIO cart.img protect on
+  tape: cannot open the image
+  [20]
+  $ faulty fsync:error=ENOSPC cart.img list
+  tape: cannot open the image
+  [20]
+  $ faulty fsync:error=EINVAL cart.img list
+  tape: cannot open the image
+  [20]
+  $ cmp cart.img before.img
+
+Nor is an empty one whose folder can't be synced, or can't be opened for that.
+
+  $ rm cart.img
+  $ for fault in fsync:error=EIO:when=1 fsync:error=EINVAL:when=1 openat:error=EACCES:when=2 readlink:error=EIO; do
+  >     faulty $fault cart.img new 3
+  >     wc -c < cart.img
+  > done 2>&1 | sort | uniq -c | sed 's/^ *//'
+  4 0
+  4 tape: cannot open the image
+  $ faulty readlink:error=ENOMEM cart.img new 3
+  tape: no memory
+  [19]
+  $ wc -c < cart.img
+  0
+  $ syncs cart.img new 3 | tail -n 6
+  fsync tapes 0
+  fsync cart.img 0
+  fsync cart.img 0
+  fsync cart.img 0
+  fdatasync cart.img 0
+  fdatasync cart.img 0
+  $ cmp cart.img before.img
+
+A sync behind that is a call of the tape. What was written can still be read; that it is on the disk nobody knows.
+
+  $ faulty fdatasync:error=EIO cart.img protect on
+  tape: the tape failed
+  [18]
+  $ faulty fsync:error=EIO:when=2 cart.img new 3
+  tape: the tape failed
+  [18]
+  $ tape cart.img new 3
+  blank 3
+  $ cmp cart.img before.img
+
+An image that can't be locked is not opened, but where the system knows no locks for it.
+
+  $ for error in EIO EBADF EINVAL ENOMEM EAGAIN; do
+  >     faulty flock:error=$error cart.img protect on
+  > done 2>&1 | uniq -c | sed 's/^ *//'
+  5 tape: cannot open the image
+  $ cmp cart.img before.img
+  $ for error in EOPNOTSUPP ENOSYS ENOLCK; do
+  >     faulty flock:error=$error cart.img info
+  > done 2>&1 | uniq -c | sed 's/^ *//'
+  3 tape: the cartridge is not formatted
+
+One of which the system tells neither kind nor length is none.
+
+  $ faulty statx:error=EIO:when=2 cart.img info
+  tape: cannot open the image
+  [20]
+
+A pipe is not opened, since its name tells its kind; and where the name told nothing, not locked, since the open pipe does.
+
+  $ rm cart.img
+  $ mkfifo cart.img
+  $ faulty statx:error=EIO:when=9 cart.img list
+  tape: cannot open the image
+  [20]
+  $ sed 's/(.*//' ../calls
+  statx
+  $ faulty statx:error=EIO:when=1 cart.img list
+  tape: cannot open the image
+  [20]
+  $ sed 's/(.*//' ../calls
+  statx
+  openat
+  statx
+  close
+  $ rm cart.img
+  $ cp before.img cart.img
+
+A call that a signal interrupts is made again.
+
+  $ faulty fsync:error=EINTR:when=1 cart.img info
+  tape: the cartridge is not formatted
+  [6]
+  $ faulty flock:error=EINTR:when=1 cart.img info
+  tape: the cartridge is not formatted
+  [6]
+
+A read-only file system
+-----------------------
+
+An image that can't be opened for writing is opened for reading alone. Such a file system may know no sync (`EINVAL`), and has
+nothing to put on the disk then; another failure is one here, too.
+
+  $ read_only() { faulty openat:error=EROFS:when=1 "$@"; }
+  $ read_only cart.img info
+  tape: the cartridge is not formatted
+  [6]
+  $ read_only cart.img protect on
+  tape: the tape failed
+  [18]
+  $ read_only cart.img new 3
+  tape: the tape failed
+  [18]
+  $ cmp cart.img before.img
+  $ faulty 'openat:error=EROFS:when=1 fsync:error=EINVAL' cart.img info
+  tape: the cartridge is not formatted
+  [6]
+  $ faulty 'openat:error=EROFS:when=1 fsync:error=EIO' cart.img info
+  tape: cannot open the image
+  [20]
+  $ faulty openat:error=EROFS cart.img info
+  tape: cannot open the image
+  [20]
+  $ rm cart.img
+  $ faulty openat:error=EROFS:when=1 cart.img new 3
+  tape: cannot open the image
+  [20]
+  $ : > cart.img
+  $ faulty 'openat:error=EROFS:when=1 fsync:error=EINVAL' cart.img new 3
+  tape: the tape failed
+  [18]
