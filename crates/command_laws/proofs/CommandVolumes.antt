@@ -252,11 +252,11 @@ fresh_for : (c : Cartridge) (label : List ℕ) (date : ℕ) (words : List ℕ) (
 fresh_for c label date words area none fresh = record { fresh = fresh; front = none }
 
 format_standing : (label : List ℕ) (date : ℕ) (c : Cartridge) (plain : Plain) (left : Option Cartridge) → IsCartridge c → StandsCleanly c plain →
-    FormatLeaves label date (Some c) left → IsSomeAnd left (λ d. Stands d plain ⊎ IsUnformatted d ⊎ StandsEmpty c label date d)
+    FormatLeaves label date (Some c) left → IsSomeAnd left (λ d. StandsCleanly d plain ⊎ IsUnformatted d ⊎ StandsEmpty c label date d)
 format_standing label date c plain left whole stood (inl (locked, same)) =
-    some_and (λ d. Stands d plain ⊎ IsUnformatted d ⊎ StandsEmpty c label date d) c left (inl stood.stands) same
+    some_and (λ d. StandsCleanly d plain ⊎ IsUnformatted d ⊎ StandsEmpty c label date d) c left (inl stood) same
 format_standing label date c plain left whole stood (inr (inl (free, torn))) =
-    some_weaker left (λ d is. elim is [ inl stands ↦ inl stands | inr none ↦ inr (inl none) ])
+    some_weaker left (λ d is. elim is [ inl stands ↦ inl stands | inr none ↦ inr (inl (unformatted_from_bare d none)) ])
     (stopped_clearing c plain left whole stood torn)
 format_standing label date c plain left whole stood (inr (inr (free, none, (words, (area, fresh, torn))))) =
     let is_fresh : IsFreshFor c label date words area = fresh_for c label date words area none fresh in
@@ -273,7 +273,7 @@ format_bare : (label : List ℕ) (date : ℕ) (c : Cartridge) (left : Option Car
 format_bare label date c left whole bare unformatted (inl (locked, same)) =
     some_and (λ d. IsUnformatted d ⊎ StandsEmpty c label date d) c left (inl unformatted) same
 format_bare label date c left whole bare unformatted (inr (inl (free, torn))) =
-    some_weaker left (λ d is. inl is) (stopped_clearing_new c left whole bare torn)
+    some_weaker left (λ d is. inl (unformatted_from_bare d is)) (stopped_clearing_new c left whole bare torn)
 format_bare label date c left whole bare unformatted (inr (inr (free, none, (words, (area, fresh, torn))))) =
     let is_fresh : IsFreshFor c label date words area = fresh_for c label date words area none fresh in
     some_weaker left
@@ -298,7 +298,7 @@ formats_or_not : (told : Option (List ℕ)) (words : List (List ℕ)) (held left
 formats_or_not told words held left whole leaves = record {
   standing = λ label date c plain spells is stood.
       elim (left_by_format told words held left label date c spells is leaves) [
-        | inl same ↦ some_and (λ d. Stands d plain ⊎ IsUnformatted d ⊎ StandsEmpty c label date d) c left (inl stood.stands) same
+        | inl same ↦ some_and (λ d. StandsCleanly d plain ⊎ IsUnformatted d ⊎ StandsEmpty c label date d) c left (inl stood) same
         | inr formatting ↦ format_standing label date c plain left (whole_of held c whole is) stood formatting
       ];
   bare = λ label date c spells is none.

@@ -113,13 +113,13 @@ pub record StandsEmpty (c : Cartridge) (label : List ℕ) (date : ℕ) (d : Cart
   pub stands : Stands d (fresh_plain c label date words area)
   pub live : IsTableLive d
 
--- What words of formatting leave of a cartridge that stood for a plain one, with clean header copies: it stands for that,
+-- What words of formatting leave of a cartridge that stood for a plain one, with clean header copies: it stands for that so,
 -- or is unformatted, or stands for the empty one. Where both header copies were bare, it is unformatted or stands for the
--- empty one.
+-- empty one. Behind a stop while they are written, header copies may be neither clean nor bare.
 pub record FormatsOrNot (words : List (List ℕ)) (held left : Option Cartridge) : Type 0 where
   pub standing : (label : List ℕ) (date : ℕ) (c : Cartridge) (plain : Plain) → Spells words (commands.Format label date) →
       held ≡ Some c → StandsCleanly c plain →
-      IsSomeAnd left (λ d. Stands d plain ⊎ IsUnformatted d ⊎ StandsEmpty c label date d)
+      IsSomeAnd left (λ d. StandsCleanly d plain ⊎ IsUnformatted d ⊎ StandsEmpty c label date d)
   pub bare : (label : List ℕ) (date : ℕ) (c : Cartridge) → Spells words (commands.Format label date) →
       held ≡ Some c → HasNoHeader c →
       IsSomeAnd left (λ d. IsUnformatted d ⊎ StandsEmpty c label date d)
