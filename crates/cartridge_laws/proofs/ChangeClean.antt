@@ -11,7 +11,7 @@ use Rattle.cartridge_spec.specs.Wear.{worn}
 use Rattle.qic_base.specs.Cartridge.{Cartridge}
 use Rattle.qic_base.specs.Step.{Spoil, changed, SetProtected, SetReferenced}
 
-clean_less : (c d : Cartridge) (copy : ℕ) (area : List (List ℕ)) → ReadsNoMore c d → IsCleanCopy c copy area → IsCleanCopy d copy area
+pub clean_less : (c d : Cartridge) (copy : ℕ) (area : List (List ℕ)) → ReadsNoMore c d → IsCleanCopy c copy area → IsCleanCopy d copy area
 clean_less c d copy area less (inl written) = inl (written_less c d copy whole_mask area less written)
 clean_less c d copy area less (inr zeros) = inr (zero_less c d copy whole_mask less zeros)
 
@@ -28,7 +28,7 @@ cleanly_less c d plain less clean stands = record {
   second = clean_less c d 1 plain.header_area less clean.second;
 }
 
-no_header_less : (c d : Cartridge) → ReadsNoMore c d → HasNoHeader c → HasNoHeader d
+pub no_header_less : (c d : Cartridge) → ReadsNoMore c d → HasNoHeader c → HasNoHeader d
 no_header_less c d less bare = record { first = bare_less c d 0 less bare.first; second = bare_less c d 1 less bare.second }
 
 pub worn_is_clean : WornIsClean

@@ -1,4 +1,5 @@
--- A cartridge that was kept but for its header copies stands for what it stood for, where a copy still reads.
+-- A cartridge that was kept but for its header copies stands for what it stood for, where a copy still reads, and else has bare
+-- copies.
 use Rattle.std.proofs.Common.{ℕ, suc, ◌-◌, ◌<◌, Bool, true, false, [], ◌∷◌, cond, arith, All, zero, ◌/◌, ◌%◌, ◌^◌, ◌==◌, ◌≡◌, List, map, refl, ap, ◌∙◌, codes, ◌||◌, not, Some, None, ◌≤◌, nat_lt, length, slice_get, sym, subst, ◌+◌, take, drop, nat_le, inl, inr, ◌⊎◌, ◌*◌}
 use Rattle.std.proofs.lemmas.List.Elements.{All-nil, All-cons, All-append, All-weaker, All-head, All-tail, All-filter}
 use Rattle.std.proofs.lemmas.Bool.{eqb-true, ne_eqb, ltb-false, or_parts, cases_lt}
@@ -7,7 +8,7 @@ use Rattle.std.specs.List.{range_with_len}
 use Rattle.cartridge_laws.proofs.FormatCopies.{zero_from_views, zero_shrank, written_shrank, written_reads, lost_does_not_read}
 use Rattle.cartridge_laws.proofs.FormatHalfway.{IsKeptCopy, IsKept}
 use Rattle.cartridge_laws.proofs.Segments.{zero_does_not_read}
-use Rattle.cartridge_spec.specs.Formatting.{IsCleanCopy, StandsCleanly}
+use Rattle.cartridge_spec.specs.Formatting.{HasNoHeader, IsBareCopy, IsCleanCopy, StandsCleanly}
 use Rattle.cartridge_spec.specs.Header.{has_signature, header_fault}
 use Rattle.cartridge_spec.specs.HeaderAndTable.{IsInForce, CopyDoesNotRead, IsArea, CopyReads, copy_cells, last_segment, IsUnformatted}
 use Rattle.cartridge_spec.specs.Says.{cells_of, Written, unreadable_count, ReadsAll, whole_mask}
@@ -201,12 +202,27 @@ still_stands c d plain stood kept header =
           (sym (same_cells c d 2 whole_mask (λ i h. kept.others 2 i (omega arith) h))) stood.table;
     }
 
-pub kept_stands : (c d : Cartridge) (plain : Plain) → StandsCleanly c plain → IsKept c d → Stands d plain ⊎ IsUnformatted d
+-- a clean copy that does not read is bare
+clean_is_bare : (d : Cartridge) (copy : ℕ) (area : List (List ℕ)) → IsArea area → has_signature area ≡ true → IsCleanCopy d copy area →
+    CopyDoesNotRead d copy → IsBareCopy d copy
+clean_is_bare d copy area is_area signature (inr zeros) none = inl zeros
+clean_is_bare d copy area is_area signature (inl written) none =
+    elim (cases_lt 3 (unreadable_count (copy_cells d copy))) [
+      | inl many ↦ inr many
+      | inr few ↦ absurd (none area (written_reads d copy area is_area signature written few))
+    ]
+
+pub kept_stands : (c d : Cartridge) (plain : Plain) → StandsCleanly c plain → IsKept c d → StandsCleanly d plain ⊎ HasNoHeader d
 kept_stands c d plain stood kept =
     let area : List (List ℕ) = plain.header_area in
+    let is_area : IsArea area = stood.stands.whole.header_area in
     let signature : has_signature area ≡ true = signature_in_force c area stood.stands.header.in_force in
-    elim (header_decided d area stood.stands.whole.header_area signature
-    (clean_kept 0 area stood.first kept.first) (clean_kept 1 area stood.second kept.second)) [
-      | inl header ↦ inl (still_stands c d plain stood.stands kept header)
-      | inr none ↦ inr (inr none)
+    let first : IsCleanCopy d 0 area = clean_kept 0 area stood.first kept.first in
+    let second : IsCleanCopy d 1 area = clean_kept 1 area stood.second kept.second in
+    elim (header_decided d area is_area signature first second) [
+      | inl header ↦ inl (record { stands = still_stands c d plain stood.stands kept header; first = first; second = second })
+      | inr none ↦ inr (record {
+        first = clean_is_bare d 0 area is_area signature first none.0;
+        second = clean_is_bare d 1 area is_area signature second none.1;
+      })
     ]

@@ -22,18 +22,17 @@ use Rattle.qic_base.specs.declared.tape.SectorView.TheVariants.{Holds}
 
 -- ---- among the steps that clear
 
-kept_or_bare_stands : (c d : Cartridge) (plain : Plain) → StandsCleanly c plain → IsKeptOrBare c d → Stands d plain ⊎ IsUnformatted d
+kept_or_bare_stands : (c d : Cartridge) (plain : Plain) → StandsCleanly c plain → IsKeptOrBare c d → StandsCleanly d plain ⊎ HasNoHeader d
 kept_or_bare_stands c d plain stood (inl kept) = kept_stands c d plain stood kept
-kept_or_bare_stands c d plain stood (inr bare) = inr (unformatted_from_bare d bare)
+kept_or_bare_stands c d plain stood (inr bare) = inr bare
 
 bare_kept : (copy : ℕ) (c d : Cartridge) → IsBareCopy c copy → IsKeptCopy copy c d → IsBareCopy d copy
 bare_kept copy c d bare (inl shrank) = bare_shrank shrank bare
 bare_kept copy c d bare (inr zeros) = inl (zero_from_views zeros)
 
-kept_or_bare_unformatted : (c d : Cartridge) → HasNoHeader c → IsKeptOrBare c d → IsUnformatted d
-kept_or_bare_unformatted c d none (inl kept) =
-    unformatted_from_bare d (record { first = bare_kept 0 c d none.first kept.first; second = bare_kept 1 c d none.second kept.second })
-kept_or_bare_unformatted c d none (inr bare) = unformatted_from_bare d bare
+stays_bare : (c d : Cartridge) → HasNoHeader c → IsKeptOrBare c d → HasNoHeader d
+stays_bare c d none (inl kept) = record { first = bare_kept 0 c d none.first kept.first; second = bare_kept 1 c d none.second kept.second }
+stays_bare c d none (inr bare) = bare
 
 pub stopped_clearing : StoppedClearing
 stopped_clearing c plain left whole stood torn =
@@ -41,7 +40,7 @@ stopped_clearing c plain left whole stood torn =
 
 pub stopped_clearing_new : StoppedClearingNew
 stopped_clearing_new c left whole none torn =
-    some_weaker left (λ d kept. kept_or_bare_unformatted c d none kept) (clearing_stopped c left whole torn)
+    some_weaker left (λ d kept. stays_bare c d none kept) (clearing_stopped c left whole torn)
 
 -- ---- among all of them
 
@@ -146,16 +145,16 @@ format_stopped c label date words area left whole for torn =
     ]
 
 standing_left : (c d : Cartridge) (plain empty : Plain) → StandsCleanly c plain → LeftByFormat c empty d →
-    Stands d plain ⊎ IsUnformatted d ⊎ (Stands d empty × IsTableLive d)
+    StandsCleanly d plain ⊎ IsUnformatted d ⊎ (Stands d empty × IsTableLive d)
 standing_left c d plain empty stood (inl kept) =
     elim (kept_or_bare_stands c d plain stood kept) [
       | inl stands ↦ inl stands
-      | inr bare ↦ inr (inl bare)
+      | inr bare ↦ inr (inl (unformatted_from_bare d bare))
     ]
 standing_left c d plain empty stood (inr rest) = inr rest
 
 new_left : (c d : Cartridge) (empty : Plain) → HasNoHeader c → LeftByFormat c empty d → IsUnformatted d ⊎ (Stands d empty × IsTableLive d)
-new_left c d empty none (inl kept) = inl (kept_or_bare_unformatted c d none kept)
+new_left c d empty none (inl kept) = inl (unformatted_from_bare d (stays_bare c d none kept))
 new_left c d empty none (inr rest) = rest
 
 pub stopped_format : StoppedFormat

@@ -73,27 +73,28 @@ FormattedIsMarked =
 
 -- ---- a stop
 
--- a stop among the first steps leaves what stood, or an unformatted cartridge
+-- a stop among the first steps leaves what stood, with clean header copies, or a cartridge with bare ones
 abbrev pub StoppedClearing : Type 0
 StoppedClearing =
     (c : Cartridge) (plain : Plain) (left : Option Cartridge) → IsCartridge c → StandsCleanly c plain →
     Torn (clearing_steps c.info.segments_per_track) (Some c) left →
-    IsSomeAnd left (λ d. Stands d plain ⊎ IsUnformatted d)
+    IsSomeAnd left (λ d. StandsCleanly d plain ⊎ HasNoHeader d)
 
--- and an unformatted one, where no header stood
+-- and one with bare ones, where they were bare
 abbrev pub StoppedClearingNew : Type 0
 StoppedClearingNew =
     (c : Cartridge) (left : Option Cartridge) → IsCartridge c → HasNoHeader c →
     Torn (clearing_steps c.info.segments_per_track) (Some c) left →
-    IsSomeAnd left IsUnformatted
+    IsSomeAnd left HasNoHeader
 
--- a stop among all steps leaves what stood, or an unformatted cartridge, or the empty one, whose table's segment takes writes
+-- a stop among all steps leaves what stood, with clean header copies, or an unformatted cartridge, or the empty one, whose table's
+-- segment takes writes
 abbrev pub StoppedFormat : Type 0
 StoppedFormat =
     (c : Cartridge) (plain : Plain) (label : List ℕ) (date : ℕ) (words : List ℕ) (area : List (List ℕ))
     (left : Option Cartridge) → IsCartridge c → StandsCleanly c plain → IsFreshFor c label date words area →
     Torn (format_steps c.info.segments_per_track area) (Some c) left →
-    IsSomeAnd left (λ d. Stands d plain ⊎ IsUnformatted d ⊎ (Stands d (fresh_plain c label date words area) × IsTableLive d))
+    IsSomeAnd left (λ d. StandsCleanly d plain ⊎ IsUnformatted d ⊎ (Stands d (fresh_plain c label date words area) × IsTableLive d))
 
 -- and an unformatted or the empty one, where no header stood
 abbrev pub StoppedFormatNew : Type 0

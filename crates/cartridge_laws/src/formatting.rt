@@ -35,14 +35,14 @@ pub fn new_has_no_header()
     ensures { NewHasNoHeader }
 {}
 
-/// A stop among the first steps leaves what stood, or an unformatted cartridge.
+/// A stop among the first steps leaves what stood, with clean header copies, or bare ones, and so an unformatted cartridge.
 pub fn stopped_clearing()
     ensures standing { StoppedClearing }
     ensures new { StoppedClearingNew }
 {}
 
-/// A stop among all steps leaves what stood, or an unformatted cartridge, or the empty one, whose table's segment takes
-/// writes.
+/// A stop among all steps leaves what stood, with clean header copies, or an unformatted cartridge, or the empty one, whose
+/// table's segment takes writes.
 pub fn stopped_format()
     ensures standing { StoppedFormat }
     ensures new { StoppedFormatNew }

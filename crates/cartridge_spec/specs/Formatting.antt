@@ -33,6 +33,11 @@ pub record MarksDefects (c : Cartridge) (words : List ℕ) : Type 0 where
 abbrev pub IsCleanCopy : Cartridge → (copy : ℕ) → (area : List (List ℕ)) → Type 0
 IsCleanCopy c copy area = Written (copy_cells c copy) area ⊎ Zero (copy_cells c copy)
 
+-- so is each of both
+pub record HasCleanCopies (c : Cartridge) (area : List (List ℕ)) : Type 0 where
+  pub first : IsCleanCopy c 0 area
+  pub second : IsCleanCopy c 1 area
+
 -- the cartridge stands for a plain one, and each of its header copies is clean
 pub record StandsCleanly (c : Cartridge) (plain : Plain) : Type 0 where
   pub stands : Stands c plain

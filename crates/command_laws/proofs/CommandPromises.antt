@@ -10,7 +10,7 @@ use Rattle.command_laws.proofs.CommandSeveral.{makes_volumes, carries_out_lines,
 use Rattle.command_laws.proofs.CommandSurvives.{survives_one_loss, none_survives}
 use Rattle.command_laws.proofs.CommandTold.{input_of, input_told}
 use Rattle.command_laws.proofs.CommandValues.{has_values}
-use Rattle.command_laws.proofs.CommandVolumes.{volumes_stay, list_stays, stays_live, stops_format, stops_append, is_changed, may_change, none_changed}
+use Rattle.command_laws.proofs.CommandVolumes.{volumes_stay, list_stays, stays_live, stays_clean, stops_format, stops_append, is_changed, may_change, none_changed}
 use Rattle.command_laws.proofs.TextCommands.{one_command}
 use Rattle.command_laws.proofs.TextDeciding.{each_words}
 use Rattle.command_laws.specs.CommandLaws.{MachineIsFunction, MachineAnswers}
@@ -174,6 +174,7 @@ module _ {T S K : Type 0} (t : tapes.Meaning T) (s : sources.Meaning S) (k : sin
         volumes = volumes_stay t (s.left old.source) words old.tape new.tape laws.right stops;
         lists = list_stays t (s.left old.source) words old.tape new.tape laws.right stops;
         live = stays_live t (s.left old.source) words old.tape new.tape laws.right stops;
+        clean = stays_clean t (s.left old.source) words old.tape new.tape laws.right stops;
         formats = stops_format t (s.left old.source) words old.tape new.tape laws.right stops;
         appends = stops_append t (s.left old.source) words old.tape new.tape laws.right (λ other spells. has_values words other spells) stops;
         changed = is_changed t s k words command old new answer laws spelled values ends;
@@ -267,6 +268,7 @@ module _ {T S K : Type 0} (t : tapes.Meaning T) (s : sources.Meaning S) (k : sin
         volumes = volumes_stay t (s.left old.source) words old.tape old.tape laws.right stops;
         lists = list_stays t (s.left old.source) words old.tape old.tape laws.right stops;
         live = stays_live t (s.left old.source) words old.tape old.tape laws.right stops;
+        clean = stays_clean t (s.left old.source) words old.tape old.tape laws.right stops;
         formats = stops_format t (s.left old.source) words old.tape old.tape laws.right stops;
         appends = stops_append t (s.left old.source) words old.tape old.tape laws.right (λ other spells. has_values words other spells) stops;
         changed = none_changed t (s.left old.source) words old.tape answer laws.before nothing.0 nothing.1;

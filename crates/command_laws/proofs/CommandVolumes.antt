@@ -13,7 +13,7 @@ use Rattle.cartridge_laws.proofs.MountOnce.{mounts_is_function}
 use Rattle.cartridge_laws.proofs.MountSettled.{settled_stands, settled_mounts}
 use Rattle.cartridge_laws.proofs.MountStanding.{standing_mounts_only_so}
 use Rattle.cartridge_spec.specs.Appending.{new_plain}
-use Rattle.cartridge_spec.specs.Formatting.{HasNoDefectInFront, IsFreshFor, IsFreshWith, StandsCleanly, HasNoHeader, format_steps, clearing_steps}
+use Rattle.cartridge_spec.specs.Formatting.{HasNoDefectInFront, IsFreshFor, IsFreshWith, StandsCleanly, HasNoHeader, HasCleanCopies, format_steps, clearing_steps}
 use Rattle.cartridge_spec.specs.Header.{Header}
 use Rattle.cartridge_spec.specs.HeaderAndTable.{IsUnformatted}
 use Rattle.cartridge_spec.specs.Mounting.{Mounting, TableLost, Mounts, mounted_as, Mounted, settled, IsTableLive}
@@ -21,6 +21,7 @@ use Rattle.cartridge_spec.specs.Settling.{changed_by}
 use Rattle.cartridge_spec.specs.Table.{Entry}
 use Rattle.cartridge_spec.specs.Volumes.{Plain, Stands, entries_of}
 use Rattle.command_laws.proofs.CommandAppends.{append_stopped, append_refused, append_unanswered, append_done}
+use Rattle.command_laws.proofs.CommandClean.{copies_stay_clean, copies_stay_bare}
 use Rattle.command_laws.proofs.CommandEnds.{after_steps, told_weaker, over_at, told_whole, Laws, ends_finished}
 use Rattle.command_laws.proofs.CommandPlainLaws.{SectorLeaves, OpeningLeaves, ScrubbingLeaves, FormatLeaves, CommandLeaves, plain_leaves}
 use Rattle.command_laws.proofs.CommandSteps.{only_new_renews}
@@ -34,7 +35,7 @@ use Rattle.command_spec.specs.Outcome.{CommandOutcome, HasPlace}
 use Rattle.command_spec.specs.Runs.{IsOfBytes, fault_of, may_come_from, IsCutOff, Finished, CommandEnds, is_fault}
 use Rattle.command_spec.specs.Scrub.{Scrubs}
 use Rattle.command_spec.specs.Traits.{traits_of}
-use Rattle.command_spec.specs.Volumes.{IsCarriedOut, KeepsVolumes, StillStands, VolumesStay, KeepsList, StillMounts, ListStays, StillLive, StandsEmpty, FormatsOrNot, StopsFormat, AreBytes, StandsAppended, AppendedOrNot, StopsAppend, StandsFresh, IsBare, WasNotDone, IsChanged}
+use Rattle.command_spec.specs.Volumes.{IsCarriedOut, KeepsVolumes, StillStands, VolumesStay, KeepsList, StillMounts, ListStays, StillLive, StillClean, StandsEmpty, FormatsOrNot, StopsFormat, AreBytes, StandsAppended, AppendedOrNot, StopsAppend, StandsFresh, IsBare, WasNotDone, IsChanged}
 use Rattle.command_spec.specs.declared.status.Status.{Status}
 use Rattle.command_spec.specs.declared.words.Words.{Words}
 use Rattle.qic_base.proofs.Steps.{Done-nothing}
@@ -223,6 +224,27 @@ still_live told words held left (inr (command, spells, leaves)) c is live none =
 pub stays_live : {T : Type 0} (t : tapes.Meaning T) (told : Option (List ℕ)) (words : List (List ℕ)) (a b : T) → tapes.IsToldRight (t.told a) (t.size a) → EachLeft t a b (WordsLeave told words) → EachLeft t a b (StillLive words)
 stays_live t told words a b right leaves = each_weaker t a b right (λ held left whole is. still_live told words held left is) leaves
 
+-- ---- header copies
+
+still_clean : (told : Option (List ℕ)) (words : List (List ℕ)) (held left : Option Cartridge) → WordsLeave told words held left → StillClean words held left
+still_clean told words held left (inl same) = record {
+  clean = λ c area is is_area clean keep. some_and (λ d. HasCleanCopies d area) c left clean (same ∙ is);
+  bare = λ c is bare keep. some_and HasNoHeader c left bare (same ∙ is);
+}
+still_clean told words held left (inr (command, spells, leaves)) = record {
+  clean = λ c area is is_area clean keep.
+      copies_stay_clean command c leaves.input leaves.outcome area left (keep command spells)
+      (subst (λ (h : Option Cartridge). Yields command h leaves.input leaves.outcome) is leaves.plain) is_area clean
+      (subst (λ (h : Option Cartridge). Torn (steps_of leaves.outcome.acts) h left) is leaves.torn);
+  bare = λ c is bare keep.
+      copies_stay_bare command c leaves.input leaves.outcome left (keep command spells)
+      (subst (λ (h : Option Cartridge). Yields command h leaves.input leaves.outcome) is leaves.plain) bare
+      (subst (λ (h : Option Cartridge). Torn (steps_of leaves.outcome.acts) h left) is leaves.torn);
+}
+
+pub stays_clean : {T : Type 0} (t : tapes.Meaning T) (told : Option (List ℕ)) (words : List (List ℕ)) (a b : T) → tapes.IsToldRight (t.told a) (t.size a) → EachLeft t a b (WordsLeave told words) → EachLeft t a b (StillClean words)
+stays_clean t told words a b right leaves = each_weaker t a b right (λ held left whole is. still_clean told words held left is) leaves
+
 -- ---- formatting
 
 fresh_for : (c : Cartridge) (label : List ℕ) (date : ℕ) (words : List ℕ) (area : List (List ℕ)) → HasNoDefectInFront c → IsFreshWith c label date words area →
@@ -230,11 +252,11 @@ fresh_for : (c : Cartridge) (label : List ℕ) (date : ℕ) (words : List ℕ) (
 fresh_for c label date words area none fresh = record { fresh = fresh; front = none }
 
 format_standing : (label : List ℕ) (date : ℕ) (c : Cartridge) (plain : Plain) (left : Option Cartridge) → IsCartridge c → StandsCleanly c plain →
-    FormatLeaves label date (Some c) left → IsSomeAnd left (λ d. Stands d plain ⊎ IsUnformatted d ⊎ StandsEmpty c label date d)
+    FormatLeaves label date (Some c) left → IsSomeAnd left (λ d. StandsCleanly d plain ⊎ IsUnformatted d ⊎ StandsEmpty c label date d)
 format_standing label date c plain left whole stood (inl (locked, same)) =
-    some_and (λ d. Stands d plain ⊎ IsUnformatted d ⊎ StandsEmpty c label date d) c left (inl stood.stands) same
+    some_and (λ d. StandsCleanly d plain ⊎ IsUnformatted d ⊎ StandsEmpty c label date d) c left (inl stood) same
 format_standing label date c plain left whole stood (inr (inl (free, torn))) =
-    some_weaker left (λ d is. elim is [ inl stands ↦ inl stands | inr none ↦ inr (inl none) ])
+    some_weaker left (λ d is. elim is [ inl stands ↦ inl stands | inr none ↦ inr (inl (unformatted_from_bare d none)) ])
     (stopped_clearing c plain left whole stood torn)
 format_standing label date c plain left whole stood (inr (inr (free, none, (words, (area, fresh, torn))))) =
     let is_fresh : IsFreshFor c label date words area = fresh_for c label date words area none fresh in
@@ -251,7 +273,7 @@ format_bare : (label : List ℕ) (date : ℕ) (c : Cartridge) (left : Option Car
 format_bare label date c left whole bare unformatted (inl (locked, same)) =
     some_and (λ d. IsUnformatted d ⊎ StandsEmpty c label date d) c left (inl unformatted) same
 format_bare label date c left whole bare unformatted (inr (inl (free, torn))) =
-    some_weaker left (λ d is. inl is) (stopped_clearing_new c left whole bare torn)
+    some_weaker left (λ d is. inl (unformatted_from_bare d is)) (stopped_clearing_new c left whole bare torn)
 format_bare label date c left whole bare unformatted (inr (inr (free, none, (words, (area, fresh, torn))))) =
     let is_fresh : IsFreshFor c label date words area = fresh_for c label date words area none fresh in
     some_weaker left
@@ -276,7 +298,7 @@ formats_or_not : (told : Option (List ℕ)) (words : List (List ℕ)) (held left
 formats_or_not told words held left whole leaves = record {
   standing = λ label date c plain spells is stood.
       elim (left_by_format told words held left label date c spells is leaves) [
-        | inl same ↦ some_and (λ d. Stands d plain ⊎ IsUnformatted d ⊎ StandsEmpty c label date d) c left (inl stood.stands) same
+        | inl same ↦ some_and (λ d. StandsCleanly d plain ⊎ IsUnformatted d ⊎ StandsEmpty c label date d) c left (inl stood) same
         | inr formatting ↦ format_standing label date c plain left (whole_of held c whole is) stood formatting
       ];
   bare = λ label date c spells is none.

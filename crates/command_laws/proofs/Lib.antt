@@ -1,5 +1,6 @@
 pub mod CommandAdded
 pub mod CommandAppends
+pub mod CommandClean
 pub mod CommandComplete
 pub mod CommandCompleting
 pub mod CommandEndings

@@ -96,7 +96,7 @@ forced c area (inl first) = first.signature
 forced c area (inr second) = second.1.signature
 
 -- a map has a word for each segment
-mounted_last : (c : Cartridge) (area : List (List ℕ)) (header : Header) (words : List ℕ) → IsFormatted c area header words → length words - 1 ≡ last_segment c
+pub mounted_last : (c : Cartridge) (area : List (List ℕ)) (header : Header) (words : List ℕ) → IsFormatted c area header words → length words - 1 ≡ last_segment c
 mounted_last c area header words formatted =
     let n : ℕ = c.info.segments_per_track in
     let there : number_in area 24 2 ≡ header.segments_per_track = formatted.shown.header 2 (number 24 2 0) (omega arith) in

@@ -42,7 +42,7 @@ stopped_scrub_stands c plain acts left stood scrubs torn =
 
 -- ---- header copies
 
-clean_copy : (looked : List Looked) (c d : Cartridge) (copy : ℕ) (area : List (List ℕ)) → copy < 2 → Rise looked →
+pub clean_copy : (looked : List Looked) (c d : Cartridge) (copy : ℕ) (area : List (List ℕ)) → copy < 2 → Rise looked →
     Contains looked (whole_segment copy) →
     IsBeingMended looked c d → IsArea area → IsCleanCopy c copy area → IsCleanCopy d copy area
 clean_copy looked c d copy area small rise among way is_area (inl written) =
@@ -75,7 +75,7 @@ stopped_scrub_is_clean c plain acts left clean scrubs torn =
 
 -- ---- mounting
 
-mounted_order : (c : Cartridge) (header : Header) (words : List ℕ) (area : List (List ℕ)) (entries : List Entry) →
+pub mounted_order : (c : Cartridge) (header : Header) (words : List ℕ) (area : List (List ℕ)) (entries : List Entry) →
     IsMounted c header words area entries →
     IsSoundList (last_segment c) entries
 mounted_order c header words area entries mounted = faultless_is_sound area (last_segment c) entries mounted.sound mounted.shown

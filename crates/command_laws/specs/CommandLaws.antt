@@ -1,13 +1,17 @@
 -- The laws of the plain machine, as facts (this project's own).
-use Rattle.std.specs.Prelude.{◌≡◌, ◌≢◌, ℕ, List, Option, IfSome}
+use Rattle.std.specs.Prelude.{◌≡◌, ◌≢◌, ℕ, List, Option, Some, IfSome, IsSomeAnd}
 use Rattle.cartridge_laws.specs.ChangeSteps.{HasNoRenew}
+use Rattle.cartridge_spec.specs.Formatting.{HasCleanCopies, HasNoHeader}
+use Rattle.cartridge_spec.specs.HeaderAndTable.{IsArea}
 use Rattle.command_spec.specs.Complete.{CanBeDone}
 use Rattle.command_spec.specs.Machine.{Step, Yields, HasValues}
 use Rattle.command_spec.specs.Outcome.{CommandOutcome}
+use Rattle.command_spec.specs.Volumes.{KeepsCopies}
 use Rattle.command_spec.specs.declared.status.Status.{Status}
 use Rattle.command_spec.specs.declared.words.Words.{Words}
 use Rattle.qic_base.specs.Acts.{steps_of}
 use Rattle.qic_base.specs.Cartridge.{Cartridge, IsCartridge}
+use Rattle.qic_base.specs.Stop.{Torn}
 use Rattle.command_spec.specs.declared.status.Status.TheVariants as status
 use Rattle.command_spec.specs.declared.words.Words.TheVariants as commands
 
@@ -50,3 +54,18 @@ abbrev pub OnlyNewRenews : Type 0
 OnlyNewRenews =
     (command : Words) (held : Option Cartridge) (input : List ℕ) (outcome : CommandOutcome) →
     ((segments : ℕ) → command ≢ commands.New segments) → Yields command held input outcome → HasNoRenew (steps_of outcome.acts)
+
+-- ---- header copies
+
+-- clean ones stay clean at any moment of a command but `new` and `format`, ..
+abbrev pub CopiesStayClean : Type 0
+CopiesStayClean =
+    (command : Words) (c : Cartridge) (input : List ℕ) (outcome : CommandOutcome) (area : List (List ℕ)) (left : Option Cartridge) →
+    KeepsCopies command c → Yields command (Some c) input outcome → IsArea area → HasCleanCopies c area →
+    Torn (steps_of outcome.acts) (Some c) left → IsSomeAnd left (λ d. HasCleanCopies d area)
+
+-- .. and bare ones bare
+abbrev pub CopiesStayBare : Type 0
+CopiesStayBare =
+    (command : Words) (c : Cartridge) (input : List ℕ) (outcome : CommandOutcome) (left : Option Cartridge) → KeepsCopies command c →
+    Yields command (Some c) input outcome → HasNoHeader c → Torn (steps_of outcome.acts) (Some c) left → IsSomeAnd left HasNoHeader

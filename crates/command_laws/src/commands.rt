@@ -1,6 +1,6 @@
 //! Laws of the plain machine. Each is the contract of a function that does nothing.
 
-ghost use Rattle.command_laws.specs.CommandLaws.{MachineIsFunction, MachineAnswers, OneOutcome, DoneWhereAllIsThere, OnlyNewRenews};
+ghost use Rattle.command_laws.specs.CommandLaws.{MachineIsFunction, MachineAnswers, OneOutcome, DoneWhereAllIsThere, OnlyNewRenews, CopiesStayClean, CopiesStayBare};
 
 /// Words, what the drive holds and the input determine what is held then, the output, the bytes taken and the status.
 pub fn machine_is_function()
@@ -26,4 +26,11 @@ pub fn a_command_with_its_needs_is_done()
 /// No command but `new` puts in a new cartridge.
 pub fn only_new_puts_in_a_cartridge()
     ensures { OnlyNewRenews }
+{}
+
+/// Header copies that formatting may begin over, clean or bare ones, stay so at any moment of a command but `new` and
+/// `format`.
+pub fn header_copies_stay()
+    ensures clean { CopiesStayClean }
+    ensures bare { CopiesStayBare }
 {}

@@ -7,7 +7,7 @@ use Rattle.command_spec.specs.Machine.{Spells, SpellsNone}
 use Rattle.command_spec.specs.OneLoss.{SurvivesOneLoss}
 use Rattle.command_spec.specs.Runs.{OverTold, is_fault, fault_of, is_outcome, may_come_from}
 use Rattle.command_spec.specs.Several.{MakesVolumes, CarriesOutLines}
-use Rattle.command_spec.specs.Volumes.{VolumesStay, ListStays, StillLive, StopsFormat, StopsAppend, IsChanged, GivesBack}
+use Rattle.command_spec.specs.Volumes.{VolumesStay, ListStays, StillLive, StillClean, StopsFormat, StopsAppend, IsChanged, GivesBack}
 use Rattle.command_spec.specs.declared.status.Status.{Status}
 use Rattle.command_spec.specs.declared.words.Words.{Words}
 use Rattle.qic_base.specs.Acts.{Outside, Failing, FailingRose}
@@ -37,10 +37,14 @@ pub record Promises {T S K : Type 0} (t : tapes.Meaning T) (s : sources.Meaning 
   -- one's list.
   pub volumes : VolumesStay t words old.tape new.tape
   pub lists : ListStays t words old.tape new.tape
-  -- Where each sector of the table's segment takes a write, so it is of each cartridge so left, but for `new`: what the clauses on
-  -- `append`, `make` and `script` ask for goes on from run to run.
+  -- Where each sector of the table's segment takes a write, each does so in each cartridge so left, but for `new`: what the clauses
+  -- on `append`, `make` and `script` ask for goes on from run to run.
   pub live : EachLeft t old.tape new.tape (StillLive words)
-  -- Formatting a cartridge with clean header copies leaves that, or an unformatted one, or the empty one; appending leaves what
+  -- Where the header copies were clean, or both bare, so they are in each cartridge so left, but for `new`, and for `format` of one
+  -- that is not protected: what the clause on `format` asks for goes on, too. A `format` that is stopped while it writes the header
+  -- copies may leave some that are neither.
+  pub clean : EachLeft t old.tape new.tape (StillClean words)
+  -- Formatting a cartridge with clean header copies leaves that so, or an unformatted one, or the empty one; appending leaves what
   -- stood, or that with the volume of the input.
   pub formats : StopsFormat t words old.tape new.tape
   pub appends : StopsAppend t (s.left old.source) words old.tape new.tape

@@ -2,9 +2,9 @@
 -- is mounted with, and of the sectors of its table's segment (this project's own).
 use Rattle.std.specs.Prelude.{◌≡◌, true, ℕ, List, Option, Some, IsSomeAnd, ◌≤◌, ◌⊎◌, IfSome, ◌<◌, All, suc, slice_get, ◌≢◌, false, take}
 use Rattle.cartridge_spec.specs.Appending.{new_plain, volume_bytes}
-use Rattle.cartridge_spec.specs.Formatting.{IsFreshFor, fresh_plain, StandsCleanly, HasNoHeader}
+use Rattle.cartridge_spec.specs.Formatting.{IsFreshFor, fresh_plain, StandsCleanly, HasNoHeader, HasCleanCopies}
 use Rattle.cartridge_spec.specs.Header.{Header}
-use Rattle.cartridge_spec.specs.HeaderAndTable.{IsUnformatted}
+use Rattle.cartridge_spec.specs.HeaderAndTable.{IsUnformatted, IsArea}
 use Rattle.cartridge_spec.specs.Mounting.{Mounted, Mounts, IsTableLive, CanBeRead}
 use Rattle.cartridge_spec.specs.Says.{unreadable_count}
 use Rattle.cartridge_spec.specs.Table.{Entry}
@@ -85,6 +85,23 @@ StillLive words held left =
     (c : Cartridge) → held ≡ Some c → IsTableLive c → ((segments : ℕ) → ¬ (Spells words (commands.New segments))) →
     IsSomeAnd left IsTableLive
 
+-- ---- header copies
+
+-- The command leaves the header. A new cartridge has none, and formatting writes one, but for a protected cartridge.
+abbrev pub KeepsCopies : Words → Cartridge → Type 0
+KeepsCopies (commands.New segments) c = ⊥
+KeepsCopies (commands.Format label date) c = c.info.protected ≡ true
+KeepsCopies command c = Unit {0}
+
+abbrev pub WordsKeepCopies : List (List ℕ) → Cartridge → Type 0
+WordsKeepCopies words c = (command : Words) → Spells words command → KeepsCopies command c
+
+-- Header copies that were clean are so in what is left, with the same data; and where both were bare, both are.
+pub record StillClean (words : List (List ℕ)) (held left : Option Cartridge) : Type 0 where
+  pub clean : (c : Cartridge) (area : List (List ℕ)) → held ≡ Some c → IsArea area → HasCleanCopies c area → WordsKeepCopies words c →
+      IsSomeAnd left (λ d. HasCleanCopies d area)
+  pub bare : (c : Cartridge) → held ≡ Some c → HasNoHeader c → WordsKeepCopies words c → IsSomeAnd left HasNoHeader
+
 -- ---- formatting
 
 -- a cartridge stands for the empty plain one with the label and the date word, whose map marks the defects of the old
@@ -96,13 +113,13 @@ pub record StandsEmpty (c : Cartridge) (label : List ℕ) (date : ℕ) (d : Cart
   pub stands : Stands d (fresh_plain c label date words area)
   pub live : IsTableLive d
 
--- What words of formatting leave of a cartridge that stood for a plain one, with clean header copies: it stands for that,
+-- What words of formatting leave of a cartridge that stood for a plain one, with clean header copies: it stands for that so,
 -- or is unformatted, or stands for the empty one. Where both header copies were bare, it is unformatted or stands for the
--- empty one.
+-- empty one. Behind a stop while they are written, header copies may be neither clean nor bare.
 pub record FormatsOrNot (words : List (List ℕ)) (held left : Option Cartridge) : Type 0 where
   pub standing : (label : List ℕ) (date : ℕ) (c : Cartridge) (plain : Plain) → Spells words (commands.Format label date) →
       held ≡ Some c → StandsCleanly c plain →
-      IsSomeAnd left (λ d. Stands d plain ⊎ IsUnformatted d ⊎ StandsEmpty c label date d)
+      IsSomeAnd left (λ d. StandsCleanly d plain ⊎ IsUnformatted d ⊎ StandsEmpty c label date d)
   pub bare : (label : List ℕ) (date : ℕ) (c : Cartridge) → Spells words (commands.Format label date) →
       held ≡ Some c → HasNoHeader c →
       IsSomeAnd left (λ d. IsUnformatted d ⊎ StandsEmpty c label date d)
