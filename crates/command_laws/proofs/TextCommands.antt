@@ -1,12 +1,12 @@
 -- The forms of commands.
-use Rattle.std.proofs.Common.{inl, inr, ℕ, List, [], ◌∷◌, ◌≡◌, ◌⊎◌, zero, suc, ◌+◌, ◌==◌, false, ◌++◌, refl, arith, ◌-◌, ap, ◌∙◌, ◌*◌, get_or, ◌/◌, ◌%◌, sym, codes, if◌then◌else◌, true}
+use Rattle.std.proofs.Common.{inl, inr, ℕ, List, [], ◌∷◌, ◌≡◌, ◌⊎◌, zero, suc, ◌+◌, ◌==◌, false, ◌++◌, refl, arith, ◌-◌, ap, ◌∙◌, ◌*◌, get_or, ◌/◌, ◌%◌, sym, codes, if◌then◌else◌, true, subst}
 use Rattle.std.proofs.lemmas.Bool.Decides.{nat_tests}
 use Rattle.std.specs.Str.Parse.{digits_value}
 use Rattle.std.proofs.lemmas.Fmt.{decimal_is_IsNumeral}
 use Rattle.std.specs.Str.{bytes_eq}
 use Rattle.command_laws.proofs.TextDates.{HasPair, fields_of}
-use Rattle.command_laws.specs.TextWords.{OneCommand}
-use Rattle.command_spec.specs.CommandWords.{Part, SpellsAll, HasForm, Date, dated, SpellsPart, IsNumber, IsDateWord, IsCommand}
+use Rattle.command_laws.specs.TextWords.{OneCommand, IsNoCommand}
+use Rattle.command_spec.specs.CommandWords.{Part, SpellsAll, HasForm, Date, dated, SpellsPart, IsNumber, IsDateWord, IsCommand, Word, Name}
 use Rattle.command_spec.specs.declared.words.Words.{Words}
 use Rattle.qic_base.specs.Date.{date_word}
 use Rattle.qic_base.specs.Name.{filled}
@@ -136,3 +136,25 @@ guess_is ws (words.Make seed count) h =
 
 pub one_command : OneCommand
 one_command ws a b first next = sym (guess_is ws a first) ∙ guess_is ws b next
+
+-- ---- words with a date that is none
+
+pub no_dated_format : (label date : List ℕ) → ((n : ℕ) → IsDateWord date n → ⊥) → IsNoCommand (codes "format" ∷ label ∷ date ∷ [])
+unfolding guess
+no_dated_format label date none command h =
+    let is : words.Format (filled label) (date_value date) ≡ command = guess_is (codes "format" ∷ label ∷ date ∷ []) command h in
+    let P : Words → Type 0 = λ c. IsCommand (codes "format" ∷ label ∷ date ∷ []) c in
+    elim (dated_cases (codes "format" ∷ label ∷ date ∷ []) (Word (codes "format") ∷ Name (filled label) ∷ []) (date_value date) (subst P (sym is) h)) [
+      | inl full ↦ none (date_value date) full.1.1.0
+      | inr bare ↦ absurd bare.0.1.1
+    ]
+
+pub no_dated_append : (name date : List ℕ) → ((n : ℕ) → IsDateWord date n → ⊥) → IsNoCommand (codes "append" ∷ name ∷ date ∷ [])
+unfolding guess
+no_dated_append name date none command h =
+    let is : words.Append (filled name) (date_value date) ≡ command = guess_is (codes "append" ∷ name ∷ date ∷ []) command h in
+    let P : Words → Type 0 = λ c. IsCommand (codes "append" ∷ name ∷ date ∷ []) c in
+    elim (dated_cases (codes "append" ∷ name ∷ date ∷ []) (Word (codes "append") ∷ Name (filled name) ∷ []) (date_value date) (subst P (sym is) h)) [
+      | inl full ↦ none (date_value date) full.1.1.0
+      | inr bare ↦ absurd bare.0.1.1
+    ]

@@ -1,9 +1,9 @@
 -- The forms of a script's lines, and the items that they begin.
-use Rattle.std.proofs.Common.{◌≡◌, ℕ, List, [], ◌∷◌, refl, codes, if◌then◌else◌, inl, inr, length, ap, sym, ◌∙◌}
+use Rattle.std.proofs.Common.{◌≡◌, ℕ, List, [], ◌∷◌, refl, codes, if◌then◌else◌, inl, inr, length, ap, sym, ◌∙◌, subst}
 use Rattle.std.specs.Str.{bytes_eq}
 use Rattle.command_laws.proofs.TextCommands.{number_value, date_value, only, dated_cases, one_word, two_words, three_words, IsNumber-value, IsDateWord-value}
 use Rattle.command_laws.specs.TextInput.{OneLine}
-use Rattle.command_spec.specs.CommandWords.{Part, SpellsPart, SpellsAll}
+use Rattle.command_spec.specs.CommandWords.{Part, SpellsPart, SpellsAll, Word, Name, IsDateWord, AnyNumber}
 use Rattle.command_spec.specs.Input.{HasLineForm}
 use Rattle.command_spec.specs.declared.line.Line.{Line}
 use Rattle.qic_base.specs.Name.{filled}
@@ -55,3 +55,14 @@ guess_is ws line.End h = let s = one_word ws _ (only ws _ h) in rw (s.are, s.one
 
 pub one_line : OneLine
 one_line ws a b first next = sym (guess_is ws a first) ∙ guess_is ws b next
+
+-- a line with a date that is none
+pub no_dated_line : (name length date : List ℕ) → ((n : ℕ) → IsDateWord date n → ⊥) → (l : Line) → HasLineForm (codes "append" ∷ name ∷ length ∷ date ∷ []) l → ⊥
+unfolding guess
+no_dated_line name length date none l h =
+    let is : line.Append (filled name) (number_value length) (date_value date) ≡ l = guess_is (codes "append" ∷ name ∷ length ∷ date ∷ []) l h in
+    let P : Line → Type 0 = λ x. HasLineForm (codes "append" ∷ name ∷ length ∷ date ∷ []) x in
+    elim (dated_cases (codes "append" ∷ name ∷ length ∷ date ∷ []) (Word (codes "append") ∷ Name (filled name) ∷ AnyNumber (number_value length) ∷ []) (date_value date) (subst P (sym is) h)) [
+      | inl full ↦ none (date_value date) full.1.1.1.0
+      | inr bare ↦ absurd bare.0.1.1.1
+    ]

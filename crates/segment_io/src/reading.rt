@@ -83,7 +83,7 @@ struct Found {
 
 impl Found {
     /// Reads the sector with this index into its place, where it is usable.
-    #[tactic(auto, using(cartridge_spec::proofs::Places::count_below))]
+    #[tactic(auto, using(cartridge_laws::proofs::Places::count_below))]
     fn read<T: Tape>(
         &mut self,
         host: &mut Host,

@@ -95,7 +95,7 @@ fn write_by_register<T: Tape>(
 }
 
 /// Writes the sector with this index from its place, where it is usable.
-#[tactic(auto, using(cartridge_spec::proofs::Places::count_below))]
+#[tactic(auto, using(cartridge_laws::proofs::Places::count_below))]
 fn write_next<T: Tape>(
     host: &mut Host,
     unit: &mut Unit<T>,
@@ -185,7 +185,7 @@ pub fn write_sectors<T: Tape>(
 }
 
 /// Writes the sector with this index from its place, where it is usable and the set has that place.
-#[tactic(auto, using(cartridge_spec::proofs::Places::count_below))]
+#[tactic(auto, using(cartridge_laws::proofs::Places::count_below))]
 fn write_usable<T: Tape>(
     host: &mut Host,
     unit: &mut Unit<T>,

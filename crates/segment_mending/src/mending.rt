@@ -59,7 +59,7 @@ fn write_lost<T: Tape>(
 }
 
 /// Mends a segment that reads, and counts it.
-#[tactic(auto, using(cartridge_spec::proofs::Places::count_below))]
+#[tactic(auto, using(cartridge_laws::proofs::Places::count_below))]
 pub(crate) fn mend<T: Tape>(
     host: &mut Host,
     unit: &mut Unit<T>,

@@ -1,10 +1,8 @@
 -- The forms of commands.
-use Rattle.std.proofs.Common.{◌≡◌, ℕ, suc, List, [], ◌∷◌, length, refl, ap, inl, inr, ◌≤◌, arith, true, false, codes, sym, subst}
-use Rattle.command_laws.proofs.TextCommands.{dated_cases, only, date_value, guess, guess_is}
-use Rattle.command_laws.specs.TextWords.{IsNoCommand}
-use Rattle.command_spec.specs.CommandWords.{Part, SpellsAll, HasForm, dated, IsCommand, Word, Name, IsDateWord}
+use Rattle.std.proofs.Common.{◌≡◌, ℕ, suc, List, [], ◌∷◌, length, refl, ap, inl, inr, ◌≤◌, arith, true, false}
+use Rattle.command_laws.proofs.TextCommands.{dated_cases, only}
+use Rattle.command_spec.specs.CommandWords.{Part, SpellsAll, HasForm, dated, IsCommand}
 use Rattle.command_spec.specs.declared.words.Words.{Words}
-use Rattle.qic_base.specs.Name.{filled}
 use Rattle.command_spec.specs.declared.words.Words.TheVariants as words
 
 -- ---- forms
@@ -38,25 +36,3 @@ command_length ws words.Scrub h = let l = spelled_length ws _ (only ws _ h) in (
 command_length ws words.Pulses h = let l = spelled_length ws _ (only ws _ h) in (omega arith, omega arith)
 command_length ws words.Script h = let l = spelled_length ws _ (only ws _ h) in (omega arith, omega arith)
 command_length ws (words.Make seed count) h = let l = spelled_length ws _ (only ws _ h) in (omega arith, omega arith)
-
--- ---- words with a date that is none
-
-pub no_dated_format : (label date : List ℕ) → ((n : ℕ) → IsDateWord date n → ⊥) → IsNoCommand (codes "format" ∷ label ∷ date ∷ [])
-unfolding guess
-no_dated_format label date none command h =
-    let is : words.Format (filled label) (date_value date) ≡ command = guess_is (codes "format" ∷ label ∷ date ∷ []) command h in
-    let P : Words → Type 0 = λ c. IsCommand (codes "format" ∷ label ∷ date ∷ []) c in
-    elim (dated_cases (codes "format" ∷ label ∷ date ∷ []) (Word (codes "format") ∷ Name (filled label) ∷ []) (date_value date) (subst P (sym is) h)) [
-      | inl full ↦ none (date_value date) full.1.1.0
-      | inr bare ↦ absurd bare.0.1.1
-    ]
-
-pub no_dated_append : (name date : List ℕ) → ((n : ℕ) → IsDateWord date n → ⊥) → IsNoCommand (codes "append" ∷ name ∷ date ∷ [])
-unfolding guess
-no_dated_append name date none command h =
-    let is : words.Append (filled name) (date_value date) ≡ command = guess_is (codes "append" ∷ name ∷ date ∷ []) command h in
-    let P : Words → Type 0 = λ c. IsCommand (codes "append" ∷ name ∷ date ∷ []) c in
-    elim (dated_cases (codes "append" ∷ name ∷ date ∷ []) (Word (codes "append") ∷ Name (filled name) ∷ []) (date_value date) (subst P (sym is) h)) [
-      | inl full ↦ none (date_value date) full.1.1.0
-      | inr bare ↦ absurd bare.0.1.1
-    ]

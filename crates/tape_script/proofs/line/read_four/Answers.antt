@@ -1,5 +1,5 @@
 use Rattle.std.proofs.Common.{refl}
-use Rattle.tape_script.proofs.Lines.{no_dated_line}
+use Rattle.command_laws.proofs.TextLines.{no_dated_line}
 use Rattle.tape_script.proofs.line.read_four.Goals as goal
 
 pub returns-in_err-date : goal.returns-in_err-date
