@@ -1,6 +1,6 @@
 //! A disk of which one byte can't be read.
 
-ghost use Rattle.std.specs.Prelude.{◌≡◌, ◌≤◌};
+ghost use Rattle.std.specs.Prelude.{◌≡◌, ◌≤◌, false};
 ghost use Rattle.qic_base.specs.Cause.{Rose};
 
 use qic_base::{Disk, DiskFailed};
@@ -15,16 +15,17 @@ pub struct Scratched {
 }
 
 impl Model for Scratched {
+    ghost use Rattle.std.specs.Prelude.{ℕ, false};
     ghost use Rattle.tape_files.specs.Edge.{FileState};
 
-    ghost Value = { FileState };
+    ghost Value = { FileState ℕ };
 
-    ghost view = { λ d. record { seen = d.seen; faults = d.faults } };
+    ghost view = { λ d. record { file = d.bad; resized = false; seen = d.seen; faults = d.faults } };
 }
 
 impl Scratched {
     pub fn new(bad: u64) -> Scratched
-        ensures { result ≡ record { seen = 0; faults = 0 } }
+        ensures { result ≡ record { file = bad; resized = false; seen = 0; faults = 0 } }
     {
         Scratched {
             bad,
