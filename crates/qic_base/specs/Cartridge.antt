@@ -41,7 +41,7 @@ pub record IsVersion (version : ℕ) : Type 0 where
 
 -- the version of a new cartridge
 abbrev pub new_version : ℕ
-new_version = 1
+new_version = 2
 
 -- 28 tracks of 32 sectors a segment: 896 sectors for each segment per track (QIC-80-MC)
 pub record IsCartridge (c : Cartridge) : Type 0 where

@@ -18,7 +18,7 @@ pub record Meaning (S : Type 0) : Type 1 where
   -- None: the tape doesn't tell its cartridge; Some None: there is no cartridge
   pub told : S → Option (Option Cartridge)
   -- the segments per track that the last `info` that succeeded, or the last `renew`, told: none where that was no
-  -- cartridge or a `renew` that failed, and none at first
+  -- cartridge or a `renew` that failed, where an `upgrade` failed since, and none at first
   pub size : S → Option ℕ
   pub faults : S → ℕ
   -- whether the tape tells what a stop leaves

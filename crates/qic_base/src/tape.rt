@@ -2,8 +2,8 @@
 
 ghost use Rattle.std.specs.Prelude.{◌≡◌, ◌≢◌, ◌<◌, [], ◌∷◌, None, Some, IfOk, IfSome, IsSome, OnErr, OnOk};
 ghost use Rattle.std.specs.Option.{option_map};
-ghost use Rattle.qic_base.specs.Cartridge.{IsLength, view_at};
-ghost use Rattle.qic_base.specs.Step.{WriteSector, FormatSegment, SetReferenced, SetProtected, Renew, Wear, Spoil};
+ghost use Rattle.qic_base.specs.Cartridge.{IsLength, IsVersion, view_at};
+ghost use Rattle.qic_base.specs.Step.{WriteSector, FormatSegment, SetReferenced, SetProtected, Renew, Wear, Spoil, Upgrade};
 ghost use Rattle.qic_base.specs.Tape.{Meaning, Does, Tells, IsPlaceOf, IsToldRight, IsLeftNow, Reads, write_answer, spoil_answer};
 
 /// A call of a tape failed.
@@ -123,6 +123,16 @@ pub trait Tape {
         ensures answer { IfOk result (λ answer. Tells means self.old (λ c.
             answer ≡ spoil_answer (view_at c segment sector))) }
         ensures size { means.size self.new ≡ means.size self.old };
+
+    /// Has the cartridge kept in the newest layout. Answers the version of the layout before, 1 or 2. A call that fails
+    /// leaves it in one of the two, whole.
+    fn upgrade(&mut self) -> Result<u8, TapeFailed>
+        requires { IsSome (means.size self.old) }
+        ensures did { Does means self.old self.new (Upgrade ∷ []) result }
+        ensures answer { IfOk result (λ version. Tells means self.old (λ c. version ≡ c.version)) }
+        ensures version { IfOk result (λ version. IsVersion version) }
+        ensures size { OnOk result (means.size self.new ≡ means.size self.old) }
+        ensures failed { OnErr result (means.size self.new ≡ None) };
 
     /// The size is a number of segments per track.
     ghost size_fits: { (s : Self) → IfSome (means.size s) IsLength };
