@@ -12,7 +12,7 @@ use Rattle.cartridge_laws.proofs.MountKeeping.{stopped_stands, stopped_mounts}
 use Rattle.cartridge_laws.proofs.MountOnce.{mounts_is_function}
 use Rattle.cartridge_laws.proofs.MountSettled.{settled_stands, settled_mounts}
 use Rattle.cartridge_laws.proofs.MountStanding.{standing_mounts_only_so}
-use Rattle.cartridge_spec.specs.Appending.{new_plain}
+use Rattle.cartridge_spec.specs.Appending.{with_bytes}
 use Rattle.cartridge_spec.specs.Formatting.{HasNoDefectInFront, IsFreshFor, IsFreshWith, StandsCleanly, HasNoHeader, HasCleanCopies, format_steps, clearing_steps}
 use Rattle.cartridge_spec.specs.Header.{Header}
 use Rattle.cartridge_spec.specs.HeaderAndTable.{IsUnformatted}
@@ -517,7 +517,7 @@ is_changed t s k words command old new answer laws spelled values ends = record 
       let known : HasValues other = subst HasValues same values in
       let d : Did t (s.left old.source) other old.tape new.tape (Some c) status.Done =
       carried_out_did t s k other old new answer (Some c) whole known refl told which (subst (λ (w : Words). CommandEnds t s k w old new answer) same ends) in
-      let left : IsSomeAnd (effects (steps_of d.outcome.acts) (Some c)) (λ e. Stands e (new_plain c plain name date d.input)) =
+      let left : IsSomeAnd (effects (steps_of d.outcome.acts) (Some c)) (λ e. Stands e (with_bytes plain name date d.input)) =
       append_done name date d.input c plain d.outcome known.0 known.1 (of_bytes (s.left old.source) d.input bytes d.is_told (d.bytes refl)) whole stood d.plain d.sound in
       now_weaker t old.tape new.tape
       (λ l is. subst (λ (o : Option Cartridge). IsSomeAnd o (StandsAppended (s.left old.source) name date c plain)) (sym is)

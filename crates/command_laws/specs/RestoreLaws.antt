@@ -1,7 +1,7 @@
 -- What the restoring of a volume gives, as facts.
 use Rattle.std.specs.Prelude.{◌≡◌, ℕ, List, [], length, ◌≤◌, All, take, Contains, ◌⊎◌}
 use Rattle.cartridge_laws.specs.AppendSettled.{MayAppendTo, IsSettledFor}
-use Rattle.cartridge_spec.specs.Appending.{volume_bytes, volume_of, new_plain}
+use Rattle.cartridge_spec.specs.Appending.{volume_bytes, with_bytes, appended_volume}
 use Rattle.cartridge_spec.specs.Says.{unreadable_count}
 use Rattle.cartridge_spec.specs.Settling.{changed_by}
 use Rattle.cartridge_spec.specs.Table.{Entry}
@@ -115,7 +115,7 @@ abbrev pub AppendedIsAmong : Type 0
 AppendedIsAmong =
     (c : Cartridge) (plain : Plain) (name : List ℕ) (date : ℕ) (bytes : List ℕ) → MayAppendTo c plain name date bytes →
     IsSettledFor c plain.table_area →
-    HasVolume (changed_by (appends.append_steps_of c plain name date bytes) c) (new_plain c plain name date bytes) (volume_of c plain name date bytes)
+    HasVolume (changed_by (appends.append_steps_of plain name date bytes) c) (with_bytes plain name date bytes) (appended_volume plain name date bytes)
 
 -- as long as it is, on the same map, and each of its segments has at most three unreadable sectors, a restore gives just the
 -- bytes that were appended
@@ -123,7 +123,7 @@ abbrev pub AppendedIsRestored : Type 0
 AppendedIsRestored =
     (c : Cartridge) (plain : Plain) (name : List ℕ) (date : ℕ) (bytes : List ℕ) → MayAppendTo c plain name date bytes →
     (later : Cartridge) (stood : Plain) (acts : List Act) (ending : GivingEnd) → stood.words ≡ plain.words →
-    HasVolume later stood (volume_of c plain name date bytes) →
-    All (LosesFew later stood.words) (pieces_in stood (volume_of c plain name date bytes)) →
-    Restores later stood.words (pieces_in stood (volume_of c plain name date bytes)) acts ending →
+    HasVolume later stood (appended_volume plain name date bytes) →
+    All (LosesFew later stood.words) (pieces_in stood (appended_volume plain name date bytes)) →
+    Restores later stood.words (pieces_in stood (appended_volume plain name date bytes)) acts ending →
     (ending ≡ Restored) × (text_of acts ≡ bytes)

@@ -2,9 +2,8 @@
 use Rattle.std.specs.Prelude.{◌≡◌, false, ℕ, true, List, length, All, ◌⊎◌, Option, IsSomeAnd}
 use Rattle.cartridge_spec.specs.Appending.{has_room}
 use Rattle.cartridge_spec.specs.Formatting.{HasNoDefectInFront}
-use Rattle.cartridge_spec.specs.HeaderAndTable.{last_segment}
 use Rattle.cartridge_spec.specs.Mounting.{CanBeRead, settled}
-use Rattle.cartridge_spec.specs.Volumes.{Plain, Stands, entries_of, Volume}
+use Rattle.cartridge_spec.specs.Volumes.{Plain, Stands, Volume}
 use Rattle.command_spec.specs.Input.{AtEnd, AtStop, IsPulses, Item, IsScript}
 use Rattle.command_spec.specs.MadeVolumes.{HaveRoom, LoseFewBehind}
 use Rattle.command_spec.specs.Outcome.{HasPlace}
@@ -36,7 +35,7 @@ CanBeMounted c = (plain : Plain) × ReadsAs c plain
 pub record CanTake (c : Cartridge) (input : List ℕ) : Type 0 where
   pub plain : Plain
   pub mounts : ReadsAs c plain
-  pub room : has_room plain.words (entries_of plain) (last_segment c) (length input) ≡ true
+  pub room : has_room plain (length input) ≡ true
 
 -- there is a volume of this number, and no segment that holds some of its bytes has more than three unreadable sectors
 pub record CanGive (c : Cartridge) (number : ℕ) : Type 0 where

@@ -1,7 +1,7 @@
 -- What a run leaves of the plain cartridge that a cartridge stands for, with its header and its volumes, of the list that it
 -- is mounted with, and of the sectors of its table's segment (this project's own).
 use Rattle.std.specs.Prelude.{◌≡◌, true, ℕ, List, Option, Some, IsSomeAnd, ◌≤◌, ◌⊎◌, IfSome, ◌<◌, All, suc, slice_get, ◌≢◌, false, take}
-use Rattle.cartridge_spec.specs.Appending.{new_plain, volume_bytes}
+use Rattle.cartridge_spec.specs.Appending.{volume_bytes, with_bytes}
 use Rattle.cartridge_spec.specs.Formatting.{IsFreshFor, fresh_plain, StandsCleanly, HasNoHeader, HasCleanCopies}
 use Rattle.cartridge_spec.specs.Header.{Header}
 use Rattle.cartridge_spec.specs.HeaderAndTable.{IsUnformatted, IsArea}
@@ -138,7 +138,7 @@ IsInput told input = IfSome told (λ bytes. input ≡ bytes)
 pub record StandsAppended (told : Option (List ℕ)) (name : List ℕ) (date : ℕ) (c : Cartridge) (plain : Plain) (d : Cartridge) : Type 0 where
   pub input : List ℕ
   pub is_told : IsInput told input
-  pub stands : Stands d (new_plain c plain name date input)
+  pub stands : Stands d (with_bytes plain name date input)
 
 -- an input that is told is one of bytes
 abbrev pub AreBytes : (told : Option (List ℕ)) → Type 0
