@@ -4,7 +4,7 @@ ghost use Rattle.std.specs.Prelude.{◌≡◌, ◌≢◌, ◌⊎◌, ℕ, List, 
 ghost use Rattle.command_spec.specs.Machine.{HasValues, Spells, ReadsCommand};
 ghost use Rattle.command_spec.specs.Promises.{Promises};
 ghost use Rattle.command_spec.specs.Runs.{CommandEnds, EndsBlind};
-ghost use Rattle.command_spec.specs.Traits.{traits_of};
+ghost use Rattle.command_spec.specs.Commands.{traits_of};
 
 use crate::Status;
 use crate::append::append;
