@@ -21,7 +21,7 @@ use Rattle.cartridge_laws.specs.AppendLaws.{IsReadyFor, StoppedList, AppendedIsW
 use Rattle.cartridge_laws.specs.AppendSettled.{MayAppendTo, IsSettledFor, DoneIsSettledFor, DoneStands}
 use Rattle.cartridge_laws.specs.AppendSteps.{volume_writes, list_writes, append_steps}
 use Rattle.cartridge_laws.specs.Shape.{Carries}
-use Rattle.cartridge_spec.specs.Appending.{new_segments, appended_volume, last_end, with_volume}
+use Rattle.cartridge_spec.specs.Appending.{new_segments, appended_volume, last_end, with_bytes}
 use Rattle.cartridge_spec.specs.HeaderAndTable.{last_segment, table_cells, TableIs, IsArea}
 use Rattle.cartridge_spec.specs.Says.{Written, ReadsAll}
 use Rattle.cartridge_spec.specs.Settling.{changed_by}
@@ -104,7 +104,7 @@ stands_new : (c e : Cartridge) (plain : Plain) (name : List ℕ) (date : ℕ) (b
     IsKeptBut OfTable (changed_by (volume_writes plain bytes (appended_volume plain name date bytes)) c) e →
     Written (table_cells e) (new_table plain name date bytes)
     ⊎ ReadsAll (table_cells e) (new_table plain name date bytes) →
-    Stands e (with_volume plain (appended_volume plain name date bytes))
+    Stands e (with_bytes plain name date bytes)
 stands_new c e plain name date bytes ready next reads =
     let words : List ℕ = plain.words in
     let last : ℕ = last_segment c in
@@ -126,7 +126,7 @@ stands_new c e plain name date bytes ready next reads =
       areas = All-append (λ (v : Volume). All IsSector v.area) plain.volumes (volume ∷ []) stood.whole.areas
           (All-cons (λ (v : Volume). All IsSector v.area) volume []
           (are_sectors (sectors_in words (new_segments plain bytes)) bytes ready.content) (All-nil (λ (v : Volume). All IsSector v.area)));
-      sound = sound_is_faultless table last (entries_of (with_volume plain volume)) shows.2 shows.1;
+      sound = sound_is_faultless table last (entries_of (with_bytes plain name date bytes)) shows.2 shows.1;
       shown = shows.1;
       stand = volumes_kept d e words volumes (behind_table d e next)
           (All-append BeginsBehind plain.volumes (volume ∷ []) (begin_behind c plain stood) (All-cons BeginsBehind volume [] from (All-nil BeginsBehind)))
@@ -203,7 +203,7 @@ done_stands c plain name date bytes may known =
     let all : changed_by (append_steps plain bytes volume) c ≡ changed_by next d = changed_by-append first next c in
     let then : IsSettledFor (changed_by next d) (new_table plain name date bytes) =
     subst (λ (e : Cartridge). IsSettledFor e (new_table plain name date bytes)) all (done_is_settled_for c plain name date bytes may known) in
-    subst (λ (e : Cartridge). Stands e (with_volume plain volume)) (sym all)
+    subst (λ (e : Cartridge). Stands e (with_bytes plain name date bytes)) (sym all)
     (stands_new c (changed_by next d) plain name date bytes may
     (steps_kept OfTable next d (list_in plain volume (ready_count c plain name date bytes may)))
     (inl (live_written (changed_by next d) (new_table plain name date bytes) (done_table_shows c plain name date bytes may).0 then.live)))
@@ -226,7 +226,7 @@ pub record IsReadAs (d : Cartridge) (plain : Plain) : Type 0 where
 by_between : (c e : Cartridge) (plain : Plain) (name : List ℕ) (date : ℕ) (bytes : List ℕ) → IsReadyFor c plain name date bytes →
     IsKeptBut OfTable (changed_by (volume_writes plain bytes (appended_volume plain name date bytes)) c) e →
     Between e plain.table_area (new_table plain name date bytes) (slot_sector (length plain.volumes)) →
-    IsReadAs e plain ⊎ IsReadAs e (with_volume plain (appended_volume plain name date bytes))
+    IsReadAs e plain ⊎ IsReadAs e (with_bytes plain name date bytes)
 by_between c e plain name date bytes ready next between = by_state between
   where
     volume : Volume
@@ -251,7 +251,7 @@ by_between c e plain name date bytes ready next between = by_state between
     }
 
     by_state : Between e plain.table_area (new_table plain name date bytes) (slot_sector (length plain.volumes)) →
-        IsReadAs e plain ⊎ IsReadAs e (with_volume plain volume)
+        IsReadAs e plain ⊎ IsReadAs e (with_bytes plain name date bytes)
     by_state (inl whole) = inl (old (inr (data_read e plain.table_area area (λ i h. whole i (omega arith)))) (inl whole))
     by_state (inr (inl begun)) =
         inl (old (inl (begun_written e plain.table_area (slot_sector (length plain.volumes)) area begun)) (inr begun))
@@ -268,7 +268,7 @@ by_between c e plain name date bytes ready next between = by_state between
 pub stopped_reads : (c : Cartridge) (plain : Plain) (name : List ℕ) (date : ℕ) (bytes : List ℕ) (left : Option Cartridge) →
     IsReadyFor c plain name date bytes →
     Torn (append_steps plain bytes (appended_volume plain name date bytes)) (Some c) left →
-    IsSomeAnd left (λ d. IsReadAs d plain ⊎ IsReadAs d (with_volume plain (appended_volume plain name date bytes)))
+    IsSomeAnd left (λ d. IsReadAs d plain ⊎ IsReadAs d (with_bytes plain name date bytes))
 stopped_reads c plain name date bytes left ready torn =
     let volume : Volume = appended_volume plain name date bytes in
     let first : List Step = volume_writes plain bytes volume in

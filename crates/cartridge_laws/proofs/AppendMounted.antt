@@ -14,7 +14,7 @@ use Rattle.cartridge_laws.specs.AppendLaws.{AppendedMounts, StoppedAppendMounts,
 use Rattle.cartridge_laws.specs.AppendSettled.{DoneMounts, MayAppendTo, DoneIsClean, DoneTouchesOnly, FreeWritesLeaveSettled}
 use Rattle.cartridge_laws.specs.AppendSteps.{append_steps, volume_writes, list_writes, IsNamed}
 use Rattle.cartridge_laws.specs.AppendWrites.{KeepsTo, AreWrites, IsFree, IsOfSector}
-use Rattle.cartridge_spec.specs.Appending.{appended_volume, with_volume, new_segments, last_end, table_places}
+use Rattle.cartridge_spec.specs.Appending.{appended_volume, new_segments, last_end, table_places, with_bytes}
 use Rattle.cartridge_spec.specs.Formatting.{IsCleanCopy, StandsCleanly}
 use Rattle.cartridge_spec.specs.HeaderAndTable.{last_segment, copy_cells}
 use Rattle.cartridge_spec.specs.Mounting.{Mounts, mounted_as}
@@ -35,7 +35,7 @@ read_mounts d plain reads = standing_mounts d plain reads.stands (can_be_read d 
 pub done_mounts : DoneMounts
 done_mounts c plain name date bytes may known =
     let volume : Volume = appended_volume plain name date bytes in
-    read_mounts (changed_by (append_steps plain bytes volume) c) (with_volume plain volume) (record {
+    read_mounts (changed_by (append_steps plain bytes volume) c) (with_bytes plain name date bytes) (record {
       stands = done_stands c plain name date bytes may known;
       table = (done_is_settled_for c plain name date bytes may known).table;
     })
@@ -46,7 +46,7 @@ appended_mounts c plain name date bytes ready = done_mounts c plain name date by
 pub stopped_append_mounts : StoppedAppendMounts
 stopped_append_mounts c plain name date bytes left ready torn =
     let volume : Volume = appended_volume plain name date bytes in
-    some_weaker left (λ d known. either_of (read_mounts d plain) (read_mounts d (with_volume plain volume)) known)
+    some_weaker left (λ d known. either_of (read_mounts d plain) (read_mounts d (with_bytes plain name date bytes)) known)
     (stopped_reads c plain name date bytes left ready torn)
 
 -- ---- header copies
@@ -88,7 +88,7 @@ pub done_is_clean : DoneIsClean
 done_is_clean c plain name date bytes may known clean =
     let volume : Volume = appended_volume plain name date bytes in
     let steps : List Step = append_steps plain bytes volume in
-    clean_kept c (changed_by steps c) plain (with_volume plain volume) refl clean
+    clean_kept c (changed_by steps c) plain (with_bytes plain name date bytes) refl clean
     (steps_kept BehindCopies steps c (append_in c plain name date bytes may)) (done_stands c plain name date bytes may known)
 
 pub appended_is_clean : AppendedIsClean
@@ -99,8 +99,8 @@ stopped_append_is_clean c plain name date bytes left ready clean torn =
     let volume : Volume = appended_volume plain name date bytes in
     let steps : List Step = append_steps plain bytes volume in
     some_weaker left (λ d known.
-    either_of (clean_kept c d plain plain refl clean known.0) (clean_kept c d plain (with_volume plain volume) refl clean known.0) known.1)
-    (some_both (IsKeptBut BehindCopies c) (λ d. Stands d plain ⊎ Stands d (with_volume plain volume)) left
+    either_of (clean_kept c d plain plain refl clean known.0) (clean_kept c d plain (with_bytes plain name date bytes) refl clean known.0) known.1)
+    (some_both (IsKeptBut BehindCopies c) (λ d. Stands d plain ⊎ Stands d (with_bytes plain name date bytes)) left
     (steps_stopped BehindCopies steps c left (append_in c plain name date bytes (may_append ready)) torn)
     (stopped_append c plain name date bytes left ready torn))
 

@@ -1,4 +1,4 @@
--- One volume more: the room for it, the segments that it takes, its bytes in sectors, its entry, and the writes (this project's profile).
+-- Volumes more: the room for one, the segments that it takes, its bytes in sectors, its entry, and the writes (this project's profile).
 use Rattle.std.specs.Prelude.{ℕ, List, [], ◌∷◌, ◌+◌, length, if◌then◌else◌, nat_lt, ◌-◌, nat_le, ◌&&◌, Bool, ◌++◌, replicate, zero, suc, take, drop, slice_index}
 use Rattle.cartridge_spec.specs.Says.{with_parity}
 use Rattle.cartridge_spec.specs.Settling.{block_writes, writes_of}
@@ -55,13 +55,6 @@ new_entry segments name date bytes = record {
   size = bytes;
 }
 
--- the volume in these segments
-abbrev pub new_volume : (words segments : List ℕ) → (name : List ℕ) → (date : ℕ) → (bytes : List ℕ) → Volume
-new_volume words segments name date bytes = record {
-  entry = new_entry segments name date (length bytes);
-  area = in_sectors (sectors_in words segments) bytes;
-}
-
 -- ---- the bytes of a volume
 
 -- the bytes of some sectors, one after the other
@@ -100,18 +93,18 @@ new_segments plain bytes =
 
 -- the new volume: of a name of 44 bytes, a date word, and bytes
 abbrev pub appended_volume : Plain → (name : List ℕ) → (date : ℕ) → (bytes : List ℕ) → Volume
-appended_volume plain name date bytes = new_volume plain.words (new_segments plain bytes) name date bytes
-
--- with a volume behind the others, and its entry in the slot behind the last one
-abbrev pub with_volume : Plain → Volume → Plain
-with_volume plain volume = record plain {
-  table_area = table_with plain.table_area (length plain.volumes) volume.entry;
-  volumes = plain.volumes ++ volume ∷ [];
+appended_volume plain name date bytes = record {
+  entry = new_entry (new_segments plain bytes) name date (length bytes);
+  area = in_sectors (sectors_in plain.words (new_segments plain bytes)) bytes;
 }
 
--- with that of these bytes
+-- the plain cartridge with it behind the others, and with its entry in the table
 abbrev pub with_bytes : Plain → (name : List ℕ) → (date : ℕ) → (bytes : List ℕ) → Plain
-with_bytes plain name date bytes = with_volume plain (appended_volume plain name date bytes)
+with_bytes plain name date bytes =
+    let volume : Volume = appended_volume plain name date bytes in record plain {
+      table_area = table_with plain.table_area (length plain.volumes) volume.entry;
+      volumes = plain.volumes ++ volume ∷ [];
+    }
 
 -- what is appended: the bytes of a volume, with its name and its date word
 pub record Content : Type 0 where

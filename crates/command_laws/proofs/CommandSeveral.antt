@@ -5,6 +5,7 @@ use Rattle.cartridge_laws.proofs.FormatWriting.{effects-some, some_and}
 use Rattle.cartridge_laws.proofs.MountKeeping.{stopped_stands}
 use Rattle.cartridge_laws.proofs.MountStanding.{standing_mounts_only_so}
 use Rattle.cartridge_laws.proofs.MountWhole.{settling_effects}
+use Rattle.cartridge_spec.specs.Appending.{with_all}
 use Rattle.cartridge_spec.specs.Mounting.{Mounts, mounted_as, Mounting, settled, IsTableLive}
 use Rattle.cartridge_spec.specs.Settling.{changed_by, settling_steps}
 use Rattle.cartridge_spec.specs.Volumes.{Plain, entries_of, Stands}
@@ -21,16 +22,17 @@ use Rattle.command_laws.proofs.ScriptMachineLaws.{one_outcome as one_script}
 use Rattle.command_laws.proofs.TextCommands.{one_command}
 use Rattle.command_laws.specs.MountedHeld.{IsHeld}
 use Rattle.command_laws.specs.MountedKept.{IsKept, IsOpen}
+use Rattle.command_laws.specs.ScriptStanding.{plain_behind}
 use Rattle.command_spec.specs.Headline.{EachNow, StopLeaves, WordsLeave, EachLeft}
 use Rattle.command_spec.specs.Input.{Item}
 use Rattle.command_spec.specs.Listing.{IsHeard}
 use Rattle.command_spec.specs.Machine.{Yields, HasValues, Spells}
-use Rattle.command_spec.specs.MadeVolumes.{with_made}
+use Rattle.command_spec.specs.MadeVolumes.{made_contents}
 use Rattle.command_spec.specs.Make.{Makes, Making, MakeOutcome, make_status}
 use Rattle.command_spec.specs.Outcome.{Going, CommandOutcome, refused, Opened, OpenOutcome}
 use Rattle.command_spec.specs.Runs.{may_come_from, fault_of, is_fault, CommandEnds}
 use Rattle.command_spec.specs.Script.{ScriptDoes, Scripting, ScriptOutcome}
-use Rattle.command_spec.specs.ScriptLists.{StandsAnswered, plain_behind}
+use Rattle.command_spec.specs.ScriptLists.{StandsAnswered}
 use Rattle.command_spec.specs.Several.{Scripted, SomeMade, MakesVolumes, SomeScripted, CarriesOutLines}
 use Rattle.command_spec.specs.Volumes.{IsCarriedOut}
 use Rattle.command_spec.specs.declared.status.Status.{Status}
@@ -331,7 +333,7 @@ module _ (seed count : ℕ) (few : count ≤ 200) (c : Cartridge) (plain : Plain
       live_kept (settled plain.table_area c) plain run.held (settled_live c plain.table_area run.mounts.reads live)
 
   abbrev HasMade : (n : ℕ) → Option Cartridge → Type 0
-  HasMade n left = IsSomeAnd left (λ d. Stands d (with_made seed plain 1 n))
+  HasMade n left = IsSomeAnd left (λ d. Stands d (with_all plain (made_contents seed 1 n)))
 
   -- a stop leaves some of the volumes
   make_stopped : (outcome : CommandOutcome) (left : Option Cartridge) → IsTableLive c → MakeOutcome seed count (Some c) outcome → Torn (steps_of outcome.acts) (Some c) left →
@@ -421,7 +423,7 @@ module _ (seed count : ℕ) (few : count ≤ 200) (c : Cartridge) (plain : Plain
         | inl turned ↦ absurd (turned.unheard (inl (sym (ap (λ (o : CommandOutcome). o.status) turned.is) ∙ is_done)))
         | inr run ↦
             let answered : run.answer ≡ made.Done = all_done run.answer (sym (ap (λ (o : CommandOutcome). o.status) run.is) ∙ is_done) in
-            some_and (λ d. Stands d (with_made seed plain 1 count)) (changed_by (steps_of run.acts) (settled plain.table_area c)) (effects (steps_of outcome.acts) (Some c))
+            some_and (λ d. Stands d (with_all plain (made_contents seed 1 count))) (changed_by (steps_of run.acts) (settled plain.table_area c)) (effects (steps_of outcome.acts) (Some c))
             (done_make_stands seed count (settled plain.table_area c) plain run.acts few run.held
             (subst (λ (a : made.Answer). Makes seed count (settled plain.table_area c) plain.words (entries_of plain) run.acts a) answered run.makes))
             (ap (λ (o : CommandOutcome). effects (steps_of o.acts) (Some c)) run.is ∙ behind_front c plain whole stood run.mounts run.acts)
@@ -464,7 +466,7 @@ makes_volumes t s k words command old new answer laws spelled values ends leaves
         done = λ done.
             let all = ran.heard (inl done) in
             now_weaker t old.tape new.tape
-            (λ left is. subst (λ (o : Option Cartridge). IsSomeAnd o (λ d. Stands d (with_made seed plain 1 count))) (sym is)
+            (λ left is. subst (λ (o : Option Cartridge). IsSomeAnd o (λ d. Stands d (with_all plain (made_contents seed 1 count)))) (sym is)
             (make_done seed count few c plain whole run.stands ran.outcome ran.plain (all.0 ∙ done)))
             (done_now t old.tape new.tape (steps_of ran.outcome.acts) (Some c) laws.after all.1 told);
         all = λ live which. elim which [

@@ -2,7 +2,7 @@
 use Rattle.std.proofs.Common.{◌≡◌, ℕ, ◌+◌, List, [], ◌∷◌, ◌++◌, refl, sym, ap, ◌∙◌, Bool, true, false, cond, Option, inl, inr, Some, subst, ◌⊎◌, ◌≢◌, zero, suc, ◌≤◌, IsSomeAnd, arith, length, drop}
 use Rattle.std.specs.Prelude.{is_some}
 use Rattle.cartridge_laws.proofs.FormatWriting.{effects-some}
-use Rattle.cartridge_spec.specs.Appending.{with_volume}
+use Rattle.cartridge_spec.specs.Appending.{with_all, with_bytes}
 use Rattle.cartridge_spec.specs.Settling.{changed_by}
 use Rattle.cartridge_spec.specs.Table.{Entry}
 use Rattle.cartridge_spec.specs.Volumes.{Plain, Stands, entries_of}
@@ -13,7 +13,7 @@ use Rattle.command_laws.specs.MadeLaws.{MadeAreAnswered}
 use Rattle.command_laws.specs.MountedKept.{IsKept}
 use Rattle.command_spec.specs.Append.{input_acts, Kept, free_in, has_promised_room, input_writes, most_written, room_in, Taking, Fits, TooLong, TooShort, entry_acts, silently, append_acts, taking, kept_over}
 use Rattle.command_spec.specs.Generator.{made_length, made_bytes}
-use Rattle.command_spec.specs.MadeVolumes.{made_volume, with_made}
+use Rattle.command_spec.specs.MadeVolumes.{made_contents}
 use Rattle.command_spec.specs.Make.{AppendMade, made_name, Answer, StepDoes, MakeStep, appending, Done, Runs, ScrubAll, wearing_volumes, summing, made_list}
 use Rattle.qic_base.proofs.Joins.{text_of-append, steps_of-append}
 use Rattle.qic_base.proofs.Steps.{Torn-front, Torn-behind}
@@ -91,13 +91,13 @@ module _ (seed : ℕ) (rest : List MakeStep) where
   appends_answered : (n : ℕ) (c : Cartridge) (plain : Plain) (volume : ℕ) (acts front rear : List Act) (answer : Answer) (left : Option Cartridge) → volume + n ≤ 201 → IsKept c plain →
       StillBehind seed plain.words (entries_of plain) volume n rest →
       Runs seed c plain.words (entries_of plain) (appending volume n ++ rest) acts answer → front ++ rear ≡ acts → text_of front ≢ [] →
-      Torn (next_steps rear) (Some (changed_by (steps_of front) c)) left → IsSomeAnd left (λ d. Stands d (with_made seed plain volume n))
+      Torn (next_steps rear) (Some (changed_by (steps_of front) c)) left → IsSomeAnd left (λ d. Stands d (with_all plain (made_contents seed volume n)))
   appends_answered zero c plain volume acts front rear answer left few held still runs parts printed torn =
       stills_stopped seed rest c plain acts answer left (still c plain held.stands refl refl) (kept_open c plain held) runs (torn_behind front rear acts c left parts torn)
   appends_answered (suc n) c plain volume acts front rear answer left few held still (inl (other, does)) parts printed torn =
       absurd (printed (quiet_front front rear acts parts (append_prints_nothing seed c plain.words (entries_of plain) volume acts answer does)))
   appends_answered (suc n) c plain volume acts front rear answer left few held still (inr (first, behind, joined, does, more)) parts printed torn =
-      let next : Plain = with_volume plain (made_volume seed plain volume) in
+      let next : Plain = with_bytes plain (made_name volume) 0 (made_bytes seed volume) in
       let quiet : text_of first ≡ [] = append_prints_nothing seed c plain.words (entries_of plain) volume first Done does in
       elim (two_fronts front rear first behind (parts ∙ sym joined)) [
         | inl (some, is) ↦ absurd (printed (quiet_front front some first is quiet))

@@ -3,7 +3,7 @@ use Rattle.std.proofs.Common.{List, [], ◌∷◌, ◌+◌, ◌++◌, ℕ, Bool,
 use Rattle.std.specs.Option.{option_map}
 use Rattle.std.proofs.lemmas.List.Elements.{Contains-get_or}
 use Rattle.std.proofs.lemmas.Option.{slice_get-map, slice_get_within, get_or_from_slice_get, same_Some, none-some}
-use Rattle.cartridge_spec.specs.Appending.{with_volume}
+use Rattle.cartridge_spec.specs.Appending.{with_all, with_bytes}
 use Rattle.cartridge_spec.specs.Settling.{changed_by}
 use Rattle.cartridge_spec.specs.Table.{Entry}
 use Rattle.cartridge_spec.specs.Volumes.{carrying_segments, Plain, entries_of, Volume, Stands, volume_length}
@@ -13,8 +13,9 @@ use Rattle.command_laws.proofs.RestoreStanding.{restores_byte_for_byte}
 use Rattle.command_laws.specs.MadeLaws.{MadeWhereThereIsRoom}
 use Rattle.command_laws.specs.MountedKept.{IsOpen}
 use Rattle.command_laws.specs.RestoreLaws.{HasVolume}
-use Rattle.command_spec.specs.MadeVolumes.{made_volume, with_made, before_sums}
-use Rattle.command_spec.specs.Make.{MakeStep, AppendMade, WearSector, ScrubAll, SumVolume, wearing, first_two, wearing_in, wearing_volumes, after_items, Answer, Done, StepDoes, Runs, made_answer, appending, IsSummed, ending_answer, summing, made_list, making}
+use Rattle.command_spec.specs.Generator.{made_bytes}
+use Rattle.command_spec.specs.MadeVolumes.{before_sums, made_contents}
+use Rattle.command_spec.specs.Make.{MakeStep, AppendMade, WearSector, ScrubAll, SumVolume, wearing, first_two, wearing_in, wearing_volumes, after_items, Answer, Done, StepDoes, Runs, made_answer, appending, IsSummed, ending_answer, summing, made_list, making, made_name}
 use Rattle.command_spec.specs.Restore.{volume_at, LosesFew, pieces, Restores}
 use Rattle.qic_base.specs.Acts.{Act, steps_of, text_of}
 use Rattle.qic_base.specs.Cartridge.{Cartridge}
@@ -99,7 +100,7 @@ room_here seed words es volume n room =
     ap (λ (v : ℕ). made_answer seed words es v) same ∙ room 0 (omega arith)
 
 room_next : (seed : ℕ) (plain : Plain) (volume n : ℕ) → HaveRoomFrom seed plain.words (entries_of plain) volume (suc n) →
-    HaveRoomFrom seed plain.words (entries_of (with_volume plain (made_volume seed plain volume))) (volume + 1) n
+    HaveRoomFrom seed plain.words (entries_of (with_bytes plain (made_name volume) 0 (made_bytes seed volume))) (volume + 1) n
 room_next seed plain volume n room k small =
     let same : volume + 1 + k ≡ volume + suc k = omega arith in
     ap (λ (es : List Entry). made_answer seed plain.words (after_items seed plain.words es (appending (volume + 1) k)) (volume + 1 + k)) (entries_more seed plain volume)
@@ -114,7 +115,7 @@ front_goes seed rest zero c plain volume acts answer few held room still mends r
 front_goes seed rest (suc n) c plain volume acts answer few held room still mends (inl (other, does)) =
     absurd (other (append_goes seed c plain volume acts answer held (room_here seed plain.words (entries_of plain) volume n room) does))
 front_goes seed rest (suc n) c plain volume acts answer few held room still mends (inr (first, rear, parts, does, more)) =
-    front_goes seed rest n (changed_by (steps_of first) c) (with_volume plain (made_volume seed plain volume)) (volume + 1) rear answer (omega arith)
+    front_goes seed rest n (changed_by (steps_of first) c) (with_bytes plain (made_name volume) 0 (made_bytes seed volume)) (volume + 1) rear answer (omega arith)
     (done_append_open seed c plain held volume (omega arith) first does) (room_next seed plain volume n room) (behind_next seed rest plain volume n still) mends
     (subst (λ (es : List Entry). Runs seed (changed_by (steps_of first) c) plain.words es (appending (volume + 1) n ++ rest) rear answer)
     (sym (entries_more seed plain volume)) more)
@@ -164,15 +165,15 @@ sums_go seed (suc n) d plain number acts answer stands few (inr (first, rest, pa
 
 -- ---- a run
 
-made_words : (seed n : ℕ) (plain : Plain) (volume : ℕ) → (with_made seed plain volume n).words ≡ plain.words
+made_words : (seed n : ℕ) (plain : Plain) (volume : ℕ) → (with_all plain (made_contents seed volume n)).words ≡ plain.words
 made_words seed zero plain volume = refl
-made_words seed (suc n) plain volume = made_words seed n (with_volume plain (made_volume seed plain volume)) (volume + 1)
+made_words seed (suc n) plain volume = made_words seed n (with_bytes plain (made_name volume) 0 (made_bytes seed volume)) (volume + 1)
 
 made_entries : (seed n : ℕ) (plain : Plain) (volume : ℕ) →
-    entries_of (with_made seed plain volume n) ≡ after_items seed plain.words (entries_of plain) (appending volume n)
+    entries_of (with_all plain (made_contents seed volume n)) ≡ after_items seed plain.words (entries_of plain) (appending volume n)
 made_entries seed zero plain volume = refl
 made_entries seed (suc n) plain volume =
-    made_entries seed n (with_volume plain (made_volume seed plain volume)) (volume + 1)
+    made_entries seed n (with_bytes plain (made_name volume) 0 (made_bytes seed volume)) (volume + 1)
     ∙ ap (λ (es : List Entry). after_items seed plain.words es (appending (volume + 1) n)) (entries_more seed plain volume)
 
 stills_front : (xs ys : List MakeStep) → AreStill (xs ++ ys) → AreStill xs
@@ -199,7 +200,7 @@ made_where_there_is_room seed count c plain acts answer small held room few make
     let ran : Runs seed c words es front begun.acts Done = subst (λ (a : Answer). Runs seed c words es front begun.acts a) done begun.runs in
     let behind : RunsBehind seed c words es front sums begun.acts acts answer = runs_behind seed c words es front sums begun.acts acts answer ran here in
     let d : Cartridge = changed_by (steps_of begun.acts) c in
-    let more : Plain = with_made seed plain 1 count in
+    let more : Plain = with_all plain (made_contents seed 1 count) in
     let now : IsOpen d more = appends_done seed rest count c plain 1 begun.acts (omega arith) held still ran in
     let same : more.words ≡ words = made_words seed count plain 1 in
     let list : entries_of more ≡ made_list seed count words es = made_entries seed count plain 1 in

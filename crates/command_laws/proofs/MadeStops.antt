@@ -12,7 +12,7 @@ use Rattle.cartridge_laws.proofs.MountKeeping.{stopped_stands}
 use Rattle.cartridge_laws.proofs.MountStanding.{standing_data}
 use Rattle.cartridge_laws.proofs.Places.{usable_small}
 use Rattle.cartridge_laws.specs.Table.{LieBehind}
-use Rattle.cartridge_spec.specs.Appending.{has_room, with_volume}
+use Rattle.cartridge_spec.specs.Appending.{has_room, with_all, with_bytes, appended_volume}
 use Rattle.cartridge_spec.specs.Formatting.{IsLabel}
 use Rattle.cartridge_spec.specs.HeaderAndTable.{TableIs, last_segment}
 use Rattle.cartridge_spec.specs.Settling.{settling_steps, changed_by}
@@ -29,7 +29,7 @@ use Rattle.command_laws.specs.MadeLaws.{StoppedMakeStands, DoneMakeStands, Stops
 use Rattle.command_laws.specs.MountedKept.{IsAppendable, IsOpen, settle_and_append, IsKept}
 use Rattle.command_spec.specs.Append.{Kept, append_acts, silently, room_in, kept_in, has_promised_room, kept_over}
 use Rattle.command_spec.specs.Generator.{made_length, made_byte, made_bytes}
-use Rattle.command_spec.specs.MadeVolumes.{made_volume, with_made}
+use Rattle.command_spec.specs.MadeVolumes.{made_contents}
 use Rattle.command_spec.specs.Make.{made_name, AppendMade, Answer, Done, Full, StepDoes, IsAppended, made_acts, made_answer, MakeStep, WearSector, ScrubAll, SumVolume, after_item, sum_acts, Runs, wearing, first_two, wearing_in, wearing_volumes, summing, made_entry, after_items, appending, made_list, making}
 use Rattle.command_spec.specs.Restore.{GivingEnd, Restored, LostIn, MismatchIn}
 use Rattle.qic_base.proofs.Steps.{Torn-all}
@@ -159,16 +159,16 @@ module _ (seed : ℕ) (c : Cartridge) (plain : Plain) (held : IsOpen c plain) (v
 
 -- what it leaves, done
 pub done_append_open : (seed : ℕ) (c : Cartridge) (plain : Plain) → IsOpen c plain → (volume : ℕ) → volume ≤ 200 → (acts : List Act) →
-    StepDoes seed c plain.words (entries_of plain) (AppendMade volume) acts Done → IsOpen (changed_by (steps_of acts) c) (with_volume plain (made_volume seed plain volume))
+    StepDoes seed c plain.words (entries_of plain) (AppendMade volume) acts Done → IsOpen (changed_by (steps_of acts) c) (with_bytes plain (made_name volume) 0 (made_bytes seed volume))
 done_append_open seed c plain held volume small acts does =
     let did = done_append seed c plain held volume acts does in
-    subst (λ (steps : List Step). IsOpen (changed_by steps c) (with_volume plain (made_volume seed plain volume))) (sym did.1)
+    subst (λ (steps : List Step). IsOpen (changed_by steps c) (with_bytes plain (made_name volume) 0 (made_bytes seed volume))) (sym did.1)
     (open_appended c plain (made_name volume) 0 (made_bytes seed volume) held (made_named seed volume small) did.0)
 
 -- where each sector of the table's segment takes a write, done or stopped
 module _ (seed : ℕ) (c : Cartridge) (plain : Plain) (held : IsKept c plain) (volume : ℕ) (small : volume ≤ 200) where
   abbrev more : Plain
-  more = with_volume plain (made_volume seed plain volume)
+  more = with_bytes plain (made_name volume) 0 (made_bytes seed volume)
 
   named : IsAppendable (made_name volume) 0 (made_bytes seed volume)
   named = made_named seed volume small
@@ -327,8 +327,8 @@ still_summing number (suc count) = (tt, still_summing (number + 1) count)
 
 -- the entries of the plain cartridge with a made volume
 pub entries_more : (seed : ℕ) (plain : Plain) (volume : ℕ) →
-    entries_of (with_volume plain (made_volume seed plain volume)) ≡ entries_of plain ++ made_entry seed plain.words (entries_of plain) volume ∷ []
-entries_more seed plain volume = map-append (λ (v : Volume). v.entry) plain.volumes (made_volume seed plain volume ∷ [])
+    entries_of (with_bytes plain (made_name volume) 0 (made_bytes seed volume)) ≡ entries_of plain ++ made_entry seed plain.words (entries_of plain) volume ∷ []
+entries_more seed plain volume = map-append (λ (v : Volume). v.entry) plain.volumes (appended_volume plain (made_name volume) 0 (made_bytes seed volume) ∷ [])
 
 -- what comes behind the appends is still where they all stand
 abbrev pub StillBehind : (seed : ℕ) (words : List ℕ) (es : List Entry) (volume n : ℕ) (rest : List MakeStep) → Type 0
@@ -338,7 +338,7 @@ StillBehind seed words es volume n rest =
 module _ (seed : ℕ) (rest : List MakeStep) where
   -- with one volume more the same comes behind
   pub behind_next : (plain : Plain) (volume n : ℕ) → StillBehind seed plain.words (entries_of plain) volume (suc n) rest →
-      StillBehind seed plain.words (entries_of (with_volume plain (made_volume seed plain volume))) (volume + 1) n rest
+      StillBehind seed plain.words (entries_of (with_bytes plain (made_name volume) 0 (made_bytes seed volume))) (volume + 1) n rest
   behind_next plain volume n still d p stands words es =
       still d p stands words (es ∙ ap (λ (now : List Entry). after_items seed plain.words now (appending (volume + 1) n)) (entries_more seed plain volume))
 
@@ -346,9 +346,9 @@ module _ (seed : ℕ) (rest : List MakeStep) where
   pub record StandsFrom (plain : Plain) (volume n : ℕ) (left : Option Cartridge) : Type 0 where
     pub appended : ℕ
     pub within : appended ≤ n
-    pub stands : IsSomeAnd left (λ d. Stands d (with_made seed plain volume appended))
+    pub stands : IsSomeAnd left (λ d. Stands d (with_all plain (made_contents seed volume appended)))
 
-  from_next : (plain : Plain) (volume n : ℕ) (left : Option Cartridge) → StandsFrom (with_volume plain (made_volume seed plain volume)) (volume + 1) n left →
+  from_next : (plain : Plain) (volume n : ℕ) (left : Option Cartridge) → StandsFrom (with_bytes plain (made_name volume) 0 (made_bytes seed volume)) (volume + 1) n left →
       StandsFrom plain volume (suc n) left
   from_next plain volume n left from = record {
     appended = suc from.appended;
@@ -365,38 +365,38 @@ module _ (seed : ℕ) (rest : List MakeStep) where
     stands = stills_stopped seed rest c plain acts answer left (still c plain held.stands refl refl) (kept_open c plain held) runs torn;
   }
   appends_stopped (suc n) c plain volume acts answer left few held still (inl (other, does)) torn =
-      by_stop (some_split (λ d. Stands d plain) (λ d. Stands d (with_volume plain (made_volume seed plain volume))) left (stopped_append_stands seed c plain held volume (omega arith) acts answer left does torn))
+      by_stop (some_split (λ d. Stands d plain) (λ d. Stands d (with_bytes plain (made_name volume) 0 (made_bytes seed volume))) left (stopped_append_stands seed c plain held volume (omega arith) acts answer left does torn))
     where
-      by_stop : IsSomeAnd left (λ d. Stands d plain) ⊎ IsSomeAnd left (λ d. Stands d (with_volume plain (made_volume seed plain volume))) → StandsFrom plain volume (suc n) left
+      by_stop : IsSomeAnd left (λ d. Stands d plain) ⊎ IsSomeAnd left (λ d. Stands d (with_bytes plain (made_name volume) 0 (made_bytes seed volume))) → StandsFrom plain volume (suc n) left
       by_stop (inl stands) = record { appended = 0; within = omega arith; stands = stands }
       by_stop (inr stands) = record { appended = 1; within = omega arith; stands = stands }
   appends_stopped (suc n) c plain volume acts answer left few held still (inr (first, rear, parts, does, more)) torn =
-      let next : Plain = with_volume plain (made_volume seed plain volume) in
+      let next : Plain = with_bytes plain (made_name volume) 0 (made_bytes seed volume) in
       let small : volume ≤ 200 = omega arith in
       elim (acts_stopped first rear acts c left parts torn) [
-        | inl here ↦ by_stop (some_split (λ d. Stands d plain) (λ d. Stands d (with_volume plain (made_volume seed plain volume))) left (stopped_append_stands seed c plain held volume small first Done left does here))
+        | inl here ↦ by_stop (some_split (λ d. Stands d plain) (λ d. Stands d (with_bytes plain (made_name volume) 0 (made_bytes seed volume))) left (stopped_append_stands seed c plain held volume small first Done left does here))
         | inr behind ↦ from_next plain volume n left (appends_stopped n (changed_by (steps_of first) c) next (volume + 1) rear answer left (omega arith)
             (done_append_kept seed c plain held volume small first does) (behind_next plain volume n still)
             (subst (λ (es : List Entry). Runs seed (changed_by (steps_of first) c) plain.words es (appending (volume + 1) n ++ rest) rear answer)
             (sym (entries_more seed plain volume)) more) behind)
       ]
     where
-      by_stop : IsSomeAnd left (λ d. Stands d plain) ⊎ IsSomeAnd left (λ d. Stands d (with_volume plain (made_volume seed plain volume))) → StandsFrom plain volume (suc n) left
+      by_stop : IsSomeAnd left (λ d. Stands d plain) ⊎ IsSomeAnd left (λ d. Stands d (with_bytes plain (made_name volume) 0 (made_bytes seed volume))) → StandsFrom plain volume (suc n) left
       by_stop (inl stands) = record { appended = 0; within = omega arith; stands = stands }
       by_stop (inr stands) = record { appended = 1; within = omega arith; stands = stands }
 
   pub appends_done : (n : ℕ) (c : Cartridge) (plain : Plain) (volume : ℕ) (acts : List Act) → volume + n ≤ 201 → IsOpen c plain →
       StillBehind seed plain.words (entries_of plain) volume n rest →
-      Runs seed c plain.words (entries_of plain) (appending volume n ++ rest) acts Done → IsOpen (changed_by (steps_of acts) c) (with_made seed plain volume n)
+      Runs seed c plain.words (entries_of plain) (appending volume n ++ rest) acts Done → IsOpen (changed_by (steps_of acts) c) (with_all plain (made_contents seed volume n))
   appends_done zero c plain volume acts few held still runs = stills_done seed rest c plain acts (still c plain held.stands refl refl) held runs
   appends_done (suc n) c plain volume acts few held still (inl (other, does)) = absurd (other refl)
   appends_done (suc n) c plain volume acts few held still (inr (first, rear, parts, does, more)) =
-      let next : Plain = with_volume plain (made_volume seed plain volume) in
+      let next : Plain = with_bytes plain (made_name volume) 0 (made_bytes seed volume) in
       let d : Cartridge = changed_by (steps_of first) c in
-      let now : IsOpen (changed_by (steps_of rear) d) (with_made seed next (volume + 1) n) =
+      let now : IsOpen (changed_by (steps_of rear) d) (with_all next (made_contents seed (volume + 1) n)) =
       appends_done n d next (volume + 1) rear (omega arith) (done_append_open seed c plain held volume (omega arith) first does) (behind_next plain volume n still)
       (subst (λ (es : List Entry). Runs seed d plain.words es (appending (volume + 1) n ++ rest) rear Done) (sym (entries_more seed plain volume)) more) in
-      subst (λ (e : Cartridge). IsOpen e (with_made seed next (volume + 1) n))
+      subst (λ (e : Cartridge). IsOpen e (with_all next (made_contents seed (volume + 1) n)))
       (sym (ap (λ (zs : List Act). changed_by (steps_of zs) c) (sym parts) ∙ changed_by_acts first rear c)) now
 
 -- ---- a run

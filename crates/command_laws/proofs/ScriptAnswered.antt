@@ -1,20 +1,20 @@
 -- Which items of a script stand after a stop in it, and which of them were answered.
-use Rattle.std.proofs.Common.{List, [], ◌∷◌, Option, ◌≡◌, ◌++◌, Some, sym, ap, ◌∙◌, subst, inl, inr, refl, ◌⊎◌, None, IsSomeAnd, ℕ, ◌<◌, drop, All, take, length, arith}
+use Rattle.std.proofs.Common.{List, [], ◌∷◌, Option, ◌≡◌, ◌++◌, Some, sym, ap, ◌∙◌, subst, inl, inr, refl, ◌⊎◌, None, IsSomeAnd, ℕ, ◌<◌, drop, All, take, length, arith, suc}
 use Rattle.cartridge_laws.proofs.FormatWriting.{effects-some, changed_by-append, some_and}
 use Rattle.cartridge_spec.specs.Mounting.{IsTableLive}
 use Rattle.cartridge_spec.specs.Settling.{changed_by}
 use Rattle.cartridge_spec.specs.Table.{Entry}
 use Rattle.cartridge_spec.specs.Volumes.{Plain, Stands, entries_of}
 use Rattle.command_laws.proofs.MountedKeeping.{changed_by_acts}
-use Rattle.command_laws.proofs.ScriptReached.{AllLeave, Reached, reached_between, reached_behind, reached_none}
+use Rattle.command_laws.proofs.ScriptReached.{AllLeave, Reached, reached_between, reached_behind, reached_none, leave_weaker}
 use Rattle.command_laws.proofs.ScriptReading.{cartridge_is}
 use Rattle.command_laws.proofs.ScriptSpeaking.{as_many, script_speaks}
-use Rattle.command_laws.proofs.ScriptStanding.{fault_stands, items_have_bytes, items_stand, ItemLeaves, item_leaves, next_do}
+use Rattle.command_laws.proofs.ScriptStanding.{fault_stands, items_have_bytes, items_stand, ItemLeaves, item_leaves, next_do, next_is}
 use Rattle.command_laws.specs.MountedHeld.{IsHeld}
-use Rattle.command_laws.specs.ScriptStanding.{HaveBytes, AnsweredBetween, AnsweredBehind, StoppedScriptStands, DoneScriptStands}
+use Rattle.command_laws.specs.ScriptStanding.{HaveBytes, AnsweredBetween, AnsweredBehind, StoppedScriptStands, DoneScriptStands, plain_behind, plain_after}
 use Rattle.command_spec.specs.Input.{Ending, AtEnd, AtStop, AtFault, Item}
 use Rattle.command_spec.specs.Script.{EndDoes, ScriptRun, ScriptDoes, cartridge_behind, entries_behind, place_behind, Did, ItemsDo, acts_of}
-use Rattle.command_spec.specs.ScriptLists.{ItemsSpare, plain_behind, plain_after, StandsAnswered}
+use Rattle.command_spec.specs.ScriptLists.{ItemsSpare, StandsAnswered}
 use Rattle.qic_base.proofs.Joins.{steps_of-append}
 use Rattle.qic_base.proofs.Steps.{Torn-front, Torn-behind, Torn-append, Torn-nothing, Torn-all}
 use Rattle.qic_base.specs.Acts.{Act, steps_of, next_steps, text_of}
@@ -108,14 +108,21 @@ all_stand [] (did ∷ dids) c plain last held live has ran spares ends = absurd 
 all_stand (item ∷ items) [] c plain last held live has ran spares ends = absurd ran
 all_stand (item ∷ items) (did ∷ dids) c plain last held live has ran spares ends =
     let leaves : ItemLeaves c plain item did = item_leaves c plain item did held has.0 spares.0 ran.0 in
-    let next : Plain = plain_after plain item did in (
+    let next : Plain = plain_after plain item did in
+    let d : Cartridge = changed_by (steps_of did.acts) c in
+    let first : Plain = plain_behind plain (item ∷ []) (did ∷ []) in
+    let one : next ≡ first = next_is plain item did [] [] leaves.entries in (
       record {
-        done = leaves.done.stands;
-        stopped = λ front act rest left whole torn. some_split (λ d. Stands d plain) (λ d. Stands d next) left
-            (leaves.stopped live left (torn_there front (act ∷ rest) did.acts c left whole torn));
+        done = subst (λ (p : Plain). Stands d p) one leaves.done.stands;
+        stopped = λ front act rest left whole torn. some_split (λ e. Stands e plain) (λ e. Stands e first) left
+            (subst (λ (p : Plain). IsSomeAnd left (λ e. Stands e plain ⊎ Stands e p)) one
+            (leaves.stopped live left (torn_there front (act ∷ rest) did.acts c left whole torn)));
       },
-      all_stand items dids (changed_by (steps_of did.acts) c) next last leaves.done (leaves.live live) has.1
-          (next_do (changed_by (steps_of did.acts) c) plain next items did.entries dids leaves.entries leaves.words ran.1) spares.1 ends,
+      leave_weaker Tears (StandsBehind next items dids) (λ n. StandsBehind plain (item ∷ items) (did ∷ dids) (suc n))
+          (λ n left. subst (λ (p : Plain). IsSomeAnd left (λ e. Stands e p)) (next_is plain item did (take n items) (take n dids) leaves.entries)) d dids last
+          (all_stand items dids d next last leaves.done (leaves.live live) has.1
+          (next_do d plain next items did.entries dids leaves.entries leaves.words ran.1) spares.1
+          (subst (λ (p : Plain). EndStands (cartridge_behind d dids) p last) (sym (next_is plain item did items dids leaves.entries)) ends)),
     )
 
 script_stands : (c : Cartridge) (plain : Plain) (input : List ℕ) (outcome : ScriptRun) → IsHeld c plain → IsTableLive c → (does : ScriptDoes c plain.words (entries_of plain) input outcome) →

@@ -1,6 +1,7 @@
 -- How many items are done after a stop among their acts, by how much was printed, whatever is said of the cartridge behind them.
 use Rattle.std.proofs.Common.{◌≡◌, ℕ, ◌+◌, ◌-◌, List, [], ◌∷◌, ◌++◌, length, ap, ◌∙◌, append-nil, suc, ◌<◌, ◌≤◌, take, arith, Option, ◌⊎◌, Some, inl, inr, zero, sym, subst, append_assoc}
 use Rattle.std.proofs.lemmas.List.{length-append}
+use Rattle.cartridge_laws.proofs.AppendDone.{either_of}
 use Rattle.cartridge_laws.proofs.FormatWriting.{changed_by-append}
 use Rattle.cartridge_spec.specs.Settling.{changed_by}
 use Rattle.command_laws.proofs.MountedFronts.{ends_in}
@@ -58,6 +59,18 @@ abbrev pub AllLeave : (May : List Step → Cartridge → Option Cartridge → Ty
 AllLeave May Holds c [] last =
     (front rest : List Act) (left : Option Cartridge) → front ++ rest ≡ last → May (next_steps rest) (changed_by (steps_of front) c) left → Holds 0 left
 AllLeave May Holds c (did ∷ dids) last = Leaves May Holds c did × AllLeave May (λ n. Holds (suc n)) (changed_by (steps_of did.acts) c) dids last
+
+-- and so it is of what holds wherever that does
+pub leave_weaker : (May : List Step → Cartridge → Option Cartridge → Type 0) (Holds Then : ℕ → Option Cartridge → Type 0) → ((n : ℕ) (left : Option Cartridge) → Holds n left → Then n left) →
+    (c : Cartridge) (dids : List Did) (last : List Act) → AllLeave May Holds c dids last → AllLeave May Then c dids last
+leave_weaker May Holds Then weaker c [] last leave = λ front rest left parts may. weaker 0 left (leave front rest left parts may)
+leave_weaker May Holds Then weaker c (did ∷ dids) last leave = (
+  record {
+    done = weaker 1 (Some (changed_by (steps_of did.acts) c)) leave.0.done;
+    stopped = λ front act rest left parts may. either_of (weaker 0 left) (weaker 1 left) (leave.0.stopped front act rest left parts may);
+  },
+  leave_weaker May (λ n. Holds (suc n)) (λ n. Then (suc n)) (λ n. weaker (suc n)) (changed_by (steps_of did.acts) c) dids last leave.1,
+)
 
 module _ (Holds : ℕ → Option Cartridge → Type 0) where
   -- where nothing was printed no item was answered

@@ -11,7 +11,7 @@ use Rattle.cartridge_laws.proofs.MountSettled.{settled_stands}
 use Rattle.cartridge_laws.proofs.MountStanding.{standing_data}
 use Rattle.cartridge_laws.proofs.MountWhole.{settling_effects}
 use Rattle.cartridge_laws.specs.AppendWrites.{AreWrites, IsFree}
-use Rattle.cartridge_spec.specs.Appending.{appended_volume, has_room, with_bytes, last_end}
+use Rattle.cartridge_spec.specs.Appending.{appended_volume, has_room, with_bytes, last_end, with_all, Content}
 use Rattle.cartridge_spec.specs.Mounting.{IsTableLive, settled}
 use Rattle.cartridge_spec.specs.Settling.{changed_by, settling_steps}
 use Rattle.cartridge_spec.specs.Table.{Entry}
@@ -27,13 +27,13 @@ use Rattle.command_laws.proofs.ScriptValues.{append_values}
 use Rattle.command_laws.proofs.ScrubMounted.{stopped_scrub_stands}
 use Rattle.command_laws.specs.MountedHeld.{IsHeld}
 use Rattle.command_laws.specs.MountedKept.{IsAppendable, IsKept, IsOpen}
-use Rattle.command_laws.specs.ScriptStanding.{LineHasBytes, HaveBytes, ItemsHaveBytes, HasBytes, StoppedItemStands, ItemsStand, FaultStands}
+use Rattle.command_laws.specs.ScriptStanding.{LineHasBytes, HaveBytes, ItemsHaveBytes, HasBytes, StoppedItemStands, ItemsStand, FaultStands, plain_after, plain_behind}
 use Rattle.command_spec.specs.Append.{Kept, Taking, Fits, TooLong, TooShort, append_acts, entry_for, room_in, taking, entry_acts, has_promised_room, input_acts, free_in, input_writes, kept_over}
 use Rattle.command_spec.specs.Input.{IsLine, IsLined, promised, Item, IsItem, Ending, HasItems}
 use Rattle.command_spec.specs.Lines.{reply_behind, lost_line}
 use Rattle.command_spec.specs.Restore.{Restored, LostIn, MismatchIn, framed, pieces}
-use Rattle.command_spec.specs.Script.{Did, Meeting, Finds, Meets, Refuses, append_did, line_refused, taken_as, given_as, RestoreDoes, LineDoes, ItemDoes, ItemsDo, entries_behind, acts_on}
-use Rattle.command_spec.specs.ScriptLists.{plain_after, plain_with, LineSpares}
+use Rattle.command_spec.specs.Script.{Did, Meeting, Finds, Meets, Refuses, append_did, line_refused, taken_as, given_as, RestoreDoes, LineDoes, ItemDoes, ItemsDo, entries_behind, acts_on, cartridge_behind}
+use Rattle.command_spec.specs.ScriptLists.{LineSpares, added, all_added, line_contents}
 use Rattle.command_spec.specs.Scrub.{Scrubs}
 use Rattle.command_spec.specs.declared.line.Line.{Line}
 use Rattle.gf256_qic.proofs.Parities.{all_left, all_right}
@@ -91,7 +91,7 @@ record Stills (c : Cartridge) (plain : Plain) (did : Did) : Type 0 where
 
 same_after : (plain : Plain) (item : Item) (did : Did) → did.entries ≡ entries_of plain → plain_after plain item did ≡ plain
 same_after plain item did same =
-    ap (λ (b : Bool). cond b plain (plain_with plain item.line item.bytes))
+    ap (λ (b : Bool). with_all plain (cond b [] (line_contents item.line item.bytes)))
     (eq-eqb (length did.entries) (length (entries_of plain)) (ap (λ (es : List Entry). length es) same))
 
 leaves_still : (c : Cartridge) (plain : Plain) (item : Item) (did : Did) → Stills c plain did → ItemLeaves c plain item did
@@ -126,9 +126,9 @@ differ m n more = elim (cases_Bool (m == n)) [
 ]
 
 -- a list with one volume more
-more_after : (plain : Plain) (item : Item) (did : Did) (e : Entry) → did.entries ≡ entries_of plain ++ e ∷ [] → plain_after plain item did ≡ plain_with plain item.line item.bytes
+more_after : (plain : Plain) (item : Item) (did : Did) (e : Entry) → did.entries ≡ entries_of plain ++ e ∷ [] → plain_after plain item did ≡ with_all plain (line_contents item.line item.bytes)
 more_after plain item did e more =
-    ap (λ (b : Bool). cond b plain (plain_with plain item.line item.bytes))
+    ap (λ (b : Bool). with_all plain (cond b [] (line_contents item.line item.bytes)))
     (differ (length did.entries) (length (entries_of plain)) (ap (λ (es : List Entry). length es) more ∙ length-append (entries_of plain) (e ∷ [])))
 
 -- of just as many bytes as are promised
@@ -315,6 +315,17 @@ stopped_item_stands c plain item did left held live has does spares torn = (item
 
 -- ---- items one after the other
 
+with_all-append : (plain : Plain) (xs ys : List Content) → with_all plain (xs ++ ys) ≡ with_all (with_all plain xs) ys
+with_all-append plain [] ys = refl
+with_all-append plain (x ∷ xs) ys = with_all-append (with_bytes plain x.name x.date x.bytes) xs ys
+
+-- what the next items add behind the first is added behind all
+pub next_is : (plain : Plain) (item : Item) (did : Did) (items : List Item) (dids : List Did) → entries_of (plain_after plain item did) ≡ did.entries →
+    plain_behind (plain_after plain item did) items dids ≡ plain_behind plain (item ∷ items) (did ∷ dids)
+next_is plain item did items dids list =
+    ap (λ (es : List Entry). with_all (plain_after plain item did) (all_added es items dids)) list
+    ∙ sym (with_all-append plain (added (entries_of plain) item did) (all_added did.entries items dids))
+
 -- what the next items do, on the plain cartridge behind the first
 pub next_do : (c : Cartridge) (plain next : Plain) (items : List Item) (entries : List Entry) (dids : List Did) → entries_of next ≡ entries → next.words ≡ plain.words →
     ItemsDo c plain.words entries items dids → ItemsDo c next.words (entries_of next) items dids
@@ -330,7 +341,12 @@ items_stand c plain (item ∷ items) (did ∷ dids) held has ran spares =
     let d : Cartridge = changed_by (steps_of did.acts) c in
     let next : Plain = plain_after plain item did in
     let rest = items_stand d next items dids leaves.done has.1 (next_do d plain next items did.entries dids leaves.entries leaves.words ran.1) spares.1 in
-    (rest.0, rest.1 ∙ ap (λ (es : List Entry). entries_behind es dids) leaves.entries, rest.2 ∙ leaves.words, λ live. rest.3 (leaves.live live))
+    let same = next_is plain item did items dids leaves.entries in (
+      subst (λ (p : Plain). IsHeld (cartridge_behind d dids) p) same rest.0,
+      ap (λ (p : Plain). entries_of p) (sym same) ∙ rest.1 ∙ ap (λ (es : List Entry). entries_behind es dids) leaves.entries,
+      ap (λ (p : Plain). p.words) (sym same) ∙ rest.2 ∙ leaves.words,
+      λ live. rest.3 (leaves.live live),
+    )
 
 -- ---- an append whose bytes end early
 

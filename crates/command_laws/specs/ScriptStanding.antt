@@ -1,5 +1,6 @@
 -- What a script, done or stopped, leaves of a cartridge that stands for a plain one, as facts (this project's own).
 use Rattle.std.specs.Prelude.{◌≡◌, ℕ, List, length, [], ◌∷◌, ◌<◌, All, ◌⊎◌, Option, Some, IsSomeAnd, ◌≤◌, take, ◌+◌, ◌++◌}
+use Rattle.cartridge_spec.specs.Appending.{with_all}
 use Rattle.cartridge_spec.specs.Mounting.{IsTableLive}
 use Rattle.cartridge_spec.specs.Settling.{changed_by}
 use Rattle.cartridge_spec.specs.Volumes.{Plain, entries_of, Stands}
@@ -7,7 +8,7 @@ use Rattle.command_laws.specs.MountedHeld.{IsHeld}
 use Rattle.command_laws.specs.MountedKept.{IsAppendable}
 use Rattle.command_spec.specs.Input.{Item, Ending, IsScript}
 use Rattle.command_spec.specs.Script.{Did, ItemsDo, entries_behind, cartridge_behind, ItemDoes, FaultDoes, ScriptRun, ScriptDoes}
-use Rattle.command_spec.specs.ScriptLists.{plain_behind, ItemsSpare, plain_after, LineSpares, StandsAnswered}
+use Rattle.command_spec.specs.ScriptLists.{ItemsSpare, LineSpares, StandsAnswered, added, all_added}
 use Rattle.command_spec.specs.declared.line.Line.{Line}
 use Rattle.qic_base.specs.Acts.{steps_of, Act, text_of, next_steps}
 use Rattle.qic_base.specs.Cartridge.{Cartridge}
@@ -32,6 +33,13 @@ ItemsHaveBytes =
     (input : List ℕ) (items : List Item) (ending : Ending) → IsScript input items ending → All (λ b. b < 256) input → HaveBytes items
 
 -- ---- items
+
+-- the plain cartridge behind an item, and behind several
+abbrev pub plain_after : Plain → Item → Did → Plain
+plain_after plain item did = with_all plain (added (entries_of plain) item did)
+
+abbrev pub plain_behind : Plain → List Item → List Did → Plain
+plain_behind plain items dids = with_all plain (all_added (entries_of plain) items dids)
 
 -- all items done, the cartridge stands for the plain one behind them, with the same list and the same map, also where sectors of
 -- the table's segment take no write; where each of these takes one, it still does

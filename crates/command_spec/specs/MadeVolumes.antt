@@ -1,25 +1,20 @@
--- What a run of `make` comes to, and what a stop in it leaves, as facts.
+-- The volumes that `make` appends, and what it needs to be carried out (this project's own).
 use Rattle.std.specs.Prelude.{ℕ, length, zero, suc, ◌+◌, ◌≡◌, ◌<◌, List, [], ◌∷◌, ◌++◌, drop, All, Some}
-use Rattle.cartridge_spec.specs.Appending.{appended_volume, with_volume}
+use Rattle.cartridge_spec.specs.Appending.{Content}
 use Rattle.cartridge_spec.specs.Settling.{changed_by}
 use Rattle.cartridge_spec.specs.Table.{Entry}
-use Rattle.cartridge_spec.specs.Volumes.{Plain, Volume, entries_of}
+use Rattle.cartridge_spec.specs.Volumes.{Plain, entries_of}
 use Rattle.command_spec.specs.Generator.{made_bytes}
 use Rattle.command_spec.specs.Make.{made_name, made_list, Done, made_answer, MakeStep, ScrubAll, appending, wearing_volumes, Runs}
 use Rattle.command_spec.specs.Restore.{LosesFew, pieces, volume_at}
 use Rattle.qic_base.specs.Acts.{Act, steps_of}
 use Rattle.qic_base.specs.Cartridge.{Cartridge}
 
--- ---- a cartridge that stands for a plain one
-
--- the made volume behind those of a plain cartridge
-abbrev pub made_volume : (seed : ℕ) → Plain → (volume : ℕ) → Volume
-made_volume seed plain volume = appended_volume plain (made_name volume) 0 (made_bytes seed volume)
-
--- the plain cartridge with so many made volumes, from this one on
-abbrev pub with_made : (seed : ℕ) → Plain → (volume count : ℕ) → Plain
-with_made seed plain volume zero = plain
-with_made seed plain volume (suc count) = with_made seed (with_volume plain (made_volume seed plain volume)) (volume + 1) count
+-- so many made volumes, from this one on
+abbrev pub made_contents : (seed volume count : ℕ) → List Content
+made_contents seed volume zero = []
+made_contents seed volume (suc count) =
+    record { name = made_name volume; date = 0; bytes = made_bytes seed volume } ∷ made_contents seed (volume + 1) count
 
 -- ---- a run that is carried out
 

@@ -1,6 +1,6 @@
 -- What a script leaves of a cartridge: what it stands for, and the list that it is mounted with, behind the lines that were carried out (this project's own).
-use Rattle.std.specs.Prelude.{ℕ, List, ◌==◌, length, if◌then◌else◌, [], ◌∷◌, suc, ◌≤◌, take, Option, IsSomeAnd, ◌<◌, ◌↔◌}
-use Rattle.cartridge_spec.specs.Appending.{with_bytes}
+use Rattle.std.specs.Prelude.{ℕ, List, ◌==◌, length, if◌then◌else◌, [], ◌∷◌, suc, ◌≤◌, take, Option, IsSomeAnd, ◌<◌, ◌↔◌, ◌++◌}
+use Rattle.cartridge_spec.specs.Appending.{Content, with_all}
 use Rattle.cartridge_spec.specs.Header.{Header}
 use Rattle.cartridge_spec.specs.Mounting.{Lists}
 use Rattle.cartridge_spec.specs.Settling.{changed_by}
@@ -14,23 +14,23 @@ use Rattle.qic_base.specs.Acts.{steps_of, text_of}
 use Rattle.qic_base.specs.Cartridge.{Cartridge, IsPlace}
 use Rattle.command_spec.specs.declared.line.Line.TheVariants as line
 
--- ---- the plain cartridge behind items
+-- ---- what items append
 
--- the plain cartridge with the volume that a line appends
-abbrev pub plain_with : Plain → Line → (bytes : List ℕ) → Plain
-plain_with plain (line.Append name promised date) bytes = with_bytes plain name date bytes
-plain_with plain other bytes = plain
+-- what a line appends
+abbrev pub line_contents : Line → (bytes : List ℕ) → List Content
+line_contents (line.Append name promised date) bytes = record { name = name; date = date; bytes = bytes } ∷ []
+line_contents other bytes = []
 
--- behind an item: a volume was added where the list is longer
-abbrev pub plain_after : Plain → Item → Did → Plain
-plain_after plain item did =
-    if length did.entries == length (entries_of plain) then plain else plain_with plain item.line item.bytes
+-- what an item added to a list: that, where the list is longer behind it
+abbrev pub added : List Entry → Item → Did → List Content
+added entries item did =
+    if length did.entries == length entries then [] else line_contents item.line item.bytes
 
--- behind several
-abbrev pub plain_behind : Plain → List Item → List Did → Plain
-plain_behind plain [] dids = plain
-plain_behind plain (item ∷ items) [] = plain
-plain_behind plain (item ∷ items) (did ∷ dids) = plain_behind (plain_after plain item did) items dids
+-- what several added, one behind the other
+abbrev pub all_added : List Entry → List Item → List Did → List Content
+all_added entries [] dids = []
+all_added entries (item ∷ items) [] = []
+all_added entries (item ∷ items) (did ∷ dids) = added entries item did ++ all_added did.entries items dids
 
 -- ---- what is asked of the items
 
@@ -44,14 +44,14 @@ abbrev pub ItemsSpare : Cartridge → Plain → List Item → List Did → Type 
 ItemsSpare c plain [] dids = Unit {0}
 ItemsSpare c plain (item ∷ items) [] = Unit {0}
 ItemsSpare c plain (item ∷ items) (did ∷ dids) =
-    LineSpares c plain item.line × ItemsSpare (changed_by (steps_of did.acts) c) (plain_after plain item did) items dids
+    LineSpares c plain item.line × ItemsSpare (changed_by (steps_of did.acts) c) (with_all plain (added (entries_of plain) item did)) items dids
 
 -- What is left stands for the plain cartridge behind so many items, where so many bytes were printed: all items whose reply
 -- was written whole are among them, and at most one more.
 pub record StandsAnswered (plain : Plain) (items : List Item) (dids : List Did) (printed : ℕ) (left : Option Cartridge) : Type 0 where
   pub count : ℕ
   pub within : count ≤ length items
-  pub stands : IsSomeAnd left (λ d. Stands d (plain_behind plain (take count items) (take count dids)))
+  pub stands : IsSomeAnd left (λ d. Stands d (with_all plain (all_added (entries_of plain) (take count items) (take count dids))))
   pub answered : (n : ℕ) → n ≤ length items → length (text_of (acts_of (take n dids))) ≤ printed → n ≤ count
   pub most : (n : ℕ) → suc n ≤ count → length (text_of (acts_of (take n dids))) ≤ printed
 

@@ -1,14 +1,15 @@
 -- What runs of several items leave of the plain cartridge that a cartridge stands for: generated runs, and scripts (this project's
 -- own).
 use Rattle.std.specs.Prelude.{ℕ, List, ◌≡◌, ◌≤◌, Option, Some, IsSomeAnd, ◌≢◌, ◌⊎◌, [], ◌<◌, All, length, take}
+use Rattle.cartridge_spec.specs.Appending.{with_all}
 use Rattle.cartridge_spec.specs.Mounting.{IsTableLive, settled}
 use Rattle.cartridge_spec.specs.Volumes.{Plain, Stands, entries_of}
 use Rattle.command_spec.specs.Headline.{EachNow, EachLeft}
 use Rattle.command_spec.specs.Listing.{IsHeard}
 use Rattle.command_spec.specs.Machine.{Spells}
-use Rattle.command_spec.specs.MadeVolumes.{with_made}
+use Rattle.command_spec.specs.MadeVolumes.{made_contents}
 use Rattle.command_spec.specs.Script.{ScriptDoes}
-use Rattle.command_spec.specs.ScriptLists.{ItemsSpare, plain_behind, StandsAnswered}
+use Rattle.command_spec.specs.ScriptLists.{ItemsSpare, StandsAnswered, all_added}
 use Rattle.command_spec.specs.declared.status.Status.{Status}
 use Rattle.qic_base.specs.Cartridge.{Cartridge}
 use Rattle.command_spec.specs.declared.words.Words.TheVariants as commands
@@ -29,15 +30,15 @@ pub record Generated (words : List (List ℕ)) (seed count : ℕ) (c : Cartridge
 abbrev pub SomeMade : (words : List (List ℕ)) → (held left : Option Cartridge) → Type 0
 SomeMade words held left =
     (seed count : ℕ) (c : Cartridge) (plain : Plain) → held ≡ Some c → Generated words seed count c plain → IsTableLive c →
-    (n : ℕ) × (n ≤ count) × IsSomeAnd left (λ d. Stands d (with_made seed plain 1 n))
+    (n : ℕ) × (n ≤ count) × IsSomeAnd left (λ d. Stands d (with_all plain (made_contents seed 1 n)))
 
 -- When it is over this was printed; and once it was carried out, all of the volumes are there. Where each sector of the table's
 -- segment takes a write, they are there, too, where anything was printed, or the sink failed.
 pub record AllMade {T K : Type 0} (t : tapes.Meaning T) (k : sinks.Meaning K) (old new : T) (before behind : K) (answer : Status) (seed count : ℕ) (c : Cartridge) (plain : Plain) : Type 0 where
   pub text : List ℕ
   pub took : k.took before text behind
-  pub done : answer ≡ status.Done → EachNow t old new (λ left. IsSomeAnd left (λ d. Stands d (with_made seed plain 1 count)))
-  pub all : IsTableLive c → (text ≢ []) ⊎ (answer ≡ status.SinkFault) → EachNow t old new (λ left. IsSomeAnd left (λ d. Stands d (with_made seed plain 1 count)))
+  pub done : answer ≡ status.Done → EachNow t old new (λ left. IsSomeAnd left (λ d. Stands d (with_all plain (made_contents seed 1 count))))
+  pub all : IsTableLive c → (text ≢ []) ⊎ (answer ≡ status.SinkFault) → EachNow t old new (λ left. IsSomeAnd left (λ d. Stands d (with_all plain (made_contents seed 1 count))))
 
 -- A generated run may be stopped: each cartridge that it leaves is so; and so it is when it is over.
 pub record MakesVolumes {T K : Type 0} (t : tapes.Meaning T) (k : sinks.Meaning K) (words : List (List ℕ)) (old new : T) (before behind : K) (answer : Status) : Type 0 where
@@ -65,7 +66,7 @@ abbrev pub SomeScripted : (told : Option (List ℕ)) → (words : List (List ℕ
 SomeScripted told words held left =
     (c : Cartridge) (plain : Plain) → held ≡ Some c → (script : Scripted told words c plain) → IsTableLive c →
     (n : ℕ) × (n ≤ length script.does.items)
-    × IsSomeAnd left (λ d. Stands d (plain_behind plain (take n script.does.items) (take n script.does.dids)))
+    × IsSomeAnd left (λ d. Stands d (with_all plain (all_added (entries_of plain) (take n script.does.items) (take n script.does.dids))))
 
 -- When it is over, whatever it answered, this was printed. Where each sector of the table's segment takes a write, all lines whose
 -- reply was written whole are among these, and at most one more; and all lines, also where some of these sectors take none, once
@@ -74,7 +75,7 @@ pub record AllAnswered {T K : Type 0} (t : tapes.Meaning T) (k : sinks.Meaning K
   pub text : List ℕ
   pub took : k.took before text behind
   pub answered : IsTableLive c → EachNow t old new (StandsAnswered plain script.does.items script.does.dids (length text))
-  pub all : IsHeard answer → EachNow t old new (λ left. IsSomeAnd left (λ d. Stands d (plain_behind plain script.does.items script.does.dids)))
+  pub all : IsHeard answer → EachNow t old new (λ left. IsSomeAnd left (λ d. Stands d (with_all plain (all_added (entries_of plain) script.does.items script.does.dids))))
 
 -- A script may be stopped: each cartridge that it leaves is so; and so it is when it is over.
 pub record CarriesOutLines {T K : Type 0} (t : tapes.Meaning T) (k : sinks.Meaning K) (told : Option (List ℕ)) (words : List (List ℕ)) (old new : T) (before behind : K) (answer : Status) : Type 0 where
