@@ -3,7 +3,7 @@ use Rattle.std.proofs.Common.{◌≡◌, ℕ, Option, Some, None, IfSome, subst,
 use Rattle.std.specs.Option.{option_map}
 use Rattle.std.specs.Prelude.{is_some}
 use Rattle.command_laws.proofs.CommandEndings.{refused_front, shorter_front, text_front}
-use Rattle.command_laws.proofs.CommandTotals.{plain_answers}
+use Rattle.command_laws.proofs.CommandTable.{plain_answers}
 use Rattle.command_spec.specs.Commands.{traits_of}
 use Rattle.command_spec.specs.Headline.{EachLeft, StopsGoOn, Stepped, Answers, NoneRose, WasCut, IsCut, WordsLeave, Joins, PrintsFront}
 use Rattle.command_spec.specs.Machine.{HasValues, Yields, Spells}

@@ -1,8 +1,6 @@
 -- The plain machine is a function, and it answers.
 use Rattle.std.proofs.Common.{◌≡◌, ℕ, List, Option, sym, ap, ◌∙◌, subst, inl, inr, [], refl, IfSome, ◌⊎◌}
-use Rattle.command_laws.proofs.CommandPlainLaws.{plain_is_function}
-use Rattle.command_laws.proofs.CommandTotals.{plain_answers}
-use Rattle.command_laws.proofs.CommandValues.{has_values}
+use Rattle.command_laws.proofs.CommandTable.{plain_is_function, plain_answers, has_values}
 use Rattle.command_laws.specs.CommandLaws.{IsSameOutcome, MachineIsFunction, MachineAnswers}
 use Rattle.command_laws.specs.TextWords.{OneCommand, IsNoCommand, EachWords}
 use Rattle.command_spec.specs.Commands.{IsCommand}

@@ -11,7 +11,7 @@ use Rattle.cartridge_spec.specs.Settling.{changed_by, settling_steps}
 use Rattle.cartridge_spec.specs.Volumes.{Plain, entries_of, Stands}
 use Rattle.command_laws.proofs.CommandEnds.{after_steps, is_a_fault, Laws, over_at, told_whole}
 use Rattle.command_laws.proofs.CommandOpened.{quiet}
-use Rattle.command_laws.proofs.CommandTotals.{plain_answers}
+use Rattle.command_laws.proofs.CommandTable.{plain_answers}
 use Rattle.command_laws.proofs.CommandVolumes.{now_weaker, whole_of, done_now, each_weaker}
 use Rattle.command_laws.proofs.MadeAnswered.{made_are_answered}
 use Rattle.command_laws.proofs.MadeStops.{done_make_stands, stopped_make_stands}

@@ -1,3 +1,4 @@
+pub mod AppendCommand
 pub mod CommandAdded
 pub mod CommandAppends
 pub mod CommandClean
@@ -6,6 +7,7 @@ pub mod CommandCompleting
 pub mod CommandEndings
 pub mod CommandEnds
 pub mod CommandGivenBack
+pub mod CommandKeeping
 pub mod CommandListing
 pub mod CommandMachineLaws
 pub mod CommandOneLoss
@@ -15,12 +17,19 @@ pub mod CommandPromises
 pub mod CommandSeveral
 pub mod CommandSteps
 pub mod CommandSurvives
+pub mod CommandTable
+pub mod CommandTexts
 pub mod CommandTold
 pub mod CommandTotals
 pub mod CommandValues
 pub mod CommandVolumes
+pub mod DefectCommand
+pub mod FormatCommand
+pub mod InfoCommand
 pub mod InputActLaws
 pub mod LineListings
+pub mod ListCommand
+pub mod LoseCommand
 pub mod MadeAnswered
 pub mod MadeComplete
 pub mod MadeLeaving
@@ -31,6 +40,7 @@ pub mod MadeMayLaws
 pub mod MadeOutcomes
 pub mod MadeStops
 pub mod MadeTelling
+pub mod MakeCommand
 pub mod MountedFronts
 pub mod MountedHeld
 pub mod MountedKeeping
@@ -38,12 +48,16 @@ pub mod MountedListed
 pub mod MountedListing
 pub mod MountedSaying
 pub mod MountedStanding
+pub mod NewCommand
 pub mod OutputActsOfPieces
 pub mod OutputJoining
+pub mod ProtectCommand
 pub mod PulseMachineLaws
 pub mod PulseStopping
 pub mod PulseTrains
+pub mod PulsesCommand
 pub mod RestoreAppended
+pub mod RestoreCommand
 pub mod RestoreCounts
 pub mod RestoreEndings
 pub mod RestoreGiven
@@ -51,6 +65,7 @@ pub mod RestorePieces
 pub mod RestoreStanding
 pub mod ScriptActs
 pub mod ScriptAnswered
+pub mod ScriptCommand
 pub mod ScriptCounted
 pub mod ScriptEarly
 pub mod ScriptGiven
@@ -69,6 +84,7 @@ pub mod ScriptValues
 pub mod ScrubAgain
 pub mod ScrubApart
 pub mod ScrubAtOnce
+pub mod ScrubCommand
 pub mod ScrubDone
 pub mod ScrubLooking
 pub mod ScrubMending

@@ -1,4 +1,5 @@
 pub mod CommandLaws
+pub mod CommandRecord
 pub mod InputLaws
 pub mod MadeLaws
 pub mod MountedHeld
