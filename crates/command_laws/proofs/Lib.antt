@@ -20,6 +20,10 @@ pub mod CommandTotals
 pub mod CommandValues
 pub mod CommandVolumes
 pub mod InputActLaws
+pub mod LifeFormats
+pub mod LifeLaws
+pub mod LifeRuns
+pub mod LifeUnformatted
 pub mod LineListings
 pub mod MadeAnswered
 pub mod MadeComplete

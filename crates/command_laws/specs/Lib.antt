@@ -1,5 +1,6 @@
 pub mod CommandLaws
 pub mod InputLaws
+pub mod Life
 pub mod MadeLaws
 pub mod MountedHeld
 pub mod MountedKept
