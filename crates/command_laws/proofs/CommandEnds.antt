@@ -59,7 +59,7 @@ named_outcome command status.TapeFault is = cc
 named_outcome command status.NoMemory is = cc
 named_outcome command answer is = refl
 
-done_or_not : (answer : Status) → (answer ≡ status.Done) ⊎ (answer ≢ status.Done)
+pub done_or_not : (answer : Status) → (answer ≡ status.Done) ⊎ (answer ≢ status.Done)
 done_or_not status.Done = inl refl
 done_or_not answer = inr (λ is. cc)
 

@@ -119,7 +119,7 @@ fresh_for : (c : Cartridge) (label : List ℕ) (date : ℕ) (words : List ℕ) (
     IsFreshFor c label date words area
 fresh_for c label date words area none fresh = record { fresh = fresh; front = none }
 
-format_standing : (label : List ℕ) (date : ℕ) (c : Cartridge) (plain : Plain) (left : Option Cartridge) → IsCartridge c → StandsCleanly c plain →
+pub format_standing : (label : List ℕ) (date : ℕ) (c : Cartridge) (plain : Plain) (left : Option Cartridge) → IsCartridge c → StandsCleanly c plain →
     FormatLeaves label date (Some c) left → IsSomeAnd left (λ d. StandsCleanly d plain ⊎ IsUnformatted d ⊎ StandsEmpty c label date d)
 format_standing label date c plain left whole stood (inl (locked, same)) =
     some_and (λ d. StandsCleanly d plain ⊎ IsUnformatted d ⊎ StandsEmpty c label date d) c left (inl stood) same
@@ -136,7 +136,7 @@ format_standing label date c plain left whole stood (inr (inr (free, none, (word
     ])
     (stopped_format c plain label date words area left whole stood is_fresh torn)
 
-format_bare : (label : List ℕ) (date : ℕ) (c : Cartridge) (left : Option Cartridge) → IsCartridge c → HasNoHeader c →
+pub format_bare : (label : List ℕ) (date : ℕ) (c : Cartridge) (left : Option Cartridge) → IsCartridge c → HasNoHeader c →
     IsUnformatted c → FormatLeaves label date (Some c) left → IsSomeAnd left (λ d. IsUnformatted d ⊎ StandsEmpty c label date d)
 format_bare label date c left whole bare unformatted (inl (locked, same)) =
     some_and (λ d. IsUnformatted d ⊎ StandsEmpty c label date d) c left (inl unformatted) same
@@ -286,7 +286,7 @@ renewed_effect : (segments : ℕ) (held : Option Cartridge) → effects (Renew s
 renewed_effect segments None = refl
 renewed_effect segments (Some c) = refl
 
-formatted_fresh : (label : List ℕ) (date : ℕ) (c : Cartridge) (outcome : CommandOutcome) → IsCartridge c → FormatOutcome label date (Some c) outcome → outcome.status ≡ status.Done →
+pub formatted_fresh : (label : List ℕ) (date : ℕ) (c : Cartridge) (outcome : CommandOutcome) → IsCartridge c → FormatOutcome label date (Some c) outcome → outcome.status ≡ status.Done →
     IsSomeAnd (effects (steps_of outcome.acts) (Some c)) (StandsFresh c label date)
 formatted_fresh label date c outcome whole (inl (locked, is)) done = let other = ap (λ (o : CommandOutcome). o.status) is in absurd (cc)
 formatted_fresh label date c outcome whole (inr (inl (free, (segment, first, is)))) done = let other = ap (λ (o : CommandOutcome). o.status) is in absurd (cc)
@@ -312,7 +312,7 @@ cleared_bare c whole =
     } in
     (bare, unformatted_from_bare d bare)
 
-cleared_is_bare : (label : List ℕ) (date front : ℕ) (c : Cartridge) (outcome : CommandOutcome) → IsCartridge c → FormatOutcome label date (Some c) outcome → outcome.status ≡ status.DefectInFront front →
+pub cleared_is_bare : (label : List ℕ) (date front : ℕ) (c : Cartridge) (outcome : CommandOutcome) → IsCartridge c → FormatOutcome label date (Some c) outcome → outcome.status ≡ status.DefectInFront front →
     IsSomeAnd (effects (steps_of outcome.acts) (Some c)) IsBare
 cleared_is_bare label date front c outcome whole (inl (locked, is)) done = let other = ap (λ (o : CommandOutcome). o.status) is in absurd (cc)
 cleared_is_bare label date front c outcome whole (inr (inl (free, (segment, first, is)))) done =

@@ -27,6 +27,10 @@ pub mod DefectCommand
 pub mod FormatCommand
 pub mod InfoCommand
 pub mod InputActLaws
+pub mod LifeFormats
+pub mod LifeLaws
+pub mod LifeRuns
+pub mod LifeUnformatted
 pub mod LineListings
 pub mod ListCommand
 pub mod LoseCommand

@@ -1,6 +1,7 @@
 pub mod CommandLaws
 pub mod CommandRecord
 pub mod InputLaws
+pub mod Life
 pub mod MadeLaws
 pub mod MountedHeld
 pub mod MountedKept

@@ -5,6 +5,7 @@
 
 pub mod commands;
 pub mod generated;
+pub mod lives;
 pub mod mounted;
 pub mod restoring;
 pub mod scripts;
