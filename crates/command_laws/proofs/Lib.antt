@@ -68,10 +68,12 @@ pub mod ScrubAgain
 pub mod ScrubApart
 pub mod ScrubAtOnce
 pub mod ScrubDone
+pub mod ScrubForms
 pub mod ScrubLooking
 pub mod ScrubMending
 pub mod ScrubMounted
 pub mod ScrubNamed
+pub mod ScrubSeen
 pub mod ScrubSettled
 pub mod ScrubStanding
 pub mod ScrubTurns

@@ -1,4 +1,5 @@
 pub mod CommandLaws
+pub mod DeepScrubLaws
 pub mod InputLaws
 pub mod MadeLaws
 pub mod MountedHeld
@@ -13,6 +14,7 @@ pub mod ScriptItems
 pub mod ScriptLaws
 pub mod ScriptListing
 pub mod ScriptStanding
+pub mod ScrubFound
 pub mod ScrubLaws
 pub mod ScrubMended
 pub mod ScrubSayings

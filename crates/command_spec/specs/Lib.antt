@@ -25,6 +25,7 @@ pub mod Runs
 pub mod Script
 pub mod ScriptLists
 pub mod Scrub
+pub mod ScrubForms
 pub mod Several
 pub mod Traits
 pub mod Volumes
