@@ -73,6 +73,7 @@ pub mod ScrubLooking
 pub mod ScrubMending
 pub mod ScrubMounted
 pub mod ScrubNamed
+pub mod ScrubOneWrong
 pub mod ScrubSeen
 pub mod ScrubSettled
 pub mod ScrubStanding

@@ -19,6 +19,18 @@ ShallowIsScrub =
     (c : Cartridge) (words : List ℕ) (entries : List Entry) (acts : List Act) →
     ScrubsAs Shallow c words entries acts ↔ Scrubs c words entries acts
 
+-- scrubbing a cartridge in a form is one list of acts: at most one sector of a segment is wrong
+abbrev pub FormIsFunction : Type 0
+FormIsFunction =
+    (depth : Depth) (c : Cartridge) (words : List ℕ) (entries : List Entry) (a b : List Act) → ScrubsAs depth c words entries a →
+    ScrubsAs depth c words entries b → a ≡ b
+
+-- and there is one
+abbrev pub FormAlways : Type 0
+FormAlways =
+    (depth : Depth) (c : Cartridge) (words : List ℕ) (entries : List Entry) → IsCartridge c →
+    (acts : List Act) × ScrubsAs depth c words entries acts
+
 -- the segments that are looked at ascend, so what is found of each, and what is done in it, follows from the cartridge as it
 -- was before the first write
 abbrev pub FindsAtOnce : Type 0
