@@ -90,10 +90,13 @@ pub mod ScrubApart
 pub mod ScrubAtOnce
 pub mod ScrubCommand
 pub mod ScrubDone
+pub mod ScrubForms
 pub mod ScrubLooking
 pub mod ScrubMending
 pub mod ScrubMounted
 pub mod ScrubNamed
+pub mod ScrubOneWrong
+pub mod ScrubSeen
 pub mod ScrubSettled
 pub mod ScrubStanding
 pub mod ScrubTurns

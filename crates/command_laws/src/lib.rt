@@ -4,6 +4,7 @@
 #![tactic(auto)]
 
 pub mod commands;
+pub mod deep_scrubbing;
 pub mod generated;
 pub mod lives;
 pub mod mounted;

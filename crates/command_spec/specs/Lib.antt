@@ -33,6 +33,7 @@ pub mod ScriptCommand
 pub mod ScriptLists
 pub mod Scrub
 pub mod ScrubCommand
+pub mod ScrubForms
 pub mod Several
 pub mod Traits
 pub mod Volumes
