@@ -7,8 +7,8 @@ use Rattle.std.proofs.lemmas.Bool.{cases_Bool, leb-true, le-leb, cases_lt}
 use Rattle.std.proofs.lemmas.List.Elements.{All-head, All-tail}
 use Rattle.std.proofs.lemmas.List.{append_assoc, take_all, take_at, append-nil, take-append-drop, length-take, length-drop}
 use Rattle.cartridge_laws.proofs.AppendDone.{segments_are}
-use Rattle.cartridge_laws.proofs.AppendSegments.{carries, carried, carrying_are, AreTaken, HasRoom, carrying_carry, room_is}
-use Rattle.cartridge_laws.proofs.AppendVolume.{ready_taken, may_append}
+use Rattle.cartridge_laws.proofs.AppendSegments.{carries, carried, carrying_are, AreTaken, HasRoom, carrying_carry}
+use Rattle.cartridge_laws.proofs.AppendVolume.{ready_taken, may_append, plain_room}
 use Rattle.cartridge_laws.proofs.MountWriting.{places_that, places_none, places_passes, places_fails}
 use Rattle.cartridge_laws.specs.AppendLaws.{AppendedBytes}
 use Rattle.cartridge_laws.specs.AppendSettled.{DoneBytes}
@@ -126,20 +126,20 @@ by_fit false size all is = absurd (cc)
 pub done_bytes : DoneBytes
 done_bytes c plain name date bytes ready =
     let words : List ℕ = plain.words in
-    let last : ℕ = last_segment c in
+    let last : ℕ = length words - 1 in
     let from : ℕ = last_end (entries_of plain) in
-    let segments : List ℕ = new_segments plain last bytes in
-    let volume : Volume = appended_volume plain last name date bytes in
+    let segments : List ℕ = new_segments plain bytes in
+    let volume : Volume = appended_volume plain name date bytes in
     let entry : Entry = volume.entry in
-    let taken : AreTaken words from last segments = ready_taken c plain name date bytes ready in
-    let room : HasRoom words (entries_of plain) last (length bytes) = room_is words (entries_of plain) last (length bytes) ready.room in
+    let taken : AreTaken words from (last_segment c) segments = ready_taken c plain name date bytes ready in
+    let room : HasRoom words (entries_of plain) last (length bytes) = plain_room plain (length bytes) ready.room in
     let enough : length bytes ≤ capacity_between words (from + 1) last = room.enough in
     let free : capacity_between words (from + 1) last ≡ capacity_of words (free_segments words (entries_of plain) last) =
     between_carries words (from + 1) last in
     let carry : length bytes ≤ capacity_of words segments =
     taken_enough words (length bytes) (free_segments words (entries_of plain) last) (omega arith) in
     let all : capacity_between words entry.start entry.end ≡ capacity_of words segments =
-    between_carries words entry.start entry.end ∙ ap (capacity_of words) (segments_are words from last segments taken) in
+    between_carries words entry.start entry.end ∙ ap (capacity_of words) (segments_are words from (last_segment c) segments taken) in
     let sectors : capacity_of words segments ≡ 1024 * sectors_in words segments =
     sectors_carry words segments
     (subst (λ (ss : List ℕ). All (λ s. Carries (mask_at words s)) ss) (sym taken.are) (carrying_carry words taken.start taken.end)) in

@@ -17,11 +17,11 @@ use Rattle.cartridge_laws.proofs.FormatWriting.{changed_by-append, effects-some,
 use Rattle.cartridge_laws.proofs.MountParts.{data_read}
 use Rattle.cartridge_laws.proofs.TableOrders.{sound_is_faultless}
 use Rattle.cartridge_laws.specs.AppendBetween.{IsWhole, IsBegun, Between}
-use Rattle.cartridge_laws.specs.AppendLaws.{IsReadyFor, StoppedList, AppendedIsWhole, AppendedStands, StoppedAppend}
+use Rattle.cartridge_laws.specs.AppendLaws.{IsReadyFor, StoppedList, AppendedIsWhole, AppendedStands, StoppedAppend, new_table}
 use Rattle.cartridge_laws.specs.AppendSettled.{MayAppendTo, IsSettledFor, DoneIsSettledFor, DoneStands}
 use Rattle.cartridge_laws.specs.AppendSteps.{volume_writes, list_writes, append_steps}
 use Rattle.cartridge_laws.specs.Shape.{Carries}
-use Rattle.cartridge_spec.specs.Appending.{new_segments, appended_volume, last_end, appended_table, with_volume}
+use Rattle.cartridge_spec.specs.Appending.{new_segments, appended_volume, last_end, with_volume}
 use Rattle.cartridge_spec.specs.HeaderAndTable.{last_segment, table_cells, TableIs, IsArea}
 use Rattle.cartridge_spec.specs.Says.{Written, ReadsAll}
 use Rattle.cartridge_spec.specs.Settling.{changed_by}
@@ -43,14 +43,14 @@ segments_are words from last segments taken =
     ∙ sym taken.are
 
 new_stands : (c : Cartridge) (plain : Plain) (name : List ℕ) (date : ℕ) (bytes : List ℕ) → MayAppendTo c plain name date bytes →
-    VolumeStands (changed_by (volume_writes plain (last_segment c) bytes (appended_volume plain (last_segment c) name date bytes)) c)
-    plain.words (appended_volume plain (last_segment c) name date bytes)
+    VolumeStands (changed_by (volume_writes plain bytes (appended_volume plain name date bytes)) c)
+    plain.words (appended_volume plain name date bytes)
 new_stands c plain name date bytes ready =
     let words : List ℕ = plain.words in
     let last : ℕ = last_segment c in
-    let segments : List ℕ = new_segments plain last bytes in
-    let volume : Volume = appended_volume plain last name date bytes in
-    let d : Cartridge = changed_by (volume_writes plain last bytes volume) c in
+    let segments : List ℕ = new_segments plain bytes in
+    let volume : Volume = appended_volume plain name date bytes in
+    let d : Cartridge = changed_by (volume_writes plain bytes volume) c in
     let taken : AreTaken words (last_end (entries_of plain)) last segments = ready_taken c plain name date bytes ready in
     let are : carrying_segments words volume.entry ≡ segments = segments_are words (last_end (entries_of plain)) last segments taken in
     let long : length volume.area ≡ sectors_in words segments = length-in_sectors (sectors_in words segments) bytes in
@@ -101,20 +101,20 @@ stands_old c d e plain stood first next reads =
 
 -- and one whose table is read as the new one stands for the plain one with the volume
 stands_new : (c e : Cartridge) (plain : Plain) (name : List ℕ) (date : ℕ) (bytes : List ℕ) → MayAppendTo c plain name date bytes →
-    IsKeptBut OfTable (changed_by (volume_writes plain (last_segment c) bytes (appended_volume plain (last_segment c) name date bytes)) c) e →
-    Written (table_cells e) (appended_table plain (appended_volume plain (last_segment c) name date bytes).entry)
-    ⊎ ReadsAll (table_cells e) (appended_table plain (appended_volume plain (last_segment c) name date bytes).entry) →
-    Stands e (with_volume plain (appended_volume plain (last_segment c) name date bytes))
+    IsKeptBut OfTable (changed_by (volume_writes plain bytes (appended_volume plain name date bytes)) c) e →
+    Written (table_cells e) (new_table plain name date bytes)
+    ⊎ ReadsAll (table_cells e) (new_table plain name date bytes) →
+    Stands e (with_volume plain (appended_volume plain name date bytes))
 stands_new c e plain name date bytes ready next reads =
     let words : List ℕ = plain.words in
     let last : ℕ = last_segment c in
-    let volume : Volume = appended_volume plain last name date bytes in
-    let table : List (List ℕ) = appended_table plain volume.entry in
+    let volume : Volume = appended_volume plain name date bytes in
+    let table : List (List ℕ) = new_table plain name date bytes in
     let volumes : List Volume = plain.volumes ++ volume ∷ [] in
-    let d : Cartridge = changed_by (volume_writes plain last bytes volume) c in
+    let d : Cartridge = changed_by (volume_writes plain bytes volume) c in
     let stood : Stands c plain = ready.stands in
     let first : IsKeptBut (Behind plain) c d =
-    steps_kept (Behind plain) (volume_writes plain last bytes volume) c (volume_writes_behind c plain name date bytes volume ready) in
+    steps_kept (Behind plain) (volume_writes plain bytes volume) c (volume_writes_behind c plain name date bytes volume ready) in
     let shows = done_table_shows c plain name date bytes ready in
     let taken = ready_taken c plain name date bytes ready in
     let least : 2 ≤ last_end (entries_of plain) = last_end_least c plain stood in
@@ -125,7 +125,7 @@ stands_new c e plain name date bytes ready next reads =
       area = shows.0;
       areas = All-append (λ (v : Volume). All IsSector v.area) plain.volumes (volume ∷ []) stood.whole.areas
           (All-cons (λ (v : Volume). All IsSector v.area) volume []
-          (are_sectors (sectors_in words (new_segments plain last bytes)) bytes ready.content) (All-nil (λ (v : Volume). All IsSector v.area)));
+          (are_sectors (sectors_in words (new_segments plain bytes)) bytes ready.content) (All-nil (λ (v : Volume). All IsSector v.area)));
       sound = sound_is_faultless table last (entries_of (with_volume plain volume)) shows.2 shows.1;
       shown = shows.1;
       stand = volumes_kept d e words volumes (behind_table d e next)
@@ -142,24 +142,24 @@ list_in : (plain : Plain) (volume : Volume) → length plain.volumes < 232 → A
 list_in plain volume few = ((refl, omega arith), ((refl, omega arith), ((refl, omega arith), ((refl, omega arith), tt))))
 
 table_kept : (c : Cartridge) (plain : Plain) (name : List ℕ) (date : ℕ) (bytes : List ℕ) → MayAppendTo c plain name date bytes →
-    AreKeptTo 2 c (changed_by (volume_writes plain (last_segment c) bytes (appended_volume plain (last_segment c) name date bytes)) c)
+    AreKeptTo 2 c (changed_by (volume_writes plain bytes (appended_volume plain name date bytes)) c)
 table_kept c plain name date bytes may =
-    let volume : Volume = appended_volume plain (last_segment c) name date bytes in
-    let writes : List Step = volume_writes plain (last_segment c) bytes volume in
+    let volume : Volume = appended_volume plain name date bytes in
+    let writes : List Step = volume_writes plain bytes volume in
     kept_to c (changed_by writes c) plain 2 (last_end_least c plain may.stands)
     (steps_kept (Behind plain) writes c (volume_writes_behind c plain name date bytes volume may))
 
 whole_then : (c : Cartridge) (plain : Plain) (name : List ℕ) (date : ℕ) (bytes : List ℕ) → IsReadyFor c plain name date bytes →
-    IsWhole (changed_by (volume_writes plain (last_segment c) bytes (appended_volume plain (last_segment c) name date bytes)) c) plain.table_area
+    IsWhole (changed_by (volume_writes plain bytes (appended_volume plain name date bytes)) c) plain.table_area
 whole_then c plain name date bytes ready =
-    let volume : Volume = appended_volume plain (last_segment c) name date bytes in
-    whole_kept c (changed_by (volume_writes plain (last_segment c) bytes volume) c) plain.table_area
+    let volume : Volume = appended_volume plain name date bytes in
+    whole_kept c (changed_by (volume_writes plain bytes volume) c) plain.table_area
     (table_kept c plain name date bytes (may_append ready)) ready.whole
 
 new_differs : (c : Cartridge) (plain : Plain) (name : List ℕ) (date : ℕ) (bytes : List ℕ) → MayAppendTo c plain name date bytes →
-    DifferIn plain.table_area (appended_table plain (appended_volume plain (last_segment c) name date bytes).entry) (slot_sector (length plain.volumes))
+    DifferIn plain.table_area (new_table plain name date bytes) (slot_sector (length plain.volumes))
 new_differs c plain name date bytes ready =
-    slot_differs plain.table_area (length plain.volumes) (slot_bytes (appended_volume plain (last_segment c) name date bytes).entry) ready.stands.whole.table_area
+    slot_differs plain.table_area (length plain.volumes) (slot_bytes (appended_volume plain name date bytes).entry) ready.stands.whole.table_area
 
 changed_small : (c : Cartridge) (plain : Plain) (name : List ℕ) (date : ℕ) (bytes : List ℕ) → MayAppendTo c plain name date bytes →
     slot_sector (length plain.volumes) < 29
@@ -168,7 +168,7 @@ changed_small c plain name date bytes ready = let few = ready_count c plain name
 pub stopped_list : StoppedList
 stopped_list c d plain name date bytes left ready is torn =
     let whole : IsWhole d plain.table_area = subst (λ (e : Cartridge). IsWhole e plain.table_area) (sym is) (whole_then c plain name date bytes ready) in
-    table_stopped d plain.table_area (appended_table plain (appended_volume plain (last_segment c) name date bytes).entry)
+    table_stopped d plain.table_area (new_table plain name date bytes)
     (slot_sector (length plain.volumes)) left (changed_small c plain name date bytes (may_append ready))
     (new_differs c plain name date bytes (may_append ready)) whole torn
 
@@ -176,37 +176,37 @@ stopped_list c d plain name date bytes left ready is torn =
 
 pub appended_is_whole : AppendedIsWhole
 appended_is_whole c plain name date bytes ready =
-    let volume : Volume = appended_volume plain (last_segment c) name date bytes in
-    let first : List Step = volume_writes plain (last_segment c) bytes volume in
+    let volume : Volume = appended_volume plain name date bytes in
+    let first : List Step = volume_writes plain bytes volume in
     let next : List Step = list_writes plain volume in
-    subst (λ (e : Cartridge). IsWhole e (appended_table plain volume.entry)) (sym (changed_by-append first next c))
-    (λ i h. table_written Each (changed_by first c) plain.table_area (appended_table plain volume.entry) (slot_sector (length plain.volumes))
+    subst (λ (e : Cartridge). IsWhole e (new_table plain name date bytes)) (sym (changed_by-append first next c))
+    (λ i h. table_written Each (changed_by first c) plain.table_area (new_table plain name date bytes) (slot_sector (length plain.volumes))
     (changed_small c plain name date bytes (may_append ready)) (new_differs c plain name date bytes (may_append ready))
     (λ j within is. whole_then c plain name date bytes ready j within) i h tt)
 
 pub done_is_settled_for : DoneIsSettledFor
 done_is_settled_for c plain name date bytes may known =
-    let volume : Volume = appended_volume plain (last_segment c) name date bytes in
-    let first : List Step = volume_writes plain (last_segment c) bytes volume in
+    let volume : Volume = appended_volume plain name date bytes in
+    let first : List Step = volume_writes plain bytes volume in
     let next : List Step = list_writes plain volume in
-    subst (λ (e : Cartridge). IsSettledFor e (appended_table plain volume.entry)) (sym (changed_by-append first next c))
-    (table_settled (changed_by first c) plain.table_area (appended_table plain volume.entry) (slot_sector (length plain.volumes))
+    subst (λ (e : Cartridge). IsSettledFor e (new_table plain name date bytes)) (sym (changed_by-append first next c))
+    (table_settled (changed_by first c) plain.table_area (new_table plain name date bytes) (slot_sector (length plain.volumes))
     (changed_small c plain name date bytes may) (new_differs c plain name date bytes may) (done_table_shows c plain name date bytes may).0
     (settled_kept c (changed_by first c) plain.table_area (table_kept c plain name date bytes may) known))
 
 pub done_stands : DoneStands
 done_stands c plain name date bytes may known =
-    let volume : Volume = appended_volume plain (last_segment c) name date bytes in
-    let first : List Step = volume_writes plain (last_segment c) bytes volume in
+    let volume : Volume = appended_volume plain name date bytes in
+    let first : List Step = volume_writes plain bytes volume in
     let next : List Step = list_writes plain volume in
     let d : Cartridge = changed_by first c in
-    let all : changed_by (append_steps plain (last_segment c) bytes volume) c ≡ changed_by next d = changed_by-append first next c in
-    let then : IsSettledFor (changed_by next d) (appended_table plain volume.entry) =
-    subst (λ (e : Cartridge). IsSettledFor e (appended_table plain volume.entry)) all (done_is_settled_for c plain name date bytes may known) in
+    let all : changed_by (append_steps plain bytes volume) c ≡ changed_by next d = changed_by-append first next c in
+    let then : IsSettledFor (changed_by next d) (new_table plain name date bytes) =
+    subst (λ (e : Cartridge). IsSettledFor e (new_table plain name date bytes)) all (done_is_settled_for c plain name date bytes may known) in
     subst (λ (e : Cartridge). Stands e (with_volume plain volume)) (sym all)
     (stands_new c (changed_by next d) plain name date bytes may
     (steps_kept OfTable next d (list_in plain volume (ready_count c plain name date bytes may)))
-    (inl (live_written (changed_by next d) (appended_table plain volume.entry) (done_table_shows c plain name date bytes may).0 then.live)))
+    (inl (live_written (changed_by next d) (new_table plain name date bytes) (done_table_shows c plain name date bytes may).0 then.live)))
 
 pub appended_stands : AppendedStands
 appended_stands c plain name date bytes ready = done_stands c plain name date bytes (may_append ready) (ready_settled ready)
@@ -224,17 +224,17 @@ pub record IsReadAs (d : Cartridge) (plain : Plain) : Type 0 where
 
 -- what stands while the table is written
 by_between : (c e : Cartridge) (plain : Plain) (name : List ℕ) (date : ℕ) (bytes : List ℕ) → IsReadyFor c plain name date bytes →
-    IsKeptBut OfTable (changed_by (volume_writes plain (last_segment c) bytes (appended_volume plain (last_segment c) name date bytes)) c) e →
-    Between e plain.table_area (appended_table plain (appended_volume plain (last_segment c) name date bytes).entry) (slot_sector (length plain.volumes)) →
-    IsReadAs e plain ⊎ IsReadAs e (with_volume plain (appended_volume plain (last_segment c) name date bytes))
+    IsKeptBut OfTable (changed_by (volume_writes plain bytes (appended_volume plain name date bytes)) c) e →
+    Between e plain.table_area (new_table plain name date bytes) (slot_sector (length plain.volumes)) →
+    IsReadAs e plain ⊎ IsReadAs e (with_volume plain (appended_volume plain name date bytes))
 by_between c e plain name date bytes ready next between = by_state between
   where
     volume : Volume
-    volume = appended_volume plain (last_segment c) name date bytes
+    volume = appended_volume plain name date bytes
 
-    first : IsKeptBut (Behind plain) c (changed_by (volume_writes plain (last_segment c) bytes volume) c)
+    first : IsKeptBut (Behind plain) c (changed_by (volume_writes plain bytes volume) c)
     first =
-        steps_kept (Behind plain) (volume_writes plain (last_segment c) bytes volume) c
+        steps_kept (Behind plain) (volume_writes plain bytes volume) c
         (volume_writes_behind c plain name date bytes volume (may_append ready))
 
     small : slot_sector (length plain.volumes) < 29
@@ -246,18 +246,18 @@ by_between c e plain name date bytes ready next between = by_state between
     old : Written (table_cells e) plain.table_area ⊎ ReadsAll (table_cells e) plain.table_area →
         IsWhole e plain.table_area ⊎ IsBegun e plain.table_area (slot_sector (length plain.volumes)) → IsReadAs e plain
     old reads state = record {
-      stands = stands_old c (changed_by (volume_writes plain (last_segment c) bytes volume) c) e plain ready.stands first next reads;
+      stands = stands_old c (changed_by (volume_writes plain bytes volume) c) e plain ready.stands first next reads;
       table = before_reads_old e plain.table_area (slot_sector (length plain.volumes)) area small state;
     }
 
-    by_state : Between e plain.table_area (appended_table plain volume.entry) (slot_sector (length plain.volumes)) →
+    by_state : Between e plain.table_area (new_table plain name date bytes) (slot_sector (length plain.volumes)) →
         IsReadAs e plain ⊎ IsReadAs e (with_volume plain volume)
     by_state (inl whole) = inl (old (inr (data_read e plain.table_area area (λ i h. whole i (omega arith)))) (inl whole))
     by_state (inr (inl begun)) =
         inl (old (inl (begun_written e plain.table_area (slot_sector (length plain.volumes)) area begun)) (inr begun))
     by_state (inr (inr turned)) =
         let from : 29 ≤ turned.turn = turned.from in
-        let table : List (List ℕ) = appended_table plain volume.entry in
+        let table : List (List ℕ) = new_table plain name date bytes in
         let new_area : IsArea table = (done_table_shows c plain name date bytes (may_append ready)).0 in
         inr (record {
           stands = stands_new c e plain name date bytes (may_append ready) next
@@ -267,11 +267,11 @@ by_between c e plain name date bytes ready next between = by_state between
 
 pub stopped_reads : (c : Cartridge) (plain : Plain) (name : List ℕ) (date : ℕ) (bytes : List ℕ) (left : Option Cartridge) →
     IsReadyFor c plain name date bytes →
-    Torn (append_steps plain (last_segment c) bytes (appended_volume plain (last_segment c) name date bytes)) (Some c) left →
-    IsSomeAnd left (λ d. IsReadAs d plain ⊎ IsReadAs d (with_volume plain (appended_volume plain (last_segment c) name date bytes)))
+    Torn (append_steps plain bytes (appended_volume plain name date bytes)) (Some c) left →
+    IsSomeAnd left (λ d. IsReadAs d plain ⊎ IsReadAs d (with_volume plain (appended_volume plain name date bytes)))
 stopped_reads c plain name date bytes left ready torn =
-    let volume : Volume = appended_volume plain (last_segment c) name date bytes in
-    let first : List Step = volume_writes plain (last_segment c) bytes volume in
+    let volume : Volume = appended_volume plain name date bytes in
+    let first : List Step = volume_writes plain bytes volume in
     let next : List Step = list_writes plain volume in
     let d : Cartridge = changed_by first c in
     elim (Torn-append first next (Some c) left torn) [
@@ -286,7 +286,7 @@ stopped_reads c plain name date bytes left ready torn =
           let rear : Torn next (Some d) left = subst (λ (held : Option Cartridge). Torn next held left) (effects-some first c) behind in
           some_weaker left (λ e known. by_between c e plain name date bytes ready known.0 known.1)
           (some_both (IsKeptBut OfTable d)
-          (λ e. Between e plain.table_area (appended_table plain volume.entry) (slot_sector (length plain.volumes))) left
+          (λ e. Between e plain.table_area (new_table plain name date bytes) (slot_sector (length plain.volumes))) left
           (steps_stopped OfTable next d left (list_in plain volume (ready_count c plain name date bytes (may_append ready))) rear)
           (stopped_list c d plain name date bytes left ready refl rear))
     ]

@@ -1,5 +1,5 @@
 -- What an append leaves, done or stopped, is mounted as what it stands for, and its header copies are as they were.
-use Rattle.std.proofs.Common.{ℕ, ◌≤◌, ◌-◌, ◌<◌, List, arith, ◌≡◌, ◌⊎◌, sym, subst, refl, inl, inr, Contains, length, Option, Some, IsSomeAnd, ◌*◌, ap, ◌∙◌}
+use Rattle.std.proofs.Common.{ℕ, ◌≤◌, ◌<◌, List, arith, ◌≡◌, ◌⊎◌, sym, subst, refl, inl, inr, Contains, length, Option, Some, IsSomeAnd, ◌∙◌}
 use Rattle.std.proofs.lemmas.List.Elements.{All-weaker, All-contains_itself, Contains-get_or}
 use Rattle.cartridge_laws.proofs.AppendDead.{ready_settled, settled_kept}
 use Rattle.cartridge_laws.proofs.AppendDone.{IsReadAs, done_stands, done_is_settled_for, either_of, stopped_reads, some_both, stopped_append}
@@ -14,7 +14,7 @@ use Rattle.cartridge_laws.specs.AppendLaws.{AppendedMounts, StoppedAppendMounts,
 use Rattle.cartridge_laws.specs.AppendSettled.{DoneMounts, MayAppendTo, DoneIsClean, DoneTouchesOnly, FreeWritesLeaveSettled}
 use Rattle.cartridge_laws.specs.AppendSteps.{append_steps, volume_writes, list_writes, IsNamed}
 use Rattle.cartridge_laws.specs.AppendWrites.{KeepsTo, AreWrites, IsFree, IsOfSector}
-use Rattle.cartridge_spec.specs.Appending.{appended_volume, with_volume, new_segments, last_end, table_places, has_room}
+use Rattle.cartridge_spec.specs.Appending.{appended_volume, with_volume, new_segments, last_end, table_places}
 use Rattle.cartridge_spec.specs.Formatting.{IsCleanCopy, StandsCleanly}
 use Rattle.cartridge_spec.specs.HeaderAndTable.{last_segment, copy_cells}
 use Rattle.cartridge_spec.specs.Mounting.{Mounts, mounted_as}
@@ -26,7 +26,6 @@ use Rattle.qic_base.specs.Cartridge.{Cartridge, IsCartridge}
 use Rattle.qic_base.specs.Step.{Step}
 use Rattle.qic_base.specs.Stop.{Torn}
 use Rattle.qic_base.specs.declared.tape.SectorView.{SectorView}
-use Rattle.qic_base.specs.declared.tape.TapeInfo.{TapeInfo}
 
 -- ---- mounting
 
@@ -35,8 +34,8 @@ read_mounts d plain reads = standing_mounts d plain reads.stands (can_be_read d 
 
 pub done_mounts : DoneMounts
 done_mounts c plain name date bytes may known =
-    let volume : Volume = appended_volume plain (last_segment c) name date bytes in
-    read_mounts (changed_by (append_steps plain (last_segment c) bytes volume) c) (with_volume plain volume) (record {
+    let volume : Volume = appended_volume plain name date bytes in
+    read_mounts (changed_by (append_steps plain bytes volume) c) (with_volume plain volume) (record {
       stands = done_stands c plain name date bytes may known;
       table = (done_is_settled_for c plain name date bytes may known).table;
     })
@@ -46,7 +45,7 @@ appended_mounts c plain name date bytes ready = done_mounts c plain name date by
 
 pub stopped_append_mounts : StoppedAppendMounts
 stopped_append_mounts c plain name date bytes left ready torn =
-    let volume : Volume = appended_volume plain (last_segment c) name date bytes in
+    let volume : Volume = appended_volume plain name date bytes in
     some_weaker left (λ d known. either_of (read_mounts d plain) (read_mounts d (with_volume plain volume)) known)
     (stopped_reads c plain name date bytes left ready torn)
 
@@ -57,15 +56,15 @@ abbrev BehindCopies : (segment sector : ℕ) → Type 0
 BehindCopies segment sector = 2 ≤ segment
 
 append_in : (c : Cartridge) (plain : Plain) (name : List ℕ) (date : ℕ) (bytes : List ℕ) → MayAppendTo c plain name date bytes →
-    AreIn BehindCopies (append_steps plain (last_segment c) bytes (appended_volume plain (last_segment c) name date bytes))
+    AreIn BehindCopies (append_steps plain bytes (appended_volume plain name date bytes))
 append_in c plain name date bytes ready =
     let last : ℕ = last_segment c in
-    let volume : Volume = appended_volume plain last name date bytes in
-    let segments : List ℕ = new_segments plain last bytes in
+    let volume : Volume = appended_volume plain name date bytes in
+    let segments : List ℕ = new_segments plain bytes in
     let from : ℕ = last_end (entries_of plain) in
     let least : 2 ≤ from = last_end_least c plain ready.stands in
     let few = ready_count c plain name date bytes ready in
-    in_append BehindCopies (volume_writes plain last bytes volume) (list_writes plain volume)
+    in_append BehindCopies (volume_writes plain bytes volume) (list_writes plain volume)
     (parts_of_segments (λ s. 2 ≤ s) plain.words segments volume.area
     (All-weaker (λ (s : ℕ). from < s) (λ (s : ℕ). 2 ≤ s) (λ s (past : from < s). omega arith) segments
     (taken_behind plain.words from last segments (ready_taken c plain name date bytes ready))))
@@ -87,8 +86,8 @@ clean_kept c d plain new same clean kept stands = record {
 
 pub done_is_clean : DoneIsClean
 done_is_clean c plain name date bytes may known clean =
-    let volume : Volume = appended_volume plain (last_segment c) name date bytes in
-    let steps : List Step = append_steps plain (last_segment c) bytes volume in
+    let volume : Volume = appended_volume plain name date bytes in
+    let steps : List Step = append_steps plain bytes volume in
     clean_kept c (changed_by steps c) plain (with_volume plain volume) refl clean
     (steps_kept BehindCopies steps c (append_in c plain name date bytes may)) (done_stands c plain name date bytes may known)
 
@@ -97,8 +96,8 @@ appended_is_clean c plain name date bytes ready clean = done_is_clean c plain na
 
 pub stopped_append_is_clean : StoppedAppendIsClean
 stopped_append_is_clean c plain name date bytes left ready clean torn =
-    let volume : Volume = appended_volume plain (last_segment c) name date bytes in
-    let steps : List Step = append_steps plain (last_segment c) bytes volume in
+    let volume : Volume = appended_volume plain name date bytes in
+    let steps : List Step = append_steps plain bytes volume in
     some_weaker left (λ d known.
     either_of (clean_kept c d plain plain refl clean known.0) (clean_kept c d plain (with_volume plain volume) refl clean known.0) known.1)
     (some_both (IsKeptBut BehindCopies c) (λ d. Stands d plain ⊎ Stands d (with_volume plain volume)) left
@@ -108,16 +107,16 @@ stopped_append_is_clean c plain name date bytes left ready clean torn =
 -- ---- which sectors are written
 
 named_in : (c : Cartridge) (plain : Plain) (name : List ℕ) (date : ℕ) (bytes : List ℕ) → MayAppendTo c plain name date bytes →
-    AreIn (IsNamed plain (last_segment c) bytes) (append_steps_of c plain name date bytes)
+    AreIn (IsNamed plain bytes) (append_steps_of plain name date bytes)
 named_in c plain name date bytes ready =
     let last : ℕ = last_segment c in
-    let volume : Volume = appended_volume plain last name date bytes in
-    let segments : List ℕ = new_segments plain last bytes in
+    let volume : Volume = appended_volume plain name date bytes in
+    let segments : List ℕ = new_segments plain bytes in
     let places : List ℕ = table_places (slot_sector (length plain.volumes)) in
     let few = ready_count c plain name date bytes ready in
-    in_append (IsNamed plain last bytes) (volume_writes plain last bytes volume) (list_writes plain volume)
-    (parts_in (IsNamed plain last bytes) plain.words segments volume.area
-    (All-weaker (Contains segments) (AllowsUsable (IsNamed plain last bytes) plain.words) (λ s inside i usable. inr (inside, usable)) segments
+    in_append (IsNamed plain bytes) (volume_writes plain bytes volume) (list_writes plain volume)
+    (parts_in (IsNamed plain bytes) plain.words segments volume.area
+    (All-weaker (Contains segments) (AllowsUsable (IsNamed plain bytes) plain.words) (λ s inside i usable. inr (inside, usable)) segments
     (All-contains_itself segments))) (
       (inl (refl, Contains-get_or places 0 0 (omega arith)), omega arith),
       (
@@ -131,14 +130,14 @@ named_in c plain name date bytes ready =
 
 pub done_touches_only : DoneTouchesOnly
 done_touches_only c plain name date bytes may =
-    let steps : List Step = append_steps_of c plain name date bytes in
-    let kept = steps_kept (IsNamed plain (last_segment c) bytes) steps c (named_in c plain name date bytes may) in
+    let steps : List Step = append_steps_of plain name date bytes in
+    let kept = steps_kept (IsNamed plain bytes) steps c (named_in c plain name date bytes may) in
     (kept.info, kept.others)
 
 pub append_touches_only : AppendTouchesOnly
 append_touches_only c plain name date bytes left ready torn =
     some_weaker left (λ d kept. (kept.info, kept.others))
-    (steps_stopped (IsNamed plain (last_segment c) bytes) (append_steps_of c plain name date bytes) c left
+    (steps_stopped (IsNamed plain bytes) (append_steps_of plain name date bytes) c left
     (named_in c plain name date bytes (may_append ready)) torn)
 
 -- ---- whatever is written behind the last volume
@@ -171,7 +170,7 @@ free_may : (c d : Cartridge) (plain : Plain) (name : List ℕ) (date : ℕ) (byt
 free_may c d plain name date bytes may left = record {
   cartridge = left.0;
   stands = left.1.0;
-  room = ap (λ (i : TapeInfo). has_room plain.words (entries_of plain) (28 * i.segments_per_track - 1) (length bytes)) left.1.1.info ∙ may.room;
+  room = may.room;
   label = may.label;
   word = may.word;
   content = may.content;

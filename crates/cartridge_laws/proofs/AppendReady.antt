@@ -1,33 +1,27 @@
 -- A settled cartridge is ready for an append, and so is one that was appended to; a stop from the settling on.
-use Rattle.std.proofs.Common.{◌-◌, ◌*◌, length, ap, ◌∙◌, inl, inr, List, Option, Some, subst}
+use Rattle.std.proofs.Common.{inl, inr, List, Option, Some, subst}
 use Rattle.cartridge_laws.proofs.AppendDead.{ready_settled}
 use Rattle.cartridge_laws.proofs.AppendDone.{stopped_append, done_stands, appended_is_whole}
-use Rattle.cartridge_laws.proofs.AppendMounted.{done_touches_only}
 use Rattle.cartridge_laws.proofs.AppendVolume.{may_append, is_ready}
 use Rattle.cartridge_laws.proofs.AppendWhole.{done_is_cartridge}
 use Rattle.cartridge_laws.proofs.FormatWriting.{some_weaker}
 use Rattle.cartridge_laws.proofs.MountKeeping.{stopped_stands}
-use Rattle.cartridge_laws.proofs.MountSettled.{settled_keeps_table, settled_stands, settled_is_whole}
+use Rattle.cartridge_laws.proofs.MountSettled.{settled_stands, settled_is_whole}
 use Rattle.cartridge_laws.proofs.MountWhole.{settled_is_cartridge, settling_effects}
 use Rattle.cartridge_laws.specs.AppendLaws.{SettledIsReady, append_steps_of, StoppedFromTheStart, AppendedIsReady}
 use Rattle.cartridge_laws.specs.AppendSettled.{SettledMayAppendTo, ReadyIsSettledFor, MayAppendTo, DoneMayAppendTo}
-use Rattle.cartridge_spec.specs.Appending.{has_room, new_plain}
 use Rattle.cartridge_spec.specs.Mounting.{settled}
 use Rattle.cartridge_spec.specs.Settling.{settling_steps}
-use Rattle.cartridge_spec.specs.Volumes.{entries_of}
 use Rattle.qic_base.proofs.Steps.{Torn-append}
 use Rattle.qic_base.specs.Cartridge.{Cartridge}
 use Rattle.qic_base.specs.Step.{Step}
 use Rattle.qic_base.specs.Stop.{Torn}
-use Rattle.qic_base.specs.declared.tape.TapeInfo.{TapeInfo}
 
 pub settled_may_append_to : SettledMayAppendTo
 settled_may_append_to c plain name date bytes may table = record {
   cartridge = settled_is_cartridge c plain.table_area may.cartridge table;
   stands = settled_stands c plain plain.table_area may.stands table;
-  room = ap (λ (i : TapeInfo). has_room plain.words (entries_of plain) (28 * i.segments_per_track - 1) (length bytes))
-      (settled_keeps_table c plain.table_area table).info
-      ∙ may.room;
+  room = may.room;
   label = may.label;
   word = may.word;
   content = may.content;
@@ -48,7 +42,7 @@ pub stopped_from_the_start : StoppedFromTheStart
 stopped_from_the_start c plain name date bytes left may torn =
     let first : List Step = settling_steps plain.table_area c in
     let d : Cartridge = settled plain.table_area c in
-    let next : List Step = append_steps_of d plain name date bytes in
+    let next : List Step = append_steps_of plain name date bytes in
     elim (Torn-append first next (Some c) left torn) [
       | inl front ↦ some_weaker left (λ e stood. inl stood) (stopped_stands c plain plain.table_area left may.stands may.table front)
       | inr behind ↦
@@ -62,9 +56,7 @@ pub done_may_append_to : DoneMayAppendTo
 done_may_append_to c plain name date bytes other day more may known room label word content = record {
   cartridge = done_is_cartridge c plain name date bytes may;
   stands = done_stands c plain name date bytes may known;
-  room = ap (λ (i : TapeInfo). has_room plain.words (entries_of (new_plain c plain name date bytes)) (28 * i.segments_per_track - 1) (length more))
-      (done_touches_only c plain name date bytes may).0
-      ∙ room;
+  room = room;
   label = label;
   word = word;
   content = content;

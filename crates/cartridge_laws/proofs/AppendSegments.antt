@@ -7,7 +7,7 @@ use Rattle.std.proofs.lemmas.List.Sums.{sum_by-cons}
 use Rattle.cartridge_laws.proofs.MountWriting.{places_that, places_none, places_passes, places_fails}
 use Rattle.cartridge_laws.proofs.Places.{count_below}
 use Rattle.cartridge_laws.specs.Shape.{Carries}
-use Rattle.cartridge_spec.specs.Appending.{taken_by, last_end, has_room, free_segments}
+use Rattle.cartridge_spec.specs.Appending.{taken_by, last_end, room, free_segments}
 use Rattle.cartridge_spec.specs.Shape.{mask_at, capacity, usable_count, data_count}
 use Rattle.cartridge_spec.specs.Table.{Entry}
 use Rattle.cartridge_spec.specs.Volumes.{carrying, capacity_between}
@@ -279,7 +279,8 @@ by_slots true count have bytes is holds =
     (ltb-true count 232 is, leb-true 1 have both.0, leb-true bytes have both.1)
 by_slots false count have bytes is holds = absurd (false≢true (and_parts (nat_le 1 0) (nat_le bytes 0) holds).0)
 
-pub room_is : (words : List ℕ) (entries : List Entry) (last bytes : ℕ) → has_room words entries last bytes ≡ true → HasRoom words entries last bytes
+pub room_is : (words : List ℕ) (entries : List Entry) (last bytes : ℕ) → (nat_le 1 (room words entries last) && nat_le bytes (room words entries last)) ≡ true →
+    HasRoom words entries last bytes
 room_is words entries last bytes holds =
     let all = by_slots (nat_lt (length entries) 232) (length entries) (capacity_between words (last_end entries + 1) last) bytes refl holds in
     record { free_slot = all.0; some = all.1; enough = all.2 }

@@ -3,17 +3,18 @@ use Rattle.std.proofs.Common.{◌≡◌, ◌+◌, List, [], ◌∷◌, ◌++◌,
 use Rattle.std.proofs.lemmas.List.{length-map, length-set, get_or-set_other}
 use Rattle.std.specs.Prelude.{slice_index}
 use Rattle.cartridge_laws.proofs.AppendOrders.{order_more}
-use Rattle.cartridge_laws.proofs.AppendSegments.{room_is, AreTaken, HasRoom, room_most}
+use Rattle.cartridge_laws.proofs.AppendSegments.{AreTaken, HasRoom, room_most}
 use Rattle.cartridge_laws.proofs.AppendTableWrites.{DifferIn}
-use Rattle.cartridge_laws.proofs.AppendVolume.{ready_taken, old_order, may_append}
+use Rattle.cartridge_laws.proofs.AppendVolume.{ready_taken, old_order, may_append, plain_room}
+use Rattle.cartridge_laws.proofs.HeaderRefusals.{plain_last}
 use Rattle.cartridge_laws.proofs.MountParts.{data_sector}
 use Rattle.cartridge_laws.proofs.SlotBytes.{length-slot_bytes, slot_is_used, slot_shows, slot_are_bytes}
 use Rattle.cartridge_laws.proofs.Slots.{slot_area, area_is_long, shows_more}
-use Rattle.cartridge_laws.specs.AppendLaws.{AppendedTableShows}
+use Rattle.cartridge_laws.specs.AppendLaws.{AppendedTableShows, new_table}
 use Rattle.cartridge_laws.specs.AppendSettled.{MayAppendTo, DoneTableShows}
 use Rattle.cartridge_laws.specs.Slots.{FitsSlot}
 use Rattle.cartridge_laws.specs.Table.{IsSoundList}
-use Rattle.cartridge_spec.specs.Appending.{new_segments, appended_volume, last_end, appended_table}
+use Rattle.cartridge_spec.specs.Appending.{new_segments, appended_volume, last_end}
 use Rattle.cartridge_spec.specs.HeaderAndTable.{IsArea, last_segment}
 use Rattle.cartridge_spec.specs.Shape.{sector_at}
 use Rattle.cartridge_spec.specs.Table.{Entry, slot_sector, with_slot, Shows, slot_bytes}
@@ -48,22 +49,23 @@ slot_differs area n bytes is i h apart =
 pub ready_count : (c : Cartridge) (plain : Plain) (name : List ℕ) (date : ℕ) (bytes : List ℕ) → MayAppendTo c plain name date bytes →
     length plain.volumes < 232
 ready_count c plain name date bytes ready =
-    let free : length (entries_of plain) < 232 = (room_is plain.words (entries_of plain) (last_segment c) (length bytes) ready.room).free_slot in
+    let free : length (entries_of plain) < 232 = (plain_room plain (length bytes) ready.room).free_slot in
     omega (arith, count_of_entries plain)
 
 ready_fits : (c : Cartridge) (plain : Plain) (name : List ℕ) (date : ℕ) (bytes : List ℕ) → MayAppendTo c plain name date bytes →
-    FitsSlot (appended_volume plain (last_segment c) name date bytes).entry
+    FitsSlot (appended_volume plain name date bytes).entry
 ready_fits c plain name date bytes ready =
     let last : ℕ = last_segment c in
-    let segments : List ℕ = new_segments plain last bytes in
+    let segments : List ℕ = new_segments plain bytes in
     let taken : AreTaken plain.words (last_end (entries_of plain)) last segments = ready_taken c plain name date bytes ready in
-    let room : HasRoom plain.words (entries_of plain) last (length bytes) = room_is plain.words (entries_of plain) last (length bytes) ready.room in
+    let room : HasRoom plain.words (entries_of plain) (length plain.words - 1) (length bytes) = plain_room plain (length bytes) ready.room in
+    let same : length plain.words - 1 ≡ last = plain_last c plain ready.stands in
     let long : c.info.segments_per_track ≤ 246 = ready.cartridge.long.longest in
     let starts : slice_index segments 0 ≡ taken.start = taken.starts in
     let ends : slice_index segments (length segments - 1) ≡ taken.end = taken.ends in
     let forwards : taken.start ≤ taken.end = taken.forwards in
     let within : taken.end ≤ last = taken.within in
-    let enough : length bytes ≤ capacity_between plain.words (last_end (entries_of plain) + 1) last = room.enough in
+    let enough : length bytes ≤ capacity_between plain.words (last_end (entries_of plain) + 1) (length plain.words - 1) = room.enough in
     let word : date < 2 ^ 32 = ready.word in
     record {
       start = omega arith;
@@ -71,14 +73,14 @@ ready_fits c plain name date bytes ready =
       name = ready.label.size;
       date = omega arith;
       directory = omega arith;
-      size = omega (arith, room_most plain.words (entries_of plain) last);
+      size = omega (arith, room_most plain.words (entries_of plain) (length plain.words - 1));
     }
 
 pub done_table_shows : DoneTableShows
 done_table_shows c plain name date bytes ready =
     let last : ℕ = last_segment c in
-    let segments : List ℕ = new_segments plain last bytes in
-    let volume : Volume = appended_volume plain last name date bytes in
+    let segments : List ℕ = new_segments plain bytes in
+    let volume : Volume = appended_volume plain name date bytes in
     let entry : Entry = volume.entry in
     let n : ℕ = length plain.volumes in
     let fits : FitsSlot entry = ready_fits c plain name date bytes ready in
@@ -93,7 +95,7 @@ done_table_shows c plain name date bytes ready =
     let forwards : taken.start ≤ taken.end = taken.forwards in
     let end : taken.end ≤ last = taken.within in (
       slot_area plain.table_area n (slot_bytes entry) area within long (slot_are_bytes entry ready.label.bytes (omega arith) (omega arith)),
-      subst (λ (es : List Entry). Shows (appended_table plain entry) es) (sym more)
+      subst (λ (es : List Entry). Shows (new_table plain name date bytes) es) (sym more)
           (shows_more plain.table_area (entries_of plain) entry (slot_bytes entry) n (area_is_long plain.table_area area) ready.stands.shown (count_of_entries plain) within long
           (slot_is_used entry fits.name) (slot_shows entry fits)),
       subst (λ (es : List Entry). IsSoundList last es) (sym more)

@@ -1,19 +1,20 @@
 -- A stop among the writes of a new volume's segments.
-use Rattle.std.proofs.Common.{ℕ, List, All, ◌≤◌, length, ◌<◌, sym, subst, arith, ◌∙◌, ◌≡◌, ◌⊎◌}
+use Rattle.std.proofs.Common.{ℕ, List, All, ◌≤◌, length, ◌<◌, sym, subst, arith, ◌∙◌, ◌≡◌, ◌⊎◌, ◌-◌, true}
 use Rattle.std.proofs.lemmas.List.Elements.{All-weaker}
 use Rattle.cartridge_laws.proofs.AppendKeeping.{AreIn, parts_of_segments, IsKeptBut, steps_stopped}
 use Rattle.cartridge_laws.proofs.AppendOrders.{LiesWithin, lie_within, end_least}
-use Rattle.cartridge_laws.proofs.AppendSegments.{AreTaken, room_is, segments_taken, carrying_from}
+use Rattle.cartridge_laws.proofs.AppendSegments.{AreTaken, HasRoom, room_is, segments_taken, carrying_from}
 use Rattle.cartridge_laws.proofs.AppendStanding.{AreKeptTo, volumes_kept_to, stands_with}
 use Rattle.cartridge_laws.proofs.FormatStanding.{same_cells}
 use Rattle.cartridge_laws.proofs.FormatWriting.{some_weaker}
+use Rattle.cartridge_laws.proofs.HeaderRefusals.{plain_last}
 use Rattle.cartridge_laws.proofs.TableOrders.{faultless_is_sound}
 use Rattle.cartridge_laws.specs.AppendBetween.{IsWhole}
 use Rattle.cartridge_laws.specs.AppendLaws.{IsReadyFor, FreeWritesStand, StoppedVolume}
 use Rattle.cartridge_laws.specs.AppendSettled.{MayAppendTo}
 use Rattle.cartridge_laws.specs.AppendSteps.{volume_writes}
 use Rattle.cartridge_laws.specs.Table.{LieBehind}
-use Rattle.cartridge_spec.specs.Appending.{last_end, new_segments, appended_volume}
+use Rattle.cartridge_spec.specs.Appending.{last_end, new_segments, appended_volume, has_room}
 use Rattle.cartridge_spec.specs.HeaderAndTable.{last_segment, table_cells}
 use Rattle.cartridge_spec.specs.Says.{whole_mask, Written, ReadsAll}
 use Rattle.cartridge_spec.specs.Volumes.{Plain, Stands, entries_of, carrying, Volume, VolumeStands}
@@ -54,11 +55,14 @@ old_volumes c plain stood = lie_within 2 (last_segment c) plain.volumes (old_ord
 pub last_end_least : (c : Cartridge) (plain : Plain) → Stands c plain → 2 ≤ last_end (entries_of plain)
 last_end_least c plain stood = end_least 2 (last_segment c) (entries_of plain) (old_order c plain stood)
 
+pub plain_room : (plain : Plain) (bytes : ℕ) → has_room plain bytes ≡ true → HasRoom plain.words (entries_of plain) (length plain.words - 1) bytes
+plain_room plain bytes room = room_is plain.words (entries_of plain) (length plain.words - 1) bytes room
+
 pub ready_taken : (c : Cartridge) (plain : Plain) (name : List ℕ) (date : ℕ) (bytes : List ℕ) → MayAppendTo c plain name date bytes →
-    AreTaken plain.words (last_end (entries_of plain)) (last_segment c) (new_segments plain (last_segment c) bytes)
+    AreTaken plain.words (last_end (entries_of plain)) (last_segment c) (new_segments plain bytes)
 ready_taken c plain name date bytes ready =
-    segments_taken plain.words (entries_of plain) (last_segment c) (length bytes)
-    (room_is plain.words (entries_of plain) (last_segment c) (length bytes) ready.room)
+    subst (λ (last : ℕ). AreTaken plain.words (last_end (entries_of plain)) last (new_segments plain bytes)) (plain_last c plain ready.stands)
+    (segments_taken plain.words (entries_of plain) (length plain.words - 1) (length bytes) (plain_room plain (length bytes) ready.room))
 
 pub taken_behind : (words : List ℕ) (from last : ℕ) (segments : List ℕ) → AreTaken words from last segments → All (λ s. from < s) segments
 taken_behind words from last segments taken =
@@ -72,9 +76,9 @@ abbrev pub Behind : Plain → (segment sector : ℕ) → Type 0
 Behind plain segment sector = last_end (entries_of plain) < segment
 
 pub volume_writes_behind : (c : Cartridge) (plain : Plain) (name : List ℕ) (date : ℕ) (bytes : List ℕ) (volume : Volume) →
-    MayAppendTo c plain name date bytes → AreIn (Behind plain) (volume_writes plain (last_segment c) bytes volume)
+    MayAppendTo c plain name date bytes → AreIn (Behind plain) (volume_writes plain bytes volume)
 volume_writes_behind c plain name date bytes volume ready =
-    let segments : List ℕ = new_segments plain (last_segment c) bytes in
+    let segments : List ℕ = new_segments plain bytes in
     parts_of_segments (λ s. last_end (entries_of plain) < s) plain.words segments volume.area
     (taken_behind plain.words (last_end (entries_of plain)) (last_segment c) segments (ready_taken c plain name date bytes ready))
 
@@ -116,7 +120,7 @@ free_writes_stand c plain steps left stood free torn =
 
 pub stopped_volume : StoppedVolume
 stopped_volume c plain name date bytes left ready torn =
-    let volume : Volume = appended_volume plain (last_segment c) name date bytes in
+    let volume : Volume = appended_volume plain name date bytes in
     some_weaker left (λ d known. (known.0, λ i h. known.1.sectors 2 i (last_end_least c plain ready.stands) h ∙ ready.whole i h))
-    (free_writes_stand c plain (volume_writes plain (last_segment c) bytes volume) left ready.stands
+    (free_writes_stand c plain (volume_writes plain bytes volume) left ready.stands
     (volume_writes_behind c plain name date bytes volume (may_append ready)) torn)

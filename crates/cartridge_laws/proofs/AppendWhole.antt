@@ -10,11 +10,11 @@ use Rattle.cartridge_laws.proofs.MountParts.{length-block}
 use Rattle.cartridge_laws.proofs.Sayings.{cartridge_sectors, code_sectors}
 use Rattle.cartridge_laws.proofs.Segments.{view_of_cartridge}
 use Rattle.cartridge_laws.proofs.Whole.{with_view_whole, written_is_view, worn_is_view}
-use Rattle.cartridge_laws.specs.AppendLaws.{SectorWritesAreCartridge, StoppedAppendIsCartridge, AppendedIsCartridge}
+use Rattle.cartridge_laws.specs.AppendLaws.{SectorWritesAreCartridge, StoppedAppendIsCartridge, AppendedIsCartridge, new_table}
 use Rattle.cartridge_laws.specs.AppendSettled.{MayAppendTo, DoneIsCartridge}
 use Rattle.cartridge_laws.specs.AppendSteps.{parts_writes, volume_writes, list_writes, append_steps}
 use Rattle.cartridge_laws.specs.AppendWrites.{AreWrites, IsOfSector, IsWrite}
-use Rattle.cartridge_spec.specs.Appending.{part_writes, new_segments, appended_volume, appended_table}
+use Rattle.cartridge_spec.specs.Appending.{part_writes, new_segments, appended_volume}
 use Rattle.cartridge_spec.specs.Code.{parity_sectors}
 use Rattle.cartridge_spec.specs.HeaderAndTable.{IsArea, last_segment}
 use Rattle.cartridge_spec.specs.Says.{with_parity}
@@ -99,15 +99,15 @@ block_sector area i is h =
     (All-get_or IsSector (with_parity area) i [] (omega (arith, length-block area is)) (block_sectors area is.sectors))
 
 append_whole : (c : Cartridge) (plain : Plain) (name : List ℕ) (date : ℕ) (bytes : List ℕ) → MayAppendTo c plain name date bytes →
-    AreWrites IsOfSector (append_steps plain (last_segment c) bytes (appended_volume plain (last_segment c) name date bytes))
+    AreWrites IsOfSector (append_steps plain bytes (appended_volume plain name date bytes))
 append_whole c plain name date bytes ready =
     let last : ℕ = last_segment c in
-    let volume : Volume = appended_volume plain last name date bytes in
-    let segments : List ℕ = new_segments plain last bytes in
-    let table : List (List ℕ) = appended_table plain volume.entry in
+    let volume : Volume = appended_volume plain name date bytes in
+    let segments : List ℕ = new_segments plain bytes in
+    let table : List (List ℕ) = new_table plain name date bytes in
     let area : IsArea table = (done_table_shows c plain name date bytes ready).0 in
     let few = ready_count c plain name date bytes ready in
-    writes_more (volume_writes plain last bytes volume) (list_writes plain volume)
+    writes_more (volume_writes plain bytes volume) (list_writes plain volume)
     (parts_whole plain.words segments volume.area (are_sectors (sectors_in plain.words segments) bytes ready.content)) (
       block_sector table (slot_sector (length plain.volumes)) area (omega arith),
       (
@@ -118,12 +118,12 @@ append_whole c plain name date bytes ready =
 
 pub stopped_append_is_cartridge : StoppedAppendIsCartridge
 stopped_append_is_cartridge c plain name date bytes left ready torn =
-    steps_stopped (append_steps plain (last_segment c) bytes (appended_volume plain (last_segment c) name date bytes)) c left
+    steps_stopped (append_steps plain bytes (appended_volume plain name date bytes)) c left
     (append_whole c plain name date bytes (may_append ready)) ready.cartridge torn
 
 pub done_is_cartridge : DoneIsCartridge
 done_is_cartridge c plain name date bytes may =
-    let steps : List Step = append_steps plain (last_segment c) bytes (appended_volume plain (last_segment c) name date bytes) in
+    let steps : List Step = append_steps plain bytes (appended_volume plain name date bytes) in
     subst (λ (o : Option Cartridge). IsSomeAnd o IsCartridge) (effects-some steps c)
     (steps_stopped steps c (effects steps (Some c)) (append_whole c plain name date bytes may) may.cartridge (Torn-all steps (Some c)))
 

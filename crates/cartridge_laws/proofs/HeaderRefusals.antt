@@ -1,11 +1,14 @@
 -- The tests of a header's fields, as a reader makes them.
-use Rattle.std.proofs.Common.{◌≡◌, ℕ, ◌-◌, ◌==◌, true, List, Option, None, refl, eq-eqb, [], ◌∷◌, ap, ◌∙◌, Some, Bool, false, arith, ◌<◌, get_or, length}
+use Rattle.std.proofs.Common.{◌≡◌, ℕ, ◌-◌, ◌==◌, true, List, Option, None, refl, eq-eqb, [], ◌∷◌, ap, ◌∙◌, Some, Bool, false, arith, ◌<◌, get_or, length, sym, ◌*◌}
 use Rattle.std.specs.Option.{option_or}
 use Rattle.std.specs.List.{All}
 use Rattle.std.proofs.lemmas.List.Elements.{All-head, All-tail, All-nil, All-cons}
 use Rattle.std.proofs.lemmas.Bool.{eqb-true}
 use Rattle.std.proofs.lemmas.List.FromFn.{get_or-map-range_with_len, length-map-range_with_len}
-use Rattle.cartridge_spec.specs.Header.{Value, Number, Text, number_in, HoldsValue, value_fault, Field, HeaderFault, Holds, field_fault, first_fault, fault_as, tested, map_fault, header_fault, number, profile_fields, word_in, words_in}
+use Rattle.cartridge_spec.specs.Header.{Value, Number, Text, number_in, HoldsValue, value_fault, Field, HeaderFault, Holds, field_fault, first_fault, fault_as, tested, map_fault, header_fault, number, profile_fields, word_in, words_in, Header}
+use Rattle.cartridge_spec.specs.HeaderAndTable.{IsFormatted, last_segment}
+use Rattle.cartridge_spec.specs.Volumes.{Plain, Stands}
+use Rattle.qic_base.specs.Cartridge.{Cartridge}
 use Rattle.qic_base.specs.declared.foreign.ForeignField.{ForeignField}
 use Rattle.qic_base.specs.declared.foreign.ForeignField.TheVariants.{SegmentsPerTrack}
 
@@ -72,3 +75,17 @@ word_in-read area words segments s is h =
 
 pub length-words_in : (area : List (List ℕ)) (words : List ℕ) (segments : ℕ) → words ≡ words_in area segments → length words ≡ segments
 length-words_in area words segments is = ap length is ∙ length-map-range_with_len (word_in area) 0 segments
+
+-- so a cartridge with a sound header has a word for each segment
+pub mounted_last : (c : Cartridge) (area : List (List ℕ)) (header : Header) (words : List ℕ) → IsFormatted c area header words → length words - 1 ≡ last_segment c
+mounted_last c area header words formatted =
+    let n : ℕ = c.info.segments_per_track in
+    let there : number_in area 24 2 ≡ header.segments_per_track = formatted.shown.header 2 (number 24 2 0) (omega arith) in
+    let told : header.segments_per_track ≡ n = sym there ∙ fault-segments area n formatted.sound in
+    ap (λ (k : ℕ). k - 1) (length-words_in area words (28 * header.segments_per_track) formatted.shown.map)
+    ∙ ap (λ (k : ℕ). 28 * k - 1) told
+
+pub plain_last : (c : Cartridge) (plain : Plain) → Stands c plain → length plain.words - 1 ≡ last_segment c
+plain_last c plain stood =
+    mounted_last c plain.header_area plain.header plain.words
+    (record { has_header = stood.header; sound = stood.sound_header; shown = stood.whole.shown })

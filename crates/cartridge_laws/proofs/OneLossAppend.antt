@@ -12,7 +12,7 @@ use Rattle.cartridge_laws.proofs.TableSlotLaws.{used_not_free}
 use Rattle.cartridge_laws.specs.AppendLaws.{new_table}
 use Rattle.cartridge_laws.specs.OneLossLaws.{AppendChangesOneSector, StoppedAppendReadsEither}
 use Rattle.cartridge_laws.specs.OneLossTables.{IsLastInUse}
-use Rattle.cartridge_spec.specs.Appending.{new_plain, volume_of}
+use Rattle.cartridge_spec.specs.Appending.{with_bytes, appended_volume}
 use Rattle.cartridge_spec.specs.Shape.{sector_at}
 use Rattle.cartridge_spec.specs.Table.{slot, is_used, is_free, slot_sector, Entry, Shows, slot_bytes}
 use Rattle.cartridge_spec.specs.TableSets.{some_used_below}
@@ -84,16 +84,16 @@ last_used_shown area entries n shows count within =
 
 pub append_changes_one_sector : AppendChangesOneSector
 append_changes_one_sector c plain name date bytes ready =
-    let volume : Volume = volume_of c plain name date bytes in
+    let volume : Volume = appended_volume plain name date bytes in
     let old : List (List ℕ) = plain.table_area in
-    let new : List (List ℕ) = new_table c plain name date bytes in
+    let new : List (List ℕ) = new_table plain name date bytes in
     let n : ℕ = length plain.volumes in
     let k : ℕ = slot_sector n in
     let within : n < 232 = ready_count c plain name date bytes ready in
     let done = done_table_shows c plain name date bytes ready in
-    let shows : Shows new (entries_of (new_plain c plain name date bytes)) = done.1 in
+    let shows : Shows new (entries_of (with_bytes plain name date bytes)) = done.1 in
     let count : length (entries_of plain) ≡ n = length-map plain.volumes (λ (v : Volume). v.entry) in
-    let more : length (entries_of (new_plain c plain name date bytes)) ≡ n + 1 =
+    let more : length (entries_of (with_bytes plain name date bytes)) ≡ n + 1 =
     length-map (plain.volumes ++ volume ∷ []) (λ (v : Volume). v.entry) ∙ omega (arith, length_push plain.volumes volume) in
     let used : is_used (slot new n) ≡ true = shows.used n (omega arith) in
     let free : is_free (slot old n) ≡ true = ready.stands.shown.free n (omega arith) within in (
@@ -108,13 +108,13 @@ append_changes_one_sector c plain name date bytes ready =
             let kept : is_used (slot old n) ≡ false = free_not_used (slot old n) free in
             absurd (cc);
       },
-      last_used_shown new (entries_of (new_plain c plain name date bytes)) n shows more within,
+      last_used_shown new (entries_of (with_bytes plain name date bytes)) n shows more within,
     )
 
 pub stopped_append_reads_either : StoppedAppendReadsEither
 stopped_append_reads_either c d plain name date bytes left ready is torn =
     let changes = append_changes_one_sector c plain name date bytes (may_append ready) in
     some_weaker left (λ e between f lost loses.
-    one_loss_reads_either e f plain.table_area (new_table c plain name date bytes) (slot_sector (length plain.volumes)) lost
+    one_loss_reads_either e f plain.table_area (new_table plain name date bytes) (slot_sector (length plain.volumes)) lost
     changes.0 changes.1 between loses)
     (stopped_list c d plain name date bytes left ready is torn)

@@ -1,11 +1,11 @@
 -- What an append leaves, done or stopped, as facts.
-use Rattle.std.specs.Prelude.{ℕ, List, ◌≡◌, ◌^◌, ◌<◌, true, length, All, false, ◌⊎◌, ◌++◌, [], ◌∷◌, drop, nat_le, if◌then◌else◌, ◌*◌, take, Option, Some, IsSomeAnd}
+use Rattle.std.specs.Prelude.{ℕ, List, ◌≡◌, ◌^◌, ◌<◌, true, length, All, false, ◌⊎◌, ◌++◌, [], ◌∷◌, drop, nat_le, if◌then◌else◌, ◌*◌, take, Option, Some, IsSomeAnd, ◌-◌}
 use Rattle.cartridge_laws.specs.AppendBetween.{IsWhole, IsBegun, IsTurned, Between}
 use Rattle.cartridge_laws.specs.AppendSteps.{volume_writes, list_writes, append_steps, writes_into, IsNamed}
 use Rattle.cartridge_laws.specs.AppendWrites.{AreWrites, IsFree, KeepsTo, IsOfSector}
 use Rattle.cartridge_laws.specs.Shape.{Carries}
 use Rattle.cartridge_laws.specs.Table.{IsSoundList}
-use Rattle.cartridge_spec.specs.Appending.{appended_table, volume_of, has_room, new_plain, volume_bytes, free_segments, part_writes, in_sectors, last_end}
+use Rattle.cartridge_spec.specs.Appending.{has_room, volume_bytes, free_segments, part_writes, in_sectors, last_end, with_bytes, appended_volume}
 use Rattle.cartridge_spec.specs.Formatting.{IsLabel, StandsCleanly}
 use Rattle.cartridge_spec.specs.HeaderAndTable.{last_segment, TableIs, IsArea}
 use Rattle.cartridge_spec.specs.Mounting.{IsTableLive, settled, Mounts, mounted_as}
@@ -17,18 +17,18 @@ use Rattle.qic_base.specs.Cartridge.{Cartridge, IsCartridge, view_at}
 use Rattle.qic_base.specs.Step.{Step}
 use Rattle.qic_base.specs.Stop.{Torn}
 
-abbrev pub new_table : Cartridge → Plain → (name : List ℕ) → (date : ℕ) → (bytes : List ℕ) → List (List ℕ)
-new_table c plain name date bytes = appended_table plain (volume_of c plain name date bytes).entry
+abbrev pub new_table : Plain → (name : List ℕ) → (date : ℕ) → (bytes : List ℕ) → List (List ℕ)
+new_table plain name date bytes = (with_bytes plain name date bytes).table_area
 
 -- the writes of the volume's segments, those of the table, and all of them
-abbrev pub volume_steps : Cartridge → Plain → (name : List ℕ) → (date : ℕ) → (bytes : List ℕ) → List Step
-volume_steps c plain name date bytes = volume_writes plain (last_segment c) bytes (volume_of c plain name date bytes)
+abbrev pub volume_steps : Plain → (name : List ℕ) → (date : ℕ) → (bytes : List ℕ) → List Step
+volume_steps plain name date bytes = volume_writes plain bytes (appended_volume plain name date bytes)
 
-abbrev pub list_steps : Cartridge → Plain → (name : List ℕ) → (date : ℕ) → (bytes : List ℕ) → List Step
-list_steps c plain name date bytes = list_writes plain (volume_of c plain name date bytes)
+abbrev pub list_steps : Plain → (name : List ℕ) → (date : ℕ) → (bytes : List ℕ) → List Step
+list_steps plain name date bytes = list_writes plain (appended_volume plain name date bytes)
 
-abbrev pub append_steps_of : Cartridge → Plain → (name : List ℕ) → (date : ℕ) → (bytes : List ℕ) → List Step
-append_steps_of c plain name date bytes = append_steps plain (last_segment c) bytes (volume_of c plain name date bytes)
+abbrev pub append_steps_of : Plain → (name : List ℕ) → (date : ℕ) → (bytes : List ℕ) → List Step
+append_steps_of plain name date bytes = append_steps plain bytes (appended_volume plain name date bytes)
 
 -- ---- before an append
 
@@ -38,7 +38,7 @@ pub record IsReadyFor (c : Cartridge) (plain : Plain) (name : List ℕ) (date : 
   pub cartridge : IsCartridge c
   pub stands : Stands c plain
   pub whole : IsWhole c plain.table_area
-  pub room : has_room plain.words (entries_of plain) (last_segment c) (length bytes) ≡ true
+  pub room : has_room plain (length bytes) ≡ true
   pub label : IsLabel name
   pub word : date < 2 ^ 32
   pub content : All (λ b. b < 256) bytes
@@ -51,7 +51,7 @@ pub record MayAppend (c : Cartridge) (plain : Plain) (name : List ℕ) (date : �
   pub table : TableIs c plain.table_area
   pub live : IsTableLive c
   pub unprotected : c.info.protected ≡ false
-  pub room : has_room plain.words (entries_of plain) (last_segment c) (length bytes) ≡ true
+  pub room : has_room plain (length bytes) ≡ true
   pub label : IsLabel name
   pub word : date < 2 ^ 32
   pub content : All (λ b. b < 256) bytes
@@ -78,9 +78,9 @@ TurnedReadsNew = (c : Cartridge) (old new : List (List ℕ)) → IsArea new → 
 abbrev pub AppendedTableShows : Type 0
 AppendedTableShows =
     (c : Cartridge) (plain : Plain) (name : List ℕ) (date : ℕ) (bytes : List ℕ) → IsReadyFor c plain name date bytes →
-    IsArea (new_table c plain name date bytes) × Shows (new_table c plain name date bytes)
-    (entries_of (new_plain c plain name date bytes))
-    × IsSoundList (last_segment c) (entries_of (new_plain c plain name date bytes))
+    IsArea (new_table plain name date bytes) × Shows (new_table plain name date bytes)
+    (entries_of (with_bytes plain name date bytes))
+    × IsSoundList (last_segment c) (entries_of (with_bytes plain name date bytes))
 
 -- ---- the new volume
 
@@ -88,17 +88,17 @@ AppendedTableShows =
 abbrev pub AppendedBytes : Type 0
 AppendedBytes =
     (c : Cartridge) (plain : Plain) (name : List ℕ) (date : ℕ) (bytes : List ℕ) → IsReadyFor c plain name date bytes →
-    (volume_length plain.words (volume_of c plain name date bytes).entry ≡ length bytes)
-    × (volume_bytes plain.words (volume_of c plain name date bytes) ≡ bytes)
+    (volume_length plain.words (appended_volume plain name date bytes).entry ≡ length bytes)
+    × (volume_bytes plain.words (appended_volume plain name date bytes) ≡ bytes)
 
 -- ---- the volume's writes, segment by segment
 
 -- they are those of its bytes into the free segments, ..
 abbrev pub VolumeStepsByBytes : Type 0
 VolumeStepsByBytes =
-    (c : Cartridge) (plain : Plain) (name : List ℕ) (date : ℕ) (bytes : List ℕ) →
-    volume_steps c plain name date bytes
-    ≡ writes_into plain.words (free_segments plain.words (entries_of plain) (last_segment c)) bytes
+    (plain : Plain) (name : List ℕ) (date : ℕ) (bytes : List ℕ) →
+    volume_steps plain name date bytes
+    ≡ writes_into plain.words (free_segments plain.words (entries_of plain) (length plain.words - 1)) bytes
 
 -- .. which are those of the first segment, and then those of the bytes behind it into the others, where there are any
 abbrev pub WritesBySegment : Type 0
@@ -119,40 +119,40 @@ SectorsTakeTheirs = (count : ℕ) (bytes : List ℕ) → in_sectors count (take 
 abbrev pub AppendedStands : Type 0
 AppendedStands =
     (c : Cartridge) (plain : Plain) (name : List ℕ) (date : ℕ) (bytes : List ℕ) → IsReadyFor c plain name date bytes →
-    Stands (changed_by (append_steps_of c plain name date bytes) c) (new_plain c plain name date bytes)
+    Stands (changed_by (append_steps_of plain name date bytes) c) (with_bytes plain name date bytes)
 
 -- and it is mounted as that
 abbrev pub AppendedMounts : Type 0
 AppendedMounts =
     (c : Cartridge) (plain : Plain) (name : List ℕ) (date : ℕ) (bytes : List ℕ) → IsReadyFor c plain name date bytes →
-    Mounts (changed_by (append_steps_of c plain name date bytes) c) (mounted_as (new_plain c plain name date bytes))
+    Mounts (changed_by (append_steps_of plain name date bytes) c) (mounted_as (with_bytes plain name date bytes))
 
 -- header copies that formatting may begin over stay so
 abbrev pub AppendedIsClean : Type 0
 AppendedIsClean =
     (c : Cartridge) (plain : Plain) (name : List ℕ) (date : ℕ) (bytes : List ℕ) → IsReadyFor c plain name date bytes → StandsCleanly c plain →
-    StandsCleanly (changed_by (append_steps_of c plain name date bytes) c) (new_plain c plain name date bytes)
+    StandsCleanly (changed_by (append_steps_of plain name date bytes) c) (with_bytes plain name date bytes)
 
 -- the table's segment is whole
 abbrev pub AppendedIsWhole : Type 0
 AppendedIsWhole =
     (c : Cartridge) (plain : Plain) (name : List ℕ) (date : ℕ) (bytes : List ℕ) → IsReadyFor c plain name date bytes →
-    IsWhole (changed_by (append_steps_of c plain name date bytes) c) (new_table c plain name date bytes)
+    IsWhole (changed_by (append_steps_of plain name date bytes) c) (new_table plain name date bytes)
 
 -- what is left is a cartridge
 abbrev pub AppendedIsCartridge : Type 0
 AppendedIsCartridge =
     (c : Cartridge) (plain : Plain) (name : List ℕ) (date : ℕ) (bytes : List ℕ) → IsReadyFor c plain name date bytes →
-    IsCartridge (changed_by (append_steps_of c plain name date bytes) c)
+    IsCartridge (changed_by (append_steps_of plain name date bytes) c)
 
 -- it is ready for an append that has room behind it
 abbrev pub AppendedIsReady : Type 0
 AppendedIsReady =
     (c : Cartridge) (plain : Plain) (name : List ℕ) (date : ℕ) (bytes : List ℕ) (other : List ℕ) (day : ℕ) (more : List ℕ) →
     IsReadyFor c plain name date bytes →
-    has_room plain.words (entries_of (new_plain c plain name date bytes)) (last_segment c) (length more) ≡ true →
+    has_room (with_bytes plain name date bytes) (length more) ≡ true →
     IsLabel other → day < 2 ^ 32 → All (λ b. b < 256) more →
-    IsReadyFor (changed_by (append_steps_of c plain name date bytes) c) (new_plain c plain name date bytes) other day more
+    IsReadyFor (changed_by (append_steps_of plain name date bytes) c) (with_bytes plain name date bytes) other day more
 
 -- ---- writes behind the volumes
 
@@ -189,58 +189,58 @@ SectorWritesAreCartridge =
 abbrev pub StoppedVolume : Type 0
 StoppedVolume =
     (c : Cartridge) (plain : Plain) (name : List ℕ) (date : ℕ) (bytes : List ℕ) (left : Option Cartridge) →
-    IsReadyFor c plain name date bytes → Torn (volume_steps c plain name date bytes) (Some c) left →
+    IsReadyFor c plain name date bytes → Torn (volume_steps plain name date bytes) (Some c) left →
     IsSomeAnd left (λ d. Stands d plain × IsWhole d plain.table_area)
 
 -- a stop among the writes of the table leaves its segment between its two data
 abbrev pub StoppedList : Type 0
 StoppedList =
     (c d : Cartridge) (plain : Plain) (name : List ℕ) (date : ℕ) (bytes : List ℕ) (left : Option Cartridge) →
-    IsReadyFor c plain name date bytes → d ≡ changed_by (volume_steps c plain name date bytes) c →
-    Torn (list_steps c plain name date bytes) (Some d) left →
+    IsReadyFor c plain name date bytes → d ≡ changed_by (volume_steps plain name date bytes) c →
+    Torn (list_steps plain name date bytes) (Some d) left →
     IsSomeAnd left (λ e. Between e plain.table_area
-    (new_table c plain name date bytes) (slot_sector (length plain.volumes)))
+    (new_table plain name date bytes) (slot_sector (length plain.volumes)))
 
 -- a stop among all of them leaves what stood, or the plain cartridge with the volume
 abbrev pub StoppedAppend : Type 0
 StoppedAppend =
     (c : Cartridge) (plain : Plain) (name : List ℕ) (date : ℕ) (bytes : List ℕ) (left : Option Cartridge) →
-    IsReadyFor c plain name date bytes → Torn (append_steps_of c plain name date bytes) (Some c) left →
-    IsSomeAnd left (λ d. Stands d plain ⊎ Stands d (new_plain c plain name date bytes))
+    IsReadyFor c plain name date bytes → Torn (append_steps_of plain name date bytes) (Some c) left →
+    IsSomeAnd left (λ d. Stands d plain ⊎ Stands d (with_bytes plain name date bytes))
 
 -- so does a stop among the steps that settle the table and those that append behind them
 abbrev pub StoppedFromTheStart : Type 0
 StoppedFromTheStart =
     (c : Cartridge) (plain : Plain) (name : List ℕ) (date : ℕ) (bytes : List ℕ) (left : Option Cartridge) →
     MayAppend c plain name date bytes →
-    Torn (settling_steps plain.table_area c ++ append_steps_of (settled plain.table_area c) plain name date bytes) (Some c) left →
-    IsSomeAnd left (λ d. Stands d plain ⊎ Stands d (new_plain (settled plain.table_area c) plain name date bytes))
+    Torn (settling_steps plain.table_area c ++ append_steps_of plain name date bytes) (Some c) left →
+    IsSomeAnd left (λ d. Stands d plain ⊎ Stands d (with_bytes plain name date bytes))
 
 -- no sector changes but those that the steps name; a stop may come behind the last of them
 abbrev pub AppendTouchesOnly : Type 0
 AppendTouchesOnly =
     (c : Cartridge) (plain : Plain) (name : List ℕ) (date : ℕ) (bytes : List ℕ) (left : Option Cartridge) →
-    IsReadyFor c plain name date bytes → Torn (append_steps_of c plain name date bytes) (Some c) left →
+    IsReadyFor c plain name date bytes → Torn (append_steps_of plain name date bytes) (Some c) left →
     IsSomeAnd left (λ d. (d.info ≡ c.info) × ((segment sector : ℕ) → sector < 32 →
-    (IsNamed plain (last_segment c) bytes segment sector → ⊥) → view_at d segment sector ≡ view_at c segment sector))
+    (IsNamed plain bytes segment sector → ⊥) → view_at d segment sector ≡ view_at c segment sector))
 
 -- it is mounted as one of them
 abbrev pub StoppedAppendMounts : Type 0
 StoppedAppendMounts =
     (c : Cartridge) (plain : Plain) (name : List ℕ) (date : ℕ) (bytes : List ℕ) (left : Option Cartridge) →
-    IsReadyFor c plain name date bytes → Torn (append_steps_of c plain name date bytes) (Some c) left →
-    IsSomeAnd left (λ d. Mounts d (mounted_as plain) ⊎ Mounts d (mounted_as (new_plain c plain name date bytes)))
+    IsReadyFor c plain name date bytes → Torn (append_steps_of plain name date bytes) (Some c) left →
+    IsSomeAnd left (λ d. Mounts d (mounted_as plain) ⊎ Mounts d (mounted_as (with_bytes plain name date bytes)))
 
 -- header copies that formatting may begin over stay so
 abbrev pub StoppedAppendIsClean : Type 0
 StoppedAppendIsClean =
     (c : Cartridge) (plain : Plain) (name : List ℕ) (date : ℕ) (bytes : List ℕ) (left : Option Cartridge) →
-    IsReadyFor c plain name date bytes → StandsCleanly c plain → Torn (append_steps_of c plain name date bytes) (Some c) left →
-    IsSomeAnd left (λ d. StandsCleanly d plain ⊎ StandsCleanly d (new_plain c plain name date bytes))
+    IsReadyFor c plain name date bytes → StandsCleanly c plain → Torn (append_steps_of plain name date bytes) (Some c) left →
+    IsSomeAnd left (λ d. StandsCleanly d plain ⊎ StandsCleanly d (with_bytes plain name date bytes))
 
 -- and it is a cartridge
 abbrev pub StoppedAppendIsCartridge : Type 0
 StoppedAppendIsCartridge =
     (c : Cartridge) (plain : Plain) (name : List ℕ) (date : ℕ) (bytes : List ℕ) (left : Option Cartridge) →
-    IsReadyFor c plain name date bytes → Torn (append_steps_of c plain name date bytes) (Some c) left →
+    IsReadyFor c plain name date bytes → Torn (append_steps_of plain name date bytes) (Some c) left →
     IsSomeAnd left IsCartridge

@@ -5,7 +5,7 @@ use Rattle.cartridge_laws.specs.AppendSteps.{IsNamed}
 use Rattle.cartridge_laws.specs.AppendWrites.{AreWrites, IsFree, IsOfSector}
 use Rattle.cartridge_laws.specs.MountBlocks.{HoldsPart}
 use Rattle.cartridge_laws.specs.Table.{IsSoundList}
-use Rattle.cartridge_spec.specs.Appending.{has_room, last_end, new_plain, volume_of, volume_bytes}
+use Rattle.cartridge_spec.specs.Appending.{has_room, last_end, volume_bytes, with_bytes, appended_volume}
 use Rattle.cartridge_spec.specs.Formatting.{IsLabel, StandsCleanly}
 use Rattle.cartridge_spec.specs.HeaderAndTable.{last_segment, TableIs, IsArea}
 use Rattle.cartridge_spec.specs.Mounting.{settled, Mounts, mounted_as}
@@ -23,7 +23,7 @@ use Rattle.qic_base.specs.Stop.{Torn}
 pub record MayAppendTo (c : Cartridge) (plain : Plain) (name : List ℕ) (date : ℕ) (bytes : List ℕ) : Type 0 where
   pub cartridge : IsCartridge c
   pub stands : Stands c plain
-  pub room : has_room plain.words (entries_of plain) (last_segment c) (length bytes) ≡ true
+  pub room : has_room plain (length bytes) ≡ true
   pub label : IsLabel name
   pub word : date < 2 ^ 32
   pub content : All (λ b. b < 256) bytes
@@ -65,16 +65,16 @@ FreeWritesLeaveSettled =
 abbrev pub DoneTableShows : Type 0
 DoneTableShows =
     (c : Cartridge) (plain : Plain) (name : List ℕ) (date : ℕ) (bytes : List ℕ) → MayAppendTo c plain name date bytes →
-    IsArea (new_table c plain name date bytes) × Shows (new_table c plain name date bytes)
-    (entries_of (new_plain c plain name date bytes))
-    × IsSoundList (last_segment c) (entries_of (new_plain c plain name date bytes))
+    IsArea (new_table plain name date bytes) × Shows (new_table plain name date bytes)
+    (entries_of (with_bytes plain name date bytes))
+    × IsSoundList (last_segment c) (entries_of (with_bytes plain name date bytes))
 
 -- the new volume has just the bytes that were appended
 abbrev pub DoneBytes : Type 0
 DoneBytes =
     (c : Cartridge) (plain : Plain) (name : List ℕ) (date : ℕ) (bytes : List ℕ) → MayAppendTo c plain name date bytes →
-    (volume_length plain.words (volume_of c plain name date bytes).entry ≡ length bytes)
-    × (volume_bytes plain.words (volume_of c plain name date bytes) ≡ bytes)
+    (volume_length plain.words (appended_volume plain name date bytes).entry ≡ length bytes)
+    × (volume_bytes plain.words (appended_volume plain name date bytes) ≡ bytes)
 
 -- ---- all steps done
 
@@ -82,48 +82,48 @@ DoneBytes =
 abbrev pub DoneStands : Type 0
 DoneStands =
     (c : Cartridge) (plain : Plain) (name : List ℕ) (date : ℕ) (bytes : List ℕ) → MayAppendTo c plain name date bytes →
-    IsSettledFor c plain.table_area → Stands (changed_by (append_steps_of c plain name date bytes) c) (new_plain c plain name date bytes)
+    IsSettledFor c plain.table_area → Stands (changed_by (append_steps_of plain name date bytes) c) (with_bytes plain name date bytes)
 
 -- .. is mounted as that, ..
 abbrev pub DoneMounts : Type 0
 DoneMounts =
     (c : Cartridge) (plain : Plain) (name : List ℕ) (date : ℕ) (bytes : List ℕ) → MayAppendTo c plain name date bytes →
     IsSettledFor c plain.table_area →
-    Mounts (changed_by (append_steps_of c plain name date bytes) c) (mounted_as (new_plain c plain name date bytes))
+    Mounts (changed_by (append_steps_of plain name date bytes) c) (mounted_as (with_bytes plain name date bytes))
 
 -- .. and is settled for the new table
 abbrev pub DoneIsSettledFor : Type 0
 DoneIsSettledFor =
     (c : Cartridge) (plain : Plain) (name : List ℕ) (date : ℕ) (bytes : List ℕ) → MayAppendTo c plain name date bytes →
     IsSettledFor c plain.table_area →
-    IsSettledFor (changed_by (append_steps_of c plain name date bytes) c) (new_table c plain name date bytes)
+    IsSettledFor (changed_by (append_steps_of plain name date bytes) c) (new_table plain name date bytes)
 
 -- header copies that formatting may begin over stay so
 abbrev pub DoneIsClean : Type 0
 DoneIsClean =
     (c : Cartridge) (plain : Plain) (name : List ℕ) (date : ℕ) (bytes : List ℕ) → MayAppendTo c plain name date bytes →
     IsSettledFor c plain.table_area → StandsCleanly c plain →
-    StandsCleanly (changed_by (append_steps_of c plain name date bytes) c) (new_plain c plain name date bytes)
+    StandsCleanly (changed_by (append_steps_of plain name date bytes) c) (with_bytes plain name date bytes)
 
 -- what is left is a cartridge
 abbrev pub DoneIsCartridge : Type 0
 DoneIsCartridge =
     (c : Cartridge) (plain : Plain) (name : List ℕ) (date : ℕ) (bytes : List ℕ) → MayAppendTo c plain name date bytes →
-    IsCartridge (changed_by (append_steps_of c plain name date bytes) c)
+    IsCartridge (changed_by (append_steps_of plain name date bytes) c)
 
 -- its marks are as they were, and so is each sector that the steps don't name
 abbrev pub DoneTouchesOnly : Type 0
 DoneTouchesOnly =
     (c : Cartridge) (plain : Plain) (name : List ℕ) (date : ℕ) (bytes : List ℕ) → MayAppendTo c plain name date bytes →
-    ((changed_by (append_steps_of c plain name date bytes) c).info ≡ c.info) × ((segment sector : ℕ) → sector < 32 →
-    (IsNamed plain (last_segment c) bytes segment sector → ⊥) →
-    view_at (changed_by (append_steps_of c plain name date bytes) c) segment sector ≡ view_at c segment sector)
+    ((changed_by (append_steps_of plain name date bytes) c).info ≡ c.info) × ((segment sector : ℕ) → sector < 32 →
+    (IsNamed plain bytes segment sector → ⊥) →
+    view_at (changed_by (append_steps_of plain name date bytes) c) segment sector ≡ view_at c segment sector)
 
 -- one may append to it again what has room behind the volume
 abbrev pub DoneMayAppendTo : Type 0
 DoneMayAppendTo =
     (c : Cartridge) (plain : Plain) (name : List ℕ) (date : ℕ) (bytes : List ℕ) (other : List ℕ) (day : ℕ) (more : List ℕ) →
     MayAppendTo c plain name date bytes → IsSettledFor c plain.table_area →
-    has_room plain.words (entries_of (new_plain c plain name date bytes)) (last_segment c) (length more) ≡ true →
+    has_room (with_bytes plain name date bytes) (length more) ≡ true →
     IsLabel other → day < 2 ^ 32 → All (λ b. b < 256) more →
-    MayAppendTo (changed_by (append_steps_of c plain name date bytes) c) (new_plain c plain name date bytes) other day more
+    MayAppendTo (changed_by (append_steps_of plain name date bytes) c) (with_bytes plain name date bytes) other day more

@@ -1,9 +1,9 @@
 -- What an append does to a cartridge: the segments of the new volume, and then the table; and the plain cartridge with one
 -- volume more (this project's profile).
 use Rattle.std.specs.Prelude.{ℕ, List, [], ◌∷◌, ◌++◌, length, ◌≡◌, ◌⊎◌, Contains}
-use Rattle.cartridge_spec.specs.Appending.{part_writes, in_sectors, taken_by, new_segments, table_writes, appended_table, table_places}
+use Rattle.cartridge_spec.specs.Appending.{part_writes, in_sectors, taken_by, new_segments, table_writes, table_places}
 use Rattle.cartridge_spec.specs.Shape.{mask_at, usable_places}
-use Rattle.cartridge_spec.specs.Table.{slot_sector}
+use Rattle.cartridge_spec.specs.Table.{slot_sector, table_with}
 use Rattle.cartridge_spec.specs.Volumes.{Part, parts_of, sectors_in, Plain, Volume}
 use Rattle.qic_base.specs.Step.{Step}
 
@@ -18,21 +18,21 @@ writes_into words segments bytes =
     parts_writes words (parts_of words taken (in_sectors (sectors_in words taken) bytes))
 
 -- the writes of the volume's segments, ascending
-abbrev pub volume_writes : Plain → (last : ℕ) → (bytes : List ℕ) → Volume → List Step
-volume_writes plain last bytes volume =
-    parts_writes plain.words (parts_of plain.words (new_segments plain last bytes) volume.area)
+abbrev pub volume_writes : Plain → (bytes : List ℕ) → Volume → List Step
+volume_writes plain bytes volume =
+    parts_writes plain.words (parts_of plain.words (new_segments plain bytes) volume.area)
 
 -- the four writes of the table
 abbrev pub list_writes : Plain → Volume → List Step
 list_writes plain volume =
-    table_writes (slot_sector (length plain.volumes)) (appended_table plain volume.entry)
+    table_writes (slot_sector (length plain.volumes)) (table_with plain.table_area (length plain.volumes) volume.entry)
 
 -- all of them
-abbrev pub append_steps : Plain → (last : ℕ) → (bytes : List ℕ) → Volume → List Step
-append_steps plain last bytes volume = volume_writes plain last bytes volume ++ list_writes plain volume
+abbrev pub append_steps : Plain → (bytes : List ℕ) → Volume → List Step
+append_steps plain bytes volume = volume_writes plain bytes volume ++ list_writes plain volume
 
 -- the sectors that they name: four of the table's segment, and all usable ones of the volume's segments
-abbrev pub IsNamed : Plain → (last : ℕ) → (bytes : List ℕ) → (segment sector : ℕ) → Type 0
-IsNamed plain last bytes segment sector =
+abbrev pub IsNamed : Plain → (bytes : List ℕ) → (segment sector : ℕ) → Type 0
+IsNamed plain bytes segment sector =
     ((segment ≡ 2) × Contains (table_places (slot_sector (length plain.volumes))) sector)
-    ⊎ (Contains (new_segments plain last bytes) segment × Contains (usable_places (mask_at plain.words segment)) sector)
+    ⊎ (Contains (new_segments plain bytes) segment × Contains (usable_places (mask_at plain.words segment)) sector)

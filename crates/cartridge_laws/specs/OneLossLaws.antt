@@ -5,7 +5,7 @@ use Rattle.cartridge_laws.specs.AppendLaws.{new_table, volume_steps, list_steps,
 use Rattle.cartridge_laws.specs.AppendSettled.{MayAppendTo}
 use Rattle.cartridge_laws.specs.MountBlocks.{HoldsPart}
 use Rattle.cartridge_laws.specs.OneLossTables.{DifferInOne, IsLastInUse}
-use Rattle.cartridge_spec.specs.Appending.{new_plain}
+use Rattle.cartridge_spec.specs.Appending.{with_bytes}
 use Rattle.cartridge_spec.specs.Code.{IsCodeBlock}
 use Rattle.cartridge_spec.specs.Formatting.{StandsCleanly}
 use Rattle.cartridge_spec.specs.HeaderAndTable.{IsArea, TableIs}
@@ -85,24 +85,24 @@ OneLossReadsEither =
 abbrev pub AppendChangesOneSector : Type 0
 AppendChangesOneSector =
     (c : Cartridge) (plain : Plain) (name : List ℕ) (date : ℕ) (bytes : List ℕ) → MayAppendTo c plain name date bytes →
-    DifferInOne plain.table_area (new_table c plain name date bytes) (slot_sector (length plain.volumes))
-    × IsLastInUse (new_table c plain name date bytes) (slot_sector (length plain.volumes))
+    DifferInOne plain.table_area (new_table plain name date bytes) (slot_sector (length plain.volumes))
+    × IsLastInUse (new_table plain name date bytes) (slot_sector (length plain.volumes))
 
 -- where it was stopped among the writes of the table, and one sector more of the table's segment is lost, one of the two is read
 abbrev pub StoppedAppendReadsEither : Type 0
 StoppedAppendReadsEither =
     (c d : Cartridge) (plain : Plain) (name : List ℕ) (date : ℕ) (bytes : List ℕ) (left : Option Cartridge) →
-    IsReadyFor c plain name date bytes → d ≡ changed_by (volume_steps c plain name date bytes) c →
-    Torn (list_steps c plain name date bytes) (Some d) left →
+    IsReadyFor c plain name date bytes → d ≡ changed_by (volume_steps plain name date bytes) c →
+    Torn (list_steps plain name date bytes) (Some d) left →
     IsSomeAnd left (λ e. (f : Cartridge) (lost : ℕ) → LosesOne e f lost →
-    TableIs f plain.table_area ⊎ TableIs f (new_table c plain name date bytes))
+    TableIs f plain.table_area ⊎ TableIs f (new_table plain name date bytes))
 
 -- and where all its writes were done, and one sector of the table's segment is lost, the table with the volume is read
 abbrev pub DoneAppendReadsNew : Type 0
 DoneAppendReadsNew =
     (c e : Cartridge) (plain : Plain) (name : List ℕ) (date : ℕ) (bytes : List ℕ) → IsReadyFor c plain name date bytes →
-    e ≡ changed_by (list_steps c plain name date bytes) (changed_by (volume_steps c plain name date bytes) c) →
-    (f : Cartridge) (lost : ℕ) → LosesOne e f lost → TableIs f (new_table c plain name date bytes)
+    e ≡ changed_by (list_steps plain name date bytes) (changed_by (volume_steps plain name date bytes) c) →
+    (f : Cartridge) (lost : ℕ) → LosesOne e f lost → TableIs f (new_table plain name date bytes)
 
 -- a cartridge that differs from one that stands in the table's segment alone, and says that one's data of the table, comes back
 -- as that one, ..
@@ -121,14 +121,14 @@ TableAloneIsClean =
 abbrev pub StoppedAppendComesBack : Type 0
 StoppedAppendComesBack =
     (c d : Cartridge) (plain : Plain) (name : List ℕ) (date : ℕ) (bytes : List ℕ) (left : Option Cartridge) →
-    IsReadyFor c plain name date bytes → d ≡ changed_by (volume_steps c plain name date bytes) c →
-    Torn (list_steps c plain name date bytes) (Some d) left →
+    IsReadyFor c plain name date bytes → d ≡ changed_by (volume_steps plain name date bytes) c →
+    Torn (list_steps plain name date bytes) (Some d) left →
     IsSomeAnd left (λ e. (f : Cartridge) (lost : ℕ) → LosesOneAlone e f lost →
-    ComesBackAs f plain ⊎ ComesBackAs f (new_plain c plain name date bytes))
+    ComesBackAs f plain ⊎ ComesBackAs f (with_bytes plain name date bytes))
 
 -- and where all its writes were done, as the one with it
 abbrev pub DoneAppendComesBack : Type 0
 DoneAppendComesBack =
     (c e : Cartridge) (plain : Plain) (name : List ℕ) (date : ℕ) (bytes : List ℕ) → IsReadyFor c plain name date bytes →
-    e ≡ changed_by (list_steps c plain name date bytes) (changed_by (volume_steps c plain name date bytes) c) →
-    (f : Cartridge) (lost : ℕ) → LosesOneAlone e f lost → ComesBackAs f (new_plain c plain name date bytes)
+    e ≡ changed_by (list_steps plain name date bytes) (changed_by (volume_steps plain name date bytes) c) →
+    (f : Cartridge) (lost : ℕ) → LosesOneAlone e f lost → ComesBackAs f (with_bytes plain name date bytes)

@@ -1,12 +1,10 @@
 -- One volume more: the room for it, the segments that it takes, its bytes in sectors, its entry, and the writes (this project's profile).
 use Rattle.std.specs.Prelude.{ℕ, List, [], ◌∷◌, ◌+◌, length, if◌then◌else◌, nat_lt, ◌-◌, nat_le, ◌&&◌, Bool, ◌++◌, replicate, zero, suc, take, drop, slice_index}
-use Rattle.cartridge_spec.specs.HeaderAndTable.{last_segment}
 use Rattle.cartridge_spec.specs.Says.{with_parity}
 use Rattle.cartridge_spec.specs.Settling.{block_writes, writes_of}
 use Rattle.cartridge_spec.specs.Shape.{mask_at, capacity, usable_places}
-use Rattle.cartridge_spec.specs.Table.{Entry, slot_bytes, with_slot}
+use Rattle.cartridge_spec.specs.Table.{Entry, table_with}
 use Rattle.cartridge_spec.specs.Volumes.{carrying, capacity_between, Volume, sectors_in, volume_length, Part, Plain, entries_of}
-use Rattle.qic_base.specs.Cartridge.{Cartridge}
 use Rattle.qic_base.specs.Step.{Step}
 
 -- the end of the last of some volumes behind a segment, or that segment where there is none
@@ -33,10 +31,6 @@ abbrev pub taken_by : (words : List ℕ) (bytes : ℕ) (segments : List ℕ) →
 taken_by words bytes [] = []
 taken_by words bytes (s ∷ ss) =
     s ∷ (if nat_le bytes (capacity (mask_at words s)) then [] else taken_by words (bytes - capacity (mask_at words s)) ss)
-
--- a volume of so many bytes has room
-abbrev pub has_room : (words : List ℕ) → List Entry → (last bytes : ℕ) → Bool
-has_room words entries last bytes = nat_le 1 (room words entries last) && nat_le bytes (room words entries last)
 
 -- bytes of one sector, with zero bytes behind them
 abbrev pub filled_up : List ℕ → List ℕ
@@ -92,34 +86,40 @@ abbrev pub part_writes : (words : List ℕ) → Part → List Step
 part_writes words part =
     writes_of part.segment (usable_places (mask_at words part.segment)) (with_parity part.sectors)
 
+-- ---- the plain cartridge with volumes more
+
+-- it has room for a volume of so many bytes
+abbrev pub has_room : Plain → (bytes : ℕ) → Bool
+has_room plain bytes =
+    let have : ℕ = room plain.words (entries_of plain) (length plain.words - 1) in nat_le 1 have && nat_le bytes have
+
 -- the segments that a new volume of these bytes takes
-abbrev pub new_segments : Plain → (last : ℕ) → (bytes : List ℕ) → List ℕ
-new_segments plain last bytes = taken_by plain.words (length bytes) (free_segments plain.words (entries_of plain) last)
+abbrev pub new_segments : Plain → (bytes : List ℕ) → List ℕ
+new_segments plain bytes =
+    taken_by plain.words (length bytes) (free_segments plain.words (entries_of plain) (length plain.words - 1))
 
--- the new volume
-abbrev pub appended_volume : Plain → (last : ℕ) → (name : List ℕ) → (date : ℕ) → (bytes : List ℕ) → Volume
-appended_volume plain last name date bytes = new_volume plain.words (new_segments plain last bytes) name date bytes
+-- the new volume: of a name of 44 bytes, a date word, and bytes
+abbrev pub appended_volume : Plain → (name : List ℕ) → (date : ℕ) → (bytes : List ℕ) → Volume
+appended_volume plain name date bytes = new_volume plain.words (new_segments plain bytes) name date bytes
 
--- the table's data with its entry in the slot behind the last one
-abbrev pub appended_table : Plain → Entry → List (List ℕ)
-appended_table plain entry = with_slot plain.table_area (length plain.volumes) (slot_bytes entry)
-
--- the plain cartridge with one volume more
+-- with a volume behind the others, and its entry in the slot behind the last one
 abbrev pub with_volume : Plain → Volume → Plain
-with_volume plain volume =
-    record plain { table_area = appended_table plain volume.entry; volumes = plain.volumes ++ volume ∷ [] }
+with_volume plain volume = record plain {
+  table_area = table_with plain.table_area (length plain.volumes) volume.entry;
+  volumes = plain.volumes ++ volume ∷ [];
+}
 
--- ---- an append to a cartridge that stands for a plain one: of a name of 44 bytes, a date word, and bytes
-
-abbrev pub volume_of : Cartridge → Plain → (name : List ℕ) → (date : ℕ) → (bytes : List ℕ) → Volume
-volume_of c plain name date bytes = appended_volume plain (last_segment c) name date bytes
-
--- the plain cartridge with that volume, and its table's data
-abbrev pub new_plain : Cartridge → Plain → (name : List ℕ) → (date : ℕ) → (bytes : List ℕ) → Plain
-new_plain c plain name date bytes = with_volume plain (volume_of c plain name date bytes)
-
--- ---- an append
-
--- the plain cartridge with a volume of these bytes
+-- with that of these bytes
 abbrev pub with_bytes : Plain → (name : List ℕ) → (date : ℕ) → (bytes : List ℕ) → Plain
-with_bytes plain name date bytes = with_volume plain (appended_volume plain (length plain.words - 1) name date bytes)
+with_bytes plain name date bytes = with_volume plain (appended_volume plain name date bytes)
+
+-- what is appended: the bytes of a volume, with its name and its date word
+pub record Content : Type 0 where
+  pub name : List ℕ
+  pub date : ℕ
+  pub bytes : List ℕ
+
+-- with several, one behind the other
+abbrev pub with_all : Plain → List Content → Plain
+with_all plain [] = plain
+with_all plain (content ∷ more) = with_all (with_bytes plain content.name content.date content.bytes) more

@@ -41,6 +41,10 @@ abbrev pub with_slot : (area : List (List ℕ)) → (i : ℕ) → (bytes : List 
 with_slot area i bytes =
     slice_set area (slot_sector i) (overwritten (sector_at area (slot_sector i)) (128 * (i % 8)) bytes)
 
+-- the data of a table of so many entries, with one more in the slot behind the last one
+abbrev pub table_with : (area : List (List ℕ)) → (count : ℕ) → Entry → List (List ℕ)
+table_with area count entry = with_slot area count (slot_bytes entry)
+
 -- slot i of the table's 29 data sectors, 0 to 231
 unfoldable pub slot : List (List ℕ) → ℕ → List ℕ
 slot area i = take 128 (drop (128 * (i % 8)) (sector_at area (i / 8)))

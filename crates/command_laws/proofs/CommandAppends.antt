@@ -1,10 +1,10 @@
 -- What an append leaves of a cartridge that stands for a plain one: done, refused, or stopped.
-use Rattle.std.proofs.Common.{◌≡◌, ◌≢◌, List, [], ℕ, false, refl, ◌⊎◌, inl, inr, Some, subst, ◌+◌, ◌++◌, ap, ◌∙◌, ◌-◌, Option, IsSomeAnd, None, length, Bool, All, ◌<◌, ◌≤◌, arith, true, cond, take, nat_le, min, append-nil, ◌*◌, sym, ◌^◌, ◌∷◌}
+use Rattle.std.proofs.Common.{◌≡◌, ◌≢◌, List, [], ℕ, false, refl, ◌⊎◌, inl, inr, Some, subst, ◌+◌, ◌++◌, ap, ◌∙◌, ◌-◌, Option, IsSomeAnd, None, length, Bool, All, ◌<◌, ◌≤◌, arith, true, cond, take, nat_le, min, append-nil, sym, ◌^◌, ◌∷◌}
 use Rattle.std.proofs.lemmas.List.Elements.{All-weaker}
 use Rattle.std.proofs.lemmas.Bool.{leb-true, and_parts, cases_Bool}
 use Rattle.std.proofs.lemmas.List.{take_all, length-map}
 use Rattle.cartridge_laws.proofs.AppendDead.{settled_is_settled_for}
-use Rattle.cartridge_laws.proofs.AppendDone.{stopped_append, either_of, done_stands}
+use Rattle.cartridge_laws.proofs.AppendDone.{stopped_append, done_stands}
 use Rattle.cartridge_laws.proofs.AppendReady.{settled_is_ready, settled_may_append_to}
 use Rattle.cartridge_laws.proofs.AppendSegments.{carrying_carry, carrying_from}
 use Rattle.cartridge_laws.proofs.AppendVolume.{free_writes_stand}
@@ -15,12 +15,12 @@ use Rattle.cartridge_laws.proofs.MountStanding.{standing_mounts_only_so}
 use Rattle.cartridge_laws.proofs.MountWhole.{settling_effects}
 use Rattle.cartridge_laws.specs.AppendLaws.{IsReadyFor}
 use Rattle.cartridge_laws.specs.AppendSettled.{MayAppendTo}
-use Rattle.cartridge_laws.specs.AppendSteps.{writes_into, append_steps}
+use Rattle.cartridge_laws.specs.AppendSteps.{writes_into}
 use Rattle.cartridge_laws.specs.AppendWrites.{AreWrites, IsFree}
 use Rattle.cartridge_laws.specs.Shape.{Carries}
-use Rattle.cartridge_spec.specs.Appending.{has_room, last_end, table_writes, appended_volume, with_volume, new_plain}
+use Rattle.cartridge_spec.specs.Appending.{has_room, last_end, table_writes, with_bytes}
 use Rattle.cartridge_spec.specs.Formatting.{IsLabel}
-use Rattle.cartridge_spec.specs.HeaderAndTable.{TableIs, last_segment}
+use Rattle.cartridge_spec.specs.HeaderAndTable.{TableIs}
 use Rattle.cartridge_spec.specs.Mounting.{Mounting, Mounts, settled, IsTableLive}
 use Rattle.cartridge_spec.specs.Settling.{settling_steps, changed_by}
 use Rattle.cartridge_spec.specs.Shape.{mask_at}
@@ -37,7 +37,6 @@ use Rattle.qic_base.specs.Acts.{Act, steps_of, text_of}
 use Rattle.qic_base.specs.Cartridge.{Cartridge, IsCartridge}
 use Rattle.qic_base.specs.Step.{Step, effects}
 use Rattle.qic_base.specs.Stop.{Torn}
-use Rattle.qic_base.specs.declared.tape.TapeInfo.{TapeInfo}
 use Rattle.command_spec.specs.declared.status.Status.TheVariants as status
 use Rattle.cartridge_laws.specs.AppendLaws as appends
 
@@ -131,17 +130,17 @@ table_acts c plain name date input =
     entry_acts (kept_of c plain) name date (reply_behind (length (entries_of plain))) (taking (room_in (kept_of c plain)) None input)
 
 -- there is room for all of the input
-abbrev pub fits : Cartridge → Plain → (input : List ℕ) → Bool
-fits c plain input = has_room plain.words (entries_of plain) (last_segment c) (length input)
+abbrev pub fits : Plain → (input : List ℕ) → Bool
+fits plain input = has_room plain (length input)
 
 free_carry : (c : Cartridge) (plain : Plain) → All (λ s. Carries (mask_at plain.words s)) (free_in (kept_of c plain))
-free_carry c plain = carrying_carry plain.words (last_end (entries_of plain) + 1) (last_segment c)
+free_carry c plain = carrying_carry plain.words (last_end (entries_of plain) + 1) (length plain.words - 1)
 
 free_behind : (c : Cartridge) (plain : Plain) → All (λ s. last_end (entries_of plain) < s) (free_in (kept_of c plain))
 free_behind c plain =
     let last : ℕ = last_end (entries_of plain) in
     All-weaker (λ (s : ℕ). last + 1 ≤ s) (λ (s : ℕ). last < s) (λ s (h : last + 1 ≤ s). omega arith) (free_in (kept_of c plain))
-    (carrying_from plain.words (last + 1) (last_segment c))
+    (carrying_from plain.words (last + 1) (length plain.words - 1))
 
 free_if : (before : ℕ) (some : Bool) (acts : List Act) → AreWrites (IsFree before) (steps_of acts) → AreWrites (IsFree before) (steps_of (cond some acts []))
 free_if before true acts free = free
@@ -169,7 +168,7 @@ segments_stand c plain input left stood table torn =
 
 -- ---- where there is no room for all of the input
 
-pub no_table : (c : Cartridge) (plain : Plain) (name : List ℕ) (date : ℕ) (input : List ℕ) → fits c plain input ≡ false →
+pub no_table : (c : Cartridge) (plain : Plain) (name : List ℕ) (date : ℕ) (input : List ℕ) → fits plain input ≡ false →
     segments_acts c plain input ++ table_acts c plain name date input ≡ segments_acts c plain input
 no_table c plain name date input small =
     let have : ℕ = room_in (kept_of c plain) in
@@ -179,7 +178,7 @@ no_table c plain name date input small =
 
 -- ---- where there is
 
-segments_write : (c : Cartridge) (plain : Plain) (input : List ℕ) → fits c plain input ≡ true →
+segments_write : (c : Cartridge) (plain : Plain) (input : List ℕ) → fits plain input ≡ true →
     steps_of (segments_acts c plain input) ≡ writes_into plain.words (free_in (kept_of c plain)) input
 segments_write c plain input enough =
     let have : ℕ = room_in (kept_of c plain) in
@@ -189,8 +188,8 @@ segments_write c plain input enough =
     ∙ ap (λ (bytes : List ℕ). steps_of (volume_acts plain.words free bytes)) (take_all have input (leb-true (length input) have both.1))
     ∙ volume_is_writes plain.words free input (free_carry c plain)
 
-table_writes_are : (c : Cartridge) (plain : Plain) (name : List ℕ) (date : ℕ) (input : List ℕ) → fits c plain input ≡ true →
-    steps_of (table_acts c plain name date input) ≡ appends.list_steps c plain name date input
+table_writes_are : (c : Cartridge) (plain : Plain) (name : List ℕ) (date : ℕ) (input : List ℕ) → fits plain input ≡ true →
+    steps_of (table_acts c plain name date input) ≡ appends.list_steps plain name date input
 table_writes_are c plain name date input enough =
     let kept : Kept = kept_of c plain in
     let have : ℕ = room_in kept in
@@ -199,35 +198,26 @@ table_writes_are c plain name date input enough =
     ∙ append-nil (table_writes (slot_sector (length (entries_of plain))) (with_slot plain.table_area (length (entries_of plain)) bytes))
     ∙ ap (λ (n : ℕ). table_writes (slot_sector n) (with_slot plain.table_area n bytes)) (length-map plain.volumes (λ (v : Volume). v.entry))
 
-same_last : (c : Cartridge) (area : List (List ℕ)) → TableIs c area → last_segment (settled area c) ≡ last_segment c
-same_last c area table = ap (λ (i : TapeInfo). 28 * i.segments_per_track - 1) (settled_keeps_table c area table).info
-
-pub same_plain : (name : List ℕ) (date : ℕ) (input : List ℕ) (c : Cartridge) (plain : Plain) → TableIs c plain.table_area →
-    new_plain (settled plain.table_area c) plain name date input ≡ new_plain c plain name date input
-same_plain name date input c plain table =
-    ap (λ (last : ℕ). with_volume plain (appended_volume plain last name date input)) (same_last c plain.table_area table)
-
 -- they are all the writes of an append to the settled cartridge
-pub steps_are : (name : List ℕ) (date : ℕ) (input : List ℕ) (c : Cartridge) (plain : Plain) → TableIs c plain.table_area → fits c plain input ≡ true →
+pub steps_are : (name : List ℕ) (date : ℕ) (input : List ℕ) (c : Cartridge) (plain : Plain) → fits plain input ≡ true →
     steps_of (segments_acts c plain input ++ table_acts c plain name date input)
-    ≡ appends.append_steps_of (settled plain.table_area c) plain name date input
-steps_are name date input c plain table enough =
+    ≡ appends.append_steps_of plain name date input
+steps_are name date input c plain enough =
     steps_of-append (segments_acts c plain input) (table_acts c plain name date input)
     ∙ ap (λ (front : List Step). front ++ steps_of (table_acts c plain name date input)) (segments_write c plain input enough)
-    ∙ ap (λ (rear : List Step). appends.volume_steps c plain name date input ++ rear) (table_writes_are c plain name date input enough)
-    ∙ ap (λ (last : ℕ). append_steps plain last input (appended_volume plain last name date input)) (sym (same_last c plain.table_area table))
+    ∙ ap (λ (rear : List Step). appends.volume_steps plain name date input ++ rear) (table_writes_are c plain name date input enough)
 
 -- ---- a stop
 
 run_stopped : (name : List ℕ) (date : ℕ) (input : List ℕ) (c : Cartridge) (plain : Plain) (left : Option Cartridge) → IsLabel name → date < 2 ^ 32 → All (λ b. b < 256) input →
     IsCartridge c → Stands c plain → IsTableLive c → c.info.protected ≡ false → TableIs c plain.table_area →
     Torn (behind_settling c plain (steps_of (segments_acts c plain input ++ table_acts c plain name date input))) (Some c) left →
-    IsSomeAnd left (λ d. Stands d plain ⊎ Stands d (new_plain c plain name date input))
+    IsSomeAnd left (λ d. Stands d plain ⊎ Stands d (with_bytes plain name date input))
 run_stopped name date input c plain left label word content whole stood live unprotected table torn =
     let s : Cartridge = settled plain.table_area c in
-    elim (cases_Bool (fits c plain input)) [
-      | inl enough ↦ elim (stopped_behind c plain (appends.append_steps_of s plain name date input) left stood table
-          (subst (λ (steps : List Step). Torn (behind_settling c plain steps) (Some c) left) (steps_are name date input c plain table enough) torn)) [
+    elim (cases_Bool (fits plain input)) [
+      | inl enough ↦ elim (stopped_behind c plain (appends.append_steps_of plain name date input) left stood table
+          (subst (λ (steps : List Step). Torn (behind_settling c plain steps) (Some c) left) (steps_are name date input c plain enough) torn)) [
             | inl stands ↦ some_weaker left (λ d stands. inl stands) stands
             | inr behind ↦
                 let ready : IsReadyFor s plain name date input = settled_is_ready c plain name date input (record {
@@ -241,8 +231,7 @@ run_stopped name date input c plain left label word content whole stood live unp
                   word = word;
                   content = content;
                 }) in
-                some_weaker left (λ d. either_of (λ old. old) (subst (λ (p : Plain). Stands d p) (same_plain name date input c plain table)))
-                (stopped_append s plain name date input left ready behind)
+                stopped_append s plain name date input left ready behind
           ]
       | inr small ↦ some_weaker left (λ d stands. inl stands)
           (segments_stand c plain input left stood table
@@ -253,11 +242,11 @@ run_stopped name date input c plain left label word content whole stood live unp
 pub append_stopped : (name : List ℕ) (date : ℕ) (input : List ℕ) (c : Cartridge) (plain : Plain) (outcome : CommandOutcome) (left : Option Cartridge) →
     IsLabel name → date < 2 ^ 32 → All (λ b. b < 256) input → IsCartridge c → Stands c plain → IsTableLive c →
     AppendOutcome name date (Some c) input outcome → Torn (steps_of outcome.acts) (Some c) left →
-    IsSomeAnd left (λ d. Stands d plain ⊎ Stands d (new_plain c plain name date input))
+    IsSomeAnd left (λ d. Stands d plain ⊎ Stands d (with_bytes plain name date input))
 append_stopped name date input c plain outcome left label word content whole stood live machine torn =
     elim (course name date input c plain outcome stood machine) [
       | inl none ↦
-          some_and (λ d. Stands d plain ⊎ Stands d (new_plain c plain name date input)) c left (inl stood)
+          some_and (λ d. Stands d plain ⊎ Stands d (with_bytes plain name date input)) c left (inl stood)
           (subst (λ (ss : List Step). Torn ss (Some c) left) (ap (λ (o : CommandOutcome). steps_of o.acts) none.is ∙ none.none) torn)
       | inr run ↦
           run_stopped name date input c plain left label word content whole stood live run.unprotected run.table
@@ -274,29 +263,28 @@ done_fits false need have is = absurd (cc)
 pub append_done : (name : List ℕ) (date : ℕ) (input : List ℕ) (c : Cartridge) (plain : Plain) (outcome : CommandOutcome) →
     IsLabel name → date < 2 ^ 32 → All (λ b. b < 256) input → IsCartridge c → Stands c plain →
     AppendOutcome name date (Some c) input outcome → outcome.status ≡ status.Done →
-    IsSomeAnd (effects (steps_of outcome.acts) (Some c)) (λ d. Stands d (new_plain c plain name date input))
+    IsSomeAnd (effects (steps_of outcome.acts) (Some c)) (λ d. Stands d (with_bytes plain name date input))
 append_done name date input c plain outcome label word content whole stood machine is_done =
     elim (course name date input c plain outcome stood machine) [
       | inl none ↦ absurd (none.not_done (sym (ap (λ (o : CommandOutcome). o.status) none.is) ∙ is_done))
       | inr run ↦
           let have : ℕ = room_in (kept_of c plain) in
-          let enough : fits c plain input ≡ true =
-          done_fits (fits c plain input) (min (length input) (have + 1)) have (sym (ap (λ (o : CommandOutcome). o.status) run.is) ∙ is_done) in
-          some_and (λ d. Stands d (new_plain c plain name date input)) _ (effects (steps_of outcome.acts) (Some c)) (stands run.unprotected run.table enough)
+          let enough : fits plain input ≡ true =
+          done_fits (fits plain input) (min (length input) (have + 1)) have (sym (ap (λ (o : CommandOutcome). o.status) run.is) ∙ is_done) in
+          some_and (λ d. Stands d (with_bytes plain name date input)) _ (effects (steps_of outcome.acts) (Some c)) (stands run.unprotected run.table enough)
           (ap (λ (o : CommandOutcome). effects (steps_of o.acts) (Some c)) run.is
-          ∙ ap (λ (steps : List Step). effects (behind_settling c plain steps) (Some c)) (steps_are name date input c plain run.table enough)
-          ∙ done_behind c plain (appends.append_steps_of (settled plain.table_area c) plain name date input) run.table)
+          ∙ ap (λ (steps : List Step). effects (behind_settling c plain steps) (Some c)) (steps_are name date input c plain enough)
+          ∙ done_behind c plain (appends.append_steps_of plain name date input) run.table)
     ]
   where
-    stands : c.info.protected ≡ false → TableIs c plain.table_area → fits c plain input ≡ true →
-        Stands (changed_by (appends.append_steps_of (settled plain.table_area c) plain name date input) (settled plain.table_area c)) (new_plain c plain name date input)
+    stands : c.info.protected ≡ false → TableIs c plain.table_area → fits plain input ≡ true →
+        Stands (changed_by (appends.append_steps_of plain name date input) (settled plain.table_area c)) (with_bytes plain name date input)
     stands unprotected table enough =
         let s : Cartridge = settled plain.table_area c in
         let before : MayAppendTo c plain name date input =
         record { cartridge = whole; stands = stood; room = enough; label = label; word = word; content = content } in
-        subst (λ (p : Plain). Stands (changed_by (appends.append_steps_of s plain name date input) s) p) (same_plain name date input c plain table)
-        (done_stands s plain name date input (settled_may_append_to c plain name date input before table)
-        (settled_is_settled_for c plain.table_area table unprotected))
+        done_stands s plain name date input (settled_may_append_to c plain name date input before table)
+        (settled_is_settled_for c plain.table_area table unprotected)
 
 -- ---- refused
 
@@ -315,8 +303,8 @@ append_refused name date input c plain outcome whole stood machine other =
           (sym (ap (λ (o : CommandOutcome). steps_of o.acts) none.is ∙ none.none)) stood
       | inr run ↦
           let have : ℕ = room_in (kept_of c plain) in
-          let small : fits c plain input ≡ false =
-          not_done_small (fits c plain input) (min (length input) (have + 1)) have (λ is. other (ap (λ (o : CommandOutcome). o.status) run.is ∙ is)) in
+          let small : fits plain input ≡ false =
+          not_done_small (fits plain input) (min (length input) (have + 1)) have (λ is. other (ap (λ (o : CommandOutcome). o.status) run.is ∙ is)) in
           let steps : List Step = behind_settling c plain (steps_of (segments_acts c plain input)) in
           let same : steps_of outcome.acts ≡ steps =
           ap (λ (o : CommandOutcome). steps_of o.acts) run.is
@@ -394,7 +382,7 @@ append_unanswered name date input c plain outcome front rest whole stood machine
           let again : Act = record { steps = kept.settling; text = [] } in
           let acts : front ++ rest ≡ first ∷ again ∷ (segments_acts c plain input ++ table_acts c plain name date input) =
           parts ∙ ap (λ (o : CommandOutcome). o.acts) run.is in
-          elim (cases_Bool (fits c plain input)) [
+          elim (cases_Bool (fits plain input)) [
             | inl enough ↦
                 let last : Act = record {
                   steps = table_writes (slot_sector (length (entries_of plain))) (with_slot plain.table_area (length (entries_of plain)) (slot_bytes e));

@@ -12,6 +12,7 @@ use Rattle.cartridge_laws.proofs.ChangeViews.{ReadsNoMore, worn_reads_no_more, s
 use Rattle.cartridge_laws.proofs.FormatCopies.{unformatted_from_bare}
 use Rattle.cartridge_laws.proofs.FormatStanding.{same_cells}
 use Rattle.cartridge_laws.proofs.FormatWriting.{effects-some, some_and, some_weaker}
+use Rattle.cartridge_laws.proofs.HeaderRefusals.{mounted_last}
 use Rattle.cartridge_laws.proofs.MountOnce.{mounts_is_function}
 use Rattle.cartridge_laws.proofs.MountPlaces.{AreSmall, rest_small}
 use Rattle.cartridge_laws.proofs.MountSettles.{settling_settles}
@@ -24,13 +25,12 @@ use Rattle.cartridge_spec.specs.HeaderAndTable.{IsArea, copy_cells, last_segment
 use Rattle.cartridge_spec.specs.Mounting.{Mounting, Mounts, settled}
 use Rattle.cartridge_spec.specs.Says.{Written, Zero, with_parity, whole_mask}
 use Rattle.cartridge_spec.specs.Settling.{block_writes, changed_by, settling_places, settling_steps}
-use Rattle.cartridge_spec.specs.Table.{Entry, slot_sector}
+use Rattle.cartridge_spec.specs.Table.{Entry, slot_sector, table_with}
 use Rattle.cartridge_spec.specs.Volumes.{volume_length}
 use Rattle.command_laws.proofs.CommandPlainLaws.{SectorLeaves, plain_leaves}
 use Rattle.command_laws.proofs.InputActLaws.{input_is_free}
 use Rattle.command_laws.proofs.MadeMadeBytes.{length-made_bytes}
 use Rattle.command_laws.proofs.MadeStops.{sum_in_no_step}
-use Rattle.command_laws.proofs.MountedListed.{mounted_last}
 use Rattle.command_laws.proofs.RestoreCounts.{restores_in_no_step, framed_in_no_step}
 use Rattle.command_laws.proofs.ScriptOutcomes.{replied}
 use Rattle.command_laws.proofs.ScrubApart.{looked_rise}
@@ -43,7 +43,7 @@ use Rattle.command_laws.proofs.StoreTaking.{both_true}
 use Rattle.command_laws.specs.CommandLaws.{CopiesStayClean, CopiesStayBare}
 use Rattle.command_laws.specs.MountedListed.{listed_behind}
 use Rattle.command_laws.specs.ScrubMended.{IsBeingMended}
-use Rattle.command_spec.specs.Append.{Appends, Kept, Taking, Fits, TooLong, TooShort, append_acts, entry_acts, entry_for, free_in, has_promised_room, input_acts, input_writes, kept_on, kept_over, most_written, room_in, silently, table_with, taking}
+use Rattle.command_spec.specs.Append.{Appends, Kept, Taking, Fits, TooLong, TooShort, append_acts, entry_acts, entry_for, free_in, has_promised_room, input_acts, input_writes, kept_on, kept_over, most_written, room_in, silently, taking}
 use Rattle.command_spec.specs.Format.{FormatOutcome}
 use Rattle.command_spec.specs.Generator.{made_bytes, made_length}
 use Rattle.command_spec.specs.Info.{telling}
@@ -234,7 +234,7 @@ table_behind n table few = ((omega arith, omega arith), ((omega arith, omega ari
 entry_behind : (kept : Kept) (name : List ℕ) (date : ℕ) (reply : Entry → List ℕ) (taken : Taking) → ((bytes : List ℕ) → taken ≡ Fits bytes → length kept.entries < 232) →
     AreBehind (steps_of (entry_acts kept name date reply taken))
 entry_behind kept name date reply (Fits bytes) slot =
-    let table : List (List ℕ) = table_with kept (entry_for kept name date bytes) in
+    let table : List (List ℕ) = table_with kept.table (length kept.entries) (entry_for kept name date bytes) in
     in_append (λ s i. 1 < s) (table_writes (slot_sector (length kept.entries)) table) [] (table_behind (length kept.entries) table (slot bytes refl)) tt
 entry_behind kept name date reply (TooLong need have) slot = tt
 entry_behind kept name date reply (TooShort promised read) slot = tt
@@ -409,7 +409,7 @@ module _ (area : List (List ℕ)) (is_area : IsArea area) where
       let acts : List Act = append_acts kept name date None reply input in
       by_outcome c outcome _ is (settled_leaves c header ws table entries acts mounts clean (λ still.
       behind_leaves (settled table c) (steps_of acts)
-      (append_behind kept name date None reply input (mounted_order c header ws table entries mounts) (settling_behind table (settled table c))) still))
+      (append_behind kept name date None reply input (map_order c header ws table entries mounts) (settling_behind table (settled table c))) still))
 
   -- ---- the lines of a script
 

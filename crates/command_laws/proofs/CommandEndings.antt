@@ -1,12 +1,12 @@
 -- The ways in which a command ends that reads no input: refused, cut off, or with one text printed once all is done.
 use Rattle.std.proofs.Common.{[], ◌∷◌, None, refl, ℕ, List, sym, subst, append-nil, ◌≡◌, ◌++◌, ap, ◌∙◌, append_assoc, Option, false, inl}
 use Rattle.cartridge_spec.specs.Says.{Mismatch}
+use Rattle.command_spec.specs.Commands.{traits_of}
 use Rattle.command_spec.specs.Machine.{FrontPrints, CommandPrints, RefusedPrints, Yields}
 use Rattle.command_spec.specs.Outcome.{CommandOutcome}
 use Rattle.command_spec.specs.Pulses.{AreLevels}
 use Rattle.command_spec.specs.Runs.{IsOfBytes}
 use Rattle.command_spec.specs.Script.{end_line}
-use Rattle.command_spec.specs.Traits.{traits_of}
 use Rattle.command_spec.specs.declared.status.Status.{Status}
 use Rattle.command_spec.specs.declared.words.Words.{Words}
 use Rattle.qic_base.specs.Cartridge.{Cartridge}

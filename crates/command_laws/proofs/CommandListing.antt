@@ -85,9 +85,7 @@ module _ (c : Cartridge) (header : Header) (words : List ℕ) (table : List (Lis
 
   -- what an append goes by there
   same_kept : kept_over still words entries table ≡ kept_on c words table entries
-  same_kept =
-      ap (λ (last : ℕ). record { words = words; entries = entries; last = last; table = table; settling = settling_steps table still })
-      (listed.last ∙ ap (λ (i : TapeInfo). 28 * i.segments_per_track - 1) same_info)
+  same_kept = refl
 
   -- behind the settling and a front of other acts
   behind_acts : (more : List Act) → effects (steps_of (settling ∷ more)) (Some c) ≡ Some (changed_by (steps_of more) still)

@@ -5,7 +5,7 @@ use Rattle.command_laws.proofs.CommandTotals.{plain_answers}
 use Rattle.command_laws.proofs.CommandValues.{has_values}
 use Rattle.command_laws.specs.CommandLaws.{IsSameOutcome, MachineIsFunction, MachineAnswers}
 use Rattle.command_laws.specs.TextWords.{OneCommand, IsNoCommand, EachWords}
-use Rattle.command_spec.specs.CommandWords.{IsCommand}
+use Rattle.command_spec.specs.Commands.{IsCommand}
 use Rattle.command_spec.specs.Machine.{Yields, Step, SpellsNone}
 use Rattle.command_spec.specs.Outcome.{CommandOutcome, output_of}
 use Rattle.command_spec.specs.declared.status.Status.{Status}

@@ -11,14 +11,14 @@ use Rattle.cartridge_laws.proofs.OneLossRead.{before_reads_old_still}
 use Rattle.cartridge_laws.specs.AppendBetween.{IsWhole}
 use Rattle.cartridge_laws.specs.AppendLaws.{IsReadyFor}
 use Rattle.cartridge_laws.specs.AppendWrites.{KeepsTo}
-use Rattle.cartridge_spec.specs.Appending.{new_plain, last_end}
+use Rattle.cartridge_spec.specs.Appending.{last_end, with_bytes}
 use Rattle.cartridge_spec.specs.Formatting.{IsLabel}
 use Rattle.cartridge_spec.specs.HeaderAndTable.{IsArea, TableIs}
 use Rattle.cartridge_spec.specs.Mounting.{settled, IsTableLive}
 use Rattle.cartridge_spec.specs.OneLoss.{ComesBackAs, LosesOneAlone}
 use Rattle.cartridge_spec.specs.Settling.{settling_steps, changed_by}
 use Rattle.cartridge_spec.specs.Volumes.{Plain, Stands, entries_of}
-use Rattle.command_laws.proofs.CommandAppends.{behind_settling, segments_acts, table_acts, fits, segments_are_free, no_table, same_plain, steps_are, course, kept_of, done_behind, done_fits}
+use Rattle.command_laws.proofs.CommandAppends.{behind_settling, segments_acts, table_acts, fits, segments_are_free, no_table, steps_are, course, kept_of, done_behind, done_fits}
 use Rattle.command_spec.specs.Append.{AppendOutcome, room_in}
 use Rattle.command_spec.specs.Outcome.{CommandOutcome}
 use Rattle.qic_base.proofs.Steps.{Torn-append}
@@ -76,7 +76,7 @@ module _ (name : List ℕ) (date : ℕ) (input : List ℕ) (c : Cartridge) (plai
   is_area : IsArea plain.table_area
   is_area = table_is_area c plain.table_area cartridge table
 
-  ready : fits c plain input ≡ true → IsReadyFor s plain name date input
+  ready : fits plain input ≡ true → IsReadyFor s plain name date input
   ready enough = settled_is_ready c plain name date input (record {
     cartridge = cartridge;
     stands = stood;
@@ -100,44 +100,42 @@ module _ (name : List ℕ) (date : ℕ) (input : List ℕ) (c : Cartridge) (plai
       (free_writes_stand s plain (steps_of (segments_acts c plain input)) left s_stands (segments_are_free c plain input) torn)
 
   -- among the writes of an append
-  append_survives : fits c plain input ≡ true → (left : Option Cartridge) → Torn (appends.append_steps_of s plain name date input) (Some s) left →
-      IsSomeAnd left (Either plain (new_plain c plain name date input))
+  append_survives : fits plain input ≡ true → (left : Option Cartridge) → Torn (appends.append_steps_of plain name date input) (Some s) left →
+      IsSomeAnd left (Either plain (with_bytes plain name date input))
   append_survives enough left torn =
-      let front : List Step = appends.volume_steps s plain name date input in
-      let rear : List Step = appends.list_steps s plain name date input in
-      let new : Plain = new_plain s plain name date input in
-      subst (λ (p : Plain). IsSomeAnd left (Either plain p)) (same_plain name date input c plain table)
-      (elim (Torn-append front rear (Some s) left torn) [
+      let front : List Step = appends.volume_steps plain name date input in
+      let rear : List Step = appends.list_steps plain name date input in
+      let new : Plain = with_bytes plain name date input in
+      elim (Torn-append front rear (Some s) left torn) [
         | inl among ↦ some_weaker left (λ d known f lost loses. inl (whole_comes_back d plain known.0 known.1 is_area f lost loses))
             (stopped_volume s plain name date input left (ready enough) among)
         | inr behind ↦ stopped_append_comes_back s (changed_by front s) plain name date input left (ready enough) refl
             (subst (λ (held : Option Cartridge). Torn rear held left) (effects-some front s) behind)
-      ])
+      ]
 
   run_survives : (left : Option Cartridge) →
       Torn (behind_settling c plain (steps_of (segments_acts c plain input ++ table_acts c plain name date input))) (Some c) left →
-      Torn (settling_steps plain.table_area c) (Some c) left ⊎ IsSomeAnd left (Either plain (new_plain c plain name date input))
+      Torn (settling_steps plain.table_area c) (Some c) left ⊎ IsSomeAnd left (Either plain (with_bytes plain name date input))
   run_survives left torn =
-      elim (cases_Bool (fits c plain input)) [
-        | inl enough ↦ elim (settled_or_not c plain (appends.append_steps_of s plain name date input) left table live
-            (subst (λ (steps : List Step). Torn (behind_settling c plain steps) (Some c) left) (steps_are name date input c plain table enough) torn)) [
+      elim (cases_Bool (fits plain input)) [
+        | inl enough ↦ elim (settled_or_not c plain (appends.append_steps_of plain name date input) left table live
+            (subst (λ (steps : List Step). Torn (behind_settling c plain steps) (Some c) left) (steps_are name date input c plain enough) torn)) [
               | inl settling ↦ inl settling
               | inr behind ↦ inr (append_survives enough left behind)
             ]
         | inr small ↦ elim (settled_or_not c plain (steps_of (segments_acts c plain input)) left table live
             (subst (λ (acts : List Act). Torn (behind_settling c plain (steps_of acts)) (Some c) left) (no_table c plain name date input small) torn)) [
               | inl settling ↦ inl settling
-              | inr behind ↦ inr (free_survives (new_plain c plain name date input) left behind)
+              | inr behind ↦ inr (free_survives (with_bytes plain name date input) left behind)
             ]
       ]
 
   -- once all is done
-  done_survives : fits c plain input ≡ true → (f : Cartridge) (lost : ℕ) →
-      LosesOneAlone (changed_by (appends.append_steps_of s plain name date input) s) f lost → ComesBackAs f (new_plain c plain name date input)
+  done_survives : fits plain input ≡ true → (f : Cartridge) (lost : ℕ) →
+      LosesOneAlone (changed_by (appends.append_steps_of plain name date input) s) f lost → ComesBackAs f (with_bytes plain name date input)
   done_survives enough f lost loses =
-      subst (λ (p : Plain). ComesBackAs f p) (same_plain name date input c plain table)
-      (done_append_comes_back s (changed_by (appends.append_steps_of s plain name date input) s) plain name date input (ready enough)
-      (changed_by-append (appends.volume_steps s plain name date input) (appends.list_steps s plain name date input) s) f lost loses)
+      done_append_comes_back s (changed_by (appends.append_steps_of plain name date input) s) plain name date input (ready enough)
+      (changed_by-append (appends.volume_steps plain name date input) (appends.list_steps plain name date input) s) f lost loses
 
 -- so does the settled cartridge itself
 pub settled_comes_back : (c : Cartridge) (plain : Plain) → IsCartridge c → Stands c plain → IsTableLive c → c.info.protected ≡ false → TableIs c plain.table_area →
@@ -156,7 +154,7 @@ nothing_torn c (x ∷ xs) left same = inl same
 pub append_comes_back : (name : List ℕ) (date : ℕ) (input : List ℕ) (c : Cartridge) (plain : Plain) (outcome : CommandOutcome) (left : Option Cartridge) →
     IsLabel name → date < 2 ^ 32 → All (λ b. b < 256) input → IsCartridge c → Stands c plain → IsTableLive c →
     AppendOutcome name date (Some c) input outcome → Torn (steps_of outcome.acts) (Some c) left →
-    Torn (settling_steps plain.table_area c) (Some c) left ⊎ IsSomeAnd left (Either plain (new_plain c plain name date input))
+    Torn (settling_steps plain.table_area c) (Some c) left ⊎ IsSomeAnd left (Either plain (with_bytes plain name date input))
 append_comes_back name date input c plain outcome left label word content whole stood live machine torn =
     elim (course name date input c plain outcome stood machine) [
       | inl none ↦
@@ -172,19 +170,19 @@ pub done_comes_back : (name : List ℕ) (date : ℕ) (input : List ℕ) (c : Car
     IsLabel name → date < 2 ^ 32 → All (λ b. b < 256) input → IsCartridge c → Stands c plain → IsTableLive c →
     AppendOutcome name date (Some c) input outcome → outcome.status ≡ status.Done →
     IsSomeAnd (effects (steps_of outcome.acts) (Some c))
-    (λ d. (f : Cartridge) (lost : ℕ) → LosesOneAlone d f lost → ComesBackAs f (new_plain c plain name date input))
+    (λ d. (f : Cartridge) (lost : ℕ) → LosesOneAlone d f lost → ComesBackAs f (with_bytes plain name date input))
 done_comes_back name date input c plain outcome label word content whole stood live machine is_done =
     elim (course name date input c plain outcome stood machine) [
       | inl none ↦ absurd (none.not_done (sym (ap (λ (o : CommandOutcome). o.status) none.is) ∙ is_done))
       | inr run ↦
           let have : ℕ = room_in (kept_of c plain) in
-          let enough : fits c plain input ≡ true =
-          done_fits (fits c plain input) (min (length input) (have + 1)) have (sym (ap (λ (o : CommandOutcome). o.status) run.is) ∙ is_done) in
-          some_and (λ d. (f : Cartridge) (lost : ℕ) → LosesOneAlone d f lost → ComesBackAs f (new_plain c plain name date input))
-          (changed_by (appends.append_steps_of (settled plain.table_area c) plain name date input) (settled plain.table_area c))
+          let enough : fits plain input ≡ true =
+          done_fits (fits plain input) (min (length input) (have + 1)) have (sym (ap (λ (o : CommandOutcome). o.status) run.is) ∙ is_done) in
+          some_and (λ d. (f : Cartridge) (lost : ℕ) → LosesOneAlone d f lost → ComesBackAs f (with_bytes plain name date input))
+          (changed_by (appends.append_steps_of plain name date input) (settled plain.table_area c))
           (effects (steps_of outcome.acts) (Some c))
           (done_survives name date input c plain label word content whole stood live run.unprotected run.table enough)
           (ap (λ (o : CommandOutcome). effects (steps_of o.acts) (Some c)) run.is
-          ∙ ap (λ (steps : List Step). effects (behind_settling c plain steps) (Some c)) (steps_are name date input c plain run.table enough)
-          ∙ done_behind c plain (appends.append_steps_of (settled plain.table_area c) plain name date input) run.table)
+          ∙ ap (λ (steps : List Step). effects (behind_settling c plain steps) (Some c)) (steps_are name date input c plain enough)
+          ∙ done_behind c plain (appends.append_steps_of plain name date input) run.table)
     ]

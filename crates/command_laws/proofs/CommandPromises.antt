@@ -14,13 +14,13 @@ use Rattle.command_laws.proofs.CommandVolumes.{volumes_stay, list_stays, stays_l
 use Rattle.command_laws.proofs.TextCommands.{one_command}
 use Rattle.command_laws.proofs.TextDeciding.{each_words}
 use Rattle.command_laws.specs.CommandLaws.{MachineIsFunction, MachineAnswers}
+use Rattle.command_spec.specs.Commands.{traits_of}
 use Rattle.command_spec.specs.Headline.{WordsLeave, EachLeft, PrintsRefused, PrintsFront, Stepped, Answers, SpellsOne}
 use Rattle.command_spec.specs.Listing.{IsHeard}
 use Rattle.command_spec.specs.Machine.{HasInputFault, HasValues, Spells, SpellsNone}
 use Rattle.command_spec.specs.Outcome.{CommandOutcome, output_of}
 use Rattle.command_spec.specs.Promises.{Promises}
 use Rattle.command_spec.specs.Runs.{may_come_from, NamesFault, InputLeft, IsCutOff, CommandEnds, EndsBlind, is_fault, Finished, is_outcome}
-use Rattle.command_spec.specs.Traits.{traits_of}
 use Rattle.command_spec.specs.Volumes.{IsCarriedOut}
 use Rattle.command_spec.specs.declared.status.Status.{Status}
 use Rattle.command_spec.specs.declared.words.Words.{Words}

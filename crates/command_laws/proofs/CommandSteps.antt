@@ -9,14 +9,14 @@ use Rattle.cartridge_spec.specs.Mounting.{Mounting, settled}
 use Rattle.cartridge_spec.specs.Says.{Saying, Data, LostSectors, Mismatch, with_parity}
 use Rattle.cartridge_spec.specs.Settling.{writes_of, block_writes, settling_places, settling_steps, changed_by}
 use Rattle.cartridge_spec.specs.Shape.{mask_at, capacity, usable_places, is_unreadable, sector_at}
-use Rattle.cartridge_spec.specs.Table.{Entry, slot_sector}
+use Rattle.cartridge_spec.specs.Table.{Entry, slot_sector, table_with}
 use Rattle.cartridge_spec.specs.Volumes.{volume_length}
 use Rattle.command_laws.proofs.MadeStops.{sum_in_no_step}
 use Rattle.command_laws.proofs.RestoreCounts.{restores_in_no_step, framed_in_no_step}
 use Rattle.command_laws.proofs.ScriptOutcomes.{replied}
 use Rattle.command_laws.proofs.ScrubAtOnce.{scrub_steps}
 use Rattle.command_laws.specs.CommandLaws.{OnlyNewRenews}
-use Rattle.command_spec.specs.Append.{Appends, segment_act, volume_acts, filled_acts, input_acts, Taking, Fits, TooLong, TooShort, Kept, input_writes, entry_acts, append_acts, entry_for, table_with, room_in, free_in, has_promised_room, most_written, taking, kept_over, kept_on, silently}
+use Rattle.command_spec.specs.Append.{Appends, segment_act, volume_acts, filled_acts, input_acts, Taking, Fits, TooLong, TooShort, Kept, input_writes, entry_acts, append_acts, entry_for, room_in, free_in, has_promised_room, most_written, taking, kept_over, kept_on, silently}
 use Rattle.command_spec.specs.Defect.{DefectOutcome}
 use Rattle.command_spec.specs.Format.{FormatOutcome}
 use Rattle.command_spec.specs.Generator.{made_bytes, made_length}
@@ -266,7 +266,7 @@ input_none ws segments most exact input =
 
 entry_none : (kept : Kept) (name : List ℕ) (date : ℕ) (reply : Entry → List ℕ) (taken : Taking) → AreNoRenew (entry_acts kept name date reply taken)
 entry_none kept name date reply (Fits bytes) =
-    let table : List (List ℕ) = table_with kept (entry_for kept name date bytes) in
+    let table : List (List ℕ) = table_with kept.table (length kept.entries) (entry_for kept name date bytes) in
     none_alone (table_writes (slot_sector (length kept.entries)) table) (none_in_block (with_parity table) (table_places (slot_sector (length kept.entries))))
 entry_none kept name date reply (TooLong need have) = tt
 entry_none kept name date reply (TooShort promised read) = tt

@@ -1,7 +1,7 @@
 -- What a run of appending leaves comes back where one sector more of its table's segment is lost.
 use Rattle.std.proofs.Common.{◌≡◌, ℕ, List, Option, Some, IfSome, refl, ◌∙◌, subst, inl, inr, [], None, IsSomeAnd, sym, ap, false}
 use Rattle.cartridge_laws.proofs.FormatWriting.{some_weaker, some_and}
-use Rattle.cartridge_spec.specs.Appending.{new_plain}
+use Rattle.cartridge_spec.specs.Appending.{with_bytes}
 use Rattle.cartridge_spec.specs.Mounting.{settled}
 use Rattle.cartridge_spec.specs.OneLoss.{ComesBackAs, LosesOneAlone}
 use Rattle.cartridge_spec.specs.Settling.{settling_steps}
@@ -78,7 +78,7 @@ survives_one_loss t s k words command old new answer laws spelled values all end
       let d : Did t (s.left old.source) other old.tape new.tape (Some c) status.Done =
       carried_out_did t s k other old new answer (Some c) whole known refl told which (subst (λ (w : Words). CommandEnds t s k w old new answer) same ends) in
       let back : IsSomeAnd (effects (steps_of d.outcome.acts) (Some c))
-      (λ e. (f : Cartridge) (lost : ℕ) → LosesOneAlone e f lost → ComesBackAs f (new_plain c plain name date d.input)) =
+      (λ e. (f : Cartridge) (lost : ℕ) → LosesOneAlone e f lost → ComesBackAs f (with_bytes plain name date d.input)) =
       done_comes_back name date d.input c plain d.outcome known.0 known.1 (of_bytes (s.left old.source) d.input bytes d.is_told (d.bytes refl))
       whole stood live d.plain d.sound in
       now_weaker t old.tape new.tape

@@ -3,7 +3,8 @@ use Rattle.std.proofs.lemmas.Bool.{eqb-true}
 use Rattle.std.proofs.Common.{if◌then◌else◌, ◌≡◌, ℕ, ◌<◌, ◌^◌, ◌==◌, Bool, true, false, List, [], ◌∷◌, refl, inl, inr, arith, codes}
 use Rattle.cartridge_spec.specs.Formatting.{IsLabel}
 use Rattle.command_laws.proofs.ScriptValues.{date_is_word, name_is_label}
-use Rattle.command_spec.specs.CommandWords.{Word, Name, SpellsAll, HasForm, dated, IsCommand}
+use Rattle.command_spec.specs.CommandWords.{Word, Name, SpellsAll, HasForm, dated}
+use Rattle.command_spec.specs.Commands.{IsCommand}
 use Rattle.command_spec.specs.Machine.{HasValues}
 use Rattle.command_spec.specs.declared.words.Words.{Words}
 use Rattle.command_spec.specs.declared.words.Words.TheVariants as words

@@ -12,7 +12,7 @@ use Rattle.cartridge_laws.proofs.MountKeeping.{stopped_stands, stopped_mounts}
 use Rattle.cartridge_laws.proofs.MountOnce.{mounts_is_function}
 use Rattle.cartridge_laws.proofs.MountSettled.{settled_stands, settled_mounts}
 use Rattle.cartridge_laws.proofs.MountStanding.{standing_mounts_only_so}
-use Rattle.cartridge_spec.specs.Appending.{new_plain}
+use Rattle.cartridge_spec.specs.Appending.{with_bytes}
 use Rattle.cartridge_spec.specs.Formatting.{HasNoDefectInFront, IsFreshFor, IsFreshWith, StandsCleanly, HasNoHeader, HasCleanCopies, format_steps, clearing_steps}
 use Rattle.cartridge_spec.specs.Header.{Header}
 use Rattle.cartridge_spec.specs.HeaderAndTable.{IsUnformatted}
@@ -28,14 +28,14 @@ use Rattle.command_laws.proofs.CommandSteps.{only_new_renews}
 use Rattle.command_laws.proofs.CommandTotals.{plain_answers}
 use Rattle.command_laws.proofs.ScrubMounted.{stopped_scrub_stands, stopped_scrub_mounts}
 use Rattle.command_laws.proofs.TextCommands.{one_command}
+use Rattle.command_spec.specs.Commands.{traits_of}
 use Rattle.command_spec.specs.Format.{FormatOutcome}
 use Rattle.command_spec.specs.Headline.{EachNow, EachLeft, StopLeaves, WordsLeave}
 use Rattle.command_spec.specs.Machine.{Yields, HasValues, Spells}
 use Rattle.command_spec.specs.Outcome.{CommandOutcome, HasPlace}
 use Rattle.command_spec.specs.Runs.{IsOfBytes, fault_of, may_come_from, IsCutOff, Finished, CommandEnds, is_fault}
 use Rattle.command_spec.specs.Scrub.{Scrubs}
-use Rattle.command_spec.specs.Traits.{traits_of}
-use Rattle.command_spec.specs.Volumes.{IsCarriedOut, KeepsVolumes, StillStands, VolumesStay, KeepsList, StillMounts, ListStays, StillLive, StillClean, StandsEmpty, FormatsOrNot, StopsFormat, AreBytes, StandsAppended, AppendedOrNot, StopsAppend, StandsFresh, IsBare, WasNotDone, IsChanged}
+use Rattle.command_spec.specs.Volumes.{IsCarriedOut, KeepsVolumes, StillStands, VolumesStay, KeepsList, StillMounts, ListStays, KeepsLive, StillLive, StillClean, StandsEmpty, FormatsOrNot, StopsFormat, AreBytes, StandsAppended, AppendedOrNot, StopsAppend, StandsFresh, IsBare, WasNotDone, IsChanged}
 use Rattle.command_spec.specs.declared.status.Status.{Status}
 use Rattle.command_spec.specs.declared.words.Words.{Words}
 use Rattle.qic_base.proofs.Steps.{Done-nothing}
@@ -218,7 +218,7 @@ still_live told words held left (inl same) c is live none = some_and IsTableLive
 still_live told words held left (inr (command, spells, leaves)) c is live none =
     steps_keep_live (steps_of leaves.outcome.acts) c left
     (only_new_renews command held leaves.input leaves.outcome
-    (λ segments same. none segments (subst (λ (w : Words). Spells words w) same spells)) leaves.plain)
+    (λ segments same. subst (λ (w : Words). KeepsLive w) same (none command spells)) leaves.plain)
     live (subst (λ (h : Option Cartridge). Torn (steps_of leaves.outcome.acts) h left) is leaves.torn)
 
 pub stays_live : {T : Type 0} (t : tapes.Meaning T) (told : Option (List ℕ)) (words : List (List ℕ)) (a b : T) → tapes.IsToldRight (t.told a) (t.size a) → EachLeft t a b (WordsLeave told words) → EachLeft t a b (StillLive words)
@@ -517,7 +517,7 @@ is_changed t s k words command old new answer laws spelled values ends = record 
       let known : HasValues other = subst HasValues same values in
       let d : Did t (s.left old.source) other old.tape new.tape (Some c) status.Done =
       carried_out_did t s k other old new answer (Some c) whole known refl told which (subst (λ (w : Words). CommandEnds t s k w old new answer) same ends) in
-      let left : IsSomeAnd (effects (steps_of d.outcome.acts) (Some c)) (λ e. Stands e (new_plain c plain name date d.input)) =
+      let left : IsSomeAnd (effects (steps_of d.outcome.acts) (Some c)) (λ e. Stands e (with_bytes plain name date d.input)) =
       append_done name date d.input c plain d.outcome known.0 known.1 (of_bytes (s.left old.source) d.input bytes d.is_told (d.bytes refl)) whole stood d.plain d.sound in
       now_weaker t old.tape new.tape
       (λ l is. subst (λ (o : Option Cartridge). IsSomeAnd o (StandsAppended (s.left old.source) name date c plain)) (sym is)

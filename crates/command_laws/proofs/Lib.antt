@@ -46,6 +46,8 @@ pub mod PulseTrains
 pub mod RestoreAppended
 pub mod RestoreCounts
 pub mod RestoreEndings
+pub mod RestoreGiven
+pub mod RestorePieces
 pub mod RestoreStanding
 pub mod ScriptActs
 pub mod ScriptAnswered

@@ -11,9 +11,8 @@ use Rattle.cartridge_laws.proofs.FormatWriting.{some_weaker, some_and, effects-s
 use Rattle.cartridge_laws.proofs.MountKeeping.{stopped_stands}
 use Rattle.cartridge_laws.proofs.MountStanding.{standing_data}
 use Rattle.cartridge_laws.proofs.Places.{usable_small}
-use Rattle.cartridge_laws.specs.AppendSteps.{append_steps}
 use Rattle.cartridge_laws.specs.Table.{LieBehind}
-use Rattle.cartridge_spec.specs.Appending.{appended_volume, has_room, with_volume}
+use Rattle.cartridge_spec.specs.Appending.{has_room, with_volume}
 use Rattle.cartridge_spec.specs.Formatting.{IsLabel}
 use Rattle.cartridge_spec.specs.HeaderAndTable.{TableIs, last_segment}
 use Rattle.cartridge_spec.specs.Settling.{settling_steps, changed_by}
@@ -24,11 +23,11 @@ use Rattle.cartridge_spec.specs.Wear.{worn}
 use Rattle.command_laws.proofs.MadeMachineLaws.{never_lost, never_unlocked, runs_one}
 use Rattle.command_laws.proofs.MadeMadeBytes.{length-made_bytes}
 use Rattle.command_laws.proofs.MountedKeeping.{kept_open, scrubbed_open, worn_open, acts_stopped, changed_by_acts}
-use Rattle.command_laws.proofs.MountedStanding.{all_writes, no_writes, settled_last, open_appended, kept_appended, stopped_appended}
+use Rattle.command_laws.proofs.MountedStanding.{all_writes, no_writes, open_appended, kept_appended, stopped_appended}
 use Rattle.command_laws.proofs.ScrubMounted.{stopped_scrub_stands}
 use Rattle.command_laws.specs.MadeLaws.{StoppedMakeStands, DoneMakeStands, StopsInStep, StopsAreInSteps, MakesOneThing}
 use Rattle.command_laws.specs.MountedKept.{IsAppendable, IsOpen, settle_and_append, IsKept}
-use Rattle.command_spec.specs.Append.{Kept, append_acts, silently, room_in, kept_in, has_promised_room}
+use Rattle.command_spec.specs.Append.{Kept, append_acts, silently, room_in, kept_in, has_promised_room, kept_over}
 use Rattle.command_spec.specs.Generator.{made_length, made_byte, made_bytes}
 use Rattle.command_spec.specs.MadeVolumes.{made_volume, with_made}
 use Rattle.command_spec.specs.Make.{made_name, AppendMade, Answer, Done, Full, StepDoes, IsAppended, made_acts, made_answer, MakeStep, WearSector, ScrubAll, SumVolume, after_item, sum_acts, Runs, wearing, first_two, wearing_in, wearing_volumes, summing, made_entry, after_items, appending, made_list, making}
@@ -97,53 +96,42 @@ module _ (seed : ℕ) (c : Cartridge) (plain : Plain) (held : IsOpen c plain) (v
   abbrev settling : List Step
   settling = settling_steps plain.table_area c
 
-  -- what it goes by, on a cartridge whose last segment is this
-  abbrev kept_last : (last : ℕ) → Kept
-  kept_last last = record {
-    words = plain.words;
-    entries = entries_of plain;
-    last = last;
-    table = plain.table_area;
-    settling = settling;
-  }
+  -- what it goes by
+  abbrev kept_now : Kept
+  kept_now = kept_over c plain.words (entries_of plain) plain.table_area
 
   -- its acts, where so many bytes are promised
-  abbrev acts_by : (last promised : ℕ) → List Act
-  acts_by last promised = append_acts (kept_last last) (made_name volume) 0 (Some promised) silently bytes
+  abbrev acts_by : (promised : ℕ) → List Act
+  acts_by promised = append_acts kept_now (made_name volume) 0 (Some promised) silently bytes
 
-  abbrev room_for : (last promised : ℕ) → Bool
-  room_for last promised = has_promised_room (room_in (kept_last last)) (Some promised)
+  abbrev room_for : (promised : ℕ) → Bool
+  room_for promised = has_promised_room (room_in kept_now) (Some promised)
 
   same_acts : (table : List (List ℕ)) → TableIs c table →
-      made_acts seed c plain.words (entries_of plain) table volume ≡ acts_by (last_segment c) (length bytes)
+      made_acts seed c plain.words (entries_of plain) table volume ≡ acts_by (length bytes)
   same_acts table reads =
       ap (λ (t : List (List ℕ)). made_acts seed c plain.words (entries_of plain) t volume) (standing_data c plain table held.stands reads)
-      ∙ ap (λ (last : ℕ). acts_by last (made_length seed volume)) held.last
-      ∙ ap (λ (n : ℕ). acts_by (last_segment c) n) (sym (length-made_bytes seed volume))
+      ∙ ap acts_by (sym (length-made_bytes seed volume))
 
   same_room : has_promised_room (room_in (kept_in plain.words (entries_of plain))) (Some (made_length seed volume))
-      ≡ has_room plain.words (entries_of plain) (last_segment c) (length bytes)
-  same_room =
-      ap (λ (last : ℕ). room_for last (made_length seed volume)) held.last
-      ∙ ap (λ (n : ℕ). room_for (last_segment c) n) (sym (length-made_bytes seed volume))
+      ≡ has_room plain (length bytes)
+  same_room = ap room_for (sym (length-made_bytes seed volume))
 
   -- all its steps, where there is room, or none of the volume
   abbrev all_steps : List Step
   all_steps = settle_and_append c plain (made_name volume) 0 bytes
 
-  steps_are : (table : List (List ℕ)) → TableIs c table → has_room plain.words (entries_of plain) (last_segment c) (length bytes) ≡ true →
+  steps_are : (table : List (List ℕ)) → TableIs c table → has_room plain (length bytes) ≡ true →
       steps_of (made_acts seed c plain.words (entries_of plain) table volume) ≡ all_steps
   steps_are table reads enough =
       ap steps_of (same_acts table reads)
-      ∙ ap (λ (rest : List Step). settling ++ rest) (all_writes c plain (made_name volume) 0 bytes settling enough
-      ∙ ap (λ (last : ℕ). append_steps plain last bytes (appended_volume plain last (made_name volume) 0 bytes))
-      (sym (settled_last c plain.table_area held.table)))
+      ∙ ap (λ (rest : List Step). settling ++ rest) (all_writes plain (made_name volume) 0 bytes settling enough)
 
-  only_settled : (table : List (List ℕ)) → TableIs c table → has_room plain.words (entries_of plain) (last_segment c) (length bytes) ≡ false →
+  only_settled : (table : List (List ℕ)) → TableIs c table → has_room plain (length bytes) ≡ false →
       steps_of (made_acts seed c plain.words (entries_of plain) table volume) ≡ settling
   only_settled table reads short =
       ap steps_of (same_acts table reads)
-      ∙ ap (λ (rest : List Step). settling ++ rest) (no_writes c plain (made_name volume) 0 bytes settling short)
+      ∙ ap (λ (rest : List Step). settling ++ rest) (no_writes plain (made_name volume) 0 bytes settling short)
       ∙ append-nil settling
 
   -- what the step is: the table reads, and there is room or not
@@ -155,10 +143,10 @@ module _ (seed : ℕ) (c : Cartridge) (plain : Plain) (held : IsOpen c plain) (v
 
   -- where it was carried out there was room, and all its steps were done
   done_append : (acts : List Act) → StepDoes seed c plain.words (entries_of plain) (AppendMade volume) acts Done →
-      (has_room plain.words (entries_of plain) (last_segment c) (length bytes) ≡ true) × (steps_of acts ≡ all_steps)
+      (has_room plain (length bytes) ≡ true) × (steps_of acts ≡ all_steps)
   done_append acts does =
       let is = append_is acts Done does in
-      let enough : has_room plain.words (entries_of plain) (last_segment c) (length bytes) ≡ true = by_answer (has_room plain.words (entries_of plain) (last_segment c) (length bytes)) same_room is.answered in
+      let enough : has_room plain (length bytes) ≡ true = by_answer (has_room plain (length bytes)) same_room is.answered in
       (enough, ap steps_of is.does ∙ steps_are is.table is.reads enough)
     where
       by_answer : (b : Bool) → has_promised_room (room_in (kept_in plain.words (entries_of plain))) (Some (made_length seed volume)) ≡ b →
@@ -196,7 +184,7 @@ module _ (seed : ℕ) (c : Cartridge) (plain : Plain) (held : IsKept c plain) (v
   stopped_append_stands acts answer left does torn =
       let here : IsOpen c plain = kept_open c plain held in
       let is = append_is seed c plain here volume acts answer does in
-      elim (cases_Bool (has_room plain.words (entries_of plain) (last_segment c) (length (made_bytes seed volume)))) [
+      elim (cases_Bool (has_room plain (length (made_bytes seed volume)))) [
         | inl enough ↦ stopped_appended (made_name volume) 0 (made_bytes seed volume) named.label named.word named.content c plain held left enough
             (subst (λ (steps : List Step). Torn steps (Some c) left) (ap steps_of is.does ∙ steps_are seed c plain here volume is.table is.reads enough) torn)
         | inr short ↦ some_weaker left (λ d stands. inl stands)

@@ -10,7 +10,7 @@ use Rattle.cartridge_laws.proofs.AppendOrders.{end_least}
 use Rattle.cartridge_laws.proofs.AppendSegments.{AreTaken, HasRoom, room_is, room_most, segments_taken}
 use Rattle.cartridge_laws.proofs.AppendTable.{slot_differs}
 use Rattle.cartridge_laws.proofs.FormatWriting.{changed_by-append}
-use Rattle.cartridge_laws.proofs.HeaderRefusals.{length-words_in, fault-segments}
+use Rattle.cartridge_laws.proofs.HeaderRefusals.{mounted_last}
 use Rattle.cartridge_laws.proofs.MountParts.{code_block}
 use Rattle.cartridge_laws.proofs.MountSettled.{settled_keeps_table}
 use Rattle.cartridge_laws.proofs.MountStanding.{written_table, can_be_read}
@@ -26,9 +26,9 @@ use Rattle.cartridge_laws.specs.Table.{IsSoundList}
 use Rattle.cartridge_spec.specs.Appending.{table_writes, free_segments, last_end, room, taken_by}
 use Rattle.cartridge_spec.specs.Code.{IsSector}
 use Rattle.cartridge_spec.specs.Formatting.{IsLabel}
-use Rattle.cartridge_spec.specs.Header.{has_signature, Header, number, number_in}
-use Rattle.cartridge_spec.specs.HeaderAndTable.{IsArea, table_cells, IsInForce, IsFormatted, last_segment, TableIs}
-use Rattle.cartridge_spec.specs.Mounting.{settled}
+use Rattle.cartridge_spec.specs.Header.{has_signature}
+use Rattle.cartridge_spec.specs.HeaderAndTable.{IsArea, table_cells, IsInForce, last_segment, TableIs}
+use Rattle.cartridge_spec.specs.Mounting.{settled, HasList}
 use Rattle.cartridge_spec.specs.Says.{data_of, Agrees, Written, unreadable_count, unreadable_data, with_parity}
 use Rattle.cartridge_spec.specs.Settling.{changed_by, settling_steps}
 use Rattle.cartridge_spec.specs.Table.{Entry, Shows, slot_sector, slot_bytes, with_slot}
@@ -45,7 +45,6 @@ use Rattle.command_laws.proofs.StoreTaking.{both_true}
 use Rattle.command_laws.proofs.StoreWorn.{worn_list}
 use Rattle.command_laws.specs.MountedListed.{ListedReads, MountedListed, IsListed, listed_behind, AppendListed, WearListed, ScrubListed}
 use Rattle.command_laws.specs.ScrubMended.{IsBeingMended}
-use Rattle.command_laws.specs.StoreMounting.{HasList}
 use Rattle.command_spec.specs.Append.{Kept, Taking, Fits, TooLong, TooShort, append_acts, entry_acts, entry_for, input_writes, room_in, taking, kept_over}
 use Rattle.command_spec.specs.Scrub.{looked_at, whole_segment}
 use Rattle.qic_base.specs.Acts.{Act, steps_of}
@@ -94,15 +93,6 @@ settled_shows c area entries is known shown = record {
 forced : (c : Cartridge) (area : List (List ℕ)) → IsInForce c area → has_signature area ≡ true
 forced c area (inl first) = first.signature
 forced c area (inr second) = second.1.signature
-
--- a map has a word for each segment
-pub mounted_last : (c : Cartridge) (area : List (List ℕ)) (header : Header) (words : List ℕ) → IsFormatted c area header words → length words - 1 ≡ last_segment c
-mounted_last c area header words formatted =
-    let n : ℕ = c.info.segments_per_track in
-    let there : number_in area 24 2 ≡ header.segments_per_track = formatted.shown.header 2 (number 24 2 0) (omega arith) in
-    let told : header.segments_per_track ≡ n = sym there ∙ fault-segments area n formatted.sound in
-    ap (λ (k : ℕ). k - 1) (length-words_in area words (28 * header.segments_per_track) formatted.shown.map)
-    ∙ ap (λ (k : ℕ). 28 * k - 1) told
 
 pub mounted_listed : MountedListed
 mounted_listed c header words table entries whole mounts =

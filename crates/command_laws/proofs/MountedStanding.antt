@@ -16,9 +16,9 @@ use Rattle.cartridge_laws.specs.AppendLaws.{new_table, IsReadyFor, MayAppend}
 use Rattle.cartridge_laws.specs.AppendSettled.{MayAppendTo, IsSettledFor}
 use Rattle.cartridge_laws.specs.AppendSteps.{writes_into}
 use Rattle.cartridge_laws.specs.Shape.{Carries}
-use Rattle.cartridge_spec.specs.Appending.{table_writes, last_end, has_room, appended_volume, with_volume, new_plain, with_bytes}
+use Rattle.cartridge_spec.specs.Appending.{table_writes, last_end, has_room, with_bytes}
 use Rattle.cartridge_spec.specs.Formatting.{IsLabel}
-use Rattle.cartridge_spec.specs.HeaderAndTable.{last_segment, TableIs}
+use Rattle.cartridge_spec.specs.HeaderAndTable.{TableIs}
 use Rattle.cartridge_spec.specs.Mounting.{settled, IsTableLive}
 use Rattle.cartridge_spec.specs.Settling.{changed_by, settling_steps}
 use Rattle.cartridge_spec.specs.Shape.{mask_at, IsLive}
@@ -42,7 +42,7 @@ same_less : (n : ℕ) → nat_lt n n ≡ false
 same_less n = le-ltb n n (omega arith)
 
 -- its acts behind the settling, where they are just as many as promised
-module _ (c : Cartridge) (plain : Plain) (name : List ℕ) (date : ℕ) (bytes : List ℕ) (settling : List Step) where
+module _ (plain : Plain) (name : List ℕ) (date : ℕ) (bytes : List ℕ) (settling : List Step) where
   abbrev size : ℕ
   size = length bytes
 
@@ -50,7 +50,7 @@ module _ (c : Cartridge) (plain : Plain) (name : List ℕ) (date : ℕ) (bytes :
   kept = record {
     words = plain.words;
     entries = entries_of plain;
-    last = last_segment c;
+    last = length plain.words - 1;
     table = plain.table_area;
     settling = settling;
   }
@@ -62,10 +62,10 @@ module _ (c : Cartridge) (plain : Plain) (name : List ℕ) (date : ℕ) (bytes :
   rear = entry_acts kept name date silently (taking (room_in kept) (Some size) bytes)
 
   abbrev fits : Bool
-  fits = has_room plain.words (entries_of plain) (last_segment c) size
+  fits = has_room plain size
 
   free_carry : All (λ s. Carries (mask_at plain.words s)) (free_in kept)
-  free_carry = carrying_carry plain.words (last_end (entries_of plain) + 1) (last_segment c)
+  free_carry = carrying_carry plain.words (last_end (entries_of plain) + 1) (length plain.words - 1)
 
   segments_write : fits ≡ true → steps_of segments ≡ writes_into plain.words (free_in kept) bytes
   segments_write enough =
@@ -81,18 +81,18 @@ module _ (c : Cartridge) (plain : Plain) (name : List ℕ) (date : ℕ) (bytes :
       ∙ ap (λ (b : Bool). entry_acts kept name date silently (cond b (TooShort size size) (Fits (take size bytes)))) (same_less size)
       ∙ ap (λ (xs : List ℕ). entry_acts kept name date silently (Fits xs)) (take_all size bytes (omega arith))
 
-  rear_writes : fits ≡ true → steps_of rear ≡ appends.list_steps c plain name date bytes
+  rear_writes : fits ≡ true → steps_of rear ≡ appends.list_steps plain name date bytes
   rear_writes enough =
       let slot : List ℕ = slot_bytes (entry_for kept name date bytes) in
       ap steps_of (rear_is enough)
       ∙ append-nil (table_writes (slot_sector (length (entries_of plain))) (with_slot plain.table_area (length (entries_of plain)) slot))
       ∙ ap (λ (n : ℕ). table_writes (slot_sector n) (with_slot plain.table_area n slot)) (length-map plain.volumes (λ (v : Volume). v.entry))
 
-  pub all_writes : fits ≡ true → steps_of (segments ++ rear) ≡ appends.append_steps_of c plain name date bytes
+  pub all_writes : fits ≡ true → steps_of (segments ++ rear) ≡ appends.append_steps_of plain name date bytes
   all_writes enough =
       steps_of-append segments rear
       ∙ ap (λ (front : List Step). front ++ steps_of rear) (segments_write enough)
-      ∙ ap (λ (next : List Step). appends.volume_steps c plain name date bytes ++ next) (rear_writes enough)
+      ∙ ap (λ (next : List Step). appends.volume_steps plain name date bytes ++ next) (rear_writes enough)
 
   pub no_writes : fits ≡ false → steps_of (segments ++ rear) ≡ []
   no_writes small =
@@ -102,22 +102,13 @@ module _ (c : Cartridge) (plain : Plain) (name : List ℕ) (date : ℕ) (bytes :
 
 -- ---- from the settling of the table on
 
-pub settled_last : (c : Cartridge) (area : List (List ℕ)) → TableIs c area → last_segment (settled area c) ≡ last_segment c
-settled_last c area reads = ap (λ (i : TapeInfo). 28 * i.segments_per_track - 1) (settled_keeps_table c area reads).info
-
 -- what all steps leave is what those of the append leave of the settled cartridge
 appended_behind : (c : Cartridge) (plain : Plain) (name : List ℕ) (date : ℕ) (bytes : List ℕ) → TableIs c plain.table_area →
     changed_by (settle_and_append c plain name date bytes) c
-    ≡ changed_by (appends.append_steps_of (settled plain.table_area c) plain name date bytes) (settled plain.table_area c)
+    ≡ changed_by (appends.append_steps_of plain name date bytes) (settled plain.table_area c)
 appended_behind c plain name date bytes reads =
-    let next : List Step = appends.append_steps_of (settled plain.table_area c) plain name date bytes in
+    let next : List Step = appends.append_steps_of plain name date bytes in
     changed_by-append (settling_steps plain.table_area c) next c ∙ ap (changed_by next) (settling_settles c plain.table_area reads)
-
--- the plain cartridge with the volume
-more_is : (c : Cartridge) (plain : Plain) (name : List ℕ) (date : ℕ) (bytes : List ℕ) → IsOpen c plain →
-    new_plain (settled plain.table_area c) plain name date bytes ≡ with_bytes plain name date bytes
-more_is c plain name date bytes held =
-    ap (λ (last : ℕ). with_volume plain (appended_volume plain last name date bytes)) (settled_last c plain.table_area held.table ∙ sym held.last)
 
 -- ---- where sectors of the table's segment may take no write
 
@@ -133,17 +124,16 @@ open_appended c plain name date bytes held named room =
       content = named.content;
     }) held.table in
     let known : IsSettledFor still plain.table_area = settled_is_settled_for c plain.table_area held.table held.unprotected in
-    let done : Cartridge = changed_by (appends.append_steps_of still plain name date bytes) still in
+    let done : Cartridge = changed_by (appends.append_steps_of plain name date bytes) still in
     let info : done.info ≡ c.info = (done_touches_only still plain name date bytes may).0 ∙ (settled_keeps_table c plain.table_area held.table).info in
-    let all : IsOpen done (new_plain still plain name date bytes) = record {
+    let all : IsOpen done (with_bytes plain name date bytes) = record {
       cartridge = done_is_cartridge still plain name date bytes may;
       stands = done_stands still plain name date bytes may known;
       table = (done_is_settled_for still plain name date bytes may known).table;
       unprotected = ap (λ (i : TapeInfo). i.protected) info ∙ held.unprotected;
       last = held.last ∙ sym (ap (λ (i : TapeInfo). 28 * i.segments_per_track - 1) info);
     } in
-    subst (λ (p : Plain). IsOpen (changed_by (settle_and_append c plain name date bytes) c) p) (more_is c plain name date bytes held)
-    (subst (λ (d : Cartridge). IsOpen d (new_plain still plain name date bytes)) (sym (appended_behind c plain name date bytes held.table)) all)
+    subst (λ (d : Cartridge). IsOpen d (with_bytes plain name date bytes)) (sym (appended_behind c plain name date bytes held.table)) all
 
 -- ---- where each of them takes a write
 
@@ -156,14 +146,11 @@ module _ (name : List ℕ) (date : ℕ) (bytes : List ℕ) (label : IsLabel name
   abbrev still : Cartridge
   still = settled plain.table_area c
 
-  pub same_last : last_segment still ≡ last_segment c
-  same_last = settled_last c plain.table_area held.table
-
   -- the plain cartridge with the volume
   abbrev more : Plain
   more = with_bytes plain name date bytes
 
-  may : has_room plain.words (entries_of plain) (last_segment c) (length bytes) ≡ true → MayAppend c plain name date bytes
+  may : has_room plain (length bytes) ≡ true → MayAppend c plain name date bytes
   may room = record {
     cartridge = held.cartridge;
     stands = held.stands;
@@ -180,17 +167,16 @@ module _ (name : List ℕ) (date : ℕ) (bytes : List ℕ) (label : IsLabel name
   abbrev steps : List Step
   steps = settle_and_append c plain name date bytes
 
-  pub kept_appended : has_room plain.words (entries_of plain) (last_segment c) (length bytes) ≡ true → IsKept (changed_by steps c) more
+  pub kept_appended : has_room plain (length bytes) ≡ true → IsKept (changed_by steps c) more
   kept_appended room =
-      let done : Cartridge = changed_by (appends.append_steps_of still plain name date bytes) still in
+      let done : Cartridge = changed_by (appends.append_steps_of plain name date bytes) still in
       let is : IsReadyFor still plain name date bytes = settled_is_ready c plain name date bytes (may room) in
       live_kept (changed_by steps c) more
       (open_appended c plain name date bytes (kept_open c plain held) (record { label = label; word = word; content = content }) room)
       (subst IsTableLive (sym (appended_behind c plain name date bytes held.table))
-      (whole_lives done (new_table still plain name date bytes) (appended_is_whole still plain name date bytes is)))
+      (whole_lives done (new_table plain name date bytes) (appended_is_whole still plain name date bytes is)))
 
-  pub stopped_appended : (left : Option Cartridge) → has_room plain.words (entries_of plain) (last_segment c) (length bytes) ≡ true →
+  pub stopped_appended : (left : Option Cartridge) → has_room plain (length bytes) ≡ true →
       Torn steps (Some c) left → IsSomeAnd left (λ d. Stands d plain ⊎ Stands d more)
   stopped_appended left room torn =
-      subst (λ (p : Plain). IsSomeAnd left (λ d. Stands d plain ⊎ Stands d p)) (more_is c plain name date bytes (kept_open c plain held))
-      (stopped_from_the_start c plain name date bytes left (may room) torn)
+      stopped_from_the_start c plain name date bytes left (may room) torn

@@ -4,14 +4,14 @@ use Rattle.std.proofs.lemmas.List.Elements.{Contains-append_right, All-contains_
 use Rattle.std.specs.Prelude.{Contains}
 use Rattle.cartridge_laws.proofs.AppendBytes.{done_bytes}
 use Rattle.cartridge_laws.proofs.AppendDone.{done_stands}
-use Rattle.cartridge_spec.specs.Appending.{volume_of, volume_bytes}
+use Rattle.cartridge_spec.specs.Appending.{volume_bytes, appended_volume}
 use Rattle.cartridge_spec.specs.Volumes.{Volume}
 use Rattle.command_laws.proofs.RestoreStanding.{restores_byte_for_byte}
 use Rattle.command_laws.specs.RestoreLaws.{AppendedIsAmong, AppendedIsRestored}
 
 pub appended_is_among : AppendedIsAmong
 appended_is_among c plain name date bytes may settled_for =
-    let volume : Volume = volume_of c plain name date bytes in
+    let volume : Volume = appended_volume plain name date bytes in
     record {
       stands = done_stands c plain name date bytes may settled_for;
       among = Contains-append_right plain.volumes (volume ∷ []) volume
@@ -20,6 +20,6 @@ appended_is_among c plain name date bytes may settled_for =
 
 pub appended_is_restored : AppendedIsRestored
 appended_is_restored c plain name date bytes may later stood acts ending words has few restores =
-    let volume : Volume = volume_of c plain name date bytes in
+    let volume : Volume = appended_volume plain name date bytes in
     let given = restores_byte_for_byte later stood volume acts ending has few restores in
     (given.0, given.1 ∙ ap (λ (ws : List ℕ). volume_bytes ws volume) words ∙ (done_bytes c plain name date bytes may).1)

@@ -4,9 +4,9 @@ use Rattle.std.proofs.lemmas.List.{length-append}
 use Rattle.std.proofs.lemmas.Bool.{cases_Bool, le-ltb}
 use Rattle.cartridge_spec.specs.Appending.{table_writes}
 use Rattle.cartridge_spec.specs.Settling.{changed_by}
-use Rattle.cartridge_spec.specs.Table.{Entry, slot_sector}
+use Rattle.cartridge_spec.specs.Table.{Entry, slot_sector, table_with}
 use Rattle.command_laws.proofs.ScriptActs.{fits_acts, front_acts, full_taking}
-use Rattle.command_spec.specs.Append.{Kept, Taking, Fits, TooLong, TooShort, append_acts, entry_for, has_promised_room, room_in, table_with, taking, kept_over}
+use Rattle.command_spec.specs.Append.{Kept, Taking, Fits, TooLong, TooShort, append_acts, entry_for, has_promised_room, room_in, taking, kept_over}
 use Rattle.command_spec.specs.Input.{promised, Item, IsItem, Ending, HasItems}
 use Rattle.command_spec.specs.Lines.{number_line, place_line, appended_line, list_text, count_line, volume_lines, reply_behind}
 use Rattle.command_spec.specs.Restore.{Restored, LostIn, MismatchIn}
@@ -130,7 +130,7 @@ appended_speaks kept name promised date bytes long = elim (cases_Bool (has_promi
       subst (λ (became : Taking). Speaks (taken_as kept name date acts became).acts) (sym took)
       (subst Speaks (sym (fits_acts kept name date promised bytes (take promised bytes) took (reply_behind (length kept.entries))))
       (speaks_so (front_acts kept promised bytes)
-      (record { steps = table_writes (slot_sector (length kept.entries)) (table_with kept e); text = reply_behind (length kept.entries) e })
+      (record { steps = table_writes (slot_sector (length kept.entries)) (table_with kept.table (length kept.entries) e); text = reply_behind (length kept.entries) e })
       (appended_some (length kept.entries + 1) e.size e.start e.end)))
   | inr small ↦
       let acts : List Act = append_acts kept name date (Some promised) (reply_behind (length kept.entries)) bytes in

@@ -10,10 +10,8 @@ use Rattle.cartridge_laws.proofs.MountKeeping.{stopped_stands}
 use Rattle.cartridge_laws.proofs.MountSettled.{settled_stands}
 use Rattle.cartridge_laws.proofs.MountStanding.{standing_data}
 use Rattle.cartridge_laws.proofs.MountWhole.{settling_effects}
-use Rattle.cartridge_laws.specs.AppendSteps.{append_steps}
 use Rattle.cartridge_laws.specs.AppendWrites.{AreWrites, IsFree}
 use Rattle.cartridge_spec.specs.Appending.{appended_volume, has_room, with_bytes, last_end}
-use Rattle.cartridge_spec.specs.HeaderAndTable.{last_segment}
 use Rattle.cartridge_spec.specs.Mounting.{IsTableLive, settled}
 use Rattle.cartridge_spec.specs.Settling.{changed_by, settling_steps}
 use Rattle.cartridge_spec.specs.Table.{Entry}
@@ -22,7 +20,7 @@ use Rattle.cartridge_spec.specs.Wear.{worn, WearSpares}
 use Rattle.command_laws.proofs.InputActLaws.{input_is_free}
 use Rattle.command_laws.proofs.MountedHeld.{held_open, open_held, settled_held, settling_live, scrubbed_held, scrubbed_live, worn_held, worn_is_live}
 use Rattle.command_laws.proofs.MountedKeeping.{live_kept}
-use Rattle.command_laws.proofs.MountedStanding.{all_writes, kept_appended, open_appended, settled_last, stopped_appended}
+use Rattle.command_laws.proofs.MountedStanding.{all_writes, kept_appended, open_appended, stopped_appended}
 use Rattle.command_laws.proofs.RestoreCounts.{framed_in_no_step}
 use Rattle.command_laws.proofs.ScriptActs.{full_acts, full_taking, replied_steps}
 use Rattle.command_laws.proofs.ScriptValues.{append_values}
@@ -30,7 +28,7 @@ use Rattle.command_laws.proofs.ScrubMounted.{stopped_scrub_stands}
 use Rattle.command_laws.specs.MountedHeld.{IsHeld}
 use Rattle.command_laws.specs.MountedKept.{IsAppendable, IsKept, IsOpen}
 use Rattle.command_laws.specs.ScriptStanding.{LineHasBytes, HaveBytes, ItemsHaveBytes, HasBytes, StoppedItemStands, ItemsStand, FaultStands}
-use Rattle.command_spec.specs.Append.{Kept, Taking, Fits, TooLong, TooShort, append_acts, entry_for, room_in, taking, entry_acts, has_promised_room, input_acts, free_in, input_writes}
+use Rattle.command_spec.specs.Append.{Kept, Taking, Fits, TooLong, TooShort, append_acts, entry_for, room_in, taking, entry_acts, has_promised_room, input_acts, free_in, input_writes, kept_over}
 use Rattle.command_spec.specs.Input.{IsLine, IsLined, promised, Item, IsItem, Ending, HasItems}
 use Rattle.command_spec.specs.Lines.{reply_behind, lost_line}
 use Rattle.command_spec.specs.Restore.{Restored, LostIn, MismatchIn, framed, pieces}
@@ -138,18 +136,12 @@ module _ (c : Cartridge) (plain : Plain) (name : List ℕ) (date : ℕ) (bytes :
   abbrev size : ℕ
   size = length bytes
 
-  -- what it goes by, with these data of the table and this last segment
-  abbrev kept_at : (table : List (List ℕ)) (last : ℕ) → Kept
-  kept_at table last = record {
-    words = plain.words;
-    entries = entries_of plain;
-    last = last;
-    table = table;
-    settling = settling_steps table c;
-  }
+  -- what it goes by, with these data of the table
+  abbrev kept_at : (table : List (List ℕ)) → Kept
+  kept_at table = kept_over c plain.words (entries_of plain) table
 
   abbrev kept_now : Kept
-  kept_now = kept_at plain.table_area (last_segment c)
+  kept_now = kept_at plain.table_area
 
   abbrev replies : Entry → List ℕ
   replies = reply_behind (length (entries_of plain))
@@ -158,41 +150,33 @@ module _ (c : Cartridge) (plain : Plain) (name : List ℕ) (date : ℕ) (bytes :
   its_acts = append_acts kept_now name date (Some size) replies bytes
 
   -- what it does, where so many bytes are promised
-  abbrev does_by : (table : List (List ℕ)) (last n : ℕ) → Did
-  does_by table last n =
-      taken_as (kept_at table last) name date (append_acts (kept_at table last) name date (Some n) replies bytes) (taking (room_in (kept_at table last)) (Some n) bytes)
+  abbrev does_by : (table : List (List ℕ)) (n : ℕ) → Did
+  does_by table n =
+      taken_as (kept_at table) name date (append_acts (kept_at table) name date (Some n) replies bytes) (taking (room_in (kept_at table)) (Some n) bytes)
 
   same_doing : (table : List (List ℕ)) (n : ℕ) → table ≡ plain.table_area → size ≡ n →
-      append_did c plain.words (entries_of plain) name n date bytes (Finds table) ≡ does_by plain.table_area (last_segment c) size
-  same_doing table n area long =
-      ap (λ (t : List (List ℕ)). does_by t (length plain.words - 1) n) area
-      ∙ ap (λ (last : ℕ). does_by plain.table_area last n) held.last
-      ∙ ap (λ (m : ℕ). does_by plain.table_area (last_segment c) m) (sym long)
+      append_did c plain.words (entries_of plain) name n date bytes (Finds table) ≡ does_by plain.table_area size
+  same_doing table n area long = ap (λ (t : List (List ℕ)). does_by t n) area ∙ ap (does_by plain.table_area) (sym long)
 
   -- where there is room for them
-  module _ (enough : has_room plain.words (entries_of plain) (last_segment c) size ≡ true) where
+  module _ (enough : has_room plain size ≡ true) where
     fits_taking : taking (room_in kept_now) (Some size) bytes ≡ Fits bytes
     fits_taking =
         ap (λ (b : Bool). cond b (cond (nat_lt size size) (TooShort size size) (Fits (take size bytes))) (TooLong size (room_in kept_now))) enough
         ∙ ap (λ (b : Bool). cond b (TooShort size size) (Fits (take size bytes))) (same_less size)
         ∙ ap (λ (xs : List ℕ). Fits xs) (take_all size bytes (omega arith))
 
-    fits_doing : does_by plain.table_area (last_segment c) size ≡ record { acts = its_acts; entries = entries_of plain ++ entry_for kept_now name date bytes ∷ [] }
+    fits_doing : does_by plain.table_area size ≡ record { acts = its_acts; entries = entries_of plain ++ entry_for kept_now name date bytes ∷ [] }
     fits_doing = ap (λ (became : Taking). taken_as kept_now name date its_acts became) fits_taking
 
-    fits_steps : IsOpen c plain →
-        steps_of its_acts ≡ settling_steps plain.table_area c ++ appends.append_steps_of (settled plain.table_area c) plain name date bytes
-    fits_steps ready =
+    fits_steps : steps_of its_acts ≡ settling_steps plain.table_area c ++ appends.append_steps_of plain name date bytes
+    fits_steps =
         sym (replied_steps kept_now name date size bytes bytes fits_taking replies)
         ∙ ap (λ (rest : List Step). settling_steps plain.table_area c ++ rest)
-        (all_writes c plain name date bytes (settling_steps plain.table_area c) enough
-        ∙ ap (λ (last : ℕ). append_steps plain last bytes (appended_volume plain last name date bytes))
-        (sym (settled_last c plain.table_area ready.table)))
+        (all_writes plain name date bytes (settling_steps plain.table_area c) enough)
 
     entries_more : entries_of (with_bytes plain name date bytes) ≡ entries_of plain ++ entry_for kept_now name date bytes ∷ []
-    entries_more =
-        map-append (λ (v : Volume). v.entry) plain.volumes (appended_volume plain (length plain.words - 1) name date bytes ∷ [])
-        ∙ ap (λ (last : ℕ). entries_of plain ++ entry_for (kept_at plain.table_area last) name date bytes ∷ []) held.last
+    entries_more = map-append (λ (v : Volume). v.entry) plain.volumes (appended_volume plain name date bytes ∷ [])
 
     fits_leaves : (n : ℕ) (did : Did) → IsOpen c plain → IsAppendable name date bytes →
         did ≡ record { acts = its_acts; entries = entries_of plain ++ entry_for kept_now name date bytes ∷ [] } →
@@ -201,8 +185,8 @@ module _ (c : Cartridge) (plain : Plain) (name : List ℕ) (date : ℕ) (bytes :
         let item : Item = record { line = line.Append name n date; bytes = bytes } in
         let list : did.entries ≡ entries_of plain ++ entry_for kept_now name date bytes ∷ [] = ap (λ (d : Did). d.entries) is in
         let more : plain_after plain item did ≡ with_bytes plain name date bytes = more_after plain item did (entry_for kept_now name date bytes) list in
-        let steps : steps_of did.acts ≡ settling_steps plain.table_area c ++ appends.append_steps_of (settled plain.table_area c) plain name date bytes =
-        ap (λ (d : Did). steps_of d.acts) is ∙ fits_steps ready in
+        let steps : steps_of did.acts ≡ settling_steps plain.table_area c ++ appends.append_steps_of plain name date bytes =
+        ap (λ (d : Did). steps_of d.acts) is ∙ fits_steps in
         let kept : IsTableLive c → IsKept c plain = live_kept c plain ready in
         record {
           done = subst (λ (p : Plain). IsHeld (changed_by (steps_of did.acts) c) p) (sym more)
@@ -218,8 +202,8 @@ module _ (c : Cartridge) (plain : Plain) (name : List ℕ) (date : ℕ) (bytes :
         }
 
   -- where there is none, the table is settled alone
-  module _ (small : has_room plain.words (entries_of plain) (last_segment c) size ≡ false) where
-    full_doing : does_by plain.table_area (last_segment c) size ≡ line_refused its_acts (entries_of plain) (why.Full size (room_in kept_now))
+  module _ (small : has_room plain size ≡ false) where
+    full_doing : does_by plain.table_area size ≡ line_refused its_acts (entries_of plain) (why.Full size (room_in kept_now))
     full_doing = ap (λ (became : Taking). taken_as kept_now name date its_acts became) (full_taking kept_now name date size small bytes)
 
     full_stills : (did : Did) → IsOpen c plain → did ≡ line_refused its_acts (entries_of plain) (why.Full size (room_in kept_now)) → Stills c plain did
@@ -242,8 +226,8 @@ module _ (c : Cartridge) (plain : Plain) (name : List ℕ) (date : ℕ) (bytes :
       (no_steps c plain did held (ap (λ (d : Did). steps_of d.acts) is) (ap (λ (d : Did). d.entries) is))
   append_leaves n did may long (Finds table) meets is =
       let ready : IsOpen c plain = held_open c plain table held meets.1 meets.0 in
-      let does : did ≡ does_by plain.table_area (last_segment c) size = is ∙ same_doing table n (standing_data c plain table held.stands meets.1) long in
-      elim (cases_Bool (has_room plain.words (entries_of plain) (last_segment c) size)) [
+      let does : did ≡ does_by plain.table_area size = is ∙ same_doing table n (standing_data c plain table held.stands meets.1) long in
+      elim (cases_Bool (has_room plain size)) [
         | inl enough ↦ fits_leaves enough n did ready may (does ∙ fits_doing enough)
         | inr small ↦ leaves_still c plain (record { line = line.Append name n date; bytes = bytes }) did (full_stills small did ready (does ∙ full_doing small))
       ]

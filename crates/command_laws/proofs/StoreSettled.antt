@@ -9,10 +9,9 @@ use Rattle.cartridge_laws.proofs.Sayings.{code_sectors, data_of-parity}
 use Rattle.cartridge_laws.specs.MountLaws.{SettlingSettles}
 use Rattle.cartridge_spec.specs.Code.{parity_sectors, IsSector}
 use Rattle.cartridge_spec.specs.HeaderAndTable.{TableIs}
-use Rattle.cartridge_spec.specs.Mounting.{settled}
+use Rattle.cartridge_spec.specs.Mounting.{settled, HasList}
 use Rattle.cartridge_spec.specs.Says.{with_parity}
 use Rattle.cartridge_spec.specs.Table.{Entry}
-use Rattle.command_laws.specs.StoreMounting.{HasList}
 use Rattle.gf256_qic.proofs.Parities.{length-parity_sectors, parity_block}
 use Rattle.qic_base.specs.Cartridge.{Cartridge, IsCartridge}
 use Rattle.cartridge_spec.specs.Table as tables

@@ -3,8 +3,7 @@ use Rattle.std.specs.Prelude.{◌≡◌, ◌≢◌, ℕ, List, Option, Some, IfS
 use Rattle.cartridge_laws.specs.ChangeSteps.{HasNoRenew}
 use Rattle.cartridge_spec.specs.Formatting.{HasCleanCopies, HasNoHeader}
 use Rattle.cartridge_spec.specs.HeaderAndTable.{IsArea}
-use Rattle.command_spec.specs.Complete.{CanBeDone}
-use Rattle.command_spec.specs.Machine.{Step, Yields, HasValues}
+use Rattle.command_spec.specs.Machine.{Step, Yields, HasValues, CanBeDone}
 use Rattle.command_spec.specs.Outcome.{CommandOutcome}
 use Rattle.command_spec.specs.Volumes.{KeepsCopies}
 use Rattle.command_spec.specs.declared.status.Status.{Status}

@@ -16,7 +16,6 @@ pub mod ScriptStanding
 pub mod ScrubLaws
 pub mod ScrubMended
 pub mod ScrubSayings
-pub mod StoreMounting
 pub mod TextGenerator
 pub mod TextInput
 pub mod TextLaws

@@ -3,7 +3,7 @@ use Rattle.std.specs.Prelude.{◌≡◌, ◌-◌, false, length, ℕ, ◌^◌, �
 use Rattle.cartridge_spec.specs.Appending.{with_bytes, has_room}
 use Rattle.cartridge_spec.specs.Formatting.{IsLabel}
 use Rattle.cartridge_spec.specs.HeaderAndTable.{TableIs, last_segment}
-use Rattle.cartridge_spec.specs.Mounting.{IsTableLive, settled}
+use Rattle.cartridge_spec.specs.Mounting.{IsTableLive}
 use Rattle.cartridge_spec.specs.Settling.{settling_steps, changed_by}
 use Rattle.cartridge_spec.specs.Volumes.{Plain, Stands, entries_of}
 use Rattle.cartridge_spec.specs.Wear.{worn}
@@ -39,7 +39,7 @@ pub record IsAppendable (name : List ℕ) (date : ℕ) (bytes : List ℕ) : Type
 
 -- the steps that settle the table, and those that append the bytes behind them
 abbrev pub settle_and_append : Cartridge → Plain → (name : List ℕ) → (date : ℕ) → (bytes : List ℕ) → List Step
-settle_and_append c plain name date bytes = settling_steps plain.table_area c ++ appends.append_steps_of (settled plain.table_area c) plain name date bytes
+settle_and_append c plain name date bytes = settling_steps plain.table_area c ++ appends.append_steps_of plain name date bytes
 
 -- all of them done, the plain cartridge with the volume stands, and may be appended to again; a stop in them leaves that, or
 -- what stood
@@ -51,7 +51,7 @@ pub record AppendKeeps (c : Cartridge) (plain : Plain) (name : List ℕ) (date :
 abbrev pub AppendsKeep : Type 0
 AppendsKeep =
     (c : Cartridge) (plain : Plain) (name : List ℕ) (date : ℕ) (bytes : List ℕ) → IsKept c plain → IsAppendable name date bytes →
-    has_room plain.words (entries_of plain) (last_segment c) (length bytes) ≡ true → AppendKeeps c plain name date bytes
+    has_room plain (length bytes) ≡ true → AppendKeeps c plain name date bytes
 
 -- ---- a worn sector, and a scrub
 
@@ -71,7 +71,7 @@ ScrubsKeep =
 abbrev pub AppendsLeaveOpen : Type 0
 AppendsLeaveOpen =
     (c : Cartridge) (plain : Plain) (name : List ℕ) (date : ℕ) (bytes : List ℕ) → IsOpen c plain → IsAppendable name date bytes →
-    has_room plain.words (entries_of plain) (last_segment c) (length bytes) ≡ true →
+    has_room plain (length bytes) ≡ true →
     IsOpen (changed_by (settle_and_append c plain name date bytes) c) (with_bytes plain name date bytes)
 
 -- a sector that is worn behind the table

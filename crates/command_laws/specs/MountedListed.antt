@@ -5,12 +5,11 @@ use Rattle.cartridge_laws.specs.Table.{IsSoundList}
 use Rattle.cartridge_spec.specs.Formatting.{IsLabel}
 use Rattle.cartridge_spec.specs.Header.{Header}
 use Rattle.cartridge_spec.specs.HeaderAndTable.{last_segment, TableIs, table_cells}
-use Rattle.cartridge_spec.specs.Mounting.{Mounted, Mounts, settled}
+use Rattle.cartridge_spec.specs.Mounting.{Mounted, Mounts, settled, HasList}
 use Rattle.cartridge_spec.specs.Says.{ByCode, LostSectors, TableSays}
-use Rattle.cartridge_spec.specs.Settling.{settling_steps, changed_by}
+use Rattle.cartridge_spec.specs.Settling.{changed_by}
 use Rattle.cartridge_spec.specs.Table.{Entry, Shows}
 use Rattle.cartridge_spec.specs.Wear.{worn}
-use Rattle.command_laws.specs.StoreMounting.{HasList}
 use Rattle.command_spec.specs.Append.{Kept, Taking, Fits, TooLong, TooShort, entry_for, append_acts, room_in, taking, kept_over}
 use Rattle.command_spec.specs.Restore.{GivingEnd, Piece, Restores}
 use Rattle.command_spec.specs.Scrub.{Scrubs}

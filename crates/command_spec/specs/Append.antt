@@ -1,11 +1,10 @@
 -- The plain machine of `append`: what is taken of the input, and the acts that write the volume and its entry (this project's own).
 use Rattle.std.specs.Prelude.{ℕ, List, [], ◌∷◌, length, drop, nat_le, if◌then◌else◌, ◌&&◌, Bool, take, nat_lt, Option, Some, None, ◌+◌, min, is_some, ◌++◌, ◌-◌, ◌≡◌}
 use Rattle.cartridge_spec.specs.Appending.{part_writes, in_sectors, room, free_segments, new_entry, taken_by, table_writes}
-use Rattle.cartridge_spec.specs.HeaderAndTable.{last_segment}
 use Rattle.cartridge_spec.specs.Mounting.{settled}
 use Rattle.cartridge_spec.specs.Settling.{settling_steps}
 use Rattle.cartridge_spec.specs.Shape.{mask_at, data_count, capacity}
-use Rattle.cartridge_spec.specs.Table.{Entry, slot_bytes, with_slot, slot_sector}
+use Rattle.cartridge_spec.specs.Table.{Entry, slot_sector, table_with}
 use Rattle.command_spec.specs.Lines.{reply_behind}
 use Rattle.command_spec.specs.Outcome.{settling_act, CommandOutcome, Going, WritableOutcome}
 use Rattle.command_spec.specs.declared.status.Status.{Status}
@@ -108,15 +107,11 @@ input_writes kept promised input =
 abbrev pub entry_for : Kept → (name : List ℕ) → (date : ℕ) → (bytes : List ℕ) → Entry
 entry_for kept name date bytes = new_entry (taken_by kept.words (length bytes) (free_in kept)) name date (length bytes)
 
--- the table's data with an entry in the slot behind the last one
-abbrev pub table_with : Kept → Entry → List (List ℕ)
-table_with kept entry = with_slot kept.table (length kept.entries) (slot_bytes entry)
-
 -- last, where all bytes are there, the writes of the table, and the reply
 abbrev pub entry_acts : Kept → (name : List ℕ) → (date : ℕ) → (reply : Entry → List ℕ) → Taking → List Act
 entry_acts kept name date reply (Fits bytes) =
     record {
-      steps = table_writes (slot_sector (length kept.entries)) (table_with kept (entry_for kept name date bytes));
+      steps = table_writes (slot_sector (length kept.entries)) (table_with kept.table (length kept.entries) (entry_for kept name date bytes));
       text = reply (entry_for kept name date bytes);
     } ∷ []
 entry_acts kept name date reply (TooLong need have) = []
@@ -144,7 +139,7 @@ kept_over c words entries table = record (kept_in words entries) { table = table
 
 -- what it goes by once the table is settled: a sector that takes no write is written again
 abbrev pub kept_on : Cartridge → (words : List ℕ) → (table : List (List ℕ)) → List Entry → Kept
-kept_on c words table entries = record (kept_over (settled table c) words entries table) { last = last_segment c }
+kept_on c words table entries = kept_over (settled table c) words entries table
 
 -- the answer, with room for so many bytes: full where there is none for all of the input, or for no byte
 abbrev pub append_status : (have : ℕ) → (input : List ℕ) → Status

@@ -1,5 +1,5 @@
 -- What a run of `make` comes to, and what a stop in it leaves, as facts.
-use Rattle.std.specs.Prelude.{ℕ, ◌-◌, length, zero, suc, ◌+◌, ◌≡◌, ◌<◌, List, [], ◌∷◌, ◌++◌, drop, All, Some}
+use Rattle.std.specs.Prelude.{ℕ, length, zero, suc, ◌+◌, ◌≡◌, ◌<◌, List, [], ◌∷◌, ◌++◌, drop, All, Some}
 use Rattle.cartridge_spec.specs.Appending.{appended_volume, with_volume}
 use Rattle.cartridge_spec.specs.Settling.{changed_by}
 use Rattle.cartridge_spec.specs.Table.{Entry}
@@ -14,7 +14,7 @@ use Rattle.qic_base.specs.Cartridge.{Cartridge}
 
 -- the made volume behind those of a plain cartridge
 abbrev pub made_volume : (seed : ℕ) → Plain → (volume : ℕ) → Volume
-made_volume seed plain volume = appended_volume plain (length plain.words - 1) (made_name volume) 0 (made_bytes seed volume)
+made_volume seed plain volume = appended_volume plain (made_name volume) 0 (made_bytes seed volume)
 
 -- the plain cartridge with so many made volumes, from this one on
 abbrev pub with_made : (seed : ℕ) → Plain → (volume count : ℕ) → Plain

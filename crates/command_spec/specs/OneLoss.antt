@@ -1,7 +1,7 @@
 -- What becomes of a cartridge that an append left, done or stopped, where then one sector more of its table's segment is lost
 -- (this project's own).
 use Rattle.std.specs.Prelude.{◌⊎◌, ℕ, List, Option, ◌≡◌, Some, IsSomeAnd, false}
-use Rattle.cartridge_spec.specs.Appending.{new_plain}
+use Rattle.cartridge_spec.specs.Appending.{with_bytes}
 use Rattle.cartridge_spec.specs.HeaderAndTable.{TableIs}
 use Rattle.cartridge_spec.specs.Mounting.{IsTableLive, settled}
 use Rattle.cartridge_spec.specs.OneLoss.{ComesBackAs, LosesOneAlone}
@@ -21,13 +21,13 @@ use Rattle.qic_base.specs.Tape as tapes
 pub record ComesBackEither (told : Option (List ℕ)) (name : List ℕ) (date : ℕ) (c : Cartridge) (plain : Plain) (d : Cartridge) : Type 0 where
   pub input : List ℕ
   pub is_told : IsInput told input
-  pub comes : (f : Cartridge) (lost : ℕ) → LosesOneAlone d f lost → ComesBackAs f plain ⊎ ComesBackAs f (new_plain c plain name date input)
+  pub comes : (f : Cartridge) (lost : ℕ) → LosesOneAlone d f lost → ComesBackAs f plain ⊎ ComesBackAs f (with_bytes plain name date input)
 
 -- it does so as that with the volume
 pub record ComesBackNew (told : Option (List ℕ)) (name : List ℕ) (date : ℕ) (c : Cartridge) (plain : Plain) (d : Cartridge) : Type 0 where
   pub input : List ℕ
   pub is_told : IsInput told input
-  pub comes : (f : Cartridge) (lost : ℕ) → LosesOneAlone d f lost → ComesBackAs f (new_plain c plain name date input)
+  pub comes : (f : Cartridge) (lost : ℕ) → LosesOneAlone d f lost → ComesBackAs f (with_bytes plain name date input)
 
 -- What words of appending leave of a cartridge that stood for a plain one, each sector of whose table's segment takes a write:
 -- one whose table was not yet settled, or one that comes back.

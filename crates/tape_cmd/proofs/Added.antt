@@ -1,5 +1,5 @@
 -- How an append ends.
-use Rattle.std.proofs.Common.{ℕ, ◌-◌, ◌<◌, List, All, Option, Some, None, ◌≡◌, drop, refl, ◌≢◌, true, IfSome, length, ap, ◌∙◌, ◌+◌, ◌++◌, sym, ◌∷◌, append-nil, ◌&&◌, nat_le, min, Bool, false, subst, inl, inr, [], Result, Ok, Err, arith, append_assoc}
+use Rattle.std.proofs.Common.{ℕ, ◌<◌, List, All, Option, Some, None, ◌≡◌, drop, refl, ◌≢◌, true, IfSome, length, ap, ◌∙◌, ◌+◌, ◌++◌, sym, ◌∷◌, append-nil, ◌&&◌, nat_le, min, Bool, false, subst, inl, inr, [], Result, Ok, Err, arith, append_assoc}
 use Rattle.std.specs.Prelude.{IfNone, if◌then◌else◌, ◌≤◌, ◌↔◌, is_some, ◌==◌, nat_lt}
 use Rattle.std.proofs.lemmas.List.Elements.{All-nil}
 use Rattle.std.specs.Option.{option_map}
@@ -9,11 +9,11 @@ use Rattle.cartridge_laws.proofs.MountOnce.{one_table}
 use Rattle.cartridge_laws.proofs.MountSettled.{settled_keeps_table}
 use Rattle.cartridge_laws.proofs.TableSayings.{table_says_is_function}
 use Rattle.cartridge_spec.specs.Appending.{table_writes}
-use Rattle.cartridge_spec.specs.HeaderAndTable.{TableIs, last_segment, table_cells}
+use Rattle.cartridge_spec.specs.HeaderAndTable.{TableIs, table_cells}
 use Rattle.cartridge_spec.specs.Mounting.{settled}
 use Rattle.cartridge_spec.specs.Says.{Data, LostSectors, AsRead, ByCode, TableSays}
 use Rattle.cartridge_spec.specs.Settling.{settling_steps}
-use Rattle.cartridge_spec.specs.Table.{Entry, slot_sector}
+use Rattle.cartridge_spec.specs.Table.{Entry, slot_sector, table_with}
 use Rattle.command_laws.proofs.CommandAdded.{status_by, input_texts, replied_text, status_fits}
 use Rattle.command_laws.proofs.CommandEndings.{nothing_front}
 use Rattle.command_laws.proofs.CommandEnds.{is_some-map}
@@ -21,7 +21,7 @@ use Rattle.command_laws.proofs.CommandOpened.{quiet}
 use Rattle.command_laws.proofs.CommandPlainLaws.{plain_is_function}
 use Rattle.command_laws.proofs.CommandTold.{input_of, input_told}
 use Rattle.command_laws.proofs.StoreTaking.{both_true}
-use Rattle.command_spec.specs.Append.{Kept, kept_on, Taking, Fits, TooLong, TooShort, entry_acts, silently, taking, room_in, input_writes, append_acts, append_status, Appends, bytes_taken, entry_for, table_with, AppendOutcome}
+use Rattle.command_spec.specs.Append.{Kept, kept_on, Taking, Fits, TooLong, TooShort, entry_acts, silently, taking, room_in, input_writes, append_acts, append_status, Appends, bytes_taken, entry_for, AppendOutcome}
 use Rattle.command_spec.specs.Lines.{reply_behind, appended_line}
 use Rattle.command_spec.specs.Machine.{CommandPrints, FrontPrints}
 use Rattle.command_spec.specs.Outcome.{CommandOutcome, refused, refused_behind}
@@ -74,16 +74,12 @@ names_none name date answer (Some input) sound none = record { named = λ line p
 
 -- ---- what an append goes by
 
-abbrev goes_by : StoreView → (last : ℕ) (table : List (List ℕ)) (settling : List TapeStep) → Kept
-goes_by store last table settling = record { words = store.words; entries = store.entries; last = last; table = table; settling = settling }
-
-same_kept : (c : Cartridge) (store : StoreView) (steps : List TapeStep) (is : IsOpened c store steps) (table : List (List ℕ)) (settling : List TapeStep) → length store.words - 1 ≡ last_segment c →
+same_kept : (c : Cartridge) (store : StoreView) (steps : List TapeStep) (is : IsOpened c store steps) (table : List (List ℕ)) (settling : List TapeStep) →
     TableIs (settled is.table c) table → settling ≡ settling_steps table (settled is.table c) → kept_by store table settling ≡ kept_on c store.words is.table store.entries
-same_kept c store steps is table settling last reads settles =
+same_kept c store steps is table settling reads settles =
     let one : table ≡ is.table = one_table (settled is.table c) table is.table reads (settled_keeps_table c is.table is.mounts.reads).table in
-    ap (λ (n : ℕ). goes_by store n table settling) last
-    ∙ ap (λ (ss : List TapeStep). goes_by store (last_segment c) table ss) (settles ∙ ap (λ (area : List (List ℕ)). settling_steps area (settled is.table c)) one)
-    ∙ ap (λ (area : List (List ℕ)). goes_by store (last_segment c) area (settling_steps is.table (settled is.table c))) one
+    ap (λ (ss : List TapeStep). kept_by store table ss) (settles ∙ ap (λ (area : List (List ℕ)). settling_steps area (settled is.table c)) one)
+    ∙ ap (λ (area : List (List ℕ)). kept_by store area (settling_steps is.table (settled is.table c))) one
 
 entry_steps : (kept : Kept) (name : List ℕ) (date : ℕ) (reply : Entry → List ℕ) (became : Taking) → steps_of (entry_acts kept name date silently became) ≡ steps_of (entry_acts kept name date reply became)
 entry_steps kept name date reply (Fits bytes) = refl
@@ -263,7 +259,7 @@ module _ {T S K : Type 0} (t : tapes.Meaning T) (s : sources.Meaning S) (k : sin
           (
             mounting.Mounted store.header store.words is.table store.entries,
             is.mounts,
-            ap (λ (kept : Kept). going_by (quiet opening.steps) kept name date input) (same_kept c store opening.steps is table settling known.last f.reads f.settles)
+            ap (λ (kept : Kept). going_by (quiet opening.steps) kept name date input) (same_kept c store opening.steps is table settling f.reads f.settles)
                 ∙ ap (λ (ss : List TapeStep). going_by (quiet ss) (kept_on c store.words is.table store.entries) name date input) is.settles,
           ),
         )
@@ -330,7 +326,7 @@ module _ {T S K : Type 0} (t : tapes.Meaning T) (s : sources.Meaning S) (k : sin
       writes = input_writes kept None ran.input
 
       abbrev last_act : Act
-      last_act = record { steps = table_writes (slot_sector (length store.entries)) (table_with kept entry); text = reply entry }
+      last_act = record { steps = table_writes (slot_sector (length store.entries)) (table_with kept.table (length kept.entries) entry); text = reply entry }
 
       abbrev outcome : CommandOutcome
       outcome = going_by (quiet opening.steps) kept name date ran.input

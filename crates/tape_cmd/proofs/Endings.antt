@@ -10,7 +10,7 @@ use Rattle.command_spec.specs.Machine.{Yields, CommandPrints}
 use Rattle.command_spec.specs.Outcome.{CommandOutcome, refused, refused_behind, acted, carried_out}
 use Rattle.command_spec.specs.Protect.{ProtectOutcome}
 use Rattle.command_spec.specs.Runs.{InputLeft, IsOfBytes, may_come_from, IsCutOff, EndsBlind}
-use Rattle.command_spec.specs.Traits.{traits_of}
+use Rattle.command_spec.specs.Commands.{traits_of}
 use Rattle.command_spec.specs.declared.status.Status.{Status}
 use Rattle.command_spec.specs.declared.words.Words.{Words}
 use Rattle.qic_base.proofs.Joins.{broke_first}

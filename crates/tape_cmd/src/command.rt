@@ -3,8 +3,8 @@
 ghost use Rattle.std.specs.Prelude.{◌≡◌, ◌≢◌, ◌⊎◌, ℕ, List, IfOk, OnErr, true, false, map, string_bytes};
 ghost use Rattle.command_spec.specs.Machine.{HasValues, Spells, ReadsCommand};
 ghost use Rattle.command_spec.specs.Promises.{Promises};
+ghost use Rattle.command_spec.specs.Commands.{traits_of};
 ghost use Rattle.command_spec.specs.Runs.{CommandEnds};
-ghost use Rattle.command_spec.specs.Traits.{traits_of};
 
 use crate::Status;
 use crate::append::append;

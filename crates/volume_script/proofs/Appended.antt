@@ -12,14 +12,12 @@ use Rattle.qic_base.specs.Step.{Step}
 use Rattle.qic_base.specs.Tape as tapes
 use Rattle.qic_base.proofs.Steps.{Tells-map}
 use Rattle.qic_base.proofs.Writing.{TakesBoth}
-use Rattle.qic_base.specs.Acts.{Act, text_of, Failing, TapeFails, SourceFails, SinkFails, Went, Cut}
-use Rattle.qic_base.specs.Acts.{no_sink, reading}
+use Rattle.qic_base.specs.Acts.{Act, text_of, Failing, TapeFails, SourceFails, SinkFails, Went, Cut, no_sink, reading}
 use Rattle.cartridge_spec.specs.Appending.{table_writes}
-use Rattle.cartridge_spec.specs.Table.{slot_sector}
+use Rattle.cartridge_spec.specs.Table.{slot_sector, table_with, Entry}
 use Rattle.qic_base.proofs.Joins.{cut_is_longer, broke_behind}
 use Rattle.cartridge_spec.specs.HeaderAndTable.{table_cells, TableIs}
 use Rattle.cartridge_spec.specs.Says.{ByCode, LostSectors, TableSays}
-use Rattle.cartridge_spec.specs.Table.{Entry}
 use Rattle.cartridge_spec.specs.Settling.{settling_steps}
 use Rattle.command_spec.specs.declared.line.Line.{Line}
 use Rattle.command_spec.specs.declared.line.Line.TheVariants as line
@@ -31,7 +29,7 @@ use Rattle.command_spec.specs.Lines.{appended_line, reply_behind}
 use Rattle.volume_store.specs.declared.appended.Appended.{Appended}
 use Rattle.volume_store.specs.declared.fault.StoreFault.{StoreFault}
 use Rattle.volume_store.specs.declared.fault.StoreFault.TheVariants as store_fault
-use Rattle.command_spec.specs.Append.{Kept, Taking, Fits, TooLong, TooShort, taking, room_in, entry_for, append_acts, silently, table_with, kept_over}
+use Rattle.command_spec.specs.Append.{Kept, Taking, Fits, TooLong, TooShort, taking, room_in, entry_for, append_acts, silently, kept_over}
 use Rattle.volume_store.specs.Appending.{kept_by, AppendRan, HasAppended, TableRefused, AppendCut, CutUnread, KeepsList}
 use Rattle.volume_store.specs.Mounting.{StoreView, StoreFits}
 use Rattle.drive_spec.specs.Deck.{is_protected}
@@ -45,9 +43,8 @@ use Rattle.command_spec.specs.declared.refusal.Refusal.TheVariants as why
 use Rattle.command_laws.specs.ScriptItems.{EarlyDoes}
 use Rattle.volume_script.specs.Items.{ItemDone, ItemShort, ItemCut, ItemMismatched, ItemEnds, WouldDo}
 use Rattle.volume_script.specs.Limited.{limited_means}
-use Rattle.command_spec.specs.Script.{refusal_line}
+use Rattle.command_spec.specs.Script.{refusal_line, Did, LineDoes, Meeting, Finds, Meets, acts_on, line_refused, reply, taken_as}
 use Rattle.volume_script.specs.Promised.{RanPromised, Refuses, replied_so}
-use Rattle.command_spec.specs.Script.{Did, LineDoes, Meeting, Finds, Meets, acts_on, line_refused, reply, taken_as}
 use Rattle.command_spec.specs.Script as script
 use Rattle.command_laws.proofs.ScriptActs.{quietly, same_acts, same_taking, took_enough, took_too_long, took_short, full_acts, full_taking, short_acts, fits_acts, front_acts, front_and_last, replied_steps, replied_text, input_texts}
 use Rattle.command_laws.proofs.ScriptGiven.{gave_all, gave_few, Behind, behind}
@@ -208,7 +205,7 @@ module _ {T S K : Type 0} (t : tapes.Meaning T) (s : sources.Meaning S) (k : sin
 
       abbrev last : Act
       last = record {
-        steps = table_writes (slot_sector (length store.entries)) (table_with kept (entry_for kept name date has.bytes));
+        steps = table_writes (slot_sector (length store.entries)) (table_with kept.table (length kept.entries) (entry_for kept name date has.bytes));
         text = text;
       }
 

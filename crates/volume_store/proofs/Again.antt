@@ -1,13 +1,13 @@
 -- The volume table read again: what it says of a list, and what a call did that read it.
-use Rattle.std.proofs.Common.{ℕ, List, subst, Err, ◌≡◌, ◌++◌, refl, [], ◌≢◌, sym, Result, ◌-◌, ◌∙◌, ap, length, take, Ok, IsOkUnless, ◌∷◌, OnErr, inl}
+use Rattle.std.proofs.Common.{ℕ, List, subst, Err, ◌≡◌, ◌++◌, refl, [], ◌≢◌, sym, Result, ◌∙◌, ap, length, take, Ok, IsOkUnless, ◌∷◌, OnErr, inl}
 use Rattle.std.proofs.lemmas.List.{append-nil}
 use Rattle.cartridge_laws.proofs.Hiding.{nothing_is_hidden}
 use Rattle.cartridge_spec.specs.HeaderAndTable.{TableIs, table_cells}
+use Rattle.cartridge_spec.specs.Mounting.{HasList}
 use Rattle.cartridge_spec.specs.Says.{HasNoBlock, ByCode, LostSectors, TableSays}
 use Rattle.cartridge_spec.specs.Settling.{settling_steps}
-use Rattle.cartridge_spec.specs.Table.{Entry, Shows}
+use Rattle.cartridge_spec.specs.Table.{Entry, Shows, table_with}
 use Rattle.command_laws.proofs.StoreAgain.{list_shown, table_one}
-use Rattle.command_laws.specs.StoreMounting.{HasList}
 use Rattle.drive_spec.specs.Deck.{is_protected}
 use Rattle.drive_states.specs.Unit.{UnitView}
 use Rattle.host_driver.specs.Fits.{Fits, AgreesWithTape}
@@ -21,7 +21,7 @@ use Rattle.segment_io.proofs.Going.{tells_always}
 use Rattle.segment_io.specs.declared.fault.SegFault.{SegFault}
 use Rattle.volume_store.proofs.Copies.{IsLearnt, told_learnt, tells_two}
 use Rattle.volume_store.proofs.Settled.{mending_settles}
-use Rattle.volume_store.specs.Again.{FindsList, IsBrokenOff, IsOfReading, IsRefused, SettlesAgain, AddsEntry, entry_writes, HasTable, IsSettledAgain, data_with, BrokeUnread, FaultUnread}
+use Rattle.volume_store.specs.Again.{FindsList, IsBrokenOff, IsOfReading, IsRefused, SettlesAgain, AddsEntry, entry_writes, HasTable, IsSettledAgain, BrokeUnread, FaultUnread}
 use Rattle.volume_store.specs.Finding.{FindsTable, refusal_of, Leaves}
 use Rattle.volume_store.specs.Settling.{mending_steps}
 use Rattle.volume_store.specs.declared.fault.StoreFault.{StoreFault}
@@ -125,7 +125,7 @@ settled_by m old mid new entries area sectors steps (Err f) first next unless sh
 -- the writing of an entry
 pub added_by : {T : Type 0} (m : Meaning T) (old mid new : T) (entries : List Entry) (entry : Entry) (area : List (List ℕ)) (r : Result (Unit {0}) StoreFault) →
     Done m old mid [] → Does m mid new (entry_writes entries entry area) r → IsOkUnless r fault.Tape → Shows area entries → length area ≡ 29 →
-    Shows (data_with entries entry area) (entries ++ entry ∷ []) → Tells m old (λ c. TableIs c area) → AddsEntry m old new entries entry r
+    Shows (table_with area (length entries) entry) (entries ++ entry ∷ []) → Tells m old (λ c. TableIs c area) → AddsEntry m old new entries entry r
 added_by m old mid new entries entry area (Ok answer) first next unless shown size more told =
     record { area = area; shown = shown; done = Done-after_reads first next; told = told; size = size; with_entry = more }
 added_by m old mid new entries entry area (Err f) first next unless shown size more told =

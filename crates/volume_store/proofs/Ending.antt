@@ -14,6 +14,7 @@ use Rattle.cartridge_laws.specs.AppendSettled.{IsSettledFor}
 use Rattle.cartridge_laws.specs.Table.{IsSoundList}
 use Rattle.cartridge_spec.specs.Appending.{taken_by}
 use Rattle.cartridge_spec.specs.HeaderAndTable.{TableIs, table_cells}
+use Rattle.cartridge_spec.specs.Mounting.{HasList}
 use Rattle.cartridge_spec.specs.Says.{TableSays, AsRead, ByCode, LostSectors, Data, with_parity}
 use Rattle.cartridge_spec.specs.Settling.{changed_by, settling_steps}
 use Rattle.cartridge_spec.specs.Table.{Entry, Shows}
@@ -21,7 +22,6 @@ use Rattle.command_laws.proofs.StoreAgain.{table_one}
 use Rattle.command_laws.proofs.StoreBehind.{input_behind, settled_behind}
 use Rattle.command_laws.proofs.StoreEnding.{took_fits, list_more}
 use Rattle.command_laws.proofs.StoreSettled.{table_sectors, table_size, steps_settle}
-use Rattle.command_laws.specs.StoreMounting.{HasList}
 use Rattle.command_spec.specs.Append.{Taking, Fits, TooLong, TooShort, taking, Kept, room_in, free_in, bytes_taken, entry_for, input_writes, entry_acts, append_acts, silently}
 use Rattle.gf256_qic.proofs.Parities.{parity_block}
 use Rattle.qic_base.proofs.Giving.{Gave-nothing}

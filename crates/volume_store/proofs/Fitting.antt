@@ -2,6 +2,7 @@
 use Rattle.std.proofs.Common.{◌≡◌, ◌≢◌, ℕ, ◌-◌, ◌*◌, ◌/◌, ◌<◌, ◌≤◌, false, List, [], ◌∷◌, ◌++◌, length, Option, Some, None, IfSome, IsSomeAnd, Err, refl, sym, ap, ◌∙◌, subst, arith}
 use Rattle.std.specs.Option.{option_map}
 use Rattle.std.proofs.lemmas.List.{length-append}
+use Rattle.cartridge_spec.specs.Mounting.{HasList}
 use Rattle.qic_base.specs.Cartridge.{Cartridge, IsCartridge}
 use Rattle.qic_base.specs.Source as sources
 use Rattle.qic_base.specs.Step.{Step, effects}
@@ -11,13 +12,11 @@ use Rattle.qic_base.specs.declared.tape.TapeInfo.{TapeInfo}
 use Rattle.qic_base.proofs.Steps.{Tells-map, Done-told}
 use Rattle.cartridge_spec.specs.Formatting.{IsLabel}
 use Rattle.cartridge_laws.proofs.FormatWriting.{effects-some}
-use Rattle.qic_base.specs.Acts.{steps_of}
-use Rattle.qic_base.specs.Acts.{reading}
+use Rattle.qic_base.specs.Acts.{steps_of, reading}
 use Rattle.cartridge_spec.specs.HeaderAndTable.{IsArea, TableIs}
-use Rattle.cartridge_spec.specs.Table.{slot_bytes, slot_sector}
-use Rattle.cartridge_spec.specs.Table.{Entry, Shows}
+use Rattle.cartridge_spec.specs.Table.{slot_bytes, slot_sector, table_with, Entry, Shows}
 use Rattle.cartridge_laws.specs.Table.{IsSoundList}
-use Rattle.cartridge_spec.specs.Settling.{changed_by}
+use Rattle.cartridge_spec.specs.Settling.{changed_by, settling_steps}
 use Rattle.cartridge_laws.proofs.SlotBytes.{length-slot_bytes, slot_are_bytes}
 use Rattle.cartridge_laws.proofs.Slots.{slot_area}
 use Rattle.cartridge_spec.specs.Appending.{last_end}
@@ -30,15 +29,13 @@ use Rattle.drive_states.specs.Unit.{UnitView}
 use Rattle.host_driver.specs.declared.host.Host.{Host}
 use Rattle.host_driver.specs.Calls.{Keeps}
 use Rattle.host_driver.specs.Fits.{Fits, AgreesWithTape, segments_of}
-use Rattle.cartridge_spec.specs.Settling.{settling_steps}
 use Rattle.cartridge_laws.proofs.MountWhole.{table_is_area}
 use Rattle.volume_store.specs.declared.fault.StoreFault.{StoreFault}
 use Rattle.volume_store.specs.declared.fault.StoreFault.TheVariants as fault
-use Rattle.volume_store.specs.Again.{IsSettledAgain, IsAdded, SettlesAgain, AddsEntry, data_with, entry_writes}
+use Rattle.volume_store.specs.Again.{IsSettledAgain, IsAdded, SettlesAgain, AddsEntry, entry_writes}
 use Rattle.command_spec.specs.Append.{kept_in, input_writes}
 use Rattle.volume_store.specs.Appending.{InputIs}
 use Rattle.volume_store.specs.Mounting.{StoreView, StoreFits}
-use Rattle.command_laws.specs.StoreMounting.{HasList}
 use Rattle.command_laws.proofs.StoreAgain.{table_one}
 use Rattle.command_laws.proofs.StoreBehind.{input_behind, settled_behind, front_behind}
 use Rattle.volume_store.proofs.Copies.{tells_two}
@@ -166,7 +163,7 @@ pub lists_added : {T : Type 0} (t : Meaning T) (x y : T) (entries : List Entry) 
     (t.told x ≡ Some None → ⊥) → Tells t x (λ c. IsSettledFor c area) → Tells t x IsCartridge → Tells t y IsCartridge → Tells t y (Listed (entries ++ e ∷ []))
 lists_added t x y entries e area did label flags sequence some known whole after =
     let n : ℕ = length entries in
-    let new : List (List ℕ) = data_with entries e did.area in
+    let new : List (List ℕ) = table_with did.area (length entries) e in
     let within : n < 232 = (let room = did.with_entry.room in let long = length-append entries (e ∷ []) in omega arith) in
     let small : n / 8 < 29 = omega arith in
     let both : Tells t x (λ c. IsSettledFor c area × IsCartridge c) =

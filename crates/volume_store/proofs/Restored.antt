@@ -1,6 +1,7 @@
 -- What a restore gave, by its answer, and the fit of a store behind a call that keeps its list.
 use Rattle.std.proofs.Common.{◌≡◌, ℕ, zero, suc, ◌-◌, ◌*◌, ◌<◌, ◌++◌, Bool, true, false, List, [], ◌∷◌, length, Option, Some, None, IfSome, Result, Ok, Err, refl, sym, ap, ◌∙◌, subst, arith, slice_get, append_assoc}
 use Rattle.std.proofs.lemmas.Option.{slice_get_past}
+use Rattle.cartridge_spec.specs.Mounting.{HasList}
 use Rattle.qic_base.specs.Cartridge.{Cartridge}
 use Rattle.qic_base.specs.Sink as sinks
 use Rattle.qic_base.specs.Step.{Step}
@@ -15,15 +16,13 @@ use Rattle.cartridge_spec.specs.Volumes.{carrying, volume_length}
 use Rattle.drive_states.specs.Unit.{UnitView}
 use Rattle.host_driver.specs.Calls.{Keeps}
 use Rattle.host_driver.specs.Fits.{segments_of}
-use Rattle.command_spec.specs.Restore.{Piece, GivingEnd, framed, pieces, pieces_of}
+use Rattle.command_spec.specs.Restore.{Piece, GivingEnd, framed, pieces, pieces_of, volume_at}
 use Rattle.volume_output.specs.declared.fault.OutputFault.{OutputFault}
 use Rattle.volume_output.specs.declared.fault.OutputFault.TheVariants as output
 use Rattle.volume_output.specs.Output.{GaveVolume, VolumeCut, OutputEnds}
 use Rattle.command_laws.specs.OutputText.{AreOf, printed}
 use Rattle.volume_store.specs.Mounting.{StoreView, StoreFits, KeepsStore}
-use Rattle.command_laws.specs.StoreMounting.{HasList}
 use Rattle.volume_store.specs.Restoring.{RestoreEnds, fault_of_output}
-use Rattle.command_spec.specs.Restore.{volume_at}
 use Rattle.volume_store.proofs.Storing.{one_length, still_primary, still_referenced}
 
 -- ---- the volume

@@ -2,6 +2,7 @@
 use Rattle.std.proofs.Common.{◌≡◌, ℕ, ◌-◌, ◌++◌, false, List, length, Contains, Option, Some, None, IfSome, IsSomeAnd, Result, Ok, Err, refl, sym, ap, ◌∙◌, subst}
 use Rattle.std.specs.Option.{option_map}
 use Rattle.std.proofs.lemmas.List.Elements.{All-take}
+use Rattle.cartridge_spec.specs.Mounting.{HasList}
 use Rattle.qic_base.specs.Cartridge.{Cartridge}
 use Rattle.qic_base.specs.Sink as sinks
 use Rattle.qic_base.specs.Step.{effects}
@@ -9,8 +10,7 @@ use Rattle.qic_base.specs.Stop.{Torn}
 use Rattle.qic_base.specs.Tape.{Meaning, Tells, IsToldRight}
 use Rattle.qic_base.specs.declared.tape.TapeInfo.{TapeInfo}
 use Rattle.qic_base.proofs.Steps.{Torn-all}
-use Rattle.qic_base.specs.Acts.{Act, Outside, SinkFails, Cut, steps_of}
-use Rattle.qic_base.specs.Acts.{no_source}
+use Rattle.qic_base.specs.Acts.{Act, Outside, SinkFails, Cut, steps_of, no_source}
 use Rattle.qic_base.proofs.Outcomes.{cut_is_torn}
 use Rattle.cartridge_spec.specs.Code.{IsSector}
 use Rattle.cartridge_spec.specs.HeaderAndTable.{table_cells}
@@ -32,7 +32,6 @@ use Rattle.segment_mending.specs.declared.fault.ScrubFault.{ScrubFault}
 use Rattle.segment_mending.specs.declared.fault.ScrubFault.TheVariants as fault
 use Rattle.segment_mending.specs.declared.report.ScrubReport.{ScrubReport}
 use Rattle.segment_mending.specs.Mending.{HasScrubbed, ScrubCut, ScrubEnds, reported}
-use Rattle.command_laws.specs.StoreMounting.{HasList}
 
 -- ---- a cartridge that is being mended
 

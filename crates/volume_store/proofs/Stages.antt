@@ -1,13 +1,13 @@
 -- An append stage by stage, from a store that fits a unit whose cartridge may be written: the list, the fit, and how it ended.
 use Rattle.std.proofs.Common.{◌≡◌, ◌≢◌, ◌⊎◌, inl, inr, ℕ, ◌-◌, false, List, [], ◌∷◌, ◌++◌, length, Option, Err, sym, ◌∙◌, subst, arith}
+use Rattle.cartridge_spec.specs.Mounting.{HasList}
 use Rattle.qic_base.specs.Cartridge.{IsCartridge}
 use Rattle.qic_base.specs.Source as sources
 use Rattle.qic_base.specs.Tape as tapes
 use Rattle.qic_base.specs.Tape.{Meaning, Tells, IsToldRight}
 use Rattle.qic_base.proofs.Steps.{Tells-map}
 use Rattle.cartridge_spec.specs.Formatting.{IsLabel}
-use Rattle.qic_base.specs.Acts.{steps_of}
-use Rattle.qic_base.specs.Acts.{reading}
+use Rattle.qic_base.specs.Acts.{steps_of, reading}
 use Rattle.cartridge_spec.specs.Table.{Entry}
 use Rattle.cartridge_laws.specs.Table.{IsSoundList}
 use Rattle.cartridge_laws.specs.AppendSettled.{IsSettledFor}
@@ -25,7 +25,6 @@ use Rattle.volume_store.specs.Again.{IsSettledAgain, IsAdded, IsOfReading, Settl
 use Rattle.volume_store.specs.Appending.{InputIs, InputWritten, HasAppended, AppendEnds}
 use Rattle.command_spec.specs.Append.{kept_in, input_writes}
 use Rattle.volume_store.specs.Mounting.{StoreView, StoreFits}
-use Rattle.command_laws.specs.StoreMounting.{HasList}
 use Rattle.command_laws.proofs.StoreBehind.{input_behind}
 use Rattle.volume_store.proofs.Copies.{IsLearnt, told_learnt, tells_two}
 use Rattle.volume_store.proofs.Ending as ending

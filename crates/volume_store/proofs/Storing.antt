@@ -12,11 +12,10 @@ use Rattle.cartridge_spec.specs.Header.{Header}
 use Rattle.cartridge_spec.specs.Table.{Entry}
 use Rattle.cartridge_laws.specs.Table.{IsSoundList, LieBehind}
 use Rattle.cartridge_spec.specs.HeaderAndTable.{TableIs}
-use Rattle.cartridge_spec.specs.Mounting.{settled}
-use Rattle.cartridge_spec.specs.Settling.{writes_of, changed_by}
-use Rattle.cartridge_spec.specs.Shape.{sector_at}
+use Rattle.cartridge_spec.specs.Mounting.{settled, HasList}
+use Rattle.cartridge_spec.specs.Settling.{writes_of, changed_by, settling_steps, block_writes, settling_places}
+use Rattle.cartridge_spec.specs.Shape.{sector_at, usable_places}
 use Rattle.cartridge_spec.specs.Says.{whole_mask, with_parity}
-use Rattle.cartridge_spec.specs.Shape.{usable_places}
 use Rattle.cartridge_spec.specs.Code.{parity_sectors}
 use Rattle.drive_spec.specs.Deck.{is_protected, is_referenced}
 use Rattle.drive_states.specs.Sound.{HasLength}
@@ -31,10 +30,8 @@ use Rattle.header_segments.specs.Header.{header_of}
 use Rattle.volume_store.specs.declared.learning.Learnt.{Learnt}
 use Rattle.volume_store.specs.Finding.{ShowsVolumes}
 use Rattle.volume_store.specs.Mounting.{HasLearnt, Settles}
-use Rattle.command_laws.specs.StoreMounting.{HasList}
 use Rattle.cartridge_laws.proofs.TableOrders.{faultless_is_sound}
 use Rattle.std.proofs.lemmas.Option.{same_Some}
-use Rattle.cartridge_spec.specs.Settling.{settling_steps, block_writes, settling_places}
 use Rattle.volume_store.specs.declared.table_reader.Unread.{Unread}
 use Rattle.volume_store.specs.Settling.{mending_steps, mending_places, collected_block}
 use Rattle.volume_store.proofs.Copies.{IsLearnt, told_learnt, tells_two}

@@ -1,16 +1,15 @@
 -- The volume table read again, settled again, and written with one entry more, by the answers of the calls (this project's
 -- own).
 use Rattle.std.specs.Prelude.{◌≡◌, ◌⊎◌, ℕ, ◌<◌, ◌++◌, List, [], ◌∷◌, length, take, Result, Ok, Err}
+use Rattle.cartridge_spec.specs.Mounting.{HasList}
 use Rattle.qic_base.specs.Cartridge.{Cartridge}
 use Rattle.qic_base.specs.Step.{Step}
 use Rattle.qic_base.specs.Tape.{Meaning, Done, Broke, Tells}
 use Rattle.cartridge_spec.specs.HeaderAndTable.{table_cells, TableIs}
 use Rattle.cartridge_spec.specs.Says.{TableSays, LostSectors, ByCode}
-use Rattle.cartridge_spec.specs.Table.{slot_bytes, slot_sector, with_slot}
-use Rattle.cartridge_spec.specs.Table.{Entry, Shows}
+use Rattle.cartridge_spec.specs.Table.{slot_sector, table_with, Entry, Shows}
 use Rattle.cartridge_spec.specs.Appending.{table_writes}
 use Rattle.cartridge_spec.specs.Settling.{settling_steps}
-use Rattle.command_laws.specs.StoreMounting.{HasList}
 use Rattle.volume_store.specs.Reading.{IsReadBut}
 use Rattle.volume_store.specs.declared.fault.StoreFault.{StoreFault}
 use Rattle.volume_store.specs.declared.fault.StoreFault.TheVariants.{Lost, TableMismatch, Tape}
@@ -77,12 +76,9 @@ SettlesAgain m old new entries sectors (Err fault) = ⊥
 
 -- ---- one entry more
 
--- the table's data with an entry in the slot behind a list's last one, and the writes that make them so
-abbrev pub data_with : (entries : List Entry) (entry : Entry) → List (List ℕ) → List (List ℕ)
-data_with entries entry area = with_slot area (length entries) (slot_bytes entry)
-
+-- the writes that put an entry into the slot behind a list's last one
 abbrev pub entry_writes : (entries : List Entry) (entry : Entry) → List (List ℕ) → List Step
-entry_writes entries entry area = table_writes (slot_sector (length entries)) (data_with entries entry area)
+entry_writes entries entry area = table_writes (slot_sector (length entries)) (table_with area (length entries) entry)
 
 -- the table's data showed the list, and were written with the entry
 pub record IsAdded {T : Type 0} (m : Meaning T) (old new : T) (entries : List Entry) (entry : Entry) : Type 0 where
@@ -92,7 +88,7 @@ pub record IsAdded {T : Type 0} (m : Meaning T) (old new : T) (entries : List En
   pub told : Tells m old (λ c. TableIs c area)
   -- 29 sectors, which show the list with the entry
   pub size : length area ≡ 29
-  pub with_entry : Shows (data_with entries entry area) (entries ++ entry ∷ [])
+  pub with_entry : Shows (table_with area (length entries) entry) (entries ++ entry ∷ [])
 
 abbrev pub AddsEntry : {T A : Type 0} (m : Meaning T) (old new : T) (entries : List Entry) (entry : Entry) → Result A StoreFault → Type 0
 AddsEntry m old new entries entry (Ok answer) = IsAdded m old new entries entry

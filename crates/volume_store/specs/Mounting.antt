@@ -3,10 +3,9 @@ use Rattle.std.specs.Prelude.{◌≡◌, ℕ, List, take, Result, Ok, Err, ◌�
 use Rattle.cartridge_laws.specs.Table.{IsSoundList}
 use Rattle.cartridge_spec.specs.Header.{fault_as, Header}
 use Rattle.cartridge_spec.specs.HeaderAndTable.{table_cells}
-use Rattle.cartridge_spec.specs.Mounting.{Mounts}
+use Rattle.cartridge_spec.specs.Mounting.{Mounts, HasList}
 use Rattle.cartridge_spec.specs.Settling.{settling_steps}
 use Rattle.cartridge_spec.specs.Table.{Entry}
-use Rattle.command_laws.specs.StoreMounting.{HasList}
 use Rattle.drive_spec.specs.Deck.{is_referenced}
 use Rattle.drive_states.specs.Unit.{UnitView}
 use Rattle.header_segments.specs.Header.{header_of}

@@ -4,11 +4,11 @@ use Rattle.qic_base.specs.Tape.{Tells}
 use Rattle.volume_store.specs.declared.table_reader.Unread.{Unread}
 use Rattle.qic_base.proofs.Steps.{Tells-map}
 use Rattle.cartridge_spec.specs.HeaderAndTable.{TableIs}
-use Rattle.cartridge_spec.specs.Table.{Entry, Shows}
+use Rattle.cartridge_spec.specs.Table.{Entry, Shows, table_with}
 use Rattle.volume_table.specs.Entry.{entry_of}
 use Rattle.volume_store.specs.declared.fault.StoreFault.{StoreFault}
 use Rattle.segment_io.proofs.Going.{OnOk-always}
-use Rattle.volume_store.specs.Again.{HasTable, data_with}
+use Rattle.volume_store.specs.Again.{HasTable}
 use Rattle.volume_store.proofs.Again.{added_by, adds_refused, reads_unless, reads_on, kept_unless}
 use Rattle.volume_store.proofs.Passing.{passed}
 use Rattle.volume_store.proofs.refreshing.add_entry.Goals as goal
@@ -22,8 +22,8 @@ returns-clause-did g c =
     let told : Tells m c.args.unit.now.tape (λ c'. TableIs c' (take 29 sectors)) =
     Tells-map m c.args.unit.now.tape (λ c'. HasTable c' sectors c.in_ok-read_list.field-0) (λ c'. TableIs c' (take 29 sectors))
     (λ c' has. has.table) (c.in_ok-read_list.ensures.found (λ same. cc)) in
-    let more : Shows (data_with entries entry (take 29 sectors)) (entries ++ entry ∷ []) =
-    subst (λ (l : List Entry). Shows (data_with entries entry (take 29 sectors)) l) c.write_entry.ensures.list c.write_entry.ensures.shown in
+    let more : Shows (table_with (take 29 sectors) (length entries) entry) (entries ++ entry ∷ []) =
+    subst (λ (l : List Entry). Shows (table_with (take 29 sectors) (length entries) entry) l) c.write_entry.ensures.list c.write_entry.ensures.shown in
     added_by m c.args.unit.now.tape c.read_list.new.unit.tape c.write_entry.new.unit.tape entries entry (take 29 sectors) c.write_entry.result
     c.in_ok-read_list.ensures.did c.write_entry.ensures.did c.write_entry.ensures.fault c.in_ok-read_list.ensures.shown
     (length-take-le 29 sectors (omega (arith, c.in_ok-read_list.ensures.room))) more told

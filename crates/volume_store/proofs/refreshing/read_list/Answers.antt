@@ -1,4 +1,5 @@
 use Rattle.std.proofs.Common.{◌≢◌, ◌∙◌, ℕ, List, take, Err, sym, ap, subst}
+use Rattle.cartridge_spec.specs.Mounting.{HasList}
 use Rattle.qic_base.proofs.Steps.{Tells-map}
 use Rattle.qic_base.specs.Tape.{Tells}
 use Rattle.cartridge_spec.specs.HeaderAndTable.{TableIs}
@@ -9,7 +10,6 @@ use Rattle.volume_store.specs.declared.fault.StoreFault.{StoreFault}
 use Rattle.volume_store.specs.declared.table_reader.Unread.{Unread}
 use Rattle.volume_store.specs.Again.{FindsList}
 use Rattle.volume_store.specs.Finding.{FindsTable, refusal_of}
-use Rattle.command_laws.specs.StoreMounting.{HasList}
 use Rattle.volume_store.proofs.Again.{list_missing, finds_fault}
 use Rattle.volume_store.proofs.refreshing.read_list.Goals as goal
 

@@ -1,4 +1,5 @@
 use Rattle.std.proofs.Common.{◌≡◌, ◌-◌, ◌<◌, Some, Ok, Err, false, ap, ◌∙◌, arith, slice_get}
+use Rattle.cartridge_spec.specs.Mounting.{HasList}
 use Rattle.qic_base.specs.Acts.{around}
 use Rattle.cartridge_spec.specs.Table.{Entry}
 use Rattle.cartridge_spec.specs.Volumes.{carrying, volume_length}
@@ -7,7 +8,6 @@ use Rattle.qic_base.specs.Tape.{Tells}
 use Rattle.command_spec.specs.Restore.{pieces_of}
 use Rattle.volume_output.specs.declared.fault.OutputFault.TheVariants as output
 use Rattle.volume_store.specs.Mounting.{StoreView}
-use Rattle.command_laws.specs.StoreMounting.{HasList}
 use Rattle.volume_store.specs.Restoring.{fault_of_output}
 use Rattle.volume_table.specs.Entry.{entry_of}
 use Rattle.volume_store.proofs.Restored.{volume_there, length_there, of_volume, restore_failed, output_told, still_fits}

@@ -1,11 +1,11 @@
 use Rattle.std.proofs.Common.{◌≡◌, ◌-◌, List, length, Ok, Err, false, sym, ap, subst}
+use Rattle.cartridge_spec.specs.Mounting.{HasList}
 use Rattle.qic_base.specs.Acts.{around}
 use Rattle.cartridge_spec.specs.Table.{Entry}
 use Rattle.header_segments.specs.Header.{header_of}
 use Rattle.qic_base.specs.Tape.{Tells}
 use Rattle.segment_mending.specs.declared.fault.ScrubFault.TheVariants as scrub
 use Rattle.volume_store.specs.Mounting.{StoreView}
-use Rattle.command_laws.specs.StoreMounting.{HasList}
 use Rattle.volume_store.proofs.Restored.{still_fits}
 use Rattle.volume_store.proofs.Scrubs.{told_there, scrub_lists}
 use Rattle.volume_store.proofs.store.Store.scrub.Goals as goal
