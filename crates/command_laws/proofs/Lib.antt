@@ -60,6 +60,7 @@ pub mod RestoreAppended
 pub mod RestoreCommand
 pub mod RestoreCounts
 pub mod RestoreEndings
+pub mod RestoreGiven
 pub mod RestoreStanding
 pub mod ScriptActs
 pub mod ScriptAnswered
@@ -108,3 +109,4 @@ pub mod TextMaking
 pub mod TextPrinting
 pub mod TextReadings
 pub mod TextTrimmed
+pub mod TextWords
