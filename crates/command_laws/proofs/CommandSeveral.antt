@@ -19,7 +19,7 @@ use Rattle.command_laws.proofs.MountedHeld.{mounted_open, settled_live, mounted_
 use Rattle.command_laws.proofs.MountedKeeping.{live_kept}
 use Rattle.command_laws.proofs.ScriptAnswered.{answered_behind, answered_between, done_script_stands, none_answered, stopped_script_stands}
 use Rattle.command_laws.proofs.ScriptMachineLaws.{one_outcome as one_script}
-use Rattle.command_laws.proofs.TextCommands.{one_command}
+use Rattle.command_laws.proofs.TextWords.{one_command}
 use Rattle.command_laws.specs.MountedHeld.{IsHeld}
 use Rattle.command_laws.specs.MountedKept.{IsKept, IsOpen}
 use Rattle.command_laws.specs.ScriptStanding.{plain_behind}

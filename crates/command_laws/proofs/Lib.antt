@@ -65,6 +65,7 @@ pub mod RestoreCommand
 pub mod RestoreCounts
 pub mod RestoreEndings
 pub mod RestoreGiven
+pub mod RestoreGivenBack
 pub mod RestorePieces
 pub mod RestoreStanding
 pub mod ScriptActs
@@ -117,3 +118,4 @@ pub mod TextMaking
 pub mod TextPrinting
 pub mod TextReadings
 pub mod TextTrimmed
+pub mod TextWords
