@@ -1,5 +1,5 @@
 -- The plain machine of `append`: what is taken of the input, and the acts that write the volume and its entry (this project's own).
-use Rattle.std.specs.Prelude.{ℕ, List, [], ◌∷◌, length, drop, nat_le, if◌then◌else◌, ◌&&◌, Bool, take, nat_lt, Option, Some, None, ◌+◌, min, is_some, ◌++◌, ◌-◌, ◌≡◌}
+use Rattle.std.specs.Prelude.{ℕ, List, [], ◌∷◌, length, drop, nat_le, if◌then◌else◌, ◌&&◌, Bool, take, nat_lt, Option, Some, None, ◌+◌, min, is_some, ◌++◌, ◌≡◌}
 use Rattle.cartridge_spec.specs.Appending.{part_writes, in_sectors, room, free_segments, new_entry, taken_by, table_writes}
 use Rattle.cartridge_spec.specs.Mounting.{settled}
 use Rattle.cartridge_spec.specs.Settling.{settling_steps}
@@ -82,19 +82,18 @@ most_written have (Some n) = n
 
 -- ---- the acts
 
--- what an append goes by: the words of the map, the list, the last segment, the table's data, and the steps that settle it
+-- what an append goes by: the words of the map, the list, the table's data, and the steps that settle it
 pub record Kept : Type 0 where
   pub words : List ℕ
   pub entries : List Entry
-  pub last : ℕ
   pub table : List (List ℕ)
   pub settling : List Step
 
 abbrev pub room_in : Kept → ℕ
-room_in kept = room kept.words kept.entries kept.last
+room_in kept = room kept.words kept.entries
 
 abbrev pub free_in : Kept → List ℕ
-free_in kept = free_segments kept.words kept.entries kept.last
+free_in kept = free_segments kept.words kept.entries
 
 -- the segments that the bytes of the input fill, where there is room: one act for each
 abbrev pub input_writes : Kept → (promised : Option ℕ) → (input : List ℕ) → List Act
@@ -131,7 +130,7 @@ silently entry = []
 
 -- what an append goes by but for the table
 abbrev pub kept_in : (words : List ℕ) → (entries : List Entry) → Kept
-kept_in words entries = record { words = words; entries = entries; last = length words - 1; table = []; settling = [] }
+kept_in words entries = record { words = words; entries = entries; table = []; settling = [] }
 
 -- what it goes by over a cartridge whose table has these data
 abbrev pub kept_over : Cartridge → (words : List ℕ) → (entries : List Entry) → (table : List (List ℕ)) → Kept
