@@ -54,20 +54,20 @@ is_built() {
         -newer "$program" \( -name '*.rt' -o -name '*.antt' \) -print -quit)" ]
 }
 
-# Makes the folder's sources those of these crates as they stand, and leaves what was proved of them.
+# Makes the sources in a folder those of these crates as they stand, and leaves what was proved of them there.
 copy_sources() {
-    local folder
-    mkdir -p "$room/crates"
-    cp "$top/HANDLES" "$room/HANDLES"
-    needed > "$room/crates.txt"
-    for folder in "$room"/crates/*/; do
-        grep -q "^$(basename "$folder"):" "$room/crates.txt" || rm -rf "$folder"
+    local place=$1 folder crate part
+    mkdir -p "$place/crates"
+    cp "$top/HANDLES" "$place/HANDLES"
+    needed > "$place/crates.txt"
+    for folder in "$place"/crates/*/; do
+        grep -q "^$(basename "$folder"):" "$place/crates.txt" || rm -rf "$folder"
     done
-    for crate in $(cut -d : -f 1 "$room/crates.txt"); do
-        mkdir -p "$room/crates/$crate"
+    for crate in $(cut -d : -f 1 "$place/crates.txt"); do
+        mkdir -p "$place/crates/$crate"
         for part in src specs proofs; do
-            rm -rf "$room/crates/$crate/$part"
-            [ ! -d "$top/crates/$crate/$part" ] || cp -r "$top/crates/$crate/$part" "$room/crates/$crate/"
+            rm -rf "$place/crates/$crate/$part"
+            [ ! -d "$top/crates/$crate/$part" ] || cp -r "$top/crates/$crate/$part" "$place/crates/$crate/"
         done
     done
 }
@@ -76,32 +76,113 @@ lines_of() {
     find "$@" -path '*/out' -prune -o -type f -exec cat {} + | wc -l
 }
 
-# Reads what rt says, and tells how far it is. A crate that was proved before is named, and nothing is said of it. The
-# time to go is that of the lines that are left, by the lines that were proved since it began; it is told once these are a
-# tenth of both.
+# The crates, a line each with the lines of its sources and what it stands on. The first has the longest way to the program, in
+# lines: that of each crate is its own and the longest of those that stand on it.
+by_longest_way() {
+    local crate
+    for crate in $(cut -d : -f 1 "$room/crates.txt"); do
+        echo "$crate $(lines_of "$room/1/crates/$crate")"
+    done | awk '
+        function way(crate,    i, most) {
+            if (crate in known) return known[crate]
+            for (i = 1; i <= count; i++)
+                if ((crates[i], crate) in stands_on && way(crates[i]) > most) most = way(crates[i])
+            return known[crate] = most + lines[crate]
+        }
+        NR == FNR { lines[$1] = $2; next }
+        {
+            sub(":", "", $1)
+            crates[++count] = $1
+            below[$1] = ""
+            for (i = 2; i <= NF; i++) if ($i in lines) { stands_on[$1, $i]; below[$1] = below[$1] " " $i }
+        }
+        END { for (i = 1; i <= count; i++) print way(crates[i]), crates[i], lines[crates[i]] below[crates[i]] }
+    ' - "$room/crates.txt" | sort -k 1,1nr -k 2,2 | cut -d ' ' -f 2-
+}
+
+# Proves one crate in a folder, by so many processors. A library is built as well: the crates above it are proved over it.
+prove() {
+    local place=$1 crate=$2 jobs=$3 how=lib
+    [ "$crate" != tape ] || how=check
+    cd "$room/$place/crates/$crate" && rt "$how" --jobs "$jobs" > "$room/log.$crate" 2>&1
+}
+
+# Gives each of the folders the library that was built in one of them.
+share() {
+    local place=$1 crate=$2 other
+    [ -d "$room/$place/crates/$crate/out/rlib" ] || return 0
+    for ((other = 1; other <= at_once; other++)); do
+        if [ "$other" != "$place" ]; then
+            mkdir -p "$room/$other/crates/$crate/out"
+            rm -rf "$room/$other/crates/$crate/out/rlib"
+            cp -al "$room/$place/crates/$crate/out/rlib" "$room/$other/crates/$crate/out/"
+        fi
+    done
+}
+
+# Proves all crates: as many side by side as there are processors, those with the longest way to the program first. Where fewer
+# are left to begin with than there are processors, the first of them gets those that are over. A check holds the libraries below
+# its crate, so each works in a folder of its own. Prints a line when a crate is done.
+prove_all() {
+    local -A lines=() below=() is_begun=() is_done=() crate_of=() place_of=() jobs_of=()
+    local order=() places=() free=$at_once crate low ready jobs pid status
+    while read -r crate low; do
+        order+=("$crate") lines[$crate]=${low%% *} below[$crate]=${low#"${low%% *}"}
+    done < <(by_longest_way)
+    for ((pid = at_once; pid >= 1; pid--)); do places+=("$pid"); done
+    while [ ${#is_done[@]} -lt ${#order[@]} ]; do
+        ready=()
+        for crate in "${order[@]}"; do
+            [ -z "${is_begun[$crate]-}" ] || continue
+            for low in ${below[$crate]}; do
+                [ -n "${is_done[$low]-}" ] || continue 2
+            done
+            ready+=("$crate")
+        done
+        for crate in "${ready[@]}"; do
+            [ $free -gt 0 ] || break
+            jobs=$((free > ${#ready[@]} ? free - ${#ready[@]} + 1 : 1))
+            prove "${places[-1]}" "$crate" $jobs &
+            crate_of[$!]=$crate place_of[$!]=${places[-1]} jobs_of[$!]=$jobs is_begun[$crate]=1
+            unset 'places[-1]'
+            free=$((free - jobs)) ready=("${ready[@]:1}")
+        done
+        status=0
+        wait -n -p pid "${!crate_of[@]}" || status=$?
+        crate=${crate_of[$pid]}
+        cat "$room/log.$crate" >> "$room/log"
+        if [ $status != 0 ]; then
+            # What is under way is let go on: it is kept.
+            wait
+            return 1
+        fi
+        share "${place_of[$pid]}" "$crate"
+        is_done[$crate]=1
+        places+=("${place_of[$pid]}") free=$((free + jobs_of[$pid]))
+        echo "$crate ${lines[$crate]} $(grep -c '^logic=proved' "$room/log.$crate")"
+        rm -f "$room/log.$crate"
+        unset "crate_of[$pid]"
+    done
+}
+
+# Reads which crates are done, and tells how far it is. Nothing was said of one that was proved before. The time to go is that of
+# the lines that are left, by the lines that were proved since it began; it is told once these are a tenth of both.
 tell() {
-    local crate='' is_new='' count=0 of left lines=0 proved=0 line text shown='' ends='\n'
+    local of left count=0 proved=0 crate lines is_new text shown='' ends='\n'
     of=$(wc -l < "$room/crates.txt")
-    left=$(lines_of "$room/crates")
+    left=$(lines_of "$room/1/crates")
     [ ! -t 2 ] || ends='\r'
     SECONDS=0
-    while IFS= read -r line; do
-        case $line in
-            '== '*)
-                [ -z "$crate" ] || [ -n "$is_new" ] || count=$((count + 1))
-                crate=${line#== } is_new='' lines=0
-                [ "$crate" != summary ] || crate=''
-                [ -z "$crate" ] || lines=$(lines_of "$room/crates/$crate")
-                left=$((left - lines)) ;;
-            logic=proved*) count=$((count + 1)) proved=$((proved + lines)) ;;
-            rt:*) ;;
-            *) is_new=1 ;;
-        esac
+    text="tape: proved 0 of $of crates"
+    while true; do
+        [ "$text" = "$shown" ] || printf "%-70s$ends" "${text/about 0 minutes/less than a minute}" >&2
+        shown=$text
+        read -r crate lines is_new || break
+        count=$((count + 1)) left=$((left - lines))
+        [ "$is_new" = 0 ] || proved=$((proved + lines))
         text="tape: proved $count of $of crates"
         [ $proved = 0 ] || [ $((proved * 10)) -lt $((proved + left)) ] ||
             text="$text, about $((SECONDS * left / proved / 60)) minutes to go"
-        [ "$text" = "$shown" ] || printf "%-70s$ends" "${text/about 0 minutes/less than a minute}" >&2
-        shown=$text
     done
     [ ! -t 2 ] || echo >&2
 }
@@ -113,16 +194,19 @@ build() {
         exit 1
     fi
     echo 'tape: proving and building, which takes long the first time; it may be broken off and started again' >&2
-    copy_sources
     # One crate for each processor, and for each three gigabytes of free memory.
     at_once=$(awk -v most="$(nproc)" '/^MemAvailable:/ { n = int($2 / 3000000); print n < 1 ? 1 : n < most ? n : most }' \
         /proc/meminfo)
-    (cd "$room" && rt all check --jobs "$at_once") 2>&1 | tee "$room/log" | tell || return
+    mkdir -p "$room"
+    needed > "$room/crates.txt"
+    : > "$room/log"
+    for ((place = 1; place <= at_once; place++)); do copy_sources "$room/$place"; done
+    prove_all | tell || return
     # The program was proved; a run without words makes it for this machine's processor, and ends with the usage line and
     # status 2.
-    (cd "$room/crates/tape" && rt run "--cpu=$("$top/bench/processor")" < /dev/null) >> "$room/log" 2>&1 || true
+    (cd "$room/1/crates/tape" && rt run "--cpu=$("$top/bench/processor")" < /dev/null) >> "$room/log" 2>&1 || true
     mkdir -p "$(dirname "$program")"
-    cp "$room/crates/tape/out/tape" "$program"
+    cp "$room/1/crates/tape/out/tape" "$program"
 }
 
 case $#:${1-} in

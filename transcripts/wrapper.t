@@ -76,21 +76,22 @@ The first line tells what is wanting, and which kit has it: the one that the REA
 A build
 -------
 
-The stub says what `rt` does: of a crate that was proved before its name alone. What it runs prints its words.
+The stub says what `rt` does: nothing of a crate that was proved before. What it runs prints its words.
 
   $ cat > stub/rt << 'END'
   > #!/usr/bin/env bash
-  > if [ "$1" = all ]; then
-  >   printf '%s\n' '== kept' 'rt: kept proved'
-  >   for crate in first second tape; do
-  >     printf '%s\n' "== $crate" "fn $crate::one: proved" 'logic=proved functions=1' "rt: $crate proved"
-  >   done
-  >   printf '%s\n' '== summary' '4 passed, 0 failed'
-  > else
-  >   mkdir out
+  > crate=$(basename "$PWD")
+  > case $1:$crate in
+  > lib:kept) ;;
+  > lib:*) sleep 0.5; mkdir -p out/rlib; printf '%s\n' "fn $crate::one: proved" 'logic=proved functions=1' ;;
+  > check:*)
+  >   ls -d ../*/out/rlib
+  >   printf '%s\n' 'logic=proved functions=1' ;;
+  > run:*)
+  >   mkdir -p out
   >   printf '%s\n' '#!/usr/bin/env bash' 'echo "words: $*"' > out/tape
-  >   chmod +x out/tape
-  > fi
+  >   chmod +x out/tape ;;
+  > esac
   > END
   $ chmod +x stub/rt
 
@@ -106,11 +107,17 @@ How long it takes is not told before a tenth of the lines that were to be proved
   tape: proved 2 of 4 crates
   tape: proved 3 of 4 crates, (less than a minute|about [0-9]+ minutes) to go (re)
   tape: proved 4 of 4 crates, less than a minute to go
-  $ ls cache/tape/*/crates
+  $ ls cache/tape/*/1/crates
   first
   kept
   second
   tape
+
+A crate is proved in a folder that has the libraries of those below it, wherever they were built.
+
+  $ grep rlib cache/tape/*/log
+  ../first/out/rlib
+  ../second/out/rlib
 
 Built, it is just called, also without `rt`. The word `help` with others behind it is an image's path.
 

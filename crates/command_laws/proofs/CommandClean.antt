@@ -1,5 +1,5 @@
 -- Header copies that are clean or bare stay so, whatever a command does but to put in a new cartridge or to format one.
-use Rattle.std.proofs.Common.{◌≡◌, ◌⊎◌, ◌&&◌, ◌∙◌, ◌+◌, ◌-◌, ◌<◌, ◌≤◌, ℕ, All, Bool, true, false, cond, drop, append_assoc, List, [], ◌∷◌, ◌++◌, Option, Some, None, IsSomeAnd, arith, ap, inl, inr, length, nat_le, nat_lt, refl, subst, sym}
+use Rattle.std.proofs.Common.{[], ◌≡◌, ◌⊎◌, ◌∙◌, ◌+◌, ◌-◌, ◌<◌, ◌≤◌, ℕ, All, Bool, true, false, cond, drop, append_assoc, List, ◌∷◌, ◌++◌, Option, Some, None, IsSomeAnd, arith, ap, inl, inr, length, nat_le, refl, subst, sym}
 use Rattle.std.proofs.lemmas.Bool.{and_parts, leb-true, le-leb}
 use Rattle.std.proofs.lemmas.List.Elements.{All-weaker}
 use Rattle.std.specs.Prelude.{is_some}
@@ -7,8 +7,7 @@ use Rattle.cartridge_laws.proofs.AppendKeeping.{AreIn, IsKeptBut, in_append, ste
 use Rattle.cartridge_laws.proofs.AppendOrders.{end_least}
 use Rattle.cartridge_laws.proofs.AppendSegments.{carrying_from, room_is}
 use Rattle.cartridge_laws.proofs.ChangeClean.{clean_less, no_header_less}
-use Rattle.cartridge_laws.proofs.ChangeStanding.{marks_read_no_more}
-use Rattle.cartridge_laws.proofs.ChangeViews.{ReadsNoMore, worn_reads_no_more, spoiled_alike}
+use Rattle.cartridge_laws.proofs.ChangeViews.{ReadsNoMore, worn_reads_no_more}
 use Rattle.cartridge_laws.proofs.FormatCopies.{unformatted_from_bare}
 use Rattle.cartridge_laws.proofs.FormatStanding.{same_cells}
 use Rattle.cartridge_laws.proofs.FormatWriting.{effects-some, some_and, some_weaker}
@@ -18,51 +17,48 @@ use Rattle.cartridge_laws.proofs.MountPlaces.{AreSmall, rest_small}
 use Rattle.cartridge_laws.proofs.MountSettles.{settling_settles}
 use Rattle.cartridge_laws.proofs.MountSettling.{settling_small}
 use Rattle.cartridge_laws.specs.Table.{IsSoundList}
-use Rattle.cartridge_spec.specs.Appending.{free_segments, last_end, room, table_writes}
+use Rattle.cartridge_spec.specs.Appending.{last_end, room, table_writes}
 use Rattle.cartridge_spec.specs.Formatting.{HasCleanCopies, HasNoHeader, IsCleanCopy}
 use Rattle.cartridge_spec.specs.Header.{Header}
-use Rattle.cartridge_spec.specs.HeaderAndTable.{IsArea, copy_cells, last_segment}
-use Rattle.cartridge_spec.specs.Mounting.{Mounting, Mounts, settled}
+use Rattle.cartridge_spec.specs.HeaderAndTable.{IsArea, last_segment}
+use Rattle.cartridge_spec.specs.Mounting.{Mounts, settled}
 use Rattle.cartridge_spec.specs.Says.{Written, Zero, with_parity, whole_mask}
 use Rattle.cartridge_spec.specs.Settling.{block_writes, changed_by, settling_places, settling_steps}
 use Rattle.cartridge_spec.specs.Table.{Entry, slot_sector, table_with}
 use Rattle.cartridge_spec.specs.Volumes.{volume_length}
-use Rattle.command_laws.proofs.CommandPlainLaws.{SectorLeaves, plain_leaves}
+use Rattle.command_laws.proofs.CommandPlainLaws.{SectorLeaves, defect_leaves, lose_leaves, protect_leaves, sent_leaves}
 use Rattle.command_laws.proofs.InputActLaws.{input_is_free}
 use Rattle.command_laws.proofs.MadeMadeBytes.{length-made_bytes}
 use Rattle.command_laws.proofs.MadeStops.{sum_in_no_step}
 use Rattle.command_laws.proofs.RestoreCounts.{restores_in_no_step, framed_in_no_step}
 use Rattle.command_laws.proofs.ScriptOutcomes.{replied}
+use Rattle.command_laws.proofs.ScriptStanding.{given_entries, given_steps}
 use Rattle.command_laws.proofs.ScrubApart.{looked_rise}
 use Rattle.command_laws.proofs.ScrubMending.{stopped_scrub}
 use Rattle.command_laws.proofs.ScrubMounted.{clean_copy, mounted_order}
 use Rattle.command_laws.proofs.ScrubStanding.{looks_in_front}
-use Rattle.command_laws.proofs.ScriptStanding.{given_entries, given_steps}
 use Rattle.command_laws.proofs.StoreEnding.{list_more, took_fits}
 use Rattle.command_laws.proofs.StoreTaking.{both_true}
-use Rattle.command_laws.specs.CommandLaws.{CopiesStayClean, CopiesStayBare}
 use Rattle.command_laws.specs.MountedListed.{listed_behind}
-use Rattle.command_laws.specs.ScrubMended.{IsBeingMended}
 use Rattle.command_spec.specs.Append.{Appends, Kept, Taking, Fits, TooLong, TooShort, append_acts, entry_acts, entry_for, free_in, has_promised_room, input_acts, input_writes, kept_on, kept_over, most_written, room_in, silently, taking}
+use Rattle.command_spec.specs.Defect.{DefectOutcome}
 use Rattle.command_spec.specs.Format.{FormatOutcome}
 use Rattle.command_spec.specs.Generator.{made_bytes, made_length}
-use Rattle.command_spec.specs.Info.{telling}
 use Rattle.command_spec.specs.Input.{Item, Ending, AtEnd, AtStop, AtFault}
 use Rattle.command_spec.specs.Lines.{reply_behind}
-use Rattle.command_spec.specs.List.{listing}
-use Rattle.command_spec.specs.Machine.{Yields}
-use Rattle.command_spec.specs.Make.{Making, MakeStep, AppendMade, WearSector, ScrubAll, SumVolume, StepDoes, Runs, Answer, after_item, made_acts, made_answer, made_entry, made_name, making}
-use Rattle.command_spec.specs.Outcome.{CommandOutcome, Going, Opened, OpenOutcome, WritableOutcome, Printing, Shows, settling_act}
-use Rattle.command_spec.specs.Restore.{Gives, pieces, framed, GivingEnd, Restored, LostIn, MismatchIn}
-use Rattle.command_spec.specs.Script.{reply, refusal_line, restored_line, Scripting, ScriptRun, Did, Meeting, Refuses, Finds, Meets, acts_on, append_did, taken_as, given_as, LineDoes, acts_of, ItemsDo, EndDoes, cartridge_behind, entries_behind, place_behind}
-use Rattle.command_spec.specs.Scrub.{Mends, Scrubs, Looked, looked_at, whole_segment}
-use Rattle.command_spec.specs.Volumes.{KeepsCopies}
+use Rattle.command_spec.specs.Lose.{LoseOutcome}
+use Rattle.command_spec.specs.Make.{Making, MakeStep, AppendMade, WearSector, ScrubAll, SumVolume, StepDoes, Runs, Answer, after_item, made_acts, made_answer, made_name, making}
+use Rattle.command_spec.specs.Outcome.{CommandOutcome, Going, OpenOutcome, WritableOutcome, Printing, Shows, settling_act}
+use Rattle.command_spec.specs.Protect.{ProtectOutcome}
+use Rattle.command_spec.specs.Pulses.{SentOutcome}
+use Rattle.command_spec.specs.Restore.{Gives, pieces, framed}
+use Rattle.command_spec.specs.Script.{reply, refusal_line, Scripting, ScriptRun, Did, Meeting, Refuses, Finds, acts_on, append_did, taken_as, LineDoes, acts_of, ItemsDo, EndDoes, cartridge_behind, entries_behind, place_behind}
+use Rattle.command_spec.specs.Scrub.{Mends, Scrubs, Looked, looked_at}
 use Rattle.command_spec.specs.declared.line.Line.{Line}
-use Rattle.command_spec.specs.declared.words.Words.{Words}
 use Rattle.qic_base.proofs.Joins.{steps_of-append}
 use Rattle.qic_base.proofs.Steps.{Torn-all, Torn-append}
 use Rattle.qic_base.specs.Acts.{Act, steps_of, text_of}
-use Rattle.qic_base.specs.Cartridge.{Cartridge, view_at}
+use Rattle.qic_base.specs.Cartridge.{Cartridge}
 use Rattle.qic_base.specs.Step.{Step, SetProtected, SetReferenced, Spoil, Wear, changed, effects}
 use Rattle.qic_base.specs.Stop.{Torn}
 use Rattle.qic_base.specs.declared.tape.SectorView.{SectorView}
@@ -70,13 +66,12 @@ use Rattle.cartridge_spec.specs.Mounting as mounting
 use Rattle.command_spec.specs.declared.refusal.Refusal.TheVariants as why
 use Rattle.command_spec.specs.Make as made
 use Rattle.command_spec.specs.declared.line.Line.TheVariants as line
-use Rattle.command_spec.specs.declared.words.Words.TheVariants as words
 
 -- ---- what a stop leaves
 
 module _ (P : Cartridge → Type 0) where
   -- each cartridge that a stop in these steps leaves is so
-  abbrev Leaves : Cartridge → List Step → Type 0
+  abbrev pub Leaves : Cartridge → List Step → Type 0
   Leaves c steps = (left : Option Cartridge) → Torn steps (Some c) left → IsSomeAnd left P
 
   none_leaves : (c : Cartridge) (steps : List Step) → P c → steps ≡ [] → Leaves c steps
@@ -102,7 +97,7 @@ module _ (P : Cartridge → Type 0) where
 
   -- ---- commands
 
-  abbrev GoesLeaving : Going → Type 0
+  abbrev pub GoesLeaving : Going → Type 0
   GoesLeaving goes =
       (c : Cartridge) (header : Header) (ws : List ℕ) (table : List (List ℕ)) (entries : List Entry) (outcome : CommandOutcome) →
       Mounts c (mounting.Mounted header ws table entries) → goes c header ws table entries outcome → P c → Leaves c (steps_of outcome.acts)
@@ -110,18 +105,18 @@ module _ (P : Cartridge → Type 0) where
   refused_leaves : (c : Cartridge) (a b : CommandOutcome) → a ≡ b → steps_of b.acts ≡ [] → P c → Leaves c (steps_of a.acts)
   refused_leaves c a b same none holds = none_leaves c (steps_of a.acts) holds (ap (λ (o : CommandOutcome). steps_of o.acts) same ∙ none)
 
-  open_leaves : (goes : Going) → GoesLeaving goes → (c : Cartridge) (outcome : CommandOutcome) → OpenOutcome goes (Some c) outcome → P c → Leaves c (steps_of outcome.acts)
+  pub open_leaves : (goes : Going) → GoesLeaving goes → (c : Cartridge) (outcome : CommandOutcome) → OpenOutcome goes (Some c) outcome → P c → Leaves c (steps_of outcome.acts)
   open_leaves goes each c outcome (mounting.NotFormatted, mounts, is) holds = refused_leaves c outcome _ is refl holds
   open_leaves goes each c outcome (mounting.Foreign fault, mounts, is) holds = refused_leaves c outcome _ is refl holds
   open_leaves goes each c outcome (mounting.TableLost lost, mounts, is) holds = refused_leaves c outcome _ is refl holds
   open_leaves goes each c outcome (mounting.TableMismatch, mounts, is) holds = refused_leaves c outcome _ is refl holds
   open_leaves goes each c outcome (mounting.Mounted header ws table entries, mounts, is) holds = each c header ws table entries outcome mounts is holds
 
-  writable_leaves : (goes : Going) → GoesLeaving goes → (c : Cartridge) (outcome : CommandOutcome) → WritableOutcome goes (Some c) outcome → P c → Leaves c (steps_of outcome.acts)
+  pub writable_leaves : (goes : Going) → GoesLeaving goes → (c : Cartridge) (outcome : CommandOutcome) → WritableOutcome goes (Some c) outcome → P c → Leaves c (steps_of outcome.acts)
   writable_leaves goes each c outcome (inl is) holds = refused_leaves c outcome _ is.1 refl holds
   writable_leaves goes each c outcome (inr is) holds = open_leaves goes each c outcome is.1 holds
 
-  format_leaves : (label : List ℕ) (date : ℕ) (c : Cartridge) (outcome : CommandOutcome) → FormatOutcome label date (Some c) outcome → c.info.protected ≡ true → P c →
+  pub format_leaves : (label : List ℕ) (date : ℕ) (c : Cartridge) (outcome : CommandOutcome) → FormatOutcome label date (Some c) outcome → c.info.protected ≡ true → P c →
       Leaves c (steps_of outcome.acts)
   format_leaves label date c outcome (inl is) locked holds = refused_leaves c outcome _ is.1 refl holds
   format_leaves label date c outcome (inr (inl is)) locked holds = let free = is.0 in absurd (cc)
@@ -145,46 +140,40 @@ module _ (P : Cartridge → Type 0) where
   trains_leave c left before behind (inl is) = some_and P c left before is
   trains_leave c left before behind (inr is) = some_and P (changed SetReferenced c) left behind is
 
+  -- one that changes a sector or a mark alone
+  pub defect_leaving : (segment sector : ℕ) (c : Cartridge) (outcome : CommandOutcome) → DefectOutcome segment sector (Some c) outcome → P c → P (changed (Spoil segment sector) c) →
+      Leaves c (steps_of outcome.acts)
+  defect_leaving segment sector c outcome plain before behind left torn =
+      sector_leaves (Spoil segment sector) segment sector c left before behind (defect_leaves segment sector (Some c) left outcome plain torn)
+
+  pub lose_leaving : (segment sector : ℕ) (c : Cartridge) (outcome : CommandOutcome) → LoseOutcome segment sector (Some c) outcome → P c → P (changed (Wear segment sector) c) →
+      Leaves c (steps_of outcome.acts)
+  lose_leaving segment sector c outcome plain before behind left torn =
+      sector_leaves (Wear segment sector) segment sector c left before behind (lose_leaves segment sector (Some c) left outcome plain torn)
+
+  pub protect_leaving : (on : Bool) (c : Cartridge) (outcome : CommandOutcome) → ProtectOutcome on (Some c) outcome → P c → P (changed (SetProtected on) c) → Leaves c (steps_of outcome.acts)
+  protect_leaving on c outcome plain before behind left torn = mark_leaves on c left before behind (protect_leaves on (Some c) left outcome plain torn)
+
+  pub sent_leaving : (c : Cartridge) (input : List ℕ) (outcome : CommandOutcome) → SentOutcome (Some c) input outcome → P c → P (changed SetReferenced c) → Leaves c (steps_of outcome.acts)
+  sent_leaving c input outcome plain before behind left torn = trains_leave c left before behind (sent_leaves (Some c) left input outcome plain torn)
+
 -- ---- bare copies
 
+pub bare_from_less : (c d : Cartridge) → ReadsNoMore c d → HasNoHeader c → HasNoHeader d
+bare_from_less c d less bare = no_header_less c d less bare
+
 -- a cartridge with no header is not mounted
-bare_goes : (goes : Going) → GoesLeaving HasNoHeader goes
+pub bare_goes : (goes : Going) → GoesLeaving HasNoHeader goes
 bare_goes goes c header ws table entries outcome mounts is bare =
     let same : mounting.Mounted header ws table entries ≡ mounting.NotFormatted =
     mounts_is_function c (mounting.Mounted header ws table entries) mounting.NotFormatted mounts (unformatted_from_bare c bare) in
     absurd (cc)
 
-bare_open : (goes : Going) (c : Cartridge) (outcome : CommandOutcome) → OpenOutcome goes (Some c) outcome → HasNoHeader c → Leaves HasNoHeader c (steps_of outcome.acts)
+pub bare_open : (goes : Going) (c : Cartridge) (outcome : CommandOutcome) → OpenOutcome goes (Some c) outcome → HasNoHeader c → Leaves HasNoHeader c (steps_of outcome.acts)
 bare_open goes c outcome is bare = open_leaves HasNoHeader goes (bare_goes goes) c outcome is bare
 
-bare_writable : (goes : Going) (c : Cartridge) (outcome : CommandOutcome) → WritableOutcome goes (Some c) outcome → HasNoHeader c → Leaves HasNoHeader c (steps_of outcome.acts)
+pub bare_writable : (goes : Going) (c : Cartridge) (outcome : CommandOutcome) → WritableOutcome goes (Some c) outcome → HasNoHeader c → Leaves HasNoHeader c (steps_of outcome.acts)
 bare_writable goes c outcome is bare = writable_leaves HasNoHeader goes (bare_goes goes) c outcome is bare
-
-pub copies_stay_bare : CopiesStayBare
-copies_stay_bare (words.New segments) c input outcome left keeps plain bare torn = absurd keeps
-copies_stay_bare (words.Defect segment sector) c input outcome left keeps plain bare torn =
-    sector_leaves HasNoHeader (Spoil segment sector) segment sector c left bare
-    (no_header_less c (changed (Spoil segment sector) c) (spoiled_alike c segment sector).no_more bare)
-    (plain_leaves (words.Defect segment sector) (Some c) left input outcome plain torn)
-copies_stay_bare (words.Lose segment sector) c input outcome left keeps plain bare torn =
-    sector_leaves HasNoHeader (Wear segment sector) segment sector c left bare
-    (no_header_less c (changed (Wear segment sector) c) (worn_reads_no_more c segment sector) bare)
-    (plain_leaves (words.Lose segment sector) (Some c) left input outcome plain torn)
-copies_stay_bare (words.Protect on) c input outcome left keeps plain bare torn =
-    mark_leaves HasNoHeader on c left bare
-    (no_header_less c (changed (SetProtected on) c) (marks_read_no_more c (changed (SetProtected on) c) refl) bare)
-    (plain_leaves (words.Protect on) (Some c) left input outcome plain torn)
-copies_stay_bare words.List c input outcome left keeps plain bare torn = bare_open (Shows listing) c outcome plain bare left torn
-copies_stay_bare (words.Format label date) c input outcome left keeps plain bare torn = format_leaves HasNoHeader label date c outcome plain keeps bare left torn
-copies_stay_bare words.Info c input outcome left keeps plain bare torn = bare_open (Shows telling) c outcome plain bare left torn
-copies_stay_bare words.Pulses c input outcome left keeps plain bare torn =
-    trains_leave HasNoHeader c left bare (no_header_less c (changed SetReferenced c) (marks_read_no_more c (changed SetReferenced c) refl) bare)
-    (plain_leaves words.Pulses (Some c) left input outcome plain torn)
-copies_stay_bare (words.Append name date) c input outcome left keeps plain bare torn = bare_writable (Appends name date input) c outcome plain bare left torn
-copies_stay_bare (words.Restore number) c input outcome left keeps plain bare torn = bare_open (Gives number) c outcome plain bare left torn
-copies_stay_bare words.Scrub c input outcome left keeps plain bare torn = bare_writable Mends c outcome plain bare left torn
-copies_stay_bare words.Script c input outcome left keeps plain bare torn = bare_open (Scripting input) c outcome plain bare left torn
-copies_stay_bare (words.Make seed count) c input outcome left keeps plain bare torn = bare_writable (Making seed count) c outcome plain bare left torn
 
 -- ---- writes behind the header copies
 
@@ -332,10 +321,10 @@ step_order seed c ws entries (SumVolume number) acts order does = order
 -- ---- clean copies
 
 module _ (area : List (List ℕ)) (is_area : IsArea area) where
-  abbrev Clean : Cartridge → Type 0
+  abbrev pub Clean : Cartridge → Type 0
   Clean d = HasCleanCopies d area
 
-  clean_from_less : (c d : Cartridge) → ReadsNoMore c d → Clean c → Clean d
+  pub clean_from_less : (c d : Cartridge) → ReadsNoMore c d → Clean c → Clean d
   clean_from_less c d less clean = record { first = clean_less c d 0 area less clean.first; second = clean_less c d 1 area less clean.second }
 
   -- steps behind the header copies leave them
@@ -387,22 +376,22 @@ module _ (area : List (List ℕ)) (is_area : IsArea area) where
   by_outcome : (c : Cartridge) (a b : CommandOutcome) → a ≡ b → Leaves Clean c (steps_of b.acts) → Leaves Clean c (steps_of a.acts)
   by_outcome c a b same leaves = leaves_by Clean c (steps_of a.acts) (steps_of b.acts) (ap (λ (o : CommandOutcome). steps_of o.acts) same) leaves
 
-  shows_leave : (prints : Printing) → GoesLeaving Clean (Shows prints)
+  pub shows_leave : (prints : Printing) → GoesLeaving Clean (Shows prints)
   shows_leave prints c header ws table entries outcome mounts is clean = by_outcome c outcome _ is (opening_leaves table c clean)
 
-  gives_leave : (number : ℕ) → GoesLeaving Clean (Gives number)
+  pub gives_leave : (number : ℕ) → GoesLeaving Clean (Gives number)
   gives_leave number c header ws table entries outcome mounts (inl is) clean = by_outcome c outcome _ is.1 (opening_leaves table c clean)
   gives_leave number c header ws table entries outcome mounts (inr found) clean =
       by_outcome c outcome _ found.is (settled_leaves c header ws table entries found.acts mounts clean (λ still.
       none_leaves Clean (settled table c) (steps_of found.acts) still
       (restores_in_no_step (settled table c) ws (pieces ws found.entry) found.acts found.ending found.restores)))
 
-  mends_leave : GoesLeaving Clean Mends
+  pub mends_leave : GoesLeaving Clean Mends
   mends_leave c header ws table entries outcome mounts found clean =
       by_outcome c outcome _ found.is (settled_leaves c header ws table entries found.acts mounts clean (λ still.
       scrub_leaves (settled table c) ws entries (last_segment c) found.acts (mounted_order c header ws table entries mounts) found.scrubs still))
 
-  appends_leave : (name : List ℕ) (date : ℕ) (input : List ℕ) → GoesLeaving Clean (Appends name date input)
+  pub appends_leave : (name : List ℕ) (date : ℕ) (input : List ℕ) → GoesLeaving Clean (Appends name date input)
   appends_leave name date input c header ws table entries outcome mounts is clean =
       let kept : Kept = kept_on c ws table entries in
       let reply : Entry → List ℕ = reply_behind (length entries) in
@@ -478,7 +467,7 @@ module _ (area : List (List ℕ)) (is_area : IsArea area) where
       (items_leave d ws did.entries items dids rest ending last (line_order c ws entries item.line item.bytes did order done.0) done.1 ends
       (leaves_done Clean c (steps_of did.acts) first)))
 
-  scripting_leaves : (input : List ℕ) → GoesLeaving Clean (Scripting input)
+  pub scripting_leaves : (input : List ℕ) → GoesLeaving Clean (Scripting input)
   scripting_leaves input c header ws table entries outcome mounts found clean =
       let does = found.does in
       by_outcome c outcome _ found.is (settled_leaves c header ws table entries found.came.acts mounts clean (λ still.
@@ -516,41 +505,7 @@ module _ (area : List (List ℕ)) (is_area : IsArea area) where
       (runs_leave seed (changed_by (steps_of first) c) ws (after_item seed ws entries item) items rest answer (step_order seed c ws entries item first order does) runs
       (leaves_done Clean c (steps_of first) now)))
 
-  making_leaves : (seed count : ℕ) → GoesLeaving Clean (Making seed count)
+  pub making_leaves : (seed count : ℕ) → GoesLeaving Clean (Making seed count)
   making_leaves seed count c header ws table entries outcome mounts found clean =
       by_outcome c outcome _ found.is (settled_leaves c header ws table entries found.acts mounts clean (λ still.
       runs_leave seed (settled table c) ws entries (making seed count ws entries) found.acts found.answer (map_order c header ws table entries mounts) found.makes still))
-
-  -- ---- every command
-
-  clean_command : (command : Words) (c : Cartridge) (input : List ℕ) (outcome : CommandOutcome) → KeepsCopies command c → Yields command (Some c) input outcome → Clean c →
-      Leaves Clean c (steps_of outcome.acts)
-  clean_command (words.New segments) c input outcome keeps plain clean left torn = absurd keeps
-  clean_command (words.Defect segment sector) c input outcome keeps plain clean left torn =
-      sector_leaves Clean (Spoil segment sector) segment sector c left clean
-      (clean_from_less c (changed (Spoil segment sector) c) (spoiled_alike c segment sector).no_more clean)
-      (plain_leaves (words.Defect segment sector) (Some c) left input outcome plain torn)
-  clean_command (words.Lose segment sector) c input outcome keeps plain clean left torn =
-      sector_leaves Clean (Wear segment sector) segment sector c left clean
-      (clean_from_less c (changed (Wear segment sector) c) (worn_reads_no_more c segment sector) clean)
-      (plain_leaves (words.Lose segment sector) (Some c) left input outcome plain torn)
-  clean_command (words.Protect on) c input outcome keeps plain clean left torn =
-      mark_leaves Clean on c left clean
-      (clean_from_less c (changed (SetProtected on) c) (marks_read_no_more c (changed (SetProtected on) c) refl) clean)
-      (plain_leaves (words.Protect on) (Some c) left input outcome plain torn)
-  clean_command words.List c input outcome keeps plain clean left torn = open_leaves Clean (Shows listing) (shows_leave listing) c outcome plain clean left torn
-  clean_command (words.Format label date) c input outcome keeps plain clean left torn = format_leaves Clean label date c outcome plain keeps clean left torn
-  clean_command words.Info c input outcome keeps plain clean left torn = open_leaves Clean (Shows telling) (shows_leave telling) c outcome plain clean left torn
-  clean_command words.Pulses c input outcome keeps plain clean left torn =
-      trains_leave Clean c left clean (clean_from_less c (changed SetReferenced c) (marks_read_no_more c (changed SetReferenced c) refl) clean)
-      (plain_leaves words.Pulses (Some c) left input outcome plain torn)
-  clean_command (words.Append name date) c input outcome keeps plain clean left torn =
-      writable_leaves Clean (Appends name date input) (appends_leave name date input) c outcome plain clean left torn
-  clean_command (words.Restore number) c input outcome keeps plain clean left torn = open_leaves Clean (Gives number) (gives_leave number) c outcome plain clean left torn
-  clean_command words.Scrub c input outcome keeps plain clean left torn = writable_leaves Clean Mends mends_leave c outcome plain clean left torn
-  clean_command words.Script c input outcome keeps plain clean left torn = open_leaves Clean (Scripting input) (scripting_leaves input) c outcome plain clean left torn
-  clean_command (words.Make seed count) c input outcome keeps plain clean left torn =
-      writable_leaves Clean (Making seed count) (making_leaves seed count) c outcome plain clean left torn
-
-pub copies_stay_clean : CopiesStayClean
-copies_stay_clean command c input outcome area left keeps plain is_area clean torn = clean_command area is_area command c input outcome keeps plain clean left torn

@@ -1,5 +1,5 @@
 -- A command is carried out where all is there that it needs.
-use Rattle.std.proofs.Common.{◌≡◌, Some, subst, inl, inr, ℕ, true, ap, List, ◌+◌, Bool, cond, length, min, ◌∙◌, ◌≤◌, ◌⊎◌, Option, None}
+use Rattle.std.proofs.Common.{IsSomeAnd, ◌≡◌, Some, subst, inl, inr, ℕ, true, ap, List, ◌+◌, Bool, cond, length, min, ◌∙◌, ◌≤◌, ◌⊎◌, Option, None}
 use Rattle.cartridge_laws.proofs.FreshFront.{first_defect_is_none}
 use Rattle.cartridge_laws.proofs.MountOnce.{mounts_is_function}
 use Rattle.cartridge_laws.proofs.MountStanding.{standing_mounts}
@@ -9,20 +9,22 @@ use Rattle.cartridge_spec.specs.Volumes.{Plain, entries_of}
 use Rattle.command_laws.proofs.CommandGivenBack.{given, given_whole}
 use Rattle.command_laws.proofs.MadeComplete.{made_where_there_is_room}
 use Rattle.command_laws.proofs.MountedHeld.{mounted_open}
-use Rattle.command_laws.specs.CommandLaws.{DoneWhereAllIsThere}
 use Rattle.command_spec.specs.Append.{room_in, Appends, AppendOutcome, kept_on}
-use Rattle.command_spec.specs.Complete.{ReadsAs, IsUnprotected, CanTake, CanGive, CanMake, IsOfTrains, IsOfLines}
+use Rattle.command_spec.specs.AppendCommand.{CanTake}
+use Rattle.command_spec.specs.Complete.{ReadsAs, IsUnprotected}
 use Rattle.command_spec.specs.Defect.{DefectOutcome}
 use Rattle.command_spec.specs.Format.{FormatOutcome}
-use Rattle.command_spec.specs.Info.{telling}
 use Rattle.command_spec.specs.Input.{Ending, AtEnd, AtStop, IsPulse, IsPulses, Item, IsItem, IsScript}
-use Rattle.command_spec.specs.List.{listing}
 use Rattle.command_spec.specs.Lose.{LoseOutcome}
 use Rattle.command_spec.specs.Make.{Making, MakeOutcome, make_status}
+use Rattle.command_spec.specs.MakeCommand.{CanMake}
 use Rattle.command_spec.specs.Outcome.{Going, CommandOutcome, Opened, OpenOutcome, WritableOutcome, HasPlace, Printing, Shows}
 use Rattle.command_spec.specs.Pulses.{SentOutcome, sent_status}
+use Rattle.command_spec.specs.PulsesCommand.{IsOfTrains}
 use Rattle.command_spec.specs.Restore.{RestoreOutcome}
+use Rattle.command_spec.specs.RestoreCommand.{CanGive}
 use Rattle.command_spec.specs.Script.{Scripting, ScriptOutcome, script_status}
+use Rattle.command_spec.specs.ScriptCommand.{IsOfLines}
 use Rattle.command_spec.specs.Scrub.{Mends, ScrubOutcome}
 use Rattle.command_spec.specs.declared.status.Status.{Status}
 use Rattle.qic_base.specs.Cartridge.{Cartridge, view_at, IsCartridge}
@@ -31,7 +33,6 @@ use Rattle.command_spec.specs.declared.status.Status.TheVariants as status
 use Rattle.command_spec.specs.Pulses as pulses
 use Rattle.command_laws.proofs.TextInputs as inputs
 use Rattle.command_spec.specs.Script as scripts
-use Rattle.command_spec.specs.declared.words.Words.TheVariants as words
 
 -- ---- a cartridge that is mounted
 
@@ -51,22 +52,27 @@ is_opened : (goes : Going) (c : Cartridge) (outcome : CommandOutcome) → IsUnpr
 is_opened goes c outcome free (inl (locked, is)) = absurd (cc)
 is_opened goes c outcome free (inr (unlocked, opened)) = opened
 
-abbrev status_of : CommandOutcome → Status
+abbrev pub status_of : CommandOutcome → Status
 status_of outcome = outcome.status
+
+-- over a drive that holds a cartridge that is so
+pub where_some : (P : Cartridge → Type 0) (held : Option Cartridge) (R : Option Cartridge → Type 0) → ((c : Cartridge) → P c → R (Some c)) → IsSomeAnd held P → R held
+where_some P None R each none = absurd none
+where_some P (Some c) R each holds = each c holds
 
 -- ---- commands that change one thing
 
-defect_done : (segment sector : ℕ) (c : Cartridge) (outcome : CommandOutcome) → HasPlace c segment sector → spoil_answer (view_at c segment sector) ≡ true →
+pub defect_done : (segment sector : ℕ) (c : Cartridge) (outcome : CommandOutcome) → HasPlace c segment sector → spoil_answer (view_at c segment sector) ≡ true →
     DefectOutcome segment sector (Some c) outcome → outcome.status ≡ status.Done
 defect_done segment sector c outcome place blank (inl no_place) = absurd (no_place.0 place)
 defect_done segment sector c outcome place blank (inr (inl filled)) = let p = filled.1 in absurd (cc)
 defect_done segment sector c outcome place blank (inr (inr done)) = ap status_of done.2
 
-lose_done : (segment sector : ℕ) (c : Cartridge) (outcome : CommandOutcome) → HasPlace c segment sector → LoseOutcome segment sector (Some c) outcome → outcome.status ≡ status.Done
+pub lose_done : (segment sector : ℕ) (c : Cartridge) (outcome : CommandOutcome) → HasPlace c segment sector → LoseOutcome segment sector (Some c) outcome → outcome.status ≡ status.Done
 lose_done segment sector c outcome place (inl no_place) = absurd (no_place.0 place)
 lose_done segment sector c outcome place (inr done) = ap status_of done.1
 
-format_done : (label : List ℕ) (date : ℕ) (c : Cartridge) (outcome : CommandOutcome) → IsUnprotected c → HasNoDefectInFront c → FormatOutcome label date (Some c) outcome → outcome.status ≡ status.Done
+pub format_done : (label : List ℕ) (date : ℕ) (c : Cartridge) (outcome : CommandOutcome) → IsUnprotected c → HasNoDefectInFront c → FormatOutcome label date (Some c) outcome → outcome.status ≡ status.Done
 format_done label date c outcome free none (inl (locked, is)) = absurd (cc)
 format_done label date c outcome free none (inr (inl (unlocked, (segment, first, is)))) =
     absurd (first_defect_is_none c (record { segment = segment; is_first = first }) none)
@@ -74,10 +80,10 @@ format_done label date c outcome free none (inr (inr (unlocked, clear, (map, (ar
 
 -- ---- commands that mount
 
-shows_done : (prints : Printing) (c : Cartridge) (plain : Plain) (outcome : CommandOutcome) → ReadsAs c plain → OpenOutcome (Shows prints) (Some c) outcome → outcome.status ≡ status.Done
+pub shows_done : (prints : Printing) (c : Cartridge) (plain : Plain) (outcome : CommandOutcome) → ReadsAs c plain → OpenOutcome (Shows prints) (Some c) outcome → outcome.status ≡ status.Done
 shows_done prints c plain outcome there opened = ap status_of (goes_on (Shows prints) c plain outcome there opened).did
 
-append_goes : (name : List ℕ) (date : ℕ) (input : List ℕ) (c : Cartridge) (outcome : CommandOutcome) → IsUnprotected c → CanTake c input → AppendOutcome name date (Some c) input outcome → outcome.status ≡ status.Done
+pub append_goes : (name : List ℕ) (date : ℕ) (input : List ℕ) (c : Cartridge) (outcome : CommandOutcome) → IsUnprotected c → CanTake c input → AppendOutcome name date (Some c) input outcome → outcome.status ≡ status.Done
 append_goes name date input c outcome free can does =
     let goes : Going = Appends name date input in
     let plain : Plain = can.plain in
@@ -85,16 +91,16 @@ append_goes name date input c outcome free can does =
     let have : ℕ = room_in (kept_on c plain.words plain.table_area (entries_of plain)) in
     ap status_of on.did ∙ ap (λ (b : Bool). cond b status.Done (status.Full (min (length input) (have + 1)) have)) can.room
 
-restore_goes : (number : ℕ) (c : Cartridge) (outcome : CommandOutcome) → CanGive c number → RestoreOutcome number (Some c) outcome → outcome.status ≡ status.Done
+pub restore_goes : (number : ℕ) (c : Cartridge) (outcome : CommandOutcome) → CanGive c number → RestoreOutcome number (Some c) outcome → outcome.status ≡ status.Done
 restore_goes number c outcome can does =
     (given_whole number c can.plain can.volume outcome can.has (given number c can.plain can.volume outcome can.has does) can.few).0
 
-scrub_goes : (c : Cartridge) (plain : Plain) (outcome : CommandOutcome) → IsUnprotected c → ReadsAs c plain → ScrubOutcome (Some c) outcome → outcome.status ≡ status.Done
+pub scrub_goes : (c : Cartridge) (plain : Plain) (outcome : CommandOutcome) → IsUnprotected c → ReadsAs c plain → ScrubOutcome (Some c) outcome → outcome.status ≡ status.Done
 scrub_goes c plain outcome free there does =
     let on = goes_on Mends c plain outcome there (is_opened Mends c outcome free does) in
     let did = on.did in ap status_of did.is
 
-make_goes : (seed count : ℕ) (c : Cartridge) (outcome : CommandOutcome) → count ≤ 200 → IsCartridge c → IsUnprotected c → CanMake c seed count → MakeOutcome seed count (Some c) outcome → outcome.status ≡ status.Done
+pub make_goes : (seed count : ℕ) (c : Cartridge) (outcome : CommandOutcome) → count ≤ 200 → IsCartridge c → IsUnprotected c → CanMake c seed count → MakeOutcome seed count (Some c) outcome → outcome.status ≡ status.Done
 make_goes seed count c outcome small whole free can does =
     let plain : Plain = can.plain in
     let on = goes_on (Making seed count) c plain outcome can.mounts (is_opened (Making seed count) c outcome free does) in
@@ -105,7 +111,7 @@ make_goes seed count c outcome small whole free can does =
 
 -- ---- commands that read lines
 
-pulses_go : (held : Option Cartridge) (input : List ℕ) (outcome : CommandOutcome) → IsOfTrains input → SentOutcome held input outcome → outcome.status ≡ status.Done
+pub pulses_go : (held : Option Cartridge) (input : List ℕ) (outcome : CommandOutcome) → IsOfTrains input → SentOutcome held input outcome → outcome.status ≡ status.Done
 pulses_go held input outcome (trains, reads) (came, plain, is) =
     ap status_of is ∙ ap (λ (o : pulses.PulseRun). sent_status o.answer) plain.comes ∙ by_ending reads
   where
@@ -115,7 +121,7 @@ pulses_go held input outcome (trains, reads) (came, plain, is) =
     by_ending (inr read) =
         ap (λ (e : Ending). sent_status (pulses.pulses_answer e)) (inputs.one_reading IsPulse inputs.pulses 1 0 input plain.trains trains plain.ending AtStop plain.read read).1
 
-script_goes : (input : List ℕ) (c : Cartridge) (plain : Plain) (outcome : CommandOutcome) → ReadsAs c plain → IsOfLines input → ScriptOutcome (Some c) input outcome → outcome.status ≡ status.Done
+pub script_goes : (input : List ℕ) (c : Cartridge) (plain : Plain) (outcome : CommandOutcome) → ReadsAs c plain → IsOfLines input → ScriptOutcome (Some c) input outcome → outcome.status ≡ status.Done
 script_goes input c plain outcome there (items, reads) does =
     let on = goes_on (Scripting input) c plain outcome there does in
     let did = on.did in
@@ -128,32 +134,3 @@ script_goes input c plain outcome there (items, reads) does =
         ap (λ (e : Ending). script_status (scripts.script_answer e)) (inputs.one_reading IsItem inputs.items 1 0 input found items ending AtEnd known read).1
     by_ending found ending known (inr read) =
         ap (λ (e : Ending). script_status (scripts.script_answer e)) (inputs.one_reading IsItem inputs.items 1 0 input found items ending AtStop known read).1
-
--- ---- every command
-
-pub done_where_all_is_there : DoneWhereAllIsThere
-done_where_all_is_there (words.New segments) held input outcome whole values can does = ap status_of does
-done_where_all_is_there (words.Defect segment sector) None input outcome whole values can does = absurd can
-done_where_all_is_there (words.Defect segment sector) (Some c) input outcome whole values can does = defect_done segment sector c outcome can.0 can.1 does
-done_where_all_is_there (words.Lose segment sector) None input outcome whole values can does = absurd can
-done_where_all_is_there (words.Lose segment sector) (Some c) input outcome whole values can does = lose_done segment sector c outcome can does
-done_where_all_is_there (words.Protect on) None input outcome whole values can does = absurd can
-done_where_all_is_there (words.Protect on) (Some c) input outcome whole values can does = ap status_of does
-done_where_all_is_there (words.Format label date) None input outcome whole values can does = absurd can
-done_where_all_is_there (words.Format label date) (Some c) input outcome whole values can does = format_done label date c outcome can.0 can.1 does
-done_where_all_is_there words.Info None input outcome whole values can does = absurd can
-done_where_all_is_there words.Info (Some c) input outcome whole values can does = shows_done telling c can.0 outcome can.1 does
-done_where_all_is_there words.List None input outcome whole values can does = absurd can
-done_where_all_is_there words.List (Some c) input outcome whole values can does = shows_done listing c can.0 outcome can.1 does
-done_where_all_is_there (words.Append name date) None input outcome whole values can does = absurd can
-done_where_all_is_there (words.Append name date) (Some c) input outcome whole values can does = append_goes name date input c outcome can.0 can.1 does
-done_where_all_is_there (words.Restore number) None input outcome whole values can does = absurd can
-done_where_all_is_there (words.Restore number) (Some c) input outcome whole values can does = restore_goes number c outcome can does
-done_where_all_is_there words.Scrub None input outcome whole values can does = absurd can
-done_where_all_is_there words.Scrub (Some c) input outcome whole values can does = scrub_goes c can.1.0 outcome can.0 can.1.1 does
-done_where_all_is_there words.Pulses held input outcome whole values can does = pulses_go held input outcome can does
-done_where_all_is_there words.Script None input outcome whole values can does = absurd can.0
-done_where_all_is_there words.Script (Some c) input outcome whole values can does = script_goes input c can.0.0 outcome can.0.1 can.1 does
-done_where_all_is_there (words.Make seed count) None input outcome whole values can does = absurd can
-done_where_all_is_there (words.Make seed count) (Some c) input outcome whole values can does =
-    make_goes seed count c outcome values whole can.0 can.1 does

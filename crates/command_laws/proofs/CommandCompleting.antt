@@ -1,11 +1,10 @@
 -- A command that has all that it needs is carried out where no count of faults rose.
 use Rattle.std.proofs.Common.{◌≡◌, inl, inr, ℕ, List, Option, IfSome, ◌∙◌, subst, ◌⊎◌}
-use Rattle.command_laws.proofs.CommandComplete.{done_where_all_is_there}
 use Rattle.command_laws.proofs.CommandEnds.{over_map, told_whole}
+use Rattle.command_laws.proofs.CommandTable.{done_where_all_is_there}
 use Rattle.command_laws.proofs.TextCommands.{one_command}
-use Rattle.command_spec.specs.Complete.{CanBeDone}
 use Rattle.command_spec.specs.Headline.{Answers}
-use Rattle.command_spec.specs.Machine.{HasValues, Spells, Step, Yields}
+use Rattle.command_spec.specs.Machine.{HasValues, Spells, Step, Yields, CanBeDone}
 use Rattle.command_spec.specs.Runs.{OverTold}
 use Rattle.command_spec.specs.declared.status.Status.{Status}
 use Rattle.command_spec.specs.declared.words.Words.{Words}

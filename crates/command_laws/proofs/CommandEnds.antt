@@ -3,12 +3,12 @@ use Rattle.std.proofs.Common.{◌≡◌, ℕ, Option, Some, None, IfSome, subst,
 use Rattle.std.specs.Option.{option_map}
 use Rattle.std.specs.Prelude.{is_some}
 use Rattle.command_laws.proofs.CommandEndings.{refused_front, shorter_front, text_front}
-use Rattle.command_laws.proofs.CommandTotals.{plain_answers}
+use Rattle.command_laws.proofs.CommandTable.{plain_answers}
+use Rattle.command_spec.specs.Commands.{traits_of}
 use Rattle.command_spec.specs.Headline.{EachLeft, StopsGoOn, Stepped, Answers, NoneRose, WasCut, IsCut, WordsLeave, Joins, PrintsFront}
 use Rattle.command_spec.specs.Machine.{HasValues, Yields, Spells}
 use Rattle.command_spec.specs.Outcome.{CommandOutcome, output_of}
 use Rattle.command_spec.specs.Runs.{fault_of, may_come_from, is_fault, is_outcome, InputLeft, Finished, CommandEnds}
-use Rattle.command_spec.specs.Traits.{traits_of}
 use Rattle.command_spec.specs.declared.status.Status.{Status}
 use Rattle.command_spec.specs.declared.words.Words.{Words}
 use Rattle.qic_base.proofs.Outcomes.{cut_is_torn, cut_stops, cut_took_front, cut_fell_none, cut_rose}
@@ -59,7 +59,7 @@ named_outcome command status.TapeFault is = cc
 named_outcome command status.NoMemory is = cc
 named_outcome command answer is = refl
 
-done_or_not : (answer : Status) → (answer ≡ status.Done) ⊎ (answer ≢ status.Done)
+pub done_or_not : (answer : Status) → (answer ≡ status.Done) ⊎ (answer ≢ status.Done)
 done_or_not status.Done = inl refl
 done_or_not answer = inr (λ is. cc)
 

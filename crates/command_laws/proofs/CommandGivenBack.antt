@@ -25,8 +25,9 @@ use Rattle.command_spec.specs.Headline.{Answers, Stepped, IsCut, WasCut}
 use Rattle.command_spec.specs.Machine.{Spells, Step, Yields}
 use Rattle.command_spec.specs.Outcome.{settling_act, CommandOutcome, Opened, output_of}
 use Rattle.command_spec.specs.Restore.{Piece, pieces_of, piece_cells, pieces_in, LosesFew, GivingEnd, Restores, ending_status, pieces, volume_at, Gives, RestoreOutcome, FirstLost, bytes_held}
+use Rattle.command_spec.specs.RestoreCommand.{HasNumber}
 use Rattle.command_spec.specs.Runs.{is_fault, fault_of}
-use Rattle.command_spec.specs.Volumes.{HasNumber, CameToEnd, GivesBack}
+use Rattle.command_spec.specs.Volumes.{CameToEnd, GivesBack}
 use Rattle.command_spec.specs.declared.status.Status.{Status}
 use Rattle.command_spec.specs.declared.words.Words.{Words}
 use Rattle.qic_base.proofs.Outcomes.{cut_took_front}

@@ -16,8 +16,8 @@ use Rattle.command_laws.proofs.CommandAppends.{appended_line_is_some}
 use Rattle.command_laws.proofs.CommandEnds.{Laws, over_at, told_whole}
 use Rattle.command_laws.proofs.CommandOpened.{quiet}
 use Rattle.command_laws.proofs.CommandSeveral.{heard_fault, never_sink, no_more, some_long, none_left, told_now}
+use Rattle.command_laws.proofs.CommandTable.{plain_answers}
 use Rattle.command_laws.proofs.CommandTold.{input_of, input_told}
-use Rattle.command_laws.proofs.CommandTotals.{plain_answers}
 use Rattle.command_laws.proofs.CommandVolumes.{done_now, Did, carried_out_did, now_weaker}
 use Rattle.command_laws.proofs.MadeLeaving.{made_are_listed, make_lists}
 use Rattle.command_laws.proofs.MountedListed.{mounted_listed}

@@ -1,11 +1,9 @@
 -- The plain machine is a function, and it answers.
 use Rattle.std.proofs.Common.{◌≡◌, ℕ, List, Option, sym, ap, ◌∙◌, subst, inl, inr, [], refl, IfSome, ◌⊎◌}
-use Rattle.command_laws.proofs.CommandPlainLaws.{plain_is_function}
-use Rattle.command_laws.proofs.CommandTotals.{plain_answers}
-use Rattle.command_laws.proofs.CommandValues.{has_values}
+use Rattle.command_laws.proofs.CommandTable.{plain_is_function, plain_answers, has_values}
 use Rattle.command_laws.specs.CommandLaws.{IsSameOutcome, MachineIsFunction, MachineAnswers}
 use Rattle.command_laws.specs.TextWords.{OneCommand, IsNoCommand, EachWords}
-use Rattle.command_spec.specs.CommandWords.{IsCommand}
+use Rattle.command_spec.specs.Commands.{IsCommand}
 use Rattle.command_spec.specs.Machine.{Yields, Step, SpellsNone}
 use Rattle.command_spec.specs.Outcome.{CommandOutcome, output_of}
 use Rattle.command_spec.specs.declared.status.Status.{Status}

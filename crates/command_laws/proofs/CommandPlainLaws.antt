@@ -1,5 +1,5 @@
--- The plain machine is a function, and what a stop in a command leaves, by the command.
-use Rattle.std.proofs.Common.{◌≡◌, ℕ, Option, Some, None, sym, ◌∙◌, inl, inr, Bool, List, subst, ◌∷◌, ap, ◌⊎◌, true, false, [], ◌++◌, append-nil, refl}
+-- What the outcomes of commands have in common: each is one, and what a stop in it leaves.
+use Rattle.std.proofs.Common.{[], ◌≡◌, ℕ, Option, Some, None, sym, ◌∙◌, inl, inr, Bool, List, subst, ◌∷◌, ap, ◌⊎◌, true, false, ◌++◌, append-nil, refl}
 use Rattle.cartridge_laws.proofs.FreshFront.{first_defect_is_none, first_defect_is_one}
 use Rattle.cartridge_laws.proofs.FreshMarks.{fresh_area_is_one}
 use Rattle.cartridge_laws.proofs.MountOnce.{mounts_is_function}
@@ -19,10 +19,7 @@ use Rattle.command_laws.proofs.ScrubTurns.{scrubs_is_function}
 use Rattle.command_spec.specs.Append.{Appends}
 use Rattle.command_spec.specs.Defect.{DefectOutcome}
 use Rattle.command_spec.specs.Format.{FormatOutcome, cleared, formatted}
-use Rattle.command_spec.specs.Info.{telling}
-use Rattle.command_spec.specs.List.{listing}
 use Rattle.command_spec.specs.Lose.{LoseOutcome}
-use Rattle.command_spec.specs.Machine.{Yields}
 use Rattle.command_spec.specs.Make.{Making, made_on}
 use Rattle.command_spec.specs.Outcome.{CommandOutcome, Going, Opened, OpenOutcome, WritableOutcome, Printing, Shows, settling_act, HasPlace}
 use Rattle.command_spec.specs.Protect.{ProtectOutcome}
@@ -31,16 +28,14 @@ use Rattle.command_spec.specs.Restore.{GivingEnd, Restores, pieces, Gives, endin
 use Rattle.command_spec.specs.Script.{Scripting, scripted_on}
 use Rattle.command_spec.specs.Scrub.{Mends, Scrubs, ScrubOutcome}
 use Rattle.command_spec.specs.declared.status.Status.{Status}
-use Rattle.command_spec.specs.declared.words.Words.{Words}
 use Rattle.drive_spec.specs.Record.{power_on}
 use Rattle.qic_base.proofs.Steps.{Torn-append}
 use Rattle.qic_base.specs.Acts.{Act, steps_of}
 use Rattle.qic_base.specs.Cartridge.{Cartridge}
-use Rattle.qic_base.specs.Step.{Step as TapeStep, changed, Renew, SetReferenced, SetProtected, Wear, Spoil, effect, effects}
+use Rattle.qic_base.specs.Step.{Step as TapeStep, changed, SetReferenced, SetProtected, Wear, Spoil, effect, effects}
 use Rattle.qic_base.specs.Stop.{Torn, Halfway}
 use Rattle.cartridge_spec.specs.Mounting as mounting
 use Rattle.command_spec.specs.declared.status.Status.TheVariants as status
-use Rattle.command_spec.specs.declared.words.Words.TheVariants as words
 use Rattle.command_spec.specs.Pulses as pulses
 
 -- ---- what a stop leaves
@@ -86,34 +81,17 @@ ScrubbingLeaves (Some c) left =
     Mounts c (mounting.Mounted header words table entries) × Scrubs (settled table c) words entries acts
     × (Torn (settling_steps table c) (Some c) left ⊎ Torn (steps_of acts) (Some (settled table c)) left))))))
 
--- What a stop in a command leaves: of `new` the old cartridge, none or the new one; a change of one sector or mark is done
--- or not; a settling or a formatting may be stopped inside. Trains of pulses may reference the cartridge.
-abbrev pub CommandLeaves : Words → (held left : Option Cartridge) → Type 0
-CommandLeaves (words.New segments) held left = Torn (Renew segments ∷ []) held left
-CommandLeaves (words.Defect segment sector) held left = SectorLeaves (Spoil segment sector) segment sector held left
-CommandLeaves (words.Lose segment sector) held left = SectorLeaves (Wear segment sector) segment sector held left
-CommandLeaves (words.Protect on) held left = Torn (SetProtected on ∷ []) held left
-CommandLeaves words.List held left = OpeningLeaves held left
-CommandLeaves (words.Format label date) held left = FormatLeaves label date held left
-CommandLeaves words.Info held left = OpeningLeaves held left
-CommandLeaves words.Pulses held left = (left ≡ held) ⊎ (left ≡ effect SetReferenced held)
-CommandLeaves (words.Append name date) held left = AppendingLeaves held left
-CommandLeaves (words.Restore number) held left = OpeningLeaves held left
-CommandLeaves words.Scrub held left = ScrubbingLeaves held left
-CommandLeaves words.Script held left = Unit {0}
-CommandLeaves (words.Make seed count) held left = AppendingLeaves held left
-
 -- ---- the machine is a function
 
 -- what a person's change of one sector does is determined
-lose_is_function : (segment sector : ℕ) (held : Option Cartridge) (a b : CommandOutcome) → LoseOutcome segment sector held a → LoseOutcome segment sector held b → a ≡ b
+pub lose_is_function : (segment sector : ℕ) (held : Option Cartridge) (a b : CommandOutcome) → LoseOutcome segment sector held a → LoseOutcome segment sector held b → a ≡ b
 lose_is_function segment sector None a b one other = one ∙ sym other
 lose_is_function segment sector (Some c) a b (inl one) (inl other) = one.1 ∙ sym other.1
 lose_is_function segment sector (Some c) a b (inl one) (inr other) = absurd (one.0 other.0)
 lose_is_function segment sector (Some c) a b (inr one) (inl other) = absurd (other.0 one.0)
 lose_is_function segment sector (Some c) a b (inr one) (inr other) = one.1 ∙ sym other.1
 
-defect_is_function : (segment sector : ℕ) (held : Option Cartridge) (a b : CommandOutcome) → DefectOutcome segment sector held a → DefectOutcome segment sector held b → a ≡ b
+pub defect_is_function : (segment sector : ℕ) (held : Option Cartridge) (a b : CommandOutcome) → DefectOutcome segment sector held a → DefectOutcome segment sector held b → a ≡ b
 defect_is_function segment sector None a b one other = one ∙ sym other
 defect_is_function segment sector (Some c) a b (inl one) (inl other) = one.1 ∙ sym other.1
 defect_is_function segment sector (Some c) a b (inl one) (inr (inl other)) = absurd (one.0 other.0)
@@ -125,7 +103,7 @@ defect_is_function segment sector (Some c) a b (inr (inl one)) (inr (inr other))
 defect_is_function segment sector (Some c) a b (inr (inr one)) (inr (inl other)) = let p = one.1 in let q = other.1 in absurd (cc)
 defect_is_function segment sector (Some c) a b (inr (inr one)) (inr (inr other)) = one.2 ∙ sym other.2
 
-protect_is_function : (on : Bool) (held : Option Cartridge) (a b : CommandOutcome) → ProtectOutcome on held a → ProtectOutcome on held b → a ≡ b
+pub protect_is_function : (on : Bool) (held : Option Cartridge) (a b : CommandOutcome) → ProtectOutcome on held a → ProtectOutcome on held b → a ≡ b
 protect_is_function on None a b one other = one ∙ sym other
 protect_is_function on (Some c) a b one other = one ∙ sym other
 
@@ -143,7 +121,7 @@ one_act steps held left a b same one torn =
 stays : (held left : Option Cartridge) (a b : CommandOutcome) → a ≡ b → steps_of b.acts ≡ [] → Torn (steps_of a.acts) held left → left ≡ held
 stays held left a b same none torn = subst (λ (steps : List TapeStep). Torn steps held left) (ap (λ (o : CommandOutcome). steps_of o.acts) same ∙ none) torn
 
-opening_leaves : (prints : Printing) (held left : Option Cartridge) (outcome : CommandOutcome) → OpenOutcome (Shows prints) held outcome → Torn (steps_of outcome.acts) held left → OpeningLeaves held left
+pub opening_leaves : (prints : Printing) (held left : Option Cartridge) (outcome : CommandOutcome) → OpenOutcome (Shows prints) held outcome → Torn (steps_of outcome.acts) held left → OpeningLeaves held left
 opening_leaves prints None left outcome plain torn = stays None left outcome _ plain refl torn
 opening_leaves prints (Some c) left outcome (mounting.NotFormatted, mounts, is) torn = inl (stays (Some c) left outcome _ is refl torn)
 opening_leaves prints (Some c) left outcome (mounting.Foreign fault, mounts, is) torn = inl (stays (Some c) left outcome _ is refl torn)
@@ -159,7 +137,7 @@ behind_leaves steps acts held left a b same one torn =
     Torn-append steps (steps_of acts) held left
     (subst (λ (ss : List TapeStep). Torn ss held left) (ap (λ (o : CommandOutcome). steps_of o.acts) same ∙ one) torn)
 
-restoring_leaves : (number : ℕ) (held left : Option Cartridge) (outcome : CommandOutcome) → RestoreOutcome number held outcome → Torn (steps_of outcome.acts) held left → OpeningLeaves held left
+pub restoring_leaves : (number : ℕ) (held left : Option Cartridge) (outcome : CommandOutcome) → RestoreOutcome number held outcome → Torn (steps_of outcome.acts) held left → OpeningLeaves held left
 restoring_leaves number None left outcome plain torn = stays None left outcome _ plain refl torn
 restoring_leaves number (Some c) left outcome (mounting.NotFormatted, mounts, is) torn = inl (stays (Some c) left outcome _ is refl torn)
 restoring_leaves number (Some c) left outcome (mounting.Foreign fault, mounts, is) torn = inl (stays (Some c) left outcome _ is refl torn)
@@ -185,7 +163,7 @@ restoring_leaves number (Some c) left outcome (mounting.Mounted header words tab
       ),
     )
 
-scrubbing_leaves : (held left : Option Cartridge) (outcome : CommandOutcome) → ScrubOutcome held outcome → Torn (steps_of outcome.acts) held left → ScrubbingLeaves held left
+pub scrubbing_leaves : (held left : Option Cartridge) (outcome : CommandOutcome) → ScrubOutcome held outcome → Torn (steps_of outcome.acts) held left → ScrubbingLeaves held left
 scrubbing_leaves None left outcome plain torn = stays None left outcome _ plain refl torn
 scrubbing_leaves (Some c) left outcome (inl (locked, is)) torn = inl (stays (Some c) left outcome _ is refl torn)
 scrubbing_leaves (Some c) left outcome (inr (free, (mounting.NotFormatted, mounts, is))) torn = inl (stays (Some c) left outcome _ is refl torn)
@@ -215,18 +193,18 @@ scrubbing_leaves (Some c) left outcome (inr (free, (mounting.Mounted header word
       ),
     )
 
-appending_leaves : (goes : Going) (held left : Option Cartridge) (outcome : CommandOutcome) → WritableOutcome goes held outcome → Torn (steps_of outcome.acts) held left → AppendingLeaves held left
+pub appending_leaves : (goes : Going) (held left : Option Cartridge) (outcome : CommandOutcome) → WritableOutcome goes held outcome → Torn (steps_of outcome.acts) held left → AppendingLeaves held left
 appending_leaves goes None left outcome plain torn = stays None left outcome _ plain refl torn
 appending_leaves goes (Some c) left outcome (inl (locked, is)) torn = λ mark. stays (Some c) left outcome _ is refl torn
 appending_leaves goes (Some c) left outcome (inr (free, opened)) torn = λ mark. absurd (cc)
 
-sent_leaves : (held left : Option Cartridge) (input : List ℕ) (outcome : CommandOutcome) → SentOutcome held input outcome → Torn (steps_of outcome.acts) held left → (left ≡ held) ⊎ (left ≡ effect SetReferenced held)
+pub sent_leaves : (held left : Option Cartridge) (input : List ℕ) (outcome : CommandOutcome) → SentOutcome held input outcome → Torn (steps_of outcome.acts) held left → (left ≡ held) ⊎ (left ≡ effect SetReferenced held)
 sent_leaves held left input outcome (came, plain, is) torn =
     let same : steps_of outcome.acts ≡ steps_of (train_acts (power_on (info_of held)) plain.trains) =
     ap (λ (o : CommandOutcome). steps_of o.acts) is ∙ ap (λ (o : pulses.PulseRun). steps_of o.acts) plain.comes in
     trains_leave (power_on (info_of held)) plain.trains held left (subst (λ (steps : List TapeStep). Torn steps held left) same torn)
 
-format_leaves : (label : List ℕ) (date : ℕ) (held left : Option Cartridge) (outcome : CommandOutcome) → FormatOutcome label date held outcome → Torn (steps_of outcome.acts) held left → FormatLeaves label date held left
+pub format_leaves : (label : List ℕ) (date : ℕ) (held left : Option Cartridge) (outcome : CommandOutcome) → FormatOutcome label date held outcome → Torn (steps_of outcome.acts) held left → FormatLeaves label date held left
 format_leaves label date None left outcome plain torn = stays None left outcome _ plain refl torn
 format_leaves label date (Some c) left outcome (inl plain) torn = inl (plain.0, stays (Some c) left outcome _ plain.1 refl torn)
 format_leaves label date (Some c) left outcome (inr (inl (unlocked, (segment, first, is)))) torn =
@@ -244,32 +222,28 @@ sector_leaves step segment sector c left a b place whole same one torn =
       | inr (inr behind) ↦ inr (place, behind)
     ]
 
--- what a stop in a command's steps leaves
-pub plain_leaves : (command : Words) (held left : Option Cartridge) (input : List ℕ) (outcome : CommandOutcome) → Yields command held input outcome → Torn (steps_of outcome.acts) held left → CommandLeaves command held left
-plain_leaves (words.New segments) held left input outcome plain torn = only_step (Renew segments) held left outcome _ plain refl torn
-plain_leaves (words.Defect segment sector) None left input outcome plain torn = stays None left outcome _ plain refl torn
-plain_leaves (words.Defect segment sector) (Some c) left input outcome (inl plain) torn = inl (stays (Some c) left outcome _ plain.1 refl torn)
-plain_leaves (words.Defect segment sector) (Some c) left input outcome (inr (inl plain)) torn = sector_leaves (Spoil segment sector) segment sector c left outcome _ plain.0 (λ half. half) plain.2 refl torn
-plain_leaves (words.Defect segment sector) (Some c) left input outcome (inr (inr plain)) torn = sector_leaves (Spoil segment sector) segment sector c left outcome _ plain.0 (λ half. half) plain.2 refl torn
-plain_leaves (words.Lose segment sector) None left input outcome plain torn = stays None left outcome _ plain refl torn
-plain_leaves (words.Lose segment sector) (Some c) left input outcome (inl plain) torn = inl (stays (Some c) left outcome _ plain.1 refl torn)
-plain_leaves (words.Lose segment sector) (Some c) left input outcome (inr plain) torn = sector_leaves (Wear segment sector) segment sector c left outcome _ plain.0 (λ half. half) plain.1 refl torn
-plain_leaves (words.Protect on) None left input outcome plain torn = no_step (SetProtected on) None left outcome _ plain refl torn
-plain_leaves (words.Protect on) (Some c) left input outcome plain torn = only_step (SetProtected on) (Some c) left outcome _ plain refl torn
-plain_leaves words.List held left input outcome plain torn = opening_leaves listing held left outcome plain torn
-plain_leaves (words.Format label date) held left input outcome plain torn = format_leaves label date held left outcome plain torn
-plain_leaves words.Info held left input outcome plain torn = opening_leaves telling held left outcome plain torn
-plain_leaves words.Pulses held left input outcome plain torn = sent_leaves held left input outcome plain torn
-plain_leaves (words.Append name date) held left input outcome plain torn = appending_leaves (Appends name date input) held left outcome plain torn
-plain_leaves (words.Restore number) held left input outcome plain torn = restoring_leaves number held left outcome plain torn
-plain_leaves words.Scrub held left input outcome plain torn = scrubbing_leaves held left outcome plain torn
-plain_leaves words.Script held left input outcome plain torn = tt
-plain_leaves (words.Make seed count) held left input outcome plain torn = appending_leaves (Making seed count) held left outcome plain torn
+pub defect_leaves : (segment sector : ℕ) (held left : Option Cartridge) (outcome : CommandOutcome) → DefectOutcome segment sector held outcome → Torn (steps_of outcome.acts) held left →
+    SectorLeaves (Spoil segment sector) segment sector held left
+defect_leaves segment sector None left outcome plain torn = stays None left outcome _ plain refl torn
+defect_leaves segment sector (Some c) left outcome (inl plain) torn = inl (stays (Some c) left outcome _ plain.1 refl torn)
+defect_leaves segment sector (Some c) left outcome (inr (inl plain)) torn = sector_leaves (Spoil segment sector) segment sector c left outcome _ plain.0 (λ half. half) plain.2 refl torn
+defect_leaves segment sector (Some c) left outcome (inr (inr plain)) torn = sector_leaves (Spoil segment sector) segment sector c left outcome _ plain.0 (λ half. half) plain.2 refl torn
+
+pub lose_leaves : (segment sector : ℕ) (held left : Option Cartridge) (outcome : CommandOutcome) → LoseOutcome segment sector held outcome → Torn (steps_of outcome.acts) held left →
+    SectorLeaves (Wear segment sector) segment sector held left
+lose_leaves segment sector None left outcome plain torn = stays None left outcome _ plain refl torn
+lose_leaves segment sector (Some c) left outcome (inl plain) torn = inl (stays (Some c) left outcome _ plain.1 refl torn)
+lose_leaves segment sector (Some c) left outcome (inr plain) torn = sector_leaves (Wear segment sector) segment sector c left outcome _ plain.0 (λ half. half) plain.1 refl torn
+
+pub protect_leaves : (on : Bool) (held left : Option Cartridge) (outcome : CommandOutcome) → ProtectOutcome on held outcome → Torn (steps_of outcome.acts) held left →
+    Torn (SetProtected on ∷ []) held left
+protect_leaves on None left outcome plain torn = no_step (SetProtected on) None left outcome _ plain refl torn
+protect_leaves on (Some c) left outcome plain torn = only_step (SetProtected on) (Some c) left outcome _ plain refl torn
 
 -- ---- mounting is a function
 
 -- what is done on a mounted cartridge is one outcome
-abbrev IsOne : Going → Type 0
+abbrev pub IsOne : Going → Type 0
 IsOne goes =
     (c : Cartridge) (header : Header) (ws : List ℕ) (table : List (List ℕ)) (entries : List Entry) (a b : CommandOutcome) →
     goes c header ws table entries a → goes c header ws table entries b → a ≡ b
@@ -281,29 +255,29 @@ opened_is_function goes one c (mounting.TableLost lost) a b is was = is ∙ sym 
 opened_is_function goes one c mounting.TableMismatch a b is was = is ∙ sym was
 opened_is_function goes one c (mounting.Mounted header ws table entries) a b is was = one c header ws table entries a b is was
 
-open_is_function : (goes : Going) → IsOne goes → (held : Option Cartridge) (a b : CommandOutcome) → OpenOutcome goes held a → OpenOutcome goes held b → a ≡ b
+pub open_is_function : (goes : Going) → IsOne goes → (held : Option Cartridge) (a b : CommandOutcome) → OpenOutcome goes held a → OpenOutcome goes held b → a ≡ b
 open_is_function goes one None a b is was = is ∙ sym was
 open_is_function goes one (Some c) a b (m, mounts, is) (n, gives, was) =
     opened_is_function goes one c m a b is
     (subst (λ (k : Mounting). Opened goes c k b) (sym (mounts_is_function c m n mounts gives)) was)
 
-writable_is_function : (goes : Going) → IsOne goes → (held : Option Cartridge) (a b : CommandOutcome) → WritableOutcome goes held a → WritableOutcome goes held b → a ≡ b
+pub writable_is_function : (goes : Going) → IsOne goes → (held : Option Cartridge) (a b : CommandOutcome) → WritableOutcome goes held a → WritableOutcome goes held b → a ≡ b
 writable_is_function goes one None a b is was = is ∙ sym was
 writable_is_function goes one (Some c) a b (inl is) (inl was) = is.1 ∙ sym was.1
 writable_is_function goes one (Some c) a b (inl is) (inr was) = let p = is.0 in let q = was.0 in absurd (cc)
 writable_is_function goes one (Some c) a b (inr is) (inl was) = let p = is.0 in let q = was.0 in absurd (cc)
 writable_is_function goes one (Some c) a b (inr is) (inr was) = open_is_function goes one (Some c) a b is.1 was.1
 
-shows_one : (prints : Printing) → IsOne (Shows prints)
+pub shows_one : (prints : Printing) → IsOne (Shows prints)
 shows_one prints c header ws table entries a b is was = is ∙ sym was
 
-appends_one : (name : List ℕ) (date : ℕ) (input : List ℕ) → IsOne (Appends name date input)
+pub appends_one : (name : List ℕ) (date : ℕ) (input : List ℕ) → IsOne (Appends name date input)
 appends_one name date input c header ws table entries a b is was = is ∙ sym was
 
 abbrev given : (table : List (List ℕ)) (c : Cartridge) → List Act → Status → CommandOutcome
 given table c acts answer = record { acts = settling_act table c ∷ acts; taken = 0; status = answer }
 
-gives_one : (number : ℕ) → IsOne (Gives number)
+pub gives_one : (number : ℕ) → IsOne (Gives number)
 gives_one number c header ws table entries a b (inl is) (inl was) = is.1 ∙ sym was.1
 gives_one number c header ws table entries a b (inl is) (inr was) = let p = is.0 in let q = was.numbered in absurd (cc)
 gives_one number c header ws table entries a b (inr is) (inl was) = let p = is.numbered in let q = was.0 in absurd (cc)
@@ -315,23 +289,23 @@ gives_one number c header ws table entries a b (inr is) (inr was) =
     is.is ∙ ap (λ (xs : List Act). given table c xs (ending_status is.ending)) both.0
     ∙ ap (λ (e : GivingEnd). given table c was.acts (ending_status e)) both.1 ∙ sym was.is
 
-mends_one : IsOne Mends
+pub mends_one : IsOne Mends
 mends_one c header ws table entries a b is was =
     is.is ∙ ap (λ (xs : List Act). given table c xs status.Done)
     (scrubs_is_function (settled table c) ws entries is.acts was.acts is.scrubs was.scrubs) ∙ sym was.is
 
-scripting_one : (input : List ℕ) → IsOne (Scripting input)
+pub scripting_one : (input : List ℕ) → IsOne (Scripting input)
 scripting_one input c header ws table entries a b is was =
     is.is ∙ ap (scripted_on table c) (one_script (settled table c) ws entries input is.came was.came is.does was.does) ∙ sym was.is
 
-making_one : (seed count : ℕ) → IsOne (Making seed count)
+pub making_one : (seed count : ℕ) → IsOne (Making seed count)
 making_one seed count c header ws table entries a b is was =
     let both = makes_one_thing seed count (settled table c) ws entries is.acts was.acts is.answer was.answer is.makes was.makes in
     is.is ∙ ap (λ (xs : List Act). made_on table c xs is.answer) both.0 ∙ ap (made_on table c was.acts) both.1 ∙ sym was.is
 
 -- ---- formatting is a function
 
-format_is_function : (label : List ℕ) (date : ℕ) (held : Option Cartridge) (a b : CommandOutcome) → FormatOutcome label date held a → FormatOutcome label date held b → a ≡ b
+pub format_is_function : (label : List ℕ) (date : ℕ) (held : Option Cartridge) (a b : CommandOutcome) → FormatOutcome label date held a → FormatOutcome label date held b → a ≡ b
 format_is_function label date None a b one other = one ∙ sym other
 format_is_function label date (Some c) a b (inl one) (inl other) = one.1 ∙ sym other.1
 format_is_function label date (Some c) a b (inl one) (inr (inl other)) = let p = one.0 in let q = other.0 in absurd (cc)
@@ -350,23 +324,6 @@ format_is_function label date (Some c) a b (inr (inr (unlocked, none, (words, (a
 
 -- ---- trains of pulses are one
 
-sent_is_function : (held : Option Cartridge) (input : List ℕ) (a b : CommandOutcome) → SentOutcome held input a → SentOutcome held input b → a ≡ b
+pub sent_is_function : (held : Option Cartridge) (input : List ℕ) (a b : CommandOutcome) → SentOutcome held input a → SentOutcome held input b → a ≡ b
 sent_is_function held input a b (came, plain, is) (other, rule, was) =
     is ∙ ap sent (one_outcome (info_of held) input came other plain rule) ∙ sym was
-
--- ---- every command is one
-
-pub plain_is_function : (command : Words) (held : Option Cartridge) (input : List ℕ) (a b : CommandOutcome) → Yields command held input a → Yields command held input b → a ≡ b
-plain_is_function (words.New segments) held input a b one other = one ∙ sym other
-plain_is_function (words.Defect segment sector) held input a b one other = defect_is_function segment sector held a b one other
-plain_is_function (words.Lose segment sector) held input a b one other = lose_is_function segment sector held a b one other
-plain_is_function (words.Protect on) held input a b one other = protect_is_function on held a b one other
-plain_is_function words.List held input a b one other = open_is_function (Shows listing) (shows_one listing) held a b one other
-plain_is_function (words.Format label date) held input a b one other = format_is_function label date held a b one other
-plain_is_function words.Info held input a b one other = open_is_function (Shows telling) (shows_one telling) held a b one other
-plain_is_function (words.Append name date) held input a b one other = writable_is_function (Appends name date input) (appends_one name date input) held a b one other
-plain_is_function (words.Restore number) held input a b one other = open_is_function (Gives number) (gives_one number) held a b one other
-plain_is_function words.Scrub held input a b one other = writable_is_function Mends mends_one held a b one other
-plain_is_function words.Pulses held input a b one other = sent_is_function held input a b one other
-plain_is_function words.Script held input a b one other = open_is_function (Scripting input) (scripting_one input) held a b one other
-plain_is_function (words.Make seed count) held input a b one other = writable_is_function (Making seed count) (making_one seed count) held a b one other

@@ -1,5 +1,5 @@
 -- What a run promises, by how its command ended.
-use Rattle.std.proofs.Common.{◌≡◌, ℕ, List, Option, Some, None, IfSome, false, refl, true, ap, arith, inl, inr, sym, ◌∙◌, subst, Bool, ◌↔◌, [], IsSomeAnd}
+use Rattle.std.proofs.Common.{[], ◌≡◌, ℕ, List, Option, Some, None, IfSome, false, refl, true, ap, arith, inl, inr, sym, ◌∙◌, subst, Bool, ◌↔◌, IsSomeAnd}
 use Rattle.command_laws.proofs.CommandCompleting.{completes}
 use Rattle.command_laws.proofs.CommandEndings.{appends_none, any_input, nothing_front, none_printed}
 use Rattle.command_laws.proofs.CommandEnds.{Laws, ends_asked, ends_cause, ends_answers, ends_carried, ends_cut, ends_stops, ends_joins, ends_otherwise, ends_named, ends_finished, ends_begun, ends_silent, is_a_fault, each_left, stops_go_on}
@@ -8,19 +8,19 @@ use Rattle.command_laws.proofs.CommandListing.{lists_appends, none_listed}
 use Rattle.command_laws.proofs.CommandMachineLaws.{machine_is_function_where, machine_answers_where}
 use Rattle.command_laws.proofs.CommandSeveral.{makes_volumes, carries_out_lines, none_made, none_scripted}
 use Rattle.command_laws.proofs.CommandSurvives.{survives_one_loss, none_survives}
+use Rattle.command_laws.proofs.CommandTable.{laws_of, has_values}
 use Rattle.command_laws.proofs.CommandTold.{input_of, input_told}
-use Rattle.command_laws.proofs.CommandValues.{has_values}
 use Rattle.command_laws.proofs.CommandVolumes.{volumes_stay, list_stays, stays_live, stays_clean, stops_format, stops_append, is_changed, may_change, none_changed}
 use Rattle.command_laws.proofs.TextCommands.{one_command}
 use Rattle.command_laws.proofs.TextDeciding.{each_words}
 use Rattle.command_laws.specs.CommandLaws.{MachineIsFunction, MachineAnswers}
+use Rattle.command_spec.specs.Commands.{traits_of}
 use Rattle.command_spec.specs.Headline.{WordsLeave, EachLeft, PrintsRefused, PrintsFront, Stepped, Answers, SpellsOne}
 use Rattle.command_spec.specs.Listing.{IsHeard}
 use Rattle.command_spec.specs.Machine.{HasInputFault, HasValues, Spells, SpellsNone}
 use Rattle.command_spec.specs.Outcome.{CommandOutcome, output_of}
 use Rattle.command_spec.specs.Promises.{Promises}
 use Rattle.command_spec.specs.Runs.{may_come_from, NamesFault, InputLeft, IsCutOff, CommandEnds, EndsBlind, is_fault, Finished, is_outcome}
-use Rattle.command_spec.specs.Traits.{traits_of}
 use Rattle.command_spec.specs.Volumes.{IsCarriedOut}
 use Rattle.command_spec.specs.declared.status.Status.{Status}
 use Rattle.command_spec.specs.declared.words.Words.{Words}
@@ -28,7 +28,6 @@ use Rattle.qic_base.proofs.Steps.{Stops-nothing}
 use Rattle.qic_base.specs.Acts.{Act, Outside, Failing, TapeFails, SourceFails, SinkFails, Went, Cut, no_source, around}
 use Rattle.qic_base.specs.Cartridge.{Cartridge}
 use Rattle.qic_base.specs.Cause.{Rose}
-use Rattle.command_spec.specs.declared.words.Words.TheVariants as words
 use Rattle.command_spec.specs.declared.status.Status.TheVariants as status
 use Rattle.qic_base.specs.Sink as sinks
 use Rattle.qic_base.specs.Source as sources
@@ -47,26 +46,15 @@ over_left : {A : Type 0} (held : Option A) (left : Option (List ℕ)) (P R : A �
 over_left None left P R known follows = tt
 over_left (Some a) left P R known follows = (input_of left, input_told left, follows a known.0 (input_of left) known.2)
 
--- lines are read by no command that reads nothing
-lines_are_read : (command : Words) → (traits_of command).reads ≡ false → (traits_of command).lines ≡ false
-lines_are_read words.Pulses blind = absurd (cc)
-lines_are_read words.Script blind = absurd (cc)
-lines_are_read command blind = refl
-
-none_has : (command : Words) (input : List ℕ) (line place : ℕ) → (traits_of command).reads ≡ false → HasInputFault command input line place → ⊥
-none_has words.Pulses input line place blind fault = cc
-none_has words.Script input line place blind fault = cc
-none_has command input line place blind fault = fault
-
 no_fault_named : (command : Words) (answer : Status) (left : Option (List ℕ)) → (traits_of command).reads ≡ false → may_come_from answer command ≡ true →
     IfSome left (λ input. NamesFault command input answer)
 no_fault_named command answer None blind sound = tt
 no_fault_named command answer (Some input) blind sound = record {
   named = λ line place is.
       let no = ap (λ (a : Status). may_come_from a command) is in
-      let lineless = lines_are_read command blind in
+      let lineless = ((laws_of command).blind blind).no_lines in
       absurd (cc);
-  none = λ done line place fault. none_has command input line place blind fault;
+  none = λ done line place fault. ((laws_of command).blind blind).no_fault input line place fault;
 }
 
 all_left : (left : Option (List ℕ)) → InputLeft status.Usage 0 left left
@@ -75,7 +63,7 @@ all_left (Some bytes) = refl
 
 nothing_taken : (command : Words) (answer : Status) (taken : ℕ) (left : Option (List ℕ)) → (traits_of command).reads ≡ false → may_come_from answer command ≡ true → taken ≡ 0 →
     InputLeft answer taken left left
-nothing_taken command (status.ScriptFault line place) taken left blind sound none = let lineless = lines_are_read command blind in absurd (cc)
+nothing_taken command (status.ScriptFault line place) taken left blind sound none = let lineless = ((laws_of command).blind blind).no_lines in absurd (cc)
 nothing_taken command answer taken left blind sound none = rw none (all_left left)
 
 never_rose : Rose 0 0 → ⊥

@@ -11,7 +11,7 @@ use Rattle.cartridge_spec.specs.Settling.{changed_by, settling_steps}
 use Rattle.cartridge_spec.specs.Volumes.{Plain, entries_of, Stands}
 use Rattle.command_laws.proofs.CommandEnds.{after_steps, is_a_fault, Laws, over_at, told_whole}
 use Rattle.command_laws.proofs.CommandOpened.{quiet}
-use Rattle.command_laws.proofs.CommandTotals.{plain_answers}
+use Rattle.command_laws.proofs.CommandTable.{plain_answers}
 use Rattle.command_laws.proofs.CommandVolumes.{now_weaker, whole_of, done_now, each_weaker}
 use Rattle.command_laws.proofs.MadeAnswered.{made_are_answered}
 use Rattle.command_laws.proofs.MadeStops.{done_make_stands, stopped_make_stands}
@@ -67,7 +67,7 @@ never_heard : (lost : ℕ) → IsHeard (status.Lost 2 lost) → ⊥
 never_heard lost (inl done) = cc
 never_heard lost (inr (line, place, is)) = cc
 
-mounted_or_turned : (goes : Going) (c : Cartridge) (plain : Plain) (outcome : CommandOutcome) → Stands c plain → OpenOutcome goes (Some c) outcome →
+pub mounted_or_turned : (goes : Going) (c : Cartridge) (plain : Plain) (outcome : CommandOutcome) → Stands c plain → OpenOutcome goes (Some c) outcome →
     WasTurned outcome ⊎ WasMounted goes c plain outcome
 mounted_or_turned goes c plain outcome stood (m, mounts, opened) =
     elim (standing_mounts_only_so c plain m stood mounts) [
@@ -87,7 +87,7 @@ module _ (c : Cartridge) (plain : Plain) (whole : IsCartridge c) (stood : Stands
   settled_now = settling_effects c plain.table_area mounts.reads
 
   -- a stop came in the settling, or behind it
-  stopped_first : (acts : List Act) (left : Option Cartridge) → Torn (steps_of (settling ∷ acts)) (Some c) left →
+  pub stopped_first : (acts : List Act) (left : Option Cartridge) → Torn (steps_of (settling ∷ acts)) (Some c) left →
       IsSomeAnd left (λ d. Stands d plain) ⊎ Torn (steps_of acts) (Some still) left
   stopped_first acts left torn =
       elim (Torn-append (settling_steps plain.table_area c) (steps_of acts) (Some c) left torn) [
@@ -101,7 +101,7 @@ module _ (c : Cartridge) (plain : Plain) (whole : IsCartridge c) (stood : Stands
   begun (x ∷ more) rest acts parts = let same : x ≡ settling = cc in let behind : more ++ rest ≡ acts = cc in inr (more, ap (λ (a : Act). a ∷ more) same, behind)
 
   -- what stands behind the settling and a front
-  behind_front : (more : List Act) → effects (steps_of (settling ∷ more)) (Some c) ≡ Some (changed_by (steps_of more) still)
+  pub behind_front : (more : List Act) → effects (steps_of (settling ∷ more)) (Some c) ≡ Some (changed_by (steps_of more) still)
   behind_front more =
       effects-append (settling_steps plain.table_area c) (steps_of more) (Some c) ∙ ap (effects (steps_of more)) settled_now ∙ effects-some (steps_of more) still
 
@@ -336,7 +336,7 @@ module _ (seed count : ℕ) (few : count ≤ 200) (c : Cartridge) (plain : Plain
   HasMade n left = IsSomeAnd left (λ d. Stands d (with_all plain (made_contents seed 1 n)))
 
   -- a stop leaves some of the volumes
-  make_stopped : (outcome : CommandOutcome) (left : Option Cartridge) → IsTableLive c → MakeOutcome seed count (Some c) outcome → Torn (steps_of outcome.acts) (Some c) left →
+  pub make_stopped : (outcome : CommandOutcome) (left : Option Cartridge) → IsTableLive c → MakeOutcome seed count (Some c) outcome → Torn (steps_of outcome.acts) (Some c) left →
       (n : ℕ) × (n ≤ count) × HasMade n left
   make_stopped outcome left live does torn =
       elim (make_course outcome does) [
@@ -417,7 +417,7 @@ module _ (seed count : ℕ) (few : count ≤ 200) (c : Cartridge) (plain : Plain
           by_front (x ∷ xs) rest none is = cc
 
   -- and once it was carried out, also where sectors of the table's segment take no write
-  make_done : (outcome : CommandOutcome) → MakeOutcome seed count (Some c) outcome → outcome.status ≡ status.Done → HasMade count (effects (steps_of outcome.acts) (Some c))
+  pub make_done : (outcome : CommandOutcome) → MakeOutcome seed count (Some c) outcome → outcome.status ≡ status.Done → HasMade count (effects (steps_of outcome.acts) (Some c))
   make_done outcome does is_done =
       elim (make_course outcome does) [
         | inl turned ↦ absurd (turned.unheard (inl (sym (ap (λ (o : CommandOutcome). o.status) turned.is) ∙ is_done)))

@@ -1,5 +1,5 @@
 -- No command but `new` puts in a new cartridge.
-use Rattle.std.proofs.Common.{◌≡◌, ◌&&◌, ◌*◌, ℕ, Bool, true, false, cond, List, [], ◌∷◌, ◌++◌, length, drop, take, nat_le, nat_lt, map, refl, sym, ap, ◌∙◌, subst, Option, Some, None, inl, inr, is_some}
+use Rattle.std.proofs.Common.{[], ◌≡◌, ◌&&◌, ◌*◌, ℕ, Bool, true, false, cond, List, ◌∷◌, ◌++◌, length, drop, take, nat_le, nat_lt, map, sym, ap, ◌∙◌, subst, Option, Some, None, inl, inr, is_some}
 use Rattle.std.specs.List.{range_with_len}
 use Rattle.cartridge_laws.specs.ChangeSteps.{HasNoRenew}
 use Rattle.cartridge_spec.specs.Appending.{table_places, table_writes}
@@ -15,34 +15,28 @@ use Rattle.command_laws.proofs.MadeStops.{sum_in_no_step}
 use Rattle.command_laws.proofs.RestoreCounts.{restores_in_no_step, framed_in_no_step}
 use Rattle.command_laws.proofs.ScriptOutcomes.{replied}
 use Rattle.command_laws.proofs.ScrubAtOnce.{scrub_steps}
-use Rattle.command_laws.specs.CommandLaws.{OnlyNewRenews}
 use Rattle.command_spec.specs.Append.{Appends, segment_act, volume_acts, filled_acts, input_acts, Taking, Fits, TooLong, TooShort, Kept, input_writes, entry_acts, append_acts, entry_for, room_in, free_in, has_promised_room, most_written, taking, kept_over, kept_on, silently}
 use Rattle.command_spec.specs.Defect.{DefectOutcome}
 use Rattle.command_spec.specs.Format.{FormatOutcome}
 use Rattle.command_spec.specs.Generator.{made_bytes, made_length}
-use Rattle.command_spec.specs.Info.{telling}
 use Rattle.command_spec.specs.Input.{Item, Ending, AtEnd, AtStop, AtFault}
 use Rattle.command_spec.specs.Lines.{reply_behind}
-use Rattle.command_spec.specs.List.{listing}
 use Rattle.command_spec.specs.Lose.{LoseOutcome}
 use Rattle.command_spec.specs.Make.{Making, MakeStep, AppendMade, WearSector, ScrubAll, SumVolume, StepDoes, Runs, Answer, after_item, made_acts, made_name, making}
 use Rattle.command_spec.specs.Outcome.{CommandOutcome, Going, Opened, OpenOutcome, WritableOutcome, Printing, Shows, settling_act}
 use Rattle.command_spec.specs.Protect.{ProtectOutcome}
 use Rattle.command_spec.specs.Pulses.{SentOutcome, info_of, PulseRun, train_acts, train_changes, pulsed_row}
 use Rattle.command_spec.specs.Restore.{Gives, pieces, framed, GivingEnd, Restored, LostIn, MismatchIn}
-use Rattle.command_spec.specs.Script.{reply, refusal_line, restored_line, Scripting, ScriptRun, Did, Meeting, Refuses, Finds, Meets, acts_on, append_did, taken_as, given_as, AppendDoes, Restores_one, ScrubDoes, Loses, ItemDoes, LineDoes, acts_of, ItemsDo, EndDoes, FaultDoes, cartridge_behind, entries_behind, place_behind}
+use Rattle.command_spec.specs.Script.{reply, refusal_line, restored_line, Scripting, ScriptRun, Did, Meeting, Refuses, Finds, acts_on, append_did, taken_as, given_as, LineDoes, acts_of, ItemsDo, EndDoes, cartridge_behind, entries_behind, place_behind}
 use Rattle.command_spec.specs.Scrub.{Mends, Scrubs, Looked, looked_at, reads, steps_in, mending_writes, looking_acts}
 use Rattle.command_spec.specs.declared.line.Line.{Line}
-use Rattle.command_spec.specs.declared.refusal.Refusal.{Refusal}
-use Rattle.command_spec.specs.declared.words.Words.{Words}
-use Rattle.drive_spec.specs.Deck.{refusal_of}
 use Rattle.drive_spec.specs.Effects.{ticked}
 use Rattle.drive_spec.specs.Record.{Record, power_on}
 use Rattle.drive_spec.specs.Steps.{reference_steps, command_steps, is_idle}
 use Rattle.drive_spec.specs.declared.deck.Deck.{Deck}
 use Rattle.qic117_commands.specs.Commands.{command_at}
-use Rattle.qic117_commands.specs.declared.command.Command.{Command}
 use Rattle.qic117_commands.specs.declared.command.Command.TheVariants.{WriteReference}
+use Rattle.qic117_commands.specs.declared.command.Command.{Command}
 use Rattle.qic_base.proofs.Joins.{steps_of-append}
 use Rattle.qic_base.specs.Acts.{Act, steps_of, text_of}
 use Rattle.qic_base.specs.Cartridge.{Cartridge, view_at}
@@ -51,7 +45,6 @@ use Rattle.cartridge_spec.specs.Mounting as mounting
 use Rattle.command_spec.specs.declared.refusal.Refusal.TheVariants as why
 use Rattle.command_spec.specs.Make as made
 use Rattle.command_spec.specs.declared.line.Line.TheVariants as line
-use Rattle.command_spec.specs.declared.words.Words.TheVariants as words
 
 -- ---- lists of steps
 
@@ -79,7 +72,7 @@ none_in_settling table c =
 -- ---- lists of acts
 
 -- the steps of acts
-abbrev AreNoRenew : List Act → Type 0
+abbrev pub AreNoRenew : List Act → Type 0
 AreNoRenew acts = HasNoRenew (steps_of acts)
 
 acts_both : (xs ys : List Act) → AreNoRenew xs → AreNoRenew ys → AreNoRenew (xs ++ ys)
@@ -101,18 +94,18 @@ by_outcome a b same none = subst (λ (o : CommandOutcome). AreNoRenew o.acts) (s
 
 -- ---- changes of one sector or mark, and formatting
 
-defect_none : (segment sector : ℕ) (held : Option Cartridge) (outcome : CommandOutcome) → DefectOutcome segment sector held outcome → AreNoRenew outcome.acts
+pub defect_none : (segment sector : ℕ) (held : Option Cartridge) (outcome : CommandOutcome) → DefectOutcome segment sector held outcome → AreNoRenew outcome.acts
 defect_none segment sector None outcome is = by_outcome outcome _ is tt
 defect_none segment sector (Some c) outcome (inl is) = by_outcome outcome _ is.1 tt
 defect_none segment sector (Some c) outcome (inr (inl is)) = by_outcome outcome _ is.2 (tt, tt)
 defect_none segment sector (Some c) outcome (inr (inr is)) = by_outcome outcome _ is.2 (tt, tt)
 
-lose_none : (segment sector : ℕ) (held : Option Cartridge) (outcome : CommandOutcome) → LoseOutcome segment sector held outcome → AreNoRenew outcome.acts
+pub lose_none : (segment sector : ℕ) (held : Option Cartridge) (outcome : CommandOutcome) → LoseOutcome segment sector held outcome → AreNoRenew outcome.acts
 lose_none segment sector None outcome is = by_outcome outcome _ is tt
 lose_none segment sector (Some c) outcome (inl is) = by_outcome outcome _ is.1 tt
 lose_none segment sector (Some c) outcome (inr is) = by_outcome outcome _ is.1 (tt, tt)
 
-protect_none : (on : Bool) (held : Option Cartridge) (outcome : CommandOutcome) → ProtectOutcome on held outcome → AreNoRenew outcome.acts
+pub protect_none : (on : Bool) (held : Option Cartridge) (outcome : CommandOutcome) → ProtectOutcome on held outcome → AreNoRenew outcome.acts
 protect_none on None outcome is = by_outcome outcome _ is tt
 protect_none on (Some c) outcome is = by_outcome outcome _ is (tt, tt)
 
@@ -138,7 +131,7 @@ none_in_format n area =
 none_alone : (steps : List Step) → HasNoRenew steps → HasNoRenew (steps ++ [])
 none_alone steps none = none_both steps [] none tt
 
-format_none : (label : List ℕ) (date : ℕ) (held : Option Cartridge) (outcome : CommandOutcome) → FormatOutcome label date held outcome → AreNoRenew outcome.acts
+pub format_none : (label : List ℕ) (date : ℕ) (held : Option Cartridge) (outcome : CommandOutcome) → FormatOutcome label date held outcome → AreNoRenew outcome.acts
 format_none label date None outcome is = by_outcome outcome _ is tt
 format_none label date (Some c) outcome (inl is) = by_outcome outcome _ is.1 tt
 format_none label date (Some c) outcome (inr (inl (free, (segment, first, is)))) =
@@ -148,7 +141,7 @@ format_none label date (Some c) outcome (inr (inr (free, none, (words, (area, fr
 
 -- ---- over a cartridge that is opened
 
-abbrev GoesWithNone : Going → Type 0
+abbrev pub GoesWithNone : Going → Type 0
 GoesWithNone goes =
     (c : Cartridge) (header : Header) (ws : List ℕ) (table : List (List ℕ)) (entries : List Entry) (outcome : CommandOutcome) →
     goes c header ws table entries outcome → AreNoRenew outcome.acts
@@ -160,16 +153,16 @@ opened_none goes each c (mounting.TableLost lost) outcome is = by_outcome outcom
 opened_none goes each c mounting.TableMismatch outcome is = by_outcome outcome _ is tt
 opened_none goes each c (mounting.Mounted header ws table entries) outcome is = each c header ws table entries outcome is
 
-open_none : (goes : Going) → GoesWithNone goes → (held : Option Cartridge) (outcome : CommandOutcome) → OpenOutcome goes held outcome → AreNoRenew outcome.acts
+pub open_none : (goes : Going) → GoesWithNone goes → (held : Option Cartridge) (outcome : CommandOutcome) → OpenOutcome goes held outcome → AreNoRenew outcome.acts
 open_none goes each None outcome is = by_outcome outcome _ is tt
 open_none goes each (Some c) outcome (m, mounts, is) = opened_none goes each c m outcome is
 
-writable_none : (goes : Going) → GoesWithNone goes → (held : Option Cartridge) (outcome : CommandOutcome) → WritableOutcome goes held outcome → AreNoRenew outcome.acts
+pub writable_none : (goes : Going) → GoesWithNone goes → (held : Option Cartridge) (outcome : CommandOutcome) → WritableOutcome goes held outcome → AreNoRenew outcome.acts
 writable_none goes each None outcome is = by_outcome outcome _ is tt
 writable_none goes each (Some c) outcome (inl is) = by_outcome outcome _ is.1 tt
 writable_none goes each (Some c) outcome (inr is) = open_none goes each (Some c) outcome is.1
 
-shows_none : (prints : Printing) → GoesWithNone (Shows prints)
+pub shows_none : (prints : Printing) → GoesWithNone (Shows prints)
 shows_none prints c header ws table entries outcome is = by_outcome outcome _ is (none_alone (settling_steps table c) (none_in_settling table c))
 
 -- the settling, and such acts behind it
@@ -178,7 +171,7 @@ settled_none table c acts none = none_both (settling_steps table c) (steps_of ac
 
 -- ---- restoring and scrubbing
 
-gives_none : (number : ℕ) → GoesWithNone (Gives number)
+pub gives_none : (number : ℕ) → GoesWithNone (Gives number)
 gives_none number c header ws table entries outcome (inl is) = by_outcome outcome _ is.1 (none_alone (settling_steps table c) (none_in_settling table c))
 gives_none number c header ws table entries outcome (inr found) =
     by_outcome outcome _ found.is (settled_none table c found.acts (acts_of_none found.acts
@@ -211,7 +204,7 @@ scrub_none c ws entries acts scrubs =
     acts_by acts (looking_acts c looked scrubs.sayings) (ap (λ (all : List Act). steps_of all) scrubs.are ∙ scrub_steps c looked scrubs.sayings)
     (looks_none c looked scrubs.sayings)
 
-mends_none : GoesWithNone Mends
+pub mends_none : GoesWithNone Mends
 mends_none c header ws table entries outcome found =
     by_outcome outcome _ found.is (settled_none table c found.acts (scrub_none (settled table c) ws entries found.acts found.scrubs))
 
@@ -234,7 +227,7 @@ trains_none r [] = tt
 trains_none r (train ∷ trains) =
     none_both (train_changes r train) (steps_of (train_acts (pulsed_row r train) trains)) (none_in_train r train) (trains_none (pulsed_row r train) trains)
 
-sent_none : (held : Option Cartridge) (input : List ℕ) (outcome : CommandOutcome) → SentOutcome held input outcome → AreNoRenew outcome.acts
+pub sent_none : (held : Option Cartridge) (input : List ℕ) (outcome : CommandOutcome) → SentOutcome held input outcome → AreNoRenew outcome.acts
 sent_none held input outcome (came, plain, is) =
     by_outcome outcome _ is
     (subst (λ (r : PulseRun). AreNoRenew r.acts) (sym plain.comes) (trains_none (power_on (info_of held)) plain.trains))
@@ -282,7 +275,7 @@ append_none kept name date promised reply input none =
     (input_none kept.words (free_in kept) (most_written (room_in kept) promised) (is_some promised) input) tt)
     (entry_none kept name date reply (taking (room_in kept) promised input)))
 
-appends_none : (name : List ℕ) (date : ℕ) (input : List ℕ) → GoesWithNone (Appends name date input)
+pub appends_none : (name : List ℕ) (date : ℕ) (input : List ℕ) → GoesWithNone (Appends name date input)
 appends_none name date input c header ws table entries outcome is =
     let kept : Kept = kept_on c ws table entries in
     let reply : Entry → List ℕ = reply_behind (length entries) in
@@ -354,7 +347,7 @@ end_none c ws entries rest (AtFault number place) acts (inl (within, (early, (me
     (acts_on_none c ws entries early.name early.promised early.date early.bytes meeting)
 end_none c ws entries rest (AtFault number place) acts (inr (never, is)) = acts_of_none acts (ap steps_of is)
 
-scripting_none : (input : List ℕ) → GoesWithNone (Scripting input)
+pub scripting_none : (input : List ℕ) → GoesWithNone (Scripting input)
 scripting_none input c header ws table entries outcome found =
     let does = found.does in
     by_outcome outcome _ found.is (settled_none table c found.came.acts (acts_by found.came.acts (acts_of does.dids ++ does.last) (ap (λ (r : ScriptRun). steps_of r.acts) does.is)
@@ -387,23 +380,6 @@ runs_none seed c ws entries (item ∷ items) acts answer (inr (first, rest, part
     (acts_both first rest (step_none seed c ws entries item first made.Done does)
     (runs_none seed (changed_by (steps_of first) c) ws (after_item seed ws entries item) items rest answer runs))
 
-making_none : (seed count : ℕ) → GoesWithNone (Making seed count)
+pub making_none : (seed count : ℕ) → GoesWithNone (Making seed count)
 making_none seed count c header ws table entries outcome found =
     by_outcome outcome _ found.is (settled_none table c found.acts (runs_none seed (settled table c) ws entries (making seed count ws entries) found.acts found.answer found.makes))
-
--- ---- every command
-
-pub only_new_renews : OnlyNewRenews
-only_new_renews (words.New segments) held input outcome other plain = absurd (other segments refl)
-only_new_renews (words.Defect segment sector) held input outcome other plain = defect_none segment sector held outcome plain
-only_new_renews (words.Lose segment sector) held input outcome other plain = lose_none segment sector held outcome plain
-only_new_renews (words.Protect on) held input outcome other plain = protect_none on held outcome plain
-only_new_renews words.List held input outcome other plain = open_none (Shows listing) (shows_none listing) held outcome plain
-only_new_renews (words.Format label date) held input outcome other plain = format_none label date held outcome plain
-only_new_renews words.Info held input outcome other plain = open_none (Shows telling) (shows_none telling) held outcome plain
-only_new_renews (words.Append name date) held input outcome other plain = writable_none (Appends name date input) (appends_none name date input) held outcome plain
-only_new_renews (words.Restore number) held input outcome other plain = open_none (Gives number) (gives_none number) held outcome plain
-only_new_renews words.Scrub held input outcome other plain = writable_none Mends mends_none held outcome plain
-only_new_renews words.Pulses held input outcome other plain = sent_none held input outcome plain
-only_new_renews words.Script held input outcome other plain = open_none (Scripting input) (scripting_none input) held outcome plain
-only_new_renews (words.Make seed count) held input outcome other plain = writable_none (Making seed count) (making_none seed count) held outcome plain

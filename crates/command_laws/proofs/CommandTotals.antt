@@ -19,10 +19,7 @@ use Rattle.command_laws.proofs.ScrubTurns.{scrubs_always}
 use Rattle.command_spec.specs.Append.{Appends}
 use Rattle.command_spec.specs.Defect.{DefectOutcome}
 use Rattle.command_spec.specs.Format.{FormatOutcome}
-use Rattle.command_spec.specs.Info.{telling}
-use Rattle.command_spec.specs.List.{listing}
 use Rattle.command_spec.specs.Lose.{LoseOutcome}
-use Rattle.command_spec.specs.Machine.{HasValues, Yields}
 use Rattle.command_spec.specs.Make.{Making}
 use Rattle.command_spec.specs.Outcome.{CommandOutcome, HasPlace, Going, Opened, OpenOutcome, WritableOutcome, Printing, Shows}
 use Rattle.command_spec.specs.Protect.{ProtectOutcome}
@@ -30,13 +27,11 @@ use Rattle.command_spec.specs.Pulses.{sent, info_of, SentOutcome}
 use Rattle.command_spec.specs.Restore.{Gives, volume_at, pieces}
 use Rattle.command_spec.specs.Script.{Scripting}
 use Rattle.command_spec.specs.Scrub.{Mends}
-use Rattle.command_spec.specs.declared.words.Words.{Words}
 use Rattle.qic_base.specs.Cartridge.{Cartridge, view_at, IsCartridge}
 use Rattle.qic_base.specs.Tape.{spoil_answer}
 use Rattle.cartridge_spec.specs.Mounting as mounting
-use Rattle.command_spec.specs.declared.words.Words.TheVariants as words
 
-lose_answers : (segment sector : ℕ) (held : Option Cartridge) → (outcome : CommandOutcome) × LoseOutcome segment sector held outcome
+pub lose_answers : (segment sector : ℕ) (held : Option Cartridge) → (outcome : CommandOutcome) × LoseOutcome segment sector held outcome
 lose_answers segment sector None = (_, refl)
 lose_answers segment sector (Some c) = by_place (place_or_not c.info.segments_per_track segment sector)
   where
@@ -44,7 +39,7 @@ lose_answers segment sector (Some c) = by_place (place_or_not c.info.segments_pe
     by_place (inl place) = (_, inr (place, refl))
     by_place (inr none) = (_, inl (none, refl))
 
-defect_answers : (segment sector : ℕ) (held : Option Cartridge) → (outcome : CommandOutcome) × DefectOutcome segment sector held outcome
+pub defect_answers : (segment sector : ℕ) (held : Option Cartridge) → (outcome : CommandOutcome) × DefectOutcome segment sector held outcome
 defect_answers segment sector None = (_, refl)
 defect_answers segment sector (Some c) = by_place (place_or_not c.info.segments_per_track segment sector)
   where
@@ -56,12 +51,12 @@ defect_answers segment sector (Some c) = by_place (place_or_not c.info.segments_
     by_place (inl place) = by_view place (spoil_answer (view_at c segment sector)) refl
     by_place (inr none) = (_, inl (none, refl))
 
-protect_answers : (on : Bool) (held : Option Cartridge) → (outcome : CommandOutcome) × ProtectOutcome on held outcome
+pub protect_answers : (on : Bool) (held : Option Cartridge) → (outcome : CommandOutcome) × ProtectOutcome on held outcome
 protect_answers on None = (_, refl)
 protect_answers on (Some c) = (_, refl)
 
 -- each cartridge that is mounted has one
-abbrev Answers : Going → Type 0
+abbrev pub Answers : Going → Type 0
 Answers goes =
     (c : Cartridge) (header : Header) (ws : List ℕ) (table : List (List ℕ)) (entries : List Entry) → IsCartridge c → Mounts c (mounting.Mounted header ws table entries) →
     (outcome : CommandOutcome) × goes c header ws table entries outcome
@@ -73,14 +68,14 @@ opened_answers goes each c (mounting.TableLost lost) whole mounts = (_, refl)
 opened_answers goes each c mounting.TableMismatch whole mounts = (_, refl)
 opened_answers goes each c (mounting.Mounted header ws table entries) whole mounts = each c header ws table entries whole mounts
 
-open_answers : (goes : Going) → Answers goes → (held : Option Cartridge) → IfSome held IsCartridge → (outcome : CommandOutcome) × OpenOutcome goes held outcome
+pub open_answers : (goes : Going) → Answers goes → (held : Option Cartridge) → IfSome held IsCartridge → (outcome : CommandOutcome) × OpenOutcome goes held outcome
 open_answers goes each None whole = (_, refl)
 open_answers goes each (Some c) whole =
     let some = mounts_always c whole in
     let outcome = opened_answers goes each c some.0 whole some.1 in
     (outcome.0, (some.0, some.1, outcome.1))
 
-writable_answers : (goes : Going) → Answers goes → (held : Option Cartridge) → IfSome held IsCartridge → (outcome : CommandOutcome) × WritableOutcome goes held outcome
+pub writable_answers : (goes : Going) → Answers goes → (held : Option Cartridge) → IfSome held IsCartridge → (outcome : CommandOutcome) × WritableOutcome goes held outcome
 writable_answers goes each None whole = (_, refl)
 writable_answers goes each (Some c) whole = by_mark c.info.protected refl
   where
@@ -88,13 +83,13 @@ writable_answers goes each (Some c) whole = by_mark c.info.protected refl
     by_mark true is = (_, inl (is, refl))
     by_mark false is = let some = open_answers goes each (Some c) whole in (some.0, inr (is, some.1))
 
-shows_answers : (prints : Printing) → Answers (Shows prints)
+pub shows_answers : (prints : Printing) → Answers (Shows prints)
 shows_answers prints c header ws table entries whole reads = (_, refl)
 
-appends_answers : (name : List ℕ) (date : ℕ) (input : List ℕ) → Answers (Appends name date input)
+pub appends_answers : (name : List ℕ) (date : ℕ) (input : List ℕ) → Answers (Appends name date input)
 appends_answers name date input c header ws table entries whole reads = (_, refl)
 
-gives_answers : (number : ℕ) → Answers (Gives number)
+pub gives_answers : (number : ℕ) → Answers (Gives number)
 gives_answers number c header ws table entries whole mounts = by_volume (volume_at entries number) refl
   where
     by_volume : (found : Option Entry) → volume_at entries number ≡ found → (outcome : CommandOutcome) × Gives number c header ws table entries outcome
@@ -103,22 +98,22 @@ gives_answers number c header ws table entries whole mounts = by_volume (volume_
         let some = restores_always (settled table c) ws (pieces ws e) (settled_is_cartridge c table whole mounts.reads) in
         (_, inr (record { entry = e; numbered = is; acts = some.0; ending = some.1; restores = some.2; is = refl }))
 
-mends_answers : Answers Mends
+pub mends_answers : Answers Mends
 mends_answers c header ws table entries whole mounts =
     let some = scrubs_always (settled table c) ws entries (settled_is_cartridge c table whole mounts.reads) in
     (_, record { acts = some.0; scrubs = some.1; is = refl })
 
-scripting_answers : (input : List ℕ) → Answers (Scripting input)
+pub scripting_answers : (input : List ℕ) → Answers (Scripting input)
 scripting_answers input c header ws table entries whole mounts =
     let some = each_script (settled table c) ws entries input (mounted_listed c header ws table entries whole mounts) in
     (_, record { came = some.0; does = some.1; is = refl })
 
-making_answers : (seed count : ℕ) → count ≤ 200 → Answers (Making seed count)
+pub making_answers : (seed count : ℕ) → count ≤ 200 → Answers (Making seed count)
 making_answers seed count few c header ws table entries whole mounts =
     let some = makes_something seed count (settled table c) ws entries (mounted_listed c header ws table entries whole mounts) few in
     (_, record { acts = some.0; answer = some.1; makes = some.2; is = refl })
 
-format_answers : (label : List ℕ) (date : ℕ) (held : Option Cartridge) → IsLabel label → date < 2 ^ 32 → IfSome held IsCartridge → (outcome : CommandOutcome) × FormatOutcome label date held outcome
+pub format_answers : (label : List ℕ) (date : ℕ) (held : Option Cartridge) → IsLabel label → date < 2 ^ 32 → IfSome held IsCartridge → (outcome : CommandOutcome) × FormatOutcome label date held outcome
 format_answers label date None is few whole = (_, refl)
 format_answers label date (Some c) is few whole = by_mark c.info.protected refl
   where
@@ -132,20 +127,5 @@ format_answers label date (Some c) is few whole = by_mark c.info.protected refl
     by_mark true is = (_, inl (is, refl))
     by_mark false is = by_front is (first_defect_or_none c)
 
-sent_answers : (held : Option Cartridge) (input : List ℕ) → (outcome : CommandOutcome) × SentOutcome held input outcome
+pub sent_answers : (held : Option Cartridge) (input : List ℕ) → (outcome : CommandOutcome) × SentOutcome held input outcome
 sent_answers held input = let came = each_outcome (info_of held) input in (sent came.0, (came.0, came.1, refl))
-
-pub plain_answers : (command : Words) (held : Option Cartridge) (input : List ℕ) → HasValues command → IfSome held IsCartridge → (outcome : CommandOutcome) × Yields command held input outcome
-plain_answers (words.New segments) held input values whole = (_, refl)
-plain_answers (words.Defect segment sector) held input values whole = defect_answers segment sector held
-plain_answers (words.Lose segment sector) held input values whole = lose_answers segment sector held
-plain_answers (words.Protect on) held input values whole = protect_answers on held
-plain_answers (words.Format label date) held input values whole = format_answers label date held values.0 values.1 whole
-plain_answers words.Info held input values whole = open_answers (Shows telling) (shows_answers telling) held whole
-plain_answers words.List held input values whole = open_answers (Shows listing) (shows_answers listing) held whole
-plain_answers (words.Append name date) held input values whole = writable_answers (Appends name date input) (appends_answers name date input) held whole
-plain_answers (words.Restore number) held input values whole = open_answers (Gives number) (gives_answers number) held whole
-plain_answers words.Scrub held input values whole = writable_answers Mends mends_answers held whole
-plain_answers words.Pulses held input values whole = sent_answers held input
-plain_answers words.Script held input values whole = open_answers (Scripting input) (scripting_answers input) held whole
-plain_answers (words.Make seed count) held input values whole = writable_answers (Making seed count) (making_answers seed count values) held whole

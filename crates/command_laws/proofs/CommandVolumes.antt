@@ -1,47 +1,36 @@
 -- What a run leaves of what a cartridge stands for, by what a stop in its command leaves.
-use Rattle.std.proofs.Common.{◌≡◌, List, Option, Some, IsSomeAnd, sym, ◌∙◌, subst, refl, ℕ, IfSome, ap, inl, inr, false, Bool, true, [], ◌∷◌, ◌⊎◌, ◌<◌, All, IfNone, None, append-nil, arith}
+use Rattle.std.proofs.Common.{[], ◌≡◌, List, Option, Some, IsSomeAnd, sym, ◌∙◌, subst, refl, ℕ, IfSome, ap, inl, inr, false, Bool, true, ◌∷◌, ◌⊎◌, ◌<◌, All, IfNone, None, append-nil, arith}
 use Rattle.cartridge_laws.proofs.ChangeLive.{steps_keep_live}
-use Rattle.cartridge_laws.proofs.ChangeMounted.{worn_mounts, spoiled_mounts, protected_mounts, referenced_mounts}
-use Rattle.cartridge_laws.proofs.ChangeStanding.{protected_stands, referenced_stands, worn_stands, spoiled_stands}
 use Rattle.cartridge_laws.proofs.FormatClearing.{clearing_clears, cleared_copies_are_zero}
 use Rattle.cartridge_laws.proofs.FormatCopies.{unformatted_from_bare}
 use Rattle.cartridge_laws.proofs.FormatDone.{formatting_formats, formatted_stands, formatted_is_live}
 use Rattle.cartridge_laws.proofs.FormatStops.{stopped_clearing, stopped_format, stopped_clearing_new, stopped_format_new}
 use Rattle.cartridge_laws.proofs.FormatWriting.{some_and, some_weaker, effects-some}
-use Rattle.cartridge_laws.proofs.MountKeeping.{stopped_stands, stopped_mounts}
-use Rattle.cartridge_laws.proofs.MountOnce.{mounts_is_function}
-use Rattle.cartridge_laws.proofs.MountSettled.{settled_stands, settled_mounts}
-use Rattle.cartridge_laws.proofs.MountStanding.{standing_mounts_only_so}
 use Rattle.cartridge_spec.specs.Appending.{with_bytes}
 use Rattle.cartridge_spec.specs.Formatting.{HasNoDefectInFront, IsFreshFor, IsFreshWith, StandsCleanly, HasNoHeader, HasCleanCopies, format_steps, clearing_steps}
-use Rattle.cartridge_spec.specs.Header.{Header}
 use Rattle.cartridge_spec.specs.HeaderAndTable.{IsUnformatted}
-use Rattle.cartridge_spec.specs.Mounting.{Mounting, TableLost, Mounts, mounted_as, Mounted, settled, IsTableLive}
+use Rattle.cartridge_spec.specs.Mounting.{Mounts, Mounted, IsTableLive}
 use Rattle.cartridge_spec.specs.Settling.{changed_by}
-use Rattle.cartridge_spec.specs.Table.{Entry}
-use Rattle.cartridge_spec.specs.Volumes.{Plain, Stands, entries_of}
+use Rattle.cartridge_spec.specs.Volumes.{Plain, Stands}
 use Rattle.command_laws.proofs.CommandAppends.{append_stopped, append_refused, append_unanswered, append_done}
-use Rattle.command_laws.proofs.CommandClean.{copies_stay_clean, copies_stay_bare}
 use Rattle.command_laws.proofs.CommandEnds.{after_steps, told_weaker, over_at, told_whole, Laws, ends_finished}
-use Rattle.command_laws.proofs.CommandPlainLaws.{SectorLeaves, OpeningLeaves, ScrubbingLeaves, FormatLeaves, CommandLeaves, plain_leaves}
-use Rattle.command_laws.proofs.CommandSteps.{only_new_renews}
-use Rattle.command_laws.proofs.CommandTotals.{plain_answers}
-use Rattle.command_laws.proofs.ScrubMounted.{stopped_scrub_stands, stopped_scrub_mounts}
+use Rattle.command_laws.proofs.CommandKeeping.{same_stands}
+use Rattle.command_laws.proofs.CommandPlainLaws.{FormatLeaves, format_leaves}
+use Rattle.command_laws.proofs.CommandTable.{laws_of, plain_answers}
 use Rattle.command_laws.proofs.TextCommands.{one_command}
+use Rattle.command_spec.specs.Commands.{traits_of}
 use Rattle.command_spec.specs.Format.{FormatOutcome}
 use Rattle.command_spec.specs.Headline.{EachNow, EachLeft, StopLeaves, WordsLeave}
 use Rattle.command_spec.specs.Machine.{Yields, HasValues, Spells}
-use Rattle.command_spec.specs.Outcome.{CommandOutcome, HasPlace}
+use Rattle.command_spec.specs.Outcome.{CommandOutcome}
 use Rattle.command_spec.specs.Runs.{IsOfBytes, fault_of, may_come_from, IsCutOff, Finished, CommandEnds, is_fault}
-use Rattle.command_spec.specs.Scrub.{Scrubs}
-use Rattle.command_spec.specs.Traits.{traits_of}
-use Rattle.command_spec.specs.Volumes.{IsCarriedOut, KeepsVolumes, StillStands, VolumesStay, KeepsList, StillMounts, ListStays, StillLive, StillClean, StandsEmpty, FormatsOrNot, StopsFormat, AreBytes, StandsAppended, AppendedOrNot, StopsAppend, StandsFresh, IsBare, WasNotDone, IsChanged}
+use Rattle.command_spec.specs.Volumes.{IsCarriedOut, StillStands, VolumesStay, StillMounts, ListStays, StillLive, StillClean, StandsEmpty, FormatsOrNot, StopsFormat, AreBytes, StandsAppended, AppendedOrNot, StopsAppend, StandsFresh, IsBare, WasNotDone, IsChanged}
 use Rattle.command_spec.specs.declared.status.Status.{Status}
 use Rattle.command_spec.specs.declared.words.Words.{Words}
 use Rattle.qic_base.proofs.Steps.{Done-nothing}
 use Rattle.qic_base.specs.Acts.{steps_of, Outside, Failing, TapeFails, SourceFails, SinkFails}
 use Rattle.qic_base.specs.Cartridge.{Cartridge, IsCartridge, new_cartridge}
-use Rattle.qic_base.specs.Step.{Step as TapeStep, effects, changed, SetProtected, SetReferenced, Wear, Spoil, Renew}
+use Rattle.qic_base.specs.Step.{Step as TapeStep, effects, Renew}
 use Rattle.qic_base.specs.Stop.{Torn}
 use Rattle.qic_base.specs.Tape as tapes
 use Rattle.qic_base.specs.Sink as sinks
@@ -68,145 +57,25 @@ each_weaker t a b right follows each = record {
 
 -- ---- commands that keep the volumes
 
-same_stands : (c : Cartridge) (plain : Plain) (left : Option Cartridge) → Stands c plain → left ≡ Some c → IsSomeAnd left (λ d. Stands d plain)
-same_stands c plain left stood is = some_and (λ d. Stands d plain) c left stood is
-
-sector_left : (P : Cartridge → Type 0) (step : TapeStep) (segment sector : ℕ) (c : Cartridge) (left : Option Cartridge) → P c → (HasPlace c segment sector → P (changed step c)) →
-    SectorLeaves step segment sector (Some c) left → IsSomeAnd left P
-sector_left P step segment sector c left before behind (inl same) = some_and P c left before same
-sector_left P step segment sector c left before behind (inr is) = some_and P (changed step c) left (behind is.0) is.1
-
-open_stands : (c : Cartridge) (plain : Plain) (left : Option Cartridge) → Stands c plain → OpeningLeaves (Some c) left → IsSomeAnd left (λ d. Stands d plain)
-open_stands c plain left stood (inl before) = same_stands c plain left stood before
-open_stands c plain left stood (inr (header, (words, (table, (entries, mounts, torn))))) = stopped_stands c plain table left stood mounts.reads torn
-
--- the mounting of a cartridge that stands for a plain one is that one's
-stands_as : (c : Cartridge) (plain : Plain) (m : Mounting) → Stands c plain → Mounts c m → (n : Mounting) → m ≡ n → ((lost : ℕ) → n ≡ TableLost lost → ⊥) → n ≡ mounted_as plain
-stands_as c plain m stood mounts n same read =
-    elim (standing_mounts_only_so c plain m stood mounts) [ inl is ↦ sym same ∙ is | inr (lost, is) ↦ absurd (read lost (sym same ∙ is)) ]
-
-scrub_stands : (c : Cartridge) (plain : Plain) (left : Option Cartridge) → Stands c plain → ScrubbingLeaves (Some c) left → IsSomeAnd left (λ d. Stands d plain)
-scrub_stands c plain left stood (inl before) = same_stands c plain left stood before
-scrub_stands c plain left stood (inr (header, (words, (table, (entries, (acts, mounts, scrubs, inl torn)))))) = stopped_stands c plain table left stood mounts.reads torn
-scrub_stands c plain left stood (inr (header, (words, (table, (entries, (acts, mounts, scrubs, inr torn)))))) =
-    let m : Mounting = Mounted header words table entries in
-    let same : m ≡ mounted_as plain = stands_as c plain m stood mounts m refl (λ lost is. cc) in
-    let map : words ≡ plain.words = cc in
-    let list : entries ≡ entries_of plain = cc in
-    stopped_scrub_stands (settled table c) plain acts left (settled_stands c plain table stood mounts.reads)
-    (subst (λ (es : List Entry). Scrubs (settled table c) plain.words es acts) list (subst (λ (ws : List ℕ). Scrubs (settled table c) ws entries acts) map scrubs)) torn
-
-format_stands : (label : List ℕ) (date : ℕ) (c : Cartridge) (plain : Plain) (left : Option Cartridge) → Stands c plain → c.info.protected ≡ true →
-    FormatLeaves label date (Some c) left → IsSomeAnd left (λ d. Stands d plain)
-format_stands label date c plain left stood locked (inl same) = same_stands c plain left stood same.1
-format_stands label date c plain left stood locked (inr (inl torn)) = let free = torn.0 in absurd (cc)
-format_stands label date c plain left stood locked (inr (inr torn)) = let free = torn.0 in absurd (cc)
-
-protect_stands : (on : Bool) (c : Cartridge) (plain : Plain) (left : Option Cartridge) → Stands c plain → Torn (SetProtected on ∷ []) (Some c) left →
-    IsSomeAnd left (λ d. Stands d plain)
-protect_stands on c plain left stood (inl before) = same_stands c plain left stood before
-protect_stands on c plain left stood (inr (inl inside)) = absurd inside
-protect_stands on c plain left stood (inr (inr behind)) = same_stands (changed (SetProtected on) c) plain left (protected_stands c plain on stood) behind
-
-pulses_stand : (c : Cartridge) (plain : Plain) (left : Option Cartridge) → Stands c plain → CommandLeaves commands.Pulses (Some c) left → IsSomeAnd left (λ d. Stands d plain)
-pulses_stand c plain left stood (inl before) = same_stands c plain left stood before
-pulses_stand c plain left stood (inr behind) = same_stands (changed SetReferenced c) plain left (referenced_stands c plain stood) behind
-
-command_stands : (command : Words) (c : Cartridge) (plain : Plain) (left : Option Cartridge) → Stands c plain → KeepsVolumes command c plain →
-    CommandLeaves command (Some c) left → IsSomeAnd left (λ d. Stands d plain)
-command_stands (commands.New segments) c plain left stood keeps leaves = absurd keeps
-command_stands (commands.Defect segment sector) c plain left stood keeps leaves =
-    sector_left (λ d. Stands d plain) (Spoil segment sector) segment sector c left stood (λ place. spoiled_stands c plain segment sector stood) leaves
-command_stands (commands.Lose segment sector) c plain left stood keeps leaves =
-    sector_left (λ d. Stands d plain) (Wear segment sector) segment sector c left stood
-    (λ place. worn_stands c plain segment sector place.in_segment stood (keeps place)) leaves
-command_stands (commands.Protect on) c plain left stood keeps leaves = protect_stands on c plain left stood leaves
-command_stands commands.List c plain left stood keeps leaves = open_stands c plain left stood leaves
-command_stands (commands.Format label date) c plain left stood keeps leaves = format_stands label date c plain left stood keeps leaves
-command_stands commands.Info c plain left stood keeps leaves = open_stands c plain left stood leaves
-command_stands commands.Pulses c plain left stood keeps leaves = pulses_stand c plain left stood leaves
-command_stands (commands.Append name date) c plain left stood keeps leaves = same_stands c plain left stood (leaves keeps)
-command_stands (commands.Restore number) c plain left stood keeps leaves = open_stands c plain left stood leaves
-command_stands commands.Scrub c plain left stood keeps leaves = scrub_stands c plain left stood leaves
-command_stands commands.Script c plain left stood keeps leaves = absurd keeps
-command_stands (commands.Make seed count) c plain left stood keeps leaves = same_stands c plain left stood (leaves keeps)
-
--- what a command leaves, by the command
-by_command_left : (told : Option (List ℕ)) (command : Words) (held left : Option Cartridge) → StopLeaves told command held left → CommandLeaves command held left
-by_command_left told command held left leaves = plain_leaves command held left leaves.input leaves.outcome leaves.plain leaves.torn
-
 still_stands : (told : Option (List ℕ)) (words : List (List ℕ)) (held left : Option Cartridge) → WordsLeave told words held left → StillStands words held left
 still_stands told words held left (inl same) c plain is stood keep = same_stands c plain left stood (same ∙ is)
 still_stands told words held left (inr (command, spells, leaves)) c plain is stood keep =
-    command_stands command c plain left stood (keep command spells)
-    (subst (λ (h : Option Cartridge). CommandLeaves command h left) is (by_command_left told command held left leaves))
+    (laws_of command).stands c plain (keep command spells) stood leaves.input leaves.outcome left
+    (subst (λ (h : Option Cartridge). Yields command h leaves.input leaves.outcome) is leaves.plain)
+    (subst (λ (h : Option Cartridge). Torn (steps_of leaves.outcome.acts) h left) is leaves.torn)
 
 pub volumes_stay : {T : Type 0} (t : tapes.Meaning T) (told : Option (List ℕ)) (words : List (List ℕ)) (a b : T) → tapes.IsToldRight (t.told a) (t.size a) → EachLeft t a b (WordsLeave told words) → VolumesStay t words a b
 volumes_stay t told words a b right leaves = each_weaker t a b right (λ held left whole is. still_stands told words held left is) leaves
 
 -- ---- commands that keep the list
 
-open_mounts : (c : Cartridge) (m : Mounting) (left : Option Cartridge) → Mounts c m → OpeningLeaves (Some c) left → IsSomeAnd left (λ d. Mounts d m)
-open_mounts c m left mounts (inl before) = some_and (λ d. Mounts d m) c left mounts before
-open_mounts c m left mounts (inr (header, (words, (table, (entries, again, torn))))) =
-    let same : Mounted header words table entries ≡ m = mounts_is_function c (Mounted header words table entries) m again mounts in
-    subst (λ (n : Mounting). IsSomeAnd left (λ d. Mounts d n)) same (stopped_mounts c header words table entries left again torn)
-
-scrub_mounts : (c : Cartridge) (m : Mounting) (left : Option Cartridge) → Mounts c m → ScrubbingLeaves (Some c) left → IsSomeAnd left (λ d. Mounts d m)
-scrub_mounts c m left mounts (inl before) = some_and (λ d. Mounts d m) c left mounts before
-scrub_mounts c m left mounts (inr (header, (words, (table, (entries, (acts, again, scrubs, inl torn)))))) =
-    let same : Mounted header words table entries ≡ m = mounts_is_function c (Mounted header words table entries) m again mounts in
-    subst (λ (n : Mounting). IsSomeAnd left (λ d. Mounts d n)) same (stopped_mounts c header words table entries left again torn)
-scrub_mounts c m left mounts (inr (header, (words, (table, (entries, (acts, again, scrubs, inr torn)))))) =
-    let same : Mounted header words table entries ≡ m = mounts_is_function c (Mounted header words table entries) m again mounts in
-    subst (λ (n : Mounting). IsSomeAnd left (λ d. Mounts d n)) same
-    (stopped_scrub_mounts (settled table c) header words table entries acts left (settled_mounts c header words table entries again) scrubs torn)
-
-command_mounts : (command : Words) (c : Cartridge) (header : Header) (words : List ℕ) (table : List (List ℕ)) (entries : List Entry) (left : Option Cartridge) →
-    Mounts c (Mounted header words table entries) → KeepsList command c → CommandLeaves command (Some c) left → IsSomeAnd left (λ d. Mounts d (Mounted header words table entries))
-command_mounts command c header words table entries left mounts keeps leaves = by_command command keeps leaves
-  where
-    P : Cartridge → Type 0
-    P d = Mounts d (Mounted header words table entries)
-
-    protect : (on : Bool) → Torn (SetProtected on ∷ []) (Some c) left → IsSomeAnd left P
-    protect on (inl before) = some_and P c left mounts before
-    protect on (inr (inl inside)) = absurd inside
-    protect on (inr (inr behind)) = some_and P (changed (SetProtected on) c) left (protected_mounts c on header words table entries mounts) behind
-
-    pulses : CommandLeaves commands.Pulses (Some c) left → IsSomeAnd left P
-    pulses (inl before) = some_and P c left mounts before
-    pulses (inr behind) = some_and P (changed SetReferenced c) left (referenced_mounts c header words table entries mounts) behind
-
-    format : (label : List ℕ) (date : ℕ) → c.info.protected ≡ true → FormatLeaves label date (Some c) left → IsSomeAnd left P
-    format label date locked (inl same) = some_and P c left mounts same.1
-    format label date locked (inr (inl torn)) = let free = torn.0 in absurd (cc)
-    format label date locked (inr (inr torn)) = let free = torn.0 in absurd (cc)
-
-    by_command : (w : Words) → KeepsList w c → CommandLeaves w (Some c) left → IsSomeAnd left P
-    by_command (commands.New segments) none is = absurd none
-    by_command (commands.Defect segment sector) none is =
-        sector_left P (Spoil segment sector) segment sector c left mounts (λ place. spoiled_mounts c segment sector header words table entries mounts) is
-    by_command (commands.Lose segment sector) behind is =
-        sector_left P (Wear segment sector) segment sector c left mounts
-        (λ place. worn_mounts c segment sector header words table entries place.in_segment (behind place) mounts) is
-    by_command (commands.Protect on) none is = protect on is
-    by_command commands.List none is = open_mounts c (Mounted header words table entries) left mounts is
-    by_command (commands.Format label date) locked is = format label date locked is
-    by_command commands.Info none is = open_mounts c (Mounted header words table entries) left mounts is
-    by_command commands.Pulses none is = pulses is
-    by_command (commands.Append name date) locked is = some_and P c left mounts (is locked)
-    by_command (commands.Restore number) none is = open_mounts c (Mounted header words table entries) left mounts is
-    by_command commands.Scrub none is = scrub_mounts c (Mounted header words table entries) left mounts is
-    by_command commands.Script none is = absurd none
-    by_command (commands.Make seed count) locked is = some_and P c left mounts (is locked)
-
 still_mounts : (told : Option (List ℕ)) (words : List (List ℕ)) (held left : Option Cartridge) → WordsLeave told words held left → StillMounts words held left
 still_mounts told words held left (inl same) c header map_words table entries is mounts keep =
     some_and (λ d. Mounts d (Mounted header map_words table entries)) c left mounts (same ∙ is)
 still_mounts told words held left (inr (command, spells, leaves)) c header map_words table entries is mounts keep =
-    command_mounts command c header map_words table entries left mounts (keep command spells)
-    (subst (λ (h : Option Cartridge). CommandLeaves command h left) is (by_command_left told command held left leaves))
+    (laws_of command).mounts c header map_words table entries (keep command spells) mounts leaves.input leaves.outcome left
+    (subst (λ (h : Option Cartridge). Yields command h leaves.input leaves.outcome) is leaves.plain)
+    (subst (λ (h : Option Cartridge). Torn (steps_of leaves.outcome.acts) h left) is leaves.torn)
 
 pub list_stays : {T : Type 0} (t : tapes.Meaning T) (told : Option (List ℕ)) (words : List (List ℕ)) (a b : T) → tapes.IsToldRight (t.told a) (t.size a) → EachLeft t a b (WordsLeave told words) → ListStays t words a b
 list_stays t told words a b right leaves = each_weaker t a b right (λ held left whole is. still_mounts told words held left is) leaves
@@ -217,8 +86,7 @@ still_live : (told : Option (List ℕ)) (words : List (List ℕ)) (held left : O
 still_live told words held left (inl same) c is live none = some_and IsTableLive c left live (same ∙ is)
 still_live told words held left (inr (command, spells, leaves)) c is live none =
     steps_keep_live (steps_of leaves.outcome.acts) c left
-    (only_new_renews command held leaves.input leaves.outcome
-    (λ segments same. none segments (subst (λ (w : Words). Spells words w) same spells)) leaves.plain)
+    ((laws_of command).live held leaves.input leaves.outcome (none command spells) leaves.plain)
     live (subst (λ (h : Option Cartridge). Torn (steps_of leaves.outcome.acts) h left) is leaves.torn)
 
 pub stays_live : {T : Type 0} (t : tapes.Meaning T) (told : Option (List ℕ)) (words : List (List ℕ)) (a b : T) → tapes.IsToldRight (t.told a) (t.size a) → EachLeft t a b (WordsLeave told words) → EachLeft t a b (StillLive words)
@@ -233,12 +101,12 @@ still_clean told words held left (inl same) = record {
 }
 still_clean told words held left (inr (command, spells, leaves)) = record {
   clean = λ c area is is_area clean keep.
-      copies_stay_clean command c leaves.input leaves.outcome area left (keep command spells)
-      (subst (λ (h : Option Cartridge). Yields command h leaves.input leaves.outcome) is leaves.plain) is_area clean
+      (laws_of command).clean c area (keep command spells) is_area clean leaves.input leaves.outcome left
+      (subst (λ (h : Option Cartridge). Yields command h leaves.input leaves.outcome) is leaves.plain)
       (subst (λ (h : Option Cartridge). Torn (steps_of leaves.outcome.acts) h left) is leaves.torn);
   bare = λ c is bare keep.
-      copies_stay_bare command c leaves.input leaves.outcome left (keep command spells)
-      (subst (λ (h : Option Cartridge). Yields command h leaves.input leaves.outcome) is leaves.plain) bare
+      (laws_of command).bare c (keep command spells) bare leaves.input leaves.outcome left
+      (subst (λ (h : Option Cartridge). Yields command h leaves.input leaves.outcome) is leaves.plain)
       (subst (λ (h : Option Cartridge). Torn (steps_of leaves.outcome.acts) h left) is leaves.torn);
 }
 
@@ -251,7 +119,7 @@ fresh_for : (c : Cartridge) (label : List ℕ) (date : ℕ) (words : List ℕ) (
     IsFreshFor c label date words area
 fresh_for c label date words area none fresh = record { fresh = fresh; front = none }
 
-format_standing : (label : List ℕ) (date : ℕ) (c : Cartridge) (plain : Plain) (left : Option Cartridge) → IsCartridge c → StandsCleanly c plain →
+pub format_standing : (label : List ℕ) (date : ℕ) (c : Cartridge) (plain : Plain) (left : Option Cartridge) → IsCartridge c → StandsCleanly c plain →
     FormatLeaves label date (Some c) left → IsSomeAnd left (λ d. StandsCleanly d plain ⊎ IsUnformatted d ⊎ StandsEmpty c label date d)
 format_standing label date c plain left whole stood (inl (locked, same)) =
     some_and (λ d. StandsCleanly d plain ⊎ IsUnformatted d ⊎ StandsEmpty c label date d) c left (inl stood) same
@@ -268,7 +136,7 @@ format_standing label date c plain left whole stood (inr (inr (free, none, (word
     ])
     (stopped_format c plain label date words area left whole stood is_fresh torn)
 
-format_bare : (label : List ℕ) (date : ℕ) (c : Cartridge) (left : Option Cartridge) → IsCartridge c → HasNoHeader c →
+pub format_bare : (label : List ℕ) (date : ℕ) (c : Cartridge) (left : Option Cartridge) → IsCartridge c → HasNoHeader c →
     IsUnformatted c → FormatLeaves label date (Some c) left → IsSomeAnd left (λ d. IsUnformatted d ⊎ StandsEmpty c label date d)
 format_bare label date c left whole bare unformatted (inl (locked, same)) =
     some_and (λ d. IsUnformatted d ⊎ StandsEmpty c label date d) c left (inl unformatted) same
@@ -288,8 +156,11 @@ left_by_format : (told : Option (List ℕ)) (words : List (List ℕ)) (held left
     WordsLeave told words held left → (left ≡ Some c) ⊎ FormatLeaves label date (Some c) left
 left_by_format told words held left label date c spells is (inl same) = inl (same ∙ is)
 left_by_format told words held left label date c spells is (inr (command, spelled, leaves)) =
-    let same : command ≡ commands.Format label date = one_command words command (commands.Format label date) spelled spells in
-    inr (subst (λ (w : Words). CommandLeaves w (Some c) left) same (subst (λ (h : Option Cartridge). CommandLeaves command h left) is (by_command_left told command held left leaves)))
+    let other : Words = commands.Format label date in
+    let same : command ≡ other = one_command words command other spelled spells in
+    let l : StopLeaves told other (Some c) left =
+    subst (λ (w : Words). StopLeaves told w (Some c) left) same (subst (λ (h : Option Cartridge). StopLeaves told command h left) is leaves) in
+    inr (format_leaves label date (Some c) left l.outcome l.plain l.torn)
 
 pub whole_of : (held : Option Cartridge) (c : Cartridge) → IfSome held IsCartridge → held ≡ Some c → IsCartridge c
 whole_of held c whole is = subst (λ (h : Option Cartridge). IfSome h IsCartridge) is whole
@@ -415,7 +286,7 @@ renewed_effect : (segments : ℕ) (held : Option Cartridge) → effects (Renew s
 renewed_effect segments None = refl
 renewed_effect segments (Some c) = refl
 
-formatted_fresh : (label : List ℕ) (date : ℕ) (c : Cartridge) (outcome : CommandOutcome) → IsCartridge c → FormatOutcome label date (Some c) outcome → outcome.status ≡ status.Done →
+pub formatted_fresh : (label : List ℕ) (date : ℕ) (c : Cartridge) (outcome : CommandOutcome) → IsCartridge c → FormatOutcome label date (Some c) outcome → outcome.status ≡ status.Done →
     IsSomeAnd (effects (steps_of outcome.acts) (Some c)) (StandsFresh c label date)
 formatted_fresh label date c outcome whole (inl (locked, is)) done = let other = ap (λ (o : CommandOutcome). o.status) is in absurd (cc)
 formatted_fresh label date c outcome whole (inr (inl (free, (segment, first, is)))) done = let other = ap (λ (o : CommandOutcome). o.status) is in absurd (cc)
@@ -441,7 +312,7 @@ cleared_bare c whole =
     } in
     (bare, unformatted_from_bare d bare)
 
-cleared_is_bare : (label : List ℕ) (date front : ℕ) (c : Cartridge) (outcome : CommandOutcome) → IsCartridge c → FormatOutcome label date (Some c) outcome → outcome.status ≡ status.DefectInFront front →
+pub cleared_is_bare : (label : List ℕ) (date front : ℕ) (c : Cartridge) (outcome : CommandOutcome) → IsCartridge c → FormatOutcome label date (Some c) outcome → outcome.status ≡ status.DefectInFront front →
     IsSomeAnd (effects (steps_of outcome.acts) (Some c)) IsBare
 cleared_is_bare label date front c outcome whole (inl (locked, is)) done = let other = ap (λ (o : CommandOutcome). o.status) is in absurd (cc)
 cleared_is_bare label date front c outcome whole (inr (inl (free, (segment, first, is)))) done =

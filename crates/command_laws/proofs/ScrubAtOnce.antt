@@ -72,7 +72,7 @@ mending_alike c d segment (place ∷ places) (bytes ∷ sectors) small same =
     (same place (small 0 (omega arith)))
     ∙ ap (λ (ss : List Step). cond (is_unreadable (view_at c segment place)) (WriteSector segment place bytes ∷ ss) ss) rest
 
-steps_alike : (c d : Cartridge) (l : Looked) (s : Saying) → ((i : ℕ) → i < 32 → view_at d l.segment i ≡ view_at c l.segment i) →
+pub steps_alike : (c d : Cartridge) (l : Looked) (s : Saying) → ((i : ℕ) → i < 32 → view_at d l.segment i ≡ view_at c l.segment i) →
     steps_in d l s ≡ steps_in c l s
 steps_alike c d l (Data sectors) same =
     ap (λ (ss : List Step). cond (reads l (Data sectors)) ss [])
@@ -116,7 +116,7 @@ turn_at_once (l ∷ ls) (s ∷ ss) c d rise alike say =
           ∙ ap (λ (steps : List Step). record { steps = steps; text = line_in l s } ∷ acts_at_once c ls ss) (steps_alike c d l s here);
     }
 
-alike : (c : Cartridge) (ls : List Looked) → AreAlike c c ls
+pub alike : (c : Cartridge) (ls : List Looked) → AreAlike c c ls
 alike c [] = All-nil (λ (l : Looked). (i : ℕ) → i < 32 → view_at c l.segment i ≡ view_at c l.segment i)
 alike c (l ∷ ls) = All-cons (λ (m : Looked). (i : ℕ) → i < 32 → view_at c m.segment i ≡ view_at c m.segment i) l ls (λ i h. refl) (alike c ls)
 
@@ -140,3 +140,10 @@ at_once_stay P c (l ∷ ls) [] are = tt
 at_once_stay P c (l ∷ ls) (s ∷ ss) are =
     in_append (λ t i. P t) (steps_in c l s) (steps_of (acts_at_once c ls ss))
     (steps_stay P c l s (All-head (λ (m : Looked). P m.segment) l ls are)) (at_once_stay P c ls ss (All-tail (λ (m : Looked). P m.segment) l ls are))
+
+-- they are writes of sectors of segments
+abbrev pub IsPlaced : ℕ → ℕ → Type 0
+IsPlaced segment sector = Unit {0}
+
+pub at_once_placed : (c : Cartridge) (ls : List Looked) (ss : List Saying) → AreIn IsPlaced (steps_of (acts_at_once c ls ss))
+at_once_placed c ls ss = at_once_stay (λ t. Unit {0}) c ls ss (λ k d h. tt)

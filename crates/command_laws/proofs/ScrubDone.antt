@@ -17,9 +17,9 @@ use Rattle.cartridge_spec.specs.Shape.{is_unreadable, usable_count, usable_place
 use Rattle.cartridge_spec.specs.Table.{Entry}
 use Rattle.command_laws.proofs.ScrubApart.{contains_cases, looked_rise}
 use Rattle.command_laws.proofs.ScrubAtOnce.{mending_are, steps_stay, at_once_stay, scrubs_at_once}
-use Rattle.command_laws.proofs.ScrubMending.{stopped_scrub, scrub_is_at_once}
+use Rattle.command_laws.proofs.ScrubMending.{stopped_scrub, stopped_at_once, scrub_is_at_once}
 use Rattle.command_laws.specs.ScrubLaws.{DoneScrub}
-use Rattle.command_laws.specs.ScrubMended.{IsMended, IsBeingMended}
+use Rattle.command_laws.specs.ScrubMended.{IsMended, IsBeingMended, IsScrubbed}
 use Rattle.command_laws.specs.ScrubSayings.{Rise, SayAtOnce, acts_at_once}
 use Rattle.command_spec.specs.Scrub.{mending_writes, Looked, cells_at, reads, steps_in, looked_at, Scrubs}
 use Rattle.gf256_qic.proofs.Parities.{length-parity_sectors}
@@ -150,20 +150,26 @@ done_being_mended c words entries last acts order scrubs =
     subst (λ (o : Option Cartridge). IsSomeAnd o (IsBeingMended (looked_at words entries) c)) (effects-some (steps_of acts) c)
     (stopped_scrub c words entries last acts (effects (steps_of acts) (Some c)) order scrubs (Torn-all (steps_of acts) (Some c)))
 
-pub done_scrub : DoneScrub
-done_scrub c words entries last acts order scrubs =
-    let looked : List Looked = looked_at words entries in
-    let once = scrubs_at_once c words entries last acts order scrubs in
-    let way = done_being_mended c words entries last acts order scrubs in
-    let d : Cartridge = changed_by (steps_of acts) c in
+pub scrubbed_at_once : (looked : List Looked) (c : Cartridge) (ss : List Saying) → Rise looked → SayAtOnce c looked ss →
+    IsScrubbed looked c (changed_by (steps_of (acts_at_once c looked ss)) c)
+scrubbed_at_once looked c ss rise say =
+    let steps : List Step = steps_of (acts_at_once c looked ss) in
+    let d : Cartridge = changed_by steps c in
+    let way : IsBeingMended looked c d =
+    subst (λ (o : Option Cartridge). IsSomeAnd o (IsBeingMended looked c)) (effects-some steps c)
+    (stopped_at_once looked c ss (effects steps (Some c)) say (Torn-all steps (Some c))) in
     record {
       info = way.info;
-      mended = λ segment sector bytes h mended.
-          mended_written c d looked scrubs.sayings segment sector bytes (looked_rise words last entries order) once.0
-          (ap (λ (xs : List Step). changed_by xs c) (scrub_is_at_once c words entries acts scrubs once.1)) mended;
+      mended = λ segment sector bytes h mended. mended_written c d looked ss segment sector bytes rise say refl mended;
       others = λ segment sector h none.
           elim (way.each segment sector h) [
             | inl same ↦ same
             | inr begun ↦ absurd (none begun.0 begun.1)
           ];
     }
+
+pub done_scrub : DoneScrub
+done_scrub c words entries last acts order scrubs =
+    let once = scrubs_at_once c words entries last acts order scrubs in
+    subst (λ (steps : List Step). IsScrubbed (looked_at words entries) c (changed_by steps c)) (sym (scrub_is_at_once c words entries acts scrubs once.1))
+    (scrubbed_at_once (looked_at words entries) c scrubs.sayings (looked_rise words last entries order) once.0)

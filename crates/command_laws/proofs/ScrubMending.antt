@@ -160,7 +160,7 @@ writes_named looked c l s among says =
       usable_small l.mask k h,
     )))
 
-writes_more : (of : ℕ → ℕ → List ℕ → Type 0) (xs ys : List Step) → AreWrites of xs → AreWrites of ys → AreWrites of (xs ++ ys)
+pub writes_more : (of : ℕ → ℕ → List ℕ → Type 0) (xs ys : List Step) → AreWrites of xs → AreWrites of ys → AreWrites of (xs ++ ys)
 writes_more of [] ys front rear = rear
 writes_more of (x ∷ xs) ys front rear = (front.0, writes_more of xs ys front.1 rear)
 
@@ -186,12 +186,15 @@ scrub_is_at_once c words entries acts scrubs once =
 not_begun : (looked : List Looked) (c : Cartridge) → IsBeingMended looked c c
 not_begun looked c = record { info = refl; each = λ s i h. inl refl }
 
+pub stopped_at_once : (looked : List Looked) (c : Cartridge) (ss : List Saying) (left : Option Cartridge) → SayAtOnce c looked ss →
+    Torn (steps_of (acts_at_once c looked ss)) (Some c) left → IsSomeAnd left (IsBeingMended looked c)
+stopped_at_once looked c ss left say torn =
+    steps_stopped looked c c (steps_of (acts_at_once c looked ss)) left (all_named looked c looked ss (λ l among. among) say) (not_begun looked c) torn
+
 pub stopped_scrub : StoppedScrub
 stopped_scrub c words entries last acts left order scrubs torn =
-    let looked : List Looked = looked_at words entries in
     let once = scrubs_at_once c words entries last acts order scrubs in
-    steps_stopped looked c c (steps_of (acts_at_once c looked scrubs.sayings)) left
-    (all_named looked c looked scrubs.sayings (λ l among. among) once.0) (not_begun looked c)
+    stopped_at_once (looked_at words entries) c scrubs.sayings left once.0
     (subst (λ (ss : List Step). Torn ss (Some c) left) (scrub_is_at_once c words entries acts scrubs once.1) torn)
 
 -- ---- what is left is a cartridge

@@ -39,7 +39,7 @@ cell_at c segment usable k h =
     slice_get-map (view_at c segment) (usable_places usable) k
     ∙ ap (option_map (view_at c segment)) (slice_get-get_or (usable_places usable) k 0 h)
 
-same_place : (mask j k : ℕ) → j < usable_count mask → k < usable_count mask →
+pub same_place : (mask j k : ℕ) → j < usable_count mask → k < usable_count mask →
     get_or (usable_places mask) j 0 ≡ get_or (usable_places mask) k 0 → j ≡ k
 same_place mask j k below within same =
     elim (cases_eq j k) [

@@ -6,7 +6,8 @@ use Rattle.std.proofs.lemmas.Fmt.{decimal_is_IsNumeral}
 use Rattle.std.specs.Str.{bytes_eq}
 use Rattle.command_laws.proofs.TextDates.{HasPair, fields_of}
 use Rattle.command_laws.specs.TextWords.{OneCommand, IsNoCommand}
-use Rattle.command_spec.specs.CommandWords.{Part, SpellsAll, HasForm, Date, dated, SpellsPart, IsNumber, IsDateWord, IsCommand, Word, Name}
+use Rattle.command_spec.specs.CommandWords.{Part, SpellsAll, HasForm, Date, dated, SpellsPart, IsNumber, IsDateWord, Word, Name}
+use Rattle.command_spec.specs.Commands.{IsCommand}
 use Rattle.command_spec.specs.declared.words.Words.{Words}
 use Rattle.qic_base.specs.Date.{date_word}
 use Rattle.qic_base.specs.Name.{filled}

@@ -6,7 +6,8 @@ use Rattle.std.proofs.lemmas.Bool.Decides.{nat_tests}
 use Rattle.command_laws.proofs.TextCommands.{pair_value, pair_is, guess, guess_is}
 use Rattle.command_laws.proofs.TextDates.{fields_of}
 use Rattle.command_laws.specs.TextWords.{IsNoCommand}
-use Rattle.command_spec.specs.CommandWords.{IsNumber, IsDateWord, Part, Word, Number, Name, Date, SpellsPart, SpellsAll, HasForm, IsCommand, word_forms}
+use Rattle.command_spec.specs.CommandWords.{IsNumber, IsDateWord, Part, Word, Number, Name, Date, SpellsPart, SpellsAll, HasForm}
+use Rattle.command_spec.specs.Commands.{IsCommand, word_forms}
 use Rattle.command_spec.specs.Lines.{date_form}
 use Rattle.command_spec.specs.declared.words.Words.{Words}
 use Rattle.qic_base.specs.Date.{IsDate, date_word}

@@ -1,19 +1,17 @@
 -- The laws of the plain machine, as facts (this project's own).
-use Rattle.std.specs.Prelude.{◌≡◌, ◌≢◌, ℕ, List, Option, Some, IfSome, IsSomeAnd}
+use Rattle.std.specs.Prelude.{◌≡◌, ℕ, List, Option, Some, IfSome, IsSomeAnd}
 use Rattle.cartridge_laws.specs.ChangeSteps.{HasNoRenew}
 use Rattle.cartridge_spec.specs.Formatting.{HasCleanCopies, HasNoHeader}
 use Rattle.cartridge_spec.specs.HeaderAndTable.{IsArea}
-use Rattle.command_spec.specs.Complete.{CanBeDone}
-use Rattle.command_spec.specs.Machine.{Step, Yields, HasValues}
+use Rattle.command_spec.specs.Machine.{Step, Yields, HasValues, CanBeDone}
 use Rattle.command_spec.specs.Outcome.{CommandOutcome}
-use Rattle.command_spec.specs.Volumes.{KeepsCopies}
+use Rattle.command_spec.specs.Volumes.{KeepsCopies, KeepsLive}
 use Rattle.command_spec.specs.declared.status.Status.{Status}
 use Rattle.command_spec.specs.declared.words.Words.{Words}
 use Rattle.qic_base.specs.Acts.{steps_of}
 use Rattle.qic_base.specs.Cartridge.{Cartridge, IsCartridge}
 use Rattle.qic_base.specs.Stop.{Torn}
 use Rattle.command_spec.specs.declared.status.Status.TheVariants as status
-use Rattle.command_spec.specs.declared.words.Words.TheVariants as commands
 
 -- two outcomes of a step are one: what is held then, the output, how many bytes were taken, and the status
 pub record IsSameOutcome (held other : Option Cartridge) (output printed : List ℕ) (taken read : ℕ) (status answer : Status) : Type 0 where
@@ -49,11 +47,11 @@ DoneWhereAllIsThere =
     (command : Words) (held : Option Cartridge) (input : List ℕ) (outcome : CommandOutcome) → IfSome held IsCartridge → HasValues command →
     CanBeDone command held input → Yields command held input outcome → outcome.status ≡ status.Done
 
--- no command but `new` puts in a new cartridge
+-- a command that keeps it that the sectors of the table's segment take writes, as each but `new` does, puts in no new cartridge
 abbrev pub OnlyNewRenews : Type 0
 OnlyNewRenews =
     (command : Words) (held : Option Cartridge) (input : List ℕ) (outcome : CommandOutcome) →
-    ((segments : ℕ) → command ≢ commands.New segments) → Yields command held input outcome → HasNoRenew (steps_of outcome.acts)
+    KeepsLive command → Yields command held input outcome → HasNoRenew (steps_of outcome.acts)
 
 -- ---- header copies
 

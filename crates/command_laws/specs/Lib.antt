@@ -1,5 +1,8 @@
 pub mod CommandLaws
+pub mod CommandRecord
+pub mod DeepScrubLaws
 pub mod InputLaws
+pub mod Life
 pub mod MadeLaws
 pub mod MountedHeld
 pub mod MountedKept
@@ -13,6 +16,7 @@ pub mod ScriptItems
 pub mod ScriptLaws
 pub mod ScriptListing
 pub mod ScriptStanding
+pub mod ScrubFound
 pub mod ScrubLaws
 pub mod ScrubMended
 pub mod ScrubSayings

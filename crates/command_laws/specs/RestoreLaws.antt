@@ -1,12 +1,12 @@
 -- What the restoring of a volume gives, as facts.
-use Rattle.std.specs.Prelude.{◌≡◌, ℕ, List, [], length, ◌≤◌, All, take, Contains, ◌⊎◌}
+use Rattle.std.specs.Prelude.{◌≡◌, ℕ, List, [], ◌++◌, length, ◌≤◌, All, take, Contains, ◌⊎◌, Option, Some, None, slice_get}
 use Rattle.cartridge_laws.specs.AppendSettled.{MayAppendTo, IsSettledFor}
 use Rattle.cartridge_spec.specs.Appending.{volume_bytes, with_bytes, appended_volume}
 use Rattle.cartridge_spec.specs.Says.{unreadable_count}
 use Rattle.cartridge_spec.specs.Settling.{changed_by}
 use Rattle.cartridge_spec.specs.Table.{Entry}
 use Rattle.cartridge_spec.specs.Volumes.{volume_length, Plain, Volume, Stands}
-use Rattle.command_spec.specs.Restore.{Piece, GivingEnd, Restores, framed, pieces, bytes_held, Restored, LosesFew, pieces_in, FirstLost, LostIn, piece_cells, MismatchIn}
+use Rattle.command_spec.specs.Restore.{Piece, GivingEnd, Restores, framed, pieces, bytes_held, Restored, LosesFew, pieces_in, FirstLost, LostIn, piece_cells, MismatchIn, IsRead, PieceEnds, GivenBytes}
 use Rattle.qic_base.specs.Acts.{Act, steps_of, text_of}
 use Rattle.qic_base.specs.Cartridge.{Cartridge, IsCartridge}
 use Rattle.cartridge_laws.specs.AppendLaws as appends
@@ -58,6 +58,56 @@ abbrev pub RestoredIsLong : Type 0
 RestoredIsLong =
     (c : Cartridge) (words : List ℕ) (e : Entry) (acts : List Act) →
     Restores c words (pieces words e) acts Restored → length (text_of acts) ≡ volume_length words e
+
+-- ---- piece by piece
+
+-- the piece behind those that were read ends it; where there is none all were read
+abbrev pub EndsBehind : Cartridge → (words : List ℕ) → Option Piece → GivingEnd → Type 0
+EndsBehind c words None ending = ending ≡ Restored
+EndsBehind c words (Some piece) ending = PieceEnds c words piece ending
+
+-- each act is that of the piece with its number
+pub record GivesOneByOne (c : Cartridge) (words : List ℕ) (needed : List Piece) (acts : List Act) (ending : GivingEnd) : Type 0 where
+  pub within : length acts ≤ length needed
+  pub each : (i : ℕ) (piece : Piece) (act : Act) → slice_get needed i ≡ Some piece → slice_get acts i ≡ Some act → IsRead c words piece act
+  pub ends : EndsBehind c words (slice_get needed (length acts)) ending
+
+-- what a restore gives is what its pieces give one by one, ..
+abbrev pub RestoresOneByOne : Type 0
+RestoresOneByOne =
+    (c : Cartridge) (words : List ℕ) (needed : List Piece) (acts : List Act) (ending : GivingEnd) →
+    Restores c words needed acts ending → GivesOneByOne c words needed acts ending
+
+-- .. and that is what it gives
+abbrev pub OneByOneRestores : Type 0
+OneByOneRestores =
+    (c : Cartridge) (words : List ℕ) (needed : List Piece) (acts : List Act) (ending : GivingEnd) →
+    GivesOneByOne c words needed acts ending → Restores c words needed acts ending
+
+-- ---- the bytes with zero bytes in the place of what doesn't read
+
+-- at most these are given, ..
+abbrev pub GivenIsFunction : Type 0
+GivenIsFunction =
+    (c : Cartridge) (words : List ℕ) (needed : List Piece) (xs ys : List ℕ) →
+    GivenBytes c words needed xs → GivenBytes c words needed ys → xs ≡ ys
+
+-- .. and some are, over any cartridge
+abbrev pub GivenAlways : Type 0
+GivenAlways = (c : Cartridge) (words : List ℕ) (needed : List Piece) → (bytes : List ℕ) × GivenBytes c words needed bytes
+
+-- they begin with the text of a restore, and are just that where all was read
+abbrev pub GivenBeginsRestored : Type 0
+GivenBeginsRestored =
+    (c : Cartridge) (words : List ℕ) (needed : List Piece) (acts : List Act) (ending : GivingEnd) (bytes : List ℕ) →
+    Restores c words needed acts ending → GivenBytes c words needed bytes →
+    (rest : List ℕ) × (bytes ≡ text_of acts ++ rest) × (ending ≡ Restored → rest ≡ [])
+
+-- those of a volume are as many as its length
+abbrev pub GivenIsLong : Type 0
+GivenIsLong =
+    (c : Cartridge) (words : List ℕ) (e : Entry) (bytes : List ℕ) → GivenBytes c words (pieces words e) bytes →
+    length bytes ≡ volume_length words e
 
 -- ---- over a cartridge that stands for a plain one
 

@@ -1,6 +1,6 @@
 -- The forms of a command's words (this project's own): the table of all commands.
 use Rattle.std.specs.Prelude.{ℕ, List, ◌≡◌, ◌⊎◌}
-use Rattle.command_spec.specs.CommandWords.{IsCommand}
+use Rattle.command_spec.specs.Commands.{IsCommand}
 use Rattle.command_spec.specs.declared.words.Words.{Words}
 
 -- no command has these words

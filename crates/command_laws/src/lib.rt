@@ -4,7 +4,9 @@
 #![tactic(auto)]
 
 pub mod commands;
+pub mod deep_scrubbing;
 pub mod generated;
+pub mod lives;
 pub mod mounted;
 pub mod restoring;
 pub mod scripts;

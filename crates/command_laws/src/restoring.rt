@@ -1,7 +1,7 @@
 //! What the restoring of a volume gives. Each law is the contract of a function that does nothing, so that other crates can
 //! rest on it; their proofs import the lemmas of this crate's `proofs`.
 
-ghost use Rattle.command_laws.specs.RestoreLaws.{RestoresIsFunction, RestoresAlways, RestoresInNoStep, FramedInNoStep, PiecesHoldAll, TextHoldsPieces, RestoredIsLong, VolumeIsLong, RestoresByteForByte, FewOrFirstLost, RestoresFront, NeverMismatch, StandingRestores, AppendedIsAmong, AppendedIsRestored};
+ghost use Rattle.command_laws.specs.RestoreLaws.{RestoresIsFunction, RestoresAlways, RestoresInNoStep, FramedInNoStep, PiecesHoldAll, TextHoldsPieces, RestoredIsLong, VolumeIsLong, RestoresByteForByte, FewOrFirstLost, RestoresFront, NeverMismatch, StandingRestores, AppendedIsAmong, AppendedIsRestored, RestoresOneByOne, OneByOneRestores, GivenIsFunction, GivenAlways, GivenBeginsRestored, GivenIsLong};
 
 /// A restore gives at most one thing.
 pub fn restores_is_function()
@@ -24,6 +24,22 @@ pub fn restored_length()
     ensures pieces { PiecesHoldAll }
     ensures text { TextHoldsPieces }
     ensures whole { RestoredIsLong }
+{}
+
+/// What a restore gives is what its pieces give one by one: each is read by itself, and the first that says no data ends
+/// it.
+pub fn piece_by_piece()
+    ensures apart { RestoresOneByOne }
+    ensures joined { OneByOneRestores }
+{}
+
+/// Of some pieces just one list of bytes is given where zero bytes stand in the place of what doesn't read. It begins
+/// with the text of a restore, is that text where all was read, and is as long as the volume.
+pub fn given_bytes_are_one()
+    ensures function { GivenIsFunction }
+    ensures always { GivenAlways }
+    ensures front { GivenBeginsRestored }
+    ensures long { GivenIsLong }
 {}
 
 /// A volume of what a cartridge stands for is restored byte for byte where each of its segments that holds some of it

@@ -1,11 +1,8 @@
--- The words of the commands, and how their numbers, dates and names are spelled (this project's own).
-use Rattle.std.specs.Prelude.{◌≡◌, ℕ, ◌≤◌, List, decimal, [], ◌∷◌, ◌⊎◌, ◌==◌, ◌++◌, if◌then◌else◌, true, false, codes}
+-- The forms of words, and how numbers, dates and names are spelled in them (this project's own).
+use Rattle.std.specs.Prelude.{◌≡◌, ℕ, ◌≤◌, List, decimal, [], ◌∷◌, ◌⊎◌, ◌==◌, ◌++◌, if◌then◌else◌}
 use Rattle.command_spec.specs.Lines.{date_form}
-use Rattle.command_spec.specs.declared.words.Words.{Words}
 use Rattle.qic_base.specs.Date.{IsDate, date_word}
 use Rattle.qic_base.specs.Name.{IsNameText, filled}
-use Rattle.qic_base.specs.declared.TheConstants.{LONGEST}
-use Rattle.command_spec.specs.declared.words.Words.TheVariants as words
 
 -- ---- a word
 
@@ -65,23 +62,3 @@ dated form date = (form ++ Date date ∷ []) ∷ (if date == 0 then form ∷ [] 
 -- any number that a word can be
 abbrev pub AnyNumber : ℕ → Part
 AnyNumber n = Number 0 999999999 n
-
-abbrev pub word_forms : Words → List (List Part)
-word_forms (words.New segments) = (Word (codes "new") ∷ Number 3 LONGEST segments ∷ []) ∷ []
-word_forms (words.Defect segment sector) = (Word (codes "defect") ∷ AnyNumber segment ∷ AnyNumber sector ∷ []) ∷ []
-word_forms (words.Lose segment sector) = (Word (codes "lose") ∷ AnyNumber segment ∷ AnyNumber sector ∷ []) ∷ []
-word_forms (words.Protect true) = (Word (codes "protect") ∷ Word (codes "on") ∷ []) ∷ []
-word_forms (words.Protect false) = (Word (codes "protect") ∷ Word (codes "off") ∷ []) ∷ []
-word_forms (words.Format label date) = dated (Word (codes "format") ∷ Name label ∷ []) date
-word_forms words.Info = (Word (codes "info") ∷ []) ∷ []
-word_forms (words.Append name date) = dated (Word (codes "append") ∷ Name name ∷ []) date
-word_forms words.List = (Word (codes "list") ∷ []) ∷ []
-word_forms (words.Restore number) = (Word (codes "restore") ∷ AnyNumber number ∷ []) ∷ []
-word_forms words.Scrub = (Word (codes "scrub") ∷ []) ∷ []
-word_forms words.Pulses = (Word (codes "pulses") ∷ []) ∷ []
-word_forms words.Script = (Word (codes "script") ∷ []) ∷ []
-word_forms (words.Make seed count) = (Word (codes "make") ∷ AnyNumber seed ∷ Number 1 200 count ∷ []) ∷ []
-
--- the words are those of the command
-abbrev pub IsCommand : List (List ℕ) → Words → Type 0
-IsCommand words command = HasForm words (word_forms command)

@@ -1,10 +1,11 @@
 -- The clauses of the headline, one by one (this project's own).
 use Rattle.std.specs.Prelude.{◌≡◌, ℕ, List, ◌++◌, Option, Some, ◌⊎◌, true, IsSomeAnd, IfSome, ◌≤◌, is_some, Bool, false}
 use Rattle.std.specs.Option.{option_map}
+use Rattle.command_spec.specs.Commands.{traits_of}
 use Rattle.command_spec.specs.Machine.{Step, Yields, Spells, HasInputFault, CommandPrints, RefusedPrints, FrontPrints}
 use Rattle.command_spec.specs.Outcome.{CommandOutcome}
 use Rattle.command_spec.specs.Runs.{InputLeft, OverTold, IsCutOff, IsOfBytes}
-use Rattle.command_spec.specs.Traits.{Traits, traits_of}
+use Rattle.command_spec.specs.Traits.{Traits}
 use Rattle.command_spec.specs.declared.status.Status.{Status}
 use Rattle.command_spec.specs.declared.words.Words.{Words}
 use Rattle.qic_base.specs.Acts.{Outside, Failing, steps_of, NoneFell}

@@ -1,9 +1,8 @@
 -- The headline: what a run promises (this project's own).
 use Rattle.std.specs.Prelude.{◌≡◌, ◌≢◌, ◌⊎◌, ◌↔◌, ℕ, true, false, List}
-use Rattle.command_spec.specs.Complete.{CanBeDone}
 use Rattle.command_spec.specs.Headline.{Answers, NoneRose, IsCut, EachLeft, WordsLeave, Joins, SpellsOne, SpellsNoneThat, HasNamedFault, HasNoFault, PrintsText, PrintsRefused, PrintsFront}
 use Rattle.command_spec.specs.Listing.{ListsAppends}
-use Rattle.command_spec.specs.Machine.{Spells, SpellsNone}
+use Rattle.command_spec.specs.Machine.{CanBeDone, Spells, SpellsNone}
 use Rattle.command_spec.specs.OneLoss.{SurvivesOneLoss}
 use Rattle.command_spec.specs.Runs.{OverTold, is_fault, fault_of, is_outcome, may_come_from}
 use Rattle.command_spec.specs.Several.{MakesVolumes, CarriesOutLines}

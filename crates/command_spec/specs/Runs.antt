@@ -1,9 +1,9 @@
 -- How a command ended: all acts of its outcome went, or a fault of the outside cut them off (this project's own).
-use Rattle.std.specs.Prelude.{◌≡◌, ℕ, List, Option, IfSome, ◌+◌, drop, Bool, true, false, zero, suc, nat_le, ◌&&◌, ◌==◌, nat_lt, ◌||◌, ◌<◌, All, IfNone, ◌≢◌, [], is_some, ◌⊎◌}
+use Rattle.std.specs.Prelude.{◌≡◌, ℕ, List, Option, IfSome, ◌+◌, drop, Bool, true, false, ◌&&◌, ◌==◌, nat_lt, ◌||◌, ◌<◌, All, IfNone, ◌≢◌, [], is_some, ◌⊎◌}
 use Rattle.std.specs.Option.{option_map}
+use Rattle.command_spec.specs.Commands.{command_of, traits_of}
 use Rattle.command_spec.specs.Machine.{CommandPrints, RefusedPrints, HasInputFault, Yields, FrontPrints}
 use Rattle.command_spec.specs.Outcome.{is_refused, CommandOutcome, output_of}
-use Rattle.command_spec.specs.Traits.{traits_of}
 use Rattle.command_spec.specs.declared.status.Status.{Status}
 use Rattle.command_spec.specs.declared.words.Words.{Words}
 use Rattle.qic_base.specs.Acts.{Outside, Failing, TapeFails, SourceFails, SinkFails, Went, Act, Cut, steps_of, text_of, no_source, around}
@@ -11,7 +11,6 @@ use Rattle.qic_base.specs.Cartridge.{Cartridge}
 use Rattle.qic_base.specs.Source as sources
 use Rattle.qic_base.specs.Tape as tapes
 use Rattle.command_spec.specs.declared.status.Status.TheVariants as status
-use Rattle.command_spec.specs.declared.words.Words.TheVariants as words
 use Rattle.qic_base.specs.Sink as sinks
 
 -- where the tape tells, a fact of what it told and of the input: that which the source told, or some input where it
@@ -50,22 +49,14 @@ is_outcome status.TapeFault = false
 is_outcome status.NoMemory = false
 is_outcome answer = true
 
--- a number, counted from 1, is that of none of so many volumes
-abbrev pub is_past : (number count : ℕ) → Bool
-is_past zero count = true
-is_past (suc n) count = nat_le count n
-
 -- these are the number of a volume that was asked for, and the count of those that there are, among which it is none
 abbrev pub is_no_volume : Words → (number count : ℕ) → Bool
-is_no_volume (words.Restore asked) number count = (number == asked) && is_past asked count
-is_no_volume command number count = false
+is_no_volume command number count = (command_of command).is_no_volume number count
 
 -- there is no room for so many bytes: an append of the whole input asks for at most one byte beyond it, and a generated volume
 -- for more than there is
 abbrev pub is_full : Words → (need have : ℕ) → Bool
-is_full (words.Append name date) need have = nat_le need (have + 1)
-is_full (words.Make seed count) need have = nat_lt have need
-is_full command need have = false
+is_full command need have = (command_of command).is_full need have
 
 -- the commands that such an answer may come from, and with which numbers, whatever the tape and the source tell: a segment
 -- that doesn't read lost more than three sectors, and is that of the volume table but for commands that give volumes back; a foreign

@@ -1,7 +1,5 @@
 -- What kind of a command each is (this project's own).
-use Rattle.std.specs.Prelude.{Bool, false, true}
-use Rattle.command_spec.specs.declared.words.Words.{Words}
-use Rattle.command_spec.specs.declared.words.Words.TheVariants as words
+use Rattle.std.specs.Prelude.{Bool, false}
 
 pub record Traits : Type 0 where
   -- it reads the input
@@ -44,34 +42,4 @@ none_of_them = record {
   mounts = false;
   appends = false;
   restores = false;
-}
-
--- A new cartridge needs none before it, and the drive shows its levels without one.
-abbrev pub traits_of : Words → Traits
-traits_of (words.New segments) = none_of_them
-traits_of (words.Defect segment sector) = record none_of_them { cartridge = true; sector = true; blank = true }
-traits_of (words.Lose segment sector) = record none_of_them { cartridge = true; sector = true }
-traits_of (words.Protect on) = record none_of_them { cartridge = true }
-traits_of (words.Format label date) = record none_of_them { memory = true; cartridge = true; writable = true; formats = true }
-traits_of words.Info = record none_of_them { memory = true; cartridge = true; mounts = true }
-traits_of (words.Append name date) = record none_of_them {
-  reads = true;
-  memory = true;
-  cartridge = true;
-  writable = true;
-  mounts = true;
-  appends = true;
-}
-traits_of words.List = record none_of_them { memory = true; cartridge = true; mounts = true }
-traits_of (words.Restore number) = record none_of_them { goes = true; memory = true; cartridge = true; mounts = true; restores = true }
-traits_of words.Scrub = record none_of_them { goes = true; memory = true; cartridge = true; writable = true; mounts = true }
-traits_of words.Pulses = record none_of_them { reads = true; lines = true; goes = true }
-traits_of words.Script = record none_of_them { reads = true; lines = true; goes = true; memory = true; cartridge = true; mounts = true }
-traits_of (words.Make seed count) = record none_of_them {
-  goes = true;
-  memory = true;
-  cartridge = true;
-  writable = true;
-  mounts = true;
-  restores = true;
 }

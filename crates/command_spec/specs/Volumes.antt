@@ -1,19 +1,19 @@
 -- What a run leaves of the plain cartridge that a cartridge stands for, with its header and its volumes, of the list that it
 -- is mounted with, and of the sectors of its table's segment (this project's own).
-use Rattle.std.specs.Prelude.{◌≡◌, true, ℕ, List, Option, Some, IsSomeAnd, ◌≤◌, ◌⊎◌, IfSome, ◌<◌, All, suc, slice_get, ◌≢◌, false, take}
+use Rattle.std.specs.Prelude.{◌≡◌, ℕ, List, Option, Some, IsSomeAnd, ◌⊎◌, IfSome, ◌<◌, All, ◌≢◌, false, take}
 use Rattle.cartridge_spec.specs.Appending.{volume_bytes, with_bytes}
 use Rattle.cartridge_spec.specs.Formatting.{IsFreshFor, fresh_plain, StandsCleanly, HasNoHeader, HasCleanCopies}
 use Rattle.cartridge_spec.specs.Header.{Header}
 use Rattle.cartridge_spec.specs.HeaderAndTable.{IsUnformatted, IsArea}
-use Rattle.cartridge_spec.specs.Mounting.{Mounted, Mounts, IsTableLive, CanBeRead}
+use Rattle.cartridge_spec.specs.Mounting.{Mounted, Mounts, IsTableLive}
 use Rattle.cartridge_spec.specs.Says.{unreadable_count}
 use Rattle.cartridge_spec.specs.Table.{Entry}
 use Rattle.cartridge_spec.specs.Volumes.{Plain, Stands, Volume}
-use Rattle.cartridge_spec.specs.Wear.{WearSpares}
+use Rattle.command_spec.specs.Commands.{command_of}
 use Rattle.command_spec.specs.Headline.{EachLeft, EachNow}
 use Rattle.command_spec.specs.Machine.{Spells}
-use Rattle.command_spec.specs.Outcome.{HasPlace}
 use Rattle.command_spec.specs.Restore.{FirstLost, pieces_in, LosesFew, bytes_held, piece_cells}
+use Rattle.command_spec.specs.RestoreCommand.{HasNumber}
 use Rattle.command_spec.specs.Runs.{is_fault, fault_of}
 use Rattle.command_spec.specs.declared.status.Status.{Status}
 use Rattle.command_spec.specs.declared.words.Words.{Words}
@@ -30,13 +30,7 @@ use Rattle.qic_base.specs.Sink as sinks
 -- generated run add volumes, but for a protected one; so may the lines of a script. A sector that is worn has to spare the header
 -- and the table.
 abbrev pub KeepsVolumes : Words → Cartridge → Plain → Type 0
-KeepsVolumes (commands.New segments) c plain = ⊥
-KeepsVolumes (commands.Append name date) c plain = c.info.protected ≡ true
-KeepsVolumes (commands.Format label date) c plain = c.info.protected ≡ true
-KeepsVolumes (commands.Lose segment sector) c plain = HasPlace c segment sector → WearSpares c plain segment sector
-KeepsVolumes commands.Script c plain = ⊥
-KeepsVolumes (commands.Make seed count) c plain = c.info.protected ≡ true
-KeepsVolumes command c plain = Unit {0}
+KeepsVolumes command c plain = (command_of command).keeps_volumes c plain
 
 abbrev pub WordsKeep : List (List ℕ) → Cartridge → Plain → Type 0
 WordsKeep words c plain = (command : Words) → Spells words command → KeepsVolumes command c plain
@@ -55,13 +49,7 @@ VolumesStay t words old new = EachLeft t old new (StillStands words)
 
 -- The command keeps what a cartridge is mounted as, whether it stands for a plain one or not.
 abbrev pub KeepsList : Words → Cartridge → Type 0
-KeepsList (commands.New segments) c = ⊥
-KeepsList (commands.Append name date) c = c.info.protected ≡ true
-KeepsList (commands.Format label date) c = c.info.protected ≡ true
-KeepsList (commands.Lose segment sector) c = HasPlace c segment sector → 3 ≤ segment
-KeepsList commands.Script c = ⊥
-KeepsList (commands.Make seed count) c = c.info.protected ≡ true
-KeepsList command c = Unit {0}
+KeepsList command c = (command_of command).keeps_list c
 
 abbrev pub WordsKeepList : List (List ℕ) → Cartridge → Type 0
 WordsKeepList words c = (command : Words) → Spells words command → KeepsList command c
@@ -79,19 +67,22 @@ ListStays t words old new = EachLeft t old new (StillMounts words)
 
 -- ---- the table's segment
 
--- What is left of a cartridge each sector of whose table's segment takes a write is such a one, unless the words are those of `new`.
+-- The command keeps it that each sector takes a write: all but `new` do.
+abbrev pub KeepsLive : Words → Type 0
+KeepsLive command = (command_of command).keeps_live
+
+abbrev pub WordsKeepLive : List (List ℕ) → Type 0
+WordsKeepLive words = (command : Words) → Spells words command → KeepsLive command
+
+-- What is left of a cartridge each sector of whose table's segment takes a write is such a one, where the words keep it so.
 abbrev pub StillLive : List (List ℕ) → (held left : Option Cartridge) → Type 0
-StillLive words held left =
-    (c : Cartridge) → held ≡ Some c → IsTableLive c → ((segments : ℕ) → ¬ (Spells words (commands.New segments))) →
-    IsSomeAnd left IsTableLive
+StillLive words held left = (c : Cartridge) → held ≡ Some c → IsTableLive c → WordsKeepLive words → IsSomeAnd left IsTableLive
 
 -- ---- header copies
 
 -- The command leaves the header. A new cartridge has none, and formatting writes one, but for a protected cartridge.
 abbrev pub KeepsCopies : Words → Cartridge → Type 0
-KeepsCopies (commands.New segments) c = ⊥
-KeepsCopies (commands.Format label date) c = c.info.protected ≡ true
-KeepsCopies command c = Unit {0}
+KeepsCopies command c = (command_of command).keeps_copies c
 
 abbrev pub WordsKeepCopies : List (List ℕ) → Cartridge → Type 0
 WordsKeepCopies words c = (command : Words) → Spells words command → KeepsCopies command c
@@ -156,14 +147,6 @@ abbrev pub StopsAppend : {T : Type 0} (t : tapes.Meaning T) (told : Option (List
 StopsAppend t told words old new = EachLeft t old new (AppendedOrNot told words)
 
 -- ---- restoring
-
--- a cartridge stands for a plain one that has this volume of the number, counted from 1, and its volume table can be read
-pub record HasNumber (c : Cartridge) (plain : Plain) (number : ℕ) (volume : Volume) : Type 0 where
-  pub stands : Stands c plain
-  pub reads : CanBeRead c
-  pub place : ℕ
-  pub numbered : number ≡ suc place
-  pub is : slice_get plain.volumes place ≡ Some volume
 
 -- the command came to its end
 abbrev pub CameToEnd : Status → Type 0

@@ -1,7 +1,7 @@
 -- What a person does to the cartridge, past the drive (this project's profile).
 use Rattle.std.specs.Prelude.{◌≡◌, ℕ, ◌⊎◌, true, false, [], ◌∷◌, Option, Some, None, Result, Ok, Err}
-use Rattle.qic_base.specs.Cartridge.{view_at, IsPlace}
-use Rattle.qic_base.specs.Step.{Step, Wear, Spoil}
+use Rattle.qic_base.specs.Cartridge.{view_at, IsPlace, IsVersion}
+use Rattle.qic_base.specs.Step.{Step, Wear, Spoil, Upgrade}
 use Rattle.qic_base.specs.Tape.{Meaning, Done, Broke, Tells, spoil_answer}
 use Rattle.qic_base.specs.declared.tape.TapeInfo.{TapeInfo}
 use Rattle.drive_spec.specs.Record.{power_on}
@@ -36,6 +36,27 @@ Spoils m old new segment sector (Err Tape) = Broke m old.tape new.tape (Spoil se
 Spoils m old new segment sector (Err NotBlank) =
     Done m old.tape new.tape (Spoil segment sector ∷ [])
     × Tells m old.tape (λ c. spoil_answer (view_at c segment sector) ≡ false)
+
+-- The tape keeps its cartridge in the newest layout, and told the version of the layout before.
+pub record IsUpgraded {T : Type 0} (m : Meaning T) (old new : T) (version : ℕ) : Type 0 where
+  pub done : Done m old new (Upgrade ∷ [])
+  pub told : Tells m old (λ c. version ≡ c.version)
+  pub layout : IsVersion version
+  pub size : m.size new ≡ m.size old
+
+-- The tape failed in that: its size is told no more.
+pub record FailsToUpgrade {T : Type 0} (m : Meaning T) (old new : T) : Type 0 where
+  pub broke : Broke m old new (Upgrade ∷ [])
+  pub size : m.size new ≡ None
+
+-- The cartridge is brought to the newest layout, and the drive goes on as it was. After a fault of the tape it knows of
+-- none.
+abbrev pub Upgrades : {T : Type 0} (m : Meaning T) (old new : UnitView T) → Result ℕ HandFault → Type 0
+Upgrades m old new (Ok version) = (new.drive ≡ old.drive) × IsUpgraded m old.tape new.tape version
+Upgrades m old new (Err NoCartridge) = ⊥
+Upgrades m old new (Err BadPlace) = ⊥
+Upgrades m old new (Err Tape) = (new.drive ≡ power_on None) × FailsToUpgrade m old.tape new.tape
+Upgrades m old new (Err NotBlank) = ⊥
 
 -- the place that a call names, by its answer: there is no cartridge, or it has no such sector
 abbrev pub IsPlaced : Option TapeInfo → (segment sector : ℕ) → Result ℕ HandFault → Type 0

@@ -1,6 +1,6 @@
 //! A drive in whatever state it is.
 
-ghost use Rattle.std.specs.Prelude.{◌≡◌, ℕ, [], ◌∷◌, IfOk, true};
+ghost use Rattle.std.specs.Prelude.{◌≡◌, ℕ, [], ◌∷◌, IfErr, IfOk, IsSome, true};
 ghost use Rattle.qic_base.specs.Cartridge.{view_at};
 ghost use Rattle.qic_base.specs.Step.{Wear, Spoil};
 ghost use Rattle.qic_base.specs.Tape.{Does, Tells, IsPlaceOf, spoil_answer};
@@ -9,6 +9,7 @@ ghost use Rattle.drive_spec.specs.Deck.{is_streaming, is_protected};
 ghost use Rattle.drive_spec.specs.Effects.{ticked, reset, run_on};
 ghost use Rattle.drive_states.specs.AnyDrive.{drive_of, state_of};
 ghost use Rattle.drive_states.specs.Errors.{with_error};
+ghost use Rattle.drive_states.specs.Hand.{IsUpgraded, FailsToUpgrade};
 ghost use Rattle.drive_states.specs.Reach.{reads_in, Reaches, ReachesNone, IsFormatting, Finds, Writes, Formats};
 ghost use Rattle.drive_states.specs.Sound.{IsSound};
 ghost use Rattle.drive_states.specs.Typed.{IsIn};
@@ -46,6 +47,18 @@ macro_rules! in_each_state {
             AnyDrive::SeekingPrimary($drive) => $body,
             AnyDrive::SeekingFormat($drive) => $body,
             AnyDrive::SeekingVerify($drive) => $body,
+        }
+    };
+}
+
+/// Upgrades the cartridge of the drive of each state, which is in that state again.
+macro_rules! upgraded_in {
+    ($any:expr, $($state:ident,)*) => {
+        match $any {
+            $(AnyDrive::$state(drive) => match drive.upgrade() {
+                Ok((drive, version)) => Ok((AnyDrive::$state(drive), version)),
+                Err(tape) => Err(tape),
+            },)*
         }
     };
 }
@@ -210,5 +223,27 @@ impl<T: Tape> AnyDrive<T> {
         ensures size { T.means.size (drive_of self.new).tape ≡ T.means.size (drive_of self.old).tape }
     {
         in_each_state!(self, drive => drive.spoil(segment, sector))
+    }
+
+    /// Has the cartridge kept in the newest layout. Gives back the drive, and the version of the layout before; or the
+    /// tape, which failed.
+    pub fn upgrade(self) -> Result<(AnyDrive<T>, u8), T>
+        requires { IsSome (T.means.size (drive_of self).tape) }
+        ensures deck { IfOk result (λ upgraded. (drive_of upgraded.0).deck ≡ (drive_of self).deck) }
+        ensures tape { IfOk result (λ upgraded.
+            IsUpgraded T.means (drive_of self).tape (drive_of upgraded.0).tape upgraded.1) }
+        ensures failed { IfErr result (λ tape. FailsToUpgrade T.means (drive_of self).tape tape) }
+    {
+        upgraded_in!(
+            self,
+            LoadPoint,
+            Primary,
+            Format,
+            Verify,
+            SeekingLoadPoint,
+            SeekingPrimary,
+            SeekingFormat,
+            SeekingVerify,
+        )
     }
 }

@@ -1,6 +1,6 @@
 //! What a person does to the cartridge, past the drive.
 
-ghost use Rattle.std.specs.Prelude.{◌≡◌, [], ◌∷◌, None, IsSome, OnOk, OnErr, false};
+ghost use Rattle.std.specs.Prelude.{◌≡◌, [], ◌∷◌, None, IfOk, IsSome, OnOk, OnErr, false};
 ghost use Rattle.qic_base.specs.Cartridge.{IsLength};
 ghost use Rattle.qic_base.specs.Step.{Renew, SetProtected};
 ghost use Rattle.qic_base.specs.Tape.{Does};
@@ -8,7 +8,7 @@ ghost use Rattle.drive_spec.specs.Deck.{power_on_deck};
 ghost use Rattle.drive_spec.specs.Record.{power_on};
 ghost use Rattle.drive_states.specs.AnyDrive.{drive_of};
 ghost use Rattle.drive_states.specs.Cable.{unit_of, record_of};
-ghost use Rattle.drive_states.specs.Hand.{Replaces};
+ghost use Rattle.drive_states.specs.Hand.{Replaces, Upgrades, IsUpgraded, FailsToUpgrade};
 ghost use Rattle.drive_states.specs.Unit.{IsInserted, KnowsAll};
 
 use crate::any_drive::AnyDrive;
@@ -83,6 +83,21 @@ fn protected<T: Tape>(drive: AnyDrive<T>, on: bool) -> (AnyDrive<T>, Result<(), 
     }
 }
 
+fn upgraded<T: Tape>(drive: AnyDrive<T>, _: ()) -> (AnyDrive<T>, Result<u8, TapeFailed>)
+    requires { IsSome (T.means.size (drive_of drive).tape) }
+    ensures kept { OnOk result.1 ((drive_of result.0).deck ≡ (drive_of drive).deck) }
+    ensures tape { IfOk result.1 (λ version.
+        IsUpgraded T.means (drive_of drive).tape (drive_of result.0).tape version) }
+    ensures unknown { OnErr result.1 ((drive_of result.0).deck ≡ power_on_deck None) }
+    ensures failed { OnErr result.1
+        (FailsToUpgrade T.means (drive_of drive).tape (drive_of result.0).tape) }
+{
+    match drive.upgrade() {
+        Ok((drive, version)) => (drive, Ok(version)),
+        Err(tape) => (empty(tape), Err(TapeFailed)),
+    }
+}
+
 impl<T: Tape> Dialogue<T> {
     /// Takes the cartridge out and puts it in again. After a failure the drive knows of none.
     pub fn insert(&mut self) -> Result<(), TapeFailed>
@@ -130,6 +145,19 @@ impl<T: Tape> Dialogue<T> {
         match replace_with(&mut self.drive, on, protected) {
             Ok(()) => Ok(()),
             Err(TapeFailed) => Err(HandFault::Tape),
+        }
+    }
+    /// Has the cartridge that the drive knows of kept in the newest layout.
+    pub fn upgrade(&mut self) -> Result<u8, HandFault>
+        requires { IsSome (T.means.size (unit_of self.old).tape) }
+        ensures { Upgrades T.means (unit_of self.old) (unit_of self.new) result }
+    {
+        match replace_with(&mut self.drive, (), upgraded) {
+            Ok(version) => Ok(version),
+            Err(TapeFailed) => {
+                self.rest();
+                Err(HandFault::Tape)
+            }
         }
     }
 }

@@ -9,7 +9,7 @@ ghost use Rattle.drive_spec.specs.Deck.{is_protected};
 ghost use Rattle.drive_spec.specs.Record.{power_on};
 ghost use Rattle.drive_spec.specs.Row.{after_gap, moved_on};
 ghost use Rattle.drive_spec.specs.Steps.{gap_steps};
-ghost use Rattle.drive_states.specs.Hand.{Replaces, Wears, Spoils, IsPlaced, IsNotReached};
+ghost use Rattle.drive_states.specs.Hand.{Replaces, Wears, Spoils, Upgrades, IsPlaced, IsNotReached};
 ghost use Rattle.drive_states.specs.Reach.{reads_in, Reaches, ReachesNone, IsFormatting, Finds, Writes, Formats};
 ghost use Rattle.drive_states.specs.Unit.{stepped, IsInserted, IsSoundUnit, held};
 ghost use Rattle.drive_states.specs.Unreferenced.{without_reference};
@@ -220,6 +220,22 @@ impl<T: Tape> Unit<T> {
             Ok(false) => Err(HandFault::NotBlank),
             Err(TapeFailed) => Err(HandFault::Tape),
         }
+    }
+
+    /// Has the cartridge kept in the newest layout. Answers the version of the layout before, 1 or 2. After a failure the
+    /// drive knows of none.
+    pub fn upgrade(&mut self) -> Result<u8, HandFault>
+        ensures absent { IfNone self.old.drive.deck.cartridge
+            ((result ≡ Err HandFault.NoCartridge) × (self.new ≡ self.old)) }
+        ensures present { IfSome self.old.drive.deck.cartridge (λ info.
+            Upgrades T.means self.old self.new result) }
+    {
+        if self.dialogue.drive.deck().cartridge.is_none() {
+            return Err(HandFault::NoCartridge);
+        }
+        let answer = self.dialogue.upgrade();
+        self.dialogue.drive.reveal();
+        answer
     }
 
     /// The index of a sector that the cartridge has.

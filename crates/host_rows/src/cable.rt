@@ -70,6 +70,8 @@ pub enum Row {
     Wear(u32, u32, Result<(), HandFault>),
     /// A person spoils a sector.
     Spoil(u32, u32, Result<(), HandFault>),
+    /// A person brings the cartridge to the newest layout.
+    Upgrade(Result<u8, HandFault>),
     /// A train of so many pulses, which leaves the level 0 on the line.
     Train(u16),
     /// A report of the status, a word of 8 bits.
@@ -114,6 +116,7 @@ fn holds(unit: &mut Unit<MemTape>, row: Row) -> bool {
         Row::Protect(on, answer) => unit.protect(on) == answer,
         Row::Wear(segment, sector, answer) => unit.wear(segment, sector) == answer,
         Row::Spoil(segment, sector, answer) => unit.spoil(segment, sector) == answer,
+        Row::Upgrade(answer) => unit.upgrade() == answer,
         Row::Train(pulses) => train(unit, pulses) == Ok(false),
         Row::Status(word) => report(unit, 6, 8) == Some(word),
         Row::Error(word) => report(unit, 7, 16) == Some(word),

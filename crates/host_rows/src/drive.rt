@@ -33,7 +33,10 @@ fn an_empty_drive_takes_a_blank_cartridge_alone(rt: HostRuntime) {
             Row::Protect(true, Err(HandFault::NoCartridge)),
             Row::Wear(84, 32, Err(HandFault::NoCartridge)),
             Row::Spoil(0, 0, Err(HandFault::NoCartridge)),
+            Row::Upgrade(Err(HandFault::NoCartridge)),
             Row::Load(3, Ok(())),
+            Row::Status(0x55),
+            Row::Upgrade(Ok(2)),
             Row::Status(0x55),
             // The tape has no room for a longer one, and the drive then knows of none.
             Row::Load(4, Err(HandFault::Tape)),
@@ -82,7 +85,7 @@ fn sectors_are_written_as_they_pass(rt: HostRuntime) {
 
 #[test]
 fn a_fault_of_the_tape_leaves_the_head_where_it_was(rt: HostRuntime) {
-    // Calls 5 and 6 of the tape put the cartridge in; 7 is the first read, and 9 the first write.
+    // Calls 5 and 6 of the tape put the cartridge in; 7 is the first read, 9 the first write, and 11 the upgrade.
     let rows = [
         Row::Insert,
         Row::Insert,
@@ -92,8 +95,10 @@ fn a_fault_of_the_tape_leaves_the_head_where_it_was(rt: HostRuntime) {
         Row::Shows(front(1), 0),
         Row::Write(front(2), Err(FdcFault::Tape)),
         Row::Write(front(2), Ok(())),
+        Row::Upgrade(Err(HandFault::Tape)),
+        Row::Status(0x01),
     ];
-    assert_eq!(rt; first_wrong_written(&rt, rt.alloc(), &[7, 9], &rows), None);
+    assert_eq!(rt; first_wrong_written(&rt, rt.alloc(), &[7, 9, 11], &rows), None);
 }
 
 /// A drive whose tape never fails, with a cartridge of three segments per track whose segment 0 is formatted.

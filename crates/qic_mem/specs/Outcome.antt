@@ -2,7 +2,7 @@
 use Rattle.std.specs.Prelude.{ℕ, Bool, Option, Some, None, if◌then◌else◌}
 use Rattle.std.specs.Option.{option_map}
 use Rattle.qic_base.specs.Cartridge.{Cartridge, with_segment}
-use Rattle.qic_base.specs.Step.{Step, WriteSector, FormatSegment, Renew, Wear, effect, worn_view}
+use Rattle.qic_base.specs.Step.{Step, WriteSector, FormatSegment, Renew, Wear, Upgrade, effect, worn_view}
 use Rattle.qic_mem.specs.declared.tape.outcome.Outcome.{Outcome}
 use Rattle.qic_mem.specs.declared.tape.outcome.Outcome.TheVariants.{Old, Lost, New}
 use Rattle.qic_mem.specs.declared.tape.outcome.End.{End}
@@ -27,7 +27,8 @@ abbrev pub ended : End → Step → Option Cartridge → Option Cartridge
 ended Done s held = effect s held
 ended (Failed outcome) s held = left_by outcome s held
 
--- the size told after a call: a new cartridge tells its own, and one that failed leaves none
+-- the size told after a call: a new cartridge tells its own; that, or an upgrade, that failed leaves none
 abbrev pub size_ended : Step → Bool → Option ℕ → Option ℕ
 size_ended (Renew n) failed size = if failed then None else Some n
+size_ended Upgrade failed size = if failed then None else size
 size_ended s failed size = size

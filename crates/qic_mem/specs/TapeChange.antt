@@ -13,6 +13,7 @@ step_of (change.SetProtected on) = SetProtected on
 step_of (change.Renew n) = Renew n
 step_of (change.Wear segment sector) = Wear segment sector
 step_of (change.Spoil segment sector) = Spoil segment sector
+step_of change.Upgrade = Upgrade
 
 -- the sector or segment lies within the size that was told; a new cartridge has a length
 abbrev pub IsReached : Option ℕ → Step → Type 0

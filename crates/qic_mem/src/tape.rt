@@ -2,8 +2,8 @@
 
 ghost use Rattle.std.specs.Prelude.{◌≡◌, ◌≢◌, ◌↔◌, [], ◌∷◌, Some, None, is_err, IsErr, IsSome, IfOk, IfSome, OnOk, OnErr};
 ghost use Rattle.std.specs.Option.{option_map};
-ghost use Rattle.qic_base.specs.Cartridge.{IsLength, view_at};
-ghost use Rattle.qic_base.specs.Step.{WriteSector, FormatSegment, SetReferenced, SetProtected, Renew, Wear, Spoil};
+ghost use Rattle.qic_base.specs.Cartridge.{IsLength, IsVersion, new_version, view_at};
+ghost use Rattle.qic_base.specs.Step.{WriteSector, FormatSegment, SetReferenced, SetProtected, Renew, Wear, Spoil, Upgrade};
 ghost use Rattle.qic_base.specs.Tape.{Does, Tells, IsPlaceOf, Reads, write_answer, spoil_answer};
 ghost use Rattle.qic_mem.specs.TapeChange.{step_of, IsReached};
 ghost use Rattle.qic_mem.specs.Plan.{new_plan, IsChosen};
@@ -272,5 +272,24 @@ impl Tape for MemTape {
         let answer = self.holder.spoil_answer(segment, sector);
         self.run(TapeChange::Spoil(segment, sector))?;
         Ok(answer)
+    }
+
+    fn upgrade(&mut self) -> Result<u8, TapeFailed>
+        requires { IsSome (tape_means.size self.old) }
+        ensures did { Does tape_means self.old self.new (Upgrade ∷ []) result }
+        ensures answer { IfOk result (λ version. Tells tape_means self.old (λ c. version ≡ c.version)) }
+        ensures version { IfOk result (λ version. IsVersion version) }
+        ensures size { OnOk result (tape_means.size self.new ≡ tape_means.size self.old) }
+        ensures failed { OnErr result (tape_means.size self.new ≡ None) }
+
+        // The layout is always the newest.
+        ensures newest { IfOk result (λ version. version ≡ new_version) }
+        ensures fails { IsErr result ↔ Fails (tape_state self.old) Upgrade }
+        ensures state { tape_state self.new
+            ≡ after_call (tape_state self.old) Upgrade (is_err result) }
+    {
+        let version = self.holder.version();
+        self.run(TapeChange::Upgrade)?;
+        Ok(version)
     }
 }

@@ -18,7 +18,7 @@ use Rattle.command_laws.proofs.CommandAdded.{status_by, input_texts, replied_tex
 use Rattle.command_laws.proofs.CommandEndings.{nothing_front}
 use Rattle.command_laws.proofs.CommandEnds.{is_some-map}
 use Rattle.command_laws.proofs.CommandOpened.{quiet}
-use Rattle.command_laws.proofs.CommandPlainLaws.{plain_is_function}
+use Rattle.command_laws.proofs.CommandTable.{plain_is_function}
 use Rattle.command_laws.proofs.CommandTold.{input_of, input_told}
 use Rattle.command_laws.proofs.StoreTaking.{both_true}
 use Rattle.command_spec.specs.Append.{Kept, kept_on, Taking, Fits, TooLong, TooShort, entry_acts, silently, taking, room_in, input_writes, append_acts, append_status, Appends, bytes_taken, entry_for, AppendOutcome}

@@ -1,10 +1,10 @@
 //! The top calls, and the way to each command.
 
-ghost use Rattle.std.specs.Prelude.{◌≡◌, ◌≢◌, ◌⊎◌, ℕ, List, true, false, map, string_bytes};
+ghost use Rattle.std.specs.Prelude.{◌≡◌, ◌≢◌, ◌⊎◌, ℕ, List, IfOk, OnErr, true, false, map, string_bytes};
 ghost use Rattle.command_spec.specs.Machine.{HasValues, Spells, ReadsCommand};
 ghost use Rattle.command_spec.specs.Promises.{Promises};
-ghost use Rattle.command_spec.specs.Runs.{CommandEnds, EndsBlind};
-ghost use Rattle.command_spec.specs.Traits.{traits_of};
+ghost use Rattle.command_spec.specs.Commands.{traits_of};
+ghost use Rattle.command_spec.specs.Runs.{CommandEnds};
 
 use crate::Status;
 use crate::append::append;
@@ -18,7 +18,7 @@ use crate::new::put_in_new;
 use crate::protect::protect;
 use crate::pulses::pulses;
 use crate::restore::restore;
-use crate::room::Room;
+use crate::room::{Memory, Room};
 use crate::script::script;
 use crate::scrub::scrub;
 use bad_sector_map::BadMap;
@@ -29,104 +29,40 @@ use std::alloc::Global;
 use tape_script::{BadWords, Words, read_words};
 use volume_table::Table;
 
-fn takes_memory(command: &Words) -> bool
-    ensures { result ≡ (traits_of command.now).memory }
-{
-    matches!(
-        command,
-        Words::Format { .. }
-            | Words::Info
-            | Words::Append { .. }
-            | Words::List
-            | Words::Restore { .. }
-            | Words::Scrub
-            | Words::Script
-            | Words::Make { .. }
-    )
-}
-
-fn reads_input(command: &Words) -> bool
-    ensures { result ≡ (traits_of command.now).reads }
-{
-    matches!(
-        command,
-        Words::Append { .. } | Words::Pulses | Words::Script
-    )
-}
-
-/// Carries out a command that takes memory and reads no input, in what it has taken.
-fn carry_out_blind<T: Tape, K: Sink>(
-    mut room: Room,
-    command: &Words,
-    unit: &mut Unit<T>,
-    sink: &mut K,
-) -> Status
-    requires values { HasValues command.now }
-    requires memory { (traits_of command.now).memory ≡ true }
-    requires reads { (traits_of command.now).reads ≡ false }
-    ensures { EndsBlind T.means K.means command.now
-        unit.old.tape unit.new.tape sink.old sink.new result }
-{
-    match *command {
-        Words::Format { ref label, date } => format_cartridge(unit, &mut room, label, date, sink),
-        Words::Info => info(unit, room, sink),
-        Words::List => list(unit, room, sink),
-        Words::Restore { number } => restore(unit, room, number, sink),
-        Words::Scrub => scrub(unit, room, sink),
-        Words::Make { seed, count } => make(unit, room, seed, count, sink),
-        _ => unreachable!("the other commands take no memory, or read the input"),
-    }
-}
-
-/// Carries out a command that takes memory, in what it has taken.
-fn carry_out_in<T: Tape, S: Source, K: Sink>(
-    room: Room,
+/// Carries out a command, with each of its values in its range. It has the working objects from the memory, and does so
+/// before anything else.
+fn carry_out<M: Memory + Drop, T: Tape, S: Source, K: Sink>(
+    memory: M,
     command: &Words,
     unit: &mut Unit<T>,
     source: &mut S,
     sink: &mut K,
-) -> Status
+) -> Result<Status, M::Want>
     requires values { HasValues command.now }
-    requires memory { (traits_of command.now).memory ≡ true }
-    ensures ends { CommandEnds T.means S.means K.means command.now
+    ensures ends { IfOk result (λ status. CommandEnds T.means S.means K.means command.now
         record { tape = unit.old.tape; source = source.old; sink = sink.old }
-        record { tape = unit.new.tape; source = source.new; sink = sink.new } result }
+        record { tape = unit.new.tape; source = source.new; sink = sink.new } status) }
+    ensures want { OnErr result ((traits_of command.now).memory ≡ true) }
+    ensures untouched { OnErr result
+        ((unit.new ≡ unit.old) × (source.new ≡ source.old) × (sink.new ≡ sink.old)) }
     ensures source { (traits_of command.now).reads ≡ false → source.new ≡ source.old }
     ensures kept { S.means.keeps source.old source.new }
 {
-    if !reads_input(command) {
-        return carry_out_blind(room, command, unit, sink);
-    }
-    match *command {
-        Words::Append { ref name, date } => append(unit, room, name, date, source, sink),
-        Words::Script => script(unit, room, source, sink),
-        _ => unreachable!("no other command that takes memory reads the input"),
-    }
-}
-
-/// Carries out a command that takes no memory.
-fn carry_out<T: Tape, S: Source, K: Sink>(
-    command: &Words,
-    unit: &mut Unit<T>,
-    source: &mut S,
-    sink: &mut K,
-) -> Status
-    requires values { HasValues command.now }
-    requires memory { (traits_of command.now).memory ≡ false }
-    ensures ends { CommandEnds T.means S.means K.means command.now
-        record { tape = unit.old.tape; source = source.old; sink = sink.old }
-        record { tape = unit.new.tape; source = source.new; sink = sink.new } result }
-    ensures source { (traits_of command.now).reads ≡ false → source.new ≡ source.old }
-    ensures kept { S.means.keeps source.old source.new }
-{
-    match *command {
+    Ok(match *command {
         Words::New { segments } => put_in_new(unit, segments, sink),
         Words::Defect { segment, sector } => spoil(unit, segment, sector, sink),
         Words::Lose { segment, sector } => lose(unit, segment, sector, sink),
         Words::Protect { on } => protect(unit, on, sink),
+        Words::Format { ref label, date } => format_cartridge(unit, memory.room()?, label, date, sink),
+        Words::Info => info(unit, memory.room()?, sink),
+        Words::Append { ref name, date } => append(unit, memory.room()?, name, date, source, sink),
+        Words::List => list(unit, memory.room()?, sink),
+        Words::Restore { number } => restore(unit, memory.room()?, number, sink),
+        Words::Scrub => scrub(unit, memory.room()?, sink),
         Words::Pulses => pulses(unit, source, sink),
-        _ => unreachable!("the other commands take memory"),
-    }
+        Words::Script => script(unit, memory.room()?, source, sink),
+        Words::Make { seed, count } => make(unit, memory.room()?, seed, count, sink),
+    })
 }
 
 /// The command of the words.
@@ -161,11 +97,8 @@ pub fn run_ready<T: Tape, S: Source, K: Sink>(
     ensures usage { result ≢ Status.Usage }
     ensures memory { result ≢ Status.NoMemory }
 {
-    if takes_memory(words) {
-        carry_out_in(Room { work, map, table }, words, unit, source, sink)
-    } else {
-        carry_out(words, unit, source, sink)
-    }
+    let Ok(status) = carry_out(Room { work, map, table }, words, unit, source, sink);
+    status
 }
 
 /// Carries out the command that the words name. It reaches the tape by the unit's cable and its hand calls alone, reads
@@ -186,14 +119,8 @@ pub fn run<T: Tape, S: Source, K: Sink>(
     let Some(command) = read_command(words) else {
         return Status::Usage;
     };
-    if !takes_memory(&command) {
-        return carry_out(&command, unit, source, sink);
-    }
-    match Room::new(alloc) {
-        Ok(room) => {
-            let Room { work, map, table } = room;
-            run_ready(&command, work, map, table, unit, source, sink)
-        }
+    match carry_out(alloc, &command, unit, source, sink) {
+        Ok(status) => status,
         Err(NoMemory) => Status::NoMemory,
     }
 }

@@ -1,7 +1,8 @@
 -- The forms of commands.
 use Rattle.std.proofs.Common.{◌≡◌, ℕ, suc, List, [], ◌∷◌, length, refl, ap, inl, inr, ◌≤◌, arith, true, false}
 use Rattle.command_laws.proofs.TextCommands.{dated_cases, only}
-use Rattle.command_spec.specs.CommandWords.{Part, SpellsAll, HasForm, dated, IsCommand}
+use Rattle.command_spec.specs.CommandWords.{Part, SpellsAll, HasForm, dated}
+use Rattle.command_spec.specs.Commands.{IsCommand}
 use Rattle.command_spec.specs.declared.words.Words.{Words}
 use Rattle.command_spec.specs.declared.words.Words.TheVariants as words
 

@@ -1,7 +1,7 @@
 //! The words behind the image's path.
 
 ghost use Rattle.std.specs.Prelude.{[], ◌∷◌, map, string_bytes, codes, MatchOption, MatchResult};
-ghost use Rattle.command_spec.specs.CommandWords.{IsCommand};
+ghost use Rattle.command_spec.specs.Commands.{IsCommand};
 ghost use Rattle.command_laws.specs.TextWords.{IsNoCommand};
 
 use crate::date::read_date;

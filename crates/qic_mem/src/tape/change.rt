@@ -10,4 +10,5 @@ pub(crate) enum TapeChange {
     Renew(u16),
     Wear(u32, u8),
     Spoil(u32, u8),
+    Upgrade,
 }

@@ -2,8 +2,8 @@
 
 ghost use Rattle.std.specs.Prelude.{◌≡◌, ◌≢◌, ◌*◌, false, true, None, length, IfOk, IfSome, IsSomeAnd};
 ghost use Rattle.std.specs.Option.{option_map, ForSome};
-ghost use Rattle.qic_base.specs.Cartridge.{IsLength, IsPlace, view_at, place_of};
-ghost use Rattle.qic_base.specs.Step.{WriteSector, FormatSegment, SetReferenced, SetProtected, Renew, Wear, Spoil};
+ghost use Rattle.qic_base.specs.Cartridge.{IsLength, IsPlace, new_version, view_at, place_of};
+ghost use Rattle.qic_base.specs.Step.{WriteSector, FormatSegment, SetReferenced, SetProtected, Renew, Wear, Spoil, Upgrade};
 ghost use Rattle.qic_base.specs.Tape.{Reads, write_answer, spoil_answer};
 ghost use Rattle.qic_mem.specs.TapeChange.{step_of, IsReached, is_past};
 ghost use Rattle.qic_mem.specs.Held.{FitsRoom};
@@ -17,6 +17,9 @@ use std::alloc::Global;
 
 /// Sectors for each segment per track: 28 tracks of 32 sectors a segment (QIC-80-MC).
 const SECTORS_PER_LENGTH: usize = 896;
+
+/// The version of the newest layout.
+const NEWEST: u8 = 2;
 
 /// What a tape in memory holds: the cartridge in it, and whether its size was told. Its calls never fail.
 #[derive(Drop)]
@@ -93,6 +96,14 @@ impl Holder {
         self.sectors.spoil_answer(view_index(segment, sector))
     }
 
+    /// The version of the layout, which is always the newest.
+    pub(crate) fn version(&self) -> u8
+        ensures newest { result ≡ new_version }
+        ensures here { IfSome (holder_state self.now).cartridge (λ c. result ≡ c.version) }
+    {
+        NEWEST
+    }
+
     /// Writes a sector, where it was formatted and is no defect.
     fn write(&mut self, segment: u32, sector: u8, from: &[u8; 1024])
         requires { IsSomeAnd (holder_state self.old).size (λ n. IsPlace n segment sector) }
@@ -161,6 +172,11 @@ impl Holder {
         self.sectors.spoil(view_index(segment, sector));
     }
 
+    /// Brings the cartridge to the newest layout, in which it is.
+    fn upgrade(&mut self)
+        ensures { holder_state self.new ≡ made (holder_state self.old) Upgrade }
+    {}
+
     /// Makes each readable sector of a segment unreadable.
     fn wear_segment(&mut self, segment: u32)
         requires { IsSomeAnd (holder_state self.old).size (λ n. IsPlace n segment 0) }
@@ -179,6 +195,13 @@ impl Holder {
         self.told = false;
     }
 
+    /// The size is told no more.
+    fn forget_size(&mut self)
+        ensures { holder_state self.new ≡ record (holder_state self.old) { size = None } }
+    {
+        self.told = false;
+    }
+
     /// Makes a change.
     pub(crate) fn make(&mut self, change: &TapeChange)
         requires reached { IsReached (holder_state self.old).size (step_of change.now) }
@@ -193,6 +216,7 @@ impl Holder {
             TapeChange::Renew(segments_per_track) => self.renew(*segments_per_track),
             TapeChange::Wear(segment, sector) => self.wear(*segment, *sector),
             TapeChange::Spoil(segment, sector) => self.spoil(*segment, *sector),
+            TapeChange::Upgrade => self.upgrade(),
         }
     }
 
@@ -208,6 +232,7 @@ impl Holder {
             TapeChange::WriteSector(segment, sector, _) => self.wear(*segment, *sector),
             TapeChange::FormatSegment(segment) => self.wear_segment(*segment),
             TapeChange::Renew(_) => self.remove(),
+            TapeChange::Upgrade => self.forget_size(),
             _ => {}
         }
     }
@@ -227,8 +252,8 @@ impl Holder {
             Outcome::Lost => self.lose(change),
             Outcome::New => self.make(change),
         }
-        if let TapeChange::Renew(_) = change {
-            self.told = false;
+        if let TapeChange::Renew(_) | TapeChange::Upgrade = change {
+            self.forget_size();
         }
     }
 }

@@ -2,8 +2,8 @@
 
 ghost use Rattle.std.specs.Prelude.{◌≡◌, ◌≢◌, [], ◌∷◌, Some, None, IsOk, IsSome, IfOk, IfSome, OnOk, OnErr};
 ghost use Rattle.std.specs.Option.{option_map};
-ghost use Rattle.qic_base.specs.Cartridge.{IsLength, view_at};
-ghost use Rattle.qic_base.specs.Step.{WriteSector, FormatSegment, SetReferenced, SetProtected, Renew, Wear, Spoil};
+ghost use Rattle.qic_base.specs.Cartridge.{IsLength, IsVersion, new_version, view_at};
+ghost use Rattle.qic_base.specs.Step.{WriteSector, FormatSegment, SetReferenced, SetProtected, Renew, Wear, Spoil, Upgrade};
 ghost use Rattle.qic_base.specs.Tape.{Does, Done, Tells, IsPlaceOf, Reads, write_answer, spoil_answer};
 ghost use Rattle.qic_mem.specs.TapeChange.{step_of, IsReached};
 ghost use Rattle.qic_mem.specs.Longest.{HasLongest};
@@ -189,5 +189,23 @@ impl Tape for SureTape {
         let answer = self.holder.spoil_answer(segment, sector);
         self.run(TapeChange::Spoil(segment, sector));
         Ok(answer)
+    }
+
+    fn upgrade(&mut self) -> Result<u8, TapeFailed>
+        requires { IsSome (sure_means.size self.old) }
+        ensures did { Does sure_means self.old self.new (Upgrade ∷ []) result }
+        ensures answer { IfOk result (λ version. Tells sure_means self.old (λ c. version ≡ c.version)) }
+        ensures version { IfOk result (λ version. IsVersion version) }
+        ensures size { OnOk result (sure_means.size self.new ≡ sure_means.size self.old) }
+        ensures failed { OnErr result (sure_means.size self.new ≡ None) }
+
+        // The layout is always the newest.
+        ensures newest { IfOk result (λ version. version ≡ new_version) }
+        ensures succeeds { IsOk result }
+        ensures state { sure_state self.new ≡ made (sure_state self.old) Upgrade }
+    {
+        let version = self.holder.version();
+        self.run(TapeChange::Upgrade);
+        Ok(version)
     }
 }

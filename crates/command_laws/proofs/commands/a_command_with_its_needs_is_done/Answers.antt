@@ -1,4 +1,4 @@
-use Rattle.command_laws.proofs.CommandComplete as complete
+use Rattle.command_laws.proofs.CommandTable as complete
 use Rattle.command_laws.proofs.commands.a_command_with_its_needs_is_done.Goals as goal
 
 pub returns : goal.returns

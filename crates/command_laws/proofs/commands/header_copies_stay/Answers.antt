@@ -1,4 +1,4 @@
-use Rattle.command_laws.proofs.CommandClean as copies
+use Rattle.command_laws.proofs.CommandTable as copies
 use Rattle.command_laws.proofs.commands.header_copies_stay.Goals as goal
 
 pub returns-clause-clean : goal.returns-clause-clean

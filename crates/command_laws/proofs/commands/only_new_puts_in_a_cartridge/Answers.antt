@@ -1,4 +1,4 @@
-use Rattle.command_laws.proofs.CommandSteps as steps
+use Rattle.command_laws.proofs.CommandTable as steps
 use Rattle.command_laws.proofs.commands.only_new_puts_in_a_cartridge.Goals as goal
 
 pub returns : goal.returns

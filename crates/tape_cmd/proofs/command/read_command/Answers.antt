@@ -1,5 +1,5 @@
 use Rattle.std.proofs.Common.{map, string_bytes}
-use Rattle.command_laws.proofs.CommandValues.{has_values}
+use Rattle.command_laws.proofs.CommandTable.{has_values}
 use Rattle.tape_cmd.proofs.command.read_command.Goals as goal
 
 pub returns-in-Ok : goal.returns-in-Ok

@@ -1,0 +1,35 @@
+-- The laws of the command `append`.
+use Rattle.std.proofs.Common.{◌≡◌, ℕ, List, Some, refl, codes}
+use Rattle.cartridge_laws.proofs.FormatWriting.{some_and}
+use Rattle.cartridge_spec.specs.Mounting.{Mounted, Mounts}
+use Rattle.command_laws.proofs.CommandClean.{bare_writable, Clean, writable_leaves, appends_leave}
+use Rattle.command_laws.proofs.CommandComplete.{where_some, append_goes}
+use Rattle.command_laws.proofs.CommandKeeping.{same_stands}
+use Rattle.command_laws.proofs.CommandPlainLaws.{appending_leaves, writable_is_function, appends_one}
+use Rattle.command_laws.proofs.CommandSteps.{writable_none, appends_none}
+use Rattle.command_laws.proofs.CommandTexts.{plain_texts}
+use Rattle.command_laws.proofs.CommandTotals.{writable_answers, appends_answers}
+use Rattle.command_laws.proofs.CommandValues.{dated_values}
+use Rattle.command_laws.specs.CommandRecord.{CommandLaws}
+use Rattle.command_spec.specs.Append.{Appends, AppendOutcome}
+use Rattle.command_spec.specs.AppendCommand.{CanTake, append_command}
+use Rattle.command_spec.specs.Complete.{IsUnprotected}
+use Rattle.command_spec.specs.declared.status.Status.TheVariants as status
+
+pub append_laws : (name : List ℕ) (date : ℕ) → CommandLaws (append_command name date)
+append_laws name date = record {
+  values = λ words spelled. dated_values (codes "append") words name date spelled;
+  answers = λ held input values whole. writable_answers (Appends name date input) (appends_answers name date input) held whole;
+  one = λ held input a b one other. writable_is_function (Appends name date input) (appends_one name date input) held a b one other;
+  done = λ held input outcome whole values. where_some (λ c. IsUnprotected c × CanTake c input) held (λ h. AppendOutcome name date h input outcome → outcome.status ≡ status.Done) (λ c can does. append_goes name date input c outcome can.0 can.1 does);
+  texts = plain_texts _ _ (0, (0, (0, (0, refl))));
+  blind = λ is. absurd (cc);
+  stands = λ c plain keeps stood input outcome left does torn.
+      same_stands c plain left stood (appending_leaves (Appends name date input) (Some c) left outcome does torn keeps);
+  mounts = λ c header words table entries keeps mounts input outcome left does torn.
+      some_and (λ d. Mounts d (Mounted header words table entries)) c left mounts (appending_leaves (Appends name date input) (Some c) left outcome does torn keeps);
+  clean = λ c area keeps is_area clean input outcome left does torn.
+      writable_leaves (Clean area is_area) (Appends name date input) (appends_leave area is_area name date input) c outcome does clean left torn;
+  bare = λ c keeps bare input outcome left does torn. bare_writable (Appends name date input) c outcome does bare left torn;
+  live = λ held input outcome keeps does. writable_none (Appends name date input) (appends_none name date input) held outcome does;
+}

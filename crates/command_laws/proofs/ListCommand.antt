@@ -1,0 +1,37 @@
+-- The laws of the command `list`.
+use Rattle.std.proofs.Common.{[], ◌≡◌, Some, refl}
+use Rattle.cartridge_spec.specs.Mounting.{Mounted}
+use Rattle.command_laws.proofs.CommandClean.{bare_open, Clean, open_leaves, shows_leave}
+use Rattle.command_laws.proofs.CommandComplete.{where_some, shows_done}
+use Rattle.command_laws.proofs.CommandKeeping.{open_stands, open_mounts}
+use Rattle.command_laws.proofs.CommandPlainLaws.{opening_leaves, open_is_function, shows_one}
+use Rattle.command_laws.proofs.CommandSteps.{open_none, shows_none}
+use Rattle.command_laws.proofs.CommandTexts.{plain_texts}
+use Rattle.command_laws.proofs.CommandTotals.{open_answers, shows_answers}
+use Rattle.command_laws.specs.CommandRecord.{CommandLaws}
+use Rattle.command_spec.specs.Complete.{CanBeMounted}
+use Rattle.command_spec.specs.List.{ListOutcome, listing, list_command}
+use Rattle.command_spec.specs.Outcome.{Shows}
+use Rattle.command_spec.specs.declared.status.Status.TheVariants as status
+
+pub list_laws : CommandLaws list_command
+list_laws = record {
+  values = λ words spelled. tt;
+  answers = λ held input values whole. open_answers (Shows listing) (shows_answers listing) held whole;
+  one = λ held input a b one other. open_is_function (Shows listing) (shows_one listing) held a b one other;
+  done = λ held input outcome whole values. where_some (CanBeMounted) held (λ h. ListOutcome h outcome → outcome.status ≡ status.Done) (λ c can does. shows_done listing c can.0 outcome can.1 does);
+  texts = plain_texts _ _ ([], ([], refl));
+  blind = λ is. record {
+    any = λ held input other outcome plain. plain;
+    no_append = refl;
+    no_lines = refl;
+    no_fault = λ input line place fault. fault;
+  };
+  stands = λ c plain keeps stood input outcome left does torn. open_stands c plain left stood (opening_leaves listing (Some c) left outcome does torn);
+  mounts = λ c header words table entries keeps mounts input outcome left does torn.
+      open_mounts c (Mounted header words table entries) left mounts (opening_leaves listing (Some c) left outcome does torn);
+  clean = λ c area keeps is_area clean input outcome left does torn.
+      open_leaves (Clean area is_area) (Shows listing) (shows_leave area is_area listing) c outcome does clean left torn;
+  bare = λ c keeps bare input outcome left does torn. bare_open (Shows listing) c outcome does bare left torn;
+  live = λ held input outcome keeps does. open_none (Shows listing) (shows_none listing) held outcome does;
+}

@@ -1,0 +1,57 @@
+-- The laws of the command `make`.
+use Rattle.std.proofs.Common.{[], ◌≡◌, ℕ, List, ◌∷◌, Some, IfSome, refl, inl, inr}
+use Rattle.cartridge_laws.proofs.FormatWriting.{some_and}
+use Rattle.cartridge_spec.specs.Mounting.{Mounted, Mounts}
+use Rattle.command_laws.proofs.CommandClean.{bare_writable, Clean, writable_leaves, making_leaves}
+use Rattle.command_laws.proofs.CommandComplete.{where_some, make_goes}
+use Rattle.command_laws.proofs.CommandKeeping.{same_stands}
+use Rattle.command_laws.proofs.CommandPlainLaws.{appending_leaves, writable_is_function, making_one}
+use Rattle.command_laws.proofs.CommandSteps.{writable_none, making_none}
+use Rattle.command_laws.proofs.CommandTotals.{writable_answers, making_answers}
+use Rattle.command_laws.specs.CommandRecord.{CommandLaws}
+use Rattle.command_spec.specs.CommandWords.{HasForm}
+use Rattle.command_spec.specs.Complete.{IsUnprotected}
+use Rattle.command_spec.specs.Make.{Making, MakeOutcome}
+use Rattle.command_spec.specs.MakeCommand.{CanMake, make_command}
+use Rattle.qic_base.specs.Cartridge.{IsCartridge}
+use Rattle.command_spec.specs.declared.status.Status.TheVariants as status
+
+values_are : (words : List (List ℕ)) (seed count : ℕ) → HasForm words (make_command seed count).forms → (make_command seed count).values
+values_are [] seed count (inl spelled) = absurd spelled
+values_are [] seed count (inr spelled) = absurd spelled
+values_are (word ∷ []) seed count (inl spelled) = absurd spelled.1
+values_are (word ∷ []) seed count (inr spelled) = absurd spelled
+values_are (word ∷ number ∷ []) seed count (inl spelled) = absurd spelled.1.1
+values_are (word ∷ number ∷ []) seed count (inr spelled) = absurd spelled
+values_are (word ∷ number ∷ volumes ∷ rest) seed count (inl spelled) = spelled.1.1.0.2
+values_are (word ∷ number ∷ volumes ∷ rest) seed count (inr spelled) = absurd spelled
+
+pub make_laws : (seed count : ℕ) → CommandLaws (make_command seed count)
+make_laws seed count = record {
+  values = λ words spelled. values_are words seed count spelled;
+  answers = λ held input values whole. writable_answers (Making seed count) (making_answers seed count values) held whole;
+  one = λ held input a b one other. writable_is_function (Making seed count) (making_one seed count) held a b one other;
+  done = λ held input outcome whole values needs.
+      where_some (λ c. IsUnprotected c × CanMake c seed count) held (λ h. IfSome h IsCartridge → MakeOutcome seed count h outcome → outcome.status ≡ status.Done)
+      (λ c can known does. make_goes seed count c outcome values known can.0 can.1 does) needs whole;
+  texts = record {
+    none_printed = λ answer. inl refl;
+    nothing_front = tt;
+    text_front = λ text prints. tt;
+    shorter_front = λ front rest text parts prints. tt;
+    refused_front = λ answer text prints. tt;
+  };
+  blind = λ is. record {
+    any = λ held input other outcome plain. plain;
+    no_append = refl;
+    no_lines = refl;
+    no_fault = λ input line place fault. fault;
+  };
+  stands = λ c plain keeps stood input outcome left does torn. same_stands c plain left stood (appending_leaves (Making seed count) (Some c) left outcome does torn keeps);
+  mounts = λ c header words table entries keeps mounts input outcome left does torn.
+      some_and (λ d. Mounts d (Mounted header words table entries)) c left mounts (appending_leaves (Making seed count) (Some c) left outcome does torn keeps);
+  clean = λ c area keeps is_area clean input outcome left does torn.
+      writable_leaves (Clean area is_area) (Making seed count) (making_leaves area is_area seed count) c outcome does clean left torn;
+  bare = λ c keeps bare input outcome left does torn. bare_writable (Making seed count) c outcome does bare left torn;
+  live = λ held input outcome keeps does. writable_none (Making seed count) (making_none seed count) held outcome does;
+}

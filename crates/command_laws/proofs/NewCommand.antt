@@ -1,0 +1,35 @@
+-- The laws of the command `new`.
+use Rattle.std.proofs.Common.{[], ◌∙◌, ℕ, List, ◌∷◌, ap, refl, sym, inl, inr}
+use Rattle.command_laws.proofs.CommandComplete.{status_of}
+use Rattle.command_laws.proofs.CommandTexts.{plain_texts}
+use Rattle.command_laws.specs.CommandRecord.{CommandLaws}
+use Rattle.command_spec.specs.CommandWords.{HasForm}
+use Rattle.command_spec.specs.New.{new_command}
+
+values_are : (words : List (List ℕ)) (segments : ℕ) → HasForm words (new_command segments).forms → (new_command segments).values
+values_are [] segments (inl spelled) = absurd spelled
+values_are [] segments (inr spelled) = absurd spelled
+values_are (word ∷ []) segments (inl spelled) = absurd spelled.1
+values_are (word ∷ []) segments (inr spelled) = absurd spelled
+values_are (word ∷ number ∷ rest) segments (inl spelled) = record { shortest = spelled.1.0.1; longest = spelled.1.0.2 }
+values_are (word ∷ number ∷ rest) segments (inr spelled) = absurd spelled
+
+pub new_laws : (segments : ℕ) → CommandLaws (new_command segments)
+new_laws segments = record {
+  values = λ words spelled. values_are words segments spelled;
+  answers = λ held input values whole. (_, refl);
+  one = λ held input a b one other. one ∙ sym other;
+  done = λ held input outcome whole values needs does. ap status_of does;
+  texts = plain_texts _ _ refl;
+  blind = λ is. record {
+    any = λ held input other outcome plain. plain;
+    no_append = refl;
+    no_lines = refl;
+    no_fault = λ input line place fault. fault;
+  };
+  stands = λ c plain keeps. absurd keeps;
+  mounts = λ c header words table entries keeps. absurd keeps;
+  clean = λ c area keeps. absurd keeps;
+  bare = λ c keeps. absurd keeps;
+  live = λ held input outcome keeps. absurd keeps;
+}

@@ -1,0 +1,36 @@
+-- The laws of the command `pulses`.
+use Rattle.std.proofs.Common.{[], Some, None, refl, sym, subst, append-nil}
+use Rattle.cartridge_laws.proofs.ChangeStanding.{marks_read_no_more}
+use Rattle.cartridge_spec.specs.Formatting.{HasNoHeader}
+use Rattle.command_laws.proofs.CommandClean.{bare_from_less, clean_from_less, Clean, sent_leaving}
+use Rattle.command_laws.proofs.CommandComplete.{pulses_go}
+use Rattle.command_laws.proofs.CommandKeeping.{pulses_stand, pulses_mount}
+use Rattle.command_laws.proofs.CommandPlainLaws.{sent_leaves, sent_is_function}
+use Rattle.command_laws.proofs.CommandSteps.{sent_none}
+use Rattle.command_laws.proofs.CommandTexts.{fronted}
+use Rattle.command_laws.proofs.CommandTotals.{sent_answers}
+use Rattle.command_laws.specs.CommandRecord.{CommandLaws}
+use Rattle.command_spec.specs.Pulses.{AreLevels}
+use Rattle.command_spec.specs.PulsesCommand.{pulses_command}
+use Rattle.qic_base.specs.Step.{changed, SetReferenced}
+
+pub pulses_laws : CommandLaws pulses_command
+pulses_laws = record {
+  values = λ words spelled. tt;
+  answers = λ held input values whole. sent_answers held input;
+  one = λ held input a b one other. sent_is_function held input a b one other;
+  done = λ held input outcome whole values needs does. pulses_go held input outcome needs does;
+  texts =
+      fronted AreLevels (λ answer text. AreLevels text) _ (None, ([], refl)) (λ answer. (None, ([], refl)))
+      (λ answer front levels. ([], subst AreLevels (sym (append-nil front)) levels));
+  blind = λ is. absurd (cc);
+  stands = λ c plain keeps stood input outcome left does torn. pulses_stand c plain left stood (sent_leaves (Some c) left input outcome does torn);
+  mounts = λ c header words table entries keeps mounts input outcome left does torn.
+      pulses_mount c header words table entries left mounts (sent_leaves (Some c) left input outcome does torn);
+  clean = λ c area keeps is_area clean input outcome left does torn.
+      sent_leaving (Clean area is_area) c input outcome does clean
+      (clean_from_less area is_area c (changed SetReferenced c) (marks_read_no_more c (changed (SetReferenced) c) refl) clean) left torn;
+  bare = λ c keeps bare input outcome left does torn.
+      sent_leaving HasNoHeader c input outcome does bare (bare_from_less c (changed SetReferenced c) (marks_read_no_more c (changed (SetReferenced) c) refl) bare) left torn;
+  live = λ held input outcome keeps does. sent_none held input outcome does;
+}

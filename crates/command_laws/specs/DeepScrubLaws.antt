@@ -1,0 +1,72 @@
+-- What scrubbing does in either form, and what a deep scrub leaves, done or stopped, as facts.
+use Rattle.std.specs.Prelude.{◌≡◌, ℕ, List, ◌↔◌, Option, Some, IsSomeAnd}
+use Rattle.cartridge_laws.specs.Table.{IsSoundList}
+use Rattle.cartridge_spec.specs.Settling.{changed_by}
+use Rattle.cartridge_spec.specs.Table.{Entry}
+use Rattle.command_laws.specs.ScrubFound.{FindAtOnce, finds_at_once, without_all, IsBeingScrubbed}
+use Rattle.command_laws.specs.ScrubMended.{IsScrubbed}
+use Rattle.command_spec.specs.Scrub.{Scrubs, looked_at}
+use Rattle.command_spec.specs.ScrubForms.{Depth, Shallow, ScrubsAs, finding_acts}
+use Rattle.qic_base.specs.Acts.{Act, steps_of}
+use Rattle.qic_base.specs.Cartridge.{Cartridge, IsCartridge}
+use Rattle.qic_base.specs.Stop.{Torn}
+
+-- ---- what it does
+
+-- without a search for wrong sectors it is a scrub
+abbrev pub ShallowIsScrub : Type 0
+ShallowIsScrub =
+    (c : Cartridge) (words : List ℕ) (entries : List Entry) (acts : List Act) →
+    ScrubsAs Shallow c words entries acts ↔ Scrubs c words entries acts
+
+-- scrubbing a cartridge in a form is one list of acts: at most one sector of a segment is wrong
+abbrev pub FormIsFunction : Type 0
+FormIsFunction =
+    (depth : Depth) (c : Cartridge) (words : List ℕ) (entries : List Entry) (a b : List Act) → ScrubsAs depth c words entries a →
+    ScrubsAs depth c words entries b → a ≡ b
+
+-- and there is one
+abbrev pub FormAlways : Type 0
+FormAlways =
+    (depth : Depth) (c : Cartridge) (words : List ℕ) (entries : List Entry) → IsCartridge c →
+    (acts : List Act) × ScrubsAs depth c words entries acts
+
+-- the segments that are looked at ascend, so what is found of each, and what is done in it, follows from the cartridge as it
+-- was before the first write
+abbrev pub FindsAtOnce : Type 0
+FindsAtOnce =
+    (depth : Depth) (c : Cartridge) (words : List ℕ) (entries : List Entry) (last : ℕ) (acts : List Act) → IsSoundList last entries →
+    (scrubs : ScrubsAs depth c words entries acts) →
+    FindAtOnce depth c (looked_at words entries) scrubs.findings
+    × (finding_acts c (looked_at words entries) scrubs.findings ≡ finds_at_once c (looked_at words entries) scrubs.findings)
+
+-- ---- all steps done
+
+-- With the wrong sectors lost, each unreadable usable sector of a segment that is looked at and reads holds its sector of the
+-- block, where it takes a write; nothing else changes.
+abbrev pub DoneInForm : Type 0
+DoneInForm =
+    (depth : Depth) (c : Cartridge) (words : List ℕ) (entries : List Entry) (last : ℕ) (acts : List Act) → IsSoundList last entries →
+    (scrubs : ScrubsAs depth c words entries acts) →
+    IsScrubbed (looked_at words entries) (without_all c (looked_at words entries) scrubs.findings) (changed_by (steps_of acts) c)
+
+-- what is left is a cartridge
+abbrev pub DoneFormIsCartridge : Type 0
+DoneFormIsCartridge =
+    (depth : Depth) (c : Cartridge) (words : List ℕ) (entries : List Entry) (acts : List Act) → IsCartridge c →
+    ScrubsAs depth c words entries acts → IsCartridge (changed_by (steps_of acts) c)
+
+-- ---- a stop
+
+-- a stop among the steps, or behind the last, leaves each sector as it was, but for those to be written, which may be lost or
+-- hold their sector of the block
+abbrev pub StoppedInForm : Type 0
+StoppedInForm =
+    (depth : Depth) (c : Cartridge) (words : List ℕ) (entries : List Entry) (last : ℕ) (acts : List Act) (left : Option Cartridge) →
+    IsSoundList last entries → (scrubs : ScrubsAs depth c words entries acts) → Torn (steps_of acts) (Some c) left →
+    IsSomeAnd left (IsBeingScrubbed (looked_at words entries) (without_all c (looked_at words entries) scrubs.findings) c)
+
+abbrev pub StoppedFormIsCartridge : Type 0
+StoppedFormIsCartridge =
+    (depth : Depth) (c : Cartridge) (words : List ℕ) (entries : List Entry) (acts : List Act) (left : Option Cartridge) → IsCartridge c →
+    ScrubsAs depth c words entries acts → Torn (steps_of acts) (Some c) left → IsSomeAnd left IsCartridge

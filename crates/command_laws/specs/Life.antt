@@ -1,0 +1,222 @@
+-- A life of a cartridge: runs, each answered or stopped anywhere, and sectors that are lost between them; and the volumes that
+-- stand behind each of these (this project's own).
+use Rattle.std.specs.Prelude.{◌≡◌, ◌≢◌, ◌⊎◌, ◌≤◌, ◌<◌, ℕ, Bool, true, false, All, IfSome, List, [], ◌∷◌, Option, Some, None, length, take}
+use Rattle.cartridge_spec.specs.Appending.{with_all, with_bytes}
+use Rattle.cartridge_spec.specs.Formatting.{HasCleanCopies, HasNoHeader, IsFreshFor, fresh_plain}
+use Rattle.cartridge_spec.specs.HeaderAndTable.{CopyDoesNotRead}
+use Rattle.cartridge_spec.specs.Mounting.{IsTableLive, settled}
+use Rattle.cartridge_spec.specs.Volumes.{Plain, Stands, entries_of}
+use Rattle.cartridge_spec.specs.Wear.{WearSpares}
+use Rattle.command_spec.specs.Listing.{IsHeard}
+use Rattle.command_spec.specs.Machine.{HasValues, Yields}
+use Rattle.command_spec.specs.MadeVolumes.{made_contents}
+use Rattle.command_spec.specs.Outcome.{CommandOutcome, HasPlace}
+use Rattle.command_spec.specs.Script.{ScriptDoes, ScriptRun}
+use Rattle.command_spec.specs.ScriptLists.{ItemsSpare, all_added}
+use Rattle.command_spec.specs.declared.status.Status.{Status}
+use Rattle.command_spec.specs.declared.words.Words.{Words}
+use Rattle.qic_base.specs.Acts.{steps_of}
+use Rattle.qic_base.specs.Cartridge.{Cartridge, IsCartridge}
+use Rattle.qic_base.specs.Step.{Wear, effect, effects}
+use Rattle.qic_base.specs.Stop.{Torn}
+use Rattle.command_spec.specs.declared.status.Status.TheVariants as status
+use Rattle.command_spec.specs.declared.words.Words.TheVariants as commands
+
+-- ---- runs
+
+-- How a run ended: it was answered; or a stop, a fault of the outside or want of memory cut it off.
+pub data Ended : Type 0 where
+  Answered : Status → Ended
+  Stopped : Ended
+
+pub record Run : Type 0 where
+  pub command : Words
+  pub input : List ℕ
+  pub ended : Ended
+
+-- a run; or a sector that is lost between runs
+pub data Event : Type 0 where
+  Runs : Run → Event
+  Loses : (segment sector : ℕ) → Event
+
+-- A formatting was stopped, and none was carried out since: a header copy may be half written.
+abbrev pub begun_by : Words → Ended → (begun : Bool) → Bool
+begun_by (commands.New segments) (Answered answer) begun = false
+begun_by (commands.Format label date) (Answered status.Done) begun = false
+begun_by (commands.Format label date) (Answered (status.DefectInFront segment)) begun = false
+begun_by (commands.Format label date) Stopped begun = true
+begun_by command ended begun = begun
+
+abbrev pub begun_behind : Event → (begun : Bool) → Bool
+begun_behind (Runs run) begun = begun_by run.command run.ended begun
+begun_behind (Loses segment sector) begun = begun
+
+-- .. and behind several
+abbrev pub begun_behind_all : List Event → (begun : Bool) → Bool
+begun_behind_all [] begun = begun
+begun_behind_all (event ∷ events) begun = begun_behind_all events (begun_behind event begun)
+
+-- ---- what the next run may rely on
+
+-- The cartridge stands for these volumes, and each sector of its table's segment takes a write; its header copies are clean,
+-- unless a formatting was stopped.
+pub record IsReady (begun : Bool) (c : Cartridge) (plain : Plain) : Type 0 where
+  pub whole : IsCartridge c
+  pub stands : Stands c plain
+  pub live : IsTableLive c
+  pub clean : begun ≡ false → HasCleanCopies c plain.header_area
+
+-- No header copy of it can be read; both are bare, unless a formatting was stopped.
+pub record IsWithout (begun : Bool) (c : Cartridge) : Type 0 where
+  pub whole : IsCartridge c
+  pub first : CopyDoesNotRead c 0
+  pub second : CopyDoesNotRead c 1
+  pub bare : begun ≡ false → HasNoHeader c
+
+-- The drive holds what has these volumes; or, where none are listed, no cartridge or an unformatted one.
+abbrev pub IsSound : (begun : Bool) → (held : Option Cartridge) → Option Plain → Type 0
+IsSound begun None None = Unit {0}
+IsSound begun None (Some plain) = ⊥
+IsSound begun (Some c) None = IsWithout begun c
+IsSound begun (Some c) (Some plain) = IsReady begun c plain
+
+-- ---- the premises on losses
+
+-- A lost sector spares header and table of what the cartridge stands for; and where no header copy can be read, it is none
+-- of these, unless they are bare.
+pub record LossSpares (c : Cartridge) (segment sector : ℕ) : Type 0 where
+  pub volumes : (plain : Plain) → Stands c plain → WearSpares c plain segment sector
+  pub copies : CopyDoesNotRead c 0 → CopyDoesNotRead c 1 → (2 ≤ segment) ⊎ HasNoHeader c
+
+-- so does each sector that a command loses
+abbrev pub CommandSpares : Words → (input : List ℕ) → Cartridge → Type 0
+CommandSpares (commands.Lose segment sector) input c = HasPlace c segment sector → LossSpares c segment sector
+CommandSpares commands.Script input c =
+    (plain : Plain) (run : ScriptRun) → Stands c plain →
+    (does : ScriptDoes (settled plain.table_area c) plain.words (entries_of plain) input run) →
+    ItemsSpare (settled plain.table_area c) plain does.items does.dids
+CommandSpares command input c = Unit {0}
+
+-- formatting isn't stopped a second time before one was carried out
+abbrev pub MayEnd : Words → Ended → (begun : Bool) → Type 0
+MayEnd (commands.Format label date) Stopped begun = begun ≡ false
+MayEnd command ended begun = Unit {0}
+
+-- ---- what a run leaves
+
+-- an answered one all steps of the plain machine's outcome, and another one what a stop in them leaves
+abbrev pub Leaves : Ended → CommandOutcome → (held left : Option Cartridge) → Type 0
+Leaves (Answered answer) outcome held left = (outcome.status ≡ answer) × (left ≡ effects (steps_of outcome.acts) held)
+Leaves Stopped outcome held left = Torn (steps_of outcome.acts) held left
+
+-- The plain machine ran, over values that words can have, an input of bytes, and whole cartridges or none.
+pub record HasRun (run : Run) (begun : Bool) (held left : Option Cartridge) : Type 0 where
+  pub values : HasValues run.command
+  pub bytes : All (λ b. b < 256) run.input
+  pub outcome : CommandOutcome
+  pub plain : Yields run.command held run.input outcome
+  pub leaves : Leaves run.ended outcome held left
+  pub whole : IfSome left IsCartridge
+  pub spares : IfSome held (CommandSpares run.command run.input)
+  pub may_end : MayEnd run.command run.ended begun
+
+abbrev pub Happens : Event → (begun : Bool) → (held left : Option Cartridge) → Type 0
+Happens (Runs run) begun held left = HasRun run begun held left
+Happens (Loses segment sector) begun held left =
+    (sector < 32) × (left ≡ effect (Wear segment sector) held) × IfSome left IsCartridge × IfSome held (λ c. LossSpares c segment sector)
+
+-- each event happens to what the one before it left
+abbrev pub Lives : List Event → (begun : Bool) → (held left : Option Cartridge) → Type 0
+Lives [] begun held left = left ≡ held
+Lives (event ∷ events) begun held left =
+    (next : Option Cartridge) × Happens event begun held next × Lives events (begun_behind event begun) next left
+
+-- ---- what a run makes of the volumes
+
+-- the empty list that formatting makes, with the label, the date word, and a map that marks the cartridge's defects
+pub record IsEmptied (c : Cartridge) (label : List ℕ) (date : ℕ) (after : Option Plain) : Type 0 where
+  pub words : List ℕ
+  pub area : List (List ℕ)
+  pub fresh : IsFreshFor c label date words area
+  pub is : after ≡ Some (fresh_plain c label date words area)
+
+abbrev pub Renewed : Ended → (before after : Option Plain) → Type 0
+Renewed (Answered answer) before after = after ≡ None
+Renewed Stopped before after = (after ≡ before) ⊎ (after ≡ None)
+
+-- formatting was carried out; or refused, over a defect in front once the old list was gone; or stopped
+abbrev pub Formatted : (label : List ℕ) → (date : ℕ) → Cartridge → Ended → (before after : Option Plain) → Type 0
+Formatted label date c (Answered answer) before after =
+    ((answer ≡ status.Done) × IsEmptied c label date after)
+    ⊎ (((segment : ℕ) × (answer ≡ status.DefectInFront segment)) × (after ≡ None))
+    ⊎ ((answer ≡ status.Protected) × (after ≡ before))
+Formatted label date c Stopped before after = (after ≡ before) ⊎ (after ≡ None) ⊎ IsEmptied c label date after
+
+-- an append was carried out, or refused; where it was stopped, it is done or not
+abbrev pub Appended : (one other : Plain) → Ended → (after : Option Plain) → Type 0
+Appended one other (Answered answer) after =
+    ((answer ≡ status.Done) × (after ≡ Some other)) ⊎ ((answer ≢ status.Done) × (after ≡ Some one))
+Appended one other Stopped after = (after ≡ Some one) ⊎ (after ≡ Some other)
+
+-- the first ones of the generated volumes, and all of them at Done
+pub record SomeMade (seed count : ℕ) (plain : Plain) (ended : Ended) (after : Option Plain) : Type 0 where
+  pub made : ℕ
+  pub within : made ≤ count
+  pub all : ended ≡ Answered status.Done → made ≡ count
+  pub is : after ≡ Some (with_all plain (made_contents seed 1 made))
+
+-- the input of a script was carried out, up to its end or to the line at fault
+abbrev pub WasHeard : Ended → Type 0
+WasHeard ended = (answer : Status) × (ended ≡ Answered answer) × IsHeard answer
+
+-- the appends of the first lines, by what the plain machine did, and of all lines once the input was carried out
+pub record SomeLines (c : Cartridge) (input : List ℕ) (plain : Plain) (ended : Ended) (after : Option Plain) : Type 0 where
+  pub run : ScriptRun
+  pub does : ScriptDoes (settled plain.table_area c) plain.words (entries_of plain) input run
+  pub count : ℕ
+  pub within : count ≤ length does.items
+  pub all : WasHeard ended → count ≡ length does.items
+  pub is : after ≡ Some (with_all plain (all_added (entries_of plain) (take count does.items) (take count does.dids)))
+
+-- the lines were carried out; or the cartridge was refused, before the first of them
+abbrev pub Scripted : Cartridge → (input : List ℕ) → Plain → Ended → (after : Option Plain) → Type 0
+Scripted c input plain ended after = SomeLines c input plain ended after ⊎ (¬ (WasHeard ended) × (after ≡ Some plain))
+
+-- What a command adds to a list on a cartridge; the others keep it.
+abbrev pub Adds : Words → Cartridge → (input : List ℕ) → Plain → Ended → (after : Option Plain) → Type 0
+Adds (commands.Append name date) c input plain ended after = Appended plain (with_bytes plain name date input) ended after
+Adds (commands.Make seed count) c input plain ended after = SomeMade seed count plain ended after
+Adds commands.Script c input plain ended after = Scripted c input plain ended after
+Adds command c input plain ended after = after ≡ Some plain
+
+-- over no cartridge, an unformatted one, or one with a list
+abbrev pub Changes : Words → (held : Option Cartridge) → (input : List ℕ) → Ended → (before after : Option Plain) → Type 0
+Changes command None input ended before after = after ≡ before
+Changes command (Some c) input ended None after = after ≡ None
+Changes command (Some c) input ended (Some plain) after = Adds command c input plain ended after
+
+abbrev pub Becomes : Words → (held : Option Cartridge) → (input : List ℕ) → Ended → (before after : Option Plain) → Type 0
+Becomes (commands.New segments) held input ended before after = Renewed ended before after
+Becomes (commands.Format label date) (Some c) input ended before after = Formatted label date c ended before after
+Becomes command held input ended before after = Changes command held input ended before after
+
+abbrev pub EventBecomes : Event → (held : Option Cartridge) → (before after : Option Plain) → Type 0
+EventBecomes (Runs run) held before after = Becomes run.command held run.input run.ended before after
+EventBecomes (Loses segment sector) held before after = after ≡ before
+
+-- each event makes this of the volumes that stood behind the one before it
+abbrev pub BecomesAll : (events : List Event) (begun : Bool) (held left : Option Cartridge) → Lives events begun held left → (before after : Option Plain) → Type 0
+BecomesAll [] begun held left life before after = after ≡ before
+BecomesAll (event ∷ events) begun held left life before after =
+    (now : Option Plain) × EventBecomes event held before now × IsSound (begun_behind event begun) life.0 now
+    × BecomesAll events (begun_behind event begun) life.0 left life.2 now after
+
+-- ---- the law
+
+-- Behind each event of a life, stopped where it may, the cartridge stands for the volumes that the answered commands made,
+-- with those of the one that was stopped or not.
+abbrev pub ALife : Type 0
+ALife =
+    (events : List Event) (begun : Bool) (held left : Option Cartridge) (before : Option Plain) →
+    IsSound begun held before → (life : Lives events begun held left) →
+    (after : Option Plain) × BecomesAll events begun held left life before after × IsSound (begun_behind_all events begun) left after

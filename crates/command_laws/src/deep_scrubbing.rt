@@ -1,0 +1,29 @@
+//! What scrubbing in either form leaves, done or stopped, where a deep scrub also looks for sectors that can be read and
+//! hold wrong bytes. Each law is the contract of a function that does nothing, so that other crates can rest on it; their
+//! proofs import the lemmas of this crate's `proofs`.
+
+ghost use Rattle.command_laws.specs.DeepScrubLaws.{ShallowIsScrub, FormIsFunction, FormAlways, FindsAtOnce, DoneInForm, DoneFormIsCartridge, StoppedInForm, StoppedFormIsCartridge};
+
+/// Without a search for wrong sectors it is a scrub. Scrubbing in a form does one thing, and it does something: two code
+/// blocks differ in four sectors (QIC-80-MC), so at most one sector of a segment is found to be wrong. What is found of each segment follows from the cartridge before the
+/// first write.
+pub fn forms_of_scrubbing()
+    ensures shallow { ShallowIsScrub }
+    ensures function { FormIsFunction }
+    ensures always { FormAlways }
+    ensures at_once { FindsAtOnce }
+{}
+
+/// After all steps each sector that was unreadable or wrong, of a segment that reads, holds its sector of the segment's
+/// block, where it takes a write, and nothing else has changed.
+pub fn done_in_form()
+    ensures scrubbed { DoneInForm }
+    ensures whole { DoneFormIsCartridge }
+{}
+
+/// A stop among the steps leaves each sector as it was, but for those to be written, which may be lost or hold their
+/// sector of the block.
+pub fn stopped_in_form()
+    ensures mending { StoppedInForm }
+    ensures whole { StoppedFormIsCartridge }
+{}

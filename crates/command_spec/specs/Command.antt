@@ -1,0 +1,58 @@
+-- All that is said of a command, in one record (this project's own).
+use Rattle.std.specs.Prelude.{ℕ, List, [], ◌++◌, ◌≡◌, Option, Bool, false}
+use Rattle.cartridge_spec.specs.Volumes.{Plain}
+use Rattle.command_spec.specs.CommandWords.{Part}
+use Rattle.command_spec.specs.Outcome.{CommandOutcome}
+use Rattle.command_spec.specs.Traits.{Traits, none_of_them}
+use Rattle.command_spec.specs.declared.status.Status.{Status}
+use Rattle.qic_base.specs.Cartridge.{Cartridge}
+
+-- a command with its values
+pub record Command : Type 1 where
+  -- the forms of its words
+  pub forms : List (List Part)
+  -- the bounds of its values
+  pub values : Type 0
+  pub traits : Traits
+  -- the plain machine: its outcome over what the drive holds and an input
+  pub yields : (held : Option Cartridge) (input : List ℕ) → CommandOutcome → Type 0
+  -- what it prints that was carried out, whatever it is that the drive holds
+  pub prints : List ℕ → Type 0
+  -- what it may have printed wherever a fault cuts it off
+  pub fronts : List ℕ → Type 0
+  -- what it has printed that was refused with an answer
+  pub refused : Status → List ℕ → Type 0
+  -- the fault of its input: the number of the line, counted from 1, and how many bytes stand before it
+  pub fault : (input : List ℕ) → (line place : ℕ) → Type 0
+  -- all is there that it needs
+  pub needs : (held : Option Cartridge) (input : List ℕ) → Type 0
+  -- it keeps what a cartridge stands for; what it is mounted as, whether it stands for a plain one or not; its header copies; and
+  -- that each sector of the table's segment takes a write
+  pub keeps_volumes : Cartridge → Plain → Type 0
+  pub keeps_list : Cartridge → Type 0
+  pub keeps_copies : Cartridge → Type 0
+  pub keeps_live : Type 0
+  -- there is no room for so many bytes, with so much room; and of so many volumes none has this number
+  pub is_full : (need have : ℕ) → Bool
+  pub is_no_volume : (number count : ℕ) → Bool
+
+-- A command of these forms that has this outcome, and prints such a text once all is done. Any values are its own. It has none of
+-- the traits, prints nothing where it is refused, finds no fault in its input, needs nothing, and keeps all that stands.
+abbrev pub plain_command : (forms : List (List Part)) → (yields : Option Cartridge → List ℕ → CommandOutcome → Type 0) → (prints : List ℕ → Type 0) → Command
+plain_command forms yields prints = record {
+  forms = forms;
+  values = Unit {0};
+  traits = none_of_them;
+  yields = yields;
+  prints = prints;
+  fronts = λ text. (rest : List ℕ) × prints (text ++ rest);
+  refused = λ answer text. text ≡ [];
+  fault = λ input line place. ⊥;
+  needs = λ held input. Unit {0};
+  keeps_volumes = λ c plain. Unit {0};
+  keeps_list = λ c. Unit {0};
+  keeps_copies = λ c. Unit {0};
+  keeps_live = Unit {0};
+  is_full = λ need have. false;
+  is_no_volume = λ number count. false;
+}

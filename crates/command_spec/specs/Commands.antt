@@ -1,0 +1,47 @@
+-- The commands: the record of each, and its words and traits by that (this project's own).
+use Rattle.std.specs.Prelude.{ℕ, List}
+use Rattle.command_spec.specs.AppendCommand.{append_command}
+use Rattle.command_spec.specs.Command.{Command}
+use Rattle.command_spec.specs.CommandWords.{Part, HasForm}
+use Rattle.command_spec.specs.Defect.{defect_command}
+use Rattle.command_spec.specs.Format.{format_command}
+use Rattle.command_spec.specs.Info.{info_command}
+use Rattle.command_spec.specs.List.{list_command}
+use Rattle.command_spec.specs.Lose.{lose_command}
+use Rattle.command_spec.specs.MakeCommand.{make_command}
+use Rattle.command_spec.specs.New.{new_command}
+use Rattle.command_spec.specs.Protect.{protect_command}
+use Rattle.command_spec.specs.PulsesCommand.{pulses_command}
+use Rattle.command_spec.specs.RestoreCommand.{restore_command}
+use Rattle.command_spec.specs.ScriptCommand.{script_command}
+use Rattle.command_spec.specs.ScrubCommand.{scrub_command}
+use Rattle.command_spec.specs.Traits.{Traits}
+use Rattle.command_spec.specs.declared.words.Words.{Words}
+use Rattle.command_spec.specs.declared.words.Words.TheVariants as words
+
+abbrev pub command_of : Words → Command
+command_of (words.New segments) = new_command segments
+command_of (words.Defect segment sector) = defect_command segment sector
+command_of (words.Lose segment sector) = lose_command segment sector
+command_of (words.Protect on) = protect_command on
+command_of (words.Format label date) = format_command label date
+command_of words.Info = info_command
+command_of (words.Append name date) = append_command name date
+command_of words.List = list_command
+command_of (words.Restore number) = restore_command number
+command_of words.Scrub = scrub_command
+command_of words.Pulses = pulses_command
+command_of words.Script = script_command
+command_of (words.Make seed count) = make_command seed count
+
+-- ---- words and traits
+
+abbrev pub word_forms : Words → List (List Part)
+word_forms command = (command_of command).forms
+
+-- the words are those of the command
+abbrev pub IsCommand : List (List ℕ) → Words → Type 0
+IsCommand words command = HasForm words (word_forms command)
+
+abbrev pub traits_of : Words → Traits
+traits_of command = (command_of command).traits

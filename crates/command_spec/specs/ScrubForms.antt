@@ -1,0 +1,139 @@
+-- The two forms of a scrub over one kind of finding: `scrub` mends sectors that can't be read, and `scrub deep` also one of
+-- a segment that can be read and holds wrong bytes (QIC-80-MC: two code blocks differ in at least four sectors; the rest is
+-- this project's profile).
+use Rattle.std.specs.Prelude.{ℕ, List, [], ◌∷◌, ◌+◌, ◌++◌, codes, decimal, length, map, ◌≡◌, ◌≢◌, ◌<◌, ◌≤◌, true, slice_index, Option, Some, None}
+use Rattle.cartridge_spec.specs.Mounting.{settled}
+use Rattle.cartridge_spec.specs.Says.{Saying, Data, Mismatch, Says, unreadable_count}
+use Rattle.cartridge_spec.specs.Settling.{changed_by}
+use Rattle.cartridge_spec.specs.Shape.{usable_places, usable_count}
+use Rattle.cartridge_spec.specs.Table.{Entry}
+use Rattle.cartridge_spec.specs.Wear.{worn}
+use Rattle.command_spec.specs.Outcome.{settling_act, CommandOutcome, Going, WritableOutcome}
+use Rattle.command_spec.specs.Scrub.{Looked, looked_at, cells_at, reads, steps_in, line_in, unread_count, Counts, counts_line, last_act}
+use Rattle.qic_base.specs.Acts.{Act, steps_of}
+use Rattle.qic_base.specs.Cartridge.{Cartridge}
+use Rattle.qic_base.specs.Step.{Step}
+use Rattle.command_spec.specs.declared.status.Status.TheVariants as status
+
+-- ---- one segment
+
+-- whether a wrong sector is looked for
+pub data Depth : Type 0 where
+  Shallow : Depth
+  Deep : Depth
+
+-- never in the table's segment
+abbrev pub IsSearched : Depth → Looked → Type 0
+IsSearched Shallow looked = ⊥
+IsSearched Deep looked = looked.segment ≢ 2
+
+-- what is found of a segment: what it says, and the index of the wrong sector, which then counts as lost
+pub record Finding : Type 0 where
+  pub saying : Saying
+  pub wrong : Option ℕ
+
+-- the cartridge with that sector lost
+abbrev pub without : (wrong : Option ℕ) → Looked → Cartridge → Cartridge
+without None looked c = c
+without (Some sector) looked c = worn looked.segment sector c
+
+-- A usable sector is wrong: no code block agrees with those that can be read, and at most one can't; with this one lost as well
+-- the segment says these data, and reads. Its place is that among the usable sectors, its index that in the segment.
+pub record IsWrong (c : Cartridge) (looked : Looked) (sector : ℕ) (sectors : List (List ℕ)) : Type 0 where
+  pub place : ℕ
+  pub within : place < usable_count looked.mask
+  pub index : slice_index (usable_places looked.mask) place ≡ sector
+  pub mismatch : Says (cells_at c looked) Mismatch
+  pub few : unreadable_count (cells_at c looked) ≤ 1
+  pub says : Says (cells_at (worn looked.segment sector c) looked) (Data sectors)
+  pub can_be_read : reads looked (Data sectors) ≡ true
+
+-- what a segment says, where no sector is found to be wrong; else what it says with the wrong one lost
+abbrev pub HasFound : Depth → Cartridge → Looked → Saying → (wrong : Option ℕ) → Type 0
+HasFound depth c looked saying None =
+    Says (cells_at c looked) saying
+    × (IsSearched depth looked → (sector : ℕ) (sectors : List (List ℕ)) → IsWrong c looked sector sectors → ⊥)
+HasFound depth c looked saying (Some sector) =
+    IsSearched depth looked × (sectors : List (List ℕ)) × (saying ≡ Data sectors) × IsWrong c looked sector sectors
+
+abbrev pub Finds : Depth → Cartridge → Looked → Finding → Type 0
+Finds depth c looked finding = HasFound depth c looked finding.saying finding.wrong
+
+-- the writes: those of a scrub, where the wrong sector counts as lost
+abbrev pub steps_for : Cartridge → Looked → Finding → List Step
+steps_for c looked finding = steps_in (without finding.wrong looked c) looked finding.saying
+
+-- the line of a wrong sector, with its index in the segment
+abbrev pub wrong_line : (segment : ℕ) → (wrong : Option ℕ) → List ℕ
+wrong_line segment None = []
+wrong_line segment (Some sector) = codes "wrong " ++ decimal segment ++ codes " " ++ decimal sector ++ codes "\n"
+
+-- a segment with a wrong sector reads, so one line at most is printed
+abbrev pub line_for : Looked → Finding → List ℕ
+line_for looked finding = wrong_line looked.segment finding.wrong ++ line_in looked finding.saying
+
+abbrev pub find_act : Cartridge → Looked → Finding → Act
+find_act c looked finding = record { steps = steps_for c looked finding; text = line_for looked finding }
+
+-- ---- all of them, one after the other
+
+-- this is found of each of these segments, on the cartridge as it stands when it is looked at
+abbrev pub FindInTurn : Depth → Cartridge → List Looked → List Finding → Type 0
+FindInTurn depth c [] [] = Unit {0}
+FindInTurn depth c [] (f ∷ fs) = ⊥
+FindInTurn depth c (l ∷ ls) [] = ⊥
+FindInTurn depth c (l ∷ ls) (f ∷ fs) = Finds depth c l f × FindInTurn depth (changed_by (steps_for c l f) c) ls fs
+
+-- the acts: in each segment its writes, then its line
+abbrev pub finding_acts : Cartridge → List Looked → List Finding → List Act
+finding_acts c [] fs = []
+finding_acts c (l ∷ ls) [] = []
+finding_acts c (l ∷ ls) (f ∷ fs) = find_act c l f ∷ finding_acts (changed_by (steps_for c l f) c) ls fs
+
+abbrev pub sayings_of : List Finding → List Saying
+sayings_of findings = map (λ finding. finding.saying) findings
+
+-- what is counted, as by a scrub: a wrong sector is one of those for which a write was sent
+abbrev pub counts_for : Cartridge → List Looked → List Finding → Counts
+counts_for c looked findings = record {
+  segments = length looked;
+  mended = length (steps_of (finding_acts c looked findings));
+  unreadable = unread_count looked (sayings_of findings);
+}
+
+abbrev pub acts_for : Cartridge → List Looked → List Finding → List Act
+acts_for c looked findings = finding_acts c looked findings ++ last_act (counts_for c looked findings) ∷ []
+
+-- the acts of scrubbing a cartridge with this map and these volumes in this form
+pub record ScrubsAs (depth : Depth) (c : Cartridge) (words : List ℕ) (entries : List Entry) (acts : List Act) : Type 0 where
+  pub findings : List Finding
+  pub found : FindInTurn depth c (looked_at words entries) findings
+  pub are : acts ≡ acts_for c (looked_at words entries) findings
+
+-- the lines of these segments, one after the other, where this is found of them
+abbrev pub lines_for : List Looked → List Finding → List ℕ
+lines_for [] fs = []
+lines_for (l ∷ ls) [] = []
+lines_for (l ∷ ls) (f ∷ fs) = line_for l f ++ lines_for ls fs
+
+-- The text of a scrubbing with these counts, whatever is found of its segments.
+pub record IsTextFor (looked : List Looked) (counts : Counts) (text : List ℕ) : Type 0 where
+  pub findings : List Finding
+  pub each : length findings ≡ length looked
+  pub lines : text ≡ lines_for looked findings ++ counts_line counts
+  pub segments : counts.segments ≡ length looked
+  pub unreadable : counts.unreadable ≡ unread_count looked (sayings_of findings)
+
+-- ---- the command `scrub deep`
+
+-- the settled cartridge is scrubbed so
+pub record ScrubsDeepOn (c : Cartridge) (words : List ℕ) (table : List (List ℕ)) (entries : List Entry) (outcome : CommandOutcome) : Type 0 where
+  pub acts : List Act
+  pub scrubs : ScrubsAs Deep (settled table c) words entries acts
+  pub is : outcome ≡ record { acts = settling_act table c ∷ acts; taken = 0; status = status.Done }
+
+abbrev pub MendsDeep : Going
+MendsDeep c header words table entries outcome = ScrubsDeepOn c words table entries outcome
+
+abbrev pub DeepScrubOutcome : Option Cartridge → CommandOutcome → Type 0
+DeepScrubOutcome held outcome = WritableOutcome MendsDeep held outcome
