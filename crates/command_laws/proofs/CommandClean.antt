@@ -40,7 +40,7 @@ use Rattle.command_laws.proofs.ScrubStanding.{looks_in_front}
 use Rattle.command_laws.proofs.StoreEnding.{list_more, took_fits}
 use Rattle.command_laws.proofs.StoreTaking.{both_true}
 use Rattle.command_laws.specs.MountedListed.{listed_behind}
-use Rattle.command_spec.specs.Append.{Appends, Kept, Taking, Fits, TooLong, TooShort, append_acts, entry_acts, entry_for, free_in, has_promised_room, input_acts, input_writes, kept_on, kept_over, most_written, room_in, silently, taking}
+use Rattle.command_spec.specs.Append.{Appends, Kept, Taking, Fits, TooLong, TooShort, append_acts, entry_acts, entry_for, free_in, has_promised_room, input_acts, input_writes, kept_over, most_written, room_in, silently, taking}
 use Rattle.command_spec.specs.Defect.{DefectOutcome}
 use Rattle.command_spec.specs.Format.{FormatOutcome}
 use Rattle.command_spec.specs.Generator.{made_bytes, made_length}
@@ -393,7 +393,7 @@ module _ (area : List (List ℕ)) (is_area : IsArea area) where
 
   pub appends_leave : (name : List ℕ) (date : ℕ) (input : List ℕ) → GoesLeaving Clean (Appends name date input)
   appends_leave name date input c header ws table entries outcome mounts is clean =
-      let kept : Kept = kept_on c ws table entries in
+      let kept : Kept = kept_over (settled table c) ws entries table in
       let reply : Entry → List ℕ = reply_behind (length entries) in
       let acts : List Act = append_acts kept name date None reply input in
       by_outcome c outcome _ is (settled_leaves c header ws table entries acts mounts clean (λ still.

@@ -136,19 +136,15 @@ kept_in words entries = record { words = words; entries = entries; table = []; s
 abbrev pub kept_over : Cartridge → (words : List ℕ) → (entries : List Entry) → (table : List (List ℕ)) → Kept
 kept_over c words entries table = record (kept_in words entries) { table = table; settling = settling_steps table c }
 
--- what it goes by once the table is settled: a sector that takes no write is written again
-abbrev pub kept_on : Cartridge → (words : List ℕ) → (table : List (List ℕ)) → List Entry → Kept
-kept_on c words table entries = kept_over (settled table c) words entries table
-
 -- the answer, with room for so many bytes: full where there is none for all of the input, or for no byte
 abbrev pub append_status : (have : ℕ) → (input : List ℕ) → Status
 append_status have input =
     if nat_le 1 have && nat_le (length input) have then status.Done else status.Full (min (length input) (have + 1)) have
 
--- the table is settled, and the whole input appended
+-- the table is settled, and the whole input appended: a sector of the table that takes no write is written again
 abbrev pub appended : (name : List ℕ) → (date : ℕ) → (input : List ℕ) → Cartridge → (words : List ℕ) → (table : List (List ℕ)) → List Entry → CommandOutcome
 appended name date input c words table entries =
-    let kept : Kept = kept_on c words table entries in record {
+    let kept : Kept = kept_over (settled table c) words entries table in record {
       acts = settling_act table c ∷ append_acts kept name date None (reply_behind (length entries)) input;
       taken = bytes_taken None (taking (room_in kept) None input);
       status = append_status (room_in kept) input;
