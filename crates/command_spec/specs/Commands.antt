@@ -16,6 +16,7 @@ use Rattle.command_spec.specs.RestoreCommand.{restore_command}
 use Rattle.command_spec.specs.ScriptCommand.{script_command}
 use Rattle.command_spec.specs.ScrubCommand.{scrub_command}
 use Rattle.command_spec.specs.Traits.{Traits}
+use Rattle.command_spec.specs.Upgrade.{upgrade_command}
 use Rattle.command_spec.specs.declared.words.Words.{Words}
 use Rattle.command_spec.specs.declared.words.Words.TheVariants as words
 
@@ -33,6 +34,7 @@ command_of words.Scrub = scrub_command
 command_of words.Pulses = pulses_command
 command_of words.Script = script_command
 command_of (words.Make seed count) = make_command seed count
+command_of words.Upgrade = upgrade_command
 
 -- ---- words and traits
 

@@ -36,4 +36,5 @@ pub mod ScrubCommand
 pub mod ScrubForms
 pub mod Several
 pub mod Traits
+pub mod Upgrade
 pub mod Volumes

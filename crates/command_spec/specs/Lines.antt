@@ -109,6 +109,10 @@ abbrev pub protected_line : Bool → List ℕ
 protected_line true = codes "protected on\n"
 protected_line false = codes "protected off\n"
 
+-- the version of the layout before
+abbrev pub upgraded_line : (version : ℕ) → List ℕ
+upgraded_line version = number_line (codes "upgraded from") version
+
 -- the first lines of `info`: the label, and when the cartridge was formatted
 unfoldable pub label_lines : Header → List ℕ
 label_lines header =

@@ -21,4 +21,6 @@ pub enum Words {
     Script,
     /// A generated run of 1 to 200 volumes.
     Make { seed: u32, count: u32 },
+    /// The cartridge is kept in the newest layout of an image.
+    Upgrade,
 }

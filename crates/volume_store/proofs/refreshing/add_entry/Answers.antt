@@ -1,4 +1,4 @@
-use Rattle.std.proofs.Common.{◌≡◌, ◌++◌, ◌∷◌, [], ℕ, List, take, Err, refl, inl, inr, subst, arith}
+use Rattle.std.proofs.Common.{◌≡◌, ◌++◌, ◌∷◌, [], ℕ, List, length, take, Err, refl, inl, inr, subst, arith}
 use Rattle.std.proofs.lemmas.List.{length-take-le}
 use Rattle.qic_base.specs.Tape.{Tells}
 use Rattle.volume_store.specs.declared.table_reader.Unread.{Unread}
