@@ -132,12 +132,12 @@ done_bytes c plain name date bytes ready =
     let volume : Volume = appended_volume plain name date bytes in
     let entry : Entry = volume.entry in
     let taken : AreTaken words from (last_segment c) segments = ready_taken c plain name date bytes ready in
-    let room : HasRoom words (entries_of plain) last (length bytes) = plain_room plain (length bytes) ready.room in
+    let room : HasRoom words (entries_of plain) (length bytes) = plain_room plain (length bytes) ready.room in
     let enough : length bytes ≤ capacity_between words (from + 1) last = room.enough in
-    let free : capacity_between words (from + 1) last ≡ capacity_of words (free_segments words (entries_of plain) last) =
+    let free : capacity_between words (from + 1) last ≡ capacity_of words (free_segments words (entries_of plain)) =
     between_carries words (from + 1) last in
     let carry : length bytes ≤ capacity_of words segments =
-    taken_enough words (length bytes) (free_segments words (entries_of plain) last) (omega arith) in
+    taken_enough words (length bytes) (free_segments words (entries_of plain)) (omega arith) in
     let all : capacity_between words entry.start entry.end ≡ capacity_of words segments =
     between_carries words entry.start entry.end ∙ ap (capacity_of words) (segments_are words from (last_segment c) segments taken) in
     let sectors : capacity_of words segments ≡ 1024 * sectors_in words segments =

@@ -267,10 +267,10 @@ front_taken words from last taken front some = by_last front.last
         }
 
 -- what room is known to be
-pub record HasRoom (words : List ℕ) (entries : List Entry) (last bytes : ℕ) : Type 0 where
+pub record HasRoom (words : List ℕ) (entries : List Entry) (bytes : ℕ) : Type 0 where
   pub free_slot : length entries < 232
-  pub some : 1 ≤ capacity_between words (last_end entries + 1) last
-  pub enough : bytes ≤ capacity_between words (last_end entries + 1) last
+  pub some : 1 ≤ capacity_between words (last_end entries + 1) (length words - 1)
+  pub enough : bytes ≤ capacity_between words (last_end entries + 1) (length words - 1)
 
 by_slots : (b : Bool) (count have bytes : ℕ) → nat_lt count 232 ≡ b → (nat_le 1 (cond b have 0) && nat_le bytes (cond b have 0)) ≡ true →
     (count < 232) × (1 ≤ have) × (bytes ≤ have)
@@ -279,10 +279,10 @@ by_slots true count have bytes is holds =
     (ltb-true count 232 is, leb-true 1 have both.0, leb-true bytes have both.1)
 by_slots false count have bytes is holds = absurd (false≢true (and_parts (nat_le 1 0) (nat_le bytes 0) holds).0)
 
-pub room_is : (words : List ℕ) (entries : List Entry) (last bytes : ℕ) → (nat_le 1 (room words entries last) && nat_le bytes (room words entries last)) ≡ true →
-    HasRoom words entries last bytes
-room_is words entries last bytes holds =
-    let all = by_slots (nat_lt (length entries) 232) (length entries) (capacity_between words (last_end entries + 1) last) bytes refl holds in
+pub room_is : (words : List ℕ) (entries : List Entry) (bytes : ℕ) → (nat_le 1 (room words entries) && nat_le bytes (room words entries)) ≡ true →
+    HasRoom words entries bytes
+room_is words entries bytes holds =
+    let all = by_slots (nat_lt (length entries) 232) (length entries) (capacity_between words (last_end entries + 1) (length words - 1)) bytes refl holds in
     record { free_slot = all.0; some = all.1; enough = all.2 }
 
 pub room_most : (words : List ℕ) (entries : List Entry) (last : ℕ) → capacity_between words (last_end entries + 1) last ≤ 29696 * (last + 1)
@@ -291,12 +291,13 @@ room_most words entries last =
     let most : capacity_between words from last ≤ 29696 * (last + 1 - from) = sum_most words (last + 1 - from) from in
     omega arith
 
-pub segments_taken : (words : List ℕ) (entries : List Entry) (last bytes : ℕ) → HasRoom words entries last bytes →
-    AreTaken words (last_end entries) last (taken_by words bytes (free_segments words entries last))
-segments_taken words entries last bytes has =
+pub segments_taken : (words : List ℕ) (entries : List Entry) (bytes : ℕ) → HasRoom words entries bytes →
+    AreTaken words (last_end entries) (length words - 1) (taken_by words bytes (free_segments words entries))
+segments_taken words entries bytes has =
+    let last : ℕ = length words - 1 in
     let from : ℕ = last_end entries in
     let m : ℕ = last + 1 - (from + 1) in
-    let free : free_segments words entries last ≡ places_that (carries words) (from + 1) m = carrying_are words (from + 1) last in
+    let free : free_segments words entries ≡ places_that (carries words) (from + 1) m = carrying_are words (from + 1) last in
     subst (λ (ss : List ℕ). AreTaken words from last (taken_by words bytes ss)) (sym free)
     (front_taken words from last (taken_by words bytes (places_that (carries words) (from + 1) m)) (taken_front words (carries words) m (from + 1) bytes)
     (taken_some words bytes (places_that (carries words) (from + 1) m) (some_carries words m (from + 1) has.some)))

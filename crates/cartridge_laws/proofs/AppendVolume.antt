@@ -1,5 +1,5 @@
 -- A stop among the writes of a new volume's segments.
-use Rattle.std.proofs.Common.{ℕ, List, All, ◌≤◌, length, ◌<◌, sym, subst, arith, ◌∙◌, ◌≡◌, ◌⊎◌, ◌-◌, true}
+use Rattle.std.proofs.Common.{ℕ, List, All, ◌≤◌, length, ◌<◌, sym, subst, arith, ◌∙◌, ◌≡◌, ◌⊎◌, true}
 use Rattle.std.proofs.lemmas.List.Elements.{All-weaker}
 use Rattle.cartridge_laws.proofs.AppendKeeping.{AreIn, parts_of_segments, IsKeptBut, steps_stopped}
 use Rattle.cartridge_laws.proofs.AppendOrders.{LiesWithin, lie_within, end_least}
@@ -55,14 +55,14 @@ old_volumes c plain stood = lie_within 2 (last_segment c) plain.volumes (old_ord
 pub last_end_least : (c : Cartridge) (plain : Plain) → Stands c plain → 2 ≤ last_end (entries_of plain)
 last_end_least c plain stood = end_least 2 (last_segment c) (entries_of plain) (old_order c plain stood)
 
-pub plain_room : (plain : Plain) (bytes : ℕ) → has_room plain bytes ≡ true → HasRoom plain.words (entries_of plain) (length plain.words - 1) bytes
-plain_room plain bytes room = room_is plain.words (entries_of plain) (length plain.words - 1) bytes room
+pub plain_room : (plain : Plain) (bytes : ℕ) → has_room plain bytes ≡ true → HasRoom plain.words (entries_of plain) bytes
+plain_room plain bytes room = room_is plain.words (entries_of plain) bytes room
 
 pub ready_taken : (c : Cartridge) (plain : Plain) (name : List ℕ) (date : ℕ) (bytes : List ℕ) → MayAppendTo c plain name date bytes →
     AreTaken plain.words (last_end (entries_of plain)) (last_segment c) (new_segments plain bytes)
 ready_taken c plain name date bytes ready =
     subst (λ (last : ℕ). AreTaken plain.words (last_end (entries_of plain)) last (new_segments plain bytes)) (plain_last c plain ready.stands)
-    (segments_taken plain.words (entries_of plain) (length plain.words - 1) (length bytes) (plain_room plain (length bytes) ready.room))
+    (segments_taken plain.words (entries_of plain) (length bytes) (plain_room plain (length bytes) ready.room))
 
 pub taken_behind : (words : List ℕ) (from last : ℕ) (segments : List ℕ) → AreTaken words from last segments → All (λ s. from < s) segments
 taken_behind words from last segments taken =

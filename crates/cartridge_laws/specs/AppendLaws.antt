@@ -1,5 +1,5 @@
 -- What an append leaves, done or stopped, as facts.
-use Rattle.std.specs.Prelude.{ℕ, List, ◌≡◌, ◌^◌, ◌<◌, true, length, All, false, ◌⊎◌, ◌++◌, [], ◌∷◌, drop, nat_le, if◌then◌else◌, ◌*◌, take, Option, Some, IsSomeAnd, ◌-◌}
+use Rattle.std.specs.Prelude.{ℕ, List, ◌≡◌, ◌^◌, ◌<◌, true, length, All, false, ◌⊎◌, ◌++◌, [], ◌∷◌, drop, nat_le, if◌then◌else◌, ◌*◌, take, Option, Some, IsSomeAnd}
 use Rattle.cartridge_laws.specs.AppendBetween.{IsWhole, IsBegun, IsTurned, Between}
 use Rattle.cartridge_laws.specs.AppendSteps.{volume_writes, list_writes, append_steps, writes_into, IsNamed}
 use Rattle.cartridge_laws.specs.AppendWrites.{AreWrites, IsFree, KeepsTo, IsOfSector}
@@ -98,7 +98,7 @@ abbrev pub VolumeStepsByBytes : Type 0
 VolumeStepsByBytes =
     (plain : Plain) (name : List ℕ) (date : ℕ) (bytes : List ℕ) →
     volume_steps plain name date bytes
-    ≡ writes_into plain.words (free_segments plain.words (entries_of plain) (length plain.words - 1)) bytes
+    ≡ writes_into plain.words (free_segments plain.words (entries_of plain)) bytes
 
 -- .. which are those of the first segment, and then those of the bytes behind it into the others, where there are any
 abbrev pub WritesBySegment : Type 0

@@ -1,4 +1,4 @@
--- Volumes more: the room for one, the segments that it takes, its bytes in sectors, its entry, and the writes (this project's profile).
+-- Volumes more: the room for one, its segments, its bytes in sectors, its entry, and the writes (this project's profile).
 use Rattle.std.specs.Prelude.{ℕ, List, [], ◌∷◌, ◌+◌, length, if◌then◌else◌, nat_lt, ◌-◌, nat_le, ◌&&◌, Bool, ◌++◌, replicate, zero, suc, take, drop, slice_index}
 use Rattle.cartridge_spec.specs.Says.{with_parity}
 use Rattle.cartridge_spec.specs.Settling.{block_writes, writes_of}
@@ -16,14 +16,14 @@ end_behind before (e ∷ es) = end_behind e.end es
 abbrev pub last_end : List Entry → ℕ
 last_end entries = end_behind 2 entries
 
--- the carrying segments behind it, ascending, on a cartridge whose last segment is this
-abbrev pub free_segments : (words : List ℕ) → List Entry → (last : ℕ) → List ℕ
-free_segments words entries last = carrying words (last_end entries + 1) last
+-- the carrying segments behind it, ascending: up to the last one of the map
+abbrev pub free_segments : (words : List ℕ) → List Entry → List ℕ
+free_segments words entries = carrying words (last_end entries + 1) (length words - 1)
 
 -- the bytes that a new volume may have: those that these segments carry, and none where the table is full
-abbrev pub room : (words : List ℕ) → List Entry → (last : ℕ) → ℕ
-room words entries last =
-    if nat_lt (length entries) 232 then capacity_between words (last_end entries + 1) last else 0
+abbrev pub room : (words : List ℕ) → List Entry → ℕ
+room words entries =
+    if nat_lt (length entries) 232 then capacity_between words (last_end entries + 1) (length words - 1) else 0
 
 -- those of some carrying segments that a volume of so many bytes takes, in their order: it ends with the one that takes its
 -- last byte, and takes one for no byte
@@ -84,12 +84,12 @@ part_writes words part =
 -- it has room for a volume of so many bytes
 abbrev pub has_room : Plain → (bytes : ℕ) → Bool
 has_room plain bytes =
-    let have : ℕ = room plain.words (entries_of plain) (length plain.words - 1) in nat_le 1 have && nat_le bytes have
+    let have : ℕ = room plain.words (entries_of plain) in nat_le 1 have && nat_le bytes have
 
 -- the segments that a new volume of these bytes takes
 abbrev pub new_segments : Plain → (bytes : List ℕ) → List ℕ
 new_segments plain bytes =
-    taken_by plain.words (length bytes) (free_segments plain.words (entries_of plain) (length plain.words - 1))
+    taken_by plain.words (length bytes) (free_segments plain.words (entries_of plain))
 
 -- the new volume: of a name of 44 bytes, a date word, and bytes
 abbrev pub appended_volume : Plain → (name : List ℕ) → (date : ℕ) → (bytes : List ℕ) → Volume

@@ -27,7 +27,7 @@ use Rattle.cartridge_spec.specs.Shape.{mask_at}
 use Rattle.cartridge_spec.specs.Table.{slot_bytes, slot_sector, with_slot, Entry}
 use Rattle.cartridge_spec.specs.Volumes.{Plain, entries_of, Stands, Volume}
 use Rattle.command_laws.proofs.InputActLaws.{volume_is_free, volume_is_writes}
-use Rattle.command_spec.specs.Append.{appended, Appends, AppendOutcome, Kept, kept_on, input_writes, entry_acts, room_in, taking, free_in, volume_acts, Fits, TooLong, entry_for}
+use Rattle.command_spec.specs.Append.{appended, Appends, AppendOutcome, Kept, input_writes, entry_acts, room_in, taking, free_in, volume_acts, Fits, TooLong, entry_for, kept_over}
 use Rattle.command_spec.specs.Lines.{reply_behind, appended_line}
 use Rattle.command_spec.specs.Outcome.{CommandOutcome, refused, Opened, settling_act}
 use Rattle.command_spec.specs.declared.status.Status.{Status}
@@ -119,7 +119,7 @@ done_behind c plain steps table =
 -- ---- the segments' acts
 
 abbrev pub kept_of : Cartridge → Plain → Kept
-kept_of c plain = kept_on c plain.words plain.table_area (entries_of plain)
+kept_of c plain = kept_over (settled plain.table_area c) plain.words (entries_of plain) plain.table_area
 
 abbrev pub segments_acts : Cartridge → Plain → (input : List ℕ) → List Act
 segments_acts c plain input = input_writes (kept_of c plain) None input

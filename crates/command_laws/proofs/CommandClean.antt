@@ -40,7 +40,7 @@ use Rattle.command_laws.proofs.ScrubStanding.{looks_in_front}
 use Rattle.command_laws.proofs.StoreEnding.{list_more, took_fits}
 use Rattle.command_laws.proofs.StoreTaking.{both_true}
 use Rattle.command_laws.specs.MountedListed.{listed_behind}
-use Rattle.command_spec.specs.Append.{Appends, Kept, Taking, Fits, TooLong, TooShort, append_acts, entry_acts, entry_for, free_in, has_promised_room, input_acts, input_writes, kept_on, kept_over, most_written, room_in, silently, taking}
+use Rattle.command_spec.specs.Append.{Appends, Kept, Taking, Fits, TooLong, TooShort, append_acts, entry_acts, entry_for, free_in, has_promised_room, input_acts, input_writes, kept_over, most_written, room_in, silently, taking}
 use Rattle.command_spec.specs.Defect.{DefectOutcome}
 use Rattle.command_spec.specs.Format.{FormatOutcome}
 use Rattle.command_spec.specs.Generator.{made_bytes, made_length}
@@ -199,14 +199,14 @@ settling_behind table c =
 
 -- the list that an append goes by is in order
 abbrev IsInOrder : Kept → Type 0
-IsInOrder kept = IsSoundList kept.last kept.entries
+IsInOrder kept = IsSoundList (length kept.words - 1) kept.entries
 
 input_behind : (kept : Kept) (promised : Option ℕ) (input : List ℕ) → IsInOrder kept → AreBehind (steps_of (input_writes kept promised input))
 input_behind kept promised input order =
     let from : ℕ = last_end kept.entries + 1 in
-    let least : 2 ≤ last_end kept.entries = end_least 2 kept.last kept.entries order in
+    let least : 2 ≤ last_end kept.entries = end_least 2 (length kept.words - 1) kept.entries order in
     let past : All (λ s. 1 < s) (free_in kept) =
-    All-weaker (λ (s : ℕ). from ≤ s) (λ (s : ℕ). 1 < s) (λ s h. omega arith) (free_in kept) (carrying_from kept.words from kept.last) in
+    All-weaker (λ (s : ℕ). from ≤ s) (λ (s : ℕ). 1 < s) (λ s h. omega arith) (free_in kept) (carrying_from kept.words from (length kept.words - 1)) in
     acts_where (has_promised_room (room_in kept) promised) (input_acts kept.words (free_in kept) (most_written (room_in kept) promised) (is_some promised) input) []
     (input_is_free 1 kept.words (free_in kept) (most_written (room_in kept) promised) (is_some promised) input past) tt
 
@@ -214,7 +214,7 @@ input_behind kept promised input order =
 has_slot : (kept : Kept) (promised : Option ℕ) (input bytes : List ℕ) → taking (room_in kept) promised input ≡ Fits bytes → length kept.entries < 232
 has_slot kept promised input bytes took =
     let fit = took_fits (room_in kept) promised input bytes took in
-    (room_is kept.words kept.entries kept.last (length bytes) (both_true (nat_le 1 (room_in kept)) (nat_le (length bytes) (room_in kept))
+    (room_is kept.words kept.entries (length bytes) (both_true (nat_le 1 (room_in kept)) (nat_le (length bytes) (room_in kept))
     (le-leb 1 (room_in kept) fit.0) (le-leb (length bytes) (room_in kept) fit.1))).free_slot
 
 table_behind : (n : ℕ) (table : List (List ℕ)) → n < 232 → AreBehind (table_writes (slot_sector n) table)
@@ -241,10 +241,10 @@ append_behind kept name date promised reply input order settling =
 
 -- .. and so it is behind it
 order_behind : (kept : Kept) (name : List ℕ) (date : ℕ) (promised : Option ℕ) (input : List ℕ) (became : Taking) → taking (room_in kept) promised input ≡ became → IsInOrder kept →
-    IsSoundList kept.last (listed_behind kept name date became)
+    IsSoundList (length kept.words - 1) (listed_behind kept name date became)
 order_behind kept name date promised input (Fits bytes) took order =
     let fit = took_fits (room_in kept) promised input bytes took in
-    list_more kept.words kept.entries kept.last name date (length bytes) order fit.0 fit.1
+    list_more kept.words kept.entries name date (length bytes) order fit.0 fit.1
 order_behind kept name date promised input (TooLong need have) took order = order
 order_behind kept name date promised input (TooShort asked read) took order = order
 
@@ -290,11 +290,11 @@ line_order c ws entries line.End bytes did order none = absurd none
 
 -- .. and behind a step of a generated run that was carried out
 made_room : (seed : ℕ) (ws : List ℕ) (entries : List Entry) (volume : ℕ) → made_answer seed ws entries volume ≡ made.Done →
-    (1 ≤ room ws entries (length ws - 1)) × (made_length seed volume ≤ room ws entries (length ws - 1))
+    (1 ≤ room ws entries) × (made_length seed volume ≤ room ws entries)
 made_room seed ws entries volume done = by_room (has_promised_room have (Some n)) refl done
   where
     have : ℕ
-    have = room ws entries (length ws - 1)
+    have = room ws entries
 
     n : ℕ
     n = made_length seed volume
@@ -311,8 +311,8 @@ step_order seed c ws entries (AppendMade volume) acts order (inl refused) = let 
 step_order seed c ws entries (AppendMade volume) acts order (inr (free, inl appended)) =
     let fit = made_room seed ws entries volume (sym appended.answered) in
     let long : length (made_bytes seed volume) ≡ made_length seed volume = length-made_bytes seed volume in
-    let enough : made_length seed volume ≤ room ws entries (length ws - 1) = fit.1 in
-    list_more ws entries (length ws - 1) (made_name volume) 0 (length (made_bytes seed volume)) order fit.0 (omega arith)
+    let enough : made_length seed volume ≤ room ws entries = fit.1 in
+    list_more ws entries (made_name volume) 0 (length (made_bytes seed volume)) order fit.0 (omega arith)
 step_order seed c ws entries (AppendMade volume) acts order (inr (free, inr lost)) = let same = lost.answered in absurd (cc)
 step_order seed c ws entries (WearSector segment sector) acts order does = order
 step_order seed c ws entries ScrubAll acts order does = order
@@ -393,7 +393,7 @@ module _ (area : List (List ℕ)) (is_area : IsArea area) where
 
   pub appends_leave : (name : List ℕ) (date : ℕ) (input : List ℕ) → GoesLeaving Clean (Appends name date input)
   appends_leave name date input c header ws table entries outcome mounts is clean =
-      let kept : Kept = kept_on c ws table entries in
+      let kept : Kept = kept_over (settled table c) ws entries table in
       let reply : Entry → List ℕ = reply_behind (length entries) in
       let acts : List Act = append_acts kept name date None reply input in
       by_outcome c outcome _ is (settled_leaves c header ws table entries acts mounts clean (λ still.

@@ -9,7 +9,7 @@ use Rattle.cartridge_spec.specs.Volumes.{Plain, entries_of}
 use Rattle.command_laws.proofs.MadeComplete.{made_where_there_is_room}
 use Rattle.command_laws.proofs.MountedHeld.{mounted_open}
 use Rattle.command_laws.proofs.RestoreGivenBack.{given, given_whole}
-use Rattle.command_spec.specs.Append.{room_in, Appends, AppendOutcome, kept_on}
+use Rattle.command_spec.specs.Append.{room_in, Appends, AppendOutcome, kept_in}
 use Rattle.command_spec.specs.AppendCommand.{CanTake}
 use Rattle.command_spec.specs.Complete.{ReadsAs, IsUnprotected}
 use Rattle.command_spec.specs.Defect.{DefectOutcome}
@@ -88,7 +88,7 @@ append_goes name date input c outcome free can does =
     let goes : Going = Appends name date input in
     let plain : Plain = can.plain in
     let on = goes_on goes c plain outcome can.mounts (is_opened goes c outcome free does) in
-    let have : ℕ = room_in (kept_on c plain.words plain.table_area (entries_of plain)) in
+    let have : ℕ = room_in (kept_in plain.words (entries_of plain)) in
     ap status_of on.did ∙ ap (λ (b : Bool). cond b status.Done (status.Full (min (length input) (have + 1)) have)) can.room
 
 pub restore_goes : (number : ℕ) (c : Cartridge) (outcome : CommandOutcome) → CanGive c number → RestoreOutcome number (Some c) outcome → outcome.status ≡ status.Done

@@ -1,5 +1,5 @@
 -- What a cartridge is mounted with when a run is over that adds volumes.
-use Rattle.std.proofs.Common.{◌≡◌, ◌≢◌, ◌⊎◌, inl, inr, ℕ, ◌+◌, ◌-◌, ◌*◌, ◌<◌, ◌^◌, ◌&&◌, nat_le, min, Bool, true, false, cond, List, [], ◌∷◌, ◌++◌, length, Option, Some, None, IsSomeAnd, refl, sym, ap, ◌∙◌, subst, append-nil, IfSome, arith, append_assoc, ◌≤◌}
+use Rattle.std.proofs.Common.{◌≡◌, ◌≢◌, ◌⊎◌, inl, inr, ℕ, ◌+◌, ◌<◌, ◌^◌, ◌&&◌, nat_le, min, Bool, true, false, cond, List, [], ◌∷◌, ◌++◌, length, Option, Some, None, IsSomeAnd, refl, sym, ap, ◌∙◌, subst, append-nil, IfSome, arith, append_assoc, ◌≤◌}
 use Rattle.std.proofs.lemmas.List.{length-append}
 use Rattle.cartridge_laws.proofs.FormatWriting.{effects-some, some_and}
 use Rattle.cartridge_laws.proofs.MountOnce.{mounts_is_function}
@@ -27,7 +27,7 @@ use Rattle.command_laws.proofs.ScriptMachineLaws.{one_outcome as one_script}
 use Rattle.command_laws.proofs.TextWords.{one_command}
 use Rattle.command_laws.specs.MountedListed.{IsListed, listed_behind}
 use Rattle.command_laws.specs.MountedListing.{AddsNone}
-use Rattle.command_spec.specs.Append.{Kept, Taking, Fits, TooLong, append_acts, entry_for, kept_in, room_in, taking, Appends, AppendOutcome, append_status, appended, kept_on, kept_over}
+use Rattle.command_spec.specs.Append.{Kept, Taking, Fits, TooLong, append_acts, entry_for, kept_in, room_in, taking, Appends, AppendOutcome, append_status, appended, kept_over}
 use Rattle.command_spec.specs.Headline.{EachNow}
 use Rattle.command_spec.specs.Lines.{reply_behind}
 use Rattle.command_spec.specs.Listing.{IsHeard, ListsVolume, NowLists, WasListed, ListsAppends}
@@ -83,10 +83,6 @@ module _ (c : Cartridge) (header : Header) (words : List ℕ) (table : List (Lis
   same_info : still.info ≡ c.info
   same_info = (settled_keeps_table c table mounts.reads).info
 
-  -- what an append goes by there
-  same_kept : kept_over still words entries table ≡ kept_on c words table entries
-  same_kept = refl
-
   -- behind the settling and a front of other acts
   behind_acts : (more : List Act) → effects (steps_of (settling ∷ more)) (Some c) ≡ Some (changed_by (steps_of more) still)
   behind_acts more = effects-append (settling_steps table c) (steps_of more) (Some c) ∙ ap (effects (steps_of more)) now_settled ∙ effects-some (steps_of more) still
@@ -116,9 +112,6 @@ module _ (c : Cartridge) (header : Header) (words : List ℕ) (table : List (Lis
         by_flag true is = refl
         by_flag false is = absurd (cc)
 
-    same_room : room_in (kept_over still words entries table) ≡ room_in (kept_on c words table entries)
-    same_room = ap room_in same_kept
-
     -- carried out, it leaves the list with the volume
     lists_with : (input : List ℕ) (outcome : CommandOutcome) → AppendOutcome name date (Some c) input outcome → outcome.status ≡ status.Done →
         ListsNow (entries ++ entry_for (kept_in words entries) name date input ∷ []) (effects (steps_of outcome.acts) (Some c))
@@ -126,14 +119,14 @@ module _ (c : Cartridge) (header : Header) (words : List ℕ) (table : List (Lis
     lists_with input outcome (inr (free, opened)) done =
         let is : outcome ≡ appended name date input c words table entries = went_on (Appends name date input) outcome opened in
         let took : taking (room_in (kept_over still words entries table)) None input ≡ Fits input =
-        ap (λ (have : ℕ). taking have None input) same_room ∙ fits_where_done (room_in (kept_on c words table entries)) input (sym (ap (λ (o : CommandOutcome). o.status) is) ∙ done) in
+        fits_where_done (room_in (kept_over still words entries table)) input (sym (ap (λ (o : CommandOutcome). o.status) is) ∙ done) in
         let all : Lists (changed_by (steps_of (acts_by (kept_over still words entries table) input)) still) header words
         (listed_behind (kept_over still words entries table) name date (taking (room_in (kept_over still words entries table)) None input)) =
         append_lists still header words entries table name date None (reply_behind (length entries)) input lists_still listed (ap (λ (i : TapeInfo). i.protected) same_info ∙ free) reads_still label word in
         lists_as (entries ++ entry_for (kept_in words entries) name date input ∷ []) (changed_by (steps_of (acts_by (kept_over still words entries table) input)) still)
         (effects (steps_of outcome.acts) (Some c))
         (subst (λ (became : Taking). Lists (changed_by (steps_of (acts_by (kept_over still words entries table) input)) still) header words (listed_behind (kept_over still words entries table) name date became)) took all)
-        (ap (λ (o : CommandOutcome). effects (steps_of o.acts) (Some c)) is ∙ ap (λ (k : Kept). effects (steps_of (settling ∷ acts_by k input)) (Some c)) (sym same_kept)
+        (ap (λ (o : CommandOutcome). effects (steps_of o.acts) (Some c)) is
         ∙ behind_acts (acts_by (kept_over still words entries table) input))
 
     -- and before its reply it leaves the list as it was
@@ -147,15 +140,15 @@ module _ (c : Cartridge) (header : Header) (words : List ℕ) (table : List (Lis
         no_acts (x ∷ xs) ys none = cc
     lists_without input outcome front rest (inr (free, opened)) parts before =
         let is : outcome ≡ appended name date input c words table entries = went_on (Appends name date input) outcome opened in
-        by_front front (parts ∙ ap (λ (o : CommandOutcome). o.acts) is ∙ ap (λ (k : Kept). settling ∷ acts_by k input) (sym same_kept))
+        by_front front (parts ∙ ap (λ (o : CommandOutcome). o.acts) is)
         (elim before [ inl other ↦ inl (λ done. other (ap (λ (o : CommandOutcome). o.status) is ∙ done)) | inr quiet ↦ inr quiet ])
       where
         -- an entry is written by the last act, which prints
         none_added : (front rest : List Act) → front ++ rest ≡ settling ∷ acts_by (kept_over still words entries table) input →
-            (append_status (room_in (kept_on c words table entries)) input ≢ status.Done) ⊎ (text_of front ≡ []) → AddsNone rest (taking (room_in (kept_over still words entries table)) None input)
+            (append_status (room_in (kept_over still words entries table)) input ≢ status.Done) ⊎ (text_of front ≡ []) → AddsNone rest (taking (room_in (kept_over still words entries table)) None input)
         none_added front (y ∷ ys) parts before = inl (λ none. cc)
         none_added front [] parts (inl other) =
-            inr (λ bytes took. other (status_fits (room_in (kept_on c words table entries)) input bytes (ap (λ (have : ℕ). taking have None input) (sym same_room) ∙ took)))
+            inr (λ bytes took. other (status_fits (room_in (kept_over still words entries table)) input bytes took))
         none_added front [] parts (inr quiet) = inr (λ bytes took.
             let kept : Kept = kept_over still words entries table in
             let e : Entry = entry_for kept name date bytes in
@@ -163,7 +156,7 @@ module _ (c : Cartridge) (header : Header) (words : List ℕ) (table : List (Lis
             (sym (replied_text kept name date (reply_behind (length entries)) input bytes took) ∙ ap text_of (sym parts ∙ append-nil front) ∙ quiet))
 
         by_front : (xs : List Act) → xs ++ rest ≡ settling ∷ acts_by (kept_over still words entries table) input →
-            (append_status (room_in (kept_on c words table entries)) input ≢ status.Done) ⊎ (text_of xs ≡ []) → ListsNow entries (effects (steps_of xs) (Some c))
+            (append_status (room_in (kept_over still words entries table)) input ≢ status.Done) ⊎ (text_of xs ≡ []) → ListsNow entries (effects (steps_of xs) (Some c))
         by_front [] parts before = lists_before (Some c) refl
         by_front (x ∷ more) parts before =
             let first : x ≡ settling = cc in

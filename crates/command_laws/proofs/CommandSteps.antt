@@ -15,7 +15,7 @@ use Rattle.command_laws.proofs.MadeStops.{sum_in_no_step}
 use Rattle.command_laws.proofs.RestoreCounts.{restores_in_no_step, framed_in_no_step}
 use Rattle.command_laws.proofs.ScriptOutcomes.{replied}
 use Rattle.command_laws.proofs.ScrubAtOnce.{scrub_steps}
-use Rattle.command_spec.specs.Append.{Appends, segment_act, volume_acts, filled_acts, input_acts, Taking, Fits, TooLong, TooShort, Kept, input_writes, entry_acts, append_acts, entry_for, room_in, free_in, has_promised_room, most_written, taking, kept_over, kept_on, silently}
+use Rattle.command_spec.specs.Append.{Appends, segment_act, volume_acts, filled_acts, input_acts, Taking, Fits, TooLong, TooShort, Kept, input_writes, entry_acts, append_acts, entry_for, room_in, free_in, has_promised_room, most_written, taking, kept_over, silently}
 use Rattle.command_spec.specs.Defect.{DefectOutcome}
 use Rattle.command_spec.specs.Format.{FormatOutcome}
 use Rattle.command_spec.specs.Generator.{made_bytes, made_length}
@@ -277,7 +277,7 @@ append_none kept name date promised reply input none =
 
 pub appends_none : (name : List ℕ) (date : ℕ) (input : List ℕ) → GoesWithNone (Appends name date input)
 appends_none name date input c header ws table entries outcome is =
-    let kept : Kept = kept_on c ws table entries in
+    let kept : Kept = kept_over (settled table c) ws entries table in
     let reply : Entry → List ℕ = reply_behind (length entries) in
     by_outcome outcome _ is
     (settled_none table c (append_acts kept name date None reply input) (append_none kept name date None reply input (none_in_settling table (settled table c))))

@@ -194,10 +194,10 @@ module _ (c : Cartridge) (words : List ℕ) (entries : List Entry) (table : List
     filled_leaves = behind_leaves (steps_of ins) (ins_behind promised input)
 
     -- the entry of a volume that has room fits its slot
-    entry_fits : (bytes : List ℕ) → HasRoom words entries last (length bytes) → FitsSlot (entry_for kept name date bytes)
+    entry_fits : (bytes : List ℕ) → HasRoom words entries (length bytes) → FitsSlot (entry_for kept name date bytes)
     entry_fits bytes has =
-        let segments : List ℕ = taken_by words (length bytes) (free_segments words entries last) in
-        let taken : AreTaken words (last_end entries) last segments = segments_taken words entries last (length bytes) has in
+        let segments : List ℕ = taken_by words (length bytes) (free_segments words entries) in
+        let taken : AreTaken words (last_end entries) last segments = segments_taken words entries (length bytes) has in
         let long : c.info.segments_per_track ≤ 246 = listed.long.longest in
         let ends_at : last ≡ 28 * c.info.segments_per_track - 1 = listed.last in
         let starts : slice_index segments 0 ≡ taken.start = taken.starts in
@@ -220,9 +220,9 @@ module _ (c : Cartridge) (words : List ℕ) (entries : List Entry) (table : List
         let e : Entry = entry_for kept name date bytes in
         let n : ℕ = length entries in
         let fit = took_fits (room_in kept) promised input bytes took in
-        let has : HasRoom words entries last (length bytes) =
-        room_is words entries last (length bytes) (both_true (nat_le 1 (room words entries last)) (nat_le (length bytes) (room words entries last))
-        (le-leb 1 (room words entries last) fit.0) (le-leb (length bytes) (room words entries last) fit.1)) in
+        let has : HasRoom words entries (length bytes) =
+        room_is words entries (length bytes) (both_true (nat_le 1 (room words entries)) (nat_le (length bytes) (room words entries))
+        (le-leb 1 (room words entries) fit.0) (le-leb (length bytes) (room words entries) fit.1)) in
         let within : n < 232 = has.free_slot in
         let small : n / 8 < 29 = omega arith in
         let slot : List ℕ = slot_bytes e in
@@ -235,7 +235,7 @@ module _ (c : Cartridge) (words : List ℕ) (entries : List Entry) (table : List
           is_area = new_area;
           settles = table_settled filled table new (slot_sector n) small (slot_differs table n slot area) new_area (behind_settled (steps_of ins) (ins_behind promised input));
           shown = put_entry_is_shown table entries e area shown within (entry_fits bytes has);
-          order = list_more words entries last name date (length bytes) order fit.0 fit.1;
+          order = list_more words entries name date (length bytes) order fit.0 fit.1;
           info = kept_so.info ∙ filled_leaves.info;
           front = λ s i low h. kept_so.others s i h (λ (same : s ≡ 2). omega arith) ∙ filled_leaves.front s i low h;
         } in

@@ -50,7 +50,6 @@ module _ (plain : Plain) (name : List ℕ) (date : ℕ) (bytes : List ℕ) (sett
   kept = record {
     words = plain.words;
     entries = entries_of plain;
-    last = length plain.words - 1;
     table = plain.table_area;
     settling = settling;
   }

@@ -373,14 +373,14 @@ early_writes kept n bytes =
     writes_if (last_end kept.entries) (has_promised_room (room_in kept) (Some n)) (input_acts kept.words (free_in kept) n true bytes)
     (input_is_free (last_end kept.entries) kept.words (free_in kept) n true bytes
     (All-weaker (λ (s : ℕ). last_end kept.entries + 1 ≤ s) (λ (s : ℕ). last_end kept.entries < s) (λ s (h : last_end kept.entries + 1 ≤ s). omega arith) (free_in kept)
-    (carrying_from kept.words (last_end kept.entries + 1) kept.last)))
+    (carrying_from kept.words (last_end kept.entries + 1) (length kept.words - 1))))
 
 early_stands : (c : Cartridge) (plain : Plain) (name : List ℕ) (n date : ℕ) (bytes : List ℕ) (m : Meeting) (left : Option Cartridge) → Stands c plain → Meets c m → length bytes < n →
     Torn (steps_of (acts_on c plain.words (entries_of plain) name n date bytes m)) (Some c) left → IsSomeAnd left (λ d. Stands d plain)
 early_stands c plain name n date bytes (Refuses w) left stood meets short torn = some_and (λ d. Stands d plain) c left stood torn
 early_stands c plain name n date bytes (Finds table) left stood meets short torn =
     let area : table ≡ plain.table_area = standing_data c plain table stood meets.1 in
-    let kept : Kept = record { words = plain.words; entries = entries_of plain; last = length plain.words - 1; table = table; settling = settling_steps table c } in
+    let kept : Kept = kept_over c plain.words (entries_of plain) table in
     let replies : Entry → List ℕ = reply_behind (length (entries_of plain)) in
     let writes : List Act = input_writes kept (Some n) bytes in
     let entry : List Act = entry_acts kept name date replies (taking (room_in kept) (Some n) bytes) in

@@ -1,5 +1,5 @@
 -- The writes of an input lie behind the table's segment.
-use Rattle.std.proofs.Common.{◌<◌, List, Bool, true, false, cond, ◌≡◌, ℕ, ◌+◌, [], ◌∷◌, ◌++◌, take, ap, ◌∙◌, subst, arith, append-nil, length, drop, All, nat_le, ◌≤◌, ◌&&◌, Option, nat_lt, sym}
+use Rattle.std.proofs.Common.{◌<◌, List, Bool, true, false, cond, ◌≡◌, ℕ, ◌+◌, [], ◌∷◌, ◌++◌, take, ap, ◌∙◌, subst, arith, append-nil, length, drop, All, nat_le, ◌≤◌, ◌&&◌, Option, nat_lt, sym, ◌-◌}
 use Rattle.std.proofs.lemmas.List.{take_all}
 use Rattle.std.proofs.lemmas.List.Elements.{All-nil, All-cons, All-head, All-tail}
 use Rattle.std.specs.Prelude.{is_some}
@@ -61,7 +61,7 @@ pub input_behind : (kept : Kept) (promised : Option ℕ) (input : List ℕ) → 
 input_behind kept promised input least =
     let segments : List ℕ = free_in kept in
     let most : ℕ = most_written (room_in kept) promised in
-    let are : All (λ s. 2 < s) segments = over (last_end kept.entries + 1) segments (omega arith) (carrying_from kept.words (last_end kept.entries + 1) kept.last) in
+    let are : All (λ s. 2 < s) segments = over (last_end kept.entries + 1) segments (omega arith) (carrying_from kept.words (last_end kept.entries + 1) (length kept.words - 1)) in
     by_test (has_promised_room (room_in kept) promised) (input_acts kept.words segments most (is_some promised) input) []
     (by_test (is_some promised && nat_lt (length input) most) (filled_acts kept.words segments input) (volume_acts kept.words segments (take most input))
     (filled_behind kept.words segments input are) (volume_behind kept.words segments (take most input) are)) tt

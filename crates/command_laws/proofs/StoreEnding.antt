@@ -33,12 +33,13 @@ took_fits have (Some n) input bytes is =
     (leb-true 1 have parts.0, subst (λ (xs : List ℕ). length xs ≤ have) all.1 (omega (arith, length-take n input)))
 
 -- a new list is in order
-pub list_more : (words : List ℕ) (entries : List Entry) (last : ℕ) (name : List ℕ) (date n : ℕ) → IsSoundList last entries → 1 ≤ room words entries last → n ≤ room words entries last →
-    IsSoundList last (entries ++ new_entry (taken_by words n (free_segments words entries last)) name date n ∷ [])
-list_more words entries last name date n order some within =
-    let has = room_is words entries last n (both_true (nat_le 1 (room words entries last)) (nat_le n (room words entries last)) (le-leb 1 (room words entries last) some) (le-leb n (room words entries last) within)) in
-    let segments : List ℕ = taken_by words n (free_segments words entries last) in
-    let taken : AreTaken words (last_end entries) last segments = segments_taken words entries last n has in
+pub list_more : (words : List ℕ) (entries : List Entry) (name : List ℕ) (date n : ℕ) → IsSoundList (length words - 1) entries → 1 ≤ room words entries → n ≤ room words entries →
+    IsSoundList (length words - 1) (entries ++ new_entry (taken_by words n (free_segments words entries)) name date n ∷ [])
+list_more words entries name date n order some within =
+    let last : ℕ = length words - 1 in
+    let has = room_is words entries n (both_true (nat_le 1 (room words entries)) (nat_le n (room words entries)) (le-leb 1 (room words entries) some) (le-leb n (room words entries) within)) in
+    let segments : List ℕ = taken_by words n (free_segments words entries) in
+    let taken : AreTaken words (last_end entries) last segments = segments_taken words entries n has in
     let starts : slice_index segments 0 ≡ taken.start = taken.starts in
     let ends : slice_index segments (length segments - 1) ≡ taken.end = taken.ends in
     let behind : last_end entries < taken.start = taken.behind in

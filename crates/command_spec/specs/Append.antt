@@ -1,5 +1,5 @@
 -- The plain machine of `append`: what is taken of the input, and the acts that write the volume and its entry (this project's own).
-use Rattle.std.specs.Prelude.{ℕ, List, [], ◌∷◌, length, drop, nat_le, if◌then◌else◌, ◌&&◌, Bool, take, nat_lt, Option, Some, None, ◌+◌, min, is_some, ◌++◌, ◌-◌, ◌≡◌}
+use Rattle.std.specs.Prelude.{ℕ, List, [], ◌∷◌, length, drop, nat_le, if◌then◌else◌, ◌&&◌, Bool, take, nat_lt, Option, Some, None, ◌+◌, min, is_some, ◌++◌, ◌≡◌}
 use Rattle.cartridge_spec.specs.Appending.{part_writes, in_sectors, room, free_segments, new_entry, taken_by, table_writes}
 use Rattle.cartridge_spec.specs.Mounting.{settled}
 use Rattle.cartridge_spec.specs.Settling.{settling_steps}
@@ -82,19 +82,18 @@ most_written have (Some n) = n
 
 -- ---- the acts
 
--- what an append goes by: the words of the map, the list, the last segment, the table's data, and the steps that settle it
+-- what an append goes by: the words of the map, the list, the table's data, and the steps that settle it
 pub record Kept : Type 0 where
   pub words : List ℕ
   pub entries : List Entry
-  pub last : ℕ
   pub table : List (List ℕ)
   pub settling : List Step
 
 abbrev pub room_in : Kept → ℕ
-room_in kept = room kept.words kept.entries kept.last
+room_in kept = room kept.words kept.entries
 
 abbrev pub free_in : Kept → List ℕ
-free_in kept = free_segments kept.words kept.entries kept.last
+free_in kept = free_segments kept.words kept.entries
 
 -- the segments that the bytes of the input fill, where there is room: one act for each
 abbrev pub input_writes : Kept → (promised : Option ℕ) → (input : List ℕ) → List Act
@@ -131,25 +130,21 @@ silently entry = []
 
 -- what an append goes by but for the table
 abbrev pub kept_in : (words : List ℕ) → (entries : List Entry) → Kept
-kept_in words entries = record { words = words; entries = entries; last = length words - 1; table = []; settling = [] }
+kept_in words entries = record { words = words; entries = entries; table = []; settling = [] }
 
 -- what it goes by over a cartridge whose table has these data
 abbrev pub kept_over : Cartridge → (words : List ℕ) → (entries : List Entry) → (table : List (List ℕ)) → Kept
 kept_over c words entries table = record (kept_in words entries) { table = table; settling = settling_steps table c }
-
--- what it goes by once the table is settled: a sector that takes no write is written again
-abbrev pub kept_on : Cartridge → (words : List ℕ) → (table : List (List ℕ)) → List Entry → Kept
-kept_on c words table entries = kept_over (settled table c) words entries table
 
 -- the answer, with room for so many bytes: full where there is none for all of the input, or for no byte
 abbrev pub append_status : (have : ℕ) → (input : List ℕ) → Status
 append_status have input =
     if nat_le 1 have && nat_le (length input) have then status.Done else status.Full (min (length input) (have + 1)) have
 
--- the table is settled, and the whole input appended
+-- the table is settled, and the whole input appended: a sector of the table that takes no write is written again
 abbrev pub appended : (name : List ℕ) → (date : ℕ) → (input : List ℕ) → Cartridge → (words : List ℕ) → (table : List (List ℕ)) → List Entry → CommandOutcome
 appended name date input c words table entries =
-    let kept : Kept = kept_on c words table entries in record {
+    let kept : Kept = kept_over (settled table c) words entries table in record {
       acts = settling_act table c ∷ append_acts kept name date None (reply_behind (length entries)) input;
       taken = bytes_taken None (taking (room_in kept) None input);
       status = append_status (room_in kept) input;

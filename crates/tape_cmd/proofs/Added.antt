@@ -21,7 +21,7 @@ use Rattle.command_laws.proofs.CommandOpened.{quiet}
 use Rattle.command_laws.proofs.CommandTable.{plain_is_function}
 use Rattle.command_laws.proofs.CommandTold.{input_of, input_told}
 use Rattle.command_laws.proofs.StoreTaking.{both_true}
-use Rattle.command_spec.specs.Append.{Kept, kept_on, Taking, Fits, TooLong, TooShort, entry_acts, silently, taking, room_in, input_writes, append_acts, append_status, Appends, bytes_taken, entry_for, AppendOutcome}
+use Rattle.command_spec.specs.Append.{Kept, Taking, Fits, TooLong, TooShort, entry_acts, silently, taking, room_in, input_writes, append_acts, append_status, Appends, bytes_taken, entry_for, AppendOutcome, kept_over}
 use Rattle.command_spec.specs.Lines.{reply_behind, appended_line}
 use Rattle.command_spec.specs.Machine.{CommandPrints, FrontPrints}
 use Rattle.command_spec.specs.Outcome.{CommandOutcome, refused, refused_behind}
@@ -75,7 +75,7 @@ names_none name date answer (Some input) sound none = record { named = λ line p
 -- ---- what an append goes by
 
 same_kept : (c : Cartridge) (store : StoreView) (steps : List TapeStep) (is : IsOpened c store steps) (table : List (List ℕ)) (settling : List TapeStep) →
-    TableIs (settled is.table c) table → settling ≡ settling_steps table (settled is.table c) → kept_by store table settling ≡ kept_on c store.words is.table store.entries
+    TableIs (settled is.table c) table → settling ≡ settling_steps table (settled is.table c) → kept_by store table settling ≡ kept_over (settled is.table c) store.words store.entries is.table
 same_kept c store steps is table settling reads settles =
     let one : table ≡ is.table = one_table (settled is.table c) table is.table reads (settled_keeps_table c is.table is.mounts.reads).table in
     ap (λ (ss : List TapeStep). kept_by store table ss) (settles ∙ ap (λ (area : List (List ℕ)). settling_steps area (settled is.table c)) one)
@@ -260,7 +260,7 @@ module _ {T S K : Type 0} (t : tapes.Meaning T) (s : sources.Meaning S) (k : sin
             mounting.Mounted store.header store.words is.table store.entries,
             is.mounts,
             ap (λ (kept : Kept). going_by (quiet opening.steps) kept name date input) (same_kept c store opening.steps is table settling f.reads f.settles)
-                ∙ ap (λ (ss : List TapeStep). going_by (quiet ss) (kept_on c store.words is.table store.entries) name date input) is.settles,
+                ∙ ap (λ (ss : List TapeStep). going_by (quiet ss) (kept_over (settled is.table c) store.words store.entries is.table) name date input) is.settles,
           ),
         )
 

@@ -266,7 +266,7 @@ module _ {T S : Type 0} (t : tapes.Meaning T) (s : sources.Meaning S) (store aft
       new_order =
           let fit = took_fits (room_in kept) promised input wrote.bytes wrote.went.took in
           subst (λ (e : Entry). IsSoundList (length store.words - 1) (store.entries ++ e ∷ [])) (sym entry_is)
-          (list_more store.words store.entries (length store.words - 1) name date (length wrote.bytes) order fit.0 fit.1)
+          (list_more store.words store.entries name date (length wrote.bytes) order fit.0 fit.1)
 
       -- what is known of the told cartridge, whose list is to be written
       abbrev Now : (Cartridge → Type 0) → Cartridge → Type 0

@@ -142,14 +142,11 @@ no_entries [] none = refl
 no_entries (e ∷ es) none = absurd (omega arith)
 
 module _ {T S : Type 0} (t : tapes.Meaning T) (s : sources.Meaning S) (words : List ℕ) (entries : List Entry) (old new : Outside T S (Unit {0})) where
-  abbrev last : ℕ
-  last = length words - 1
-
   abbrev segments : List ℕ
-  segments = free_segments words entries last
+  segments = free_segments words entries
 
   abbrev have : ℕ
-  have = room words entries last
+  have = room words entries
 
   -- the writes that an input asks for, where there is room
   writes_none : (input : List ℕ) → 1 ≤ have → input_writes (kept_in words entries) None input ≡ volume_acts words segments (take have input)
@@ -263,46 +260,46 @@ module _ {T S : Type 0} (t : tapes.Meaning T) (s : sources.Meaning S) (words : L
 
 module _ {T S : Type 0} (t : tapes.Meaning T) (s : sources.Meaning S) (words : List ℕ) (entries : List Entry) (old new : Outside T S (Unit {0})) where
   -- the segments and the room by the numbers that a call was handed
-  pub moved : (first most : ℕ) (written : Written) → first ≡ last_end entries + 1 → most ≡ room words entries (length words - 1) →
+  pub moved : (first most : ℕ) (written : Written) → first ≡ last_end entries + 1 → most ≡ room words entries →
       HasWritten t s words (carrying words first (length words - 1)) most false old new written →
-      HasWritten t s words (free_segments words entries (length words - 1)) (room words entries (length words - 1)) false old new written
+      HasWritten t s words (free_segments words entries) (room words entries) false old new written
   moved first most written at is has =
-      subst (λ (n : ℕ). HasWritten t s words (free_segments words entries (length words - 1)) n false old new written) is
+      subst (λ (n : ℕ). HasWritten t s words (free_segments words entries) n false old new written) is
       (subst (λ (n : ℕ). HasWritten t s words (carrying words n (length words - 1)) most false old new written) at has)
 
   -- what was written is no more than there is room for
-  pub all_full : (written : Written) → HasWritten t s words (free_segments words entries (length words - 1)) (room words entries (length words - 1)) false old new written →
-      room words entries (length words - 1) ≤ written.bytes → written.bytes ≡ room words entries (length words - 1)
+  pub all_full : (written : Written) → HasWritten t s words (free_segments words entries) (room words entries) false old new written →
+      room words entries ≤ written.bytes → written.bytes ≡ room words entries
   all_full written has least = let count = has.count in let few = has.within in omega arith
 
 module _ {T S : Type 0} (t : tapes.Meaning T) (s : sources.Meaning S) (words : List ℕ) (entries : List Entry) (x : T) (a : S) where
   nothing : (c : S) → s.faults a ≤ s.faults c → Went t s no_sink (reading x a) (reading x c) []
   nothing c later = record { did = Done-nothing t x; wrote = record { took = refl; later = omega arith }; source_later = later }
 
-  no_writes : (input : List ℕ) → room words entries (length words - 1) ≡ 0 → input_writes (kept_in words entries) None input ≡ []
+  no_writes : (input : List ℕ) → room words entries ≡ 0 → input_writes (kept_in words entries) None input ≡ []
   no_writes input none =
-      chosen_false (nat_le 1 (room words entries (length words - 1)))
-      (volume_acts words (free_segments words entries (length words - 1)) (take (room words entries (length words - 1)) input)) []
-      (lt-leb 1 (room words entries (length words - 1)) (omega arith))
+      chosen_false (nat_le 1 (room words entries))
+      (volume_acts words (free_segments words entries) (take (room words entries) input)) []
+      (lt-leb 1 (room words entries) (omega arith))
 
   -- ---- no byte was read where there is no room for those that are promised
-  pub promise_refused : (n : ℕ) → (room words entries (length words - 1) ≡ 0) ⊎ (room words entries (length words - 1) < n) →
-      InputWent t s words entries (Some n) (reading x a) (reading x a) (TooLong n (room words entries (length words - 1)))
+  pub promise_refused : (n : ℕ) → (room words entries ≡ 0) ⊎ (room words entries < n) →
+      InputWent t s words entries (Some n) (reading x a) (reading x a) (TooLong n (room words entries))
   promise_refused n few =
-      let have : ℕ = room words entries (length words - 1) in
+      let have : ℕ = room words entries in
       let input : List ℕ = [] ++ left_of (s.left a) in
       went_with t s words entries (reading x a) (reading x a) (Some n) [] (TooLong n have) (Gave-nothing s a a refl)
       (content_always (s.left a) [] (All-nil (λ (b : ℕ). b < 256)))
       (promised_full have n input few) refl
       (subst (Went t s no_sink (reading x a) (reading x a))
-      (sym (chosen_false (has_promised_room have (Some n)) (input_acts words (free_segments words entries (length words - 1)) n true input) [] (has_none have n few)))
+      (sym (chosen_false (has_promised_room have (Some n)) (input_acts words (free_segments words entries) n true input) [] (has_none have n few)))
       (nothing a (omega arith)))
 
   -- ---- one at most where there is no room, and none is promised
-  pub none_fits : (c : S) (n : ℕ) → room words entries (length words - 1) ≡ 0 → s.faults a ≤ s.faults c → Skips {E = Unit {0}} s a c 1 (Ok n) →
+  pub none_fits : (c : S) (n : ℕ) → room words entries ≡ 0 → s.faults a ≤ s.faults c → Skips {E = Unit {0}} s a c 1 (Ok n) →
       InputWent t s words entries None (reading x a) (reading x c) (TooLong n 0)
   none_fits c n none later skipped =
-      let have : ℕ = room words entries (length words - 1) in
+      let have : ℕ = room words entries in
       let few : n ≤ 1 = skipped.0 in
       let got = skipped_as (s.left a) (s.left c) skipped.1.0 n few skipped.1.1 skipped.1.2 in
       let input : List ℕ = got.0 ++ left_of (s.left c) in
@@ -320,7 +317,7 @@ module _ {T S : Type 0} (t : tapes.Meaning T) (s : sources.Meaning S) (words : L
           let all = length-append bytes (left_of (s.left c)) in
           omega arith
 
-  pub none_fails : (c : S) → room words entries (length words - 1) ≡ 0 → s.faults a ≤ s.faults c → Rose (s.faults a) (s.faults c) → Skips {E = Unit {0}} s a c 1 (Err tt) →
+  pub none_fails : (c : S) → room words entries ≡ 0 → s.faults a ≤ s.faults c → Rose (s.faults a) (s.faults c) → Skips {E = Unit {0}} s a c 1 (Err tt) →
       InputBroke t s words entries None (reading x a) (reading x c) SourceFails
   none_fails c none later rose skipped =
       let got = skipped_as (s.left a) (s.left c) skipped.2.0 skipped.0 skipped.1 skipped.2.1 skipped.2.2 in
@@ -338,12 +335,12 @@ module _ {T S : Type 0} (t : tapes.Meaning T) (s : sources.Meaning S) (words : L
       }))
 
   -- ---- a byte more where all of the room was written
-  module _ (y : T) (b c : S) (some : 1 ≤ room words entries (length words - 1)) (written : Written) (has : HasWritten t s words (free_segments words entries (length words - 1)) (room words entries (length words - 1)) false (reading x a) (reading y b) written) (full : written.bytes ≡ room words entries (length words - 1)) (later : s.faults b ≤ s.faults c) where
+  module _ (y : T) (b c : S) (some : 1 ≤ room words entries) (written : Written) (has : HasWritten t s words (free_segments words entries) (room words entries) false (reading x a) (reading y b) written) (full : written.bytes ≡ room words entries) (later : s.faults b ≤ s.faults c) where
     abbrev had : ℕ
-    had = room words entries (length words - 1)
+    had = room words entries
 
     abbrev places : List ℕ
-    places = free_segments words entries (length words - 1)
+    places = free_segments words entries
 
     long_all : length has.bytes ≡ had
     long_all = sym has.count ∙ full
@@ -408,7 +405,7 @@ module _ {T S : Type 0} (t : tapes.Meaning T) (s : sources.Meaning S) (words : L
 -- ---- where nothing has room, by the answer
 
 pub none_taken : {T S : Type 0} (t : tapes.Meaning T) (s : sources.Meaning S) (words : List ℕ) (entries : List Entry) (x y : T) (a c : S) (promised : Option ℕ) (why : StoreFault) →
-    y ≡ x → promised ≡ None → room words entries (length words - 1) ≡ 0 → TakesNone s a c why → InputIs t s words entries promised (reading x a) (reading y c) (Err why)
+    y ≡ x → promised ≡ None → room words entries ≡ 0 → TakesNone s a c why → InputIs t s words entries promised (reading x a) (reading y c) (Err why)
 none_taken {T} {S} t s words entries x y a c promised why same is none takes =
     subst (λ (z : T). InputIs t s words entries promised (reading x a) (reading z c) (Err why)) (sym same)
     (subst (λ (p : Option ℕ). InputIs t s words entries p (reading x a) (reading x c) (Err why)) (sym is) (by_fault why takes))

@@ -1,5 +1,5 @@
 -- What an append does, by the map, the list, the table's data and the input; and how the call ended (this project's own).
-use Rattle.std.specs.Prelude.{◌≡◌, ℕ, ◌<◌, List, drop, Option, All, IfSome, IfNone, [], length, is_some, Result, Ok, Err, ◌≤◌, ◌-◌, ◌+◌, ◌∷◌, ◌++◌}
+use Rattle.std.specs.Prelude.{◌≡◌, ℕ, ◌<◌, List, drop, Option, All, IfSome, IfNone, [], length, is_some, Result, Ok, Err, ◌≤◌, ◌+◌, ◌∷◌, ◌++◌}
 use Rattle.std.specs.Option.{option_map}
 use Rattle.cartridge_spec.specs.HeaderAndTable.{TableIs, table_cells}
 use Rattle.cartridge_spec.specs.Says.{LostSectors, ByCode, TableSays}
@@ -65,7 +65,6 @@ abbrev pub kept_by : StoreView → (table : List (List ℕ)) → (settling : Lis
 kept_by store table settling = record {
   words = store.words;
   entries = store.entries;
-  last = length store.words - 1;
   table = table;
   settling = settling;
 }

@@ -51,7 +51,7 @@ fn free_room(map: &BadMap, table: &Table, segments: u32) -> u32
     requires least { 84 ≤ segments }
     requires most { segments ≤ 28 * LONGEST }
     requires list { IsSoundList (length map.now - 1) table.now }
-    ensures { result ≡ room map.now table.now (length map.now - 1) }
+    ensures { result ≡ room map.now table.now }
 {
     if table.len() == SLOTS {
         return 0;
@@ -74,7 +74,7 @@ fn take_promised<T: Tape, S: Source>(
     requires referenced { is_referenced unit.old.drive.deck ≡ true }
     requires writable { MayWrite unit.old.drive.deck }
     requires map { length map.now ≡ 28 * segments_of host.old }
-    requires have { have ≡ room map.now table.now (length map.now - 1) }
+    requires have { have ≡ room map.now table.now }
     ensures ends { InputIs T.means S.means map.now table.now (Some count)
         (reading unit.old.tape source.old) (reading unit.new.tape source.new) result }
     ensures kept { S.means.keeps source.old source.new }
@@ -120,7 +120,7 @@ fn take_all<T: Tape, S: Source>(
     requires referenced { is_referenced unit.old.drive.deck ≡ true }
     requires writable { MayWrite unit.old.drive.deck }
     requires map { length map.now ≡ 28 * segments_of host.old }
-    requires have { have ≡ room map.now table.now (length map.now - 1) }
+    requires have { have ≡ room map.now table.now }
     requires some { 1 ≤ have }
     ensures ends { InputIs T.means S.means map.now table.now None
         (reading unit.old.tape source.old) (reading unit.new.tape source.new) result }

@@ -1,4 +1,4 @@
-use Rattle.std.proofs.Common.{◌≡◌, ℕ, ◌+◌, ◌-◌, length, None, Ok, subst, sym, ◌∙◌, arith}
+use Rattle.std.proofs.Common.{◌≡◌, ℕ, ◌+◌, None, Ok, subst, sym, ◌∙◌, arith}
 use Rattle.qic_base.specs.Acts.{reading}
 use Rattle.cartridge_spec.specs.Appending.{room}
 use Rattle.tape_script.specs.Reading.{Skips}
@@ -13,7 +13,7 @@ returns-then-written-have-clause-ends g c =
     let entries = c.args.table.now in
     let old = reading c.args.unit.now.tape c.args.source.now in
     let mid = reading c.write_volume.new.unit.tape c.write_volume.new.source in
-    let is : c.args.have ≡ room words entries (length words - 1) = c.requires.have in
+    let is : c.args.have ≡ room words entries = c.requires.have in
     all_ended g.T.Tape.means g.S.Source.means words entries old mid (let some = c.requires.some in omega arith) c.in-Ok.written
     (moved g.T.Tape.means g.S.Source.means words entries old mid c.first_free.result c.args.have c.in-Ok.written c.first_free.ensures is c.in-Ok.ensures.ends)
     (let less = c.if-written-have.true in omega arith)
@@ -24,7 +24,7 @@ returns-in-Ok-eq0-clause-ends g c =
     let entries = c.args.table.now in
     let old = reading c.args.unit.now.tape c.args.source.now in
     let mid = reading c.write_volume.new.unit.tape c.write_volume.new.source in
-    let is : c.args.have ≡ room words entries (length words - 1) = c.requires.have in
+    let is : c.args.have ≡ room words entries = c.requires.have in
     let has = moved g.T.Tape.means g.S.Source.means words entries old mid c.first_free.result c.args.have c.in-Ok.written c.first_free.ensures is c.in-Ok.ensures.ends in
     no_more g.T.Tape.means g.S.Source.means words entries c.args.unit.now.tape c.args.source.now c.write_volume.new.unit.tape c.write_volume.new.source c.skip.new.source
     (let some = c.requires.some in omega arith) c.in-Ok.written has
@@ -40,7 +40,7 @@ returns-in-Ok-skip-clause-ends g c =
     let old = reading c.args.unit.now.tape c.args.source.now in
     let mid = reading c.write_volume.new.unit.tape c.write_volume.new.source in
     let new = reading c.write_volume.new.unit.tape c.skip.new.source in
-    let had : ℕ = room words entries (length words - 1) in
+    let had : ℕ = room words entries in
     let is : c.args.have ≡ had = c.requires.have in
     let has = moved g.T.Tape.means g.S.Source.means words entries old mid c.first_free.result c.args.have c.in-Ok.written c.first_free.ensures is c.in-Ok.ensures.ends in
     let went : InputWent g.T.Tape.means g.S.Source.means words entries None old new (TooLong (had + 1) had) =
@@ -57,7 +57,7 @@ returns-in-Err-clause-ends g c =
     let entries = c.args.table.now in
     let old = reading c.args.unit.now.tape c.args.source.now in
     let mid = reading c.write_volume.new.unit.tape c.write_volume.new.source in
-    let is : c.args.have ≡ room words entries (length words - 1) = c.requires.have in
+    let is : c.args.have ≡ room words entries = c.requires.have in
     let has = moved g.T.Tape.means g.S.Source.means words entries old mid c.first_free.result c.args.have c.in-Ok.written c.first_free.ensures is c.in-Ok.ensures.ends in
     more_fails g.T.Tape.means g.S.Source.means words entries c.args.unit.now.tape c.args.source.now c.write_volume.new.unit.tape c.write_volume.new.source c.skip.new.source
     (let some = c.requires.some in omega arith) c.in-Ok.written has

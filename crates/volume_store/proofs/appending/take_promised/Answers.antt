@@ -14,7 +14,7 @@ pub returns-then-have-eq0-clause-ends : goal.returns-then-have-eq0-clause-ends
 returns-then-have-eq0-clause-ends g c =
     let words = c.args.map.now in
     let entries = c.args.table.now in
-    let had : ℕ = room words entries (length words - 1) in
+    let had : ℕ = room words entries in
     let few : (had ≡ 0) ⊎ (had < c.args.count) =
     elim c.then-have-eq0.branch [
       | then-have-eq0-via-then-have-eq0 w ↦ inl (sym c.requires.have ∙ w.if-have-eq0.true)
