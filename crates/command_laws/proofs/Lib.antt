@@ -21,6 +21,7 @@ pub mod CommandValues
 pub mod CommandVolumes
 pub mod InputActLaws
 pub mod LifeFormats
+pub mod LifeGrowing
 pub mod LifeLaws
 pub mod LifeRuns
 pub mod LifeUnformatted

@@ -1,6 +1,8 @@
+pub mod ActStops
 pub mod CommandLaws
 pub mod InputLaws
 pub mod Life
+pub mod LifeLaws
 pub mod MadeLaws
 pub mod MountedHeld
 pub mod MountedKept
