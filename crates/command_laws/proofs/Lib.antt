@@ -28,6 +28,7 @@ pub mod FormatCommand
 pub mod InfoCommand
 pub mod InputActLaws
 pub mod LifeFormats
+pub mod LifeGrowing
 pub mod LifeLaws
 pub mod LifeRuns
 pub mod LifeUnformatted
