@@ -130,7 +130,7 @@ refuses_mounting info f (Some c) known refuses = absurd refuses
 is_mounted : (info : TapeInfo) (store : StoreView) (steps : List TapeStep) (held : Option Cartridge) → Knows (Some info) held →
     IfSome held (λ c. stores.Settles c store.header store.words store.entries steps) → IsSomeAnd held (λ c. IsOpened c store steps)
 is_mounted info store steps None known settles = cc
-is_mounted info store steps (Some c) known settles = record { table = settles.table; mounts = settles.mounts; settles = settles.settles }
+is_mounted info store steps (Some c) known settles = settles
 
 is_settling : (info : TapeInfo) (steps : List TapeStep) (held : Option Cartridge) → Knows (Some info) held → IfSome held (λ c. (steps ≡ []) ⊎ IsSettling c steps) →
     (steps ≡ []) ⊎ IsSomeAnd held (λ c. IsSettling c steps)

@@ -1,7 +1,6 @@
 -- How the opening of a cartridge ends: refused, or with its table settled and what was found (this project's own).
 use Rattle.std.specs.Prelude.{◌≡◌, Option, Some, None, ◌&&◌, ◌==◌, nat_lt, Bool, true, false, [], ◌⊎◌, IfSome, Result, Ok, Err, ℕ, List, IsSomeAnd}
 use Rattle.cartridge_spec.specs.Mounting.{Mounting, Mounts}
-use Rattle.cartridge_spec.specs.Settling.{settling_steps}
 use Rattle.command_spec.specs.Outcome.{foreign, is_refused}
 use Rattle.command_spec.specs.declared.status.Status.{Status}
 use Rattle.drive_states.specs.Unit.{UnitView}
@@ -12,7 +11,7 @@ use Rattle.host_driver.specs.declared.host.Host.{Host}
 use Rattle.qic_base.specs.Cartridge.{Cartridge}
 use Rattle.qic_base.specs.Step.{Step}
 use Rattle.qic_base.specs.Tape.{Meaning, Done, Broke, Tells}
-use Rattle.volume_store.specs.Mounting.{StoreView, StoreFits, IsSettling}
+use Rattle.volume_store.specs.Mounting.{StoreView, StoreFits, IsSettling, Settles}
 use Rattle.volume_store.specs.declared.fault.StoreFault.{StoreFault}
 use Rattle.cartridge_spec.specs.Mounting as mounting
 use Rattle.command_spec.specs.declared.status.Status.TheVariants as status
@@ -77,10 +76,8 @@ StartEnds m old new (Ok host) = HasStarted m old new host
 StartEnds m old new (Err why) = StartFails m old.tape new.tape why
 
 -- the cartridge is mounted as the store shows it, and these steps settle it
-pub record IsOpened (c : Cartridge) (store : StoreView) (steps : List Step) : Type 0 where
-  pub table : List (List ℕ)
-  pub mounts : Mounts c (mounting.Mounted store.header store.words table store.entries)
-  pub settles : steps ≡ settling_steps table c
+abbrev pub IsOpened : Cartridge → StoreView → (steps : List Step) → Type 0
+IsOpened c store steps = Settles c store.header store.words store.entries steps
 
 -- The cartridge was opened, by these steps.
 pub record HasOpened {T : Type 0} (m : Meaning T) (old : T) (new : UnitView T) (store : StoreView) : Type 0 where

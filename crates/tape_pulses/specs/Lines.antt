@@ -1,5 +1,5 @@
 -- What one line of the input did to the outside (this project's own).
-use Rattle.std.specs.Prelude.{◌≡◌, ◌⊎◌, ℕ, ◌<◌, ◌≤◌, [], ◌∷◌, length, Option, Some, None, Result, Ok, Err, codes}
+use Rattle.std.specs.Prelude.{◌≡◌, ℕ, ◌<◌, ◌≤◌, [], ◌∷◌, length, Option, Some, None, Result, Ok, Err, codes}
 use Rattle.qic_base.specs.Cause.{Rose}
 use Rattle.qic_base.specs.Sink as sinks
 use Rattle.qic_base.specs.Source as sources
@@ -7,8 +7,8 @@ use Rattle.qic_base.specs.Tape as tapes
 use Rattle.qic_base.specs.Acts.{Outside, TapeFails, SourceFails, SinkFails, Went, Cut}
 use Rattle.drive_spec.specs.Record.{Record}
 use Rattle.command_spec.specs.Input.{IsPulse}
-use Rattle.qic_base.specs.Source.{Gave, HasEnded}
-use Rattle.tape_script.specs.Reading.{GaveInLine, BeginsWithNo}
+use Rattle.qic_base.specs.Source.{Gave}
+use Rattle.tape_script.specs.Reading.{GaveInLine, BeginsWithNo, GaveEnd}
 use Rattle.tape_pulses.specs.declared.fault.PulseFault.{PulseFault}
 use Rattle.tape_pulses.specs.declared.fault.PulseFault.TheVariants as fault
 use Rattle.command_spec.specs.Pulses.{pulsed_row, train_act, train_line}
@@ -33,10 +33,6 @@ pub record GaveNoTrain {S : Type 0} (s : sources.Meaning S) (old new : S) : Type
 -- no train's line begins what is left
 abbrev pub HasNoTrain : {S : Type 0} (s : sources.Meaning S) → S → Type 0
 HasNoTrain s old = (train : ℕ) → BeginsWithNo s old (λ text. IsPulse text train)
-
--- it had ended, or it gave the line `end`
-abbrev pub GaveEnd : {S : Type 0} (s : sources.Meaning S) (old new : S) → Type 0
-GaveEnd s old new = (HasEnded s old × Gave s old new []) ⊎ Gave s old new (codes "end\n")
 
 -- ---- a line
 

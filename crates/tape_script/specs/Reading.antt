@@ -24,6 +24,10 @@ GaveFront m old new = (bytes : List ℕ) × (length bytes ≤ 127) × NoNewline 
 abbrev pub BeginsWithNo : {S : Type 0} → Meaning S → S → (List ℕ → Type 0) → Type 0
 BeginsWithNo m s P = IfSome (m.left s) (λ bytes. (text rest : List ℕ) → bytes ≡ text ++ rest → ¬ (P text))
 
+-- it had ended, or it gave the line `end`
+abbrev pub GaveEnd : {S : Type 0} → Meaning S → (old new : S) → Type 0
+GaveEnd m old new = (HasEnded m old × Gave m old new []) ⊎ Gave m old new (codes "end\n")
+
 -- the end of the source before any byte; bytes that begin with no line, none taken behind a newline; or a line, with
 -- its newline. A failure comes before the line's newline.
 abbrev pub ReadsLine : {S E : Type 0} → Meaning S → (old new : S) → Result LineRead E → Type 0

@@ -23,13 +23,14 @@ use Rattle.qic_base.proofs.Giving.{Gave-Gave, Gave-end, Gave-nothing}
 use Rattle.command_laws.proofs.TextInputs.{one_reading}
 use Rattle.command_laws.proofs.TextInputs as inputs
 use Rattle.tape_script.proofs.Rests.{any_rest, ended_rest, whole_told, left_behind}
+use Rattle.tape_script.specs.Reading.{GaveEnd}
 use Rattle.volume_store.specs.Mounting.{StoreView}
 use Rattle.volume_store.proofs.Copies.{tells_two}
 use Rattle.volume_store.proofs.Ending.{back}
 use Rattle.volume_script.specs.declared.fault.ScriptFault.{ScriptFault}
 use Rattle.volume_script.specs.declared.fault.ScriptFault.TheVariants as fault
 use Rattle.volume_script.specs.Ending.{HearsEnd, RepliesEnd}
-use Rattle.volume_script.specs.Heard.{longest, GaveEnd, HeardItem, HeardNone, HeardShort, HeardCut, Hears, NextDoes}
+use Rattle.volume_script.specs.Heard.{longest, HeardItem, HeardNone, HeardShort, HeardCut, Hears, NextDoes}
 use Rattle.command_laws.specs.ScriptItems.{EarlyDoes}
 use Rattle.command_spec.specs.Script.{end_line}
 use Rattle.volume_script.specs.Runs.{Leaves, Ended, CutOff}

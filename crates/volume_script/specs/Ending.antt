@@ -4,10 +4,9 @@ use Rattle.qic_base.specs.Cause.{Rose}
 use Rattle.qic_base.specs.Sink as sinks
 use Rattle.qic_base.specs.Source as sources
 use Rattle.qic_base.specs.Source.{GaveSome}
-use Rattle.tape_script.specs.Reading.{BeginsWithNo}
+use Rattle.tape_script.specs.Reading.{BeginsWithNo, GaveEnd}
 use Rattle.volume_script.specs.declared.fault.ScriptFault.{ScriptFault}
 use Rattle.volume_script.specs.declared.fault.ScriptFault.TheVariants as fault
-use Rattle.volume_script.specs.Heard.{GaveEnd}
 use Rattle.command_spec.specs.Script.{end_line}
 
 -- some bytes were taken, and the line `end` did not begin there

@@ -1,5 +1,5 @@
 -- What one line of the input did to the outside, with what follows it (this project's own).
-use Rattle.std.specs.Prelude.{◌≡◌, ◌⊎◌, ℕ, ◌<◌, ◌≤◌, List, [], ◌++◌, length, Option, Some, None, IfSome, Result, Ok, Err, codes}
+use Rattle.std.specs.Prelude.{◌≡◌, ◌⊎◌, ℕ, ◌<◌, ◌≤◌, List, [], ◌++◌, length, Option, Some, None, IfSome, Result, Ok, Err}
 use Rattle.qic_base.specs.Cartridge.{Cartridge}
 use Rattle.qic_base.specs.Sink as sinks
 use Rattle.qic_base.specs.Source as sources
@@ -9,7 +9,7 @@ use Rattle.cartridge_spec.specs.Table.{Entry}
 use Rattle.command_spec.specs.declared.line.Line.{Line}
 use Rattle.command_spec.specs.Input.{Item, IsItem, Ending, ItemsEnd, most_items, promised}
 use Rattle.qic_base.specs.Source.{Gave, GaveSome, HasEnded}
-use Rattle.tape_script.specs.Reading.{BeginsWithNo}
+use Rattle.tape_script.specs.Reading.{BeginsWithNo, GaveEnd}
 use Rattle.command_spec.specs.Input.{IsLineText}
 use Rattle.volume_store.specs.Mounting.{StoreView}
 use Rattle.volume_script.specs.declared.fault.ScriptFault.{ScriptFault}
@@ -31,10 +31,6 @@ pub record HeardItem {T S K : Type 0} (t : tapes.Meaning T) (s : sources.Meaning
   pub acts : List Act
   pub went : Went t s k old new acts
   pub told : tapes.Tells t old.tape (λ c. ItemDoes c store.words store.entries item (record { acts = acts; entries = after.entries }))
-
--- the source had ended, or it gave the line `end`
-abbrev pub GaveEnd : {S : Type 0} (s : sources.Meaning S) (old new : S) → Type 0
-GaveEnd s old new = (HasEnded s old × Gave s old new []) ⊎ Gave s old new (codes "end\n")
 
 -- bytes were taken that begin with no line
 pub record HeardNone {T S K : Type 0} (t : tapes.Meaning T) (s : sources.Meaning S) (k : sinks.Meaning K) (old new : Outside T S K) : Type 0 where
