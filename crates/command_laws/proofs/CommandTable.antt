@@ -13,6 +13,7 @@ use Rattle.command_laws.proofs.PulsesCommand.{pulses_laws}
 use Rattle.command_laws.proofs.RestoreCommand.{restore_laws}
 use Rattle.command_laws.proofs.ScriptCommand.{script_laws}
 use Rattle.command_laws.proofs.ScrubCommand.{scrub_laws}
+use Rattle.command_laws.proofs.UpgradeCommand.{upgrade_laws}
 use Rattle.command_laws.specs.CommandLaws.{DoneWhereAllIsThere, OneOutcome, OnlyNewRenews, CopiesStayClean, CopiesStayBare}
 use Rattle.command_laws.specs.CommandRecord.{CommandLaws}
 use Rattle.command_spec.specs.Commands.{command_of, IsCommand}
@@ -36,6 +37,7 @@ laws_of words.Scrub = scrub_laws
 laws_of words.Pulses = pulses_laws
 laws_of words.Script = script_laws
 laws_of (words.Make seed count) = make_laws seed count
+laws_of words.Upgrade = upgrade_laws
 
 -- the words of a command give it its values
 pub has_values : (words : List (List ℕ)) (command : Words) → IsCommand words command → HasValues command

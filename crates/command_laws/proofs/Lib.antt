@@ -117,3 +117,4 @@ pub mod TextMaking
 pub mod TextPrinting
 pub mod TextReadings
 pub mod TextTrimmed
+pub mod UpgradeCommand

@@ -98,7 +98,7 @@ pub guess : List (List ℕ) → Words
 guess [] = words.Info
 guess (a ∷ []) =
     if bytes_eq a (codes "info") then words.Info else if bytes_eq a (codes "list") then words.List else if bytes_eq a (codes "scrub") then words.Scrub
-    else if bytes_eq a (codes "pulses") then words.Pulses else words.Script
+    else if bytes_eq a (codes "pulses") then words.Pulses else if bytes_eq a (codes "script") then words.Script else words.Upgrade
 guess (a ∷ b ∷ []) =
     if bytes_eq a (codes "new") then words.New (number_value b) else if bytes_eq a (codes "protect") then words.Protect (bytes_eq b (codes "on"))
     else if bytes_eq a (codes "format") then words.Format (filled b) 0 else if bytes_eq a (codes "append") then words.Append (filled b) 0
@@ -132,6 +132,7 @@ guess_is ws (words.Restore number) h = let s = two_words ws _ _ (only ws _ h) in
 guess_is ws words.Scrub h = let s = one_word ws _ (only ws _ h) in rw (s.are, s.one) refl
 guess_is ws words.Pulses h = let s = one_word ws _ (only ws _ h) in rw (s.are, s.one) refl
 guess_is ws words.Script h = let s = one_word ws _ (only ws _ h) in rw (s.are, s.one) refl
+guess_is ws words.Upgrade h = let s = one_word ws _ (only ws _ h) in rw (s.are, s.one) refl
 guess_is ws (words.Make seed count) h =
     let s = three_words ws _ _ _ (only ws _ h) in rw (s.are, s.one, IsNumber-value s.second seed s.two.0, IsNumber-value s.third count s.three.0) refl
 

@@ -36,4 +36,5 @@ command_length ws (words.Restore number) h = let l = spelled_length ws _ (only w
 command_length ws words.Scrub h = let l = spelled_length ws _ (only ws _ h) in (omega arith, omega arith)
 command_length ws words.Pulses h = let l = spelled_length ws _ (only ws _ h) in (omega arith, omega arith)
 command_length ws words.Script h = let l = spelled_length ws _ (only ws _ h) in (omega arith, omega arith)
+command_length ws words.Upgrade h = let l = spelled_length ws _ (only ws _ h) in (omega arith, omega arith)
 command_length ws (words.Make seed count) h = let l = spelled_length ws _ (only ws _ h) in (omega arith, omega arith)
