@@ -120,3 +120,4 @@ pub mod TextPrinting
 pub mod TextReadings
 pub mod TextTrimmed
 pub mod TextWords
+pub mod UpgradeCommand

@@ -14,6 +14,7 @@ use Rattle.cartridge_spec.specs.HeaderAndTable.{CopyDoesNotRead, IsUnformatted, 
 use Rattle.cartridge_spec.specs.Mounting.{Mounting, Mounts}
 use Rattle.cartridge_spec.specs.Says.{whole_mask}
 use Rattle.command_laws.proofs.CommandPlainLaws.{SectorLeaves, defect_leaves, lose_leaves, protect_leaves, sent_leaves}
+use Rattle.command_laws.proofs.UpgradeCommand.{upgrade_leaving, upgraded}
 use Rattle.command_laws.specs.Life.{LossSpares}
 use Rattle.command_spec.specs.Append.{Appends}
 use Rattle.command_spec.specs.Info.{telling}
@@ -165,6 +166,8 @@ stays_neither words.Pulses c input outcome left other others spares none plain t
     by_trains : (left ≡ Some c) ⊎ (left ≡ Some (changed SetReferenced c)) → IsSomeAnd left NeitherReads
     by_trains (inl same) = some_and NeitherReads c left none same
     by_trains (inr is) = some_and NeitherReads (changed SetReferenced c) left (marked_neither c (changed SetReferenced c) refl none) is
+stays_neither words.Upgrade c input outcome left other others spares none plain torn =
+    upgrade_leaving NeitherReads c outcome left none (marked_neither c (upgraded c) refl none) plain torn
 stays_neither words.List c input outcome left other others spares none plain torn =
     by_none c (steps_of outcome.acts) left none torn (turned_away (Shows listing) c outcome none plain)
 stays_neither words.Info c input outcome left other others spares none plain torn =
