@@ -18,6 +18,7 @@ pub mod ScrubFound
 pub mod ScrubLaws
 pub mod ScrubMended
 pub mod ScrubSayings
+pub mod SilentSectors
 pub mod StoreMounting
 pub mod TextGenerator
 pub mod TextInput
