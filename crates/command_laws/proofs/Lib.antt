@@ -90,9 +90,12 @@ pub mod ScriptValues
 pub mod ScrubAgain
 pub mod ScrubApart
 pub mod ScrubAtOnce
+pub mod ScrubBeside
 pub mod ScrubCommand
 pub mod ScrubDone
 pub mod ScrubForms
+pub mod ScrubFormsAgain
+pub mod ScrubFormsStanding
 pub mod ScrubLooking
 pub mod ScrubMending
 pub mod ScrubMounted
@@ -102,6 +105,7 @@ pub mod ScrubSeen
 pub mod ScrubSettled
 pub mod ScrubStanding
 pub mod ScrubTurns
+pub mod SilentMended
 pub mod StoreAgain
 pub mod StoreBehind
 pub mod StoreEnding

@@ -99,7 +99,7 @@ upgrade_laws = record {
   answers = λ held input values whole. upgrade_answers held;
   one = λ held input a b one other. upgrade_is_function held a b one other;
   none_held = λ is input outcome plain. plain;
-  locked = λ is. absurd (cc);
+  locked = λ is c input outcome locked plain. absurd (cc);
   done = λ held input outcome whole values. where_some (λ c. Unit {0}) held (λ h. UpgradeOutcome h outcome → outcome.status ≡ status.Done) (λ c can does. ap status_of does);
   texts = plain_texts _ (upgraded_line 2) (2, record { oldest = omega arith; newest = omega arith }, refl);
   blind = λ is. record {
