@@ -1,26 +1,40 @@
 -- The laws of the command `append`.
-use Rattle.std.proofs.Common.{◌≡◌, ℕ, List, Some, refl, codes}
+use Rattle.std.proofs.Common.{◌≡◌, ℕ, List, Some, refl, codes, inl, inr, arith}
 use Rattle.cartridge_laws.proofs.FormatWriting.{some_and}
 use Rattle.cartridge_spec.specs.Mounting.{Mounted, Mounts}
 use Rattle.command_laws.proofs.CommandClean.{bare_writable, Clean, writable_leaves, appends_leave}
 use Rattle.command_laws.proofs.CommandComplete.{where_some, append_goes}
 use Rattle.command_laws.proofs.CommandKeeping.{same_stands}
-use Rattle.command_laws.proofs.CommandPlainLaws.{appending_leaves, writable_is_function, appends_one}
+use Rattle.command_laws.proofs.CommandPlainLaws.{appending_leaves, writable_is_function, appends_one, writable_locked}
 use Rattle.command_laws.proofs.CommandSteps.{writable_none, appends_none}
 use Rattle.command_laws.proofs.CommandTexts.{plain_texts}
 use Rattle.command_laws.proofs.CommandTotals.{writable_answers, appends_answers}
 use Rattle.command_laws.proofs.CommandValues.{dated_values}
+use Rattle.command_laws.proofs.TextCommands.{dated_cases, two_words, three_words, dated_length, IsDateWord-value, guess}
 use Rattle.command_laws.specs.CommandRecord.{CommandLaws}
 use Rattle.command_spec.specs.Append.{Appends, AppendOutcome}
 use Rattle.command_spec.specs.AppendCommand.{CanTake, append_command}
+use Rattle.command_spec.specs.CommandWords.{HasForm}
 use Rattle.command_spec.specs.Complete.{IsUnprotected}
 use Rattle.command_spec.specs.declared.status.Status.TheVariants as status
+use Rattle.command_spec.specs.declared.words.Words.TheVariants as words
+
+-- its words are read as it
+pub append_read : (name : List ℕ) (date : ℕ) (ws : List (List ℕ)) → HasForm ws (append_command name date).forms → guess ws ≡ words.Append name date
+unfolding guess
+append_read name date ws h = elim (dated_cases ws _ date h) [
+  | inl full ↦ let s = three_words ws _ _ _ full in rw (s.are, s.one, ← s.two.1, IsDateWord-value s.third date s.three) refl
+  | inr bare ↦ let s = two_words ws _ _ bare.0 in rw (s.are, s.one, ← s.two.1, bare.1) refl
+]
 
 pub append_laws : (name : List ℕ) (date : ℕ) → CommandLaws (append_command name date)
 append_laws name date = record {
   values = λ words spelled. dated_values (codes "append") words name date spelled;
+  few_words = λ ws h. let l = dated_length ws _ _ date h in (omega arith, omega arith);
   answers = λ held input values whole. writable_answers (Appends name date input) (appends_answers name date input) held whole;
   one = λ held input a b one other. writable_is_function (Appends name date input) (appends_one name date input) held a b one other;
+  none_held = λ is input outcome plain. plain;
+  locked = λ is c input outcome locked plain. writable_locked (Appends name date input) c outcome locked plain;
   done = λ held input outcome whole values. where_some (λ c. IsUnprotected c × CanTake c input) held (λ h. AppendOutcome name date h input outcome → outcome.status ≡ status.Done) (λ c can does. append_goes name date input c outcome can.0 can.1 does);
   texts = plain_texts _ _ (0, (0, (0, (0, refl))));
   blind = λ is. absurd (cc);

@@ -6,9 +6,9 @@ use Rattle.cartridge_laws.proofs.MountStanding.{standing_mounts}
 use Rattle.cartridge_spec.specs.Formatting.{HasNoDefectInFront}
 use Rattle.cartridge_spec.specs.Mounting.{Mounts, mounted_as, Mounting, settled}
 use Rattle.cartridge_spec.specs.Volumes.{Plain, entries_of}
-use Rattle.command_laws.proofs.CommandGivenBack.{given, given_whole}
 use Rattle.command_laws.proofs.MadeComplete.{made_where_there_is_room}
 use Rattle.command_laws.proofs.MountedHeld.{mounted_open}
+use Rattle.command_laws.proofs.RestoreGivenBack.{given, given_whole}
 use Rattle.command_spec.specs.Append.{room_in, Appends, AppendOutcome, kept_in}
 use Rattle.command_spec.specs.AppendCommand.{CanTake}
 use Rattle.command_spec.specs.Complete.{ReadsAs, IsUnprotected}

@@ -24,7 +24,7 @@ use Rattle.command_laws.proofs.MountedListed.{mounted_listed}
 use Rattle.command_laws.proofs.MountedListing.{append_front_lists, append_lists, settled_lists}
 use Rattle.command_laws.proofs.ScriptListing.{listed_behind_act, listed_between, listed_done, listed_none}
 use Rattle.command_laws.proofs.ScriptMachineLaws.{one_outcome as one_script}
-use Rattle.command_laws.proofs.TextCommands.{one_command}
+use Rattle.command_laws.proofs.TextWords.{one_command}
 use Rattle.command_laws.specs.MountedListed.{IsListed, listed_behind}
 use Rattle.command_laws.specs.MountedListing.{AddsNone}
 use Rattle.command_spec.specs.Append.{Kept, Taking, Fits, TooLong, append_acts, entry_for, kept_in, room_in, taking, Appends, AppendOutcome, append_status, appended, kept_over}

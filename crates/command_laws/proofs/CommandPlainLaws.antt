@@ -21,7 +21,7 @@ use Rattle.command_spec.specs.Defect.{DefectOutcome}
 use Rattle.command_spec.specs.Format.{FormatOutcome, cleared, formatted}
 use Rattle.command_spec.specs.Lose.{LoseOutcome}
 use Rattle.command_spec.specs.Make.{Making, made_on}
-use Rattle.command_spec.specs.Outcome.{CommandOutcome, Going, Opened, OpenOutcome, WritableOutcome, Printing, Shows, settling_act, HasPlace}
+use Rattle.command_spec.specs.Outcome.{refused, CommandOutcome, Going, Opened, OpenOutcome, WritableOutcome, Printing, Shows, settling_act, HasPlace}
 use Rattle.command_spec.specs.Protect.{ProtectOutcome}
 use Rattle.command_spec.specs.Pulses.{sent, info_of, SentOutcome, train_acts}
 use Rattle.command_spec.specs.Restore.{GivingEnd, Restores, pieces, Gives, ending_status, RestoreOutcome}
@@ -327,3 +327,14 @@ format_is_function label date (Some c) a b (inr (inr (unlocked, none, (words, (a
 pub sent_is_function : (held : Option Cartridge) (input : List ℕ) (a b : CommandOutcome) → SentOutcome held input a → SentOutcome held input b → a ≡ b
 sent_is_function held input a b (came, plain, is) (other, rule, was) =
     is ∙ ap sent (one_outcome (info_of held) input came other plain rule) ∙ sym was
+
+-- ---- a protected cartridge
+
+pub writable_locked : (goes : Going) (c : Cartridge) (outcome : CommandOutcome) → c.info.protected ≡ true → WritableOutcome goes (Some c) outcome → outcome ≡ refused status.Protected
+writable_locked goes c outcome locked (inl is) = is.1
+writable_locked goes c outcome locked (inr is) = let free = is.0 in absurd (cc)
+
+pub format_locked : (label : List ℕ) (date : ℕ) (c : Cartridge) (outcome : CommandOutcome) → c.info.protected ≡ true → FormatOutcome label date (Some c) outcome → outcome ≡ refused status.Protected
+format_locked label date c outcome locked (inl is) = is.1
+format_locked label date c outcome locked (inr (inl is)) = let free = is.0 in absurd (cc)
+format_locked label date c outcome locked (inr (inr is)) = let free = is.0 in absurd (cc)

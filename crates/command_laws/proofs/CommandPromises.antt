@@ -11,8 +11,7 @@ use Rattle.command_laws.proofs.CommandSurvives.{survives_one_loss, none_survives
 use Rattle.command_laws.proofs.CommandTable.{laws_of, has_values}
 use Rattle.command_laws.proofs.CommandTold.{input_of, input_told}
 use Rattle.command_laws.proofs.CommandVolumes.{volumes_stay, list_stays, stays_live, stays_clean, stops_format, stops_append, is_changed, may_change, none_changed}
-use Rattle.command_laws.proofs.TextCommands.{one_command}
-use Rattle.command_laws.proofs.TextDeciding.{each_words}
+use Rattle.command_laws.proofs.TextWords.{one_command, each_words}
 use Rattle.command_laws.specs.CommandLaws.{MachineIsFunction, MachineAnswers}
 use Rattle.command_spec.specs.Commands.{traits_of}
 use Rattle.command_spec.specs.Headline.{WordsLeave, EachLeft, PrintsRefused, PrintsFront, Stepped, Answers, SpellsOne}

@@ -19,7 +19,8 @@ use Rattle.command_laws.proofs.MountedHeld.{mounted_open, settled_live, mounted_
 use Rattle.command_laws.proofs.MountedKeeping.{live_kept}
 use Rattle.command_laws.proofs.ScriptAnswered.{answered_behind, answered_between, done_script_stands, none_answered, stopped_script_stands}
 use Rattle.command_laws.proofs.ScriptMachineLaws.{one_outcome as one_script}
-use Rattle.command_laws.proofs.TextCommands.{one_command}
+use Rattle.command_laws.proofs.TextWords.{one_command}
+use Rattle.command_laws.specs.ActStops.{Between, Behind, IsLeftBy}
 use Rattle.command_laws.specs.MountedHeld.{IsHeld}
 use Rattle.command_laws.specs.MountedKept.{IsKept, IsOpen}
 use Rattle.command_laws.specs.ScriptStanding.{plain_behind}
@@ -87,7 +88,7 @@ module _ (c : Cartridge) (plain : Plain) (whole : IsCartridge c) (stood : Stands
   settled_now = settling_effects c plain.table_area mounts.reads
 
   -- a stop came in the settling, or behind it
-  pub stopped_first : (acts : List Act) (left : Option Cartridge) → Torn (steps_of (settling ∷ acts)) (Some c) left →
+  stopped_first : (acts : List Act) (left : Option Cartridge) → Torn (steps_of (settling ∷ acts)) (Some c) left →
       IsSomeAnd left (λ d. Stands d plain) ⊎ Torn (steps_of acts) (Some still) left
   stopped_first acts left torn =
       elim (Torn-append (settling_steps plain.table_area c) (steps_of acts) (Some c) left torn) [
@@ -124,30 +125,6 @@ still_told None P some each = cc
 still_told (Some left) P some each = each left refl
 
 -- ---- what is left of acts, and printed
-
--- a front of them was done and written, and a stop came among the steps of the next one
-pub record Between (c : Cartridge) (acts : List Act) (text : List ℕ) (left : Option Cartridge) : Type 0 where
-  pub front : List Act
-  pub rest : List Act
-  pub parts : front ++ rest ≡ acts
-  pub torn : Torn (next_steps rest) (effects (steps_of front) (Some c)) left
-  pub is_text : text ≡ text_of front
-
--- all steps of the next one were done, and a part of its text written, and not the whole
-pub record Behind (c : Cartridge) (acts : List Act) (text : List ℕ) (left : Option Cartridge) : Type 0 where
-  pub front : List Act
-  pub act : Act
-  pub rest : List Act
-  pub parts : front ++ act ∷ rest ≡ acts
-  pub is : left ≡ effects (steps_of front ++ act.steps) (Some c)
-  pub some : List ℕ
-  pub more : List ℕ
-  pub written : some ++ more ≡ act.text
-  pub lacks : more ≢ []
-  pub is_text : text ≡ text_of front ++ some
-
-abbrev pub IsLeftBy : Cartridge → List Act → (text : List ℕ) → (left : Option Cartridge) → Type 0
-IsLeftBy c acts text left = Between c acts text left ⊎ Behind c acts text left
 
 -- of a text that is empty nothing is written
 pub no_text : (some more : List ℕ) → some ++ more ≡ [] → some ≡ []
@@ -400,7 +377,7 @@ module _ (seed count : ℕ) (few : count ≤ 200) (c : Cartridge) (plain : Plain
       ]
 
   -- .. and once it has printed anything
-  make_printed : (outcome : CommandOutcome) (text : List ℕ) (left : Option Cartridge) → IsTableLive c → MakeOutcome seed count (Some c) outcome → text ≢ [] →
+  pub make_printed : (outcome : CommandOutcome) (text : List ℕ) (left : Option Cartridge) → IsTableLive c → MakeOutcome seed count (Some c) outcome → text ≢ [] →
       IsLeftBy c outcome.acts text left → HasMade count left
   make_printed outcome text left live does some (inr so) = make_broken outcome text left live does so
   make_printed outcome text left live does some (inl so) =
@@ -518,7 +495,7 @@ module _ (told : Option (List ℕ)) (words : List (List ℕ)) (c : Cartridge) (p
   BehindSome left = (n : ℕ) × (n ≤ length items) × IsSomeAnd left (λ d. Stands d (plain_behind plain (take n items) (take n dids)))
 
   -- a stop leaves the plain cartridge behind some of the lines
-  script_stopped : (input : List ℕ) (outcome : CommandOutcome) (left : Option Cartridge) → IsTableLive c → input ≡ script.input → ScriptOutcome (Some c) input outcome →
+  pub script_stopped : (input : List ℕ) (outcome : CommandOutcome) (left : Option Cartridge) → IsTableLive c → input ≡ script.input → ScriptOutcome (Some c) input outcome →
       Torn (steps_of outcome.acts) (Some c) left → BehindSome left
   script_stopped input outcome left live same does torn =
       elim (script_course input outcome same does) [
@@ -554,7 +531,7 @@ module _ (told : Option (List ℕ)) (words : List (List ℕ)) (c : Cartridge) (p
       subst (λ (xs : List ℕ). Answered xs left) (sym none)
       (none_answered (settled plain.table_area c) plain script.input script.outcome left script.does script.bytes stands)
 
-  script_answered : (input : List ℕ) (outcome : CommandOutcome) (text : List ℕ) (left : Option Cartridge) → IsTableLive c → input ≡ script.input →
+  pub script_answered : (input : List ℕ) (outcome : CommandOutcome) (text : List ℕ) (left : Option Cartridge) → IsTableLive c → input ≡ script.input →
       ScriptOutcome (Some c) input outcome → IsLeftBy c outcome.acts text left → Answered text left
   script_answered input outcome text left live same does so =
       elim (script_course input outcome same does) [

@@ -8,7 +8,7 @@ use Rattle.cartridge_spec.specs.Settling.{settling_steps}
 use Rattle.command_laws.proofs.CommandEnds.{Laws, told_whole}
 use Rattle.command_laws.proofs.CommandOneLoss.{append_comes_back, nothing_torn, settled_comes_back, done_comes_back}
 use Rattle.command_laws.proofs.CommandVolumes.{whole_of, of_bytes, each_weaker, done_now, now_weaker, Did, carried_out_did, may_change}
-use Rattle.command_laws.proofs.TextCommands.{one_command}
+use Rattle.command_laws.proofs.TextWords.{one_command}
 use Rattle.command_spec.specs.Headline.{StopLeaves, WordsLeave, EachLeft}
 use Rattle.command_spec.specs.Machine.{HasValues, Spells}
 use Rattle.command_spec.specs.OneLoss.{StoppedComesBack, ComesBackEither, SettledComesBack, ComesBackNew, SurvivesOneLoss}

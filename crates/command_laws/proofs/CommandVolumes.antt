@@ -17,7 +17,7 @@ use Rattle.command_laws.proofs.CommandEnds.{after_steps, told_weaker, over_at, t
 use Rattle.command_laws.proofs.CommandKeeping.{same_stands}
 use Rattle.command_laws.proofs.CommandPlainLaws.{FormatLeaves, format_leaves}
 use Rattle.command_laws.proofs.CommandTable.{laws_of, plain_answers}
-use Rattle.command_laws.proofs.TextCommands.{one_command}
+use Rattle.command_laws.proofs.TextWords.{one_command}
 use Rattle.command_spec.specs.Commands.{traits_of}
 use Rattle.command_spec.specs.Format.{FormatOutcome}
 use Rattle.command_spec.specs.Headline.{EachNow, EachLeft, StopLeaves, WordsLeave}

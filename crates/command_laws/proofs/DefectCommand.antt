@@ -1,5 +1,5 @@
 -- The laws of the command `defect`.
-use Rattle.std.proofs.Common.{◌≡◌, ℕ, true, Some, refl}
+use Rattle.std.proofs.Common.{◌≡◌, ℕ, true, Some, refl, List, arith}
 use Rattle.cartridge_laws.proofs.ChangeMounted.{spoiled_mounts}
 use Rattle.cartridge_laws.proofs.ChangeStanding.{spoiled_stands}
 use Rattle.cartridge_laws.proofs.ChangeViews.{spoiled_alike}
@@ -13,19 +13,31 @@ use Rattle.command_laws.proofs.CommandPlainLaws.{defect_is_function, defect_leav
 use Rattle.command_laws.proofs.CommandSteps.{defect_none}
 use Rattle.command_laws.proofs.CommandTexts.{plain_texts}
 use Rattle.command_laws.proofs.CommandTotals.{defect_answers}
+use Rattle.command_laws.proofs.TextCommands.{only, three_words, spelled_length, IsNumber-value, guess}
 use Rattle.command_laws.specs.CommandRecord.{CommandLaws}
+use Rattle.command_spec.specs.CommandWords.{HasForm}
 use Rattle.command_spec.specs.Defect.{DefectOutcome, defect_command}
 use Rattle.command_spec.specs.Outcome.{HasPlace}
 use Rattle.qic_base.specs.Cartridge.{view_at}
 use Rattle.qic_base.specs.Step.{changed, Spoil}
 use Rattle.qic_base.specs.Tape.{spoil_answer}
 use Rattle.command_spec.specs.declared.status.Status.TheVariants as status
+use Rattle.command_spec.specs.declared.words.Words.TheVariants as words
+
+-- its words are read as it
+pub defect_read : (segment sector : ℕ) (ws : List (List ℕ)) → HasForm ws (defect_command segment sector).forms → guess ws ≡ words.Defect segment sector
+unfolding guess
+defect_read segment sector ws h =
+    let s = three_words ws _ _ _ (only ws _ h) in rw (s.are, s.one, IsNumber-value s.second segment s.two.0, IsNumber-value s.third sector s.three.0) refl
 
 pub defect_laws : (segment sector : ℕ) → CommandLaws (defect_command segment sector)
 defect_laws segment sector = record {
   values = λ words spelled. tt;
+  few_words = λ ws h. let l = spelled_length ws _ (only ws _ h) in (omega arith, omega arith);
   answers = λ held input values whole. defect_answers segment sector held;
   one = λ held input a b one other. defect_is_function segment sector held a b one other;
+  none_held = λ is input outcome plain. plain;
+  locked = λ is c input outcome locked plain. absurd (cc);
   done = λ held input outcome whole values. where_some (λ c. HasPlace c segment sector × (spoil_answer (view_at c segment sector) ≡ true)) held (λ h. DefectOutcome segment sector h outcome → outcome.status ≡ status.Done) (λ c can does. defect_done segment sector c outcome can.0 can.1 does);
   texts = plain_texts _ _ refl;
   blind = λ is. record {

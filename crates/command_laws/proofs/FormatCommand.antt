@@ -1,24 +1,38 @@
 -- The laws of the command `format`.
-use Rattle.std.proofs.Common.{◌≡◌, ℕ, List, Some, refl, codes}
+use Rattle.std.proofs.Common.{◌≡◌, ℕ, List, Some, refl, codes, inl, inr, arith}
 use Rattle.cartridge_spec.specs.Formatting.{HasNoHeader, HasNoDefectInFront}
 use Rattle.command_laws.proofs.CommandClean.{Clean, format_leaves as leaves_format}
 use Rattle.command_laws.proofs.CommandComplete.{where_some, format_done}
 use Rattle.command_laws.proofs.CommandKeeping.{format_stands, format_mounts}
-use Rattle.command_laws.proofs.CommandPlainLaws.{format_leaves, format_is_function}
+use Rattle.command_laws.proofs.CommandPlainLaws.{format_leaves, format_is_function, format_locked}
 use Rattle.command_laws.proofs.CommandSteps.{format_none}
 use Rattle.command_laws.proofs.CommandTexts.{plain_texts}
 use Rattle.command_laws.proofs.CommandTotals.{format_answers}
 use Rattle.command_laws.proofs.CommandValues.{dated_values}
+use Rattle.command_laws.proofs.TextCommands.{dated_cases, two_words, three_words, dated_length, IsDateWord-value, guess}
 use Rattle.command_laws.specs.CommandRecord.{CommandLaws}
+use Rattle.command_spec.specs.CommandWords.{HasForm}
 use Rattle.command_spec.specs.Complete.{IsUnprotected}
 use Rattle.command_spec.specs.Format.{FormatOutcome, format_command}
 use Rattle.command_spec.specs.declared.status.Status.TheVariants as status
+use Rattle.command_spec.specs.declared.words.Words.TheVariants as words
+
+-- its words are read as it
+pub format_read : (label : List ℕ) (date : ℕ) (ws : List (List ℕ)) → HasForm ws (format_command label date).forms → guess ws ≡ words.Format label date
+unfolding guess
+format_read label date ws h = elim (dated_cases ws _ date h) [
+  | inl full ↦ let s = three_words ws _ _ _ full in rw (s.are, s.one, ← s.two.1, IsDateWord-value s.third date s.three) refl
+  | inr bare ↦ let s = two_words ws _ _ bare.0 in rw (s.are, s.one, ← s.two.1, bare.1) refl
+]
 
 pub format_laws : (label : List ℕ) (date : ℕ) → CommandLaws (format_command label date)
 format_laws label date = record {
   values = λ words spelled. dated_values (codes "format") words label date spelled;
+  few_words = λ ws h. let l = dated_length ws _ _ date h in (omega arith, omega arith);
   answers = λ held input values whole. format_answers label date held values.0 values.1 whole;
   one = λ held input a b one other. format_is_function label date held a b one other;
+  none_held = λ is input outcome plain. plain;
+  locked = λ is c input outcome locked plain. format_locked label date c outcome locked plain;
   done = λ held input outcome whole values. where_some (λ c. IsUnprotected c × HasNoDefectInFront c) held (λ h. FormatOutcome label date h outcome → outcome.status ≡ status.Done) (λ c can does. format_done label date c outcome can.0 can.1 does);
   texts = plain_texts _ _ (0, (0, refl));
   blind = λ is. record {

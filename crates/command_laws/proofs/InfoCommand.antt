@@ -1,5 +1,5 @@
 -- The laws of the command `info`.
-use Rattle.std.proofs.Common.{[], ◌≡◌, Some, refl}
+use Rattle.std.proofs.Common.{[], ◌≡◌, Some, refl, ℕ, List, arith}
 use Rattle.cartridge_spec.specs.Mounting.{Mounted}
 use Rattle.command_laws.proofs.CommandClean.{bare_open, Clean, open_leaves, shows_leave}
 use Rattle.command_laws.proofs.CommandComplete.{where_some, shows_done}
@@ -8,17 +8,28 @@ use Rattle.command_laws.proofs.CommandPlainLaws.{opening_leaves, open_is_functio
 use Rattle.command_laws.proofs.CommandSteps.{open_none, shows_none}
 use Rattle.command_laws.proofs.CommandTexts.{plain_texts}
 use Rattle.command_laws.proofs.CommandTotals.{open_answers, shows_answers}
+use Rattle.command_laws.proofs.TextCommands.{only, one_word, spelled_length, guess}
 use Rattle.command_laws.specs.CommandRecord.{CommandLaws}
+use Rattle.command_spec.specs.CommandWords.{HasForm}
 use Rattle.command_spec.specs.Complete.{CanBeMounted}
 use Rattle.command_spec.specs.Info.{InfoOutcome, telling, info_command}
 use Rattle.command_spec.specs.Outcome.{Shows}
 use Rattle.command_spec.specs.declared.status.Status.TheVariants as status
+use Rattle.command_spec.specs.declared.words.Words.TheVariants as words
+
+-- its words are read as it
+pub info_read : (ws : List (List ℕ)) → HasForm ws info_command.forms → guess ws ≡ words.Info
+unfolding guess
+info_read ws h = let s = one_word ws _ (only ws _ h) in rw (s.are, s.one) refl
 
 pub info_laws : CommandLaws info_command
 info_laws = record {
   values = λ words spelled. tt;
+  few_words = λ ws h. let l = spelled_length ws _ (only ws _ h) in (omega arith, omega arith);
   answers = λ held input values whole. open_answers (Shows telling) (shows_answers telling) held whole;
   one = λ held input a b one other. open_is_function (Shows telling) (shows_one telling) held a b one other;
+  none_held = λ is input outcome plain. plain;
+  locked = λ is c input outcome locked plain. absurd (cc);
   done = λ held input outcome whole values. where_some (CanBeMounted) held (λ h. InfoOutcome h outcome → outcome.status ≡ status.Done) (λ c can does. shows_done telling c can.0 outcome can.1 does);
   texts = plain_texts _ _ (record { format_date = 0; write_date = 0; segments_per_track = 0; label = []; label_date = 0 }, ([], (0, refl)));
   blind = λ is. record {

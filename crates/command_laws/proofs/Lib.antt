@@ -28,6 +28,7 @@ pub mod FormatCommand
 pub mod InfoCommand
 pub mod InputActLaws
 pub mod LifeFormats
+pub mod LifeGrowing
 pub mod LifeLaws
 pub mod LifeRuns
 pub mod LifeUnformatted
@@ -65,6 +66,7 @@ pub mod RestoreCommand
 pub mod RestoreCounts
 pub mod RestoreEndings
 pub mod RestoreGiven
+pub mod RestoreGivenBack
 pub mod RestorePieces
 pub mod RestoreStanding
 pub mod ScriptActs
@@ -117,3 +119,4 @@ pub mod TextMaking
 pub mod TextPrinting
 pub mod TextReadings
 pub mod TextTrimmed
+pub mod TextWords

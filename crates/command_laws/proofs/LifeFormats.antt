@@ -1,5 +1,5 @@
 -- What `new` and `format`, answered or stopped, make of the volumes.
-use Rattle.std.proofs.Common.{◌≡◌, ◌⊎◌, ℕ, inl, inr, List, [], ◌∷◌, ◌++◌, ◌*◌, ap, ◌∙◌, sym, subst, refl, Bool, Option, Some, None, IsSomeAnd, IfSome, true, false}
+use Rattle.std.proofs.Common.{append_assoc, ◌≡◌, ◌⊎◌, ℕ, inl, inr, List, [], ◌∷◌, ◌++◌, ◌*◌, ap, ◌∙◌, sym, subst, refl, Bool, Option, Some, None, IsSomeAnd, IfSome, true, false}
 use Rattle.cartridge_laws.proofs.ChangeLive.{steps_keep_live}
 use Rattle.cartridge_laws.proofs.FormatCopies.{new_has_no_header}
 use Rattle.cartridge_laws.specs.ChangeSteps.{HasNoRenew}
@@ -12,6 +12,8 @@ use Rattle.command_laws.proofs.CommandPlainLaws.{format_leaves}
 use Rattle.command_laws.proofs.CommandTable.{only_new_renews}
 use Rattle.command_laws.proofs.CommandVolumes.{cleared_is_bare, format_bare, format_standing, formatted_fresh}
 use Rattle.command_laws.proofs.LifeUnformatted.{IsReferenced, NeitherReads, formatting_references, neither_from_bare, neither_from_unformatted}
+use Rattle.command_laws.proofs.ScriptAnswered.{next_torn}
+use Rattle.command_laws.specs.ActStops.{IsLeftBy}
 use Rattle.command_laws.specs.Life.{Ended, Answered, Stopped, Becomes, IsReady, IsSound, IsWithout, Leaves, MayEnd, begun_by}
 use Rattle.command_spec.specs.Format.{FormatOutcome}
 use Rattle.command_spec.specs.Outcome.{CommandOutcome}
@@ -19,10 +21,11 @@ use Rattle.command_spec.specs.Volumes.{IsBare, StandsEmpty, StandsFresh}
 use Rattle.command_spec.specs.New.{NewOutcome}
 use Rattle.command_spec.specs.declared.status.Status.{Status}
 use Rattle.command_spec.specs.declared.words.Words.{Words}
-use Rattle.qic_base.proofs.Steps.{Torn-all}
-use Rattle.qic_base.specs.Acts.{steps_of}
+use Rattle.qic_base.proofs.Joins.{steps_of-append}
+use Rattle.qic_base.proofs.Steps.{Torn-all, Torn-behind, Torn-front}
+use Rattle.qic_base.specs.Acts.{Act, steps_of}
 use Rattle.qic_base.specs.Cartridge.{Cartridge, IsCartridge, new_cartridge}
-use Rattle.qic_base.specs.Step.{Renew, effects}
+use Rattle.qic_base.specs.Step.{Renew, Step, effects}
 use Rattle.qic_base.specs.Stop.{Torn}
 use Rattle.command_spec.specs.declared.status.Status.TheVariants as status
 use Rattle.command_spec.specs.declared.words.Words.TheVariants as words
@@ -32,11 +35,24 @@ abbrev pub Makes : Words → (input : List ℕ) → Ended → (begun : Bool) →
 Makes command input ended begun held left before =
     (after : Option Plain) × Becomes command held input ended before after × IsSound (begun_by command ended begun) left after
 
+-- acts that were cut off are steps that a stop came in
+left_torn : (c : Cartridge) (acts : List Act) (text : List ℕ) (left : Option Cartridge) → IsLeftBy c acts text left → Torn (steps_of acts) (Some c) left
+left_torn c acts text left (inl at) =
+    subst (λ (ss : List Step). Torn ss (Some c) left) (sym (steps_of-append at.front at.rest) ∙ ap steps_of at.parts)
+    (Torn-behind (steps_of at.front) (steps_of at.rest) (Some c) left (next_torn at.rest (effects (steps_of at.front) (Some c)) left at.torn))
+left_torn c acts text left (inr at) =
+    let steps : List Step = steps_of at.front ++ at.act.steps in
+    subst (λ (ss : List Step). Torn ss (Some c) left)
+    (append_assoc (steps_of at.front) at.act.steps (steps_of at.rest) ∙ sym (steps_of-append at.front (at.act ∷ at.rest)) ∙ ap steps_of at.parts)
+    (Torn-front steps (steps_of at.rest) (Some c) left (subst (λ (l : Option Cartridge). Torn steps (Some c) l) (sym at.is) (Torn-all steps (Some c))))
+
 -- an answered run is one that a stop behind its last step leaves
 pub torn_by : (ended : Ended) (outcome : CommandOutcome) (held left : Option Cartridge) → Leaves ended outcome held left → Torn (steps_of outcome.acts) held left
-torn_by (Answered answer) outcome held left leaves =
-    subst (λ (l : Option Cartridge). Torn (steps_of outcome.acts) held l) (sym leaves.1) (Torn-all (steps_of outcome.acts) held)
-torn_by Stopped outcome held left leaves = leaves
+torn_by (Answered answer printed) outcome held left leaves =
+    subst (λ (l : Option Cartridge). Torn (steps_of outcome.acts) held l) (sym leaves.2) (Torn-all (steps_of outcome.acts) held)
+torn_by (Stopped (Some text)) outcome (Some c) left leaves = left_torn c outcome.acts text left leaves
+torn_by (Stopped (Some text)) outcome None left leaves = leaves
+torn_by (Stopped None) outcome held left leaves = leaves
 
 -- ---- what is sound
 
@@ -55,25 +71,25 @@ without_bare begun (Some d) whole bare =
 
 -- ---- a new cartridge
 
-new_sound : (segments : ℕ) (begun : Bool) (left : Option Cartridge) → IfSome left IsCartridge → left ≡ Some (new_cartridge segments) → IsSound begun left None
+pub new_sound : (segments : ℕ) (begun : Bool) (left : Option Cartridge) → IfSome left IsCartridge → left ≡ Some (new_cartridge segments) → IsSound begun left None
 new_sound segments begun left whole is =
     without_bare begun left whole (subst (λ (o : Option Cartridge). IsSomeAnd o HasNoHeader) (sym is) (new_has_no_header segments))
 
-renewed : (segments : ℕ) (held : Option Cartridge) → effects (Renew segments ∷ []) held ≡ Some (new_cartridge segments)
+pub renewed : (segments : ℕ) (held : Option Cartridge) → effects (Renew segments ∷ []) held ≡ Some (new_cartridge segments)
 renewed segments None = refl
 renewed segments (Some c) = refl
 
 pub new_makes : (segments : ℕ) (input : List ℕ) (ended : Ended) (begun : Bool) (held left : Option Cartridge) (before : Option Plain) (outcome : CommandOutcome) →
     IsSound begun held before → NewOutcome segments outcome → Leaves ended outcome held left → IfSome left IsCartridge → Makes (words.New segments) input ended begun held left before
-new_makes segments input (Answered answer) begun held left before outcome sound is leaves whole = (
+new_makes segments input (Answered answer printed) begun held left before outcome sound is leaves whole = (
   None,
   refl,
-  new_sound segments false left whole (leaves.1 ∙ ap (λ (o : CommandOutcome). effects (steps_of o.acts) held) is ∙ renewed segments held),
+  new_sound segments false left whole (leaves.2 ∙ ap (λ (o : CommandOutcome). effects (steps_of o.acts) held) is ∙ renewed segments held),
 )
-new_makes segments input Stopped begun held left before outcome sound is leaves whole =
-    by_stop (subst (λ (o : CommandOutcome). Torn (steps_of o.acts) held left) is leaves)
+new_makes segments input (Stopped printed) begun held left before outcome sound is leaves whole =
+    by_stop (subst (λ (o : CommandOutcome). Torn (steps_of o.acts) held left) is (torn_by (Stopped printed) outcome held left leaves))
   where
-    by_stop : Torn (Renew segments ∷ []) held left → Makes (words.New segments) input Stopped begun held left before
+    by_stop : Torn (Renew segments ∷ []) held left → Makes (words.New segments) input (Stopped printed) begun held left before
     by_stop (inl same) = (before, inl refl, subst (λ (o : Option Cartridge). IsSound begun o before) (sym same) sound)
     by_stop (inr (inl none)) = (None, inr refl, subst (λ (o : Option Cartridge). IsSound begun o None) (sym none) tt)
     by_stop (inr (inr new)) = (None, inr refl, new_sound segments begun left whole (new ∙ renewed segments held))
@@ -85,9 +101,9 @@ module _ (label : List ℕ) (date : ℕ) (c : Cartridge) (input : List ℕ) (beg
   command = words.Format label date
 
   -- carried out, or refused
-  fresh_makes : (left : Option Cartridge) → IfSome left IsCartridge → IsSomeAnd left (StandsFresh c label date) → Makes command input (Answered status.Done) begun (Some c) left before
-  fresh_makes None whole_left fresh = absurd fresh
-  fresh_makes (Some d) whole_left fresh = (
+  fresh_makes : (printed : List ℕ) (left : Option Cartridge) → IfSome left IsCartridge → IsSomeAnd left (StandsFresh c label date) → Makes command input (Answered status.Done printed) begun (Some c) left before
+  fresh_makes printed None whole_left fresh = absurd fresh
+  fresh_makes printed (Some d) whole_left fresh = (
     Some (fresh_plain c label date fresh.words fresh.area),
     inl (refl, record { words = fresh.words; area = fresh.area; fresh = fresh.fresh; is = refl }),
     record {
@@ -98,27 +114,27 @@ module _ (label : List ℕ) (date : ℕ) (c : Cartridge) (input : List ℕ) (beg
     },
   )
 
-  cleared_makes : (segment : ℕ) (left : Option Cartridge) → IfSome left IsCartridge → IsSomeAnd left IsBare → Makes command input (Answered (status.DefectInFront segment)) begun (Some c) left before
-  cleared_makes segment None whole_left bare = absurd bare
-  cleared_makes segment (Some d) whole_left bare = (None, inr (inl ((segment, refl), refl)), without_bare false (Some d) whole_left bare.0)
+  cleared_makes : (printed : List ℕ) (segment : ℕ) (left : Option Cartridge) → IfSome left IsCartridge → IsSomeAnd left IsBare → Makes command input (Answered (status.DefectInFront segment) printed) begun (Some c) left before
+  cleared_makes printed segment None whole_left bare = absurd bare
+  cleared_makes printed segment (Some d) whole_left bare = (None, inr (inl ((segment, refl), refl)), without_bare false (Some d) whole_left bare.0)
 
-  answered_makes : (answer : Status) (left : Option Cartridge) → FormatOutcome label date (Some c) outcome → Leaves (Answered answer) outcome (Some c) left → IfSome left IsCartridge →
-      Makes command input (Answered answer) begun (Some c) left before
-  answered_makes answer left (inl (locked, is)) leaves whole_left =
+  answered_makes : (answer : Status) (printed : List ℕ) (left : Option Cartridge) → FormatOutcome label date (Some c) outcome → Leaves (Answered answer printed) outcome (Some c) left → IfSome left IsCartridge →
+      Makes command input (Answered answer printed) begun (Some c) left before
+  answered_makes answer printed left (inl (locked, is)) leaves whole_left =
       let told : status.Protected ≡ answer = sym (ap (λ (o : CommandOutcome). o.status) is) ∙ leaves.0 in
-      let same : left ≡ Some c = leaves.1 ∙ ap (λ (o : CommandOutcome). effects (steps_of o.acts) (Some c)) is in
-      subst (λ (a : Status). Makes command input (Answered a) begun (Some c) left before) told
+      let same : left ≡ Some c = leaves.2 ∙ ap (λ (o : CommandOutcome). effects (steps_of o.acts) (Some c)) is in
+      subst (λ (a : Status). Makes command input (Answered a printed) begun (Some c) left before) told
       (before, inr (inr (refl, refl)), subst (λ (o : Option Cartridge). IsSound begun o before) (sym same) sound)
-  answered_makes answer left (inr (inl (free, (segment, first, is)))) leaves whole_left =
+  answered_makes answer printed left (inr (inl (free, (segment, first, is)))) leaves whole_left =
       let told : outcome.status ≡ status.DefectInFront segment = ap (λ (o : CommandOutcome). o.status) is in
-      subst (λ (a : Status). Makes command input (Answered a) begun (Some c) left before) (sym told ∙ leaves.0)
-      (cleared_makes segment left whole_left
-      (subst (λ (o : Option Cartridge). IsSomeAnd o IsBare) (sym leaves.1) (cleared_is_bare label date segment c outcome whole plain told)))
-  answered_makes answer left (inr (inr (free, none, (ws, (area, fresh, is))))) leaves whole_left =
+      subst (λ (a : Status). Makes command input (Answered a printed) begun (Some c) left before) (sym told ∙ leaves.0)
+      (cleared_makes printed segment left whole_left
+      (subst (λ (o : Option Cartridge). IsSomeAnd o IsBare) (sym leaves.2) (cleared_is_bare label date segment c outcome whole plain told)))
+  answered_makes answer printed left (inr (inr (free, none, (ws, (area, fresh, is))))) leaves whole_left =
       let told : outcome.status ≡ status.Done = ap (λ (o : CommandOutcome). o.status) is in
-      subst (λ (a : Status). Makes command input (Answered a) begun (Some c) left before) (sym told ∙ leaves.0)
-      (fresh_makes left whole_left
-      (subst (λ (o : Option Cartridge). IsSomeAnd o (StandsFresh c label date)) (sym leaves.1) (formatted_fresh label date c outcome whole plain told)))
+      subst (λ (a : Status). Makes command input (Answered a printed) begun (Some c) left before) (sym told ∙ leaves.0)
+      (fresh_makes printed left whole_left
+      (subst (λ (o : Option Cartridge). IsSomeAnd o (StandsFresh c label date)) (sym leaves.2) (formatted_fresh label date c outcome whole plain told)))
 
   -- stopped before its first step, or behind it
   no_new : HasNoRenew (steps_of outcome.acts)
@@ -134,31 +150,31 @@ module _ (label : List ℕ) (date : ℕ) (c : Cartridge) (input : List ℕ) (beg
       ((segment_formats (28 * c.info.segments_per_track) ++ copy_writes 0 (with_parity area) ++ copy_writes 1 (with_parity area)) ++ []) c left
       (subst (λ (o : CommandOutcome). HasNoRenew (steps_of o.acts)) is no_new) (subst (λ (o : CommandOutcome). Torn (steps_of o.acts) (Some c) left) is torn)
 
-  abbrev Stops : Option Cartridge → Type 0
-  Stops left = Makes command input Stopped begun (Some c) left before
+  abbrev Stops : Option (List ℕ) → Option Cartridge → Type 0
+  Stops printed left = Makes command input (Stopped printed) begun (Some c) left before
 
-  stopped_as_it_was : (left : Option Cartridge) → left ≡ Some c → Stops left
-  stopped_as_it_was left same = (before, inl refl, subst (λ (o : Option Cartridge). IsSound true o before) (sym same) (sound_begun begun (Some c) before sound))
+  stopped_as_it_was : (printed : Option (List ℕ)) (left : Option Cartridge) → left ≡ Some c → Stops printed left
+  stopped_as_it_was printed left same = (before, inl refl, subst (λ (o : Option Cartridge). IsSound true o before) (sym same) (sound_begun begun (Some c) before sound))
 
-  stopped_without : (d : Cartridge) → IsCartridge d → IsReferenced d → IsUnformatted d → Stops (Some d)
-  stopped_without d whole_left referenced none =
+  stopped_without : (printed : Option (List ℕ)) (d : Cartridge) → IsCartridge d → IsReferenced d → IsUnformatted d → Stops printed (Some d)
+  stopped_without printed d whole_left referenced none =
       let neither : NeitherReads d = neither_from_unformatted d none referenced in
       (None, inr (inl refl), record { whole = whole_left; first = neither.0; second = neither.1; bare = λ is. absurd (cc) })
 
-  stopped_empty : (d : Cartridge) → IsCartridge d → StandsEmpty c label date d → Stops (Some d)
-  stopped_empty d whole_left empty = (
+  stopped_empty : (printed : Option (List ℕ)) (d : Cartridge) → IsCartridge d → StandsEmpty c label date d → Stops printed (Some d)
+  stopped_empty printed d whole_left empty = (
     Some (fresh_plain c label date empty.words empty.area),
     inr (inr (record { words = empty.words; area = empty.area; fresh = empty.fresh; is = refl })),
     record { whole = whole_left; stands = empty.stands; live = empty.live; clean = λ is. absurd (cc) },
   )
 
 -- a stop over a cartridge with a list, whose header copies are clean
-standing_stops : (label : List ℕ) (date : ℕ) (c : Cartridge) (input : List ℕ) (plain : Plain) (left : Option Cartridge) (ready : IsReady false c plain) (outcome : CommandOutcome) →
+standing_stops : (printed : Option (List ℕ)) (label : List ℕ) (date : ℕ) (c : Cartridge) (input : List ℕ) (plain : Plain) (left : Option Cartridge) (ready : IsReady false c plain) (outcome : CommandOutcome) →
     FormatOutcome label date (Some c) outcome → Torn (steps_of outcome.acts) (Some c) left → IfSome left IsCartridge →
-    Makes (words.Format label date) input Stopped false (Some c) left (Some plain)
-standing_stops label date c input plain left ready outcome yields torn whole_left =
+    Makes (words.Format label date) input (Stopped printed) false (Some c) left (Some plain)
+standing_stops printed label date c input plain left ready outcome yields torn whole_left =
     elim (has_begun label date c input false (Some plain) ready.whole ready outcome yields left torn yields) [
-      | inl same ↦ stopped_as_it_was label date c input false (Some plain) ready.whole ready outcome yields left same
+      | inl same ↦ stopped_as_it_was label date c input false (Some plain) ready.whole ready outcome yields printed left same
       | inr referenced ↦ by_left left whole_left referenced live
           (format_standing label date c plain left ready.whole
           (record { stands = ready.stands; first = (ready.clean refl).first; second = (ready.clean refl).second })
@@ -169,38 +185,38 @@ standing_stops label date c input plain left ready outcome yields torn whole_lef
     live = steps_keep_live (steps_of outcome.acts) c left (only_new_renews (words.Format label date) (Some c) input outcome tt yields) ready.live torn
 
     by_left : (l : Option Cartridge) → IfSome l IsCartridge → IsSomeAnd l IsReferenced → IsSomeAnd l IsTableLive →
-        IsSomeAnd l (λ d. StandsCleanly d plain ⊎ IsUnformatted d ⊎ StandsEmpty c label date d) → Makes (words.Format label date) input Stopped false (Some c) l (Some plain)
+        IsSomeAnd l (λ d. StandsCleanly d plain ⊎ IsUnformatted d ⊎ StandsEmpty c label date d) → Makes (words.Format label date) input (Stopped printed) false (Some c) l (Some plain)
     by_left None whole referenced live is = absurd is
     by_left (Some d) whole referenced live (inl stands) =
         (Some plain, inl refl, record { whole = whole; stands = stands.stands; live = live; clean = λ is. absurd (cc) })
-    by_left (Some d) whole referenced live (inr (inl none)) = stopped_without label date c input false (Some plain) ready.whole ready outcome yields d whole referenced none
-    by_left (Some d) whole referenced live (inr (inr empty)) = stopped_empty label date c input false (Some plain) ready.whole ready outcome yields d whole empty
+    by_left (Some d) whole referenced live (inr (inl none)) = stopped_without label date c input false (Some plain) ready.whole ready outcome yields printed d whole referenced none
+    by_left (Some d) whole referenced live (inr (inr empty)) = stopped_empty label date c input false (Some plain) ready.whole ready outcome yields printed d whole empty
 
 -- .. and over one with bare header copies
-without_stops : (label : List ℕ) (date : ℕ) (c : Cartridge) (input : List ℕ) (left : Option Cartridge) (without : IsWithout false c) (outcome : CommandOutcome) →
+without_stops : (printed : Option (List ℕ)) (label : List ℕ) (date : ℕ) (c : Cartridge) (input : List ℕ) (left : Option Cartridge) (without : IsWithout false c) (outcome : CommandOutcome) →
     FormatOutcome label date (Some c) outcome → Torn (steps_of outcome.acts) (Some c) left → IfSome left IsCartridge →
-    Makes (words.Format label date) input Stopped false (Some c) left None
-without_stops label date c input left without outcome yields torn whole_left =
+    Makes (words.Format label date) input (Stopped printed) false (Some c) left None
+without_stops printed label date c input left without outcome yields torn whole_left =
     elim (has_begun label date c input false None without.whole without outcome yields left torn yields) [
-      | inl same ↦ stopped_as_it_was label date c input false None without.whole without outcome yields left same
+      | inl same ↦ stopped_as_it_was label date c input false None without.whole without outcome yields printed left same
       | inr referenced ↦ by_left left whole_left referenced
           (format_bare label date c left without.whole (without.bare refl) (inr (without.first, without.second))
           (format_leaves label date (Some c) left outcome yields torn))
     ]
   where
     by_left : (l : Option Cartridge) → IfSome l IsCartridge → IsSomeAnd l IsReferenced → IsSomeAnd l (λ d. IsUnformatted d ⊎ StandsEmpty c label date d) →
-        Makes (words.Format label date) input Stopped false (Some c) l None
+        Makes (words.Format label date) input (Stopped printed) false (Some c) l None
     by_left None whole referenced is = absurd is
-    by_left (Some d) whole referenced (inl none) = stopped_without label date c input false None without.whole without outcome yields d whole referenced none
-    by_left (Some d) whole referenced (inr empty) = stopped_empty label date c input false None without.whole without outcome yields d whole empty
+    by_left (Some d) whole referenced (inl none) = stopped_without label date c input false None without.whole without outcome yields printed d whole referenced none
+    by_left (Some d) whole referenced (inr empty) = stopped_empty label date c input false None without.whole without outcome yields printed d whole empty
 
 pub format_makes : (label : List ℕ) (date : ℕ) (input : List ℕ) (ended : Ended) (begun : Bool) (c : Cartridge) (left : Option Cartridge) (before : Option Plain) (outcome : CommandOutcome) →
     IsSound begun (Some c) before → MayEnd (words.Format label date) ended begun → FormatOutcome label date (Some c) outcome → Leaves ended outcome (Some c) left → IfSome left IsCartridge →
     Makes (words.Format label date) input ended begun (Some c) left before
-format_makes label date input (Answered answer) begun c left None outcome sound may plain leaves whole =
-    answered_makes label date c input begun None sound.whole sound outcome plain answer left plain leaves whole
-format_makes label date input (Answered answer) begun c left (Some list) outcome sound may plain leaves whole =
-    answered_makes label date c input begun (Some list) sound.whole sound outcome plain answer left plain leaves whole
-format_makes label date input Stopped true c left before outcome sound may plain leaves whole = absurd (cc)
-format_makes label date input Stopped false c left None outcome sound may plain leaves whole = without_stops label date c input left sound outcome plain leaves whole
-format_makes label date input Stopped false c left (Some list) outcome sound may plain leaves whole = standing_stops label date c input list left sound outcome plain leaves whole
+format_makes label date input (Answered answer printed) begun c left None outcome sound may plain leaves whole =
+    answered_makes label date c input begun None sound.whole sound outcome plain answer printed left plain leaves whole
+format_makes label date input (Answered answer printed) begun c left (Some list) outcome sound may plain leaves whole =
+    answered_makes label date c input begun (Some list) sound.whole sound outcome plain answer printed left plain leaves whole
+format_makes label date input (Stopped printed) true c left before outcome sound may plain leaves whole = absurd (cc)
+format_makes label date input (Stopped printed) false c left None outcome sound may plain leaves whole = without_stops printed label date c input left sound outcome plain (torn_by (Stopped printed) outcome (Some c) left leaves) whole
+format_makes label date input (Stopped printed) false c left (Some list) outcome sound may plain leaves whole = standing_stops printed label date c input list left sound outcome plain (torn_by (Stopped printed) outcome (Some c) left leaves) whole

@@ -82,10 +82,12 @@ lost_sound segment sector begun (Some c) left before small is whole spares sound
 
 -- ---- a life
 
-event_makes : (event : Event) (begun : Bool) (held left : Option Cartridge) (before : Option Plain) → IsSound begun held before → Happens event begun held left →
+pub event_makes : (event : Event) (begun : Bool) (held left : Option Cartridge) (before : Option Plain) → IsSound begun held before → Happens event begun held left →
     (after : Option Plain) × EventBecomes event held before after × IsSound (begun_behind event begun) left after
 event_makes (Runs run) begun held left before sound ran =
-    command_makes run.command run.input run.ended begun held left before ran.outcome sound ran.values ran.bytes ran.plain ran.leaves ran.whole ran.spares ran.may_end
+    let did = ran.0 in
+    let within = ran.1 in
+    command_makes run.command run.input run.ended begun held left before did.outcome sound did.values within.bytes did.plain did.leaves within.whole within.spares within.may_end
 event_makes (Loses segment sector) begun held left before sound lost = (before, refl, lost_sound segment sector begun held left before lost.0 lost.1 lost.2 lost.3 sound)
 
 pub a_life : ALife

@@ -1,6 +1,7 @@
 -- What the other commands, answered or stopped, make of the volumes.
-use Rattle.std.proofs.Common.{◌≡◌, ◌≢◌, ◌⊎◌, ◌-◌, ◌+◌, ◌≤◌, ◌<◌, ◌==◌, ℕ, zero, suc, All, arith, inl, inr, List, [], ◌∷◌, ap, ◌∙◌, sym, subst, refl, Bool, Option, Some, None, IsSomeAnd, IfSome, true, false, length, take, cond}
+use Rattle.std.proofs.Common.{◌++◌, append-nil, ◌≡◌, ◌≢◌, ◌⊎◌, ◌-◌, ◌+◌, ◌≤◌, ◌<◌, ◌==◌, ℕ, zero, suc, All, arith, inl, inr, List, [], ◌∷◌, ap, ◌∙◌, sym, subst, refl, Bool, Option, Some, None, IsSomeAnd, IfSome, true, false, length, take, cond}
 use Rattle.std.proofs.lemmas.List.{take_all}
+use Rattle.std.specs.Prelude.{codes}
 use Rattle.cartridge_laws.proofs.ChangeLive.{steps_keep_live}
 use Rattle.cartridge_laws.proofs.FormatWriting.{some_and}
 use Rattle.cartridge_laws.specs.ChangeSteps.{HasNoRenew, IsNoRenew}
@@ -11,31 +12,33 @@ use Rattle.cartridge_spec.specs.Settling.{changed_by}
 use Rattle.cartridge_spec.specs.Volumes.{Plain, Stands, entries_of}
 use Rattle.command_laws.proofs.CommandAppends.{append_done, append_refused, append_stopped}
 use Rattle.command_laws.proofs.CommandEnds.{done_or_not}
-use Rattle.command_laws.proofs.CommandSeveral.{WasMounted, WasTurned, behind_front, make_done, make_stopped, mounted_or_turned, stopped_first}
+use Rattle.command_laws.proofs.CommandSeveral.{WasMounted, WasTurned, behind_front, make_done, make_printed, make_stopped, mounted_or_turned, script_answered, script_stopped}
 use Rattle.command_laws.proofs.CommandTable.{copies_stay_bare, copies_stay_clean, laws_of, only_new_renews}
 use Rattle.command_laws.proofs.LifeFormats.{Makes, torn_by}
 use Rattle.command_laws.proofs.LifeUnformatted.{NeitherReads, stays_neither}
-use Rattle.command_laws.proofs.MountedHeld.{mounted_held, settled_live}
-use Rattle.command_laws.proofs.ScriptAnswered.{done_script_stands, stopped_script_stands}
+use Rattle.command_laws.proofs.MountedHeld.{mounted_held}
+use Rattle.command_laws.proofs.ScriptAnswered.{done_script_stands}
 use Rattle.command_laws.proofs.ScriptSpeaking.{as_many}
-use Rattle.command_laws.specs.Life.{Ended, Answered, Stopped, CommandSpares, IsReady, IsSound, IsWithout, Leaves, WasHeard}
+use Rattle.command_laws.specs.ActStops.{IsLeftBy}
+use Rattle.command_laws.specs.Life.{Ended, Answered, Stopped, AnsweredAmong, CommandSpares, HasPrinted, IsReady, IsSound, IsWithout, Leaves, WasDone, WasHeard}
 use Rattle.command_laws.specs.MountedHeld.{IsHeld}
 use Rattle.command_spec.specs.Input.{Item}
 use Rattle.command_spec.specs.Listing.{IsHeard}
 use Rattle.command_spec.specs.Machine.{HasValues, Yields}
 use Rattle.command_spec.specs.MadeVolumes.{made_contents}
-use Rattle.command_spec.specs.Outcome.{CommandOutcome}
+use Rattle.command_spec.specs.Outcome.{CommandOutcome, output_of}
 use Rattle.command_spec.specs.Script.{Did, ScriptDoes, Scripting, ScriptOutcome}
 use Rattle.command_spec.specs.ScriptLists.{all_added}
 use Rattle.command_spec.specs.Volumes.{KeepsCopies, KeepsLive, KeepsVolumes}
 use Rattle.command_spec.specs.declared.line.Line.{Line}
 use Rattle.command_spec.specs.declared.status.Status.{Status}
 use Rattle.command_spec.specs.declared.words.Words.{Words}
-use Rattle.qic_base.specs.Acts.{steps_of}
+use Rattle.qic_base.specs.Acts.{Act, steps_of, text_of}
 use Rattle.qic_base.specs.Cartridge.{Cartridge, IsCartridge}
 use Rattle.qic_base.specs.Step.{Step, Renew, WriteSector, effect, effects}
 use Rattle.qic_base.specs.Stop.{Halfway, Torn}
 use Rattle.command_spec.specs.Script as scripts
+use Rattle.command_spec.specs.Several as several
 use Rattle.command_spec.specs.declared.line.Line.TheVariants as line
 use Rattle.command_spec.specs.declared.status.Status.TheVariants as status
 use Rattle.command_spec.specs.declared.words.Words.TheVariants as words
@@ -114,16 +117,6 @@ none_of_none (s ∷ ss) left none (inl same) = same
 none_of_none (s ∷ ss) left none (inr (inl half)) = half_of_none s left none.0 half
 none_of_none (s ∷ ss) left none (inr (inr torn)) = none_of_none ss left none.1 (subst (λ (o : Option Cartridge). Torn ss o left) (effect_of_none s none.0) torn)
 
-abbrev answer_of : Ended → Status
-answer_of (Answered answer) = answer
-answer_of Stopped = status.Usage
-
-same_answer : (one other : Status) → Answered one ≡ Answered other → one ≡ other
-same_answer one other same = ap answer_of same
-
-never_answered : (answer : Status) → Stopped ≡ Answered answer → ⊥
-never_answered answer same = cc
-
 -- ---- append
 
 module _ (name : List ℕ) (date : ℕ) (c : Cartridge) (input : List ℕ) (begun : Bool) (plain : Plain) (left : Option Cartridge) (outcome : CommandOutcome) (values : HasValues (words.Append name date)) (bytes : All (λ b. b < 256) input) (ready : IsReady begun c plain) (yields : Yields (words.Append name date) (Some c) input outcome) (whole : IfSome left IsCartridge) where
@@ -141,8 +134,8 @@ module _ (name : List ℕ) (date : ℕ) (c : Cartridge) (input : List ℕ) (begu
   either_list (Some d) (inr new) = inr new
 
   pub append_makes : (ended : Ended) → Leaves ended outcome (Some c) left → AppendMakes ended
-  append_makes (Answered answer) (is, all) =
-      let torn : Torn (steps_of outcome.acts) (Some c) left = torn_by (Answered answer) outcome (Some c) left (is, all) in
+  append_makes (Answered answer printed) (is, said, all) =
+      let torn : Torn (steps_of outcome.acts) (Some c) left = torn_by (Answered answer printed) outcome (Some c) left (is, said, all) in
       elim (done_or_not answer) [
         | inl done ↦ (
           Some (with_bytes plain name date input),
@@ -159,11 +152,16 @@ module _ (name : List ℕ) (date : ℕ) (c : Cartridge) (input : List ℕ) (begu
               (append_refused name date input c plain outcome ready.whole ready.stands yields (λ done. other (sym is ∙ done)))),
         )
       ]
-  append_makes Stopped torn =
+  append_makes (Stopped printed) leaves =
+      let torn : Torn (steps_of outcome.acts) (Some c) left = torn_by (Stopped printed) outcome (Some c) left leaves in
       elim (either_list left (append_stopped name date input c plain outcome left values.0 values.1 bytes ready.whole ready.stands ready.live yields torn)) [
         | inl old ↦ (Some plain, inl refl, append_sound plain refl torn old)
         | inr new ↦ (Some (with_bytes plain name date input), inr refl, append_sound (with_bytes plain name date input) refl torn new)
       ]
+
+-- all acts went
+all_went : (c : Cartridge) (acts : List Act) (left : Option Cartridge) → left ≡ effects (steps_of acts) (Some c) → IsLeftBy c acts (text_of acts) left
+all_went c acts left is = inl (record { front = acts; rest = []; parts = append-nil acts; torn = is; is_text = refl })
 
 -- ---- a generated run
 
@@ -171,34 +169,67 @@ module _ (seed count : ℕ) (c : Cartridge) (input : List ℕ) (begun : Bool) (p
   abbrev RunMakes : Ended → Type 0
   RunMakes ended = Makes (words.Make seed count) input ended begun (Some c) left (Some plain)
 
-  made_sound : (n : ℕ) → Torn (steps_of outcome.acts) (Some c) left → IsSomeAnd left (λ d. Stands d (with_all plain (made_contents seed 1 n))) → IsSound begun left (Some (with_all plain (made_contents seed 1 n)))
+  abbrev StandsMade : ℕ → Option Cartridge → Type 0
+  StandsMade n l = IsSomeAnd l (λ d. Stands d (with_all plain (made_contents seed 1 n)))
+
+  made_sound : (n : ℕ) → Torn (steps_of outcome.acts) (Some c) left → StandsMade n left → IsSound begun left (Some (with_all plain (made_contents seed 1 n)))
   made_sound n torn stands =
       ready_after (words.Make seed count) c input begun plain left outcome (with_all plain (made_contents seed 1 n)) (all_header plain (made_contents seed 1 n)) (λ segments is. cc) tt ready yields torn whole stands
 
-  some_made : (ended : Ended) → (ended ≢ Answered status.Done) → Torn (steps_of outcome.acts) (Some c) left → RunMakes ended
-  some_made ended other torn =
+  all_made : (ended : Ended) → Torn (steps_of outcome.acts) (Some c) left → StandsMade count left → RunMakes ended
+  all_made ended torn stands = (
+    Some (with_all plain (made_contents seed 1 count)),
+    record { made = count; within = omega arith; all = λ which. refl; is = refl },
+    made_sound count torn stands,
+  )
+
+  some_made : (ended : Ended) → (WasDone ended ⊎ HasPrinted ended → ⊥) → Torn (steps_of outcome.acts) (Some c) left → RunMakes ended
+  some_made ended never torn =
       let stopped = make_stopped seed count few c plain ready.whole ready.stands outcome left ready.live yields torn in (
         Some (with_all plain (made_contents seed 1 stopped.0)),
-        record { made = stopped.0; within = stopped.1; all = λ is. absurd (other is); is = refl },
+        record { made = stopped.0; within = stopped.1; all = λ which. absurd (never which); is = refl },
         made_sound stopped.0 torn stopped.2,
       )
 
+  said_made : (text : List ℕ) → text ≢ [] → IsLeftBy c outcome.acts text left → StandsMade count left
+  said_made text some so = make_printed seed count few c plain ready.whole ready.stands outcome text left ready.live yields some so
+
+  refused_makes : (answer : Status) (printed : List ℕ) → answer ≢ status.Done → Leaves (Answered answer printed) outcome (Some c) left → RunMakes (Answered answer printed)
+  refused_makes answer [] other leaves =
+      some_made (Answered answer []) (λ which. elim which [ inl done ↦ other done | inr some ↦ some refl ]) (torn_by (Answered answer []) outcome (Some c) left leaves)
+  refused_makes answer (x ∷ xs) other (is, said, all) =
+      all_made (Answered answer (x ∷ xs)) (torn_by (Answered answer (x ∷ xs)) outcome (Some c) left (is, said, all))
+      (said_made (text_of outcome.acts) (λ none. let no : x ∷ xs ≡ [] = sym said ∙ none in absurd (cc)) (all_went c outcome.acts left all))
+
   pub make_makes : (ended : Ended) → Leaves ended outcome (Some c) left → RunMakes ended
-  make_makes (Answered answer) (is, all) =
-      let torn : Torn (steps_of outcome.acts) (Some c) left = torn_by (Answered answer) outcome (Some c) left (is, all) in
+  make_makes (Answered answer printed) (is, said, all) =
       elim (done_or_not answer) [
-        | inl done ↦ (
-          Some (with_all plain (made_contents seed 1 count)),
-          record { made = count; within = omega arith; all = λ same. refl; is = refl },
-          made_sound count torn
-              (subst (λ (o : Option Cartridge). IsSomeAnd o (λ d. Stands d (with_all plain (made_contents seed 1 count)))) (sym all)
-              (make_done seed count few c plain ready.whole ready.stands outcome yields (is ∙ done))),
-        )
-        | inr other ↦ some_made (Answered answer) (λ same. other (same_answer answer status.Done same)) torn
+        | inl done ↦
+            all_made (Answered answer printed) (torn_by (Answered answer printed) outcome (Some c) left (is, said, all))
+            (subst (λ (o : Option Cartridge). StandsMade count o) (sym all)
+            (make_done seed count few c plain ready.whole ready.stands outcome yields (is ∙ done)))
+        | inr other ↦ refused_makes answer printed other (is, said, all)
       ]
-  make_makes Stopped torn = some_made Stopped (λ same. never_answered status.Done same) torn
+  make_makes (Stopped None) torn = some_made (Stopped None) (λ which. elim which [ inl done ↦ done | inr some ↦ some ]) torn
+  make_makes (Stopped (Some [])) so =
+      some_made (Stopped (Some [])) (λ which. elim which [ inl done ↦ absurd done | inr some ↦ some refl ]) (torn_by (Stopped (Some [])) outcome (Some c) left so)
+  make_makes (Stopped (Some (x ∷ xs))) so =
+      all_made (Stopped (Some (x ∷ xs))) (torn_by (Stopped (Some (x ∷ xs))) outcome (Some c) left so) (said_made (x ∷ xs) (λ none. cc) so)
 
 -- ---- a script
+
+-- of no acts nothing is printed
+none_said : (c : Cartridge) (acts : List Act) (text : List ℕ) (left : Option Cartridge) → acts ≡ [] → IsLeftBy c acts text left → text ≡ []
+none_said c acts text left none (inl at) = by_front at.front at.rest (at.parts ∙ none) at.is_text
+  where
+    by_front : (front rest : List Act) → front ++ rest ≡ [] → text ≡ text_of front → text ≡ []
+    by_front [] rest parts is = is
+    by_front (x ∷ xs) rest parts is = absurd (cc)
+none_said c acts text left none (inr at) = by_front at.front (at.parts ∙ none)
+  where
+    by_front : (front : List Act) → front ++ at.act ∷ at.rest ≡ [] → text ≡ []
+    by_front [] parts = absurd (cc)
+    by_front (x ∷ xs) parts = absurd (cc)
 
 module _ (c : Cartridge) (input : List ℕ) (begun : Bool) (plain : Plain) (left : Option Cartridge) (outcome : CommandOutcome) (bytes : All (λ b. b < 256) input) (ready : IsReady begun c plain) (spares : CommandSpares words.Script input c) (yields : ScriptOutcome (Some c) input outcome) (whole : IfSome left IsCartridge) where
   abbrev ScriptMakes : Ended → Type 0
@@ -209,26 +240,31 @@ module _ (c : Cartridge) (input : List ℕ) (begun : Bool) (plain : Plain) (left
 
   -- the cartridge was refused
   never_heard : (ended : Ended) → WasTurned outcome → Leaves ended outcome (Some c) left → ¬ (WasHeard ended)
-  never_heard (Answered answer) turned (is, all) (other, same, heard) =
-      turned.unheard (subst IsHeard (sym (same_answer answer other same) ∙ sym is ∙ ap (λ (o : CommandOutcome). o.status) turned.is) heard)
-  never_heard Stopped turned torn (other, same, heard) = never_answered other same
+  never_heard (Answered answer printed) turned (is, said, all) heard =
+      turned.unheard (subst IsHeard (sym is ∙ ap (λ (o : CommandOutcome). o.status) turned.is) heard)
+  never_heard (Stopped printed) turned leaves heard = heard
+
+  never_said : (ended : Ended) → WasTurned outcome → Leaves ended outcome (Some c) left → ¬ (HasPrinted ended)
+  never_said (Answered answer printed) turned (is, said, all) some = some (sym said ∙ ap output_of turned.is)
+  never_said (Stopped None) turned leaves some = some
+  never_said (Stopped (Some text)) turned leaves some = some (none_said c outcome.acts text left (ap (λ (o : CommandOutcome). o.acts) turned.is) leaves)
 
   turned_makes : (ended : Ended) → WasTurned outcome → Leaves ended outcome (Some c) left → ScriptMakes ended
   turned_makes ended turned leaves =
       let torn : Torn (steps_of outcome.acts) (Some c) left = torn_by ended outcome (Some c) left leaves in (
         Some plain,
-        inr (never_heard ended turned leaves, refl),
+        inr (never_heard ended turned leaves, never_said ended turned leaves, refl),
         script_sound plain refl torn
             (some_and (λ d. Stands d plain) c left ready.stands (subst (λ (o : CommandOutcome). Torn (steps_of o.acts) (Some c) left) turned.is torn)),
       )
 
   -- its lines were carried out
   some_lines : (ended : Ended) (came : scripts.ScriptRun) (does : ScriptDoes (settled plain.table_area c) plain.words (entries_of plain) input came) (n : ℕ) → n ≤ length does.items →
-      (WasHeard ended → n ≡ length does.items) → Torn (steps_of outcome.acts) (Some c) left →
+      AnsweredAmong ended does.items does.dids n → Torn (steps_of outcome.acts) (Some c) left →
       IsSomeAnd left (λ d. Stands d (with_all plain (all_added (entries_of plain) (take n does.items) (take n does.dids)))) → ScriptMakes ended
-  some_lines ended came does n within all torn stands = (
+  some_lines ended came does n within answered torn stands = (
     Some (with_all plain (all_added (entries_of plain) (take n does.items) (take n does.dids))),
-    inl (record { run = came; does = does; count = n; within = within; all = all; is = refl }),
+    inl (record { run = came; does = does; count = n; within = within; answered = answered; is = refl }),
     script_sound (with_all plain (all_added (entries_of plain) (take n does.items) (take n does.dids))) (all_header plain (all_added (entries_of plain) (take n does.items) (take n does.dids))) torn stands,
   )
 
@@ -238,28 +274,39 @@ module _ (c : Cartridge) (input : List ℕ) (begun : Bool) (plain : Plain) (left
       ap (λ (xs : List Item). with_all plain (all_added (entries_of plain) xs (take (length items) dids))) (take_all (length items) items (omega arith))
       ∙ ap (λ (ds : List Did). with_all plain (all_added (entries_of plain) items ds)) (take_all (length items) dids (omega arith))
 
+  -- the lines, as words of a script ask for them
+  abbrev as_scripted : (was : WasMounted (Scripting input) c plain outcome) → several.Scripted (Some input) (codes "script" ∷ []) c plain
+  as_scripted was = record {
+    spelled = inl (refl, tt);
+    input = input;
+    is_told = refl;
+    bytes = bytes;
+    stands = ready.stands;
+    outcome = was.did.came;
+    does = was.did.does;
+    spares = spares plain was.did.came ready.stands was.did.does;
+  }
+
   lines_make : (ended : Ended) → WasMounted (Scripting input) c plain outcome → Leaves ended outcome (Some c) left → ScriptMakes ended
-  lines_make (Answered answer) was (is, all) =
+  lines_make (Answered answer printed) was (is, said, all) =
       let came : scripts.ScriptRun = was.did.came in
       let does : ScriptDoes (settled plain.table_area c) plain.words (entries_of plain) input was.did.came = was.did.does in
       let held : IsHeld (settled plain.table_area c) plain = mounted_held c plain ready.whole ready.stands was.mounts in
-      some_lines (Answered answer) was.did.came was.did.does (length does.items) (omega arith) (λ heard. refl) (torn_by (Answered answer) outcome (Some c) left (is, all))
+      some_lines (Answered answer printed) was.did.came was.did.does (length does.items) (omega arith) (λ heard. refl)
+      (torn_by (Answered answer printed) outcome (Some c) left (is, said, all))
       (some_and (λ d. Stands d (with_all plain (all_added (entries_of plain) (take (length does.items) does.items) (take (length does.items) does.dids))))
       (changed_by (steps_of came.acts) (settled plain.table_area c)) left
       (subst (λ (p : Plain). Stands (changed_by (steps_of came.acts) (settled plain.table_area c)) p)
       (sym (all_lines does.items does.dids (as_many does.items does.dids (settled plain.table_area c) plain.words (entries_of plain) does.did)))
       (done_script_stands (settled plain.table_area c) plain input was.did.came held was.did.does bytes (spares plain was.did.came ready.stands was.did.does)))
       (all ∙ ap (λ (o : CommandOutcome). effects (steps_of o.acts) (Some c)) was.did.is ∙ behind_front c plain ready.whole ready.stands was.mounts came.acts))
-  lines_make Stopped was torn =
-      let held : IsHeld (settled plain.table_area c) plain = mounted_held c plain ready.whole ready.stands was.mounts in
-      elim (stopped_first c plain ready.whole ready.stands was.mounts was.did.came.acts left
-      (subst (λ (o : CommandOutcome). Torn (steps_of o.acts) (Some c) left) was.did.is torn)) [
-        | inl stands ↦ some_lines Stopped was.did.came was.did.does 0 (omega arith) (λ heard. absurd (never_answered heard.0 heard.1)) torn stands
-        | inr behind ↦
-            let some = stopped_script_stands (settled plain.table_area c) plain input was.did.came left held
-            (settled_live c plain.table_area was.mounts.reads ready.live) was.did.does bytes (spares plain was.did.came ready.stands was.did.does) behind in
-            some_lines Stopped was.did.came was.did.does some.0 some.1 (λ heard. absurd (never_answered heard.0 heard.1)) torn some.2
-      ]
+  lines_make (Stopped (Some text)) was so =
+      let answered = script_answered (Some input) (codes "script" ∷ []) c plain ready.whole (as_scripted was) input outcome text left ready.live refl yields so in
+      some_lines (Stopped (Some text)) was.did.came was.did.does answered.count answered.within (answered.answered, answered.most)
+      (torn_by (Stopped (Some text)) outcome (Some c) left so) answered.stands
+  lines_make (Stopped None) was torn =
+      let some = script_stopped (Some input) (codes "script" ∷ []) c plain ready.whole (as_scripted was) input outcome left ready.live refl yields torn in
+      some_lines (Stopped None) was.did.came was.did.does some.0 some.1 tt torn some.2
 
   pub script_makes : (ended : Ended) → Leaves ended outcome (Some c) left → ScriptMakes ended
   script_makes ended leaves =

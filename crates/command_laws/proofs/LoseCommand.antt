@@ -1,5 +1,5 @@
 -- The laws of the command `lose`.
-use Rattle.std.proofs.Common.{◌≡◌, ℕ, Some, refl}
+use Rattle.std.proofs.Common.{◌≡◌, ℕ, Some, refl, List, arith}
 use Rattle.cartridge_laws.proofs.ChangeMounted.{worn_mounts}
 use Rattle.cartridge_laws.proofs.ChangeStanding.{worn_stands}
 use Rattle.cartridge_laws.proofs.ChangeViews.{worn_reads_no_more}
@@ -13,17 +13,29 @@ use Rattle.command_laws.proofs.CommandPlainLaws.{lose_is_function, lose_leaves}
 use Rattle.command_laws.proofs.CommandSteps.{lose_none}
 use Rattle.command_laws.proofs.CommandTexts.{plain_texts}
 use Rattle.command_laws.proofs.CommandTotals.{lose_answers}
+use Rattle.command_laws.proofs.TextCommands.{only, three_words, spelled_length, IsNumber-value, guess}
 use Rattle.command_laws.specs.CommandRecord.{CommandLaws}
+use Rattle.command_spec.specs.CommandWords.{HasForm}
 use Rattle.command_spec.specs.Lose.{LoseOutcome, lose_command}
 use Rattle.command_spec.specs.Outcome.{HasPlace}
 use Rattle.qic_base.specs.Step.{changed, Wear}
 use Rattle.command_spec.specs.declared.status.Status.TheVariants as status
+use Rattle.command_spec.specs.declared.words.Words.TheVariants as words
+
+-- its words are read as it
+pub lose_read : (segment sector : ℕ) (ws : List (List ℕ)) → HasForm ws (lose_command segment sector).forms → guess ws ≡ words.Lose segment sector
+unfolding guess
+lose_read segment sector ws h =
+    let s = three_words ws _ _ _ (only ws _ h) in rw (s.are, s.one, IsNumber-value s.second segment s.two.0, IsNumber-value s.third sector s.three.0) refl
 
 pub lose_laws : (segment sector : ℕ) → CommandLaws (lose_command segment sector)
 lose_laws segment sector = record {
   values = λ words spelled. tt;
+  few_words = λ ws h. let l = spelled_length ws _ (only ws _ h) in (omega arith, omega arith);
   answers = λ held input values whole. lose_answers segment sector held;
   one = λ held input a b one other. lose_is_function segment sector held a b one other;
+  none_held = λ is input outcome plain. plain;
+  locked = λ is c input outcome locked plain. absurd (cc);
   done = λ held input outcome whole values. where_some (λ c. HasPlace c segment sector) held (λ h. LoseOutcome segment sector h outcome → outcome.status ≡ status.Done) (λ c can does. lose_done segment sector c outcome can does);
   texts = plain_texts _ _ refl;
   blind = λ is. record {

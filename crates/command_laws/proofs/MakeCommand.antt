@@ -1,13 +1,14 @@
 -- The laws of the command `make`.
-use Rattle.std.proofs.Common.{[], ◌≡◌, ℕ, List, ◌∷◌, Some, IfSome, refl, inl, inr}
+use Rattle.std.proofs.Common.{[], ◌≡◌, ℕ, List, ◌∷◌, Some, IfSome, refl, inl, inr, arith}
 use Rattle.cartridge_laws.proofs.FormatWriting.{some_and}
 use Rattle.cartridge_spec.specs.Mounting.{Mounted, Mounts}
 use Rattle.command_laws.proofs.CommandClean.{bare_writable, Clean, writable_leaves, making_leaves}
 use Rattle.command_laws.proofs.CommandComplete.{where_some, make_goes}
 use Rattle.command_laws.proofs.CommandKeeping.{same_stands}
-use Rattle.command_laws.proofs.CommandPlainLaws.{appending_leaves, writable_is_function, making_one}
+use Rattle.command_laws.proofs.CommandPlainLaws.{appending_leaves, writable_is_function, making_one, writable_locked}
 use Rattle.command_laws.proofs.CommandSteps.{writable_none, making_none}
 use Rattle.command_laws.proofs.CommandTotals.{writable_answers, making_answers}
+use Rattle.command_laws.proofs.TextCommands.{only, three_words, spelled_length, IsNumber-value, guess}
 use Rattle.command_laws.specs.CommandRecord.{CommandLaws}
 use Rattle.command_spec.specs.CommandWords.{HasForm}
 use Rattle.command_spec.specs.Complete.{IsUnprotected}
@@ -15,6 +16,7 @@ use Rattle.command_spec.specs.Make.{Making, MakeOutcome}
 use Rattle.command_spec.specs.MakeCommand.{CanMake, make_command}
 use Rattle.qic_base.specs.Cartridge.{IsCartridge}
 use Rattle.command_spec.specs.declared.status.Status.TheVariants as status
+use Rattle.command_spec.specs.declared.words.Words.TheVariants as words
 
 values_are : (words : List (List ℕ)) (seed count : ℕ) → HasForm words (make_command seed count).forms → (make_command seed count).values
 values_are [] seed count (inl spelled) = absurd spelled
@@ -26,11 +28,20 @@ values_are (word ∷ number ∷ []) seed count (inr spelled) = absurd spelled
 values_are (word ∷ number ∷ volumes ∷ rest) seed count (inl spelled) = spelled.1.1.0.2
 values_are (word ∷ number ∷ volumes ∷ rest) seed count (inr spelled) = absurd spelled
 
+-- its words are read as it
+pub make_read : (seed count : ℕ) (ws : List (List ℕ)) → HasForm ws (make_command seed count).forms → guess ws ≡ words.Make seed count
+unfolding guess
+make_read seed count ws h =
+    let s = three_words ws _ _ _ (only ws _ h) in rw (s.are, s.one, IsNumber-value s.second seed s.two.0, IsNumber-value s.third count s.three.0) refl
+
 pub make_laws : (seed count : ℕ) → CommandLaws (make_command seed count)
 make_laws seed count = record {
   values = λ words spelled. values_are words seed count spelled;
+  few_words = λ ws h. let l = spelled_length ws _ (only ws _ h) in (omega arith, omega arith);
   answers = λ held input values whole. writable_answers (Making seed count) (making_answers seed count values) held whole;
   one = λ held input a b one other. writable_is_function (Making seed count) (making_one seed count) held a b one other;
+  none_held = λ is input outcome plain. plain;
+  locked = λ is c input outcome locked plain. writable_locked (Making seed count) c outcome locked plain;
   done = λ held input outcome whole values needs.
       where_some (λ c. IsUnprotected c × CanMake c seed count) held (λ h. IfSome h IsCartridge → MakeOutcome seed count h outcome → outcome.status ≡ status.Done)
       (λ c can known does. make_goes seed count c outcome values known can.0 can.1 does) needs whole;

@@ -1,10 +1,12 @@
 -- The laws of the command `new`.
-use Rattle.std.proofs.Common.{[], ◌∙◌, ℕ, List, ◌∷◌, ap, refl, sym, inl, inr}
+use Rattle.std.proofs.Common.{[], ◌∙◌, ℕ, List, ◌∷◌, ap, refl, sym, inl, inr, ◌≡◌, arith}
 use Rattle.command_laws.proofs.CommandComplete.{status_of}
 use Rattle.command_laws.proofs.CommandTexts.{plain_texts}
+use Rattle.command_laws.proofs.TextCommands.{only, two_words, spelled_length, IsNumber-value, guess}
 use Rattle.command_laws.specs.CommandRecord.{CommandLaws}
 use Rattle.command_spec.specs.CommandWords.{HasForm}
 use Rattle.command_spec.specs.New.{new_command}
+use Rattle.command_spec.specs.declared.words.Words.TheVariants as words
 
 values_are : (words : List (List ℕ)) (segments : ℕ) → HasForm words (new_command segments).forms → (new_command segments).values
 values_are [] segments (inl spelled) = absurd spelled
@@ -14,11 +16,19 @@ values_are (word ∷ []) segments (inr spelled) = absurd spelled
 values_are (word ∷ number ∷ rest) segments (inl spelled) = record { shortest = spelled.1.0.1; longest = spelled.1.0.2 }
 values_are (word ∷ number ∷ rest) segments (inr spelled) = absurd spelled
 
+-- its words are read as it
+pub new_read : (segments : ℕ) (ws : List (List ℕ)) → HasForm ws (new_command segments).forms → guess ws ≡ words.New segments
+unfolding guess
+new_read segments ws h = let s = two_words ws _ _ (only ws _ h) in rw (s.are, s.one) (ap words.New (IsNumber-value s.second segments s.two.0))
+
 pub new_laws : (segments : ℕ) → CommandLaws (new_command segments)
 new_laws segments = record {
   values = λ words spelled. values_are words segments spelled;
+  few_words = λ ws h. let l = spelled_length ws _ (only ws _ h) in (omega arith, omega arith);
   answers = λ held input values whole. (_, refl);
   one = λ held input a b one other. one ∙ sym other;
+  none_held = λ is input outcome plain. absurd (cc);
+  locked = λ is c input outcome locked plain. absurd (cc);
   done = λ held input outcome whole values needs does. ap status_of does;
   texts = plain_texts _ _ refl;
   blind = λ is. record {

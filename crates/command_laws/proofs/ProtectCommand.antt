@@ -1,5 +1,5 @@
 -- The laws of the command `protect`.
-use Rattle.std.proofs.Common.{◌≡◌, Bool, Some, ap, refl}
+use Rattle.std.proofs.Common.{◌≡◌, Bool, Some, ap, refl, ◌≤◌, ℕ, length, List, true, false, arith}
 use Rattle.cartridge_laws.proofs.ChangeStanding.{marks_read_no_more}
 use Rattle.cartridge_spec.specs.Formatting.{HasNoHeader}
 use Rattle.command_laws.proofs.CommandClean.{bare_from_less, clean_from_less, Clean, protect_leaving}
@@ -9,16 +9,32 @@ use Rattle.command_laws.proofs.CommandPlainLaws.{protect_is_function, protect_le
 use Rattle.command_laws.proofs.CommandSteps.{protect_none}
 use Rattle.command_laws.proofs.CommandTexts.{plain_texts}
 use Rattle.command_laws.proofs.CommandTotals.{protect_answers}
+use Rattle.command_laws.proofs.TextCommands.{only, two_words, spelled_length, guess}
 use Rattle.command_laws.specs.CommandRecord.{CommandLaws}
+use Rattle.command_spec.specs.CommandWords.{HasForm}
 use Rattle.command_spec.specs.Protect.{ProtectOutcome, protect_command}
 use Rattle.qic_base.specs.Step.{changed, SetProtected}
 use Rattle.command_spec.specs.declared.status.Status.TheVariants as status
+use Rattle.command_spec.specs.declared.words.Words.TheVariants as words
+
+-- its words are read as it
+pub protect_read : (on : Bool) (ws : List (List ℕ)) → HasForm ws (protect_command on).forms → guess ws ≡ words.Protect on
+unfolding guess
+protect_read true ws h = let s = two_words ws _ _ (only ws _ h) in rw (s.are, s.one, s.two) refl
+protect_read false ws h = let s = two_words ws _ _ (only ws _ h) in rw (s.are, s.one, s.two) refl
+
+are_few : (on : Bool) (ws : List (List ℕ)) → HasForm ws (protect_command on).forms → (1 ≤ length ws) × (length ws ≤ 3)
+are_few true ws h = let l = spelled_length ws _ (only ws _ h) in (omega arith, omega arith)
+are_few false ws h = let l = spelled_length ws _ (only ws _ h) in (omega arith, omega arith)
 
 pub protect_laws : (on : Bool) → CommandLaws (protect_command on)
 protect_laws on = record {
   values = λ words spelled. tt;
+  few_words = λ ws h. are_few on ws h;
   answers = λ held input values whole. protect_answers on held;
   one = λ held input a b one other. protect_is_function on held a b one other;
+  none_held = λ is input outcome plain. plain;
+  locked = λ is c input outcome locked plain. absurd (cc);
   done = λ held input outcome whole values. where_some (λ c. Unit {0}) held (λ h. ProtectOutcome on h outcome → outcome.status ≡ status.Done) (λ c can does. ap status_of does);
   texts = plain_texts _ _ refl;
   blind = λ is. record {

@@ -1,5 +1,5 @@
 -- The laws of the command `pulses`.
-use Rattle.std.proofs.Common.{[], Some, None, refl, sym, subst, append-nil}
+use Rattle.std.proofs.Common.{[], Some, None, refl, sym, subst, append-nil, ◌≡◌, ℕ, List, arith}
 use Rattle.cartridge_laws.proofs.ChangeStanding.{marks_read_no_more}
 use Rattle.cartridge_spec.specs.Formatting.{HasNoHeader}
 use Rattle.command_laws.proofs.CommandClean.{bare_from_less, clean_from_less, Clean, sent_leaving}
@@ -9,16 +9,27 @@ use Rattle.command_laws.proofs.CommandPlainLaws.{sent_leaves, sent_is_function}
 use Rattle.command_laws.proofs.CommandSteps.{sent_none}
 use Rattle.command_laws.proofs.CommandTexts.{fronted}
 use Rattle.command_laws.proofs.CommandTotals.{sent_answers}
+use Rattle.command_laws.proofs.TextCommands.{only, one_word, spelled_length, guess}
 use Rattle.command_laws.specs.CommandRecord.{CommandLaws}
+use Rattle.command_spec.specs.CommandWords.{HasForm}
 use Rattle.command_spec.specs.Pulses.{AreLevels}
 use Rattle.command_spec.specs.PulsesCommand.{pulses_command}
 use Rattle.qic_base.specs.Step.{changed, SetReferenced}
+use Rattle.command_spec.specs.declared.words.Words.TheVariants as words
+
+-- its words are read as it
+pub pulses_read : (ws : List (List ℕ)) → HasForm ws pulses_command.forms → guess ws ≡ words.Pulses
+unfolding guess
+pulses_read ws h = let s = one_word ws _ (only ws _ h) in rw (s.are, s.one) refl
 
 pub pulses_laws : CommandLaws pulses_command
 pulses_laws = record {
   values = λ words spelled. tt;
+  few_words = λ ws h. let l = spelled_length ws _ (only ws _ h) in (omega arith, omega arith);
   answers = λ held input values whole. sent_answers held input;
   one = λ held input a b one other. sent_is_function held input a b one other;
+  none_held = λ is input outcome plain. absurd (cc);
+  locked = λ is c input outcome locked plain. absurd (cc);
   done = λ held input outcome whole values needs does. pulses_go held input outcome needs does;
   texts =
       fronted AreLevels (λ answer text. AreLevels text) _ (None, ([], refl)) (λ answer. (None, ([], refl)))

@@ -1,5 +1,5 @@
 -- The laws of the command `restore`.
-use Rattle.std.proofs.Common.{[], ◌≡◌, ℕ, Some, refl}
+use Rattle.std.proofs.Common.{[], ◌≡◌, ℕ, Some, refl, List, ap, arith}
 use Rattle.cartridge_spec.specs.Mounting.{Mounted}
 use Rattle.cartridge_spec.specs.Says.{Mismatch}
 use Rattle.command_laws.proofs.CommandClean.{bare_open, Clean, open_leaves, gives_leave}
@@ -9,22 +9,33 @@ use Rattle.command_laws.proofs.CommandPlainLaws.{restoring_leaves, open_is_funct
 use Rattle.command_laws.proofs.CommandSteps.{open_none, gives_none}
 use Rattle.command_laws.proofs.CommandTexts.{fronted}
 use Rattle.command_laws.proofs.CommandTotals.{open_answers, gives_answers}
+use Rattle.command_laws.proofs.TextCommands.{only, two_words, spelled_length, IsNumber-value, guess}
 use Rattle.command_laws.specs.CommandRecord.{CommandLaws}
+use Rattle.command_spec.specs.CommandWords.{HasForm}
 use Rattle.command_spec.specs.Restore.{Gives, RestoreOutcome}
 use Rattle.command_spec.specs.RestoreCommand.{CanGive, restore_command, restore_refused}
 use Rattle.command_spec.specs.declared.status.Status.{Status}
 use Rattle.command_spec.specs.declared.status.Status.TheVariants as status
+use Rattle.command_spec.specs.declared.words.Words.TheVariants as words
 
 may_print_nothing : (answer : Status) → restore_refused answer []
 may_print_nothing (status.Lost segment lost) = tt
 may_print_nothing (status.Mismatch segment) = tt
 may_print_nothing answer = refl
 
+-- its words are read as it
+pub restore_read : (number : ℕ) (ws : List (List ℕ)) → HasForm ws (restore_command number).forms → guess ws ≡ words.Restore number
+unfolding guess
+restore_read number ws h = let s = two_words ws _ _ (only ws _ h) in rw (s.are, s.one) (ap words.Restore (IsNumber-value s.second number s.two.0))
+
 pub restore_laws : (number : ℕ) → CommandLaws (restore_command number)
 restore_laws number = record {
   values = λ words spelled. tt;
+  few_words = λ ws h. let l = spelled_length ws _ (only ws _ h) in (omega arith, omega arith);
   answers = λ held input values whole. open_answers (Gives number) (gives_answers number) held whole;
   one = λ held input a b one other. open_is_function (Gives number) (gives_one number) held a b one other;
+  none_held = λ is input outcome plain. plain;
+  locked = λ is c input outcome locked plain. absurd (cc);
   done = λ held input outcome whole values. where_some (λ c. CanGive c number) held (λ h. RestoreOutcome number h outcome → outcome.status ≡ status.Done) (λ c can does. restore_goes number c outcome can does);
   texts = fronted _ restore_refused [] tt may_print_nothing (λ answer front prints. ([], tt));
   blind = λ is. record {

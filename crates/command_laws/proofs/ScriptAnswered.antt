@@ -24,7 +24,7 @@ use Rattle.qic_base.specs.Stop.{Torn}
 
 -- ---- stops among acts
 
-next_torn : (acts : List Act) (held left : Option Cartridge) → Torn (next_steps acts) held left → Torn (steps_of acts) held left
+pub next_torn : (acts : List Act) (held left : Option Cartridge) → Torn (next_steps acts) held left → Torn (steps_of acts) held left
 next_torn [] held left torn = torn
 next_torn (act ∷ acts) held left torn = Torn-front act.steps (steps_of acts) held left torn
 

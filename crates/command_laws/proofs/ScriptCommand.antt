@@ -1,28 +1,39 @@
 -- The laws of the command `script`.
-use Rattle.std.proofs.Common.{[], ◌≡◌, refl}
+use Rattle.std.proofs.Common.{[], ◌≡◌, refl, ℕ, List, arith}
 use Rattle.command_laws.proofs.CommandClean.{bare_open, Clean, open_leaves, scripting_leaves}
 use Rattle.command_laws.proofs.CommandComplete.{where_some, script_goes}
 use Rattle.command_laws.proofs.CommandPlainLaws.{open_is_function, scripting_one}
 use Rattle.command_laws.proofs.CommandSteps.{open_none, scripting_none}
 use Rattle.command_laws.proofs.CommandTexts.{fronted}
 use Rattle.command_laws.proofs.CommandTotals.{open_answers, scripting_answers}
+use Rattle.command_laws.proofs.TextCommands.{only, one_word, spelled_length, guess}
 use Rattle.command_laws.specs.CommandRecord.{CommandLaws}
+use Rattle.command_spec.specs.CommandWords.{HasForm}
 use Rattle.command_spec.specs.Complete.{CanBeMounted}
 use Rattle.command_spec.specs.Script.{Scripting, ScriptOutcome, end_line}
 use Rattle.command_spec.specs.ScriptCommand.{script_command, script_refused}
 use Rattle.command_spec.specs.declared.status.Status.{Status}
 use Rattle.command_spec.specs.declared.status.Status.TheVariants as status
+use Rattle.command_spec.specs.declared.words.Words.TheVariants as words
 
 may_print_nothing : (answer : Status) → script_refused answer []
 may_print_nothing (status.ScriptFault line place) = tt
 may_print_nothing status.TableMismatch = tt
 may_print_nothing answer = refl
 
+-- its words are read as it
+pub script_read : (ws : List (List ℕ)) → HasForm ws script_command.forms → guess ws ≡ words.Script
+unfolding guess
+script_read ws h = let s = one_word ws _ (only ws _ h) in rw (s.are, s.one) refl
+
 pub script_laws : CommandLaws script_command
 script_laws = record {
   values = λ words spelled. tt;
+  few_words = λ ws h. let l = spelled_length ws _ (only ws _ h) in (omega arith, omega arith);
   answers = λ held input values whole. open_answers (Scripting input) (scripting_answers input) held whole;
   one = λ held input a b one other. open_is_function (Scripting input) (scripting_one input) held a b one other;
+  none_held = λ is input outcome plain. plain;
+  locked = λ is c input outcome locked plain. absurd (cc);
   done = λ held input outcome whole values needs.
       where_some CanBeMounted held (λ h. ScriptOutcome h input outcome → outcome.status ≡ status.Done)
       (λ c can does. script_goes input c can.0 outcome can.1 needs.1 does) needs.0;

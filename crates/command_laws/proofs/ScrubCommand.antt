@@ -1,25 +1,36 @@
 -- The laws of the command `scrub`.
-use Rattle.std.proofs.Common.{[], ◌≡◌, ◌∷◌, Some, refl}
+use Rattle.std.proofs.Common.{[], ◌≡◌, ◌∷◌, Some, refl, ℕ, List, arith}
 use Rattle.cartridge_spec.specs.Mounting.{Mounted}
 use Rattle.cartridge_spec.specs.Says.{Mismatch}
 use Rattle.command_laws.proofs.CommandClean.{bare_writable, Clean, writable_leaves, mends_leave}
 use Rattle.command_laws.proofs.CommandComplete.{where_some, scrub_goes}
 use Rattle.command_laws.proofs.CommandKeeping.{scrub_stands, scrub_mounts}
-use Rattle.command_laws.proofs.CommandPlainLaws.{scrubbing_leaves, writable_is_function, mends_one}
+use Rattle.command_laws.proofs.CommandPlainLaws.{scrubbing_leaves, writable_is_function, mends_one, writable_locked}
 use Rattle.command_laws.proofs.CommandSteps.{writable_none, mends_none}
 use Rattle.command_laws.proofs.CommandTexts.{plain_texts}
 use Rattle.command_laws.proofs.CommandTotals.{writable_answers, mends_answers}
+use Rattle.command_laws.proofs.TextCommands.{only, one_word, spelled_length, guess}
 use Rattle.command_laws.specs.CommandRecord.{CommandLaws}
+use Rattle.command_spec.specs.CommandWords.{HasForm}
 use Rattle.command_spec.specs.Complete.{IsUnprotected, CanBeMounted}
 use Rattle.command_spec.specs.Scrub.{Mends, ScrubOutcome}
 use Rattle.command_spec.specs.ScrubCommand.{scrub_command}
 use Rattle.command_spec.specs.declared.status.Status.TheVariants as status
+use Rattle.command_spec.specs.declared.words.Words.TheVariants as words
+
+-- its words are read as it
+pub scrub_read : (ws : List (List ℕ)) → HasForm ws scrub_command.forms → guess ws ≡ words.Scrub
+unfolding guess
+scrub_read ws h = let s = one_word ws _ (only ws _ h) in rw (s.are, s.one) refl
 
 pub scrub_laws : CommandLaws scrub_command
 scrub_laws = record {
   values = λ words spelled. tt;
+  few_words = λ ws h. let l = spelled_length ws _ (only ws _ h) in (omega arith, omega arith);
   answers = λ held input values whole. writable_answers Mends mends_answers held whole;
   one = λ held input a b one other. writable_is_function Mends mends_one held a b one other;
+  none_held = λ is input outcome plain. plain;
+  locked = λ is c input outcome locked plain. writable_locked Mends c outcome locked plain;
   done = λ held input outcome whole values. where_some (λ c. IsUnprotected c × CanBeMounted c) held (λ h. ScrubOutcome h outcome → outcome.status ≡ status.Done) (λ c can does. scrub_goes c can.1.0 outcome can.0 can.1.1 does);
   -- a scrub of no volume that reads nothing
   texts = plain_texts _ _ (

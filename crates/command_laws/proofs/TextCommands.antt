@@ -1,13 +1,11 @@
 -- The forms of commands.
-use Rattle.std.proofs.Common.{inl, inr, ℕ, List, [], ◌∷◌, ◌≡◌, ◌⊎◌, zero, suc, ◌+◌, ◌==◌, false, ◌++◌, refl, arith, ◌-◌, ap, ◌∙◌, ◌*◌, get_or, ◌/◌, ◌%◌, sym, codes, if◌then◌else◌, true, subst}
+use Rattle.std.proofs.Common.{length, ◌≤◌, inl, inr, ℕ, List, [], ◌∷◌, ◌≡◌, ◌⊎◌, zero, suc, ◌+◌, ◌==◌, false, ◌++◌, refl, arith, ◌-◌, ap, ◌∙◌, ◌*◌, get_or, ◌/◌, ◌%◌, sym, codes, if◌then◌else◌}
 use Rattle.std.proofs.lemmas.Bool.Decides.{nat_tests}
 use Rattle.std.specs.Str.Parse.{digits_value}
 use Rattle.std.proofs.lemmas.Fmt.{decimal_is_IsNumeral}
 use Rattle.std.specs.Str.{bytes_eq}
 use Rattle.command_laws.proofs.TextDates.{HasPair, fields_of}
-use Rattle.command_laws.specs.TextWords.{OneCommand, IsNoCommand}
-use Rattle.command_spec.specs.CommandWords.{Part, SpellsAll, HasForm, Date, dated, SpellsPart, IsNumber, IsDateWord, Word, Name}
-use Rattle.command_spec.specs.Commands.{IsCommand}
+use Rattle.command_spec.specs.CommandWords.{Part, SpellsAll, HasForm, Date, dated, SpellsPart, IsNumber, IsDateWord}
 use Rattle.command_spec.specs.declared.words.Words.{Words}
 use Rattle.qic_base.specs.Date.{date_word}
 use Rattle.qic_base.specs.Name.{filled}
@@ -63,6 +61,20 @@ three_words (a ∷ b ∷ []) p q r h = absurd h.1.1
 three_words (a ∷ b ∷ c ∷ []) p q r h = record { first = a; second = b; third = c; are = refl; one = h.0; two = h.1.0; three = h.1.1.0 }
 three_words (a ∷ b ∷ c ∷ d ∷ rest) p q r h = absurd h.1.1.1
 
+-- ---- how many words there are
+
+pub spelled_length : (ws : List (List ℕ)) (ps : List Part) → SpellsAll ws ps → length ws ≡ length ps
+spelled_length [] [] h = refl
+spelled_length [] (p ∷ ps) h = absurd h
+spelled_length (w ∷ ws) [] h = absurd h
+spelled_length (w ∷ ws) (p ∷ ps) h = ap suc (spelled_length ws ps h.1)
+
+pub dated_length : (ws : List (List ℕ)) (p q : Part) (date : ℕ) → HasForm ws (dated (p ∷ q ∷ []) date) → (2 ≤ length ws) × (length ws ≤ 3)
+dated_length ws p q date h = elim (dated_cases ws _ date h) [
+  | inl full ↦ let l = spelled_length ws _ full in (omega arith, omega arith)
+  | inr bare ↦ let l = spelled_length ws _ bare.0 in (omega arith, omega arith)
+]
+
 -- ---- the value of a word
 
 pub number_value : List ℕ → ℕ
@@ -94,7 +106,7 @@ IsDateWord-value word date d =
 
 -- ---- the only command that words can be
 
-pub guess : List (List ℕ) → Words
+unfoldable pub guess : List (List ℕ) → Words
 guess [] = words.Info
 guess (a ∷ []) =
     if bytes_eq a (codes "info") then words.Info else if bytes_eq a (codes "list") then words.List else if bytes_eq a (codes "scrub") then words.Scrub
@@ -108,54 +120,3 @@ guess (a ∷ b ∷ c ∷ []) =
     else if bytes_eq a (codes "format") then words.Format (filled b) (date_value c) else if bytes_eq a (codes "append") then words.Append (filled b) (date_value c)
     else words.Make (number_value b) (number_value c)
 guess (a ∷ b ∷ c ∷ d ∷ rest) = words.Info
-
-pub guess_is : (ws : List (List ℕ)) (command : Words) → IsCommand ws command → guess ws ≡ command
-unfolding guess
-guess_is ws (words.New n) h = let s = two_words ws _ _ (only ws _ h) in rw (s.are, s.one) (ap words.New (IsNumber-value s.second n s.two.0))
-guess_is ws (words.Defect segment sector) h =
-    let s = three_words ws _ _ _ (only ws _ h) in rw (s.are, s.one, IsNumber-value s.second segment s.two.0, IsNumber-value s.third sector s.three.0) refl
-guess_is ws (words.Lose segment sector) h =
-    let s = three_words ws _ _ _ (only ws _ h) in rw (s.are, s.one, IsNumber-value s.second segment s.two.0, IsNumber-value s.third sector s.three.0) refl
-guess_is ws (words.Protect true) h = let s = two_words ws _ _ (only ws _ h) in rw (s.are, s.one, s.two) refl
-guess_is ws (words.Protect false) h = let s = two_words ws _ _ (only ws _ h) in rw (s.are, s.one, s.two) refl
-guess_is ws (words.Format label date) h = elim (dated_cases ws _ date h) [
-  | inl full ↦ let s = three_words ws _ _ _ full in rw (s.are, s.one, ← s.two.1, IsDateWord-value s.third date s.three) refl
-  | inr bare ↦ let s = two_words ws _ _ bare.0 in rw (s.are, s.one, ← s.two.1, bare.1) refl
-]
-guess_is ws words.Info h = let s = one_word ws _ (only ws _ h) in rw (s.are, s.one) refl
-guess_is ws (words.Append name date) h = elim (dated_cases ws _ date h) [
-  | inl full ↦ let s = three_words ws _ _ _ full in rw (s.are, s.one, ← s.two.1, IsDateWord-value s.third date s.three) refl
-  | inr bare ↦ let s = two_words ws _ _ bare.0 in rw (s.are, s.one, ← s.two.1, bare.1) refl
-]
-guess_is ws words.List h = let s = one_word ws _ (only ws _ h) in rw (s.are, s.one) refl
-guess_is ws (words.Restore number) h = let s = two_words ws _ _ (only ws _ h) in rw (s.are, s.one) (ap words.Restore (IsNumber-value s.second number s.two.0))
-guess_is ws words.Scrub h = let s = one_word ws _ (only ws _ h) in rw (s.are, s.one) refl
-guess_is ws words.Pulses h = let s = one_word ws _ (only ws _ h) in rw (s.are, s.one) refl
-guess_is ws words.Script h = let s = one_word ws _ (only ws _ h) in rw (s.are, s.one) refl
-guess_is ws (words.Make seed count) h =
-    let s = three_words ws _ _ _ (only ws _ h) in rw (s.are, s.one, IsNumber-value s.second seed s.two.0, IsNumber-value s.third count s.three.0) refl
-
-pub one_command : OneCommand
-one_command ws a b first next = sym (guess_is ws a first) ∙ guess_is ws b next
-
--- ---- words with a date that is none
-
-pub no_dated_format : (label date : List ℕ) → ((n : ℕ) → IsDateWord date n → ⊥) → IsNoCommand (codes "format" ∷ label ∷ date ∷ [])
-unfolding guess
-no_dated_format label date none command h =
-    let is : words.Format (filled label) (date_value date) ≡ command = guess_is (codes "format" ∷ label ∷ date ∷ []) command h in
-    let P : Words → Type 0 = λ c. IsCommand (codes "format" ∷ label ∷ date ∷ []) c in
-    elim (dated_cases (codes "format" ∷ label ∷ date ∷ []) (Word (codes "format") ∷ Name (filled label) ∷ []) (date_value date) (subst P (sym is) h)) [
-      | inl full ↦ none (date_value date) full.1.1.0
-      | inr bare ↦ absurd bare.0.1.1
-    ]
-
-pub no_dated_append : (name date : List ℕ) → ((n : ℕ) → IsDateWord date n → ⊥) → IsNoCommand (codes "append" ∷ name ∷ date ∷ [])
-unfolding guess
-no_dated_append name date none command h =
-    let is : words.Append (filled name) (date_value date) ≡ command = guess_is (codes "append" ∷ name ∷ date ∷ []) command h in
-    let P : Words → Type 0 = λ c. IsCommand (codes "append" ∷ name ∷ date ∷ []) c in
-    elim (dated_cases (codes "append" ∷ name ∷ date ∷ []) (Word (codes "append") ∷ Name (filled name) ∷ []) (date_value date) (subst P (sym is) h)) [
-      | inl full ↦ none (date_value date) full.1.1.0
-      | inr bare ↦ absurd bare.0.1.1
-    ]

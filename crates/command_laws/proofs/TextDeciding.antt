@@ -1,15 +1,12 @@
 -- Words are those of a command or of none, and each input has a reading.
-use Rattle.std.proofs.Common.{◌⊎◌, inl, inr, ◌≡◌, Bool, true, false, refl, ℕ, ◌-◌, List, ◌≤◌, nat_le, arith, ◌==◌, decimal, zero, suc, [], ◌∷◌, All, Option, Some, None, ap, ◌≢◌, slice_get, length, ◌+◌, ◌*◌, ◌/◌, ◌%◌, sym, subst}
+use Rattle.std.proofs.Common.{◌⊎◌, inl, inr, ◌≡◌, Bool, true, false, refl, ℕ, ◌-◌, List, ◌≤◌, nat_le, arith, ◌==◌, decimal, zero, suc, [], ◌∷◌, All, Option, Some, None, ap, ◌≢◌, slice_get, length, ◌+◌, ◌*◌, ◌/◌, ◌%◌}
 use Rattle.std.specs.Str.{bytes_eq}
 use Rattle.std.proofs.lemmas.Slice.Eq.{bytes_eq-Decides}
 use Rattle.std.proofs.lemmas.Bool.Decides.{nat_tests}
-use Rattle.command_laws.proofs.TextCommands.{pair_value, pair_is, guess, guess_is}
+use Rattle.command_laws.proofs.TextCommands.{pair_value, pair_is}
 use Rattle.command_laws.proofs.TextDates.{fields_of}
-use Rattle.command_laws.specs.TextWords.{IsNoCommand}
 use Rattle.command_spec.specs.CommandWords.{IsNumber, IsDateWord, Part, Word, Number, Name, Date, SpellsPart, SpellsAll, HasForm}
-use Rattle.command_spec.specs.Commands.{IsCommand, word_forms}
 use Rattle.command_spec.specs.Lines.{date_form}
-use Rattle.command_spec.specs.declared.words.Words.{Words}
 use Rattle.qic_base.specs.Date.{IsDate, date_word}
 use Rattle.qic_base.specs.Name.{IsPrintable, IsNameText, filled}
 
@@ -153,10 +150,3 @@ all_spelled (word ∷ words) (part ∷ parts) = both (SpellsPart word part) (Spe
 pub has_form : (words : List (List ℕ)) (forms : List (List Part)) → Decided (HasForm words forms)
 has_form words [] = inr (λ h. h)
 has_form words (form ∷ forms) = either (SpellsAll words form) (HasForm words forms) (all_spelled words form) (has_form words forms)
-
--- words are those of a command, or of none
-pub each_words : (words : List (List ℕ)) → ((command : Words) × IsCommand words command) ⊎ IsNoCommand words
-each_words words = elim (has_form words (word_forms (guess words))) [
-  | inl is ↦ inl (guess words, is)
-  | inr none ↦ inr (λ command h. none (let P : Words → Type 0 = λ c. IsCommand words c in subst P (sym (guess_is words command h)) h))
-]

@@ -1,5 +1,5 @@
 -- All that a theorem over all commands asks of one: the laws of a command, in one record.
-use Rattle.std.specs.Prelude.{◌≡◌, ◌++◌, ℕ, List, [], Option, Some, IfSome, IsSomeAnd, false}
+use Rattle.std.specs.Prelude.{length, ◌≤◌, true, None, ◌≡◌, ◌++◌, ℕ, List, [], Option, Some, IfSome, IsSomeAnd, false}
 use Rattle.cartridge_laws.specs.ChangeSteps.{HasNoRenew}
 use Rattle.cartridge_spec.specs.Formatting.{HasCleanCopies, HasNoHeader}
 use Rattle.cartridge_spec.specs.Header.{Header}
@@ -9,7 +9,7 @@ use Rattle.cartridge_spec.specs.Table.{Entry}
 use Rattle.cartridge_spec.specs.Volumes.{Plain, Stands}
 use Rattle.command_spec.specs.Command.{Command}
 use Rattle.command_spec.specs.CommandWords.{HasForm}
-use Rattle.command_spec.specs.Outcome.{CommandOutcome}
+use Rattle.command_spec.specs.Outcome.{CommandOutcome, refused}
 use Rattle.command_spec.specs.declared.status.Status.{Status}
 use Rattle.qic_base.specs.Acts.{steps_of}
 use Rattle.qic_base.specs.Cartridge.{Cartridge, IsCartridge}
@@ -41,10 +41,17 @@ LeavesEach command c P =
 pub record CommandLaws (command : Command) : Type 0 where
   -- its words give it its values
   pub values : (words : List (List ℕ)) → HasForm words command.forms → command.values
+  -- they are one to three
+  pub few_words : (words : List (List ℕ)) → HasForm words command.forms → (1 ≤ length words) × (length words ≤ 3)
   -- it has an outcome over what a drive can hold, and one alone
   pub answers : (held : Option Cartridge) (input : List ℕ) → command.values → IfSome held IsCartridge →
       (outcome : CommandOutcome) × command.yields held input outcome
   pub one : (held : Option Cartridge) (input : List ℕ) (a b : CommandOutcome) → command.yields held input a → command.yields held input b → a ≡ b
+  -- a missing cartridge and a protected one stop those that need one, and one that takes writes
+  pub none_held : command.traits.cartridge ≡ true → (input : List ℕ) (outcome : CommandOutcome) → command.yields None input outcome →
+      outcome ≡ refused status.NoCartridge
+  pub locked : command.traits.writable ≡ true → (c : Cartridge) (input : List ℕ) (outcome : CommandOutcome) → c.info.protected ≡ true →
+      command.yields (Some c) input outcome → outcome ≡ refused status.Protected
   -- it is carried out where all is there that it needs
   pub done : (held : Option Cartridge) (input : List ℕ) (outcome : CommandOutcome) → IfSome held IsCartridge → command.values →
       command.needs held input → command.yields held input outcome → outcome.status ≡ status.Done

@@ -1,18 +1,20 @@
 -- A life of a cartridge: runs, each answered or stopped anywhere, and sectors that are lost between them; and the volumes that
 -- stand behind each of these (this project's own).
-use Rattle.std.specs.Prelude.{◌≡◌, ◌≢◌, ◌⊎◌, ◌≤◌, ◌<◌, ℕ, Bool, true, false, All, IfSome, List, [], ◌∷◌, Option, Some, None, length, take}
+use Rattle.std.specs.Prelude.{◌≡◌, ◌≢◌, ◌⊎◌, ◌≤◌, ◌<◌, ℕ, Bool, true, false, All, IfSome, List, [], ◌∷◌, Option, Some, None, length, suc, take}
 use Rattle.cartridge_spec.specs.Appending.{with_all, with_bytes}
 use Rattle.cartridge_spec.specs.Formatting.{HasCleanCopies, HasNoHeader, IsFreshFor, fresh_plain}
 use Rattle.cartridge_spec.specs.HeaderAndTable.{CopyDoesNotRead}
 use Rattle.cartridge_spec.specs.Mounting.{IsTableLive, settled}
 use Rattle.cartridge_spec.specs.Volumes.{Plain, Stands, entries_of}
 use Rattle.cartridge_spec.specs.Wear.{WearSpares}
+use Rattle.command_laws.specs.ActStops.{IsLeftBy}
+use Rattle.command_spec.specs.Input.{Item}
 use Rattle.command_spec.specs.Listing.{IsHeard}
 use Rattle.command_spec.specs.Machine.{HasValues, Yields}
 use Rattle.command_spec.specs.MadeVolumes.{made_contents}
-use Rattle.command_spec.specs.Outcome.{CommandOutcome, HasPlace}
-use Rattle.command_spec.specs.Script.{ScriptDoes, ScriptRun}
-use Rattle.command_spec.specs.ScriptLists.{ItemsSpare, all_added}
+use Rattle.command_spec.specs.Outcome.{CommandOutcome, HasPlace, output_of}
+use Rattle.command_spec.specs.Script.{Did, ScriptDoes, ScriptRun}
+use Rattle.command_spec.specs.ScriptLists.{ItemsSpare, all_added, printed_by}
 use Rattle.command_spec.specs.declared.status.Status.{Status}
 use Rattle.command_spec.specs.declared.words.Words.{Words}
 use Rattle.qic_base.specs.Acts.{steps_of}
@@ -24,10 +26,11 @@ use Rattle.command_spec.specs.declared.words.Words.TheVariants as commands
 
 -- ---- runs
 
--- How a run ended: it was answered; or a stop, a fault of the outside or want of memory cut it off.
+-- How a run ended: it was answered, and printed this; or a stop, a fault of the outside or want of memory cut it off, once this
+-- was printed, where it is known.
 pub data Ended : Type 0 where
-  Answered : Status → Ended
-  Stopped : Ended
+  Answered : Status → (printed : List ℕ) → Ended
+  Stopped : (printed : Option (List ℕ)) → Ended
 
 pub record Run : Type 0 where
   pub command : Words
@@ -41,10 +44,10 @@ pub data Event : Type 0 where
 
 -- A formatting was stopped, and none was carried out since: a header copy may be half written.
 abbrev pub begun_by : Words → Ended → (begun : Bool) → Bool
-begun_by (commands.New segments) (Answered answer) begun = false
-begun_by (commands.Format label date) (Answered status.Done) begun = false
-begun_by (commands.Format label date) (Answered (status.DefectInFront segment)) begun = false
-begun_by (commands.Format label date) Stopped begun = true
+begun_by (commands.New segments) (Answered answer printed) begun = false
+begun_by (commands.Format label date) (Answered status.Done printed) begun = false
+begun_by (commands.Format label date) (Answered (status.DefectInFront segment) printed) begun = false
+begun_by (commands.Format label date) (Stopped printed) begun = true
 begun_by command ended begun = begun
 
 abbrev pub begun_behind : Event → (begun : Bool) → Bool
@@ -99,29 +102,36 @@ CommandSpares command input c = Unit {0}
 
 -- formatting isn't stopped a second time before one was carried out
 abbrev pub MayEnd : Words → Ended → (begun : Bool) → Type 0
-MayEnd (commands.Format label date) Stopped begun = begun ≡ false
+MayEnd (commands.Format label date) (Stopped printed) begun = begun ≡ false
 MayEnd command ended begun = Unit {0}
 
 -- ---- what a run leaves
 
--- an answered one all steps of the plain machine's outcome, and another one what a stop in them leaves
+-- an answered one all steps of the plain machine's outcome, and another one what a stop in them leaves, or one in its acts once
+-- this was printed
 abbrev pub Leaves : Ended → CommandOutcome → (held left : Option Cartridge) → Type 0
-Leaves (Answered answer) outcome held left = (outcome.status ≡ answer) × (left ≡ effects (steps_of outcome.acts) held)
-Leaves Stopped outcome held left = Torn (steps_of outcome.acts) held left
+Leaves (Answered answer printed) outcome held left =
+    (outcome.status ≡ answer) × (output_of outcome ≡ printed) × (left ≡ effects (steps_of outcome.acts) held)
+Leaves (Stopped (Some printed)) outcome (Some c) left = IsLeftBy c outcome.acts printed left
+Leaves (Stopped printed) outcome held left = Torn (steps_of outcome.acts) held left
 
--- The plain machine ran, over values that words can have, an input of bytes, and whole cartridges or none.
-pub record HasRun (run : Run) (begun : Bool) (held left : Option Cartridge) : Type 0 where
+-- the plain machine ran
+pub record HasRun (run : Run) (held left : Option Cartridge) : Type 0 where
   pub values : HasValues run.command
-  pub bytes : All (λ b. b < 256) run.input
   pub outcome : CommandOutcome
   pub plain : Yields run.command held run.input outcome
   pub leaves : Leaves run.ended outcome held left
+
+-- The premises: an input is one of bytes, and what is left a whole cartridge, as each tape tells; the sectors that it loses spare
+-- header and table; and no formatting is stopped a second time.
+pub record IsWithin (run : Run) (begun : Bool) (held left : Option Cartridge) : Type 0 where
+  pub bytes : All (λ b. b < 256) run.input
   pub whole : IfSome left IsCartridge
   pub spares : IfSome held (CommandSpares run.command run.input)
   pub may_end : MayEnd run.command run.ended begun
 
 abbrev pub Happens : Event → (begun : Bool) → (held left : Option Cartridge) → Type 0
-Happens (Runs run) begun held left = HasRun run begun held left
+Happens (Runs run) begun held left = HasRun run held left × IsWithin run begun held left
 Happens (Loses segment sector) begun held left =
     (sector < 32) × (left ≡ effect (Wear segment sector) held) × IfSome left IsCartridge × IfSome held (λ c. LossSpares c segment sector)
 
@@ -141,46 +151,66 @@ pub record IsEmptied (c : Cartridge) (label : List ℕ) (date : ℕ) (after : Op
   pub is : after ≡ Some (fresh_plain c label date words area)
 
 abbrev pub Renewed : Ended → (before after : Option Plain) → Type 0
-Renewed (Answered answer) before after = after ≡ None
-Renewed Stopped before after = (after ≡ before) ⊎ (after ≡ None)
+Renewed (Answered answer printed) before after = after ≡ None
+Renewed (Stopped printed) before after = (after ≡ before) ⊎ (after ≡ None)
 
 -- formatting was carried out; or refused, over a defect in front once the old list was gone; or stopped
 abbrev pub Formatted : (label : List ℕ) → (date : ℕ) → Cartridge → Ended → (before after : Option Plain) → Type 0
-Formatted label date c (Answered answer) before after =
+Formatted label date c (Answered answer printed) before after =
     ((answer ≡ status.Done) × IsEmptied c label date after)
     ⊎ (((segment : ℕ) × (answer ≡ status.DefectInFront segment)) × (after ≡ None))
     ⊎ ((answer ≡ status.Protected) × (after ≡ before))
-Formatted label date c Stopped before after = (after ≡ before) ⊎ (after ≡ None) ⊎ IsEmptied c label date after
+Formatted label date c (Stopped printed) before after = (after ≡ before) ⊎ (after ≡ None) ⊎ IsEmptied c label date after
 
 -- an append was carried out, or refused; where it was stopped, it is done or not
 abbrev pub Appended : (one other : Plain) → Ended → (after : Option Plain) → Type 0
-Appended one other (Answered answer) after =
+Appended one other (Answered answer printed) after =
     ((answer ≡ status.Done) × (after ≡ Some other)) ⊎ ((answer ≢ status.Done) × (after ≡ Some one))
-Appended one other Stopped after = (after ≡ Some one) ⊎ (after ≡ Some other)
+Appended one other (Stopped printed) after = (after ≡ Some one) ⊎ (after ≡ Some other)
 
--- the first ones of the generated volumes, and all of them at Done
+-- it is known to have printed anything
+abbrev pub HasPrinted : Ended → Type 0
+HasPrinted (Answered answer printed) = printed ≢ []
+HasPrinted (Stopped (Some printed)) = printed ≢ []
+HasPrinted (Stopped None) = ⊥
+
+abbrev pub WasDone : Ended → Type 0
+WasDone (Answered answer printed) = answer ≡ status.Done
+WasDone (Stopped printed) = ⊥
+
+-- the first ones of the generated volumes; all of them at Done, and once anything was printed
 pub record SomeMade (seed count : ℕ) (plain : Plain) (ended : Ended) (after : Option Plain) : Type 0 where
   pub made : ℕ
   pub within : made ≤ count
-  pub all : ended ≡ Answered status.Done → made ≡ count
+  pub all : WasDone ended ⊎ HasPrinted ended → made ≡ count
   pub is : after ≡ Some (with_all plain (made_contents seed 1 made))
 
 -- the input of a script was carried out, up to its end or to the line at fault
 abbrev pub WasHeard : Ended → Type 0
-WasHeard ended = (answer : Status) × (ended ≡ Answered answer) × IsHeard answer
+WasHeard (Answered answer printed) = IsHeard answer
+WasHeard (Stopped printed) = ⊥
 
--- the appends of the first lines, by what the plain machine did, and of all lines once the input was carried out
+-- All lines are among so many once the input was carried out; and those whose reply was written whole, with at most one more.
+abbrev pub AnsweredAmong : Ended → List Item → List Did → (count : ℕ) → Type 0
+AnsweredAmong (Answered answer printed) items dids count = IsHeard answer → count ≡ length items
+AnsweredAmong (Stopped (Some printed)) items dids count =
+    ((n : ℕ) → n ≤ length items → printed_by dids n ≤ length printed → n ≤ count)
+    × ((n : ℕ) → suc n ≤ count → printed_by dids n ≤ length printed)
+AnsweredAmong (Stopped None) items dids count = Unit {0}
+
+-- the appends of the first lines, by what the plain machine did
 pub record SomeLines (c : Cartridge) (input : List ℕ) (plain : Plain) (ended : Ended) (after : Option Plain) : Type 0 where
   pub run : ScriptRun
   pub does : ScriptDoes (settled plain.table_area c) plain.words (entries_of plain) input run
   pub count : ℕ
   pub within : count ≤ length does.items
-  pub all : WasHeard ended → count ≡ length does.items
+  pub answered : AnsweredAmong ended does.items does.dids count
   pub is : after ≡ Some (with_all plain (all_added (entries_of plain) (take count does.items) (take count does.dids)))
 
 -- the lines were carried out; or the cartridge was refused, before the first of them
 abbrev pub Scripted : Cartridge → (input : List ℕ) → Plain → Ended → (after : Option Plain) → Type 0
-Scripted c input plain ended after = SomeLines c input plain ended after ⊎ (¬ (WasHeard ended) × (after ≡ Some plain))
+Scripted c input plain ended after =
+    SomeLines c input plain ended after ⊎ (¬ (WasHeard ended) × ¬ (HasPrinted ended) × (after ≡ Some plain))
 
 -- What a command adds to a list on a cartridge; the others keep it.
 abbrev pub Adds : Words → Cartridge → (input : List ℕ) → Plain → Ended → (after : Option Plain) → Type 0

@@ -1,10 +1,27 @@
-//! What a life of many runs leaves, each of them answered or stopped anywhere. The law is the contract of a function that does
-//! nothing, so that other crates can rest on it; its proof imports the lemmas of this crate's `proofs`.
+//! What a life of many runs leaves, each of them answered or stopped anywhere. Each law is the contract of a function that does
+//! nothing, so that other crates can rest on it; their proofs import the lemmas of this crate's `proofs`.
 
 ghost use Rattle.command_laws.specs.Life.{ALife};
+ghost use Rattle.command_laws.specs.LifeLaws.{AnsweredRuns, FormattedIsSound, StoppedRuns, VolumesAreKept};
 
 /// Behind each event of a life the cartridge stands for the volumes that the answered commands made, with those of the
 /// command that was stopped or not.
 pub fn a_life()
     ensures { ALife }
+{}
+
+/// No volume is lost or changed in a life without `new` and `format`, wherever its runs are stopped.
+pub fn a_life_keeps_its_volumes()
+    ensures { VolumesAreKept }
+{}
+
+/// A new cartridge that was formatted begins one.
+pub fn a_formatted_cartridge_begins_a_life()
+    ensures { FormattedIsSound }
+{}
+
+/// Each step of the plain machine over words, and what a stop in words leaves, is a run of a life.
+pub fn runs_of_words_are_of_a_life()
+    ensures answered { AnsweredRuns }
+    ensures stopped { StoppedRuns }
 {}

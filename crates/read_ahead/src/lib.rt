@@ -12,8 +12,8 @@ ghost use Rattle.read_ahead.specs.declared.TheConstants.{MOST};
 
 use qic_base::{Disk, DiskFailed};
 
-/// The bytes of a segment's 32 sectors, the most that is read ahead.
-pub const MOST: usize = 32768;
+/// The bytes of a segment with the states of its sectors, the most that is read ahead: 32 of 1,027.
+pub const MOST: usize = 32 * 1027;
 
 /// The fewest bytes of a read that is made ahead: those of a sector.
 const LEAST: usize = 1024;

@@ -15,4 +15,4 @@ mod words;
 
 pub use form::Block;
 pub use reading::{MapError, read_map};
-pub use text::write_map;
+pub use text::{write_bytes, write_map};

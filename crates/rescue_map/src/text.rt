@@ -16,7 +16,7 @@ const HEAD: &str = "# Mapfile. Created by tape_export
 ";
 
 /// Writes the bytes as they are, all of them. A failure leaves a front of them written.
-fn write_bytes<K: Sink>(bytes: &[u8], sink: &mut K) -> Result<(), SinkFailed>
+pub fn write_bytes<K: Sink>(bytes: &[u8], sink: &mut K) -> Result<(), SinkFailed>
     ensures { Writes K.means sink.old sink.new bytes.now result }
 {
     let mut at = 0;

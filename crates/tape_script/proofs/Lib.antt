@@ -1,4 +1,3 @@
-pub mod Commands
 pub mod Dates
 pub mod Decimals
 pub mod Lined

@@ -1,4 +1,4 @@
-use Rattle.command_laws.proofs.TextCommands.{no_dated_append}
+use Rattle.command_laws.proofs.TextWords.{no_dated_append}
 use Rattle.tape_script.proofs.words.read_dated_append.Goals as goal
 
 pub returns-in_err-date : goal.returns-in_err-date

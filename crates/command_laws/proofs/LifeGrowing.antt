@@ -1,0 +1,143 @@
+-- Which runs are runs of a life, how a life begins, and that it keeps its volumes.
+use Rattle.std.proofs.Common.{◌≡◌, ◌++◌, ◌+◌, ◌==◌, ◌∙◌, ℕ, zero, suc, append-nil, append_assoc, ap, sym, subst, refl, inl, inr, Bool, true, false, cond, List, [], ◌∷◌, Option, Some, None, IfSome, length, take}
+use Rattle.cartridge_spec.specs.Appending.{Content, with_all, with_bytes, with_volume}
+use Rattle.cartridge_spec.specs.Volumes.{Plain, Volume, entries_of}
+use Rattle.command_laws.proofs.CommandTable.{has_values}
+use Rattle.command_laws.proofs.LifeFormats.{format_makes, new_sound, renewed}
+use Rattle.command_laws.proofs.LifeLaws.{event_makes}
+use Rattle.command_laws.specs.Life.{Answered, Becomes, Ended, Event, Happens, HasRun, IsEmptied, IsSound, Loses, Runs, Stopped, begun_behind}
+use Rattle.command_laws.specs.LifeLaws.{AnsweredRuns, AreKeeping, FormattedIsSound, HasGrown, IsKeeping, StoppedRuns, VolumesAreKept, run_of}
+use Rattle.command_spec.specs.Input.{Item}
+use Rattle.command_spec.specs.Machine.{Yields}
+use Rattle.command_spec.specs.MadeVolumes.{made_contents}
+use Rattle.command_spec.specs.Outcome.{CommandOutcome}
+use Rattle.command_spec.specs.Script.{Did}
+use Rattle.command_spec.specs.ScriptLists.{all_added}
+use Rattle.command_spec.specs.declared.line.Line.{Line}
+use Rattle.command_spec.specs.declared.words.Words.{Words}
+use Rattle.qic_base.specs.Acts.{steps_of}
+use Rattle.qic_base.specs.Cartridge.{Cartridge, IsCartridge, new_cartridge}
+use Rattle.qic_base.specs.Step.{effects}
+use Rattle.command_spec.specs.declared.line.Line.TheVariants as line
+use Rattle.command_spec.specs.declared.status.Status.TheVariants as status
+use Rattle.command_spec.specs.declared.words.Words.TheVariants as words
+
+-- ---- runs of words
+
+pub answered_runs : AnsweredRuns
+answered_runs ws input output taken answer held left (inl none) = inl (none.0, none.1)
+answered_runs ws input output taken answer held left (inr (command, spelled, (outcome, plain, is_left, is_output, is_taken, is_answer))) =
+    inr (command, spelled, record { values = has_values ws command spelled; outcome = outcome; plain = plain; leaves = (sym is_answer, sym is_output, is_left) })
+
+pub stopped_runs : StoppedRuns
+stopped_runs ws input held left (inl same) = inl same
+stopped_runs ws input held left (inr (command, spelled, l)) = inr (
+  command,
+  spelled,
+  record {
+    values = has_values ws command spelled;
+    outcome = l.outcome;
+    plain = subst (λ (i : List ℕ). Yields command held i l.outcome) l.is_told l.plain;
+    leaves = l.torn;
+  },
+)
+
+-- ---- the beginning of a life
+
+-- formatting was carried out
+emptied : (label : List ℕ) (date : ℕ) (c : Cartridge) (input printed : List ℕ) (after : Option Plain) →
+    Becomes (words.Format label date) (Some c) input (Answered status.Done printed) None after → IsEmptied c label date after
+emptied label date c input printed after (inl done) = done.1
+emptied label date c input printed after (inr (inl ((segment, is), none))) = absurd (cc)
+emptied label date c input printed after (inr (inr (is, same))) = absurd (cc)
+
+pub formatted_is_sound : FormattedIsSound
+formatted_is_sound segments label date answer input other printed text begun held left life =
+    let c : Cartridge = new_cartridge segments in
+    let first = life.1.0 in
+    let is_new : life.0 ≡ Some (new_cartridge segments) =
+    first.leaves.2 ∙ ap (λ (o : CommandOutcome). effects (steps_of o.acts) held) first.plain ∙ renewed segments held in
+    let whole : IsCartridge (new_cartridge segments) = subst (λ (o : Option Cartridge). IfSome o IsCartridge) is_new life.1.1.whole in
+    let last = life.2 in
+    let ran : HasRun (run_of (words.Format label date) other (Answered status.Done text)) (Some (new_cartridge segments)) last.0 =
+    subst (λ (o : Option Cartridge). HasRun (run_of (words.Format label date) other (Answered status.Done text)) o last.0) is_new last.1.0 in
+    let made = format_makes label date other (Answered status.Done text) false c last.0 None ran.outcome (new_sound segments false (Some c) whole refl) tt ran.plain ran.leaves last.1.1.whole in (
+      made.0,
+      emptied label date c other text made.0 made.1,
+      subst (λ (o : Option Cartridge). IsSound false o made.0) (sym last.2) made.2,
+    )
+
+-- ---- volumes in a life
+
+grown_none : (plain : Plain) → HasGrown plain plain
+grown_none plain = record { more = []; volumes = sym (append-nil plain.volumes) }
+
+grown_one : (plain : Plain) (volume : Volume) → HasGrown plain (with_volume plain volume)
+grown_one plain volume = record { more = volume ∷ []; volumes = refl }
+
+grown_both : (a b c : Plain) → HasGrown a b → HasGrown b c → HasGrown a c
+grown_both a b c one other = record {
+  more = one.more ++ other.more;
+  volumes = other.volumes ∙ ap (λ (vs : List Volume). vs ++ other.more) one.volumes ∙ append_assoc a.volumes one.more other.more;
+}
+
+all_grow : (plain : Plain) (contents : List Content) → HasGrown plain (with_all plain contents)
+all_grow plain [] = grown_none plain
+all_grow plain (content ∷ more) =
+    let next : Plain = with_bytes plain content.name content.date content.bytes in
+    grown_both plain next (with_all next more) (grown_one plain _) (all_grow next more)
+
+record GrownTo (plain : Plain) (after : Option Plain) : Type 0 where
+  later : Plain
+  is : after ≡ Some later
+  grown : HasGrown plain later
+
+same_list : (plain : Plain) (after : Option Plain) → after ≡ Some plain → GrownTo plain after
+same_list plain after is = record { later = plain; is = is; grown = grown_none plain }
+
+append_grows : (name : List ℕ) (date : ℕ) (c : Cartridge) (input : List ℕ) (ended : Ended) (plain : Plain) (after : Option Plain) →
+    Becomes (words.Append name date) (Some c) input ended (Some plain) after → GrownTo plain after
+append_grows name date c input (Answered answer printed) plain after (inl (done, is)) = record { later = _; is = is; grown = grown_one plain _ }
+append_grows name date c input (Answered answer printed) plain after (inr (other, is)) = same_list plain after is
+append_grows name date c input (Stopped printed) plain after (inl is) = same_list plain after is
+append_grows name date c input (Stopped printed) plain after (inr is) = record { later = _; is = is; grown = grown_one plain _ }
+
+command_grows : (command : Words) (c : Cartridge) (input : List ℕ) (ended : Ended) (plain : Plain) (after : Option Plain) → IsKeeping command →
+    Becomes command (Some c) input ended (Some plain) after → GrownTo plain after
+command_grows (words.New segments) c input ended plain after keeping is = absurd keeping
+command_grows (words.Format label date) c input ended plain after keeping is = absurd keeping
+command_grows (words.Append name date) c input ended plain after keeping is = append_grows name date c input ended plain after is
+command_grows (words.Make seed count) c input ended plain after keeping some = record { later = _; is = some.is; grown = all_grow plain (made_contents seed 1 some.made) }
+command_grows words.Script c input ended plain after keeping (inl some) =
+    record { later = _; is = some.is; grown = all_grow plain (all_added (entries_of plain) (take some.count some.does.items) (take some.count some.does.dids)) }
+command_grows words.Script c input ended plain after keeping (inr turned) = same_list plain after turned.2
+command_grows command c input ended plain after keeping is = same_list plain after is
+
+-- what stands behind an event
+record Next (event : Event) (begun : Bool) (plain : Plain) (left : Option Cartridge) : Type 0 where
+  later : Plain
+  grown : HasGrown plain later
+  sound : IsSound (begun_behind event begun) left (Some later)
+
+event_grows : (event : Event) (events : List Event) (begun : Bool) (held left : Option Cartridge) (plain : Plain) → AreKeeping (event ∷ events) → IsSound begun held (Some plain) →
+    Happens event begun held left → Next event begun plain left
+event_grows event events begun None left plain keeping sound happens = absurd sound
+event_grows (Runs run) events begun (Some c) left plain keeping sound happens =
+    let made = event_makes (Runs run) begun (Some c) left (Some plain) sound happens in
+    let to : GrownTo plain made.0 = command_grows run.command c run.input run.ended plain made.0 keeping.0 made.1 in
+    record { later = to.later; grown = to.grown; sound = subst (λ (o : Option Plain). IsSound (begun_behind (Runs run) begun) left o) to.is made.2 }
+event_grows (Loses segment sector) events begun (Some c) left plain keeping sound happens =
+    let made = event_makes (Loses segment sector) begun (Some c) left (Some plain) sound happens in
+    record { later = plain; grown = grown_none plain; sound = subst (λ (o : Option Plain). IsSound begun left o) made.1 made.2 }
+
+rest_keeping : (event : Event) (events : List Event) → AreKeeping (event ∷ events) → AreKeeping events
+rest_keeping (Runs run) events keeping = keeping.1
+rest_keeping (Loses segment sector) events keeping = keeping
+
+pub volumes_are_kept : VolumesAreKept
+volumes_are_kept [] begun held left plain keeping sound life =
+    (plain, grown_none plain, subst (λ (o : Option Cartridge). IsSound begun o (Some plain)) (sym life) sound)
+volumes_are_kept (event ∷ events) begun held left plain keeping sound life =
+    let next = event_grows event events begun held life.0 plain keeping sound life.1 in
+    let rest = volumes_are_kept events (begun_behind event begun) life.0 left next.later (rest_keeping event events keeping) next.sound life.2 in
+    (rest.0, grown_both plain next.later rest.0 next.grown rest.1, rest.2)

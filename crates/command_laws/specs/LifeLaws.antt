@@ -1,0 +1,67 @@
+-- What follows of lives, and which runs are runs of a life (this project's own).
+use Rattle.std.specs.Prelude.{◌≡◌, ◌⊎◌, ◌++◌, ℕ, Bool, false, List, [], ◌∷◌, Option, Some, None}
+use Rattle.cartridge_spec.specs.Volumes.{Plain, Volume}
+use Rattle.command_laws.specs.Life.{Answered, Ended, Event, HasRun, IsEmptied, IsSound, Lives, Loses, Run, Runs, Stopped, begun_behind_all}
+use Rattle.command_spec.specs.Headline.{WordsLeave}
+use Rattle.command_spec.specs.Machine.{Spells, SpellsNone, Step}
+use Rattle.command_spec.specs.declared.status.Status.{Status}
+use Rattle.command_spec.specs.declared.words.Words.{Words}
+use Rattle.qic_base.specs.Cartridge.{Cartridge, new_cartridge}
+use Rattle.command_spec.specs.declared.status.Status.TheVariants as status
+use Rattle.command_spec.specs.declared.words.Words.TheVariants as commands
+
+-- ---- runs of words
+
+abbrev pub run_of : Words → (input : List ℕ) → Ended → Run
+run_of command input ended = record { command = command; input = input; ended = ended }
+
+-- the words are those of a command, which has run so
+abbrev pub WordsRan : (words : List (List ℕ)) → (input : List ℕ) → Ended → (held left : Option Cartridge) → Type 0
+WordsRan words input ended held left = (command : Words) × Spells words command × HasRun (run_of command input ended) held left
+
+-- a step of the plain machine is an answered run, or the words were those of no command
+abbrev pub AnsweredRuns : Type 0
+AnsweredRuns =
+    (words : List (List ℕ)) (input output : List ℕ) (taken : ℕ) (answer : Status) (held left : Option Cartridge) →
+    Step words held input left output taken answer →
+    (SpellsNone words × (left ≡ held)) ⊎ WordsRan words input (Answered answer output) held left
+
+-- what a stop in words leaves, a stopped run leaves, or it came before
+abbrev pub StoppedRuns : Type 0
+StoppedRuns =
+    (words : List (List ℕ)) (input : List ℕ) (held left : Option Cartridge) → WordsLeave (Some input) words held left →
+    (left ≡ held) ⊎ WordsRan words input (Stopped None) held left
+
+-- ---- the beginning of a life
+
+-- whatever the drive held, behind a new cartridge that was formatted the empty list stands, and the next run may rely on it
+abbrev pub FormattedIsSound : Type 0
+FormattedIsSound =
+    (segments : ℕ) (label : List ℕ) (date : ℕ) (answer : Status) (input other printed text : List ℕ) (begun : Bool) (held left : Option Cartridge) →
+    Lives (Runs (run_of (commands.New segments) input (Answered answer printed)) ∷ Runs (run_of (commands.Format label date) other (Answered status.Done text)) ∷ []) begun held left →
+    (after : Option Plain) × IsEmptied (new_cartridge segments) label date after × IsSound false left after
+
+-- ---- volumes in a life
+
+-- a command but for `new` and `format`
+abbrev pub IsKeeping : Words → Type 0
+IsKeeping (commands.New segments) = ⊥
+IsKeeping (commands.Format label date) = ⊥
+IsKeeping command = Unit {0}
+
+abbrev pub AreKeeping : List Event → Type 0
+AreKeeping [] = Unit {0}
+AreKeeping (Runs run ∷ events) = IsKeeping run.command × AreKeeping events
+AreKeeping (Loses segment sector ∷ events) = AreKeeping events
+
+-- each volume is there as it was, and perhaps more of them behind
+pub record HasGrown (plain later : Plain) : Type 0 where
+  pub more : List Volume
+  pub volumes : later.volumes ≡ plain.volumes ++ more
+
+-- whatever the runs, and wherever they are stopped, no volume is lost or changed
+abbrev pub VolumesAreKept : Type 0
+VolumesAreKept =
+    (events : List Event) (begun : Bool) (held left : Option Cartridge) (plain : Plain) → AreKeeping events → IsSound begun held (Some plain) →
+    Lives events begun held left →
+    (later : Plain) × HasGrown plain later × IsSound (begun_behind_all events begun) left (Some later)

@@ -1,0 +1,6 @@
+pub mod Dump
+pub mod Export
+pub mod Held
+pub mod Imported
+pub mod Laws
+pub mod Seen

@@ -1,0 +1,29 @@
+//! Laws of flat dumps. Each is the contract of a function that does nothing.
+
+ghost use Rattle.flat_dump.specs.Laws.{DumpIsWhole, EachMapTells, ImportsOne, BringsBack, StandsAgain};
+
+/// A dump has 917,504 bytes for each segment per track.
+pub fn dumps_are_whole()
+    ensures { DumpIsWhole }
+{}
+
+/// The map of a cartridge reads, and rescues just the bytes of the sectors that hold some.
+pub fn maps_tell_what_is_held()
+    ensures { EachMapTells }
+{}
+
+/// A dump and a map are imported as one cartridge.
+pub fn imports_are_one()
+    ensures { ImportsOne }
+{}
+
+/// A cartridge that is exported and imported again is the same one, each sector that held nothing a lost one, with the
+/// referenced mark alone and in the newest layout.
+pub fn exports_come_back()
+    ensures { BringsBack }
+{}
+
+/// It stands for what the cartridge stood for.
+pub fn comes_back_standing()
+    ensures { StandsAgain }
+{}

@@ -1,0 +1,9 @@
+//! The flat dump of a cartridge, its sectors one behind the other, and the map of those that hold bytes. No call takes
+//! memory.
+#![tactic(auto)]
+
+mod exporting;
+pub mod laws;
+mod segment;
+
+pub use exporting::{ExportError, export};
