@@ -1,5 +1,5 @@
 -- Sectors that take what is written to them go on to do so.
-use Rattle.std.proofs.Common.{◌≡◌, ◌⊎◌, ℕ, inl, inr, List, [], ◌∷◌, ◌++◌, get_or, take, drop, map, ap, ◌∙◌, sym, subst, refl, zero, suc, ◌+◌, ◌*◌, ◌<◌, arith, Option, Some, None, IsSomeAnd}
+use Rattle.std.proofs.Common.{◌≡◌, ◌⊎◌, ℕ, inl, inr, List, [], ◌∷◌, ◌++◌, get_or, take, drop, map, ap, ◌∙◌, sym, subst, refl, zero, suc, ◌+◌, ◌*◌, arith, Option, Some, None, IsSomeAnd}
 use Rattle.std.proofs.Math.Seq.{take-add}
 use Rattle.std.proofs.lemmas.Bool.{cases_eq}
 use Rattle.std.proofs.lemmas.List.{take-append-drop}

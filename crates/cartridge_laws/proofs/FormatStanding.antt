@@ -10,7 +10,7 @@ use Rattle.cartridge_laws.proofs.FormatHalfway.{IsKeptCopy, IsKept}
 use Rattle.cartridge_laws.proofs.Segments.{zero_does_not_read}
 use Rattle.cartridge_spec.specs.Formatting.{HasNoHeader, IsBareCopy, IsCleanCopy, StandsCleanly}
 use Rattle.cartridge_spec.specs.Header.{has_signature, header_fault}
-use Rattle.cartridge_spec.specs.HeaderAndTable.{IsInForce, CopyDoesNotRead, IsArea, CopyReads, copy_cells, last_segment, IsUnformatted}
+use Rattle.cartridge_spec.specs.HeaderAndTable.{IsInForce, CopyDoesNotRead, IsArea, CopyReads, copy_cells, last_segment}
 use Rattle.cartridge_spec.specs.Says.{cells_of, Written, unreadable_count, ReadsAll, whole_mask}
 use Rattle.cartridge_spec.specs.Shape.{usable_places, mask_at, data_count, usable_count}
 use Rattle.cartridge_spec.specs.Table.{is_used, is_free, ForeignSlot, BadRange, slot, slot_fault, some_free_below, has_bad_range, entry_in, overlaps_before, Entry, HasNoFault}

@@ -1,5 +1,5 @@
 -- Fields written into a sector one after the other: each holds its value then, and no other byte changes.
-use Rattle.std.proofs.Common.{◌≡◌, ℕ, ◌+◌, List, ◌||◌, Bool, nat_le, ◌&&◌, true, [], ◌∷◌, ◌-◌, false, refl, ◌⊎◌, inl, inr, ◌≤◌, arith, length, ◌∙◌, ◌<◌, get_or}
+use Rattle.std.proofs.Common.{◌≡◌, ℕ, ◌+◌, List, ◌||◌, Bool, nat_le, ◌&&◌, true, [], ◌∷◌, false, refl, ◌⊎◌, inl, inr, ◌≤◌, arith, length, ◌∙◌, ◌<◌, get_or}
 use Rattle.std.specs.List.{slice_range, All}
 use Rattle.std.proofs.lemmas.Bool.Decides.{nat_tests}
 use Rattle.std.proofs.lemmas.List.Elements.{All-head, All-tail, All-nil, All-cons}

@@ -1,4 +1,4 @@
--- The tests of a header's fields, as a reader makes them.
+-- The tests of a header's fields, as a reader makes them, and how many words its map has.
 use Rattle.std.proofs.Common.{◌≡◌, ℕ, ◌-◌, ◌==◌, true, List, Option, None, refl, eq-eqb, [], ◌∷◌, ap, ◌∙◌, Some, Bool, false, arith, ◌<◌, get_or, length, sym, ◌*◌}
 use Rattle.std.specs.Option.{option_or}
 use Rattle.std.specs.List.{All}

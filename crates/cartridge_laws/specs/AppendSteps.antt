@@ -1,5 +1,5 @@
--- What an append does to a cartridge: the segments of the new volume, and then the table; and the plain cartridge with one
--- volume more (this project's profile).
+-- The steps of an append: the writes of the new volume's segments, and then those of the table; and the sectors
+-- that they name (this project's profile).
 use Rattle.std.specs.Prelude.{ℕ, List, [], ◌∷◌, ◌++◌, length, ◌≡◌, ◌⊎◌, Contains}
 use Rattle.cartridge_spec.specs.Appending.{part_writes, in_sectors, taken_by, new_segments, table_writes, table_places}
 use Rattle.cartridge_spec.specs.Shape.{mask_at, usable_places}

@@ -1,4 +1,4 @@
--- Lists of steps that are writes of sectors alone.
+-- Lists of steps that are writes of sectors alone, which of them are free, and a cartridge whose front stayed.
 use Rattle.std.specs.Prelude.{ℕ, List, [], ◌∷◌, ◌<◌, ◌≡◌, ◌≤◌}
 use Rattle.qic_base.specs.Cartridge.{IsSector, Cartridge, view_at}
 use Rattle.qic_base.specs.Step.{Step, WriteSector, FormatSegment, SetReferenced, SetProtected, Renew, Wear, Spoil, Upgrade}

@@ -1,5 +1,5 @@
 -- Steps that put in no new cartridge.
-use Rattle.std.specs.Prelude.{ℕ, List, [], ◌∷◌}
+use Rattle.std.specs.Prelude.{List, [], ◌∷◌}
 use Rattle.qic_base.specs.Step.{Step, WriteSector, FormatSegment, SetReferenced, SetProtected, Renew, Wear, Spoil, Upgrade}
 
 abbrev pub IsNoRenew : Step → Type 0

@@ -1,4 +1,4 @@
--- A worn sector, and when it takes neither header nor table away (this project's profile).
+-- A header copy that was in force and has lost few sectors (this project's profile).
 use Rattle.std.specs.Prelude.{◌⊎◌, ℕ, ◌≤◌, List}
 use Rattle.cartridge_spec.specs.HeaderAndTable.{CopyReads, CopyDoesNotRead, copy_cells}
 use Rattle.cartridge_spec.specs.Says.{unreadable_count}

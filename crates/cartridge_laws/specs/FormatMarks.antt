@@ -1,5 +1,5 @@
--- The steps that format a cartridge, in their order, and what they make of it (Linux ftape headers: two header copies; the
--- order of the steps is this project's profile).
+-- A cartridge that was cleared, and one that was formatted (Linux ftape headers: two header copies; the rest is this
+-- project's profile).
 use Rattle.std.specs.Prelude.{◌≡◌, ℕ, ◌*◌, ◌<◌, true, ◌≤◌, List}
 use Rattle.cartridge_spec.specs.Says.{with_parity}
 use Rattle.cartridge_spec.specs.Shape.{sector_at}

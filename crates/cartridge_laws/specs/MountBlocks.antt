@@ -1,4 +1,5 @@
--- The settling of the volume table's segment: which of its sectors are written, and what with (this project's profile).
+-- A sector that holds its part of the table, and a cartridge of which nothing but the table's segment changed (this
+-- project's profile).
 use Rattle.std.specs.Prelude.{◌≡◌, ℕ, List, ◌≢◌, ◌<◌}
 use Rattle.cartridge_spec.specs.HeaderAndTable.{TableIs}
 use Rattle.cartridge_spec.specs.Says.{with_parity}

@@ -1,4 +1,4 @@
--- A table's segment of which one sector more is lost, where an append wrote it (this project's profile).
+-- Two tables that differ in one sector of data, and the last sector in use (this project's profile).
 use Rattle.std.specs.Prelude.{◌≡◌, ◌≢◌, ℕ, ◌<◌, List, true, false}
 use Rattle.cartridge_spec.specs.HeaderAndTable.{IsArea}
 use Rattle.cartridge_spec.specs.Shape.{sector_at}

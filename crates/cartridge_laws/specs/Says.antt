@@ -1,5 +1,4 @@
--- What a segment says: the cells of its usable sectors, the code block that agrees with those that can be read, and the
--- data in it (QIC-80-MC: three sectors of parity behind the data, so three sectors that are lost are found again).
+-- A segment that loses data (QIC-80-MC: 29 sectors of data, and three of parity behind them).
 use Rattle.std.specs.Prelude.{ℕ, ◌<◌}
 use Rattle.qic_base.specs.LostSet.{IsLost}
 

@@ -1,4 +1,4 @@
--- What the sectors of a segment are (QIC-80-MC: 32 sectors a segment; the views are this project's profile).
+-- A sector that can't be read (the views are this project's profile).
 use Rattle.std.specs.Prelude.{◌≡◌, true}
 use Rattle.cartridge_spec.specs.Shape.{is_unreadable}
 use Rattle.qic_base.specs.declared.tape.SectorView.{SectorView}

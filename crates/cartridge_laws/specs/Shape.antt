@@ -1,5 +1,4 @@
--- A segment's shape by the mask of its usable sectors (QIC-80-MC: data sectors, and three of parity behind them). Bit i
--- of a mask is 1 where sector i is usable; bit i of a word of the bad sector map is 1 where sector i is bad.
+-- A segment that carries data, and its places of data and of parity, by the mask of its usable sectors (QIC-80-MC).
 use Rattle.std.specs.Prelude.{ℕ, ◌≤◌, List, take, [], drop, nat_le, if◌then◌else◌}
 use Rattle.cartridge_spec.specs.Shape.{usable_count, usable_places, data_count}
 

@@ -1,5 +1,4 @@
--- A slot of the volume table as it is written (Linux ftape headers: the volume table entry of 128 bytes;
--- QIC-80-MC: the signature `VTBL`).
+-- An entry that fits its slot (Linux ftape headers: the volume table entry of 128 bytes).
 use Rattle.std.specs.Prelude.{◌≡◌, ◌^◌, ◌<◌, length}
 use Rattle.cartridge_spec.specs.Table.{Entry}
 

@@ -1,6 +1,5 @@
--- The volume table: the data area of segment 2, 29 sectors of eight slots (Linux ftape headers: the volume table
--- entry of 128 bytes and its offsets; QIC-80-MC: the signature `VTBL`; the place of the table, its faults and the rule of
--- a volume's length are this project's profile).
+-- A list of volumes in order: each behind the one before it, all of them behind the table and on the cartridge (this
+-- project's profile).
 use Rattle.std.specs.Prelude.{ℕ, ◌<◌, ◌≤◌, List, [], ◌∷◌}
 use Rattle.cartridge_spec.specs.Table.{Entry}
 

@@ -1,5 +1,5 @@
 -- How an append ends.
-use Rattle.std.proofs.Common.{◌≡◌, ℕ, Bool, true, false, List, [], Option, refl, ◌+◌, ◌-◌, ◌++◌, None, ap, ◌∙◌, append-nil, min, length, ◌&&◌, nat_le}
+use Rattle.std.proofs.Common.{◌≡◌, ℕ, Bool, true, false, List, [], Option, refl, ◌+◌, ◌++◌, None, ap, ◌∙◌, append-nil, min, length, ◌&&◌, nat_le}
 use Rattle.std.specs.Prelude.{is_some, if◌then◌else◌}
 use Rattle.cartridge_spec.specs.Table.{Entry}
 use Rattle.command_laws.proofs.InputActLaws.{input_prints_nothing}

@@ -1,5 +1,5 @@
 -- The steps of a run, part by part.
-use Rattle.std.proofs.Common.{◌≡◌, ℕ, zero, suc, ◌+◌, ◌-◌, List, [], ◌∷◌, ◌++◌, length, refl, arith, Bool, true, false, cond, ap, ◌∙◌, ◌%◌, ◌==◌}
+use Rattle.std.proofs.Common.{◌≡◌, ℕ, zero, suc, ◌+◌, List, [], ◌∷◌, ◌++◌, length, refl, arith, Bool, true, false, cond, ap, ◌∙◌, ◌%◌, ◌==◌}
 use Rattle.cartridge_spec.specs.Table.{Entry}
 use Rattle.cartridge_spec.specs.Volumes.{carrying_segments}
 use Rattle.command_laws.proofs.MadeMachineLaws.{after_items-append}

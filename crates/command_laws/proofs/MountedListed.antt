@@ -13,6 +13,7 @@ use Rattle.cartridge_laws.proofs.FormatWriting.{changed_by-append}
 use Rattle.cartridge_laws.proofs.HeaderRefusals.{mounted_last}
 use Rattle.cartridge_laws.proofs.MountParts.{code_block}
 use Rattle.cartridge_laws.proofs.MountSettled.{settled_keeps_table}
+use Rattle.cartridge_laws.proofs.MountSettles.{settling_settles}
 use Rattle.cartridge_laws.proofs.MountStanding.{written_table, can_be_read}
 use Rattle.cartridge_laws.proofs.Sayings.{cartridge_sectors, block_from_data, data_of-parity}
 use Rattle.cartridge_laws.proofs.Segments.{length-whole_cells}
@@ -40,7 +41,7 @@ use Rattle.command_laws.proofs.ScrubStanding.{looks_in_front, written_kept}
 use Rattle.command_laws.proofs.StoreAgain.{list_shown, table_one}
 use Rattle.command_laws.proofs.StoreBehind.{AreBehind, input_behind, settled_behind}
 use Rattle.command_laws.proofs.StoreEnding.{list_more, took_fits}
-use Rattle.command_laws.proofs.StoreSettled.{settled_list, steps_settle}
+use Rattle.command_laws.proofs.StoreSettled.{settled_list}
 use Rattle.command_laws.proofs.StoreTaking.{both_true}
 use Rattle.command_laws.proofs.StoreWorn.{worn_list}
 use Rattle.command_laws.specs.MountedListed.{ListedReads, MountedListed, IsListed, listed_behind, AppendListed, WearListed, ScrubListed}
@@ -150,7 +151,7 @@ module _ (c : Cartridge) (words : List ℕ) (entries : List Entry) (table : List
   behind_settled : (steps : List Step) → AreIn (λ s i. 2 < s) steps → IsSettledFor (changed_by steps still) table
   behind_settled steps behind =
       settled_behind still table steps behind
-      (subst (λ (d : Cartridge). IsSettledFor d table) (sym (steps_settle c table reads)) (settled_is_settled_for c table reads mark))
+      (subst (λ (d : Cartridge). IsSettledFor d table) (sym (settling_settles c table reads)) (settled_is_settled_for c table reads mark))
 
   pub behind_leaves : (steps : List Step) → AreIn (λ s i. 2 < s) steps → LeavesTable c (changed_by steps still) last entries
   behind_leaves steps behind =
@@ -161,9 +162,9 @@ module _ (c : Cartridge) (words : List ℕ) (entries : List Entry) (table : List
         settles = behind_settled steps behind;
         shown = shown;
         order = order;
-        info = kept_so.info ∙ ap (λ (d : Cartridge). d.info) (steps_settle c table reads) ∙ (settled_keeps_table c table reads).info;
+        info = kept_so.info ∙ ap (λ (d : Cartridge). d.info) (settling_settles c table reads) ∙ (settled_keeps_table c table reads).info;
         front = λ s i low h. kept_so.others s i h (λ (past : 2 < s). omega arith)
-            ∙ ap (λ (d : Cartridge). view_at d s i) (steps_settle c table reads)
+            ∙ ap (λ (d : Cartridge). view_at d s i) (settling_settles c table reads)
             ∙ (settled_keeps_table c table reads).others s i h (λ (same : s ≡ 2). omega arith);
       }
 

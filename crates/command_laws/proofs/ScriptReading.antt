@@ -1,4 +1,4 @@
--- Items that were read, and what is read behind them; and what they did, and what others ran_so behind them.
+-- Items that were read, and what is read behind them; and what they did, and what others did behind them.
 use Rattle.std.proofs.Common.{◌≡◌, ℕ, ◌+◌, List, [], ◌∷◌, ◌++◌, length, sym, ap, ◌∙◌, arith, append_assoc, refl, subst, append-nil, ◌≤◌}
 use Rattle.std.proofs.lemmas.List.{length-append}
 use Rattle.cartridge_laws.proofs.FormatWriting.{changed_by-append}

@@ -1,4 +1,4 @@
--- The volume table read again: what it says of a list, and what a call did that read it.
+-- The data of a table are one, and where it holds a list they show it.
 use Rattle.std.proofs.Common.{◌≡◌, ℕ, inl, inr, List, ◌-◌, ◌<◌, sym, ◌∙◌, ap, arith, length, take, refl, subst}
 use Rattle.std.proofs.lemmas.List.{same_lists, length-take-le, get_or-take}
 use Rattle.std.proofs.lemmas.Option.{get_or_from_slice_get}

@@ -1,4 +1,4 @@
--- How an append ended, by what its stages did.
+-- An input that fits has room, and a list with its volume is in order.
 use Rattle.std.proofs.Common.{◌≡◌, ℕ, Bool, true, false, cond, List, refl, ◌+◌, ◌-◌, ◌≤◌, ◌&&◌, min, nat_lt, nat_le, length, take, Option, Some, None, subst, arith, ◌<◌, [], ◌∷◌, ◌++◌}
 use Rattle.std.proofs.lemmas.Bool.{and_parts, leb-true, le-leb}
 use Rattle.std.proofs.lemmas.List.{length-take}

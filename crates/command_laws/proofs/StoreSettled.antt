@@ -3,10 +3,8 @@ use Rattle.std.proofs.Common.{◌≡◌, ℕ, arith, List, length, All, sym, sub
 use Rattle.std.proofs.lemmas.List.{length-append}
 use Rattle.cartridge_laws.proofs.MountFar.{length-table_block}
 use Rattle.cartridge_laws.proofs.MountSettled.{settled_is_written}
-use Rattle.cartridge_laws.proofs.MountSettles.{settling_settles}
 use Rattle.cartridge_laws.proofs.MountWhole.{table_is_area}
 use Rattle.cartridge_laws.proofs.Sayings.{code_sectors, data_of-parity}
-use Rattle.cartridge_laws.specs.MountLaws.{SettlingSettles}
 use Rattle.cartridge_spec.specs.Code.{parity_sectors, IsSector}
 use Rattle.cartridge_spec.specs.HeaderAndTable.{TableIs}
 use Rattle.cartridge_spec.specs.Mounting.{settled, HasList}
@@ -17,10 +15,6 @@ use Rattle.qic_base.specs.Cartridge.{Cartridge, IsCartridge}
 use Rattle.cartridge_spec.specs.Table as tables
 
 -- ---- what the writes leave
-
--- the settling's writes make it the settled cartridge
-pub steps_settle : SettlingSettles
-steps_settle = settling_settles
 
 -- the table's data are 29 sectors
 pub table_size : (c : Cartridge) (area : List (List ℕ)) → TableIs c area → length area ≡ 29

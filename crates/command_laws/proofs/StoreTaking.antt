@@ -1,4 +1,4 @@
--- An input that was taken: what became of it, and the acts that it asked for.
+-- Two tests that both hold.
 use Rattle.std.proofs.Common.{◌≡◌, ◌&&◌, Bool, true, false, refl}
 
 pub both_true : (a b : Bool) → a ≡ true → b ≡ true → (a && b) ≡ true

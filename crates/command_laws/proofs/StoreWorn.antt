@@ -1,4 +1,4 @@
--- A store behind a sector that was worn.
+-- A table that holds a list does so behind a sector that was worn.
 use Rattle.std.proofs.Common.{ℕ, List, sym, ◌∙◌}
 use Rattle.cartridge_laws.proofs.ChangeViews.{worn_reads_no_more}
 use Rattle.cartridge_laws.proofs.FormatCopies.{held_view, view_held}

@@ -1,5 +1,5 @@
 -- Numbers in decimal digits.
-use Rattle.std.proofs.Common.{ℕ, ◌≤◌, ◌+◌, ◌-◌, ◌%◌, ◌^◌, ◌<◌, List, [], ◌∷◌, ◌++◌, All, decimal, arith, ◌≡◌, sym, ap, ◌∙◌, length, get_or}
+use Rattle.std.proofs.Common.{ℕ, ◌≤◌, ◌+◌, ◌%◌, ◌^◌, ◌<◌, List, [], ◌∷◌, ◌++◌, All, decimal, arith, ◌≡◌, sym, ap, ◌∙◌, length, get_or}
 use Rattle.std.proofs.lemmas.Fmt.{decimal_by_steps, decimal_is_IsNumeral}
 use Rattle.std.proofs.lemmas.List.Elements.{All-push, All-get_or}
 use Rattle.std.specs.Str.Parse.{digits_value}

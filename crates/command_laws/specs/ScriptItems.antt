@@ -1,4 +1,4 @@
--- What one line of a script did to the outside, with what follows it (this project's own).
+-- A line of a script whose bytes end early (this project's own).
 use Rattle.std.specs.Prelude.{◌≡◌, ℕ, List}
 use Rattle.cartridge_spec.specs.Table.{Entry}
 use Rattle.command_spec.specs.Input.{promised}

@@ -1,4 +1,4 @@
--- The bytes of the volumes that `make` appends, and their sums (this project's own).
+-- The bytes of a made volume from one on (this project's own).
 use Rattle.std.specs.Prelude.{ℕ, ◌+◌, ◌%◌, List, map}
 use Rattle.std.specs.List.{range_with_len}
 

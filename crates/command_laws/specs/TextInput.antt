@@ -1,4 +1,4 @@
--- The inputs of `script` and of `pulses`: items, and what ends them (this project's own).
+-- Each input is read in one way: its lines, its items, and what ends them, as facts (this project's own).
 use Rattle.std.specs.Prelude.{◌≡◌, ℕ, List, ◌+◌, [], ◌++◌}
 use Rattle.command_spec.specs.Input.{HasLineForm, Ending, HasItems}
 use Rattle.command_spec.specs.declared.line.Line.{Line}

@@ -1,4 +1,4 @@
--- What is read is printed again (this project's own).
+-- Dates and names are printed as they were read, as facts (this project's own).
 use Rattle.std.specs.Prelude.{◌≡◌, ℕ, List}
 use Rattle.command_spec.specs.CommandWords.{IsDateWord}
 use Rattle.command_spec.specs.Lines.{date_text, name_text}

@@ -1,4 +1,4 @@
--- What a reading of a line took from a source, and what it found (this project's own).
+-- Bytes without a newline (this project's own).
 use Rattle.std.specs.Prelude.{◌≢◌, ℕ, List, All}
 
 abbrev pub NoNewline : List ℕ → Type 0

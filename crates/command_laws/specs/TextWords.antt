@@ -1,4 +1,4 @@
--- The forms of a command's words (this project's own): the table of all commands.
+-- Words are those of one command, or of none, as facts (this project's own).
 use Rattle.std.specs.Prelude.{ℕ, List, ◌≡◌, ◌⊎◌}
 use Rattle.command_spec.specs.Commands.{IsCommand}
 use Rattle.command_spec.specs.declared.words.Words.{Words}

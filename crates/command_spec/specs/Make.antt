@@ -1,13 +1,13 @@
 -- The plain machine of `make`: the steps of a generated run, what each does, and what a run may print (this project's own).
-use Rattle.std.specs.Prelude.{ℕ, ◌+◌, List, ◌++◌, codes, decimal, [], ◌∷◌, zero, suc, take, ◌%◌, ◌==◌, if◌then◌else◌, length, drop, ◌-◌, Some, ◌≡◌, true, ◌^◌, sum, ◌⊎◌, false, ◌≢◌, ◌<◌, Option}
+use Rattle.std.specs.Prelude.{ℕ, ◌+◌, List, ◌++◌, codes, decimal, [], ◌∷◌, zero, suc, take, ◌%◌, ◌==◌, if◌then◌else◌, length, drop, Some, ◌≡◌, true, ◌^◌, sum, ◌⊎◌, false, ◌≢◌, ◌<◌, Option}
 use Rattle.cartridge_spec.specs.HeaderAndTable.{TableIs, table_cells}
 use Rattle.cartridge_spec.specs.Mounting.{settled}
 use Rattle.cartridge_spec.specs.Says.{LostSectors, ByCode, TableSays}
-use Rattle.cartridge_spec.specs.Settling.{settling_steps, changed_by}
+use Rattle.cartridge_spec.specs.Settling.{changed_by}
 use Rattle.cartridge_spec.specs.Shape.{mask_at, usable_places}
 use Rattle.cartridge_spec.specs.Table.{Entry}
 use Rattle.cartridge_spec.specs.Volumes.{carrying_segments, volume_length}
-use Rattle.command_spec.specs.Append.{kept_in, entry_for, Kept, append_acts, silently, room_in, has_promised_room, kept_over}
+use Rattle.command_spec.specs.Append.{kept_in, entry_for, append_acts, silently, room_in, has_promised_room, kept_over}
 use Rattle.command_spec.specs.Generator.{made_bytes, made_length}
 use Rattle.command_spec.specs.Outcome.{settling_act, CommandOutcome, Going, WritableOutcome}
 use Rattle.command_spec.specs.Restore.{GivingEnd, Restored, LostIn, MismatchIn, Restores, pieces, volume_at, EndsAt}

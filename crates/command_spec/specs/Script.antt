@@ -1,9 +1,9 @@
 -- The plain machine of `script`: its lines, one after the other, over a mounted cartridge, and their replies (this project's own).
-use Rattle.std.specs.Prelude.{ℕ, List, codes, ◌++◌, decimal, [], ◌+◌, ◌∷◌, ◌≡◌, true, false, ◌-◌, length, Some, ◌⊎◌, None, ◌<◌, ◌≤◌, drop, Option}
+use Rattle.std.specs.Prelude.{ℕ, List, codes, ◌++◌, decimal, [], ◌+◌, ◌∷◌, ◌≡◌, true, false, length, Some, ◌⊎◌, None, ◌<◌, ◌≤◌, drop, Option}
 use Rattle.cartridge_spec.specs.HeaderAndTable.{table_cells, TableIs}
 use Rattle.cartridge_spec.specs.Mounting.{settled}
 use Rattle.cartridge_spec.specs.Says.{ByCode, LostSectors, TableSays}
-use Rattle.cartridge_spec.specs.Settling.{settling_steps, changed_by}
+use Rattle.cartridge_spec.specs.Settling.{changed_by}
 use Rattle.cartridge_spec.specs.Table.{Entry}
 use Rattle.cartridge_spec.specs.Volumes.{volume_length}
 use Rattle.command_spec.specs.Append.{Kept, append_acts, Taking, Fits, TooLong, TooShort, entry_for, room_in, taking, kept_over}

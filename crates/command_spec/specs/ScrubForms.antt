@@ -1,7 +1,7 @@
 -- The two forms of a scrub over one kind of finding: `scrub` mends sectors that can't be read, and `scrub deep` also one of
 -- a segment that can be read and holds wrong bytes (QIC-80-MC: two code blocks differ in at least four sectors; the rest is
 -- this project's profile).
-use Rattle.std.specs.Prelude.{ℕ, List, [], ◌∷◌, ◌+◌, ◌++◌, codes, decimal, length, map, ◌≡◌, ◌≢◌, ◌<◌, ◌≤◌, true, slice_index, Option, Some, None}
+use Rattle.std.specs.Prelude.{ℕ, List, [], ◌∷◌, ◌++◌, codes, decimal, length, map, ◌≡◌, ◌≢◌, ◌<◌, ◌≤◌, true, slice_index, Option, Some, None}
 use Rattle.cartridge_spec.specs.Mounting.{settled}
 use Rattle.cartridge_spec.specs.Says.{Saying, Data, Mismatch, Says, unreadable_count}
 use Rattle.cartridge_spec.specs.Settling.{changed_by}

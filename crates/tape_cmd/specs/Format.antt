@@ -1,4 +1,4 @@
--- The plain machine of `format` (this project's own).
+-- The answer that a fault of formatting makes (this project's own).
 use Rattle.command_spec.specs.declared.status.Status.{Status}
 use Rattle.formatter.specs.declared.fault.FormatFault.{FormatFault}
 use Rattle.formatter.specs.declared.fault.FormatFault.TheVariants as fault

@@ -1,4 +1,4 @@
--- The plain machine of `make` (this project's own).
+-- The answer that the end of a generated run makes (this project's own).
 use Rattle.std.specs.Prelude.{Result, Ok, Err}
 use Rattle.command_spec.specs.declared.status.Status.{Status}
 use Rattle.made_volumes.specs.declared.fault.MakeFault.{MakeFault}

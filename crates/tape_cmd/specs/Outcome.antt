@@ -1,5 +1,4 @@
--- What the plain machine does over a command: its acts, how many bytes of the input it takes, and its answer (this
--- project's own).
+-- The steps of a command's first act (this project's own).
 use Rattle.std.specs.Prelude.{List}
 use Rattle.command_spec.specs.Outcome.{CommandOutcome}
 use Rattle.qic_base.specs.Acts.{next_steps}

@@ -1,4 +1,4 @@
--- The plain machine of `script` (this project's own).
+-- The answer that the end of a script makes (this project's own).
 use Rattle.std.specs.Prelude.{Result, Ok, Err}
 use Rattle.command_spec.specs.declared.status.Status.{Status}
 use Rattle.volume_script.specs.declared.fault.ScriptFault.{ScriptFault}

@@ -1,4 +1,4 @@
--- How a command ends that was to write its text (this project's own).
+-- The answer of a command that had a text to write (this project's own).
 use Rattle.std.specs.Prelude.{Result, Ok, Err}
 use Rattle.command_spec.specs.declared.status.Status.{Status}
 use Rattle.command_spec.specs.declared.status.Status.TheVariants as status

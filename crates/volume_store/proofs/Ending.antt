@@ -7,6 +7,7 @@ use Rattle.std.proofs.lemmas.List.Elements.{All-nil}
 use Rattle.cartridge_laws.proofs.AppendDead.{live_written, settled_is_settled_for}
 use Rattle.cartridge_laws.proofs.AppendOrders.{end_least}
 use Rattle.cartridge_laws.proofs.FormatWriting.{effects-some}
+use Rattle.cartridge_laws.proofs.MountSettles.{settling_settles}
 use Rattle.cartridge_laws.proofs.MountWhole.{table_is_area}
 use Rattle.cartridge_laws.proofs.Sayings.{data_of-parity}
 use Rattle.cartridge_laws.proofs.TableSayings.{table_says_is_function}
@@ -21,7 +22,7 @@ use Rattle.cartridge_spec.specs.Table.{Entry, Shows}
 use Rattle.command_laws.proofs.StoreAgain.{table_one}
 use Rattle.command_laws.proofs.StoreBehind.{input_behind, settled_behind}
 use Rattle.command_laws.proofs.StoreEnding.{took_fits, list_more}
-use Rattle.command_laws.proofs.StoreSettled.{table_sectors, table_size, steps_settle}
+use Rattle.command_laws.proofs.StoreSettled.{table_sectors, table_size}
 use Rattle.command_spec.specs.Append.{Taking, Fits, TooLong, TooShort, taking, Kept, room_in, free_in, bytes_taken, entry_for, input_writes, entry_acts, append_acts, silently}
 use Rattle.gf256_qic.proofs.Parities.{parity_block}
 use Rattle.qic_base.proofs.Giving.{Gave-nothing}
@@ -279,7 +280,7 @@ module _ {T S : Type 0} (t : tapes.Meaning T) (s : sources.Meaning S) (store aft
       at_settled =
           tells_two t x0 (λ c. TableIs c area × (again.steps ≡ settling_steps area c)) (λ c. c.info.protected ≡ false) (Now (λ d. IsSettledFor d area))
           (λ c known mark. settled_behind (changed_by again.steps c) area (steps_of ins) (input_behind kept promised input (end_least 2 (length store.words - 1) store.entries order))
-          (subst (λ (d : Cartridge). IsSettledFor d area) (sym (ap (λ (ss : List Step). changed_by ss c) known.1 ∙ steps_settle c area known.0))
+          (subst (λ (d : Cartridge). IsSettledFor d area) (sym (ap (λ (ss : List Step). changed_by ss c) known.1 ∙ settling_settles c area known.0))
           (settled_is_settled_for c area known.0 mark)))
           again.told unprotected
 

@@ -2,6 +2,7 @@
 use Rattle.std.proofs.Common.{◌≡◌, ◌≢◌, ℕ, ◌-◌, ◌*◌, ◌/◌, ◌<◌, ◌≤◌, false, List, [], ◌∷◌, ◌++◌, length, Option, Some, None, IfSome, IsSomeAnd, Err, refl, sym, ap, ◌∙◌, subst, arith}
 use Rattle.std.specs.Option.{option_map}
 use Rattle.std.proofs.lemmas.List.{length-append}
+use Rattle.cartridge_laws.proofs.MountSettles.{settling_settles}
 use Rattle.cartridge_spec.specs.Mounting.{HasList}
 use Rattle.qic_base.specs.Cartridge.{Cartridge, IsCartridge}
 use Rattle.qic_base.specs.Source as sources
@@ -40,7 +41,6 @@ use Rattle.command_laws.proofs.StoreAgain.{table_one}
 use Rattle.command_laws.proofs.StoreBehind.{input_behind, settled_behind, front_behind}
 use Rattle.volume_store.proofs.Copies.{tells_two}
 use Rattle.volume_store.proofs.Ending.{has_list}
-use Rattle.command_laws.proofs.StoreSettled.{steps_settle}
 use Rattle.volume_store.proofs.Storing.{one_length, still_primary, still_referenced}
 
 -- the drive knows of a cartridge, so the tape doesn't tell that there is none
@@ -149,7 +149,7 @@ settled_later t x0 x1 x2 entries area again unprotected some0 some1 did =
     let first : Tells t x1 (λ c. IsSettledFor c area) =
     forth t x0 x1 again.steps (λ d. IsSettledFor d area) some0 again.done.told
     (tells_two t x0 (λ c. TableIs c area × (again.steps ≡ settling_steps area c)) (λ c. c.info.protected ≡ false) (λ c. IsSettledFor (changed_by again.steps c) area)
-    (λ c known mark. subst (λ (d : Cartridge). IsSettledFor d area) (sym (ap (λ (ss : List Step). changed_by ss c) known.1 ∙ steps_settle c area known.0)) (settled_is_settled_for c area known.0 mark))
+    (λ c known mark. subst (λ (d : Cartridge). IsSettledFor d area) (sym (ap (λ (ss : List Step). changed_by ss c) known.1 ∙ settling_settles c area known.0)) (settled_is_settled_for c area known.0 mark))
     again.told unprotected) in
     forth t x1 x2 did.0 (λ d. IsSettledFor d area) some1 did.2.told
     (Tells-map t x1 (λ c. IsSettledFor c area) (λ c. IsSettledFor (changed_by did.0 c) area) (λ c known. settled_behind c area did.0 did.1 known) first)

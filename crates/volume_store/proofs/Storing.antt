@@ -4,6 +4,7 @@ use Rattle.std.specs.Prelude.{sum_by, if◌then◌else◌}
 use Rattle.std.specs.List.{range_with_len}
 use Rattle.std.specs.Option.{option_map, option_map_or}
 use Rattle.std.proofs.lemmas.List.Sums.{sum_by_push}
+use Rattle.cartridge_laws.proofs.MountSettles.{settling_settles}
 use Rattle.qic_base.specs.Cartridge.{Cartridge, IsCartridge}
 use Rattle.qic_base.specs.Step.{Step, WriteSector, changed, effects}
 use Rattle.qic_base.specs.Tape.{Meaning, Done, Tells, IsToldRight}
@@ -37,7 +38,7 @@ use Rattle.volume_store.specs.Settling.{mending_steps, mending_places, collected
 use Rattle.volume_store.proofs.Copies.{IsLearnt, told_learnt, tells_two}
 use Rattle.volume_store.proofs.Mending.{range_more}
 use Rattle.volume_store.proofs.Settled.{mending_settles, writes_info}
-use Rattle.command_laws.proofs.StoreSettled.{steps_settle, settled_list}
+use Rattle.command_laws.proofs.StoreSettled.{settled_list}
 
 -- ---- sums over segments
 
@@ -132,7 +133,7 @@ settled_lists : (c : Cartridge) (header : Header) (words : List ℕ) (entries : 
 settled_lists c header words entries steps whole settles =
     let table : TableIs c settles.table = settles.mounts.reads in
     let after : effects steps (Some c) ≡ Some (settled settles.table c) =
-    ap (λ (ss : List Step). effects ss (Some c)) settles.settles ∙ settling_effects settles.table c ∙ ap Some (steps_settle c settles.table table) in
+    ap (λ (ss : List Step). effects ss (Some c)) settles.settles ∙ settling_effects settles.table c ∙ ap Some (settling_settles c settles.table table) in
     subst (ListsWhereWritable entries) (sym after)
     (λ mark. settled_list c settles.table entries whole table settles.mounts.shown (ap (λ (info : TapeInfo). info.protected) (sym (settled_info settles.table c)) ∙ mark))
 
