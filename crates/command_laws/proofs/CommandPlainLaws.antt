@@ -4,8 +4,9 @@ use Rattle.cartridge_laws.proofs.FreshFront.{first_defect_is_none, first_defect_
 use Rattle.cartridge_laws.proofs.FreshMarks.{fresh_area_is_one}
 use Rattle.cartridge_laws.proofs.MountOnce.{mounts_is_function}
 use Rattle.cartridge_laws.proofs.MountWhole.{settling_effects}
-use Rattle.cartridge_spec.specs.Formatting.{clearing_steps, format_steps, HasNoDefectInFront, IsFreshWith}
+use Rattle.cartridge_spec.specs.Formatting.{IsFirstDefectInFront, clearing_steps, format_steps, HasNoDefectInFront, IsFreshWith}
 use Rattle.cartridge_spec.specs.Header.{Header}
+use Rattle.cartridge_spec.specs.HeaderAndTable.{IsUnformatted}
 use Rattle.cartridge_spec.specs.Mounting.{Mounting, settled, Mounts}
 use Rattle.cartridge_spec.specs.Settling.{settling_steps}
 use Rattle.cartridge_spec.specs.Table.{Entry}
@@ -325,3 +326,20 @@ pub format_locked : (label : List ℕ) (date : ℕ) (c : Cartridge) (outcome : C
 format_locked label date c outcome locked (inl is) = is.1
 format_locked label date c outcome locked (inr (inl is)) = let free = is.0 in absurd (cc)
 format_locked label date c outcome locked (inr (inr is)) = let free = is.0 in absurd (cc)
+
+-- ---- an unformatted one, and one with a defect in front
+
+pub open_unformatted : (goes : Going) (c : Cartridge) (outcome : CommandOutcome) → IsUnformatted c → OpenOutcome goes (Some c) outcome → outcome ≡ refused status.NotFormatted
+open_unformatted goes c outcome bare (m, mounts, opened) =
+    subst (λ (k : Mounting). Opened goes c k outcome) (mounts_is_function c m mounting.NotFormatted mounts bare) opened
+
+pub writable_unformatted : (goes : Going) (c : Cartridge) (outcome : CommandOutcome) → c.info.protected ≡ false → IsUnformatted c → WritableOutcome goes (Some c) outcome → outcome ≡ refused status.NotFormatted
+writable_unformatted goes c outcome free bare (inl is) = let locked = is.0 in absurd (cc)
+writable_unformatted goes c outcome free bare (inr is) = open_unformatted goes c outcome bare is.1
+
+pub format_in_front : (label : List ℕ) (date : ℕ) (c : Cartridge) (segment : ℕ) (outcome : CommandOutcome) → c.info.protected ≡ false → IsFirstDefectInFront c segment →
+    FormatOutcome label date (Some c) outcome → outcome.status ≡ status.DefectInFront segment
+format_in_front label date c segment outcome free first (inl is) = let locked = is.0 in absurd (cc)
+format_in_front label date c segment outcome free first (inr (inl (unlocked, (other, second, is)))) =
+    ap (λ (o : CommandOutcome). o.status) is ∙ ap status.DefectInFront (first_defect_is_one c other segment second first)
+format_in_front label date c segment outcome free first (inr (inr is)) = absurd (first_defect_is_none c (record { segment = segment; is_first = first }) is.1)
