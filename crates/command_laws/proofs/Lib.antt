@@ -15,6 +15,7 @@ pub mod CommandOpened
 pub mod CommandPlainLaws
 pub mod CommandPromises
 pub mod CommandSeveral
+pub mod CommandStep
 pub mod CommandSteps
 pub mod CommandSurvives
 pub mod CommandTable
