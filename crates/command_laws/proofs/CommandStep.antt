@@ -41,7 +41,7 @@ module _ (step : Step) (text : Cartridge → List ℕ) where
   step_no_renew keeps None outcome is = by_outcome outcome _ is tt
   step_no_renew keeps (Some c) outcome is = by_outcome outcome _ is keeps.no_renew
 
-  step_leaves : (P : Cartridge → Type 0) → KeepsAll step → (c : Cartridge) (outcome : CommandOutcome) (left : Option Cartridge) → P c → P (changed step c) →
+  pub step_leaves : (P : Cartridge → Type 0) → KeepsAll step → (c : Cartridge) (outcome : CommandOutcome) (left : Option Cartridge) → P c → P (changed step c) →
       StepOutcome step text (Some c) outcome → Torn (steps_of outcome.acts) (Some c) left → IsSomeAnd left P
   step_leaves P keeps c outcome left before behind is torn =
       elim (only_step step (Some c) left outcome _ is refl torn) [

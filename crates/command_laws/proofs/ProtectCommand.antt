@@ -25,7 +25,7 @@ are_few : (on : Bool) (ws : List (List ℕ)) → HasForm ws (protect_command on)
 are_few true ws h = let l = spelled_length ws _ (only ws _ h) in (omega arith, omega arith)
 are_few false ws h = let l = spelled_length ws _ (only ws _ h) in (omega arith, omega arith)
 
-mark_keeps : (on : Bool) → KeepsAll (SetProtected on)
+pub mark_keeps : (on : Bool) → KeepsAll (SetProtected on)
 mark_keeps on = record {
   whole = λ held left inside. inside;
   stands = λ c plain stood. protected_stands c plain on stood;
@@ -35,7 +35,7 @@ mark_keeps on = record {
 }
 
 -- what is printed of any cartridge
-abbrev line : Bool → Cartridge → List ℕ
+abbrev pub line : Bool → Cartridge → List ℕ
 line on c = protected_line on
 
 pub protect_laws : (on : Bool) → CommandLaws (protect_command on)
