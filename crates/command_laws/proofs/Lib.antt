@@ -97,6 +97,7 @@ pub mod ScrubDone
 pub mod ScrubForms
 pub mod ScrubFormsAgain
 pub mod ScrubFormsStanding
+pub mod ScrubFormsTable
 pub mod ScrubLooking
 pub mod ScrubMending
 pub mod ScrubMounted

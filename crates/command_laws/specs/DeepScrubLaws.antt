@@ -1,6 +1,8 @@
 -- What scrubbing does in either form, and what a deep scrub leaves, done or stopped, as facts.
 use Rattle.std.specs.Prelude.{◌≡◌, ℕ, List, [], ◌↔◌, Option, Some, IsSomeAnd}
+use Rattle.cartridge_laws.specs.AppendSettled.{IsSettledFor}
 use Rattle.cartridge_laws.specs.Table.{IsSoundList}
+use Rattle.cartridge_spec.specs.HeaderAndTable.{TableIs}
 use Rattle.cartridge_spec.specs.Mounting.{Mounts, mounted_as}
 use Rattle.cartridge_spec.specs.Settling.{changed_by}
 use Rattle.cartridge_spec.specs.Table.{Entry}
@@ -73,6 +75,18 @@ DoneFormIsClean =
     (depth : Depth) (c : Cartridge) (plain : Plain) (acts : List Act) → StandsCleanly c plain →
     ScrubsAs depth c plain.words (entries_of plain) acts → StandsCleanly (changed_by (steps_of acts) c) plain
 
+-- the table reads the same, and stays settled: no wrong sector is looked for in it
+abbrev pub DoneFormTable : Type 0
+DoneFormTable =
+    (depth : Depth) (c : Cartridge) (words : List ℕ) (entries : List Entry) (last : ℕ) (acts : List Act) (area : List (List ℕ)) →
+    IsSoundList last entries → ScrubsAs depth c words entries acts → TableIs c area → TableIs (changed_by (steps_of acts) c) area
+
+abbrev pub DoneFormIsSettled : Type 0
+DoneFormIsSettled =
+    (depth : Depth) (c : Cartridge) (words : List ℕ) (entries : List Entry) (last : ℕ) (acts : List Act) (area : List (List ℕ)) →
+    IsSoundList last entries → ScrubsAs depth c words entries acts → IsSettledFor c area →
+    IsSettledFor (changed_by (steps_of acts) c) area
+
 -- ---- silent sectors
 
 -- What differs from a cartridge that stands for a plain one in sectors that silently hold other bytes is mounted as that one, ..
@@ -123,3 +137,16 @@ StoppedFormIsClean =
     (depth : Depth) (c : Cartridge) (plain : Plain) (acts : List Act) (left : Option Cartridge) → StandsCleanly c plain →
     ScrubsAs depth c plain.words (entries_of plain) acts → Torn (steps_of acts) (Some c) left →
     IsSomeAnd left (λ d. StandsCleanly d plain)
+
+-- the table reads the same, and stays settled
+abbrev pub StoppedFormTable : Type 0
+StoppedFormTable =
+    (depth : Depth) (c : Cartridge) (words : List ℕ) (entries : List Entry) (last : ℕ) (acts : List Act) (area : List (List ℕ))
+    (left : Option Cartridge) → IsSoundList last entries → ScrubsAs depth c words entries acts → TableIs c area →
+    Torn (steps_of acts) (Some c) left → IsSomeAnd left (λ d. TableIs d area)
+
+abbrev pub StoppedFormIsSettled : Type 0
+StoppedFormIsSettled =
+    (depth : Depth) (c : Cartridge) (words : List ℕ) (entries : List Entry) (last : ℕ) (acts : List Act) (area : List (List ℕ))
+    (left : Option Cartridge) → IsSoundList last entries → ScrubsAs depth c words entries acts → IsSettledFor c area →
+    Torn (steps_of acts) (Some c) left → IsSomeAnd left (λ d. IsSettledFor d area)

@@ -2,7 +2,7 @@
 //! hold wrong bytes. Each law is the contract of a function that does nothing, so that other crates can rest on it; their
 //! proofs import the lemmas of this crate's `proofs`.
 
-ghost use Rattle.command_laws.specs.DeepScrubLaws.{ShallowIsScrub, FormIsFunction, FormAlways, FindsAtOnce, DoneInForm, DoneFormIsCartridge, DoneFormStands, DoneFormIsClean, SecondFormWritesNothing, SilentSectorsAreMounted, SilentSectorsAreMended, StoppedInForm, StoppedFormIsCartridge, StoppedFormStands, StoppedFormIsClean};
+ghost use Rattle.command_laws.specs.DeepScrubLaws.{ShallowIsScrub, FormIsFunction, FormAlways, FindsAtOnce, DoneInForm, DoneFormIsCartridge, DoneFormStands, DoneFormIsClean, DoneFormTable, DoneFormIsSettled, SecondFormWritesNothing, SilentSectorsAreMounted, SilentSectorsAreMended, StoppedInForm, StoppedFormIsCartridge, StoppedFormStands, StoppedFormIsClean, StoppedFormTable, StoppedFormIsSettled};
 
 /// Without a search for wrong sectors it is a scrub. Scrubbing in a form does one thing, and it does something: two code
 /// blocks differ in four sectors (QIC-80-MC), so at most one sector of a segment is found to be wrong. What is found of each segment follows from the cartridge before the
@@ -20,6 +20,8 @@ pub fn done_in_form()
     ensures scrubbed { DoneInForm }
     ensures stands { DoneFormStands }
     ensures clean { DoneFormIsClean }
+    ensures table { DoneFormTable }
+    ensures settled { DoneFormIsSettled }
     ensures whole { DoneFormIsCartridge }
 {}
 
@@ -42,5 +44,7 @@ pub fn stopped_in_form()
     ensures mending { StoppedInForm }
     ensures stands { StoppedFormStands }
     ensures clean { StoppedFormIsClean }
+    ensures table { StoppedFormTable }
+    ensures settled { StoppedFormIsSettled }
     ensures whole { StoppedFormIsCartridge }
 {}
