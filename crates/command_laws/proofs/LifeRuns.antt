@@ -133,12 +133,15 @@ none_of_none (s ∷ ss) left none (inr (inr torn)) = none_of_none ss left none.1
 
 -- ---- append
 
--- by the map's length or by the cartridge's, the volume is the same
+-- the map's length is the cartridge's
+pub map_last : (c : Cartridge) (plain : Plain) → Stands c plain → length plain.words - 1 ≡ last_segment c
+map_last c plain stood =
+    mounted_last c plain.header_area plain.header plain.words (record { has_header = stood.header; sound = stood.sound_header; shown = stood.whole.shown })
+
+-- .. so by either the volume is the same
 same_with_bytes : (c : Cartridge) (plain : Plain) (name : List ℕ) (date : ℕ) (bytes : List ℕ) → Stands c plain → new_plain c plain name date bytes ≡ with_bytes plain name date bytes
 same_with_bytes c plain name date bytes stood =
-    let last : length plain.words - 1 ≡ last_segment c =
-    mounted_last c plain.header_area plain.header plain.words (record { has_header = stood.header; sound = stood.sound_header; shown = stood.whole.shown }) in
-    ap (λ (n : ℕ). with_volume plain (appended_volume plain n name date bytes)) (sym last)
+    ap (λ (n : ℕ). with_volume plain (appended_volume plain n name date bytes)) (sym (map_last c plain stood))
 
 module _ (name : List ℕ) (date : ℕ) (c : Cartridge) (input : List ℕ) (begun : Bool) (plain : Plain) (left : Option Cartridge) (outcome : CommandOutcome) (values : HasValues (words.Append name date)) (bytes : All (λ b. b < 256) input) (ready : IsReady begun c plain) (yields : Yields (words.Append name date) (Some c) input outcome) (whole : IfSome left IsCartridge) where
   abbrev AppendMakes : Ended → Type 0
