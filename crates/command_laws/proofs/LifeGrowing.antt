@@ -1,20 +1,22 @@
 -- Which runs are runs of a life, how a life begins, and that it keeps its volumes and gives them back.
-use Rattle.std.proofs.Common.{◌-◌, ◌<◌, arith, min, slice_get, ◌≡◌, ◌++◌, ◌+◌, ◌==◌, ◌∙◌, ℕ, zero, suc, append-nil, append_assoc, ap, sym, subst, refl, inl, inr, Bool, true, false, cond, List, [], ◌∷◌, Option, Some, None, IfSome, length, take}
+use Rattle.std.proofs.Common.{IsSomeAnd, ◌-◌, ◌<◌, arith, min, slice_get, ◌≡◌, ◌++◌, ◌+◌, ◌==◌, ◌∙◌, ℕ, zero, suc, append-nil, append_assoc, ap, sym, subst, refl, inl, inr, Bool, true, false, cond, List, [], ◌∷◌, Option, Some, None, IfSome, length, take}
 use Rattle.std.proofs.lemmas.List.{get_or_append_left, length-append}
 use Rattle.std.proofs.lemmas.Option.{slice_get-get_or, slice_get_within}
 use Rattle.std.proofs.Math.Seq.{get_or-append_seam}
 use Rattle.cartridge_laws.proofs.AppendBytes.{done_bytes}
 use Rattle.cartridge_laws.specs.AppendSettled.{MayAppendTo}
 use Rattle.cartridge_spec.specs.Appending.{appended_volume, volume_bytes, with_bytes, with_volume}
+use Rattle.cartridge_spec.specs.Formatting.{fresh_plain}
 use Rattle.cartridge_spec.specs.Volumes.{Plain, Stands, Volume, entries_of}
 use Rattle.command_laws.proofs.CommandAppends.{course, done_fits, fits, kept_of}
 use Rattle.command_laws.proofs.CommandGivenBack.{given, given_whole}
 use Rattle.command_laws.proofs.CommandValues.{has_values}
-use Rattle.command_laws.proofs.LifeFormats.{format_makes, new_sound, renewed}
+use Rattle.command_laws.proofs.CommandVolumes.{formatted_fresh}
+use Rattle.command_laws.proofs.LifeFormats.{renewed}
 use Rattle.command_laws.proofs.LifeLaws.{event_makes}
 use Rattle.command_laws.proofs.LifeRuns.{map_last}
-use Rattle.command_laws.specs.Life.{Answered, Becomes, Ended, Event, Happens, HasRun, IsEmptied, IsSound, Loses, Runs, Stopped, begun_behind}
-use Rattle.command_laws.specs.LifeLaws.{AnsweredRuns, AreKeeping, BackupsAreGivenBack, FormattedIsSound, GivesBytes, HasGrown, IsKeeping, StoppedRuns, VolumesAreGivenBack, VolumesAreKept, run_of}
+use Rattle.command_laws.specs.Life.{Answered, Becomes, Ended, Event, Happens, IsEmptied, IsSound, Lives, Loses, Runs, Stopped, begun_behind}
+use Rattle.command_laws.specs.LifeLaws.{AnsweredRuns, AreKeeping, BackupsAreGivenBack, FormatBegins, GivesBytes, HasGrown, IsKeeping, NewAndFormatBegin, StoppedRuns, VolumesAreGivenBack, VolumesAreKept, run_of}
 use Rattle.command_spec.specs.Append.{room_in}
 use Rattle.command_spec.specs.Input.{Item}
 use Rattle.command_spec.specs.Machine.{Yields}
@@ -22,7 +24,7 @@ use Rattle.command_spec.specs.MadeVolumes.{made_volume, with_made}
 use Rattle.command_spec.specs.Outcome.{CommandOutcome}
 use Rattle.command_spec.specs.Script.{Did}
 use Rattle.command_spec.specs.ScriptLists.{plain_after, plain_behind, plain_with}
-use Rattle.command_spec.specs.Volumes.{HasNumber}
+use Rattle.command_spec.specs.Volumes.{HasNumber, StandsFresh}
 use Rattle.command_spec.specs.declared.line.Line.{Line}
 use Rattle.command_spec.specs.declared.words.Words.{Words}
 use Rattle.qic_base.specs.Acts.{steps_of}
@@ -46,28 +48,30 @@ stopped_runs ws told held left (inr (command, spelled, l)) =
 
 -- ---- the beginning of a life
 
--- formatting was carried out
-emptied : (label : List ℕ) (date : ℕ) (c : Cartridge) (input printed : List ℕ) (after : Option Plain) →
-    Becomes (words.Format label date) (Some c) input (Answered status.Done printed) None after → IsEmptied c label date after
-emptied label date c input printed after (inl done) = done.1
-emptied label date c input printed after (inr (inl ((segment, is), none))) = absurd (cc)
-emptied label date c input printed after (inr (inr (is, same))) = absurd (cc)
+-- what stands fresh is sound
+fresh_begins : (label : List ℕ) (date : ℕ) (c : Cartridge) (left : Option Cartridge) → IfSome left IsCartridge → IsSomeAnd left (StandsFresh c label date) →
+    (after : Option Plain) × IsEmptied c label date after × IsSound false left after
+fresh_begins label date c None whole fresh = absurd fresh
+fresh_begins label date c (Some d) whole fresh = (
+  Some (fresh_plain c label date fresh.words fresh.area),
+  record { words = fresh.words; area = fresh.area; fresh = fresh.fresh; is = refl },
+  record { whole = whole; stands = fresh.stands.stands; live = fresh.live; clean = λ is. record { first = fresh.stands.first; second = fresh.stands.second } },
+)
 
-pub formatted_is_sound : FormattedIsSound
-formatted_is_sound segments label date answer input other printed text begun held left life =
-    let c : Cartridge = new_cartridge segments in
+pub format_begins : FormatBegins
+format_begins label date input text begun c left whole life =
+    let did = life.1.0 in
+    fresh_begins label date c left (subst (λ (o : Option Cartridge). IfSome o IsCartridge) (sym life.2) life.1.1.whole)
+    (subst (λ (o : Option Cartridge). IsSomeAnd o (StandsFresh c label date)) (sym did.leaves.2 ∙ sym life.2)
+    (formatted_fresh label date c did.outcome whole did.plain did.leaves.0))
+
+pub new_and_format_begin : NewAndFormatBegin
+new_and_format_begin segments label date answer input other printed text begun held left life =
     let first = life.1.0 in
     let is_new : life.0 ≡ Some (new_cartridge segments) =
     first.leaves.2 ∙ ap (λ (o : CommandOutcome). effects (steps_of o.acts) held) first.plain ∙ renewed segments held in
-    let whole : IsCartridge (new_cartridge segments) = subst (λ (o : Option Cartridge). IfSome o IsCartridge) is_new life.1.1.whole in
-    let last = life.2 in
-    let ran : HasRun (run_of (words.Format label date) other (Answered status.Done text)) (Some (new_cartridge segments)) last.0 =
-    subst (λ (o : Option Cartridge). HasRun (run_of (words.Format label date) other (Answered status.Done text)) o last.0) is_new last.1.0 in
-    let made = format_makes label date other (Answered status.Done text) false c last.0 None ran.outcome (new_sound segments false (Some c) whole refl) tt ran.plain ran.leaves last.1.1.whole in (
-      made.0,
-      emptied label date c other text made.0 made.1,
-      subst (λ (o : Option Cartridge). IsSound false o made.0) (sym last.2) made.2,
-    )
+    format_begins label date other text false (new_cartridge segments) left (subst (λ (o : Option Cartridge). IfSome o IsCartridge) is_new life.1.1.whole)
+    (subst (λ (o : Option Cartridge). Lives (Runs (run_of (words.Format label date) other (Answered status.Done text)) ∷ []) false o left) is_new life.2)
 
 -- ---- volumes in a life
 

@@ -10,7 +10,7 @@ use Rattle.command_spec.specs.Outcome.{CommandOutcome, output_of}
 use Rattle.command_spec.specs.Restore.{LosesFew, pieces_in}
 use Rattle.command_spec.specs.declared.status.Status.{Status}
 use Rattle.command_spec.specs.declared.words.Words.{Words}
-use Rattle.qic_base.specs.Cartridge.{Cartridge, new_cartridge}
+use Rattle.qic_base.specs.Cartridge.{Cartridge, IsCartridge, new_cartridge}
 use Rattle.command_spec.specs.declared.status.Status.TheVariants as status
 use Rattle.command_spec.specs.declared.words.Words.TheVariants as commands
 
@@ -38,9 +38,16 @@ StoppedRuns =
 
 -- ---- the beginning of a life
 
--- whatever the drive held, behind a new cartridge that was formatted the empty list stands, and the next run may rely on it
-abbrev pub FormattedIsSound : Type 0
-FormattedIsSound =
+-- behind a `format` of any cartridge that was answered Done the empty list stands, and the next run may rely on it
+abbrev pub FormatBegins : Type 0
+FormatBegins =
+    (label : List ℕ) (date : ℕ) (input text : List ℕ) (begun : Bool) (c : Cartridge) (left : Option Cartridge) → IsCartridge c →
+    Lives (Runs (run_of (commands.Format label date) input (Answered status.Done text)) ∷ []) begun (Some c) left →
+    (after : Option Plain) × IsEmptied c label date after × IsSound false left after
+
+-- .. so it is, whatever the drive held, behind a new cartridge that was formatted
+abbrev pub NewAndFormatBegin : Type 0
+NewAndFormatBegin =
     (segments : ℕ) (label : List ℕ) (date : ℕ) (answer : Status) (input other printed text : List ℕ) (begun : Bool) (held left : Option Cartridge) →
     Lives (Runs (run_of (commands.New segments) input (Answered answer printed)) ∷ Runs (run_of (commands.Format label date) other (Answered status.Done text)) ∷ []) begun held left →
     (after : Option Plain) × IsEmptied (new_cartridge segments) label date after × IsSound false left after
