@@ -56,6 +56,7 @@ pub mod MountedStanding
 pub mod NewCommand
 pub mod OutputActsOfPieces
 pub mod OutputJoining
+pub mod PromiseFollowing
 pub mod ProtectCommand
 pub mod PulseMachineLaws
 pub mod PulseStopping
