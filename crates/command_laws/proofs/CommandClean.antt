@@ -26,7 +26,7 @@ use Rattle.cartridge_spec.specs.Says.{Written, Zero, with_parity, whole_mask}
 use Rattle.cartridge_spec.specs.Settling.{block_writes, changed_by, settling_places, settling_steps}
 use Rattle.cartridge_spec.specs.Table.{Entry, slot_sector, table_with}
 use Rattle.cartridge_spec.specs.Volumes.{volume_length}
-use Rattle.command_laws.proofs.CommandPlainLaws.{SectorLeaves, defect_leaves, lose_leaves, protect_leaves, sent_leaves}
+use Rattle.command_laws.proofs.CommandPlainLaws.{SectorLeaves, defect_leaves, lose_leaves, sent_leaves}
 use Rattle.command_laws.proofs.InputActLaws.{input_is_free}
 use Rattle.command_laws.proofs.MadeMadeBytes.{length-made_bytes}
 use Rattle.command_laws.proofs.MadeStops.{sum_in_no_step}
@@ -49,7 +49,6 @@ use Rattle.command_spec.specs.Lines.{reply_behind}
 use Rattle.command_spec.specs.Lose.{LoseOutcome}
 use Rattle.command_spec.specs.Make.{Making, MakeStep, AppendMade, WearSector, ScrubAll, SumVolume, StepDoes, Runs, Answer, after_item, made_acts, made_answer, made_name, making}
 use Rattle.command_spec.specs.Outcome.{CommandOutcome, Going, OpenOutcome, WritableOutcome, Printing, Shows, settling_act}
-use Rattle.command_spec.specs.Protect.{ProtectOutcome}
 use Rattle.command_spec.specs.Pulses.{SentOutcome}
 use Rattle.command_spec.specs.Restore.{Gives, pieces, framed}
 use Rattle.command_spec.specs.Script.{reply, refusal_line, Scripting, ScriptRun, Did, Meeting, Refuses, Finds, acts_on, append_did, taken_as, LineDoes, acts_of, ItemsDo, EndDoes, cartridge_behind, entries_behind, place_behind}
@@ -59,7 +58,7 @@ use Rattle.qic_base.proofs.Joins.{steps_of-append}
 use Rattle.qic_base.proofs.Steps.{Torn-all, Torn-append}
 use Rattle.qic_base.specs.Acts.{Act, steps_of, text_of}
 use Rattle.qic_base.specs.Cartridge.{Cartridge}
-use Rattle.qic_base.specs.Step.{Step, SetProtected, SetReferenced, Spoil, Wear, changed, effects}
+use Rattle.qic_base.specs.Step.{Step, SetReferenced, Spoil, Wear, changed, effects}
 use Rattle.qic_base.specs.Stop.{Torn}
 use Rattle.qic_base.specs.declared.tape.SectorView.{SectorView}
 use Rattle.cartridge_spec.specs.Mounting as mounting
@@ -126,11 +125,6 @@ module _ (P : Cartridge → Type 0) where
   sector_leaves step segment sector c left before behind (inl same) = some_and P c left before same
   sector_leaves step segment sector c left before behind (inr is) = some_and P (changed step c) left behind is.1
 
-  mark_leaves : (on : Bool) (c : Cartridge) (left : Option Cartridge) → P c → P (changed (SetProtected on) c) → Torn (SetProtected on ∷ []) (Some c) left → IsSomeAnd left P
-  mark_leaves on c left before behind (inl is) = some_and P c left before is
-  mark_leaves on c left before behind (inr (inl inside)) = absurd inside
-  mark_leaves on c left before behind (inr (inr is)) = some_and P (changed (SetProtected on) c) left behind is
-
   wear_leaves : (segment sector : ℕ) (c : Cartridge) → P c → P (changed (Wear segment sector) c) → Leaves c (Wear segment sector ∷ [])
   wear_leaves segment sector c before behind left (inl is) = some_and P c left before is
   wear_leaves segment sector c before behind left (inr (inl inside)) = absurd inside
@@ -150,9 +144,6 @@ module _ (P : Cartridge → Type 0) where
       Leaves c (steps_of outcome.acts)
   lose_leaving segment sector c outcome plain before behind left torn =
       sector_leaves (Wear segment sector) segment sector c left before behind (lose_leaves segment sector (Some c) left outcome plain torn)
-
-  pub protect_leaving : (on : Bool) (c : Cartridge) (outcome : CommandOutcome) → ProtectOutcome on (Some c) outcome → P c → P (changed (SetProtected on) c) → Leaves c (steps_of outcome.acts)
-  protect_leaving on c outcome plain before behind left torn = mark_leaves on c left before behind (protect_leaves on (Some c) left outcome plain torn)
 
   pub sent_leaving : (c : Cartridge) (input : List ℕ) (outcome : CommandOutcome) → SentOutcome (Some c) input outcome → P c → P (changed SetReferenced c) → Leaves c (steps_of outcome.acts)
   sent_leaving c input outcome plain before behind left torn = trains_leave c left before behind (sent_leaves (Some c) left input outcome plain torn)

@@ -1,7 +1,7 @@
 -- What a stop in an outcome leaves of what a cartridge stands for, and of what it is mounted as.
-use Rattle.std.proofs.Common.{[], ◌≡◌, List, Option, Some, IsSomeAnd, sym, ◌∙◌, subst, refl, ℕ, inl, inr, Bool, true, ◌∷◌, ◌⊎◌}
-use Rattle.cartridge_laws.proofs.ChangeMounted.{protected_mounts, referenced_mounts}
-use Rattle.cartridge_laws.proofs.ChangeStanding.{protected_stands, referenced_stands}
+use Rattle.std.proofs.Common.{◌≡◌, List, Option, Some, IsSomeAnd, sym, ◌∙◌, subst, refl, ℕ, inl, inr, true, ◌⊎◌}
+use Rattle.cartridge_laws.proofs.ChangeMounted.{referenced_mounts}
+use Rattle.cartridge_laws.proofs.ChangeStanding.{referenced_stands}
 use Rattle.cartridge_laws.proofs.FormatWriting.{some_and}
 use Rattle.cartridge_laws.proofs.MountKeeping.{stopped_stands, stopped_mounts}
 use Rattle.cartridge_laws.proofs.MountOnce.{mounts_is_function}
@@ -16,8 +16,7 @@ use Rattle.command_laws.proofs.ScrubMounted.{stopped_scrub_stands, stopped_scrub
 use Rattle.command_spec.specs.Outcome.{HasPlace}
 use Rattle.command_spec.specs.Scrub.{Scrubs}
 use Rattle.qic_base.specs.Cartridge.{Cartridge}
-use Rattle.qic_base.specs.Step.{Step as TapeStep, effect, changed, SetProtected, SetReferenced}
-use Rattle.qic_base.specs.Stop.{Torn}
+use Rattle.qic_base.specs.Step.{Step as TapeStep, effect, changed, SetReferenced}
 
 pub same_stands : (c : Cartridge) (plain : Plain) (left : Option Cartridge) → Stands c plain → left ≡ Some c → IsSomeAnd left (λ d. Stands d plain)
 same_stands c plain left stood is = some_and (λ d. Stands d plain) c left stood is
@@ -53,12 +52,6 @@ format_stands label date c plain left stood locked (inl same) = same_stands c pl
 format_stands label date c plain left stood locked (inr (inl torn)) = let free = torn.0 in absurd (cc)
 format_stands label date c plain left stood locked (inr (inr torn)) = let free = torn.0 in absurd (cc)
 
-pub protect_stands : (on : Bool) (c : Cartridge) (plain : Plain) (left : Option Cartridge) → Stands c plain → Torn (SetProtected on ∷ []) (Some c) left →
-    IsSomeAnd left (λ d. Stands d plain)
-protect_stands on c plain left stood (inl before) = same_stands c plain left stood before
-protect_stands on c plain left stood (inr (inl inside)) = absurd inside
-protect_stands on c plain left stood (inr (inr behind)) = same_stands (changed (SetProtected on) c) plain left (protected_stands c plain on stood) behind
-
 pub pulses_stand : (c : Cartridge) (plain : Plain) (left : Option Cartridge) → Stands c plain → (left ≡ Some c) ⊎ (left ≡ effect SetReferenced (Some c)) → IsSomeAnd left (λ d. Stands d plain)
 pulses_stand c plain left stood (inl before) = same_stands c plain left stood before
 pulses_stand c plain left stood (inr behind) = same_stands (changed SetReferenced c) plain left (referenced_stands c plain stood) behind
@@ -84,11 +77,6 @@ scrub_mounts c m left mounts (inr (header, (words, (table, (entries, (acts, agai
 module _ (c : Cartridge) (header : Header) (words : List ℕ) (table : List (List ℕ)) (entries : List Entry) (left : Option Cartridge) (mounts : Mounts c (Mounted header words table entries)) where
   abbrev StillSo : Cartridge → Type 0
   StillSo d = Mounts d (Mounted header words table entries)
-
-  pub protect_mounts : (on : Bool) → Torn (SetProtected on ∷ []) (Some c) left → IsSomeAnd left StillSo
-  protect_mounts on (inl before) = some_and StillSo c left mounts before
-  protect_mounts on (inr (inl inside)) = absurd inside
-  protect_mounts on (inr (inr behind)) = some_and StillSo (changed (SetProtected on) c) left (protected_mounts c on header words table entries mounts) behind
 
   pub pulses_mount : (left ≡ Some c) ⊎ (left ≡ effect SetReferenced (Some c)) → IsSomeAnd left StillSo
   pulses_mount (inl before) = some_and StillSo c left mounts before

@@ -1,11 +1,12 @@
 -- What the outcomes of commands have in common: each is one, and what a stop in it leaves.
-use Rattle.std.proofs.Common.{[], ◌≡◌, ℕ, Option, Some, None, sym, ◌∙◌, inl, inr, Bool, List, subst, ◌∷◌, ap, ◌⊎◌, true, false, ◌++◌, append-nil, refl}
+use Rattle.std.proofs.Common.{[], ◌≡◌, ℕ, Option, Some, None, sym, ◌∙◌, inl, inr, List, subst, ◌∷◌, ap, ◌⊎◌, true, false, ◌++◌, append-nil, refl}
 use Rattle.cartridge_laws.proofs.FreshFront.{first_defect_is_none, first_defect_is_one}
 use Rattle.cartridge_laws.proofs.FreshMarks.{fresh_area_is_one}
 use Rattle.cartridge_laws.proofs.MountOnce.{mounts_is_function}
 use Rattle.cartridge_laws.proofs.MountWhole.{settling_effects}
-use Rattle.cartridge_spec.specs.Formatting.{clearing_steps, format_steps, HasNoDefectInFront, IsFreshWith}
+use Rattle.cartridge_spec.specs.Formatting.{IsFirstDefectInFront, clearing_steps, format_steps, HasNoDefectInFront, IsFreshWith}
 use Rattle.cartridge_spec.specs.Header.{Header}
+use Rattle.cartridge_spec.specs.HeaderAndTable.{IsUnformatted}
 use Rattle.cartridge_spec.specs.Mounting.{Mounting, settled, Mounts}
 use Rattle.cartridge_spec.specs.Settling.{settling_steps}
 use Rattle.cartridge_spec.specs.Table.{Entry}
@@ -22,7 +23,6 @@ use Rattle.command_spec.specs.Format.{FormatOutcome, cleared, formatted}
 use Rattle.command_spec.specs.Lose.{LoseOutcome}
 use Rattle.command_spec.specs.Make.{Making, made_on}
 use Rattle.command_spec.specs.Outcome.{refused, CommandOutcome, Going, Opened, OpenOutcome, WritableOutcome, Printing, Shows, settling_act, HasPlace}
-use Rattle.command_spec.specs.Protect.{ProtectOutcome}
 use Rattle.command_spec.specs.Pulses.{sent, info_of, SentOutcome, train_acts}
 use Rattle.command_spec.specs.Restore.{GivingEnd, Restores, pieces, Gives, ending_status, RestoreOutcome}
 use Rattle.command_spec.specs.Script.{Scripting, scripted_on}
@@ -32,7 +32,7 @@ use Rattle.drive_spec.specs.Record.{power_on}
 use Rattle.qic_base.proofs.Steps.{Torn-append}
 use Rattle.qic_base.specs.Acts.{Act, steps_of}
 use Rattle.qic_base.specs.Cartridge.{Cartridge}
-use Rattle.qic_base.specs.Step.{Step as TapeStep, changed, SetReferenced, SetProtected, Wear, Spoil, effect, effects}
+use Rattle.qic_base.specs.Step.{Step as TapeStep, changed, SetReferenced, Wear, Spoil, effect, effects}
 use Rattle.qic_base.specs.Stop.{Torn, Halfway}
 use Rattle.cartridge_spec.specs.Mounting as mounting
 use Rattle.command_spec.specs.declared.status.Status.TheVariants as status
@@ -103,22 +103,15 @@ defect_is_function segment sector (Some c) a b (inr (inl one)) (inr (inr other))
 defect_is_function segment sector (Some c) a b (inr (inr one)) (inr (inl other)) = let p = one.1 in let q = other.1 in absurd (cc)
 defect_is_function segment sector (Some c) a b (inr (inr one)) (inr (inr other)) = one.2 ∙ sym other.2
 
-pub protect_is_function : (on : Bool) (held : Option Cartridge) (a b : CommandOutcome) → ProtectOutcome on held a → ProtectOutcome on held b → a ≡ b
-protect_is_function on None a b one other = one ∙ sym other
-protect_is_function on (Some c) a b one other = one ∙ sym other
-
 -- what a stop in the steps of an outcome leaves, a stop in the one step leaves
-only_step : (step : TapeStep) (held left : Option Cartridge) (a b : CommandOutcome) → a ≡ b → steps_of b.acts ≡ step ∷ [] → Torn (steps_of a.acts) held left → Torn (step ∷ []) held left
+pub only_step : (step : TapeStep) (held left : Option Cartridge) (a b : CommandOutcome) → a ≡ b → steps_of b.acts ≡ step ∷ [] → Torn (steps_of a.acts) held left → Torn (step ∷ []) held left
 only_step step held left a b same one torn = subst (λ (steps : List TapeStep). Torn steps held left) (ap (λ (o : CommandOutcome). steps_of o.acts) same ∙ one) torn
-
-no_step : (step : TapeStep) (held left : Option Cartridge) (a b : CommandOutcome) → a ≡ b → steps_of b.acts ≡ [] → Torn (steps_of a.acts) held left → Torn (step ∷ []) held left
-no_step step held left a b same none torn = inl (subst (λ (steps : List TapeStep). Torn steps held left) (ap (λ (o : CommandOutcome). steps_of o.acts) same ∙ none) torn)
 
 one_act : (steps : List TapeStep) (held left : Option Cartridge) (a b : CommandOutcome) → a ≡ b → steps_of b.acts ≡ steps ++ [] → Torn (steps_of a.acts) held left → Torn steps held left
 one_act steps held left a b same one torn =
     subst (λ (ss : List TapeStep). Torn ss held left) (ap (λ (o : CommandOutcome). steps_of o.acts) same ∙ one ∙ append-nil steps) torn
 
-stays : (held left : Option Cartridge) (a b : CommandOutcome) → a ≡ b → steps_of b.acts ≡ [] → Torn (steps_of a.acts) held left → left ≡ held
+pub stays : (held left : Option Cartridge) (a b : CommandOutcome) → a ≡ b → steps_of b.acts ≡ [] → Torn (steps_of a.acts) held left → left ≡ held
 stays held left a b same none torn = subst (λ (steps : List TapeStep). Torn steps held left) (ap (λ (o : CommandOutcome). steps_of o.acts) same ∙ none) torn
 
 pub opening_leaves : (prints : Printing) (held left : Option Cartridge) (outcome : CommandOutcome) → OpenOutcome (Shows prints) held outcome → Torn (steps_of outcome.acts) held left → OpeningLeaves held left
@@ -235,11 +228,6 @@ lose_leaves segment sector None left outcome plain torn = stays None left outcom
 lose_leaves segment sector (Some c) left outcome (inl plain) torn = inl (stays (Some c) left outcome _ plain.1 refl torn)
 lose_leaves segment sector (Some c) left outcome (inr plain) torn = sector_leaves (Wear segment sector) segment sector c left outcome _ plain.0 (λ half. half) plain.1 refl torn
 
-pub protect_leaves : (on : Bool) (held left : Option Cartridge) (outcome : CommandOutcome) → ProtectOutcome on held outcome → Torn (steps_of outcome.acts) held left →
-    Torn (SetProtected on ∷ []) held left
-protect_leaves on None left outcome plain torn = no_step (SetProtected on) None left outcome _ plain refl torn
-protect_leaves on (Some c) left outcome plain torn = only_step (SetProtected on) (Some c) left outcome _ plain refl torn
-
 -- ---- mounting is a function
 
 -- what is done on a mounted cartridge is one outcome
@@ -338,3 +326,20 @@ pub format_locked : (label : List ℕ) (date : ℕ) (c : Cartridge) (outcome : C
 format_locked label date c outcome locked (inl is) = is.1
 format_locked label date c outcome locked (inr (inl is)) = let free = is.0 in absurd (cc)
 format_locked label date c outcome locked (inr (inr is)) = let free = is.0 in absurd (cc)
+
+-- ---- an unformatted one, and one with a defect in front
+
+pub open_unformatted : (goes : Going) (c : Cartridge) (outcome : CommandOutcome) → IsUnformatted c → OpenOutcome goes (Some c) outcome → outcome ≡ refused status.NotFormatted
+open_unformatted goes c outcome bare (m, mounts, opened) =
+    subst (λ (k : Mounting). Opened goes c k outcome) (mounts_is_function c m mounting.NotFormatted mounts bare) opened
+
+pub writable_unformatted : (goes : Going) (c : Cartridge) (outcome : CommandOutcome) → c.info.protected ≡ false → IsUnformatted c → WritableOutcome goes (Some c) outcome → outcome ≡ refused status.NotFormatted
+writable_unformatted goes c outcome free bare (inl is) = let locked = is.0 in absurd (cc)
+writable_unformatted goes c outcome free bare (inr is) = open_unformatted goes c outcome bare is.1
+
+pub format_in_front : (label : List ℕ) (date : ℕ) (c : Cartridge) (segment : ℕ) (outcome : CommandOutcome) → c.info.protected ≡ false → IsFirstDefectInFront c segment →
+    FormatOutcome label date (Some c) outcome → outcome.status ≡ status.DefectInFront segment
+format_in_front label date c segment outcome free first (inl is) = let locked = is.0 in absurd (cc)
+format_in_front label date c segment outcome free first (inr (inl (unlocked, (other, second, is)))) =
+    ap (λ (o : CommandOutcome). o.status) is ∙ ap status.DefectInFront (first_defect_is_one c other segment second first)
+format_in_front label date c segment outcome free first (inr (inr is)) = absurd (first_defect_is_none c (record { segment = segment; is_first = first }) is.1)

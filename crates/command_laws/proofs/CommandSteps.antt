@@ -24,7 +24,6 @@ use Rattle.command_spec.specs.Lines.{reply_behind}
 use Rattle.command_spec.specs.Lose.{LoseOutcome}
 use Rattle.command_spec.specs.Make.{Making, MakeStep, AppendMade, WearSector, ScrubAll, SumVolume, StepDoes, Runs, Answer, after_item, made_acts, made_name, making}
 use Rattle.command_spec.specs.Outcome.{CommandOutcome, Going, Opened, OpenOutcome, WritableOutcome, Printing, Shows, settling_act}
-use Rattle.command_spec.specs.Protect.{ProtectOutcome}
 use Rattle.command_spec.specs.Pulses.{SentOutcome, info_of, PulseRun, train_acts, train_changes, pulsed_row}
 use Rattle.command_spec.specs.Restore.{Gives, pieces, framed, GivingEnd, Restored, LostIn, MismatchIn}
 use Rattle.command_spec.specs.Script.{reply, refusal_line, restored_line, Scripting, ScriptRun, Did, Meeting, Refuses, Finds, acts_on, append_did, taken_as, given_as, LineDoes, acts_of, ItemsDo, EndDoes, cartridge_behind, entries_behind, place_behind}
@@ -89,7 +88,7 @@ acts_of_none : (xs : List Act) → steps_of xs ≡ [] → AreNoRenew xs
 acts_of_none xs none = subst HasNoRenew (sym none) tt
 
 -- an outcome with such acts
-by_outcome : (a b : CommandOutcome) → a ≡ b → AreNoRenew b.acts → AreNoRenew a.acts
+pub by_outcome : (a b : CommandOutcome) → a ≡ b → AreNoRenew b.acts → AreNoRenew a.acts
 by_outcome a b same none = subst (λ (o : CommandOutcome). AreNoRenew o.acts) (sym same) none
 
 -- ---- changes of one sector or mark, and formatting
@@ -104,10 +103,6 @@ pub lose_none : (segment sector : ℕ) (held : Option Cartridge) (outcome : Comm
 lose_none segment sector None outcome is = by_outcome outcome _ is tt
 lose_none segment sector (Some c) outcome (inl is) = by_outcome outcome _ is.1 tt
 lose_none segment sector (Some c) outcome (inr is) = by_outcome outcome _ is.1 (tt, tt)
-
-pub protect_none : (on : Bool) (held : Option Cartridge) (outcome : CommandOutcome) → ProtectOutcome on held outcome → AreNoRenew outcome.acts
-protect_none on None outcome is = by_outcome outcome _ is tt
-protect_none on (Some c) outcome is = by_outcome outcome _ is (tt, tt)
 
 none_in_formats : (segments : List ℕ) → HasNoRenew (map (λ s. FormatSegment s) segments)
 none_in_formats [] = tt

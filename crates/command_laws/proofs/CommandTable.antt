@@ -14,6 +14,7 @@ use Rattle.command_laws.proofs.RestoreCommand.{restore_laws, restore_read}
 use Rattle.command_laws.proofs.ScriptCommand.{script_laws, script_read}
 use Rattle.command_laws.proofs.ScrubCommand.{scrub_laws, scrub_read}
 use Rattle.command_laws.proofs.TextCommands.{guess}
+use Rattle.command_laws.proofs.UpgradeCommand.{upgrade_laws, upgrade_read}
 use Rattle.command_laws.specs.CommandLaws.{DoneWhereAllIsThere, OneOutcome, OnlyNewRenews, CopiesStayClean, CopiesStayBare}
 use Rattle.command_laws.specs.CommandRecord.{CommandLaws}
 use Rattle.command_spec.specs.Commands.{command_of, IsCommand}
@@ -42,6 +43,7 @@ described words.Scrub = record { laws = scrub_laws; read = scrub_read }
 described words.Pulses = record { laws = pulses_laws; read = pulses_read }
 described words.Script = record { laws = script_laws; read = script_read }
 described (words.Make seed count) = record { laws = make_laws seed count; read = make_read seed count }
+described words.Upgrade = record { laws = upgrade_laws; read = upgrade_read }
 
 pub laws_of : (command : Words) → CommandLaws (command_of command)
 laws_of command = (described command).laws

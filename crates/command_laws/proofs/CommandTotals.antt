@@ -22,7 +22,6 @@ use Rattle.command_spec.specs.Format.{FormatOutcome}
 use Rattle.command_spec.specs.Lose.{LoseOutcome}
 use Rattle.command_spec.specs.Make.{Making}
 use Rattle.command_spec.specs.Outcome.{CommandOutcome, HasPlace, Going, Opened, OpenOutcome, WritableOutcome, Printing, Shows}
-use Rattle.command_spec.specs.Protect.{ProtectOutcome}
 use Rattle.command_spec.specs.Pulses.{sent, info_of, SentOutcome}
 use Rattle.command_spec.specs.Restore.{Gives, volume_at, pieces}
 use Rattle.command_spec.specs.Script.{Scripting}
@@ -50,10 +49,6 @@ defect_answers segment sector (Some c) = by_place (place_or_not c.info.segments_
     by_place : HasPlace c segment sector ⊎ ¬ (HasPlace c segment sector) → (outcome : CommandOutcome) × DefectOutcome segment sector (Some c) outcome
     by_place (inl place) = by_view place (spoil_answer (view_at c segment sector)) refl
     by_place (inr none) = (_, inl (none, refl))
-
-pub protect_answers : (on : Bool) (held : Option Cartridge) → (outcome : CommandOutcome) × ProtectOutcome on held outcome
-protect_answers on None = (_, refl)
-protect_answers on (Some c) = (_, refl)
 
 -- each cartridge that is mounted has one
 abbrev pub Answers : Going → Type 0

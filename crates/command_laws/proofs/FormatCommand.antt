@@ -4,7 +4,7 @@ use Rattle.cartridge_spec.specs.Formatting.{HasNoHeader, HasNoDefectInFront}
 use Rattle.command_laws.proofs.CommandClean.{Clean, format_leaves as leaves_format}
 use Rattle.command_laws.proofs.CommandComplete.{where_some, format_done}
 use Rattle.command_laws.proofs.CommandKeeping.{format_stands, format_mounts}
-use Rattle.command_laws.proofs.CommandPlainLaws.{format_leaves, format_is_function, format_locked}
+use Rattle.command_laws.proofs.CommandPlainLaws.{format_in_front, format_leaves, format_is_function, format_locked}
 use Rattle.command_laws.proofs.CommandSteps.{format_none}
 use Rattle.command_laws.proofs.CommandTexts.{plain_texts}
 use Rattle.command_laws.proofs.CommandTotals.{format_answers}
@@ -33,6 +33,8 @@ format_laws label date = record {
   one = λ held input a b one other. format_is_function label date held a b one other;
   none_held = λ is input outcome plain. plain;
   locked = λ is c input outcome locked plain. format_locked label date c outcome locked plain;
+  unformatted = λ is c input outcome free bare plain. absurd (cc);
+  in_front = λ is c segment input outcome free first plain. format_in_front label date c segment outcome free first plain;
   done = λ held input outcome whole values. where_some (λ c. IsUnprotected c × HasNoDefectInFront c) held (λ h. FormatOutcome label date h outcome → outcome.status ≡ status.Done) (λ c can does. format_done label date c outcome can.0 can.1 does);
   texts = plain_texts _ _ (0, (0, refl));
   blind = λ is. record {

@@ -15,6 +15,7 @@ pub mod CommandOpened
 pub mod CommandPlainLaws
 pub mod CommandPromises
 pub mod CommandSeveral
+pub mod CommandStep
 pub mod CommandSteps
 pub mod CommandSurvives
 pub mod CommandTable
@@ -91,9 +92,13 @@ pub mod ScriptValues
 pub mod ScrubAgain
 pub mod ScrubApart
 pub mod ScrubAtOnce
+pub mod ScrubBeside
 pub mod ScrubCommand
 pub mod ScrubDone
 pub mod ScrubForms
+pub mod ScrubFormsAgain
+pub mod ScrubFormsStanding
+pub mod ScrubFormsTable
 pub mod ScrubLooking
 pub mod ScrubMending
 pub mod ScrubMounted
@@ -103,6 +108,7 @@ pub mod ScrubSeen
 pub mod ScrubSettled
 pub mod ScrubStanding
 pub mod ScrubTurns
+pub mod SilentMended
 pub mod StoreAgain
 pub mod StoreBehind
 pub mod StoreEnding
@@ -121,3 +127,4 @@ pub mod TextPrinting
 pub mod TextReadings
 pub mod TextTrimmed
 pub mod TextWords
+pub mod UpgradeCommand

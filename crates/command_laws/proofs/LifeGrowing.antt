@@ -1,6 +1,6 @@
 -- Which runs are runs of a life, how a life begins, and that it keeps its volumes.
 use Rattle.std.proofs.Common.{◌≡◌, ◌++◌, ◌+◌, ◌==◌, ◌∙◌, ℕ, zero, suc, append-nil, append_assoc, ap, sym, subst, refl, inl, inr, Bool, true, false, cond, List, [], ◌∷◌, Option, Some, None, IfSome, length, take}
-use Rattle.cartridge_spec.specs.Appending.{Content, with_all, with_bytes, with_volume}
+use Rattle.cartridge_spec.specs.Appending.{Content, appended_volume, with_all, with_bytes}
 use Rattle.cartridge_spec.specs.Volumes.{Plain, Volume, entries_of}
 use Rattle.command_laws.proofs.CommandTable.{has_values}
 use Rattle.command_laws.proofs.LifeFormats.{format_makes, new_sound, renewed}
@@ -72,8 +72,8 @@ formatted_is_sound segments label date answer input other printed text begun hel
 grown_none : (plain : Plain) → HasGrown plain plain
 grown_none plain = record { more = []; volumes = sym (append-nil plain.volumes) }
 
-grown_one : (plain : Plain) (volume : Volume) → HasGrown plain (with_volume plain volume)
-grown_one plain volume = record { more = volume ∷ []; volumes = refl }
+grown_one : (plain : Plain) (name : List ℕ) (date : ℕ) (bytes : List ℕ) → HasGrown plain (with_bytes plain name date bytes)
+grown_one plain name date bytes = record { more = appended_volume plain name date bytes ∷ []; volumes = refl }
 
 grown_both : (a b c : Plain) → HasGrown a b → HasGrown b c → HasGrown a c
 grown_both a b c one other = record {
@@ -85,7 +85,7 @@ all_grow : (plain : Plain) (contents : List Content) → HasGrown plain (with_al
 all_grow plain [] = grown_none plain
 all_grow plain (content ∷ more) =
     let next : Plain = with_bytes plain content.name content.date content.bytes in
-    grown_both plain next (with_all next more) (grown_one plain _) (all_grow next more)
+    grown_both plain next (with_all next more) (grown_one plain content.name content.date content.bytes) (all_grow next more)
 
 record GrownTo (plain : Plain) (after : Option Plain) : Type 0 where
   later : Plain
@@ -97,10 +97,10 @@ same_list plain after is = record { later = plain; is = is; grown = grown_none p
 
 append_grows : (name : List ℕ) (date : ℕ) (c : Cartridge) (input : List ℕ) (ended : Ended) (plain : Plain) (after : Option Plain) →
     Becomes (words.Append name date) (Some c) input ended (Some plain) after → GrownTo plain after
-append_grows name date c input (Answered answer printed) plain after (inl (done, is)) = record { later = _; is = is; grown = grown_one plain _ }
+append_grows name date c input (Answered answer printed) plain after (inl (done, is)) = record { later = _; is = is; grown = grown_one plain name date input }
 append_grows name date c input (Answered answer printed) plain after (inr (other, is)) = same_list plain after is
 append_grows name date c input (Stopped printed) plain after (inl is) = same_list plain after is
-append_grows name date c input (Stopped printed) plain after (inr is) = record { later = _; is = is; grown = grown_one plain _ }
+append_grows name date c input (Stopped printed) plain after (inr is) = record { later = _; is = is; grown = grown_one plain name date input }
 
 command_grows : (command : Words) (c : Cartridge) (input : List ℕ) (ended : Ended) (plain : Plain) (after : Option Plain) → IsKeeping command →
     Becomes command (Some c) input ended (Some plain) after → GrownTo plain after

@@ -13,10 +13,14 @@ use Rattle.cartridge_spec.specs.Formatting.{HasNoHeader}
 use Rattle.cartridge_spec.specs.HeaderAndTable.{CopyDoesNotRead, IsUnformatted, copy_cells}
 use Rattle.cartridge_spec.specs.Mounting.{Mounting, Mounts}
 use Rattle.cartridge_spec.specs.Says.{whole_mask}
-use Rattle.command_laws.proofs.CommandPlainLaws.{SectorLeaves, defect_leaves, lose_leaves, protect_leaves, sent_leaves}
+use Rattle.command_laws.proofs.CommandPlainLaws.{SectorLeaves, defect_leaves, lose_leaves, sent_leaves}
+use Rattle.command_laws.proofs.CommandStep.{step_leaves}
+use Rattle.command_laws.proofs.ProtectCommand.{mark_keeps}
+use Rattle.command_laws.proofs.UpgradeCommand.{version_keeps}
 use Rattle.command_laws.specs.Life.{LossSpares}
 use Rattle.command_spec.specs.Append.{Appends}
 use Rattle.command_spec.specs.Info.{telling}
+use Rattle.command_spec.specs.Lines.{protected_line, upgraded_line}
 use Rattle.command_spec.specs.List.{listing}
 use Rattle.command_spec.specs.Machine.{Yields}
 use Rattle.command_spec.specs.Make.{Making}
@@ -153,18 +157,16 @@ stays_neither (words.Lose segment sector) c input outcome left other others spar
     (λ place. worn_neither c segment sector place.in_segment (spares segment sector refl place) none)
     (lose_leaves segment sector (Some c) left outcome plain torn)
 stays_neither (words.Protect on) c input outcome left other others spares none plain torn =
-    by_mark (protect_leaves on (Some c) left outcome plain torn)
-  where
-    by_mark : Torn (SetProtected on ∷ []) (Some c) left → IsSomeAnd left NeitherReads
-    by_mark (inl same) = some_and NeitherReads c left none same
-    by_mark (inr (inl inside)) = absurd inside
-    by_mark (inr (inr is)) = some_and NeitherReads (changed (SetProtected on) c) left (marked_neither c (changed (SetProtected on) c) refl none) is
+    step_leaves (SetProtected on) (λ d. protected_line on) NeitherReads (mark_keeps on) c outcome left none
+    (marked_neither c (changed (SetProtected on) c) refl none) plain torn
 stays_neither words.Pulses c input outcome left other others spares none plain torn =
     by_trains (sent_leaves (Some c) left input outcome plain torn)
   where
     by_trains : (left ≡ Some c) ⊎ (left ≡ Some (changed SetReferenced c)) → IsSomeAnd left NeitherReads
     by_trains (inl same) = some_and NeitherReads c left none same
     by_trains (inr is) = some_and NeitherReads (changed SetReferenced c) left (marked_neither c (changed SetReferenced c) refl none) is
+stays_neither words.Upgrade c input outcome left other others spares none plain torn =
+    step_leaves Upgrade (λ d. upgraded_line d.version) NeitherReads version_keeps c outcome left none (marked_neither c (changed Upgrade c) refl none) plain torn
 stays_neither words.List c input outcome left other others spares none plain torn =
     by_none c (steps_of outcome.acts) left none torn (turned_away (Shows listing) c outcome none plain)
 stays_neither words.Info c input outcome left other others spares none plain torn =

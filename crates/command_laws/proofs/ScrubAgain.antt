@@ -27,9 +27,9 @@ use Rattle.qic_base.specs.declared.tape.SectorView.TheVariants.{Blank, Defect, L
 
 -- ---- what each segment said
 
-record IsSaid (c : Cartridge) (l : Looked) : Type 0 where
-  saying : Saying
-  says : Says (cells_at c l) saying
+pub record IsSaid (c : Cartridge) (l : Looked) : Type 0 where
+  pub saying : Saying
+  pub says : Says (cells_at c l) saying
 
 said_of : (c : Cartridge) (ls : List Looked) (ss : List Saying) (l : Looked) → SayAtOnce c ls ss → Contains ls l → IsSaid c l
 said_of c [] ss l say among = let h = among.1 in absurd (omega arith)
@@ -62,13 +62,13 @@ mending_none d segment (place ∷ places) (bytes ∷ sectors) readable =
     no_write (is_unreadable (view_at d segment place)) segment place bytes (mending_writes d segment places sectors) (readable 0 (omega arith))
     (mending_none d segment places sectors (λ k h. readable (suc k) (omega arith)))
 
-record AfterFirst (looked : List Looked) (c d : Cartridge) : Type 0 where
-  rise : Rise looked
-  way : IsBeingMended looked c d
-  scrubbed : IsScrubbed looked c d
-  live : AreAllLive c looked
+pub record AfterFirst (looked : List Looked) (c d : Cartridge) : Type 0 where
+  pub rise : Rise looked
+  pub way : IsBeingMended looked c d
+  pub scrubbed : IsScrubbed looked c d
+  pub live : (l : Looked) (k : ℕ) → Contains looked l → k < usable_count l.mask → IsLive (view_at c l.segment (get_or (usable_places l.mask) k 0))
 
-live_at : (c : Cartridge) (looked : List Looked) (l : Looked) (k : ℕ) → AreAllLive c looked → Contains looked l → k < usable_count l.mask →
+pub live_at : (c : Cartridge) (looked : List Looked) (l : Looked) (k : ℕ) → AreAllLive c looked → Contains looked l → k < usable_count l.mask →
     IsLive (view_at c l.segment (get_or (usable_places l.mask) k 0))
 live_at c looked l k live among h =
     let cells = cells_at c l in
@@ -99,7 +99,7 @@ readable_after looked c d l ds k after among says can h =
             unreadable = unread;
             block = refl;
           }))
-          ∙ live_readable (view_at c l.segment place) bytes (live_at c looked l k after.live among h)
+          ∙ live_readable (view_at c l.segment place) bytes (after.live l k among h)
       | inr readable ↦ elim (after.way.each l.segment place small) [
         | inl same ↦ ap (λ (v : SectorView). is_unreadable v) same ∙ readable
         | inr has ↦ ap (λ (v : SectorView). is_unreadable v) has.3
@@ -132,7 +132,7 @@ readable_now looked c d l (Data ds) k after among says can h = readable_after lo
 readable_now looked c d l (LostSectors n) k after among says can h = absurd (false≢true can)
 readable_now looked c d l Mismatch k after among says can h = absurd (false≢true can)
 
-segment_again : (looked : List Looked) (c d : Cartridge) (l : Looked) (s : Saying) → AfterFirst looked c d → Contains looked l →
+pub segment_again : (looked : List Looked) (c d : Cartridge) (l : Looked) (s : Saying) → AfterFirst looked c d → Contains looked l →
     IsSaid c l → Says (cells_at d l) s →
     steps_in d l s ≡ []
 segment_again looked c d l (Data now) after among before says =
@@ -164,5 +164,5 @@ second_scrub_writes_nothing c words entries last acts again order live first sec
       rise = looked_rise words last entries order;
       way = done_being_mended c words entries last acts order first;
       scrubbed = done_scrub c words entries last acts order first;
-      live = live;
+      live = λ l k among h. live_at c looked l k live among h;
     }) (λ l among. said_of c looked first.sayings l once.0 among) (λ l among. among) twice.0

@@ -373,6 +373,30 @@ same_done depth looked c e d y fs seen scrubbed behind s i h =
       ]
     ]
 
+-- what is left, as it is mended where the wrong sectors were lost before
+pub mended_as_seen : (depth : Depth) (c : Cartridge) (words : List ℕ) (entries : List Entry) (acts : List Act) (fs : List Finding) →
+    AsSeen depth c words entries acts fs →
+    IsBeingMended (looked_at words entries) (without_all c (looked_at words entries) fs) (changed_by (steps_of acts) c)
+mended_as_seen depth c words entries acts fs run =
+    let looked : List Looked = looked_at words entries in
+    let e : Cartridge = without_all c looked fs in
+    let steps : List Step = steps_of (acts_at_once e looked (sayings_of fs)) in
+    let d : Cartridge = changed_by (steps_of acts) c in
+    let y : Cartridge = changed_by steps e in
+    let way : IsBeingMended looked e y =
+    subst (λ (o : Option Cartridge). IsSomeAnd o (IsBeingMended looked e)) (effects-some steps e)
+    (stopped_at_once looked e (sayings_of fs) (effects steps (Some e)) run.say (Torn-all steps (Some e))) in
+    let behind : IsBehind c e d y = done_behind depth c words entries acts fs run in
+    let same : (s i : ℕ) → i < 32 → view_at d s i ≡ view_at y s i =
+    same_done depth looked c e d y fs run.seen (scrubbed_at_once looked e (sayings_of fs) run.rise run.say) behind in
+    record {
+      info = behind.info.0 ∙ sym run.seen.info;
+      each = λ s i h. elim (way.each s i h) [
+        | inl is ↦ inl (same s i h ∙ is)
+        | inr has ↦ inr (has.0, has.1, has.2, same s i h ∙ has.3)
+      ];
+    }
+
 pub scrubbed_as_seen : (depth : Depth) (c : Cartridge) (words : List ℕ) (entries : List Entry) (acts : List Act) (fs : List Finding) →
     AsSeen depth c words entries acts fs →
     IsScrubbed (looked_at words entries) (without_all c (looked_at words entries) fs) (changed_by (steps_of acts) c)

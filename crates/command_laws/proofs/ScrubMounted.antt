@@ -23,7 +23,7 @@ use Rattle.qic_base.specs.Acts.{steps_of}
 use Rattle.qic_base.specs.Cartridge.{Cartridge}
 use Rattle.qic_base.specs.declared.tape.TapeInfo.{TapeInfo}
 
-in_order : (c : Cartridge) (plain : Plain) → Stands c plain → IsSoundList (last_segment c) (entries_of plain)
+pub in_order : (c : Cartridge) (plain : Plain) → Stands c plain → IsSoundList (last_segment c) (entries_of plain)
 in_order c plain stood = old_order c plain stood
 
 -- ---- what stood
@@ -49,7 +49,7 @@ clean_copy looked c d copy area small rise among way is_area (inl written) =
     inl (written_kept looked c d (whole_segment copy) area rise among is_area.sectors way written)
 clean_copy looked c d copy area small rise among way is_area (inr zeros) = inr (zero_kept looked c d copy small rise among way zeros)
 
-mending_is_clean : (c d : Cartridge) (plain : Plain) → Rise (looked_at plain.words (entries_of plain)) → StandsCleanly c plain →
+pub mending_is_clean : (c d : Cartridge) (plain : Plain) → Rise (looked_at plain.words (entries_of plain)) → StandsCleanly c plain →
     IsBeingMended (looked_at plain.words (entries_of plain)) c d → StandsCleanly d plain
 mending_is_clean c d plain rise clean way =
     let looked : List Looked = looked_at plain.words (entries_of plain) in

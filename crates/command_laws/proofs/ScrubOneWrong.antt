@@ -80,7 +80,7 @@ cell_unworn c l place sector i bytes is apart at =
     (λ same e. apart (same_place l.mask i place h is.within (sym e ∙ sym is.index))))
     ∙ sym (cell_at c l.segment l.mask i h) ∙ at
 
-worn_not_held : (view : SectorView) (bytes : List ℕ) → worn_view view ≡ Holds bytes → ⊥
+pub worn_not_held : (view : SectorView) (bytes : List ℕ) → worn_view view ≡ Holds bytes → ⊥
 worn_not_held Blank bytes is = cc
 worn_not_held Defect bytes is = cc
 worn_not_held Lost bytes is = cc

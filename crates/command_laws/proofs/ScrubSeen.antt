@@ -8,7 +8,7 @@ use Rattle.cartridge_laws.proofs.Places.{usable_small}
 use Rattle.cartridge_spec.specs.Says.{Saying, Says, Data, Mismatch, unreadable_count}
 use Rattle.cartridge_spec.specs.Settling.{changed_by}
 use Rattle.cartridge_spec.specs.Wear.{worn}
-use Rattle.command_laws.proofs.ScrubApart.{contains_first, contains_more}
+use Rattle.command_laws.proofs.ScrubApart.{contains_cases, contains_first, contains_more}
 use Rattle.command_laws.proofs.ScrubAtOnce.{AreAlike, steps_alike, steps_stay, alike}
 use Rattle.cartridge_laws.proofs.AppendKeeping.{steps_kept}
 use Rattle.command_laws.specs.ScrubFound.{FindAtOnce, finds_at_once, without_all}
@@ -207,6 +207,28 @@ seen_all depth c b (l ∷ ls) (f ∷ fs) rise found =
 pub are_seen : (depth : Depth) (c : Cartridge) (ls : List Looked) (fs : List Finding) → Rise ls → FindAtOnce depth c ls fs →
     AreSeen (without_all c ls fs) c ls fs
 are_seen depth c ls fs rise found = seen_all depth c c ls fs rise found
+
+-- what is found of one of them
+pub record FoundOf (depth : Depth) (c e : Cartridge) (l : Looked) : Type 0 where
+  pub finding : Finding
+  pub finds : Finds depth c l finding
+  pub seen : SameIn (without finding.wrong l c) e l.segment
+  pub says : Says (cells_at e l) finding.saying
+
+pub found_of : (depth : Depth) (c e : Cartridge) (ls : List Looked) (fs : List Finding) (l : Looked) → FindAtOnce depth c ls fs → AreSeen e c ls fs →
+    Contains ls l → FoundOf depth c e l
+found_of depth c e [] fs l found seen among = let h = among.1 in absurd (omega arith)
+found_of depth c e (m ∷ ms) [] l found seen among = absurd found
+found_of depth c e (m ∷ ms) (f ∷ fs) l found seen among =
+    elim (contains_cases m l ms among) [
+      | inl is ↦ subst (FoundOf depth c e) is (record {
+        finding = f;
+        finds = found.0;
+        seen = seen.0;
+        says = subst (λ (xs : List SectorView). Says xs f.saying) (sym (same_cells (without f.wrong m c) e m.segment m.mask seen.0)) (finds_says depth c m f found.0);
+      })
+      | inr later ↦ found_of depth c e ms fs l found.1 seen.1 later
+    ]
 
 -- what a scrub finds of it says each segment, and the writes are the same
 pub record SaidAtOnce (e c : Cartridge) (ls : List Looked) (fs : List Finding) : Type 0 where

@@ -71,7 +71,7 @@ settled_table_reads c area is_area known =
 
 -- ---- it stays settled
 
-mending_settled : (c d : Cartridge) (area : List (List ℕ)) (looked : List Looked) → LooksInFront looked → IsBeingMended looked c d →
+pub mending_settled : (c d : Cartridge) (area : List (List ℕ)) (looked : List Looked) → LooksInFront looked → IsBeingMended looked c d →
     IsSettledFor c area → IsSettledFor d area
 mending_settled c d area looked front way known = record {
   table = table_kept looked c d area front way known.table;

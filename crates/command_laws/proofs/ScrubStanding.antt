@@ -166,7 +166,7 @@ said_area c segment area says =
     let cells : length (cells_of c segment whole_mask) ≡ 32 = length-whole_cells c segment in
     record { size = omega arith; sectors = cartridge_sectors area are.each }
 
-copy_reads : (looked : List Looked) (c d : Cartridge) (copy : ℕ) (area : List (List ℕ)) → Rise looked → Contains looked (whole_segment copy) →
+pub copy_reads : (looked : List Looked) (c d : Cartridge) (copy : ℕ) (area : List (List ℕ)) → Rise looked → Contains looked (whole_segment copy) →
     IsBeingMended looked c d → CopyReads c copy area → CopyReads d copy area
 copy_reads looked c d copy area rise among way copy_is =
     let few : unreadable_count (copy_cells c copy) ≤ 3 = copy_is.says.0 in

@@ -110,7 +110,7 @@ unfoldable pub guess : List (List ℕ) → Words
 guess [] = words.Info
 guess (a ∷ []) =
     if bytes_eq a (codes "info") then words.Info else if bytes_eq a (codes "list") then words.List else if bytes_eq a (codes "scrub") then words.Scrub
-    else if bytes_eq a (codes "pulses") then words.Pulses else words.Script
+    else if bytes_eq a (codes "pulses") then words.Pulses else if bytes_eq a (codes "script") then words.Script else words.Upgrade
 guess (a ∷ b ∷ []) =
     if bytes_eq a (codes "new") then words.New (number_value b) else if bytes_eq a (codes "protect") then words.Protect (bytes_eq b (codes "on"))
     else if bytes_eq a (codes "format") then words.Format (filled b) 0 else if bytes_eq a (codes "append") then words.Append (filled b) 0

@@ -1,9 +1,9 @@
 -- All that a theorem over all commands asks of one: the laws of a command, in one record.
 use Rattle.std.specs.Prelude.{length, ◌≤◌, true, None, ◌≡◌, ◌++◌, ℕ, List, [], Option, Some, IfSome, IsSomeAnd, false}
 use Rattle.cartridge_laws.specs.ChangeSteps.{HasNoRenew}
-use Rattle.cartridge_spec.specs.Formatting.{HasCleanCopies, HasNoHeader}
+use Rattle.cartridge_spec.specs.Formatting.{IsFirstDefectInFront, HasCleanCopies, HasNoHeader}
 use Rattle.cartridge_spec.specs.Header.{Header}
-use Rattle.cartridge_spec.specs.HeaderAndTable.{IsArea}
+use Rattle.cartridge_spec.specs.HeaderAndTable.{IsUnformatted, IsArea}
 use Rattle.cartridge_spec.specs.Mounting.{Mounted, Mounts}
 use Rattle.cartridge_spec.specs.Table.{Entry}
 use Rattle.cartridge_spec.specs.Volumes.{Plain, Stands}
@@ -52,6 +52,11 @@ pub record CommandLaws (command : Command) : Type 0 where
       outcome ≡ refused status.NoCartridge
   pub locked : command.traits.writable ≡ true → (c : Cartridge) (input : List ℕ) (outcome : CommandOutcome) → c.info.protected ≡ true →
       command.yields (Some c) input outcome → outcome ≡ refused status.Protected
+  -- an unformatted one stops those that mount it, and a defect in front one that formats
+  pub unformatted : command.traits.mounts ≡ true → (c : Cartridge) (input : List ℕ) (outcome : CommandOutcome) → c.info.protected ≡ false →
+      IsUnformatted c → command.yields (Some c) input outcome → outcome ≡ refused status.NotFormatted
+  pub in_front : command.traits.formats ≡ true → (c : Cartridge) (segment : ℕ) (input : List ℕ) (outcome : CommandOutcome) → c.info.protected ≡ false →
+      IsFirstDefectInFront c segment → command.yields (Some c) input outcome → outcome.status ≡ status.DefectInFront segment
   -- it is carried out where all is there that it needs
   pub done : (held : Option Cartridge) (input : List ℕ) (outcome : CommandOutcome) → IfSome held IsCartridge → command.values →
       command.needs held input → command.yields held input outcome → outcome.status ≡ status.Done

@@ -1,12 +1,19 @@
 -- What scrubbing does in either form, and what a deep scrub leaves, done or stopped, as facts.
-use Rattle.std.specs.Prelude.{◌≡◌, ℕ, List, ◌↔◌, Option, Some, IsSomeAnd}
+use Rattle.std.specs.Prelude.{◌≡◌, ℕ, List, [], ◌↔◌, Option, Some, IsSomeAnd}
+use Rattle.cartridge_laws.specs.AppendSettled.{IsSettledFor}
 use Rattle.cartridge_laws.specs.Table.{IsSoundList}
+use Rattle.cartridge_spec.specs.HeaderAndTable.{TableIs}
+use Rattle.cartridge_spec.specs.Mounting.{Mounts, mounted_as}
 use Rattle.cartridge_spec.specs.Settling.{changed_by}
 use Rattle.cartridge_spec.specs.Table.{Entry}
+use Rattle.cartridge_spec.specs.Formatting.{StandsCleanly}
+use Rattle.cartridge_spec.specs.Volumes.{Plain, Stands, entries_of}
 use Rattle.command_laws.specs.ScrubFound.{FindAtOnce, finds_at_once, without_all, IsBeingScrubbed}
+use Rattle.command_laws.specs.ScrubLaws.{AreAllLive}
 use Rattle.command_laws.specs.ScrubMended.{IsScrubbed}
+use Rattle.command_laws.specs.SilentSectors.{DiffersSilently}
 use Rattle.command_spec.specs.Scrub.{Scrubs, looked_at}
-use Rattle.command_spec.specs.ScrubForms.{Depth, Shallow, ScrubsAs, finding_acts}
+use Rattle.command_spec.specs.ScrubForms.{Depth, Shallow, Deep, ScrubsAs, finding_acts}
 use Rattle.qic_base.specs.Acts.{Act, steps_of}
 use Rattle.qic_base.specs.Cartridge.{Cartridge, IsCartridge}
 use Rattle.qic_base.specs.Stop.{Torn}
@@ -56,6 +63,53 @@ DoneFormIsCartridge =
     (depth : Depth) (c : Cartridge) (words : List ℕ) (entries : List Entry) (acts : List Act) → IsCartridge c →
     ScrubsAs depth c words entries acts → IsCartridge (changed_by (steps_of acts) c)
 
+-- a cartridge that stands for a plain one stands for it still, ..
+abbrev pub DoneFormStands : Type 0
+DoneFormStands =
+    (depth : Depth) (c : Cartridge) (plain : Plain) (acts : List Act) → Stands c plain → ScrubsAs depth c plain.words (entries_of plain) acts →
+    Stands (changed_by (steps_of acts) c) plain
+
+-- .. with header copies that formatting may begin over, where they were so
+abbrev pub DoneFormIsClean : Type 0
+DoneFormIsClean =
+    (depth : Depth) (c : Cartridge) (plain : Plain) (acts : List Act) → StandsCleanly c plain →
+    ScrubsAs depth c plain.words (entries_of plain) acts → StandsCleanly (changed_by (steps_of acts) c) plain
+
+-- the table reads the same, and stays settled: no wrong sector is looked for in it
+abbrev pub DoneFormTable : Type 0
+DoneFormTable =
+    (depth : Depth) (c : Cartridge) (words : List ℕ) (entries : List Entry) (last : ℕ) (acts : List Act) (area : List (List ℕ)) →
+    IsSoundList last entries → ScrubsAs depth c words entries acts → TableIs c area → TableIs (changed_by (steps_of acts) c) area
+
+abbrev pub DoneFormIsSettled : Type 0
+DoneFormIsSettled =
+    (depth : Depth) (c : Cartridge) (words : List ℕ) (entries : List Entry) (last : ℕ) (acts : List Act) (area : List (List ℕ)) →
+    IsSoundList last entries → ScrubsAs depth c words entries acts → IsSettledFor c area →
+    IsSettledFor (changed_by (steps_of acts) c) area
+
+-- ---- silent sectors
+
+-- What differs from a cartridge that stands for a plain one in sectors that silently hold other bytes is mounted as that one, ..
+abbrev pub SilentSectorsAreMounted : Type 0
+SilentSectorsAreMounted =
+    (k c : Cartridge) (plain : Plain) → Stands k plain → Mounts k (mounted_as plain) → DiffersSilently k c plain → Mounts c (mounted_as plain)
+
+-- .. and behind a deep scrub it stands for the plain one
+abbrev pub SilentSectorsAreMended : Type 0
+SilentSectorsAreMended =
+    (k c : Cartridge) (plain : Plain) (acts : List Act) → Stands k plain → DiffersSilently k c plain →
+    ScrubsAs Deep c plain.words (entries_of plain) acts → Stands (changed_by (steps_of acts) c) plain
+
+-- ---- a second scrub
+
+-- where each usable sector of the segments that are looked at takes what is written to it, a second scrub in the same form
+-- writes nothing
+abbrev pub SecondFormWritesNothing : Type 0
+SecondFormWritesNothing =
+    (depth : Depth) (c : Cartridge) (words : List ℕ) (entries : List Entry) (last : ℕ) (acts again : List Act) → IsSoundList last entries →
+    AreAllLive c (looked_at words entries) → ScrubsAs depth c words entries acts →
+    ScrubsAs depth (changed_by (steps_of acts) c) words entries again → steps_of again ≡ []
+
 -- ---- a stop
 
 -- a stop among the steps, or behind the last, leaves each sector as it was, but for those to be written, which may be lost or
@@ -70,3 +124,29 @@ abbrev pub StoppedFormIsCartridge : Type 0
 StoppedFormIsCartridge =
     (depth : Depth) (c : Cartridge) (words : List ℕ) (entries : List Entry) (acts : List Act) (left : Option Cartridge) → IsCartridge c →
     ScrubsAs depth c words entries acts → Torn (steps_of acts) (Some c) left → IsSomeAnd left IsCartridge
+
+-- a cartridge that stands for a plain one stands for it still, ..
+abbrev pub StoppedFormStands : Type 0
+StoppedFormStands =
+    (depth : Depth) (c : Cartridge) (plain : Plain) (acts : List Act) (left : Option Cartridge) → Stands c plain →
+    ScrubsAs depth c plain.words (entries_of plain) acts → Torn (steps_of acts) (Some c) left → IsSomeAnd left (λ d. Stands d plain)
+
+-- .. with header copies that formatting may begin over, where they were so
+abbrev pub StoppedFormIsClean : Type 0
+StoppedFormIsClean =
+    (depth : Depth) (c : Cartridge) (plain : Plain) (acts : List Act) (left : Option Cartridge) → StandsCleanly c plain →
+    ScrubsAs depth c plain.words (entries_of plain) acts → Torn (steps_of acts) (Some c) left →
+    IsSomeAnd left (λ d. StandsCleanly d plain)
+
+-- the table reads the same, and stays settled
+abbrev pub StoppedFormTable : Type 0
+StoppedFormTable =
+    (depth : Depth) (c : Cartridge) (words : List ℕ) (entries : List Entry) (last : ℕ) (acts : List Act) (area : List (List ℕ))
+    (left : Option Cartridge) → IsSoundList last entries → ScrubsAs depth c words entries acts → TableIs c area →
+    Torn (steps_of acts) (Some c) left → IsSomeAnd left (λ d. TableIs d area)
+
+abbrev pub StoppedFormIsSettled : Type 0
+StoppedFormIsSettled =
+    (depth : Depth) (c : Cartridge) (words : List ℕ) (entries : List Entry) (last : ℕ) (acts : List Act) (area : List (List ℕ))
+    (left : Option Cartridge) → IsSoundList last entries → ScrubsAs depth c words entries acts → IsSettledFor c area →
+    Torn (steps_of acts) (Some c) left → IsSomeAnd left (λ d. IsSettledFor d area)

@@ -23,6 +23,7 @@ pub mod ScrubFound
 pub mod ScrubLaws
 pub mod ScrubMended
 pub mod ScrubSayings
+pub mod SilentSectors
 pub mod TextGenerator
 pub mod TextInput
 pub mod TextLaws

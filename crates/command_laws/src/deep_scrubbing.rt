@@ -2,7 +2,7 @@
 //! hold wrong bytes. Each law is the contract of a function that does nothing, so that other crates can rest on it; their
 //! proofs import the lemmas of this crate's `proofs`.
 
-ghost use Rattle.command_laws.specs.DeepScrubLaws.{ShallowIsScrub, FormIsFunction, FormAlways, FindsAtOnce, DoneInForm, DoneFormIsCartridge, StoppedInForm, StoppedFormIsCartridge};
+ghost use Rattle.command_laws.specs.DeepScrubLaws.{ShallowIsScrub, FormIsFunction, FormAlways, FindsAtOnce, DoneInForm, DoneFormIsCartridge, DoneFormStands, DoneFormIsClean, DoneFormTable, DoneFormIsSettled, SecondFormWritesNothing, SilentSectorsAreMounted, SilentSectorsAreMended, StoppedInForm, StoppedFormIsCartridge, StoppedFormStands, StoppedFormIsClean, StoppedFormTable, StoppedFormIsSettled};
 
 /// Without a search for wrong sectors it is a scrub. Scrubbing in a form does one thing, and it does something: two code
 /// blocks differ in four sectors (QIC-80-MC), so at most one sector of a segment is found to be wrong. What is found of each segment follows from the cartridge before the
@@ -15,15 +15,36 @@ pub fn forms_of_scrubbing()
 {}
 
 /// After all steps each sector that was unreadable or wrong, of a segment that reads, holds its sector of the segment's
-/// block, where it takes a write, and nothing else has changed.
+/// block, where it takes a write, and nothing else has changed. A cartridge that stands for a plain one stands for it.
 pub fn done_in_form()
     ensures scrubbed { DoneInForm }
+    ensures stands { DoneFormStands }
+    ensures clean { DoneFormIsClean }
+    ensures table { DoneFormTable }
+    ensures settled { DoneFormIsSettled }
     ensures whole { DoneFormIsCartridge }
 {}
 
+/// What differs from a cartridge that stands in sectors that silently hold other bytes, at most one in each header copy and
+/// each segment of a volume, is mounted as that one, and stands behind a deep scrub.
+pub fn silent_sectors()
+    ensures mounted { SilentSectorsAreMounted }
+    ensures mended { SilentSectorsAreMended }
+{}
+
+/// Where each usable sector of the segments that are looked at takes what is written to it, a second scrub in the same form
+/// writes nothing.
+pub fn second_in_form()
+    ensures { SecondFormWritesNothing }
+{}
+
 /// A stop among the steps leaves each sector as it was, but for those to be written, which may be lost or hold their
-/// sector of the block.
+/// sector of the block. A cartridge that stands for a plain one stands for it, at any moment.
 pub fn stopped_in_form()
     ensures mending { StoppedInForm }
+    ensures stands { StoppedFormStands }
+    ensures clean { StoppedFormIsClean }
+    ensures table { StoppedFormTable }
+    ensures settled { StoppedFormIsSettled }
     ensures whole { StoppedFormIsCartridge }
 {}

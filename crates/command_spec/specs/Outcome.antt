@@ -96,6 +96,11 @@ refused_behind steps why = record { acts = record { steps = steps; text = [] } �
 abbrev pub carried_out : Step → (text : List ℕ) → CommandOutcome
 carried_out step text = acted (step ∷ []) text
 
+-- .. over a cartridge that is there, with a text by what it was
+abbrev pub StepOutcome : Step → (text : Cartridge → List ℕ) → Option Cartridge → CommandOutcome → Type 0
+StepOutcome step text None outcome = outcome ≡ refused status.NoCartridge
+StepOutcome step text (Some c) outcome = outcome ≡ carried_out step (text c)
+
 -- all that is printed
 abbrev pub output_of : CommandOutcome → List ℕ
 output_of outcome = text_of outcome.acts

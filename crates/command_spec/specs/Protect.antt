@@ -1,17 +1,15 @@
 -- The plain machine of `protect` (this project's own).
-use Rattle.std.specs.Prelude.{◌≡◌, Bool, Option, Some, None, IsSomeAnd, codes, true, false, List, [], ◌∷◌}
+use Rattle.std.specs.Prelude.{◌≡◌, Bool, Option, IsSomeAnd, codes, true, false, List, [], ◌∷◌}
 use Rattle.command_spec.specs.Command.{Command, plain_command}
 use Rattle.command_spec.specs.CommandWords.{Part, Word}
 use Rattle.command_spec.specs.Lines.{protected_line}
-use Rattle.command_spec.specs.Outcome.{CommandOutcome, refused, carried_out}
+use Rattle.command_spec.specs.Outcome.{StepOutcome, CommandOutcome}
 use Rattle.command_spec.specs.Traits.{none_of_them}
 use Rattle.qic_base.specs.Cartridge.{Cartridge}
 use Rattle.qic_base.specs.Step.{SetProtected}
-use Rattle.command_spec.specs.declared.status.Status.TheVariants as status
 
 abbrev pub ProtectOutcome : Bool → Option Cartridge → CommandOutcome → Type 0
-ProtectOutcome on None outcome = outcome ≡ refused status.NoCartridge
-ProtectOutcome on (Some c) outcome = outcome ≡ carried_out (SetProtected on) (protected_line on)
+ProtectOutcome on held outcome = StepOutcome (SetProtected on) (λ c. protected_line on) held outcome
 
 abbrev pub protect_forms : Bool → List (List Part)
 protect_forms true = (Word (codes "protect") ∷ Word (codes "on") ∷ []) ∷ []

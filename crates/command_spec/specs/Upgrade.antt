@@ -1,18 +1,16 @@
 -- The plain machine of `upgrade` (this project's own).
-use Rattle.std.specs.Prelude.{◌≡◌, Option, Some, None, IsSomeAnd, codes, true, ℕ, [], ◌∷◌}
+use Rattle.std.specs.Prelude.{◌≡◌, Option, IsSomeAnd, codes, true, ℕ, [], ◌∷◌}
 use Rattle.command_spec.specs.Command.{Command, plain_command}
 use Rattle.command_spec.specs.CommandWords.{Word}
 use Rattle.command_spec.specs.Lines.{upgraded_line}
-use Rattle.command_spec.specs.Outcome.{CommandOutcome, refused, carried_out}
+use Rattle.command_spec.specs.Outcome.{CommandOutcome, StepOutcome}
 use Rattle.command_spec.specs.Traits.{none_of_them}
 use Rattle.qic_base.specs.Cartridge.{Cartridge, IsVersion}
 use Rattle.qic_base.specs.Step.{Upgrade}
-use Rattle.command_spec.specs.declared.status.Status.TheVariants as status
 
 -- a cartridge is kept in the newest layout from now on, a protected one too, and the version before is told
 abbrev pub UpgradeOutcome : Option Cartridge → CommandOutcome → Type 0
-UpgradeOutcome None outcome = outcome ≡ refused status.NoCartridge
-UpgradeOutcome (Some c) outcome = outcome ≡ carried_out Upgrade (upgraded_line c.version)
+UpgradeOutcome held outcome = StepOutcome Upgrade (λ c. upgraded_line c.version) held outcome
 
 abbrev pub upgrade_command : Command
 upgrade_command =

@@ -28,6 +28,8 @@ fn read_one(first: &[u8]) -> Option<Words>
         Some(Words::Pulses)
     } else if is_word(first, "script") {
         Some(Words::Script)
+    } else if is_word(first, "upgrade") {
+        Some(Words::Upgrade)
     } else {
         None
     }

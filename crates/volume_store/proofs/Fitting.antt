@@ -70,8 +70,9 @@ same_told m old new P done fact = subst (λ (o : Option (Option Cartridge)). IfS
 abbrev pub Listed : List Entry → Cartridge → Type 0
 Listed entries c = c.info.protected ≡ false → HasList c entries
 
-pub fits_with : {T : Type 0} (m : Meaning T) (old : StoreView) (u : UnitView T) (host : Host) (v : UnitView T) (entries : List Entry) → StoreFits m old u → Keeps m host u v →
-    IsSoundList (length old.words - 1) entries → Tells m v.tape (Listed entries) → StoreFits m (record { host = host; header = old.header; words = old.words; entries = entries }) v
+pub fits_with : {T : Type 0} {part : List (List ℕ)} (m : Meaning T) (old : StoreView) (u : UnitView T) (host : Host) (v : UnitView T) (entries : List Entry) → StoreFits m old u →
+    Keeps m host u v → IsSoundList (length old.words - 1) entries → Tells m v.tape (Listed entries) →
+    StoreFits m (record { host = host; header = old.header; words = old.words; entries = entries; part = part }) v
 fits_with m old u host v entries fits keeps order volumes =
     let one : segments_of old.host ≡ segments_of host = one_length m old.host host u v fits.host keeps.ready.fits keeps.same.cartridge in
     let words : length old.words ≡ 28 * segments_of host = fits.words ∙ ap (λ (n : ℕ). 28 * n) one in

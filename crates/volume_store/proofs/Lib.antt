@@ -7,6 +7,7 @@ pub mod Ending
 pub mod Fitting
 pub mod Mending
 pub mod Mounts
+pub mod Parts
 pub mod Passing
 pub mod Restored
 pub mod Scrubs

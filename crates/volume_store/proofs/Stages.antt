@@ -47,23 +47,23 @@ writable t view store u same fits mark =
       order = subst (λ (n : ℕ). IsSoundList (n - 1) view.entries) (sym here.words) here.list;
     }
 
--- a store with this host and these entries
-abbrev pub with_list : StoreView → Host → List Entry → StoreView
-with_list store host entries = record { host = host; header = store.header; words = store.words; entries = entries }
+-- a store with this host and these entries, and whatever sectors
+abbrev pub with_list : StoreView → Host → List Entry → (part : List (List ℕ)) → StoreView
+with_list store host entries part = record { host = host; header = store.header; words = store.words; entries = entries; part = part }
 
 module _ {T S : Type 0} (t : tapes.Meaning T) (s : sources.Meaning S) {store : StoreView} {u : UnitView T} (may : IsWritable t store u) where
   -- ---- the settling was refused
   module _ {h : Host} {v : UnitView T} (keeps : Keeps t h u v) (sectors : List (List ℕ)) (why : StoreFault)
       (did : SettlesAgain {A = Unit {0}} t u.tape v.tape store.entries sectors (Err why)) where
-    pub settling_fits : why ≢ fault.Tape → StoreFits t (with_list store h store.entries) v
+    pub settling_fits : {part : List (List ℕ)} → why ≢ fault.Tape → StoreFits t (with_list store h store.entries part) v
     settling_fits other =
         fits_with t store u h v store.entries may.fits keeps may.order
         (same_told t u.tape v.tape (Listed store.entries) (settling_refused t u.tape v.tape store.entries sectors why other did) may.fits.volumes)
 
-    pub settling_ends : (name : List ℕ) (date : ℕ) (promised : Option ℕ) (a : S) → IsOfReading {A = Unit {0}} (Err why) →
-        AppendEnds t s (reading u.tape a) (reading v.tape a) store (with_list store h store.entries) name date promised (Err why)
-    settling_ends name date promised a kind =
-        ending.first_refused t s store (with_list store h store.entries) name date promised u.tape v.tape a sectors why did kind
+    pub settling_ends : (part : List (List ℕ)) (name : List ℕ) (date : ℕ) (promised : Option ℕ) (a : S) → IsOfReading {A = Unit {0}} (Err why) →
+        AppendEnds t s (reading u.tape a) (reading v.tape a) store (with_list store h store.entries part) name date promised (Err why)
+    settling_ends part name date promised a kind =
+        ending.first_refused t s store (with_list store h store.entries part) name date promised u.tape v.tape a sectors why did kind
         (tells_two t u.tape (Listed store.entries) (λ c. c.info.protected ≡ false) (λ c. HasList c store.entries) (λ c shows off. shows off) may.fits.volumes may.unprotected)
 
   -- ---- the table is settled
@@ -82,16 +82,16 @@ module _ {T S : Type 0} (t : tapes.Meaning T) (s : sources.Meaning S) {store : S
     still_listed did = lists_later t w.tape store.entries area again.shown (still_settled did) whole
 
     -- the input came to nothing
-    pub input_fits : (promised : Option ℕ) (a b : S) (why : StoreFault) → InputIs t s store.words store.entries promised (reading v.tape a) (reading w.tape b) (Err why) → why ≢ fault.Tape →
-        StoreFits t (with_list store k store.entries) w
+    pub input_fits : {part : List (List ℕ)} (promised : Option ℕ) (a b : S) (why : StoreFault) → InputIs t s store.words store.entries promised (reading v.tape a) (reading w.tape b) (Err why) → why ≢ fault.Tape →
+        StoreFits t (with_list store k store.entries part) w
     input_fits promised a b why is other =
         fits_with t store u k w store.entries may.fits (keeps_both keeps next) may.order
         (still_listed (input_did t s store.words store.entries promised v.tape w.tape a b why (least_end (length store.words - 1) store.entries may.order) other is))
 
-    pub input_ends : (name : List ℕ) (date : ℕ) (promised : Option ℕ) (a b : S) (why : StoreFault) →
+    pub input_ends : (part : List (List ℕ)) (name : List ℕ) (date : ℕ) (promised : Option ℕ) (a b : S) (why : StoreFault) →
         InputIs t s store.words store.entries promised (reading v.tape a) (reading w.tape b) (Err why) →
-        AppendEnds t s (reading u.tape a) (reading w.tape b) store (with_list store k store.entries) name date promised (Err why)
-    input_ends name date promised a b why is = ending.input_refused t s store (with_list store k store.entries) name date promised u.tape v.tape w.tape a b area again why is
+        AppendEnds t s (reading u.tape a) (reading w.tape b) store (with_list store k store.entries part) name date promised (Err why)
+    input_ends part name date promised a b why is = ending.input_refused t s store (with_list store k store.entries part) name date promised u.tape v.tape w.tape a b area again why is
 
     -- ---- and the input was written
     module _ (name : List ℕ) (date : ℕ) (promised : Option ℕ) (a b : S) (written : Written) (size : ℕ) (sized : size ≡ written.bytes)
@@ -116,22 +116,22 @@ module _ {T S : Type 0} (t : tapes.Meaning T) (s : sources.Meaning S) {store : S
 
       module _ {j : Host} {x : UnitView T} (last : Keeps t j w x) (list : List Entry) where
         -- the entry was refused
-        pub entry_fits : (why : StoreFault) → AddsEntry {A = Unit {0}} t w.tape x.tape store.entries new (Err why) → why ≢ fault.Tape → list ≡ store.entries →
-            StoreFits t (with_list store j list) x
+        pub entry_fits : {part : List (List ℕ)} (why : StoreFault) → AddsEntry {A = Unit {0}} t w.tape x.tape store.entries new (Err why) → why ≢ fault.Tape → list ≡ store.entries →
+            StoreFits t (with_list store j list part) x
         entry_fits why did other same =
             fits_with t store u j x list may.fits (keeps_both (keeps_both keeps next) last) (either_order list (inl same))
             (subst (λ (es : List Entry). Tells t x.tape (Listed es)) (sym same)
             (same_told t w.tape x.tape (Listed store.entries) (adding_refused t w.tape x.tape store.entries new why other did) (still_listed did_input)))
 
-        pub entry_ends : (why : StoreFault) → AddsEntry {A = Unit {0}} t w.tape x.tape store.entries new (Err why) → IsOfReading {A = Unit {0}} (Err why) →
-            AppendEnds t s (reading u.tape a) (reading x.tape b) store (with_list store j list) name date promised (Err why)
-        entry_ends why did kind =
-            ending.entry_refused t s store (with_list store j list) name date promised u.tape v.tape w.tape a b area again x.tape written size sized may.order may.unprotected whole wrote
+        pub entry_ends : (part : List (List ℕ)) (why : StoreFault) → AddsEntry {A = Unit {0}} t w.tape x.tape store.entries new (Err why) → IsOfReading {A = Unit {0}} (Err why) →
+            AppendEnds t s (reading u.tape a) (reading x.tape b) store (with_list store j list part) name date promised (Err why)
+        entry_ends part why did kind =
+            ending.entry_refused t s store (with_list store j list part) name date promised u.tape v.tape w.tape a b area again x.tape written size sized may.order may.unprotected whole wrote
             why did kind
 
         -- the list was written with the entry
         module _ (did : IsAdded t w.tape x.tape store.entries new) (is : list ≡ store.entries ++ new ∷ []) where
-          pub added_fits : IsLabel name → IsToldRight (t.told x.tape) (t.size x.tape) → StoreFits t (with_list store j list) x
+          pub added_fits : {part : List (List ℕ)} → IsLabel name → IsToldRight (t.told x.tape) (t.size x.tape) → StoreFits t (with_list store j list part) x
           added_fits label there =
               let both = keeps_both keeps next in
               fits_with t store u j x list may.fits (keeps_both both last) (either_order list (inr is))
@@ -139,8 +139,8 @@ module _ {T S : Type 0} (t : tapes.Meaning T) (s : sources.Meaning S) {store : S
               (lists_added t w.tape x.tape store.entries new area did label (omega arith) (omega arith) (not_empty t k w both.ready.fits (both.agrees may.fits.agrees))
               (still_settled did_input) whole (right_tells t x.tape there)))
 
-          pub added_ends : (appended : Appended) → appended.number ≡ length list → appended.bytes ≡ size → appended.start ≡ written.start → appended.end ≡ written.end →
-              HasAppended t s (reading u.tape a) (reading x.tape b) store (with_list store j list) name date promised appended
-          added_ends appended number bytes start end =
-              ending.added t s store (with_list store j list) name date promised u.tape v.tape w.tape a b area again x.tape written size sized may.order may.unprotected whole wrote
+          pub added_ends : {part : List (List ℕ)} (appended : Appended) → appended.number ≡ length list → appended.bytes ≡ size → appended.start ≡ written.start → appended.end ≡ written.end →
+              HasAppended t s (reading u.tape a) (reading x.tape b) store (with_list store j list part) name date promised appended
+          added_ends {part = part} appended number bytes start end =
+              ending.added t s store (with_list store j list part) name date promised u.tape v.tape w.tape a b area again x.tape written size sized may.order may.unprotected whole wrote
               appended did is number bytes start end

@@ -45,12 +45,14 @@ Learns c words sectors entries (Err fault) = MountRefuses c fault
 
 -- ---- a store
 
--- what a store shows: the header in force, the words of the map and the entries of its volumes
+-- what a store shows: the header in force, the words of the map, the entries of its volumes, and the data sectors of the
+-- piece of a volume that the last call read, where that was one
 pub record StoreView : Type 0 where
   pub host : Host
   pub header : Header
   pub words : List ℕ
   pub entries : List Entry
+  pub part : List (List ℕ)
 
 -- the cartridge mounts with this header, these words and these entries, and these steps settle it
 pub record Settles (c : Cartridge) (header : Header) (words : List ℕ) (entries : List Entry) (steps : List Step) : Type 0 where

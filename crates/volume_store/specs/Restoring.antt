@@ -1,10 +1,11 @@
 -- How the restoring of a volume ended, by the answer of the call (this project's own).
-use Rattle.std.specs.Prelude.{◌≡◌, ℕ, Some, length, None, Bool, Result, Ok, Err}
+use Rattle.std.specs.Prelude.{◌≡◌, ℕ, [], Option, Some, length, slice_get, None, Bool, Result, Ok, Err}
 use Rattle.cartridge_spec.specs.Table.{Entry}
 use Rattle.cartridge_spec.specs.Volumes.{volume_length}
 use Rattle.command_spec.specs.Restore.{volume_at, Restored, LostIn, MismatchIn, pieces}
-use Rattle.qic_base.specs.Acts.{Outside, TapeFails, SinkFails}
+use Rattle.qic_base.specs.Acts.{Outside, TapeFails, SinkFails, around}
 use Rattle.volume_output.specs.Output.{GaveVolume, VolumeCut}
+use Rattle.volume_output.specs.Part.{OfPiece, ReadsPiece, LosesPiece, MismatchesPiece}
 use Rattle.volume_output.specs.declared.fault.OutputFault.{OutputFault}
 use Rattle.volume_store.specs.Mounting.{StoreView}
 use Rattle.volume_store.specs.declared.fault.StoreFault.{StoreFault}
@@ -36,6 +37,23 @@ RestoreEnds t k store number lined old new (Err (fault.Mismatch segment)) =
 RestoreEnds t k store number lined old new (Err fault.Sink) = OfVolume store number (λ e. VolumeCut t k store.words (pieces store.words e) lined old new SinkFails)
 RestoreEnds t k store number lined old new (Err fault.Tape) = OfVolume store number (λ e. VolumeCut t k store.words (pieces store.words e) lined old new TapeFails)
 RestoreEnds t k store number lined old new (Err fault) = ⊥
+
+-- How the reading of one piece of a volume ended: its data sectors then stand in the store. Without such a piece nothing
+-- was read.
+abbrev pub ReadsPart : {T : Type 0} (t : tapes.Meaning T) (store after : StoreView) (number part : ℕ) (old new : T) → Result (Option ℕ) StoreFault → Type 0
+ReadsPart t store after number part old new (Ok None) =
+    OfVolume store number (λ e. (slice_get (pieces store.words e) part ≡ None) × (new ≡ old))
+ReadsPart t store after number part old new (Ok (Some count)) =
+    OfVolume store number (λ e. OfPiece (pieces store.words e) part (λ piece. ReadsPiece t store.words piece old new after.part count))
+ReadsPart t store after number part old new (Err (fault.NoVolume asked count)) =
+    NoneGiven store number (around old (tt {0})) (around new (tt {0})) asked count
+ReadsPart t store after number part old new (Err (fault.Lost segment lost)) =
+    OfVolume store number (λ e. OfPiece (pieces store.words e) part (λ piece. LosesPiece t store.words piece old new segment lost))
+ReadsPart t store after number part old new (Err (fault.Mismatch segment)) =
+    OfVolume store number (λ e. OfPiece (pieces store.words e) part (λ piece. MismatchesPiece t store.words piece old new segment))
+ReadsPart t store after number part old new (Err fault.Tape) =
+    OfVolume store number (λ e. OfPiece (pieces store.words e) part (λ piece. tapes.Broke t old new []))
+ReadsPart t store after number part old new (Err fault) = ⊥
 
 -- the fault of the call that a fault of the output is
 abbrev pub fault_of_output : OutputFault → StoreFault

@@ -1,6 +1,6 @@
 //! A mounted cartridge.
 
-ghost use Rattle.std.specs.Prelude.{◌≡◌, ◌≢◌, ◌↔◌, ◌+◌, ◌-◌, ◌*◌, ◌<◌, ◌≤◌, true, Err, IfOk, IfSome, slice_get, length};
+ghost use Rattle.std.specs.Prelude.{◌≡◌, ◌≢◌, ◌↔◌, ◌+◌, ◌-◌, ◌*◌, ◌^◌, ◌<◌, ◌≤◌, true, Err, IfOk, IfSome, slice_get, length};
 ghost use Rattle.qic_base.specs.Acts.{around, reading};
 ghost use Rattle.drive_spec.specs.Deck.{is_protected, segments_per_track};
 ghost use Rattle.drive_states.specs.Hand.{Wears};
@@ -13,7 +13,7 @@ ghost use Rattle.header_segments.specs.Header.{header_of};
 ghost use Rattle.volume_store.specs.Appending.{AppendEnds, FaultsUnread, KeepsFormat, KeepsList};
 ghost use Rattle.volume_store.specs.Finding.{NamesCause, RefusesMounting};
 ghost use Rattle.volume_store.specs.Mounting.{MountDoes, StoreFits, KeepsStore};
-ghost use Rattle.volume_store.specs.Restoring.{RestoreEnds, fault_of_output};
+ghost use Rattle.volume_store.specs.Restoring.{RestoreEnds, ReadsPart, fault_of_output};
 ghost use Rattle.volume_store.specs.Scrubbing.{MendEnds};
 ghost use Rattle.volume_table.specs.Entry.{entry_of};
 
@@ -31,7 +31,7 @@ use qic_base::{Name, Sink, Source, Tape};
 use segment_io::Workspace;
 use segment_mending::{ScrubFault, ScrubReport, scrub_segments};
 use std::marker::Model;
-use volume_output::{OutputFault, write_volume};
+use volume_output::{OutputFault, read_part, write_volume};
 use volume_table::{Entry, Table};
 
 /// A mounted cartridge's volumes: its header in force, its map of bad sectors and the list of its volumes. It doesn't
@@ -43,10 +43,12 @@ pub struct Store {
     map: BadMap,
     table: Table,
     header: Header,
+    // how many of the workspace's sectors are the data of the piece that the last call read, where that was one
+    shown: u32,
 }
 
 impl Model for Store {
-    ghost use Rattle.std.specs.Prelude.{◌≡◌, ◌-◌, ◌*◌, length};
+    ghost use Rattle.std.specs.Prelude.{◌≡◌, ◌-◌, ◌*◌, length, take};
     ghost use Rattle.header_segments.specs.Header.{header_of};
     ghost use Rattle.cartridge_laws.specs.Table.{IsSoundList};
     ghost use Rattle.volume_store.specs.Mounting.{StoreView};
@@ -58,6 +60,7 @@ impl Model for Store {
       header = header_of store.header;
       words = store.map;
       entries = store.table;
+      part = take store.shown store.work;
     } };
 
     ghost invariant = { λ store. (length store.map ≡ 28 * store.header.segments_per_track)
@@ -114,6 +117,7 @@ impl Store {
             map,
             table,
             header: learnt.header,
+            shown: 0,
         })
     }
 
@@ -223,6 +227,59 @@ impl Store {
             Ok(()) => Ok(length),
             Err(fault) => Err(output_fault(fault)),
         }
+    }
+
+    /// Reads one piece of a volume, which is counted from 1: the part with this number, from 0, of its segments that hold
+    /// some of its bytes. The answer is how many of them lie in it, 1 or more, and `part_data` then gives the segment's
+    /// data; `None` where there is no such part, and nothing is read. The refusals are those of `restore`, for this
+    /// segment. The tape is only read.
+    pub fn part<T: Tape>(
+        &mut self,
+        unit: &mut Unit<T>,
+        number: u32,
+        part: u32,
+    ) -> Result<Option<u32>, StoreFault>
+        requires fits { StoreFits T.means self.old unit.old }
+        ensures ends { ReadsPart T.means self.old self.new number part
+            unit.old.tape unit.new.tape result }
+        ensures few { IfOk result (λ found. IfSome found (λ bytes. part < 2 ^ 16)) }
+        ensures store { KeepsStore self.old self.new }
+        ensures fits { StoreFits T.means self.new unit.new }
+        ensures size { T.means.size unit.new.tape ≡ T.means.size unit.old.tape }
+    {
+        let count = self.count();
+        if number == 0 || number > count {
+            return Err(StoreFault::NoVolume { number, count });
+        }
+        let length = self.length(number - 1);
+        let entry = self.entry(number - 1);
+        let (start, end) = (entry.start, entry.end);
+        match read_part(
+            &mut self.host,
+            unit,
+            &self.map,
+            start,
+            end,
+            length,
+            part,
+            &mut self.work,
+        ) {
+            Ok(None) => Ok(None),
+            Ok(Some(read)) => {
+                self.shown = read.sectors;
+                Ok(Some(read.bytes))
+            }
+            Err(fault) => Err(output_fault(fault)),
+        }
+    }
+
+    /// The data sectors of the segment that `part` read. It is called right behind a `part` that found one.
+    pub fn part_data(&self) -> &[[u8; 1024]]
+        requires { 0 < length self.now.part }
+        ensures { result.now ≡ self.now.part }
+    {
+        let sectors = self.work.sectors();
+        &sectors[..(self.shown as usize).min(sectors.len())]
     }
 
     /// Looks at both header copies, the volume table and the segments of all volumes, and writes the sectors again that

@@ -1,4 +1,4 @@
-use Rattle.std.proofs.Common.{◌≡◌, Err, Ok, refl, sym, ap, ◌∙◌}
+use Rattle.std.proofs.Common.{◌≡◌, Err, Ok, refl, take, sym, ap, ◌∙◌}
 use Rattle.header_segments.specs.Header.{header_of}
 use Rattle.volume_store.specs.Mounting.{StoreView}
 use Rattle.volume_store.specs.declared.fault.StoreFault.{StoreFault}
@@ -12,29 +12,29 @@ use Rattle.volume_store.proofs.store.Store.append.Goals as goal
 pub returns-in_err-settle_again-clause-ends : goal.returns-in_err-settle_again-clause-ends
 returns-in_err-settle_again-clause-ends g c =
     let m = g.T.Tape.means in
-    let view : StoreView = record { host = c.self.inside.host; header = header_of c.self.inside.header; words = c.self.inside.map; entries = c.self.inside.table } in
+    let view : StoreView = record { host = c.self.inside.host; header = header_of c.self.inside.header; words = c.self.inside.map; entries = c.self.inside.table; part = take c.self.inside.shown c.self.inside.work } in
     let may = writable m view _ c.args.unit.now c.self.view_is c.requires.fits (sym c.protected.ensures ∙ c.if-protected.false) in
     let why : StoreFault = c.in_err-settle_again.field-0.0 in
     let is : c.from_residual.result ≡ Err why = passed c.from_residual.result why c.from_residual.ensures.1 in
     answered _ _ m g.S.Source.means _ _ view _ _ c.args.name.now c.args.date c.args.promised (Err why) c.from_residual.result c.self.view_is is
     (settling_ends m g.S.Source.means may c.in_err-settle_again.ensures.keeps c.settle_again.new.work why c.in_err-settle_again.ensures.did
-    c.args.name.now c.args.date c.args.promised c.args.source.now c.in_err-settle_again.ensures.kind)
+    (take c.self.inside.shown c.settle_again.new.work) c.args.name.now c.args.date c.args.promised c.args.source.now c.in_err-settle_again.ensures.kind)
 
 pub returns-in_err-written-clause-ends : goal.returns-in_err-written-clause-ends
 returns-in_err-written-clause-ends g c =
     let m = g.T.Tape.means in
-    let view : StoreView = record { host = c.self.inside.host; header = header_of c.self.inside.header; words = c.self.inside.map; entries = c.self.inside.table } in
+    let view : StoreView = record { host = c.self.inside.host; header = header_of c.self.inside.header; words = c.self.inside.map; entries = c.self.inside.table; part = take c.self.inside.shown c.self.inside.work } in
     let may = writable m view _ c.args.unit.now c.self.view_is c.requires.fits (sym c.protected.ensures ∙ c.if-protected.false) in
     let why : StoreFault = c.in_err-written.field-0.0 in
     let is : c.from_residual-in_err-written.result ≡ Err why = passed c.from_residual-in_err-written.result why c.from_residual-in_err-written.ensures.1 in
     answered _ _ m g.S.Source.means _ _ view _ _ c.args.name.now c.args.date c.args.promised (Err why) c.from_residual-in_err-written.result c.self.view_is is
     (input_ends m g.S.Source.means may c.in_ok-settle_again.ensures.did c.in_ok-settle_again.ensures.keeps c.in_err-written.ensures.keeps (g.met.T.Tape.told_right c.take_input.new.unit.tape)
-    c.args.name.now c.args.date c.args.promised c.args.source.now c.take_input.new.source why c.in_err-written.ensures.ends)
+    (take c.self.inside.shown c.take_input.new.work) c.args.name.now c.args.date c.args.promised c.args.source.now c.take_input.new.source why c.in_err-written.ensures.ends)
 
 pub invariant_of-self-in_err-add_entry : goal.invariant_of-self-in_err-add_entry
 invariant_of-self-in_err-add_entry g c =
     let m = g.T.Tape.means in
-    let view : StoreView = record { host = c.self.inside.host; header = header_of c.self.inside.header; words = c.self.inside.map; entries = c.self.inside.table } in
+    let view : StoreView = record { host = c.self.inside.host; header = header_of c.self.inside.header; words = c.self.inside.map; entries = c.self.inside.table; part = take c.self.inside.shown c.self.inside.work } in
     let may = writable m view _ c.args.unit.now c.self.view_is c.requires.fits (sym c.protected.ensures ∙ c.if-protected.false) in (
       c.self.invariant.0,
       either_order m g.S.Source.means may c.in_ok-settle_again.ensures.did c.in_ok-settle_again.ensures.keeps c.in_ok-written.ensures.keeps (g.met.T.Tape.told_right c.take_input.new.unit.tape)
@@ -45,7 +45,7 @@ invariant_of-self-in_err-add_entry g c =
 pub invariant_of-self-2 : goal.invariant_of-self-2
 invariant_of-self-2 g c =
     let m = g.T.Tape.means in
-    let view : StoreView = record { host = c.self.inside.host; header = header_of c.self.inside.header; words = c.self.inside.map; entries = c.self.inside.table } in
+    let view : StoreView = record { host = c.self.inside.host; header = header_of c.self.inside.header; words = c.self.inside.map; entries = c.self.inside.table; part = take c.self.inside.shown c.self.inside.work } in
     let may = writable m view _ c.args.unit.now c.self.view_is c.requires.fits (sym c.protected.ensures ∙ c.if-protected.false) in (
       c.self.invariant.0,
       either_order m g.S.Source.means may c.in_ok-settle_again.ensures.did c.in_ok-settle_again.ensures.keeps c.in_ok-written.ensures.keeps (g.met.T.Tape.told_right c.take_input.new.unit.tape)
@@ -56,19 +56,20 @@ invariant_of-self-2 g c =
 pub returns-in_err-add_entry-clause-ends : goal.returns-in_err-add_entry-clause-ends
 returns-in_err-add_entry-clause-ends g c =
     let m = g.T.Tape.means in
-    let view : StoreView = record { host = c.self.inside.host; header = header_of c.self.inside.header; words = c.self.inside.map; entries = c.self.inside.table } in
+    let view : StoreView = record { host = c.self.inside.host; header = header_of c.self.inside.header; words = c.self.inside.map; entries = c.self.inside.table; part = take c.self.inside.shown c.self.inside.work } in
     let may = writable m view _ c.args.unit.now c.self.view_is c.requires.fits (sym c.protected.ensures ∙ c.if-protected.false) in
     let why : StoreFault = c.in_err-add_entry.field-0.0 in
     let is : c.from_residual-in_err-add_entry.result ≡ Err why = passed c.from_residual-in_err-add_entry.result why c.from_residual-in_err-add_entry.ensures.1 in
     answered _ _ m g.S.Source.means _ _ view _ _ c.args.name.now c.args.date c.args.promised (Err why) c.from_residual-in_err-add_entry.result c.self.view_is is
     (entry_ends m g.S.Source.means may c.in_ok-settle_again.ensures.did c.in_ok-settle_again.ensures.keeps c.in_ok-written.ensures.keeps (g.met.T.Tape.told_right c.take_input.new.unit.tape)
     c.args.name.now c.args.date c.args.promised c.args.source.now c.take_input.new.source c.in_ok-written.written c.from.result c.from.ensures c.in_ok-written.ensures.ends
-    c.in_err-add_entry.ensures.keeps c.add_entry.new.table why c.in_err-add_entry.ensures.did c.in_err-add_entry.ensures.kind)
+    c.in_err-add_entry.ensures.keeps c.add_entry.new.table (take c.self.inside.shown c.add_entry.new.work) why c.in_err-add_entry.ensures.did
+    c.in_err-add_entry.ensures.kind)
 
 pub returns-clause-ends : goal.returns-clause-ends
 returns-clause-ends g c =
     let m = g.T.Tape.means in
-    let view : StoreView = record { host = c.self.inside.host; header = header_of c.self.inside.header; words = c.self.inside.map; entries = c.self.inside.table } in
+    let view : StoreView = record { host = c.self.inside.host; header = header_of c.self.inside.header; words = c.self.inside.map; entries = c.self.inside.table; part = take c.self.inside.shown c.self.inside.work } in
     let may = writable m view _ c.args.unit.now c.self.view_is c.requires.fits (sym c.protected.ensures ∙ c.if-protected.false) in
     answered _ _ m g.S.Source.means _ _ view _ _ c.args.name.now c.args.date c.args.promised (Ok _) _ c.self.view_is refl
     (added_ends m g.S.Source.means may c.in_ok-settle_again.ensures.did c.in_ok-settle_again.ensures.keeps c.in_ok-written.ensures.keeps (g.met.T.Tape.told_right c.take_input.new.unit.tape)
@@ -78,7 +79,7 @@ returns-clause-ends g c =
 pub returns-in_err-settle_again-clause-fits : goal.returns-in_err-settle_again-clause-fits
 returns-in_err-settle_again-clause-fits g c =
     let m = g.T.Tape.means in
-    let view : StoreView = record { host = c.self.inside.host; header = header_of c.self.inside.header; words = c.self.inside.map; entries = c.self.inside.table } in
+    let view : StoreView = record { host = c.self.inside.host; header = header_of c.self.inside.header; words = c.self.inside.map; entries = c.self.inside.table; part = take c.self.inside.shown c.self.inside.work } in
     let may = writable m view _ c.args.unit.now c.self.view_is c.requires.fits (sym c.protected.ensures ∙ c.if-protected.false) in
     let why : StoreFault = c.in_err-settle_again.field-0.0 in
     let is : c.from_residual.result ≡ Err why = passed c.from_residual.result why c.from_residual.ensures.1 in
@@ -87,7 +88,7 @@ returns-in_err-settle_again-clause-fits g c =
 pub returns-in_err-written-clause-fits : goal.returns-in_err-written-clause-fits
 returns-in_err-written-clause-fits g c =
     let m = g.T.Tape.means in
-    let view : StoreView = record { host = c.self.inside.host; header = header_of c.self.inside.header; words = c.self.inside.map; entries = c.self.inside.table } in
+    let view : StoreView = record { host = c.self.inside.host; header = header_of c.self.inside.header; words = c.self.inside.map; entries = c.self.inside.table; part = take c.self.inside.shown c.self.inside.work } in
     let may = writable m view _ c.args.unit.now c.self.view_is c.requires.fits (sym c.protected.ensures ∙ c.if-protected.false) in
     let why : StoreFault = c.in_err-written.field-0.0 in
     let is : c.from_residual-in_err-written.result ≡ Err why = passed c.from_residual-in_err-written.result why c.from_residual-in_err-written.ensures.1 in
@@ -97,7 +98,7 @@ returns-in_err-written-clause-fits g c =
 pub returns-in_err-add_entry-clause-fits : goal.returns-in_err-add_entry-clause-fits
 returns-in_err-add_entry-clause-fits g c =
     let m = g.T.Tape.means in
-    let view : StoreView = record { host = c.self.inside.host; header = header_of c.self.inside.header; words = c.self.inside.map; entries = c.self.inside.table } in
+    let view : StoreView = record { host = c.self.inside.host; header = header_of c.self.inside.header; words = c.self.inside.map; entries = c.self.inside.table; part = take c.self.inside.shown c.self.inside.work } in
     let may = writable m view _ c.args.unit.now c.self.view_is c.requires.fits (sym c.protected.ensures ∙ c.if-protected.false) in
     let why : StoreFault = c.in_err-add_entry.field-0.0 in
     let is : c.from_residual-in_err-add_entry.result ≡ Err why = passed c.from_residual-in_err-add_entry.result why c.from_residual-in_err-add_entry.ensures.1 in
@@ -109,7 +110,7 @@ returns-in_err-add_entry-clause-fits g c =
 pub returns-clause-fits : goal.returns-clause-fits
 returns-clause-fits g c =
     let m = g.T.Tape.means in
-    let view : StoreView = record { host = c.self.inside.host; header = header_of c.self.inside.header; words = c.self.inside.map; entries = c.self.inside.table } in
+    let view : StoreView = record { host = c.self.inside.host; header = header_of c.self.inside.header; words = c.self.inside.map; entries = c.self.inside.table; part = take c.self.inside.shown c.self.inside.work } in
     let may = writable m view _ c.args.unit.now c.self.view_is c.requires.fits (sym c.protected.ensures ∙ c.if-protected.false) in
     λ sound. added_fits m g.S.Source.means may c.in_ok-settle_again.ensures.did c.in_ok-settle_again.ensures.keeps c.in_ok-written.ensures.keeps (g.met.T.Tape.told_right c.take_input.new.unit.tape)
     c.args.name.now c.args.date c.args.promised c.args.source.now c.take_input.new.source c.in_ok-written.written c.from.result c.from.ensures c.in_ok-written.ensures.ends

@@ -1,4 +1,4 @@
-use Rattle.std.proofs.Common.{◌≡◌, ◌-◌, ◌<◌, Some, Ok, Err, false, ap, ◌∙◌, arith, slice_get}
+use Rattle.std.proofs.Common.{◌≡◌, ◌-◌, ◌<◌, take, Some, Ok, Err, false, ap, ◌∙◌, arith, slice_get}
 use Rattle.cartridge_spec.specs.Mounting.{HasList}
 use Rattle.qic_base.specs.Acts.{around}
 use Rattle.cartridge_spec.specs.Table.{Entry}
@@ -76,6 +76,7 @@ returns-clause-fits g c = λ other.
       header = header_of c.self.inside.header;
       words = map;
       entries = c.self.inside.table;
+      part = take c.self.inside.shown c.write_volume.new.work;
     } in
     still_fits g.T.Tape.means store after c.args.unit.now c.write_volume.new.unit c.requires.fits (record {
       header = ap (λ (v : StoreView). v.header) c.self.view_is;

@@ -1,4 +1,4 @@
-use Rattle.std.proofs.Common.{◌≡◌, ◌-◌, List, length, Ok, Err, false, sym, ap, subst}
+use Rattle.std.proofs.Common.{◌≡◌, ◌-◌, List, length, take, Ok, Err, false, sym, ap, subst}
 use Rattle.cartridge_spec.specs.Mounting.{HasList}
 use Rattle.qic_base.specs.Acts.{around}
 use Rattle.cartridge_spec.specs.Table.{Entry}
@@ -39,6 +39,7 @@ returns-clause-fits g c = λ other.
       header = header_of c.self.inside.header;
       words = map;
       entries = table;
+      part = take c.self.inside.shown c.scrub_segments.new.work;
     } in
     still_fits m store after c.args.unit.now c.scrub_segments.new.unit c.requires.fits (record {
       header = ap (λ (v : StoreView). v.header) c.self.view_is;

@@ -1,4 +1,4 @@
-use Rattle.std.proofs.Common.{ap}
+use Rattle.std.proofs.Common.{ap, take}
 use Rattle.header_segments.specs.Header.{header_of}
 use Rattle.volume_store.specs.Mounting.{StoreView}
 use Rattle.volume_store.proofs.Restored.{still_fits}
@@ -8,7 +8,7 @@ use Rattle.volume_store.proofs.store.Store.wear.Goals as goal
 pub returns-clause-fits : goal.returns-clause-fits
 returns-clause-fits g c = λ place other.
     let store : StoreView = c.args.self.now in
-    let after : StoreView = record { host = c.wear.new.self; header = header_of c.self.inside.header; words = c.self.inside.map; entries = c.self.inside.table } in
+    let after : StoreView = record { host = c.wear.new.self; header = header_of c.self.inside.header; words = c.self.inside.map; entries = c.self.inside.table; part = take c.self.inside.shown c.self.inside.work } in
     still_fits g.T.Tape.means store after c.args.unit.now c.wear.new.unit c.requires.fits
     (record { header = ap (λ (v : StoreView). v.header) c.self.view_is; words = ap (λ (v : StoreView). v.words) c.self.view_is; entries = ap (λ (v : StoreView). v.entries) c.self.view_is })
     c.wear.ensures.keeps
