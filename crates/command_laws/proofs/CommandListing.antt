@@ -583,7 +583,7 @@ none_listed t k told words a x answer right nothing never unheard = record {
     lists = λ came does. record {
       text = [];
       took = nothing;
-      answered = λ other. 
+      answered = λ other.
           (subst (λ (o : Option (Option Cartridge)). IsSomeAnd o (ListsAnswered header map_words entries does.items does.dids 0)) (sym was.told)
           (listed_none (settled table c) c header map_words entries (input_of told) came does (table, was.mounts)));
       broken = λ sink. absurd (never (inr sink));
