@@ -1,18 +1,27 @@
--- Which runs are runs of a life, how a life begins, and that it keeps its volumes.
-use Rattle.std.proofs.Common.{◌≡◌, ◌++◌, ◌+◌, ◌==◌, ◌∙◌, ℕ, zero, suc, append-nil, append_assoc, ap, sym, subst, refl, inl, inr, Bool, true, false, cond, List, [], ◌∷◌, Option, Some, None, IfSome, length, take}
-use Rattle.cartridge_spec.specs.Appending.{Content, appended_volume, with_all, with_bytes}
-use Rattle.cartridge_spec.specs.Volumes.{Plain, Volume, entries_of}
+-- Which runs are runs of a life, how a life begins, and that it keeps its volumes and gives them back.
+use Rattle.std.proofs.Common.{◌-◌, arith, min, slice_get, ◌≡◌, ◌++◌, ◌+◌, ◌==◌, ◌∙◌, ℕ, zero, suc, append-nil, append_assoc, ap, sym, subst, refl, inl, inr, Bool, true, false, cond, List, [], ◌∷◌, Option, Some, None, IfSome, length, take}
+use Rattle.std.proofs.lemmas.List.{length-append}
+use Rattle.std.proofs.lemmas.Option.{slice_get-get_or}
+use Rattle.std.proofs.Math.Seq.{get_or-append_seam}
+use Rattle.cartridge_laws.proofs.AppendBytes.{done_bytes}
+use Rattle.cartridge_laws.specs.AppendSettled.{MayAppendTo}
+use Rattle.cartridge_spec.specs.Appending.{Content, appended_volume, volume_bytes, with_all, with_bytes}
+use Rattle.cartridge_spec.specs.Volumes.{Plain, Stands, Volume, entries_of}
+use Rattle.command_laws.proofs.CommandAppends.{course, done_fits, fits, kept_of}
+use Rattle.command_laws.proofs.RestoreGivenBack.{given, given_whole}
 use Rattle.command_laws.proofs.CommandTable.{has_values}
 use Rattle.command_laws.proofs.LifeFormats.{format_makes, new_sound, renewed}
 use Rattle.command_laws.proofs.LifeLaws.{event_makes}
 use Rattle.command_laws.specs.Life.{Answered, Becomes, Ended, Event, Happens, HasRun, IsEmptied, IsSound, Loses, Runs, Stopped, begun_behind}
-use Rattle.command_laws.specs.LifeLaws.{AnsweredRuns, AreKeeping, FormattedIsSound, HasGrown, IsKeeping, StoppedRuns, VolumesAreKept, run_of}
+use Rattle.command_laws.specs.LifeLaws.{AnsweredRuns, AreKeeping, BackupsAreGivenBack, FormattedIsSound, GivesBytes, HasGrown, IsKeeping, StoppedRuns, VolumesAreKept, run_of}
+use Rattle.command_spec.specs.Append.{room_in}
 use Rattle.command_spec.specs.Input.{Item}
 use Rattle.command_spec.specs.Machine.{Yields}
 use Rattle.command_spec.specs.MadeVolumes.{made_contents}
 use Rattle.command_spec.specs.Outcome.{CommandOutcome}
 use Rattle.command_spec.specs.Script.{Did}
 use Rattle.command_spec.specs.ScriptLists.{all_added}
+use Rattle.command_spec.specs.RestoreCommand.{HasNumber}
 use Rattle.command_spec.specs.declared.line.Line.{Line}
 use Rattle.command_spec.specs.declared.words.Words.{Words}
 use Rattle.qic_base.specs.Acts.{steps_of}
@@ -70,13 +79,15 @@ formatted_is_sound segments label date answer input other printed text begun hel
 -- ---- volumes in a life
 
 grown_none : (plain : Plain) → HasGrown plain plain
-grown_none plain = record { more = []; volumes = sym (append-nil plain.volumes) }
+grown_none plain = record { header_area = refl; words = refl; more = []; volumes = sym (append-nil plain.volumes) }
 
 grown_one : (plain : Plain) (name : List ℕ) (date : ℕ) (bytes : List ℕ) → HasGrown plain (with_bytes plain name date bytes)
-grown_one plain name date bytes = record { more = appended_volume plain name date bytes ∷ []; volumes = refl }
+grown_one plain name date bytes = record { header_area = refl; words = refl; more = appended_volume plain name date bytes ∷ []; volumes = refl }
 
 grown_both : (a b c : Plain) → HasGrown a b → HasGrown b c → HasGrown a c
 grown_both a b c one other = record {
+  header_area = other.header_area ∙ one.header_area;
+  words = other.words ∙ one.words;
   more = one.more ++ other.more;
   volumes = other.volumes ∙ ap (λ (vs : List Volume). vs ++ other.more) one.volumes ∙ append_assoc a.volumes one.more other.more;
 }
@@ -141,3 +152,72 @@ volumes_are_kept (event ∷ events) begun held left plain keeping sound life =
     let next = event_grows event events begun held life.0 plain keeping sound life.1 in
     let rest = volumes_are_kept events (begun_behind event begun) life.0 left next.later (rest_keeping event events keeping) next.sound life.2 in
     (rest.0, grown_both plain next.later rest.0 next.grown rest.1, rest.2)
+
+-- ---- a backup, given back
+
+-- the volume behind some is the one of their number
+behind_get : (front rest : List Volume) (volume : Volume) → slice_get (front ++ volume ∷ rest) (length front) ≡ Some volume
+behind_get front rest volume =
+    let long : length (front ++ volume ∷ rest) ≡ length front + length (volume ∷ rest) = length-append front (volume ∷ rest) in
+    slice_get-get_or (front ++ volume ∷ rest) (length front) volume (omega arith) ∙ ap Some (get_or-append_seam front volume rest volume)
+
+-- an append that was carried out had room
+had_room : (name : List ℕ) (date : ℕ) (bytes : List ℕ) (b : Cartridge) (plain : Plain) (outcome : CommandOutcome) → Stands b plain →
+    Yields (words.Append name date) (Some b) bytes outcome → outcome.status ≡ status.Done → fits plain bytes ≡ true
+had_room name date bytes b plain outcome stood yields done =
+    elim (course name date bytes b plain outcome stood yields) [
+      | inl none ↦ absurd (none.not_done (sym (ap (λ (o : CommandOutcome). o.status) none.is) ∙ done))
+      | inr run ↦
+          done_fits (fits plain bytes) (min (length bytes) (room_in (kept_of b plain) + 1)) (room_in (kept_of b plain))
+          (sym (ap (λ (o : CommandOutcome). o.status) run.is) ∙ done)
+    ]
+
+-- the bytes of its volume, on the same map, are those that were appended
+its_bytes : (name : List ℕ) (date : ℕ) (bytes : List ℕ) (b : Cartridge) (plain : Plain) (ws : List ℕ) → MayAppendTo b plain name date bytes → ws ≡ plain.words →
+    volume_bytes ws (appended_volume plain name date bytes) ≡ bytes
+its_bytes name date bytes b plain ws may same =
+    ap (λ (w : List ℕ). volume_bytes w (appended_volume plain name date bytes)) same
+    ∙ (done_bytes b plain name date bytes may).1
+
+gives_bytes : (c : Cartridge) (plain later : Plain) (name : List ℕ) (date : ℕ) (bytes : List ℕ) → Stands c later → HasGrown (with_bytes plain name date bytes) later →
+    volume_bytes later.words (appended_volume plain name date bytes) ≡ bytes → GivesBytes c later (suc (length plain.volumes)) (appended_volume plain name date bytes) bytes
+gives_bytes c plain later name date bytes stood grown are input outcome reads few yields =
+    let volume : Volume = appended_volume plain name date bytes in
+    let at : slice_get later.volumes (length plain.volumes) ≡ Some volume =
+    ap (λ (vs : List Volume). slice_get vs (length plain.volumes)) (grown.volumes ∙ append_assoc plain.volumes (volume ∷ []) grown.more)
+    ∙ behind_get plain.volumes grown.more volume in
+    let has : HasNumber c later (suc (length plain.volumes)) volume =
+    record { stands = stood; reads = reads; place = length plain.volumes; numbered = refl; is = at } in
+    let whole = given_whole (suc (length plain.volumes)) c later volume outcome has (given (suc (length plain.volumes)) c later volume outcome has yields) few in
+    (whole.0, whole.1 ∙ are)
+
+done_sound : (name : List ℕ) (date : ℕ) (bytes printed : List ℕ) (begun : Bool) (b : Cartridge) (plain : Plain) (next : Option Cartridge) → IsSound begun (Some b) (Some plain) →
+    Happens (Runs (run_of (words.Append name date) bytes (Answered status.Done printed))) begun (Some b) next → IsSound begun next (Some (with_bytes plain name date bytes))
+done_sound name date bytes printed begun b plain next sound happens =
+    let made = event_makes (Runs (run_of (words.Append name date) bytes (Answered status.Done printed))) begun (Some b) next (Some plain) sound happens in
+    elim made.1 [
+      | inl done ↦ subst (λ (o : Option Plain). IsSound begun next o) done.1 made.2
+      | inr other ↦ absurd (other.0 refl)
+    ]
+
+pub backups_are_given_back : BackupsAreGivenBack
+backups_are_given_back name date bytes printed events begun None c plain keeping sound life = absurd sound
+backups_are_given_back name date bytes printed events begun (Some b) c plain keeping sound life =
+    let did = life.1.0 in
+    let within = life.1.1 in
+    let may : MayAppendTo b plain name date bytes = record {
+      cartridge = sound.whole;
+      stands = sound.stands;
+      room = had_room name date bytes b plain did.outcome sound.stands did.plain did.leaves.0;
+      label = did.values.0;
+      word = did.values.1;
+      content = within.bytes;
+    } in
+    let next : Plain = with_bytes plain name date bytes in
+    let kept = volumes_are_kept events begun life.0 (Some c) next keeping (done_sound name date bytes printed begun b plain life.0 sound life.1) life.2 in (
+      kept.0,
+      kept.1,
+      kept.2,
+      gives_bytes c plain kept.0 name date bytes kept.2.stands kept.1
+          (its_bytes name date bytes b plain kept.0.words may kept.1.words),
+    )

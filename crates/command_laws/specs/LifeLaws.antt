@@ -1,9 +1,13 @@
 -- What follows of lives, and which runs are runs of a life (this project's own).
-use Rattle.std.specs.Prelude.{◌≡◌, ◌⊎◌, ◌++◌, ℕ, Bool, false, List, [], ◌∷◌, Option, Some, None}
+use Rattle.std.specs.Prelude.{◌≡◌, ◌⊎◌, ◌++◌, ℕ, suc, All, Bool, false, List, [], ◌∷◌, Option, Some, None, length}
+use Rattle.cartridge_spec.specs.Appending.{appended_volume, with_bytes}
+use Rattle.cartridge_spec.specs.Mounting.{CanBeRead}
 use Rattle.cartridge_spec.specs.Volumes.{Plain, Volume}
 use Rattle.command_laws.specs.Life.{Answered, Ended, Event, HasRun, IsEmptied, IsSound, Lives, Loses, Run, Runs, Stopped, begun_behind_all}
 use Rattle.command_spec.specs.Headline.{WordsLeave}
-use Rattle.command_spec.specs.Machine.{Spells, SpellsNone, Step}
+use Rattle.command_spec.specs.Machine.{Spells, SpellsNone, Step, Yields}
+use Rattle.command_spec.specs.Outcome.{CommandOutcome, output_of}
+use Rattle.command_spec.specs.Restore.{LosesFew, pieces_in}
 use Rattle.command_spec.specs.declared.status.Status.{Status}
 use Rattle.command_spec.specs.declared.words.Words.{Words}
 use Rattle.qic_base.specs.Cartridge.{Cartridge, new_cartridge}
@@ -54,8 +58,10 @@ AreKeeping [] = Unit {0}
 AreKeeping (Runs run ∷ events) = IsKeeping run.command × AreKeeping events
 AreKeeping (Loses segment sector ∷ events) = AreKeeping events
 
--- each volume is there as it was, and perhaps more of them behind
+-- each volume is there as it was, on the same map, and perhaps more of them behind
 pub record HasGrown (plain later : Plain) : Type 0 where
+  pub header_area : later.header_area ≡ plain.header_area
+  pub words : later.words ≡ plain.words
   pub more : List Volume
   pub volumes : later.volumes ≡ plain.volumes ++ more
 
@@ -65,3 +71,21 @@ VolumesAreKept =
     (events : List Event) (begun : Bool) (held left : Option Cartridge) (plain : Plain) → AreKeeping events → IsSound begun held (Some plain) →
     Lives events begun held left →
     (later : Plain) × HasGrown plain later × IsSound (begun_behind_all events begun) left (Some later)
+
+-- ---- a backup, given back
+
+-- a restore of the volume of this number prints just these bytes, where the volume table can be read, and no segment that holds some
+-- of them has lost more than three sectors
+abbrev pub GivesBytes : Cartridge → Plain → (number : ℕ) → Volume → (bytes : List ℕ) → Type 0
+GivesBytes c plain number volume bytes =
+    (input : List ℕ) (outcome : CommandOutcome) → CanBeRead c → All (LosesFew c plain.words) (pieces_in plain volume) →
+    Yields (commands.Restore number) (Some c) input outcome → (outcome.status ≡ status.Done) × (output_of outcome ≡ bytes)
+
+-- an append is answered Done, and whatever runs come behind it, and wherever they are stopped, its volume is given back
+abbrev pub BackupsAreGivenBack : Type 0
+BackupsAreGivenBack =
+    (name : List ℕ) (date : ℕ) (bytes printed : List ℕ) (events : List Event) (begun : Bool) (held : Option Cartridge) (c : Cartridge) (plain : Plain) →
+    AreKeeping events → IsSound begun held (Some plain) →
+    Lives (Runs (run_of (commands.Append name date) bytes (Answered status.Done printed)) ∷ events) begun held (Some c) →
+    (later : Plain) × HasGrown (with_bytes plain name date bytes) later × IsSound (begun_behind_all events begun) (Some c) (Some later)
+    × GivesBytes c later (suc (length plain.volumes)) (appended_volume plain name date bytes) bytes

@@ -2,7 +2,7 @@
 //! nothing, so that other crates can rest on it; their proofs import the lemmas of this crate's `proofs`.
 
 ghost use Rattle.command_laws.specs.Life.{ALife};
-ghost use Rattle.command_laws.specs.LifeLaws.{AnsweredRuns, FormattedIsSound, StoppedRuns, VolumesAreKept};
+ghost use Rattle.command_laws.specs.LifeLaws.{AnsweredRuns, BackupsAreGivenBack, FormattedIsSound, StoppedRuns, VolumesAreKept};
 
 /// Behind each event of a life the cartridge stands for the volumes that the answered commands made, with those of the
 /// command that was stopped or not.
@@ -13,6 +13,12 @@ pub fn a_life()
 /// No volume is lost or changed in a life without `new` and `format`, wherever its runs are stopped.
 pub fn a_life_keeps_its_volumes()
     ensures { VolumesAreKept }
+{}
+
+/// A volume whose append was answered Done is given back byte for byte behind such a life, where the volume table can be
+/// read and none of its segments has lost more than three sectors.
+pub fn a_life_gives_its_backups_back()
+    ensures { BackupsAreGivenBack }
 {}
 
 /// A new cartridge that was formatted begins one.
