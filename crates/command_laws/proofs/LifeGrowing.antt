@@ -1,5 +1,5 @@
 -- Which runs are runs of a life, how a life begins, and that it keeps its volumes and gives them back.
-use Rattle.std.proofs.Common.{◌-◌, arith, min, slice_get, ◌≡◌, ◌++◌, ◌+◌, ◌==◌, ◌∙◌, ℕ, zero, suc, append-nil, append_assoc, ap, sym, subst, refl, inl, inr, Bool, true, false, cond, List, [], ◌∷◌, Option, Some, None, IfSome, length, take}
+use Rattle.std.proofs.Common.{arith, min, slice_get, ◌≡◌, ◌++◌, ◌+◌, ◌∙◌, ℕ, suc, append-nil, append_assoc, ap, sym, subst, refl, inl, inr, Bool, true, false, List, [], ◌∷◌, Option, Some, None, IfSome, length, take}
 use Rattle.std.proofs.lemmas.List.{length-append}
 use Rattle.std.proofs.lemmas.Option.{slice_get-get_or}
 use Rattle.std.proofs.Math.Seq.{get_or-append_seam}
@@ -15,19 +15,15 @@ use Rattle.command_laws.proofs.LifeLaws.{event_makes}
 use Rattle.command_laws.specs.Life.{Answered, Becomes, Ended, Event, Happens, HasRun, IsEmptied, IsSound, Loses, Runs, Stopped, begun_behind}
 use Rattle.command_laws.specs.LifeLaws.{AnsweredRuns, AreKeeping, BackupsAreGivenBack, FormattedIsSound, GivesBytes, HasGrown, IsKeeping, StoppedRuns, VolumesAreKept, run_of}
 use Rattle.command_spec.specs.Append.{room_in}
-use Rattle.command_spec.specs.Input.{Item}
 use Rattle.command_spec.specs.Machine.{Yields}
 use Rattle.command_spec.specs.MadeVolumes.{made_contents}
 use Rattle.command_spec.specs.Outcome.{CommandOutcome}
-use Rattle.command_spec.specs.Script.{Did}
 use Rattle.command_spec.specs.ScriptLists.{all_added}
 use Rattle.command_spec.specs.RestoreCommand.{HasNumber}
-use Rattle.command_spec.specs.declared.line.Line.{Line}
 use Rattle.command_spec.specs.declared.words.Words.{Words}
 use Rattle.qic_base.specs.Acts.{steps_of}
 use Rattle.qic_base.specs.Cartridge.{Cartridge, IsCartridge, new_cartridge}
 use Rattle.qic_base.specs.Step.{effects}
-use Rattle.command_spec.specs.declared.line.Line.TheVariants as line
 use Rattle.command_spec.specs.declared.status.Status.TheVariants as status
 use Rattle.command_spec.specs.declared.words.Words.TheVariants as words
 

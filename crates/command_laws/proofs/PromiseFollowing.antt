@@ -1,5 +1,5 @@
 -- Where no count of faults rose, no fault of the outside was answered.
-use Rattle.std.proofs.Common.{◌≡◌, ◌⊎◌, List, ℕ, true, refl, inl, inr}
+use Rattle.std.proofs.Common.{◌≡◌, true, refl, inl, inr}
 use Rattle.std.proofs.lemmas.Bool.{cases_Bool}
 use Rattle.command_laws.specs.PromiseLaws.{AnswersWhereNoneRose}
 use Rattle.command_spec.specs.Headline.{NoneRose}
