@@ -8,16 +8,17 @@ use Rattle.cartridge_laws.proofs.AppendVolume.{stopped_volume, may_append}
 use Rattle.cartridge_laws.proofs.FormatStanding.{same_cells, entry_starts, volumes_behind, volumes_kept}
 use Rattle.cartridge_laws.proofs.FormatWriting.{effects-some, some_weaker, changed_by-append}
 use Rattle.cartridge_laws.proofs.MountKeeping.{in_force, copies_are, stopped_mounts}
-use Rattle.cartridge_laws.proofs.MountSettled.{settled_keeps_table, settled_is_written, settled_reads_plainly}
+use Rattle.cartridge_laws.proofs.MountSettled.{settled_keeps_table, settled_is_written, settled_reads_plainly, settled_is_whole}
+use Rattle.cartridge_laws.proofs.MountWhole.{table_is_area}
 use Rattle.cartridge_laws.proofs.OneLossAppend.{stopped_append_reads_either, append_changes_one_sector}
 use Rattle.cartridge_laws.proofs.OneLossRead.{before_reads_old_still}
 use Rattle.cartridge_laws.specs.AppendBetween.{IsWhole}
 use Rattle.cartridge_laws.specs.AppendLaws.{volume_steps, IsReadyFor, list_steps, new_table}
 use Rattle.cartridge_laws.specs.AppendSteps.{list_writes}
-use Rattle.cartridge_laws.specs.OneLossLaws.{TableAloneComesBack, TableAloneIsClean, StoppedAppendComesBack, DoneAppendReadsNew, DoneAppendComesBack}
+use Rattle.cartridge_laws.specs.OneLossLaws.{TableAloneComesBack, TableAloneIsClean, StoppedAppendComesBack, DoneAppendReadsNew, DoneAppendComesBack, SettledComesBack}
 use Rattle.cartridge_spec.specs.Appending.{with_bytes, appended_volume}
 use Rattle.cartridge_spec.specs.Header.{header_fault}
-use Rattle.cartridge_spec.specs.HeaderAndTable.{TableIs, copy_cells, HasHeader, last_segment, table_cells}
+use Rattle.cartridge_spec.specs.HeaderAndTable.{TableIs, copy_cells, HasHeader, last_segment, table_cells, IsArea}
 use Rattle.cartridge_spec.specs.Mounting.{settled, IsMounted}
 use Rattle.cartridge_spec.specs.OneLoss.{ChangesTableAlone, LosesOne, LosesOneAlone, ComesBackAs}
 use Rattle.cartridge_spec.specs.Says.{whole_mask, Written, Zero}
@@ -103,6 +104,18 @@ table_alone_comes_back c d plain stood alone reads =
       stands = λ is. settled_stands c d plain alone stood reads is;
       plainly = λ is. settled_reads_plainly d plain.table_area reads is;
     }
+
+-- whatever stands with its whole table comes back where one sector of that is lost
+pub whole_comes_back : (d : Cartridge) (plain : Plain) → Stands d plain → IsWhole d plain.table_area → IsArea plain.table_area →
+    (f : Cartridge) (lost : ℕ) → LosesOneAlone d f lost → ComesBackAs f plain
+whole_comes_back d plain stood whole area f lost loses =
+    table_alone_comes_back d f plain stood loses.alone
+    (before_reads_old_still d f plain.table_area 0 lost area (omega arith) (inl whole) loses.loses)
+
+pub settled_comes_back : SettledComesBack
+settled_comes_back c plain cartridge stood live unprotected table f lost loses =
+    whole_comes_back (settled plain.table_area c) plain (settled_stands c c plain (record { info = refl; others = λ s i h apart. refl }) stood table unprotected)
+    (λ i h. settled_is_whole c plain.table_area i table unprotected live h) (table_is_area c plain.table_area cartridge table) f lost loses
 
 clean_copy : (xs ys : List SectorView) (area : List (List ℕ)) → ys ≡ xs → Written xs area ⊎ Zero xs → Written ys area ⊎ Zero ys
 clean_copy xs ys area same clean = subst (λ (cells : List SectorView). Written cells area ⊎ Zero cells) (sym same) clean

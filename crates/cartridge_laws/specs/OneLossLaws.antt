@@ -9,14 +9,14 @@ use Rattle.cartridge_spec.specs.Appending.{with_bytes}
 use Rattle.cartridge_spec.specs.Code.{IsCodeBlock}
 use Rattle.cartridge_spec.specs.Formatting.{StandsCleanly}
 use Rattle.cartridge_spec.specs.HeaderAndTable.{IsArea, TableIs}
-use Rattle.cartridge_spec.specs.Mounting.{settled}
+use Rattle.cartridge_spec.specs.Mounting.{settled, IsTableLive}
 use Rattle.cartridge_spec.specs.OneLoss.{LosesOne, ChangesTableAlone, ComesBackAs, LosesOneAlone}
 use Rattle.cartridge_spec.specs.Says.{with_parity}
 use Rattle.cartridge_spec.specs.Settling.{changed_by}
 use Rattle.cartridge_spec.specs.Shape.{sector_at}
 use Rattle.cartridge_spec.specs.Table.{slot_sector}
 use Rattle.cartridge_spec.specs.Volumes.{Plain, Stands}
-use Rattle.qic_base.specs.Cartridge.{Cartridge}
+use Rattle.qic_base.specs.Cartridge.{Cartridge, IsCartridge}
 use Rattle.qic_base.specs.Stop.{Torn}
 
 -- ---- two tables that differ in one sector of data
@@ -109,6 +109,12 @@ DoneAppendReadsNew =
 abbrev pub TableAloneComesBack : Type 0
 TableAloneComesBack =
     (c d : Cartridge) (plain : Plain) → Stands c plain → ChangesTableAlone c d → TableIs d plain.table_area → ComesBackAs d plain
+
+-- so does a settled cartridge, each sector of whose table's segment takes a write, where one of them is lost, ..
+abbrev pub SettledComesBack : Type 0
+SettledComesBack =
+    (c : Cartridge) (plain : Plain) → IsCartridge c → Stands c plain → IsTableLive c → c.info.protected ≡ false → TableIs c plain.table_area →
+    (f : Cartridge) (lost : ℕ) → LosesOneAlone (settled plain.table_area c) f lost → ComesBackAs f plain
 
 -- .. with header copies that formatting may begin over where they were so
 abbrev pub TableAloneIsClean : Type 0

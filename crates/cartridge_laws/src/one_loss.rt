@@ -2,7 +2,7 @@
 //! the contract of a function that does nothing, so that other crates can rest on it; their proofs import the lemmas of this
 //! crate's `proofs`.
 
-ghost use Rattle.cartridge_laws.specs.OneLossLaws.{ParityBytesDiffer, ParityDiffers, NearBlockIsTables, BeforeReadsOldStill, LostParityReadsNew, LostDataReadsOld, LostDataReadsNew, OneLossReadsEither, AppendChangesOneSector, StoppedAppendReadsEither, DoneAppendReadsNew, TableAloneComesBack, TableAloneIsClean, StoppedAppendComesBack, DoneAppendComesBack};
+ghost use Rattle.cartridge_laws.specs.OneLossLaws.{ParityBytesDiffer, ParityDiffers, NearBlockIsTables, BeforeReadsOldStill, LostParityReadsNew, LostDataReadsOld, LostDataReadsNew, OneLossReadsEither, AppendChangesOneSector, StoppedAppendReadsEither, DoneAppendReadsNew, TableAloneComesBack, SettledComesBack, TableAloneIsClean, StoppedAppendComesBack, DoneAppendComesBack};
 
 /// Two tables that differ in one sector of data differ in each sector of parity, in each column in which that one
 /// differs; and a code block that holds the sectors of a table outside three places at most is the table's: the code's
@@ -52,9 +52,11 @@ pub fn one_loss_of_a_done_append()
 
 /// A cartridge that differs from one that stands for a plain cartridge in the table's segment alone, and says that
 /// one's data of the table, comes back as that one: it is mounted so, also once a stop has cut its settling off, and
-/// where it is not protected it stands for that one when it is settled, its header copies as clean as they were.
+/// where it is not protected it stands for that one when it is settled, its header copies as clean as they were. So does
+/// a settled cartridge with one sector of its table's segment lost.
 pub fn table_alone_comes_back()
     ensures back { TableAloneComesBack }
+    ensures settled { SettledComesBack }
     ensures clean { TableAloneIsClean }
 {}
 

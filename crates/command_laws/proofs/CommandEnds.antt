@@ -71,7 +71,6 @@ pub record Laws {T S K : Type 0} (t : tapes.Meaning T) (s : sources.Meaning S) (
   pub told : (x y : K) (text : List ℕ) → k.took x text y → k.written y ≡ option_map (λ bytes. bytes ++ text) (k.written x)
   pub right : tapes.IsToldRight (t.told old.tape) (t.size old.tape)
   pub before : tapes.IsLeftNow t old.tape
-  pub after : tapes.IsLeftNow t new.tape
 
 -- what is told is a whole cartridge, or none
 pub told_whole : (held : Option Cartridge) (told : Option (Option Cartridge)) (size : Option ℕ) → tapes.IsToldRight told size → told ≡ Some held → IfSome held IsCartridge
@@ -98,12 +97,6 @@ pub told_weaker : {P Q : Option Cartridge → Type 0} (o : Option (Option Cartri
 told_weaker None follows holds = absurd holds
 told_weaker (Some left) follows holds = follows left holds
 
-told_is : (o : Option (Option Cartridge)) (P : Option Cartridge → Type 0) (left : Option Cartridge) → IsSomeAnd o P → o ≡ Some left → P left
-told_is None P left holds is = absurd holds
-told_is (Some other) P left holds is =
-    let same : other ≡ left = cc in
-    subst P same holds
-
 -- what was told, and what it is after the steps
 pub after_steps : {T : Type 0} (t : tapes.Meaning T) (a b : T) (steps : List TapeStep) (held : Option Cartridge) → tapes.Done t a b steps → t.told a ≡ Some held → t.told b ≡ Some (effects steps held)
 after_steps t a b steps held did told = did.told ∙ ap (option_map (effects steps)) told
@@ -126,14 +119,11 @@ pub record LeftBy {T : Type 0} (t : tapes.Meaning T) (a b : T) (held : Option Ca
   pub torn : IsSomeAnd (t.told b) (λ left. Torn steps held left)
   pub leaves : (left : Option Cartridge) → Torn steps held left → P left
 
-pub each_left : {T : Type 0} (t : tapes.Meaning T) (a b : T) (P : (held left : Option Cartridge) → Type 0) → tapes.IsLeftNow t a → tapes.IsLeftNow t b →
+pub each_left : {T : Type 0} (t : tapes.Meaning T) (a b : T) (P : (held left : Option Cartridge) → Type 0) → tapes.IsLeftNow t a →
     ((held : Option Cartridge) → t.told a ≡ Some held → LeftBy t a b held (P held)) → EachLeft t a b P
-each_left t a b P before after by = record {
+each_left t a b P before by = record {
   told = λ held told. let l = by held told in told_weaker (t.told b) l.leaves l.torn;
   since = λ held left telling told is. let l = by held told in l.leaves left (Stops-left held left before telling told l.stops is);
-  now = λ held left telling told is.
-      let l = by held told in
-      l.leaves left (told_is (t.told b) (λ d. Torn l.steps held d) left l.torn (after.only left (l.stops.telling ∙ telling) is));
 }
 
 pub stops_go_on : {T : Type 0} (t : tapes.Meaning T) (a b : T) (steps : List TapeStep) → tapes.Stops t a b steps → StopsGoOn t a b
@@ -229,7 +219,7 @@ module _ {T S K : Type 0} (t : tapes.Meaning T) (s : sources.Meaning S) (k : sin
   pub ends_stops : Laws t s k old new → Spells words command → HasValues command → CommandEnds t s k command old new answer →
       EachLeft t old.tape new.tape (WordsLeave (s.left old.source) words)
   ends_stops laws spelled values ends =
-      each_left t old.tape new.tape (WordsLeave (s.left old.source) words) laws.before laws.after (left_by laws spelled values ends)
+      each_left t old.tape new.tape (WordsLeave (s.left old.source) words) laws.before (left_by laws spelled values ends)
 
   -- ---- runs one after the other
 

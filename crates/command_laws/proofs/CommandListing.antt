@@ -15,7 +15,7 @@ use Rattle.command_laws.proofs.CommandAdded.{replied_text, status_fits}
 use Rattle.command_laws.proofs.CommandAppends.{appended_line_is_some}
 use Rattle.command_laws.proofs.CommandEnds.{Laws, over_at, told_whole}
 use Rattle.command_laws.proofs.CommandOpened.{quiet}
-use Rattle.command_laws.proofs.CommandSeveral.{heard_fault, never_sink, no_more, some_long, none_left, told_now}
+use Rattle.command_laws.proofs.CommandSeveral.{heard_fault, never_sink, no_more, some_long, none_left}
 use Rattle.command_laws.proofs.CommandTable.{plain_answers}
 use Rattle.command_laws.proofs.CommandTold.{input_of, input_told}
 use Rattle.command_laws.proofs.CommandVolumes.{done_now, Did, carried_out_did, now_weaker}
@@ -28,7 +28,7 @@ use Rattle.command_laws.proofs.TextWords.{one_command}
 use Rattle.command_laws.specs.MountedListed.{IsListed, listed_behind}
 use Rattle.command_laws.specs.MountedListing.{AddsNone}
 use Rattle.command_spec.specs.Append.{Kept, Taking, Fits, TooLong, append_acts, entry_for, kept_in, room_in, taking, Appends, AppendOutcome, append_status, appended, kept_over}
-use Rattle.command_spec.specs.Headline.{EachNow}
+use Rattle.command_spec.specs.Headline.{ToldNow}
 use Rattle.command_spec.specs.Lines.{reply_behind}
 use Rattle.command_spec.specs.Listing.{IsHeard, ListsVolume, NowLists, WasListed, ListsAppends}
 use Rattle.command_spec.specs.Machine.{Yields, HasValues, Spells}
@@ -211,7 +211,7 @@ pub record RanDone {T S K : Type 0} (t : tapes.Meaning T) (s : sources.Meaning S
   pub text : List ℕ
   pub took : k.took old.sink text new.sink
   pub at : FrontDone outcome.acts text
-  pub now : EachNow t old.tape new.tape (λ left. left ≡ effects (done_of outcome.acts text at) (Some c))
+  pub now : ToldNow t new.tape (λ left. left ≡ effects (done_of outcome.acts text at) (Some c))
   -- where the input was carried out, all of them
   pub heard : IsHeard answer → (outcome.status ≡ answer) × (done_of outcome.acts text at ≡ steps_of outcome.acts)
   -- the sink broke a text off where it failed, and just there
@@ -229,7 +229,7 @@ ends_done t s k command old new answer laws values (inl finished) c told other =
       text = text_of finished.outcome.acts;
       took = finished.went.wrote.took;
       at = inl (record { front = finished.outcome.acts; rest = []; parts = append-nil finished.outcome.acts; is_text = refl });
-      now = done_now t old.tape new.tape (steps_of finished.outcome.acts) (Some c) laws.after finished.went.did told;
+      now = done_now t old.tape new.tape (steps_of finished.outcome.acts) (Some c) finished.went.did told;
       heard = λ which. (sym finished.answered, refl);
       broke = λ is. absurd (never_sink answer command finished.sound is);
       whole = λ other. tt;
@@ -247,7 +247,7 @@ ends_done t s k command old new answer laws values (inr (SourceFails, is, stoppe
       text = text_of cut.front;
       took = cut.wrote.took;
       at = inl (record { front = cut.front; rest = cut.rest; parts = cut.parts; is_text = refl });
-      now = done_now t old.tape new.tape (steps_of cut.front) (Some c) laws.after cut.did told;
+      now = done_now t old.tape new.tape (steps_of cut.front) (Some c) cut.did told;
       heard = λ which. absurd (heard_fault SourceFails answer is which);
       broke = λ sink. let other : fault_of SourceFails ≡ status.SinkFault = sym is ∙ sink in absurd (cc);
       whole = λ other. tt;
@@ -276,7 +276,7 @@ ends_done t s k command old new answer laws values (inr (SinkFails, is, stopped)
         lacks = broke.some;
         is_text = refl;
       });
-      now = done_now t old.tape new.tape (steps_of at.front ++ at.act.steps) (Some c) laws.after cut.did told;
+      now = done_now t old.tape new.tape (steps_of at.front ++ at.act.steps) (Some c) cut.did told;
       heard = λ which. absurd (heard_fault SinkFails answer is which);
       broke = λ sink. tt;
       whole = λ other. absurd (other is);
@@ -301,20 +301,20 @@ module _ {T S K : Type 0} (t : tapes.Meaning T) (s : sources.Meaning S) (k : sin
         lists = now_weaker t old.tape new.tape
             (λ left is. subst (λ (o : Option Cartridge). IsSomeAnd o (λ e. Lists e header words with)) (sym is)
             (lists_with c header words table entries whole was.mounts name date values.0 values.1 d.input d.outcome d.plain d.sound))
-            (done_now t old.tape new.tape (steps_of d.outcome.acts) (Some c) laws.after d.did was.told);
+            (done_now t old.tape new.tape (steps_of d.outcome.acts) (Some c) d.did was.told);
       }
 
-  append_lists_none : WasNotDone answer → NowLists t old.tape new.tape header words entries
+  append_lists_none : WasNotDone answer → NowLists t new.tape header words entries
   append_lists_none not = by_end ends
     where
-      by_end : CommandEnds t s k command old new answer → NowLists t old.tape new.tape header words entries
+      by_end : CommandEnds t s k command old new answer → NowLists t new.tape header words entries
       by_end (inl finished) =
           let over = over_at (t.told old.tape) _ (Some c) finished.told was.told in
           now_weaker t old.tape new.tape
           (λ left is. subst (λ (o : Option Cartridge). IsSomeAnd o (λ e. Lists e header words entries)) (sym is)
           (lists_without c header words table entries whole was.mounts name date values.0 values.1 over.0 finished.outcome finished.outcome.acts [] over.2.1 (append-nil finished.outcome.acts)
           (inl (λ same. not.0 (finished.answered ∙ same)))))
-          (done_now t old.tape new.tape (steps_of finished.outcome.acts) (Some c) laws.after finished.went.did was.told)
+          (done_now t old.tape new.tape (steps_of finished.outcome.acts) (Some c) finished.went.did was.told)
       by_end (inr (TapeFails, is, stopped)) = absurd (not.2 is)
       by_end (inr (SinkFails, is, stopped)) = absurd (not.1 is)
       by_end (inr (SourceFails, is, stopped)) =
@@ -325,7 +325,7 @@ module _ {T S K : Type 0} (t : tapes.Meaning T) (s : sources.Meaning S) (k : sin
           now_weaker t old.tape new.tape
           (λ left is. subst (λ (o : Option Cartridge). IsSomeAnd o (λ e. Lists e header words entries)) (sym is)
           (lists_without c header words table entries whole was.mounts name date values.0 values.1 over.0 some.0 cut.front cut.rest some.1 cut.parts (inr (off.silent refl))))
-          (done_now t old.tape new.tape (steps_of cut.front) (Some c) laws.after cut.did was.told)
+          (done_now t old.tape new.tape (steps_of cut.front) (Some c) cut.did was.told)
 
 -- ---- `script`
 
@@ -566,9 +566,9 @@ lists_appends t s k words command old new answer laws spelled values ends = reco
 
 -- ---- a run that touched nothing
 
-pub none_listed : {T K : Type 0} (t : tapes.Meaning T) (k : sinks.Meaning K) (told : Option (List ℕ)) (words : List (List ℕ)) (a : T) (x : K) (answer : Status) → tapes.IsToldRight (t.told a) (t.size a) → tapes.IsLeftNow t a →
+pub none_listed : {T K : Type 0} (t : tapes.Meaning T) (k : sinks.Meaning K) (told : Option (List ℕ)) (words : List (List ℕ)) (a : T) (x : K) (answer : Status) → tapes.IsToldRight (t.told a) (t.size a) →
     k.took x [] x → (IsCarriedOut answer → ⊥) → (IsHeard answer → ⊥) → ListsAppends t k told words a a x x answer
-none_listed t k told words a x answer right after nothing never unheard = record {
+none_listed t k told words a x answer right nothing never unheard = record {
   appended = λ name date c header map_words table entries spells was which. absurd (never which);
   unchanged = λ name date c header map_words table entries spells was not. as_before c header map_words table entries was;
   made = λ seed count c header map_words table entries spells was other. record {
@@ -583,7 +583,7 @@ none_listed t k told words a x answer right after nothing never unheard = record
     lists = λ came does. record {
       text = [];
       took = nothing;
-      answered = λ other. told_now t a a (ListsAnswered header map_words entries does.items does.dids 0) after refl
+      answered = λ other.
           (subst (λ (o : Option (Option Cartridge)). IsSomeAnd o (ListsAnswered header map_words entries does.items does.dids 0)) (sym was.told)
           (listed_none (settled table c) c header map_words entries (input_of told) came does (table, was.mounts)));
       broken = λ sink. absurd (never (inr sink));
@@ -592,7 +592,6 @@ none_listed t k told words a x answer right after nothing never unheard = record
   };
 }
   where
-    as_before : (c : Cartridge) (header : Header) (map_words : List ℕ) (table : List (List ℕ)) (entries : List Entry) → WasListed t a c header map_words table entries → NowLists t a a header map_words entries
+    as_before : (c : Cartridge) (header : Header) (map_words : List ℕ) (table : List (List ℕ)) (entries : List Entry) → WasListed t a c header map_words table entries → NowLists t a header map_words entries
     as_before c header map_words table entries was =
-        told_now t a a (λ left. IsSomeAnd left (λ d. Lists d header map_words entries)) after refl
-        (subst (λ (o : Option (Option Cartridge)). IsSomeAnd o (λ left. IsSomeAnd left (λ d. Lists d header map_words entries))) (sym was.told) (table, was.mounts))
+        subst (λ (o : Option (Option Cartridge)). IsSomeAnd o (λ left. IsSomeAnd left (λ d. Lists d header map_words entries))) (sym was.told) (table, was.mounts)

@@ -1,13 +1,12 @@
 -- A cartridge that an append left, done or stopped, comes back where one sector more of its table's segment is lost.
-use Rattle.std.proofs.Common.{inl, ℕ, arith, ◌≤◌, List, ◌∙◌, ◌⊎◌, inr, ◌++◌, ◌+◌, Option, Some, subst, ◌≡◌, ◌^◌, ◌<◌, true, false, All, IsSomeAnd, refl, [], ◌∷◌, ap, length, min, sym}
+use Rattle.std.proofs.Common.{inl, ℕ, ◌≤◌, List, ◌∙◌, ◌⊎◌, inr, ◌++◌, ◌+◌, Option, Some, subst, ◌≡◌, ◌^◌, ◌<◌, true, false, All, IsSomeAnd, refl, [], ◌∷◌, ap, length, min, sym}
 use Rattle.std.proofs.lemmas.Bool.{cases_Bool}
 use Rattle.cartridge_laws.proofs.AppendReady.{settled_is_ready}
 use Rattle.cartridge_laws.proofs.AppendVolume.{free_writes_stand, last_end_least, stopped_volume}
 use Rattle.cartridge_laws.proofs.FormatWriting.{changed_by-append, effects-some, some_weaker, some_and}
 use Rattle.cartridge_laws.proofs.MountSettled.{settled_needs_no_steps, settled_stands, settled_is_whole}
 use Rattle.cartridge_laws.proofs.MountWhole.{settling_effects, table_is_area}
-use Rattle.cartridge_laws.proofs.OneLossComesBack.{table_alone_comes_back, stopped_append_comes_back, done_append_comes_back}
-use Rattle.cartridge_laws.proofs.OneLossRead.{before_reads_old_still}
+use Rattle.cartridge_laws.proofs.OneLossComesBack.{stopped_append_comes_back, done_append_comes_back, whole_comes_back}
 use Rattle.cartridge_laws.specs.AppendBetween.{IsWhole}
 use Rattle.cartridge_laws.specs.AppendLaws.{IsReadyFor}
 use Rattle.cartridge_laws.specs.AppendWrites.{KeepsTo}
@@ -30,12 +29,6 @@ use Rattle.cartridge_laws.specs.AppendLaws as appends
 use Rattle.command_spec.specs.declared.status.Status.TheVariants as status
 
 -- ---- a table whose sectors are all there
-
-whole_comes_back : (d : Cartridge) (plain : Plain) → Stands d plain → IsWhole d plain.table_area → IsArea plain.table_area →
-    (f : Cartridge) (lost : ℕ) → LosesOneAlone d f lost → ComesBackAs f plain
-whole_comes_back d plain stood whole area f lost loses =
-    table_alone_comes_back d f plain stood loses.alone
-    (before_reads_old_still d f plain.table_area 0 lost area (omega arith) (inl whole) loses.loses)
 
 kept_whole : (c d : Cartridge) (area : List (List ℕ)) (last : ℕ) → 2 ≤ last → KeepsTo last c d → IsWhole c area → IsWhole d area
 kept_whole c d area last h kept whole i low = kept.sectors 2 i h low ∙ whole i low
@@ -136,13 +129,6 @@ module _ (name : List ℕ) (date : ℕ) (input : List ℕ) (c : Cartridge) (plai
   done_survives enough f lost loses =
       done_append_comes_back s (changed_by (appends.append_steps_of plain name date input) s) plain name date input (ready enough)
       (changed_by-append (appends.volume_steps plain name date input) (appends.list_steps plain name date input) s) f lost loses
-
--- so does the settled cartridge itself
-pub settled_comes_back : (c : Cartridge) (plain : Plain) → IsCartridge c → Stands c plain → IsTableLive c → c.info.protected ≡ false → TableIs c plain.table_area →
-    (f : Cartridge) (lost : ℕ) → LosesOneAlone (settled plain.table_area c) f lost → ComesBackAs f plain
-settled_comes_back c plain cartridge stood live unprotected table f lost loses =
-    whole_comes_back (settled plain.table_area c) plain (settled_stands c plain plain.table_area stood table)
-    (λ i h. settled_is_whole c plain.table_area i table unprotected live h) (table_is_area c plain.table_area cartridge table) f lost loses
 
 -- ---- the plain machine
 

@@ -151,7 +151,6 @@ module _ {T S K : Type 0} (t : tapes.Meaning T) (s : sources.Meaning S) (k : sin
       let stops : EachLeft t old.tape new.tape (WordsLeave (s.left old.source) words) = ends_stops t s k words command old new answer laws spelled values ends in
       let finished : is_fault answer ≡ false → Finished t s k command old new answer = ends_finished t s k words command old new answer ends in
       record {
-        answers = ends_answers t s k words command old new answer laws spelled ends;
         carried = ends_carried t s k words command old new answer laws spelled ends;
         complete = λ none. completes t s k words old new answer laws.right (λ other spells. has_values words other spells) (ends_answers t s k words command old new answer laws spelled ends none);
         cut = ends_cut t s k words command old new answer laws spelled values ends;
@@ -231,7 +230,7 @@ over_any (Some held) left R follows = (input_of left, input_told left, follows h
 module _ {T S K : Type 0} (t : tapes.Meaning T) (s : sources.Meaning S) (k : sinks.Meaning K) (words : List (List ℕ)) (old : Outside T S K) where
   untouched_stops : Laws t s k old old → EachLeft t old.tape old.tape (WordsLeave (s.left old.source) words)
   untouched_stops laws =
-      each_left t old.tape old.tape (WordsLeave (s.left old.source) words) laws.before laws.before (λ held told. record {
+      each_left t old.tape old.tape (WordsLeave (s.left old.source) words) laws.before (λ held told. record {
         steps = [];
         stops = Stops-nothing t old.tape;
         torn = subst (λ (o : Option (Option Cartridge)). IsSomeAnd o (λ left. left ≡ held)) (sym told) refl;
@@ -245,7 +244,6 @@ module _ {T S K : Type 0} (t : tapes.Meaning T) (s : sources.Meaning S) (k : sin
       let stops : EachLeft t old.tape old.tape (WordsLeave (s.left old.source) words) = untouched_stops laws in
       let nothing = idle_changes_nothing answer is in
       let ends = idle_carries_nothing answer is in record {
-        answers = λ none. answers;
         carried = λ sound. answers;
         complete = λ none. completes t s k words old old answer laws.right (λ other spells. has_values words other spells) answers;
         cut = λ failing same. let fault = ap is_fault same ∙ is_a_fault failing in let no = nothing.0 in absurd (cc);
@@ -258,12 +256,12 @@ module _ {T S K : Type 0} (t : tapes.Meaning T) (s : sources.Meaning S) (k : sin
         clean = stays_clean t (s.left old.source) words old.tape old.tape laws.right stops;
         formats = stops_format t (s.left old.source) words old.tape old.tape laws.right stops;
         appends = stops_append t (s.left old.source) words old.tape old.tape laws.right (λ other spells. has_values words other spells) stops;
-        changed = none_changed t (s.left old.source) words old.tape answer laws.before nothing.0 nothing.1;
+        changed = none_changed t (s.left old.source) words old.tape answer nothing.0 nothing.1;
         survives = none_survives t (s.left old.source) words old.tape answer laws.right nothing.0 nothing.1 (λ other spells. has_values words other spells) stops;
-        makes = none_made t k (s.left old.source) words old.tape old.sink answer laws.right laws.before (laws.nothing old.sink)
+        makes = none_made t k (s.left old.source) words old.tape old.sink answer laws.right (laws.nothing old.sink)
             ends.0 (λ other spells. has_values words other spells) stops;
-        scripts = none_scripted t k (s.left old.source) words old.tape old.sink answer laws.right laws.before (laws.nothing old.sink) ends.1 stops;
-        listed = none_listed t k (s.left old.source) words old.tape old.sink answer laws.right laws.before (laws.nothing old.sink) ends.0 ends.1;
+        scripts = none_scripted t k (s.left old.source) words old.tape old.sink answer laws.right (laws.nothing old.sink) ends.1 stops;
+        listed = none_listed t k (s.left old.source) words old.tape old.sink answer laws.right (laws.nothing old.sink) ends.0 ends.1;
         restores = gives_back t s k words old old answer (λ sound. answers) (λ failing same. let fault = ap is_fault same ∙ is_a_fault failing in let no = nothing.0 in absurd (cc));
         joins = record {
           counts = record { tape = omega arith; source = omega arith; sink = omega arith };

@@ -24,7 +24,7 @@ use Rattle.command_laws.specs.ActStops.{Between, Behind, IsLeftBy}
 use Rattle.command_laws.specs.MountedHeld.{IsHeld}
 use Rattle.command_laws.specs.MountedKept.{IsKept, IsOpen}
 use Rattle.command_laws.specs.ScriptStanding.{plain_behind}
-use Rattle.command_spec.specs.Headline.{EachNow, StopLeaves, WordsLeave, EachLeft}
+use Rattle.command_spec.specs.Headline.{ToldNow, StopLeaves, WordsLeave, EachLeft}
 use Rattle.command_spec.specs.Input.{Item}
 use Rattle.command_spec.specs.Listing.{IsHeard}
 use Rattle.command_spec.specs.Machine.{Yields, HasValues, Spells}
@@ -108,17 +108,6 @@ module _ (c : Cartridge) (plain : Plain) (whole : IsCartridge c) (stood : Stands
 
 -- ---- what is told when a run is over
 
-pub told_now : {T : Type 0} (t : tapes.Meaning T) (a b : T) (P : Option Cartridge → Type 0) → tapes.IsLeftNow t b → t.tells_stops b ≡ t.tells_stops a →
-    IsSomeAnd (t.told b) P → EachNow t a b P
-told_now t a b P after telling holds = record {
-  told = holds;
-  now = λ left tells is. at (t.told b) left holds (after.only left (telling ∙ tells) is);
-}
-  where
-    at : (o : Option (Option Cartridge)) (left : Option Cartridge) → IsSomeAnd o P → o ≡ Some left → P left
-    at None left none is = absurd none
-    at (Some other) left holds is = let same : other ≡ left = cc in subst P same holds
-
 -- something is told of what a told cartridge became
 still_told : (o : Option (Option Cartridge)) (P : Option Cartridge → Type 0) → is_some o ≡ true → ((left : Option Cartridge) → o ≡ Some left → P left) → IsSomeAnd o P
 still_told None P some each = cc
@@ -149,20 +138,19 @@ none_torn : (steps : List TapeStep) (held : Option Cartridge) → Torn steps hel
 none_torn [] held = refl
 none_torn (x ∷ xs) held = inl refl
 
-module _ {T S K : Type 0} (t : tapes.Meaning T) (s : sources.Meaning S) (k : sinks.Meaning K) (old new : Outside T S K) (c : Cartridge) (told : t.told old.tape ≡ Some (Some c)) (after : tapes.IsLeftNow t new.tape) where
+module _ {T S K : Type 0} (t : tapes.Meaning T) (s : sources.Meaning S) (k : sinks.Meaning K) (old new : Outside T S K) (c : Cartridge) (told : t.told old.tape ≡ Some (Some c)) where
   -- how acts ended
   pub record WasLeft (acts : List Act) : Type 0 where
     pub text : List ℕ
     pub took : k.took old.sink text new.sink
-    pub each : EachNow t old.tape new.tape (IsLeftBy c acts text)
+    pub each : ToldNow t new.tape (IsLeftBy c acts text)
 
   done_steps : (steps : List TapeStep) → tapes.Done t old.tape new.tape steps → t.told new.tape ≡ Some (effects steps (Some c))
   done_steps steps did = after_steps t old.tape new.tape steps (Some c) did told
 
-  left_done : (acts : List Act) (text : List ℕ) (steps : List TapeStep) → tapes.Done t old.tape new.tape steps → IsLeftBy c acts text (effects steps (Some c)) → EachNow t old.tape new.tape (IsLeftBy c acts text)
+  left_done : (acts : List Act) (text : List ℕ) (steps : List TapeStep) → tapes.Done t old.tape new.tape steps → IsLeftBy c acts text (effects steps (Some c)) → ToldNow t new.tape (IsLeftBy c acts text)
   left_done acts text steps did is =
-      told_now t old.tape new.tape (IsLeftBy c acts text) after did.stops.telling
-      (subst (λ (o : Option (Option Cartridge)). IsSomeAnd o (IsLeftBy c acts text)) (sym (done_steps steps did)) is)
+      subst (λ (o : Option (Option Cartridge)). IsSomeAnd o (IsLeftBy c acts text)) (sym (done_steps steps did)) is
 
   pub went_left : (acts : List Act) → Went t s k old new acts → WasLeft acts
   went_left acts went = record {
@@ -175,7 +163,7 @@ module _ {T S K : Type 0} (t : tapes.Meaning T) (s : sources.Meaning S) (k : sin
   pub record WasBroken (acts : List Act) : Type 0 where
     pub text : List ℕ
     pub took : k.took old.sink text new.sink
-    pub each : EachNow t old.tape new.tape (Behind c acts text)
+    pub each : ToldNow t new.tape (Behind c acts text)
 
   pub broke_left : (acts : List Act) → Cut t s k old new acts SinkFails → WasBroken acts
   broke_left acts cut =
@@ -184,7 +172,7 @@ module _ {T S K : Type 0} (t : tapes.Meaning T) (s : sources.Meaning S) (k : sin
       let text : List ℕ = text_of at.front ++ broke.part in record {
         text = text;
         took = broke.took;
-        each = told_now t old.tape new.tape (Behind c acts text) after cut.did.stops.telling
+        each =
             (subst (λ (o : Option (Option Cartridge)). IsSomeAnd o (Behind c acts text)) (sym (done_steps (steps_of at.front ++ at.act.steps) cut.did)) (record {
               front = at.front;
               act = at.act;
@@ -203,7 +191,7 @@ module _ {T S K : Type 0} (t : tapes.Meaning T) (s : sources.Meaning S) (k : sin
   cut_left acts TapeFails cut = record {
     text = text_of cut.front;
     took = cut.wrote.took;
-    each = told_now t old.tape new.tape (IsLeftBy c acts (text_of cut.front)) after cut.broke.stops.telling
+    each =
         (still_told (t.told new.tape) (IsLeftBy c acts (text_of cut.front)) (cut.broke.tells ∙ ap is_some told)
         (λ left is. inl (record { front = cut.front; rest = cut.rest; parts = cut.parts; torn = cut.here (Some c) left told is; is_text = refl })));
   }
@@ -223,14 +211,14 @@ module _ {T S K : Type 0} (t : tapes.Meaning T) (s : sources.Meaning S) (k : sin
       record { text = was.text; took = was.took; each = now_weaker t old.tape new.tape (λ left behind. inr behind) was.each }
 
 -- over what is told of a command: some input and its outcome, and how the acts of this ended
-pub record Ran {T S K : Type 0} (t : tapes.Meaning T) (s : sources.Meaning S) (k : sinks.Meaning K) (command : Words) (old new : Outside T S K) (answer : Status) (c : Cartridge) (told : t.told old.tape ≡ Some (Some c)) (after : tapes.IsLeftNow t new.tape) : Type 0 where
+pub record Ran {T S K : Type 0} (t : tapes.Meaning T) (s : sources.Meaning S) (k : sinks.Meaning K) (command : Words) (old new : Outside T S K) (answer : Status) (c : Cartridge) (told : t.told old.tape ≡ Some (Some c)) : Type 0 where
   pub input : List ℕ
   pub is_told : IfSome (s.left old.source) (λ bytes. input ≡ bytes)
   pub outcome : CommandOutcome
   pub plain : Yields command (Some c) input outcome
-  pub was : WasLeft t s k old new c told after outcome.acts
+  pub was : WasLeft t s k old new c told outcome.acts
   pub heard : IsHeard answer → (outcome.status ≡ answer) × tapes.Done t old.tape new.tape (steps_of outcome.acts)
-  pub broke : answer ≡ status.SinkFault → WasBroken t s k old new c told after outcome.acts
+  pub broke : answer ≡ status.SinkFault → WasBroken t s k old new c told outcome.acts
 
 pub never_sink : (answer : Status) (command : Words) → may_come_from answer command ≡ true → answer ≢ status.SinkFault
 never_sink answer command sound is = let no : may_come_from status.SinkFault command ≡ true = subst (λ (a : Status). may_come_from a command ≡ true) is sound in absurd (cc)
@@ -247,18 +235,18 @@ sink_alone SourceFails answer is sink = let other : fault_of SourceFails ≡ sta
 sink_alone SinkFails answer is sink = refl
 
 pub ends_ran : {T S K : Type 0} (t : tapes.Meaning T) (s : sources.Meaning S) (k : sinks.Meaning K) (command : Words) (old new : Outside T S K) (answer : Status) → Laws t s k old new → HasValues command →
-    CommandEnds t s k command old new answer → (c : Cartridge) (told : t.told old.tape ≡ Some (Some c)) (after : tapes.IsLeftNow t new.tape) → Ran t s k command old new answer c told after
-ends_ran t s k command old new answer laws values (inl finished) c told after =
+    CommandEnds t s k command old new answer → (c : Cartridge) (told : t.told old.tape ≡ Some (Some c)) → Ran t s k command old new answer c told
+ends_ran t s k command old new answer laws values (inl finished) c told =
     let over = over_at (t.told old.tape) _ (Some c) finished.told told in record {
       input = over.0;
       is_told = over.1;
       outcome = finished.outcome;
       plain = over.2.1;
-      was = went_left t s k old new c told after finished.outcome.acts finished.went;
+      was = went_left t s k old new c told finished.outcome.acts finished.went;
       heard = λ which. (sym finished.answered, finished.went.did);
       broke = λ is. absurd (never_sink answer command finished.sound is);
     }
-ends_ran t s k command old new answer laws values (inr (failing, is, stopped)) c told after =
+ends_ran t s k command old new answer laws values (inr (failing, is, stopped)) c told =
     let over = over_at (t.told old.tape) _ (Some c) stopped.told told in
     let some = plain_answers command (Some c) over.0 values (told_whole (Some c) (t.told old.tape) (t.size old.tape) laws.right told) in
     let off = over.2.1 some.0 some.1 in record {
@@ -266,9 +254,9 @@ ends_ran t s k command old new answer laws values (inr (failing, is, stopped)) c
       is_told = over.1;
       outcome = some.0;
       plain = some.1;
-      was = cut_left t s k old new c told after some.0.acts failing off.cut;
+      was = cut_left t s k old new c told some.0.acts failing off.cut;
       heard = λ which. absurd (heard_fault failing answer is which);
-      broke = λ sink. broke_left t s k old new c told after some.0.acts
+      broke = λ sink. broke_left t s k old new c told some.0.acts
           (subst (Cut t s k old new some.0.acts) (sink_alone failing answer is sink) off.cut);
     }
 
@@ -436,7 +424,7 @@ makes_volumes t s k words command old new answer laws spelled values ends leaves
       let same : command ≡ other = one_command words command other spelled run.spelled in
       let few : count ≤ 200 = values other run.spelled in
       let whole : IsCartridge c = told_whole (Some c) (t.told old.tape) (t.size old.tape) laws.right told in
-      let ran = ends_ran t s k other old new answer laws few (subst (λ (w : Words). CommandEnds t s k w old new answer) same ends) c told laws.after in
+      let ran = ends_ran t s k other old new answer laws few (subst (λ (w : Words). CommandEnds t s k w old new answer) same ends) c told in
       let was = ran.was in record {
         text = was.text;
         took = was.took;
@@ -445,7 +433,7 @@ makes_volumes t s k words command old new answer laws spelled values ends leaves
             now_weaker t old.tape new.tape
             (λ left is. subst (λ (o : Option Cartridge). IsSomeAnd o (λ d. Stands d (with_all plain (made_contents seed 1 count)))) (sym is)
             (make_done seed count few c plain whole run.stands ran.outcome ran.plain (all.0 ∙ done)))
-            (done_now t old.tape new.tape (steps_of ran.outcome.acts) (Some c) laws.after all.1 told);
+            (done_now t old.tape new.tape (steps_of ran.outcome.acts) (Some c) all.1 told);
         all = λ live which. elim which [
           | inl some ↦ now_weaker t old.tape new.tape
               (λ left is. make_printed seed count few c plain whole run.stands ran.outcome was.text left live ran.plain some is) was.each
@@ -605,7 +593,7 @@ carries_out_lines t s k words command old new answer laws spelled ends leaves = 
   over = λ c plain told script.
       let same : command ≡ commands.Script = one_command words command commands.Script spelled script.spelled in
       let whole : IsCartridge c = told_whole (Some c) (t.told old.tape) (t.size old.tape) laws.right told in
-      let ran = ends_ran t s k commands.Script old new answer laws tt (subst (λ (w : Words). CommandEnds t s k w old new answer) same ends) c told laws.after in
+      let ran = ends_ran t s k commands.Script old new answer laws tt (subst (λ (w : Words). CommandEnds t s k w old new answer) same ends) c told in
       let was = ran.was in record {
         text = was.text;
         took = was.took;
@@ -618,18 +606,18 @@ carries_out_lines t s k words command old new answer laws spelled ends leaves = 
             (λ left is. subst (λ (o : Option Cartridge). IsSomeAnd o (λ d. Stands d (plain_behind plain script.does.items script.does.dids))) (sym is)
             (script_heard (s.left old.source) words c plain whole script ran.input ran.outcome
             (same_input (s.left old.source) script.input ran.input script.is_told ran.is_told) ran.plain (subst IsHeard (sym all.0) heard)))
-            (done_now t old.tape new.tape (steps_of ran.outcome.acts) (Some c) laws.after all.1 told);
+            (done_now t old.tape new.tape (steps_of ran.outcome.acts) (Some c) all.1 told);
       };
 }
 
 -- ---- a run that touched nothing
 
-untouched_now : {T : Type 0} (t : tapes.Meaning T) (a : T) (c : Cartridge) (P : Option Cartridge → Type 0) → tapes.IsLeftNow t a → t.told a ≡ Some (Some c) → P (Some c) → EachNow t a a P
-untouched_now t a c P after told holds = told_now t a a P after refl (subst (λ (o : Option (Option Cartridge)). IsSomeAnd o P) (sym told) holds)
+untouched_now : {T : Type 0} (t : tapes.Meaning T) (a : T) (c : Cartridge) (P : Option Cartridge → Type 0) → t.told a ≡ Some (Some c) → P (Some c) → ToldNow t a P
+untouched_now t a c P told holds = subst (λ (o : Option (Option Cartridge)). IsSomeAnd o P) (sym told) holds
 
-pub none_made : {T K : Type 0} (t : tapes.Meaning T) (k : sinks.Meaning K) (told : Option (List ℕ)) (words : List (List ℕ)) (a : T) (x : K) (answer : Status) → tapes.IsToldRight (t.told a) (t.size a) → tapes.IsLeftNow t a →
+pub none_made : {T K : Type 0} (t : tapes.Meaning T) (k : sinks.Meaning K) (told : Option (List ℕ)) (words : List (List ℕ)) (a : T) (x : K) (answer : Status) → tapes.IsToldRight (t.told a) (t.size a) →
     k.took x [] x → (IsCarriedOut answer → ⊥) → ((other : Words) → Spells words other → HasValues other) → EachLeft t a a (WordsLeave told words) → MakesVolumes t k words a a x x answer
-none_made t k told words a x answer right after nothing never values leaves = record {
+none_made t k told words a x answer right nothing never values leaves = record {
   stopped = each_weaker t a a right (λ held left whole is. some_made told words held left values whole is) leaves;
   over = λ seed count c plain is run. record {
     text = [];
@@ -639,14 +627,14 @@ none_made t k told words a x answer right after nothing never values leaves = re
   };
 }
 
-pub none_scripted : {T K : Type 0} (t : tapes.Meaning T) (k : sinks.Meaning K) (told : Option (List ℕ)) (words : List (List ℕ)) (a : T) (x : K) (answer : Status) → tapes.IsToldRight (t.told a) (t.size a) → tapes.IsLeftNow t a →
+pub none_scripted : {T K : Type 0} (t : tapes.Meaning T) (k : sinks.Meaning K) (told : Option (List ℕ)) (words : List (List ℕ)) (a : T) (x : K) (answer : Status) → tapes.IsToldRight (t.told a) (t.size a) →
     k.took x [] x → (IsHeard answer → ⊥) → EachLeft t a a (WordsLeave told words) → CarriesOutLines t k told words a a x x answer
-none_scripted t k told words a x answer right after nothing unheard leaves = record {
+none_scripted t k told words a x answer right nothing unheard leaves = record {
   stopped = each_weaker t a a right (λ held left whole is. some_scripted told words held left whole is) leaves;
   over = λ c plain is script. record {
     text = [];
     took = nothing;
-    answered = λ live. untouched_now t a c (StandsAnswered plain script.does.items script.does.dids 0) after is
+    answered = λ live. untouched_now t a c (StandsAnswered plain script.does.items script.does.dids 0) is
         (none_answered (settled plain.table_area c) plain script.input script.outcome (Some c) script.does script.bytes script.stands);
     all = λ heard. absurd (unheard heard);
   };

@@ -1,5 +1,5 @@
 -- The laws of an outcome that is one step over a cartridge that is there, with a text, where the step keeps all.
-use Rattle.std.proofs.Common.{[], ◌≡◌, ◌∙◌, ◌∷◌, ℕ, List, Option, Some, None, IsSomeAnd, ap, inl, inr, refl, sym}
+use Rattle.std.proofs.Common.{[], ◌≡◌, ◌∙◌, ◌∷◌, ℕ, List, Option, Some, None, IsSomeAnd, inl, inr, refl, sym}
 use Rattle.cartridge_laws.proofs.ChangeViews.{ReadsNoMore}
 use Rattle.cartridge_laws.proofs.FormatWriting.{some_and}
 use Rattle.cartridge_laws.specs.ChangeSteps.{HasNoRenew}

@@ -1,17 +1,16 @@
 -- What a run of appending leaves comes back where one sector more of its table's segment is lost.
-use Rattle.std.proofs.Common.{◌≡◌, ℕ, List, Option, Some, IfSome, refl, ◌∙◌, subst, inl, inr, [], None, IsSomeAnd, sym, ap, false}
-use Rattle.cartridge_laws.proofs.FormatWriting.{some_weaker, some_and}
+use Rattle.std.proofs.Common.{◌≡◌, ℕ, List, Option, Some, IfSome, refl, ◌∙◌, subst, inl, inr, IsSomeAnd, sym, ap, false}
+use Rattle.cartridge_laws.proofs.FormatWriting.{some_weaker}
 use Rattle.cartridge_spec.specs.Appending.{with_bytes}
-use Rattle.cartridge_spec.specs.Mounting.{settled}
 use Rattle.cartridge_spec.specs.OneLoss.{ComesBackAs, LosesOneAlone}
 use Rattle.cartridge_spec.specs.Settling.{settling_steps}
 use Rattle.command_laws.proofs.CommandEnds.{Laws, told_whole}
-use Rattle.command_laws.proofs.CommandOneLoss.{append_comes_back, nothing_torn, settled_comes_back, done_comes_back}
+use Rattle.command_laws.proofs.CommandOneLoss.{append_comes_back, nothing_torn, done_comes_back}
 use Rattle.command_laws.proofs.CommandVolumes.{whole_of, of_bytes, each_weaker, done_now, now_weaker, Did, carried_out_did, may_change}
 use Rattle.command_laws.proofs.TextWords.{one_command}
 use Rattle.command_spec.specs.Headline.{StopLeaves, WordsLeave, EachLeft}
 use Rattle.command_spec.specs.Machine.{HasValues, Spells}
-use Rattle.command_spec.specs.OneLoss.{StoppedComesBack, ComesBackEither, SettledComesBack, ComesBackNew, SurvivesOneLoss}
+use Rattle.command_spec.specs.OneLoss.{StoppedComesBack, ComesBackNew, SurvivesOneLoss}
 use Rattle.command_spec.specs.Runs.{CommandEnds, is_fault}
 use Rattle.command_spec.specs.Volumes.{IsCarriedOut}
 use Rattle.command_spec.specs.declared.status.Status.{Status}
@@ -42,23 +41,6 @@ stopped_comes_back told words held left values whole (inr (command, spelled, lea
       | inr back ↦ inr (some_weaker left (λ d comes. record { input = l.input; is_told = l.is_told; comes = comes }) back)
     ]
 
-settled_back : (told : Option (List ℕ)) (words : List (List ℕ)) (held left : Option Cartridge) → IfSome held IsCartridge → SettledComesBack told words held left
-settled_back told words held left whole name date c plain spells is stood live table unprotected same =
-    some_and (ComesBackEither told name date c plain) (settled plain.table_area c) left
-    (record {
-      input = some_input told;
-      is_told = is_some_input told;
-      comes = λ f lost loses. inl (settled_comes_back c plain (whole_of held c whole is) stood live unprotected table f lost loses);
-    }) same
-  where
-    some_input : Option (List ℕ) → List ℕ
-    some_input None = []
-    some_input (Some bytes) = bytes
-
-    is_some_input : (o : Option (List ℕ)) → IfSome o (λ bytes. some_input o ≡ bytes)
-    is_some_input None = tt
-    is_some_input (Some bytes) = refl
-
 all_come_back : {T : Type 0} (t : tapes.Meaning T) (told : Option (List ℕ)) (words : List (List ℕ)) (a b : T) → tapes.IsToldRight (t.told a) (t.size a) →
     ((command : Words) → Spells words command → HasValues command) → EachLeft t a b (WordsLeave told words) → EachLeft t a b (StoppedComesBack told words)
 all_come_back t told words a b right values leaves = each_weaker t a b right (λ held left whole is. stopped_comes_back told words held left values whole is) leaves
@@ -69,7 +51,6 @@ pub survives_one_loss : {T S K : Type 0} (t : tapes.Meaning T) (s : sources.Mean
     SurvivesOneLoss t (s.left old.source) words old.tape new.tape answer
 survives_one_loss t s k words command old new answer laws spelled values all ends leaves = record {
   stopped = all_come_back t (s.left old.source) words old.tape new.tape laws.right all leaves;
-  settled = each_weaker t old.tape new.tape laws.right (λ held left whole is. settled_back (s.left old.source) words held left whole) leaves;
   done = λ name date c plain which spells told bytes stood live.
       let other : Words = commands.Append name date in
       let same : command ≡ other = one_command words command other spelled spells in
@@ -84,7 +65,7 @@ survives_one_loss t s k words command old new answer laws spelled values all end
       now_weaker t old.tape new.tape
       (λ l is. subst (λ (o : Option Cartridge). IsSomeAnd o (ComesBackNew (s.left old.source) name date c plain)) (sym is)
       (some_weaker (effects (steps_of d.outcome.acts) (Some c)) (λ e comes. record { input = d.input; is_told = d.is_told; comes = comes }) back))
-      (done_now t old.tape new.tape (steps_of d.outcome.acts) (Some c) laws.after d.did told);
+      (done_now t old.tape new.tape (steps_of d.outcome.acts) (Some c) d.did told);
 }
 
 -- words of no command leave all as it was, and want of memory
@@ -93,7 +74,6 @@ pub none_survives : {T : Type 0} (t : tapes.Meaning T) (told : Option (List ℕ)
     ((command : Words) → Spells words command → HasValues command) → EachLeft t a a (WordsLeave told words) → SurvivesOneLoss t told words a a answer
 none_survives t told words a answer right no_fault none values leaves = record {
   stopped = all_come_back t told words a a right values leaves;
-  settled = each_weaker t a a right (λ held left whole is. settled_back told words held left whole) leaves;
   done = λ name date c plain which spells holds bytes stood live. absurd (never which);
 } where
   never : IsCarriedOut answer → ⊥

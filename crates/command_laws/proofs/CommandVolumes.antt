@@ -20,7 +20,7 @@ use Rattle.command_laws.proofs.CommandTable.{laws_of, plain_answers}
 use Rattle.command_laws.proofs.TextWords.{one_command}
 use Rattle.command_spec.specs.Commands.{traits_of}
 use Rattle.command_spec.specs.Format.{FormatOutcome}
-use Rattle.command_spec.specs.Headline.{EachNow, EachLeft, StopLeaves, WordsLeave}
+use Rattle.command_spec.specs.Headline.{ToldNow, EachLeft, StopLeaves, WordsLeave}
 use Rattle.command_spec.specs.Machine.{Yields, HasValues, Spells}
 use Rattle.command_spec.specs.Outcome.{CommandOutcome}
 use Rattle.command_spec.specs.Runs.{IsOfBytes, fault_of, may_come_from, IsCutOff, Finished, CommandEnds, is_fault}
@@ -52,7 +52,6 @@ pub each_weaker : {T : Type 0} {P Q : (held left : Option Cartridge) → Type 0}
 each_weaker t a b right follows each = record {
   told = λ held told. told_weaker (t.told b) (λ left is. follows held left (told_whole held (t.told a) (t.size a) right told) is) (each.told held told);
   since = λ held left telling told is. follows held left (told_whole held (t.told a) (t.size a) right told) (each.since held left telling told is);
-  now = λ held left telling told is. follows held left (told_whole held (t.told a) (t.size a) right told) (each.now held left telling told is);
 }
 
 -- ---- commands that keep the volumes
@@ -211,23 +210,13 @@ stops_append t told words a b right values leaves = each_weaker t a b right (λ 
 -- ---- when a run is over
 
 -- what stands behind steps that were done
-pub done_now : {T : Type 0} (t : tapes.Meaning T) (a b : T) (steps : List TapeStep) (held : Option Cartridge) → tapes.IsLeftNow t b → tapes.Done t a b steps → t.told a ≡ Some held →
-    EachNow t a b (λ left. left ≡ effects steps held)
-done_now t a b steps held after did told =
-    let is : t.told b ≡ Some (effects steps held) = after_steps t a b steps held did told in
-    record {
-      told = subst (λ (o : Option (Option Cartridge)). IsSomeAnd o (λ left. left ≡ effects steps held)) (sym is) refl;
-      now = λ left telling stops.
-          let there : t.told b ≡ Some left = after.only left (did.stops.telling ∙ telling) stops in
-          let same : Some left ≡ Some (effects steps held) = sym there ∙ is in
-          cc;
-    }
+pub done_now : {T : Type 0} (t : tapes.Meaning T) (a b : T) (steps : List TapeStep) (held : Option Cartridge) → tapes.Done t a b steps → t.told a ≡ Some held →
+    ToldNow t b (λ left. left ≡ effects steps held)
+done_now t a b steps held did told =
+    subst (λ (o : Option (Option Cartridge)). IsSomeAnd o (λ left. left ≡ effects steps held)) (sym (after_steps t a b steps held did told)) refl
 
-pub now_weaker : {T : Type 0} {P Q : (left : Option Cartridge) → Type 0} (t : tapes.Meaning T) (a b : T) → ((left : Option Cartridge) → P left → Q left) → EachNow t a b P → EachNow t a b Q
-now_weaker t a b follows each = record {
-  told = told_weaker (t.told b) follows each.told;
-  now = λ left telling stops. follows left (each.now left telling stops);
-}
+pub now_weaker : {T : Type 0} {P Q : (left : Option Cartridge) → Type 0} (t : tapes.Meaning T) (a b : T) → ((left : Option Cartridge) → P left → Q left) → ToldNow t b P → ToldNow t b Q
+now_weaker t a b follows each = told_weaker (t.told b) follows each
 
 -- over what was told, an outcome with this status was done
 pub record Did {T : Type 0} (t : tapes.Meaning T) (told : Option (List ℕ)) (command : Words) (a b : T) (held : Option Cartridge) (is : Status) : Type 0 where
@@ -324,14 +313,14 @@ cleared_is_bare label date front c outcome whole (inr (inr (free, none, (words, 
 -- an append that was refused, or whose input failed
 append_unchanged : {T S K : Type 0} (t : tapes.Meaning T) (s : sources.Meaning S) (k : sinks.Meaning K) (name : List ℕ) (date : ℕ) (old new : Outside T S K) (answer : Status) (c : Cartridge) (plain : Plain) →
     Laws t s k old new → HasValues (commands.Append name date) → IsCartridge c → Stands c plain → t.told old.tape ≡ Some (Some c) → WasNotDone answer → CommandEnds t s k (commands.Append name date) old new answer →
-    EachNow t old.tape new.tape (λ left. IsSomeAnd left (λ d. Stands d plain))
+    ToldNow t new.tape (λ left. IsSomeAnd left (λ d. Stands d plain))
 append_unchanged t s k name date old new answer c plain laws values whole stood told not (inl finished) =
     let d : Did t (s.left old.source) (commands.Append name date) old.tape new.tape (Some c) answer =
     finished_did t s k (commands.Append name date) old new answer (Some c) answer told finished refl in
     now_weaker t old.tape new.tape
     (λ left is. subst (λ (o : Option Cartridge). IsSomeAnd o (λ e. Stands e plain)) (sym is)
     (append_refused name date d.input c plain d.outcome whole stood d.plain (λ same. not.0 (sym d.sound ∙ same))))
-    (done_now t old.tape new.tape (steps_of d.outcome.acts) (Some c) laws.after d.did told)
+    (done_now t old.tape new.tape (steps_of d.outcome.acts) (Some c) d.did told)
 append_unchanged t s k name date old new answer c plain laws values whole stood told not (inr (TapeFails, is, stopped)) = absurd (not.2 is)
 append_unchanged t s k name date old new answer c plain laws values whole stood told not (inr (SinkFails, is, stopped)) = absurd (not.1 is)
 append_unchanged t s k name date old new answer c plain laws values whole stood told not (inr (SourceFails, is, stopped)) =
@@ -343,7 +332,7 @@ append_unchanged t s k name date old new answer c plain laws values whole stood 
     now_weaker t old.tape new.tape
     (λ left same. subst (λ (o : Option Cartridge). IsSomeAnd o (λ e. Stands e plain)) (sym same)
     (append_unanswered name date over.0 c plain some.0 cut.front cut.rest whole stood some.1 cut.parts (off.silent refl)))
-    (done_now t old.tape new.tape (steps_of cut.front) (Some c) laws.after cut.did told)
+    (done_now t old.tape new.tape (steps_of cut.front) (Some c) cut.did told)
 
 pub is_changed : {T S K : Type 0} (t : tapes.Meaning T) (s : sources.Meaning S) (k : sinks.Meaning K) (words : List (List ℕ)) (command : Words) (old new : Outside T S K) (answer : Status) →
     Laws t s k old new → Spells words command → HasValues command → CommandEnds t s k command old new answer → IsChanged t (s.left old.source) words old.tape new.tape answer
@@ -356,7 +345,7 @@ is_changed t s k words command old new answer laws spelled values ends = record 
       (subst HasValues same values) refl told which (subst (λ (w : Words). CommandEnds t s k w old new answer) same ends) in
       now_weaker t old.tape new.tape
       (λ left is. is ∙ ap (λ (o : CommandOutcome). effects (steps_of o.acts) held) d.plain ∙ renewed_effect segments held)
-      (done_now t old.tape new.tape (steps_of d.outcome.acts) held laws.after d.did told);
+      (done_now t old.tape new.tape (steps_of d.outcome.acts) held d.did told);
   formatted = λ label date c which spells told.
       let other : Words = commands.Format label date in
       let same : command ≡ other = one_command words command other spelled spells in
@@ -368,7 +357,7 @@ is_changed t s k words command old new answer laws spelled values ends = record 
       formatted_fresh label date c d.outcome whole d.plain d.sound in
       now_weaker t old.tape new.tape
       (λ left is. subst (λ (o : Option Cartridge). IsSomeAnd o (StandsFresh c label date)) (sym is) fresh)
-      (done_now t old.tape new.tape (steps_of d.outcome.acts) (Some c) laws.after d.did told);
+      (done_now t old.tape new.tape (steps_of d.outcome.acts) (Some c) d.did told);
   cleared = λ label date segment c front spells told.
       let other : Words = commands.Format label date in
       let same : command ≡ other = one_command words command other spelled spells in
@@ -380,7 +369,7 @@ is_changed t s k words command old new answer laws spelled values ends = record 
       cleared_is_bare label date segment c d.outcome whole d.plain d.sound in
       now_weaker t old.tape new.tape
       (λ left is. subst (λ (o : Option Cartridge). IsSomeAnd o IsBare) (sym is) none)
-      (done_now t old.tape new.tape (steps_of d.outcome.acts) (Some c) laws.after d.did told);
+      (done_now t old.tape new.tape (steps_of d.outcome.acts) (Some c) d.did told);
   appended = λ name date c plain which spells told bytes stood.
       let other : Words = commands.Append name date in
       let same : command ≡ other = one_command words command other spelled spells in
@@ -393,7 +382,7 @@ is_changed t s k words command old new answer laws spelled values ends = record 
       now_weaker t old.tape new.tape
       (λ l is. subst (λ (o : Option Cartridge). IsSomeAnd o (StandsAppended (s.left old.source) name date c plain)) (sym is)
       (some_weaker (effects (steps_of d.outcome.acts) (Some c)) (λ e stands. record { input = d.input; is_told = d.is_told; stands = stands }) left))
-      (done_now t old.tape new.tape (steps_of d.outcome.acts) (Some c) laws.after d.did told);
+      (done_now t old.tape new.tape (steps_of d.outcome.acts) (Some c) d.did told);
   unchanged = λ name date c plain not spells told stood.
       let other : Words = commands.Append name date in
       let same : command ≡ other = one_command words command other spelled spells in
@@ -402,15 +391,15 @@ is_changed t s k words command old new answer laws spelled values ends = record 
 }
 
 -- words of no command change nothing, and want of memory
-pub none_changed : {T : Type 0} (t : tapes.Meaning T) (input : Option (List ℕ)) (words : List (List ℕ)) (a : T) (answer : Status) → tapes.IsLeftNow t a →
+pub none_changed : {T : Type 0} (t : tapes.Meaning T) (input : Option (List ℕ)) (words : List (List ℕ)) (a : T) (answer : Status) →
     is_fault answer ≡ false → may_change answer ≡ false → IsChanged t input words a a answer
-none_changed t input words a answer now no_fault none = record {
+none_changed t input words a answer no_fault none = record {
   renewed = λ segments held which spells told. absurd (never which);
   formatted = λ label date c which spells told. absurd (never which);
   cleared = λ label date segment c front spells told. let no = ap may_change front in absurd (cc);
   appended = λ name date c plain which spells told bytes stood. absurd (never which);
   unchanged = λ name date c plain not spells told stood.
-      now_weaker t a a (λ left is. same_stands c plain left stood is) (done_now t a a [] (Some c) now (Done-nothing t a) told);
+      now_weaker t a a (λ left is. same_stands c plain left stood is) (done_now t a a [] (Some c) (Done-nothing t a) told);
 } where
   never : IsCarriedOut answer → ⊥
   never (inl done) = let no = ap may_change done in cc

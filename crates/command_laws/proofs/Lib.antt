@@ -57,6 +57,7 @@ pub mod MountedStanding
 pub mod NewCommand
 pub mod OutputActsOfPieces
 pub mod OutputJoining
+pub mod PromiseFollowing
 pub mod ProtectCommand
 pub mod PulseMachineLaws
 pub mod PulseStopping

@@ -17,20 +17,16 @@ use Rattle.command_laws.proofs.LifeLaws.{event_makes}
 use Rattle.command_laws.specs.Life.{Answered, Becomes, Ended, Event, Happens, IsEmptied, IsSound, Lives, Loses, Runs, Stopped, begun_behind}
 use Rattle.command_laws.specs.LifeLaws.{AnsweredRuns, AreKeeping, BackupsAreGivenBack, FormatBegins, GivesBytes, HasGrown, IsKeeping, NewAndFormatBegin, StoppedRuns, VolumesAreGivenBack, VolumesAreKept, run_of}
 use Rattle.command_spec.specs.Append.{room_in}
-use Rattle.command_spec.specs.Input.{Item}
 use Rattle.command_spec.specs.Machine.{Yields}
 use Rattle.command_spec.specs.MadeVolumes.{made_contents}
 use Rattle.command_spec.specs.Outcome.{CommandOutcome}
-use Rattle.command_spec.specs.Script.{Did}
 use Rattle.command_spec.specs.ScriptLists.{all_added}
 use Rattle.command_spec.specs.RestoreCommand.{HasNumber}
 use Rattle.command_spec.specs.Volumes.{StandsFresh}
-use Rattle.command_spec.specs.declared.line.Line.{Line}
 use Rattle.command_spec.specs.declared.words.Words.{Words}
 use Rattle.qic_base.specs.Acts.{steps_of}
 use Rattle.qic_base.specs.Cartridge.{Cartridge, IsCartridge, new_cartridge}
 use Rattle.qic_base.specs.Step.{effects}
-use Rattle.command_spec.specs.declared.line.Line.TheVariants as line
 use Rattle.command_spec.specs.declared.status.Status.TheVariants as status
 use Rattle.command_spec.specs.declared.words.Words.TheVariants as words
 

@@ -1,5 +1,5 @@
 -- What the other commands, answered or stopped, make of the volumes.
-use Rattle.std.proofs.Common.{◌++◌, append-nil, ◌≡◌, ◌≢◌, ◌⊎◌, ◌-◌, ◌+◌, ◌≤◌, ◌<◌, ◌==◌, ℕ, zero, suc, All, arith, inl, inr, List, [], ◌∷◌, ap, ◌∙◌, sym, subst, refl, Bool, Option, Some, None, IsSomeAnd, IfSome, true, false, length, take, cond}
+use Rattle.std.proofs.Common.{◌++◌, append-nil, ◌≡◌, ◌≢◌, ◌⊎◌, ◌≤◌, ◌<◌, ℕ, All, arith, inl, inr, List, [], ◌∷◌, ap, ◌∙◌, sym, subst, refl, Bool, Option, Some, None, IsSomeAnd, IfSome, false, length, take}
 use Rattle.std.proofs.lemmas.List.{take_all}
 use Rattle.std.specs.Prelude.{codes}
 use Rattle.cartridge_laws.proofs.ChangeLive.{steps_keep_live}
@@ -30,7 +30,6 @@ use Rattle.command_spec.specs.Outcome.{CommandOutcome, output_of}
 use Rattle.command_spec.specs.Script.{Did, ScriptDoes, Scripting, ScriptOutcome}
 use Rattle.command_spec.specs.ScriptLists.{all_added}
 use Rattle.command_spec.specs.Volumes.{KeepsCopies, KeepsLive, KeepsVolumes}
-use Rattle.command_spec.specs.declared.line.Line.{Line}
 use Rattle.command_spec.specs.declared.status.Status.{Status}
 use Rattle.command_spec.specs.declared.words.Words.{Words}
 use Rattle.qic_base.specs.Acts.{Act, steps_of, text_of}
@@ -39,7 +38,6 @@ use Rattle.qic_base.specs.Step.{Step, Renew, WriteSector, effect, effects}
 use Rattle.qic_base.specs.Stop.{Halfway, Torn}
 use Rattle.command_spec.specs.Script as scripts
 use Rattle.command_spec.specs.Several as several
-use Rattle.command_spec.specs.declared.line.Line.TheVariants as line
 use Rattle.command_spec.specs.declared.status.Status.TheVariants as status
 use Rattle.command_spec.specs.declared.words.Words.TheVariants as words
 

@@ -1,5 +1,5 @@
 -- What settling, worn sectors and scrubs leave of a mounted cartridge that stands for a plain one.
-use Rattle.std.proofs.Common.{◌≡◌, ℕ, false, List, subst, ◌-◌, ◌*◌, sym, ap, ◌∙◌, Bool, true, cond, refl, inl, inr, length, get_or, slice_get, slice_set, ◌<◌}
+use Rattle.std.proofs.Common.{◌≡◌, ℕ, false, List, subst, sym, ap, ◌∙◌, Bool, true, cond, refl, inl, inr, length, get_or, slice_get, slice_set, ◌<◌}
 use Rattle.std.specs.Prelude.{unwrap_or}
 use Rattle.std.proofs.lemmas.Bool.{cases_lt, cases_eq}
 use Rattle.std.proofs.lemmas.List.{get_or-set_same, set_past}
@@ -22,7 +22,6 @@ use Rattle.cartridge_spec.specs.Shape.{IsLive, usable_places}
 use Rattle.cartridge_spec.specs.Volumes.{Plain, Stands, entries_of}
 use Rattle.cartridge_spec.specs.Wear.{worn, WearSpares}
 use Rattle.command_laws.proofs.MountedKeeping.{mended_live}
-use Rattle.command_laws.proofs.MountedListed.{mounted_listed}
 use Rattle.command_laws.proofs.ScrubDone.{done_being_mended}
 use Rattle.command_laws.proofs.ScrubMending.{done_scrub_is_cartridge}
 use Rattle.command_laws.proofs.ScrubMounted.{done_scrub_stands}
@@ -44,11 +43,10 @@ held_open c plain table held reads free = record {
   stands = held.stands;
   table = subst (TableIs c) (standing_data c plain table held.stands reads) reads;
   unprotected = free;
-  last = held.last;
 }
 
 pub open_held : (c : Cartridge) (plain : Plain) → IsOpen c plain → IsHeld c plain
-open_held c plain held = record { cartridge = held.cartridge; stands = held.stands; last = held.last }
+open_held c plain held = record { cartridge = held.cartridge; stands = held.stands }
 
 -- it is settled
 pub settled_held : (c : Cartridge) (plain : Plain) → IsOpen c plain → IsHeld (changed_by (settling_steps plain.table_area c) c) plain
@@ -56,7 +54,6 @@ settled_held c plain held =
     subst (λ (d : Cartridge). IsHeld d plain) (sym (settling_settles c plain.table_area held.table)) (record {
       cartridge = settled_is_cartridge c plain.table_area held.cartridge held.table;
       stands = settled_stands c plain plain.table_area held.stands held.table;
-      last = held.last ∙ sym (ap (λ (i : TapeInfo). 28 * i.segments_per_track - 1) (settled_keeps_table c plain.table_area held.table).info);
     })
 
 -- each sector of the table's segment takes a write still
@@ -78,7 +75,6 @@ pub mounted_held : (c : Cartridge) (plain : Plain) → IsCartridge c → Stands 
 mounted_held c plain whole stood mounts = record {
   cartridge = settled_is_cartridge c plain.table_area whole mounts.reads;
   stands = settled_stands c plain plain.table_area stood mounts.reads;
-  last = (mounted_listed c plain.header plain.words plain.table_area (entries_of plain) whole mounts).last;
 }
 
 -- and it is not protected
@@ -120,7 +116,6 @@ worn_held c plain segment sector held small spares = record {
   cartridge = with_view_whole c segment sector (worn_view (view_at c segment sector)) held.cartridge
       (worn_is_view (view_at c segment sector) (view_of_cartridge c segment sector held.cartridge));
   stands = worn_stands c plain segment sector small held.stands spares;
-  last = held.last;
 }
 
 pub worn_is_live : (c : Cartridge) (segment sector : ℕ) → IsTableLive c → IsTableLive (worn segment sector c)
@@ -135,7 +130,6 @@ scrubbed_held c plain acts held scrubs =
     record {
       cartridge = done_scrub_is_cartridge c plain.words (entries_of plain) acts held.cartridge scrubs;
       stands = done_scrub_stands c plain acts held.stands scrubs;
-      last = held.last ∙ sym (ap (λ (i : TapeInfo). 28 * i.segments_per_track - 1) mended.info);
     }
 
 pub scrubbed_live : (c : Cartridge) (plain : Plain) (acts : List Act) → IsHeld c plain → Scrubs c plain.words (entries_of plain) acts → IsTableLive c → IsTableLive (changed_by (steps_of acts) c)

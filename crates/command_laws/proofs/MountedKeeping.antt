@@ -1,5 +1,5 @@
 -- What worn sectors and scrubs leave of a cartridge that stands for a plain one, and a stop between acts.
-use Rattle.std.proofs.Common.{◌≡◌, ◌-◌, List, ◌++◌, ap, ◌∙◌, ◌⊎◌, inl, inr, Option, Some, sym, subst, arith, ℕ, ◌<◌, ◌≤◌, ◌*◌}
+use Rattle.std.proofs.Common.{◌≡◌, List, ◌++◌, ap, ◌∙◌, ◌⊎◌, inl, inr, Option, Some, sym, subst, arith, ℕ, ◌<◌, ◌≤◌}
 use Rattle.cartridge_laws.proofs.AppendVolume.{old_order}
 use Rattle.cartridge_laws.proofs.ChangeStanding.{other_cells, worn_stands}
 use Rattle.cartridge_laws.proofs.ChangeViews.{view_of_other}
@@ -53,7 +53,6 @@ kept_open c plain held = record {
   stands = held.stands;
   table = held.table;
   unprotected = held.unprotected;
-  last = held.last;
 }
 
 pub live_kept : (c : Cartridge) (plain : Plain) → IsOpen c plain → IsTableLive c → IsKept c plain
@@ -63,7 +62,6 @@ live_kept c plain held live = record {
   table = held.table;
   live = live;
   unprotected = held.unprotected;
-  last = held.last;
 }
 
 pub worn_open : WearsLeaveOpen
@@ -74,7 +72,6 @@ worn_open c plain segment sector held behind small = record {
   table = subst (λ (cells : List SectorView). TableSays cells (AsRead plain.table_area) ⊎ TableSays cells (ByCode (Data plain.table_area)))
       (sym (other_cells c segment sector 2 small (λ is. let low : segment ≡ 2 = sym is in omega arith))) held.table;
   unprotected = held.unprotected;
-  last = held.last;
 }
 
 pub worn_kept : (c : Cartridge) (plain : Plain) (segment sector : ℕ) → IsKept c plain → 3 ≤ segment → sector < 32 → IsKept (worn segment sector c) plain
@@ -98,7 +95,6 @@ scrubbed_open c plain acts held scrubs =
       stands = done_scrub_stands c plain acts held.stands scrubs;
       table = done_scrub_table c plain.words (entries_of plain) (last_segment c) acts plain.table_area order scrubs held.table;
       unprotected = ap (λ (i : TapeInfo). i.protected) mended.info ∙ held.unprotected;
-      last = held.last ∙ sym (ap (λ (i : TapeInfo). 28 * i.segments_per_track - 1) mended.info);
     }
 
 pub scrubbed_kept : (c : Cartridge) (plain : Plain) (acts : List Act) → IsKept c plain → Scrubs c plain.words (entries_of plain) acts → IsKept (changed_by (steps_of acts) c) plain

@@ -1,5 +1,5 @@
 -- An append of promised bytes to a cartridge that stands for a plain one, done or stopped.
-use Rattle.std.proofs.Common.{◌≡◌, ℕ, ◌-◌, false, arith, nat_lt, ◌+◌, Bool, true, cond, List, [], ◌++◌, length, take, All, Some, ap, ◌∙◌, append-nil, ◌*◌, sym, subst, ◌⊎◌, ◌^◌, ◌<◌, Option, IsSomeAnd}
+use Rattle.std.proofs.Common.{◌≡◌, ℕ, ◌-◌, false, arith, nat_lt, ◌+◌, Bool, true, cond, List, [], ◌++◌, length, take, All, Some, ap, ◌∙◌, append-nil, sym, subst, ◌⊎◌, ◌^◌, ◌<◌, Option, IsSomeAnd}
 use Rattle.std.proofs.lemmas.Bool.{le-ltb}
 use Rattle.std.proofs.lemmas.List.{length-map, take_all}
 use Rattle.cartridge_laws.proofs.AppendDead.{settled_is_settled_for}
@@ -130,7 +130,6 @@ open_appended c plain name date bytes held named room =
       stands = done_stands still plain name date bytes may known;
       table = (done_is_settled_for still plain name date bytes may known).table;
       unprotected = ap (λ (i : TapeInfo). i.protected) info ∙ held.unprotected;
-      last = held.last ∙ sym (ap (λ (i : TapeInfo). 28 * i.segments_per_track - 1) info);
     } in
     subst (λ (d : Cartridge). IsOpen d (with_bytes plain name date bytes)) (sym (appended_behind c plain name date bytes held.table)) all
 

@@ -1,7 +1,6 @@
 -- The laws of the command `restore`.
 use Rattle.std.proofs.Common.{[], ◌≡◌, ℕ, Some, refl, List, ap, arith}
 use Rattle.cartridge_spec.specs.Mounting.{Mounted}
-use Rattle.cartridge_spec.specs.Says.{Mismatch}
 use Rattle.command_laws.proofs.CommandClean.{bare_open, Clean, open_leaves, gives_leave}
 use Rattle.command_laws.proofs.CommandComplete.{where_some, restore_goes}
 use Rattle.command_laws.proofs.CommandKeeping.{open_stands, open_mounts}

@@ -1,6 +1,6 @@
 -- What stands, and wrong sectors: a segment that was written has none, and a cartridge that reads no more than one that stands
 -- stands where the first header copy is read, whatever the second one holds.
-use Rattle.std.proofs.Common.{◌≡◌, ◌⊎◌, ℕ, inl, inr, List, [], ◌∷◌, ◌++◌, refl, ◌+◌, ◌-◌, ◌*◌, ◌<◌, ◌≤◌, arith, sym, ◌∙◌, subst, ap, length, get_or, slice_get, Some, All, take, drop, map, replicate, Contains}
+use Rattle.std.proofs.Common.{◌≡◌, ◌⊎◌, ℕ, inl, inr, List, [], ◌∷◌, ◌+◌, ◌-◌, ◌*◌, ◌<◌, ◌≤◌, arith, sym, ◌∙◌, subst, ap, length, get_or, slice_get, Some, All, take, drop, map, replicate}
 use Rattle.std.proofs.lemmas.List.{length-append}
 use Rattle.std.proofs.lemmas.List.Elements.{All-nil, All-cons, All-head, All-tail, All-append, All-take, All-drop, All-weaker, All-contains, All-replicate}
 use Rattle.std.proofs.lemmas.Option.{slice_get_within}
@@ -19,7 +19,7 @@ use Rattle.cartridge_spec.specs.Header.{header_fault}
 use Rattle.cartridge_spec.specs.HeaderAndTable.{CopyReads, copy_cells, table_cells, IsArea}
 use Rattle.cartridge_spec.specs.Says.{cells_of, Says, Data, Mismatch, Written, Zero, ReadsAll, with_parity}
 use Rattle.cartridge_spec.specs.Shape.{usable_places, usable_count, mask_at, data_count}
-use Rattle.cartridge_spec.specs.Table.{Entry, slot_fault}
+use Rattle.cartridge_spec.specs.Table.{slot_fault}
 use Rattle.cartridge_spec.specs.Volumes.{CopiesAre, Part, PartStands, parts_of, Volume, VolumeStands, carrying_segments, Plain, Stands, entries_of}
 use Rattle.cartridge_spec.specs.Wear.{worn}
 use Rattle.command_laws.proofs.ScrubApart.{contains_cases}

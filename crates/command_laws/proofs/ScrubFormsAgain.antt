@@ -1,16 +1,15 @@
 -- A second scrub in a form writes nothing.
-use Rattle.std.proofs.Common.{◌≡◌, ◌⊎◌, ℕ, inl, inr, List, [], ◌∷◌, ◌++◌, refl, ◌+◌, ◌<◌, ◌≤◌, arith, sym, ◌∙◌, subst, ap, length, get_or, All, Contains, Option, Some, None, Bool, true, false}
+use Rattle.std.proofs.Common.{◌≡◌, ℕ, inl, inr, List, [], ◌∷◌, ◌++◌, refl, ◌+◌, ◌<◌, ◌≤◌, arith, sym, ◌∙◌, subst, ap, length, get_or, Contains, Option, Some, None, true, false}
 use Rattle.std.proofs.lemmas.Bool.{cases_Bool, false≢true}
-use Rattle.cartridge_laws.proofs.Places.{count_below, usable_small}
+use Rattle.cartridge_laws.proofs.Places.{usable_small}
 use Rattle.cartridge_laws.proofs.Sayings.{says_is_function, written_is_said, said_are_sectors}
-use Rattle.cartridge_laws.proofs.Segments.{count_of_cells}
-use Rattle.cartridge_spec.specs.Says.{Saying, Says, Data, LostSectors, Mismatch, Written, unreadable_count}
+use Rattle.cartridge_spec.specs.Says.{Saying, Says, Data, LostSectors, Mismatch, unreadable_count}
 use Rattle.cartridge_spec.specs.Settling.{changed_by}
 use Rattle.cartridge_spec.specs.Shape.{IsLive, usable_places, usable_count}
 use Rattle.command_laws.proofs.ScrubAgain.{AfterFirst, segment_again, live_at}
 use Rattle.command_laws.proofs.ScrubApart.{contains_first, contains_more}
 use Rattle.command_laws.proofs.ScrubForms.{as_seen, finds_at_once_is, form_steps, mended_as_seen, scrubbed_as_seen}
-use Rattle.command_laws.proofs.ScrubSeen.{SameIn, IsSeen, IsLostNow, FoundOf, found_of, wrong_same, same_back, finds_says}
+use Rattle.command_laws.proofs.ScrubSeen.{SameIn, IsSeen, FoundOf, found_of, wrong_same}
 use Rattle.command_laws.proofs.ScrubStanding.{unread_kept, fewer_unreadable, said_kept}
 use Rattle.command_laws.specs.DeepScrubLaws.{SecondFormWritesNothing}
 use Rattle.command_laws.specs.ScrubFound.{FindAtOnce, finds_at_once, without_all}
@@ -18,13 +17,11 @@ use Rattle.command_laws.specs.ScrubLaws.{AreAllLive}
 use Rattle.command_laws.specs.ScrubMended.{IsBeingMended}
 use Rattle.command_laws.specs.ScrubSayings.{Rise}
 use Rattle.command_spec.specs.Scrub.{Looked, cells_at, reads, steps_in, looked_at}
-use Rattle.command_spec.specs.ScrubForms.{Depth, Finding, IsSearched, IsWrong, HasFound, Finds, steps_for, without}
+use Rattle.command_spec.specs.ScrubForms.{Depth, Finding, IsSearched, IsWrong, HasFound, Finds, without}
 use Rattle.gf256_qic.proofs.Parities.{block_count}
 use Rattle.qic_base.specs.Acts.{Act, steps_of}
 use Rattle.qic_base.specs.Cartridge.{Cartridge, view_at}
 use Rattle.qic_base.specs.Step.{Step}
-use Rattle.qic_base.specs.declared.tape.SectorView.{SectorView}
-use Rattle.qic_base.specs.declared.tape.SectorView.TheVariants.{Lost, Holds}
 
 -- ---- no sector is wrong behind the first
 

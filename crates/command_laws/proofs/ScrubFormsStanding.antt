@@ -1,31 +1,28 @@
 -- A cartridge that stands for a plain one stands for it still while it is scrubbed in either form, and behind that.
-use Rattle.std.proofs.Common.{◌≡◌, ◌⊎◌, ℕ, inl, inr, List, [], ◌∷◌, refl, ◌<◌, arith, sym, ◌∙◌, subst, ap, Option, Some, IsSomeAnd}
+use Rattle.std.proofs.Common.{◌≡◌, ℕ, inl, inr, List, ◌<◌, arith, sym, ◌∙◌, subst, ap, Option, Some, IsSomeAnd}
 use Rattle.cartridge_laws.proofs.FormatStanding.{same_cells}
 use Rattle.cartridge_laws.proofs.FormatWriting.{some_weaker, effects-some}
-use Rattle.cartridge_laws.specs.Table.{IsSoundList}
 use Rattle.cartridge_laws.proofs.Sayings.{says_is_function}
 use Rattle.cartridge_spec.specs.Formatting.{IsCleanCopy, StandsCleanly}
-use Rattle.cartridge_spec.specs.HeaderAndTable.{CopyReads, CopyDoesNotRead, IsInForce, last_segment, IsArea}
+use Rattle.cartridge_spec.specs.HeaderAndTable.{CopyReads, IsInForce, last_segment, IsArea}
 use Rattle.cartridge_spec.specs.Says.{Says, Data, Mismatch}
-use Rattle.cartridge_spec.specs.Settling.{changed_by}
 use Rattle.cartridge_spec.specs.Volumes.{Plain, Stands, entries_of}
-use Rattle.command_laws.proofs.ScrubBeside.{IsBeside, beside_stands, standing_wrong, not_the_table, written_not_wrong, zero_not_wrong}
-use Rattle.command_laws.proofs.ScrubForms.{AsSeen, as_seen, IsBehind, IsLeft, stopped_left}
+use Rattle.command_laws.proofs.ScrubBeside.{beside_stands, standing_wrong, written_not_wrong, zero_not_wrong}
+use Rattle.command_laws.proofs.ScrubForms.{as_seen, IsBehind, IsLeft, stopped_left}
 use Rattle.command_laws.proofs.ScrubMounted.{in_order, mending_is_clean}
-use Rattle.command_laws.proofs.ScrubSeen.{SameIn, IsSeen, IsLostNow, IsFoundWrong}
-use Rattle.command_laws.proofs.ScrubStanding.{mending_stands, LooksInFront, looks_in_front, copy_reads}
+use Rattle.command_laws.proofs.ScrubSeen.{IsSeen, IsFoundWrong}
+use Rattle.command_laws.proofs.ScrubStanding.{mending_stands, looks_in_front, copy_reads}
 use Rattle.command_laws.specs.DeepScrubLaws.{StoppedFormStands, DoneFormStands, StoppedFormIsClean, DoneFormIsClean}
 use Rattle.command_laws.specs.ScrubFound.{without_all}
 use Rattle.command_laws.specs.ScrubMended.{IsBeingMended}
 use Rattle.command_laws.specs.ScrubSayings.{Rise}
 use Rattle.command_spec.specs.Scrub.{Looked, looked_at, whole_segment, cells_at}
-use Rattle.command_spec.specs.ScrubForms.{Depth, Finding, IsSearched, IsWrong}
+use Rattle.command_spec.specs.ScrubForms.{Depth, Finding, IsWrong}
 use Rattle.qic_base.proofs.Steps.{Torn-all}
 use Rattle.qic_base.specs.Acts.{steps_of}
 use Rattle.qic_base.specs.Cartridge.{Cartridge, view_at}
 use Rattle.qic_base.specs.Step.{effects}
 use Rattle.qic_base.specs.declared.tape.SectorView.{SectorView}
-use Rattle.qic_base.specs.declared.tape.SectorView.TheVariants.{Lost, Holds}
 
 -- ---- where no sector is wrong
 

@@ -1,14 +1,11 @@
 -- While it is scrubbed in either form a cartridge's table reads the same, and stays settled: no wrong sector is looked for in it.
-use Rattle.std.proofs.Common.{◌≡◌, ◌⊎◌, ℕ, inl, inr, List, refl, ◌<◌, arith, sym, ◌∙◌, subst, ap, Option, Some, IsSomeAnd}
+use Rattle.std.proofs.Common.{◌⊎◌, ℕ, inl, inr, List, sym, ◌∙◌, subst, Option, Some, IsSomeAnd}
 use Rattle.cartridge_laws.proofs.FormatStanding.{same_cells}
 use Rattle.cartridge_laws.proofs.FormatWriting.{some_weaker, effects-some}
 use Rattle.cartridge_laws.specs.AppendSettled.{IsSettledFor}
-use Rattle.cartridge_laws.specs.Table.{IsSoundList}
 use Rattle.cartridge_spec.specs.HeaderAndTable.{TableIs}
 use Rattle.cartridge_spec.specs.Says.{Data, TableSays, AsRead, ByCode}
-use Rattle.cartridge_spec.specs.Settling.{changed_by}
 use Rattle.cartridge_spec.specs.Shape.{IsLive}
-use Rattle.cartridge_spec.specs.Table.{Entry}
 use Rattle.command_laws.proofs.ScrubBeside.{not_the_table}
 use Rattle.command_laws.proofs.ScrubForms.{as_seen, IsLeft, stopped_left}
 use Rattle.command_laws.proofs.ScrubSeen.{SameIn, IsSeen}
@@ -20,10 +17,9 @@ use Rattle.command_spec.specs.Scrub.{Looked, looked_at, whole_segment}
 use Rattle.command_spec.specs.ScrubForms.{Depth, Finding}
 use Rattle.qic_base.proofs.Steps.{Torn-all}
 use Rattle.qic_base.specs.Acts.{steps_of}
-use Rattle.qic_base.specs.Cartridge.{Cartridge, view_at}
+use Rattle.qic_base.specs.Cartridge.{Cartridge}
 use Rattle.qic_base.specs.Step.{effects}
 use Rattle.qic_base.specs.declared.tape.SectorView.{SectorView}
-use Rattle.qic_base.specs.declared.tape.SectorView.TheVariants.{Holds}
 
 -- ---- the same views of the table's segment
 

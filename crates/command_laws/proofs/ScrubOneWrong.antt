@@ -1,5 +1,5 @@
 -- At most one sector of a segment is found to be wrong, and whether one is can be decided.
-use Rattle.std.proofs.Common.{◌≡◌, ◌⊎◌, ℕ, inl, inr, List, [], ◌∷◌, refl, zero, suc, ◌+◌, ◌<◌, ◌≤◌, arith, sym, ◌∙◌, subst, ap, length, get_or, slice_get, Option, Some, None, Bool, true, false, cond, IsSomeAnd, ◌++◌}
+use Rattle.std.proofs.Common.{◌≡◌, ◌⊎◌, ℕ, inl, inr, List, [], ◌∷◌, refl, zero, suc, ◌+◌, ◌<◌, ◌≤◌, arith, sym, ◌∙◌, subst, ap, length, get_or, slice_get, Option, Some, None, Bool, true, false, cond, IsSomeAnd}
 use Rattle.std.proofs.lemmas.Bool.{cases_eq, cases_lt, cases_Bool, false≢true}
 use Rattle.std.proofs.lemmas.Option.{slice_get_within}
 use Rattle.cartridge_laws.proofs.AppendWhole.{sector_writes_are_cartridge}
@@ -16,7 +16,7 @@ use Rattle.cartridge_spec.specs.Says.{Saying, Says, Data, LostSectors, Mismatch,
 use Rattle.cartridge_spec.specs.Settling.{changed_by}
 use Rattle.cartridge_spec.specs.Shape.{is_unreadable, usable_places, usable_count}
 use Rattle.cartridge_spec.specs.Wear.{worn}
-use Rattle.command_laws.proofs.ScrubSeen.{worn_here, worn_elsewhere, wrong_small, finds_says}
+use Rattle.command_laws.proofs.ScrubSeen.{worn_here, worn_elsewhere, finds_says}
 use Rattle.command_laws.proofs.ScrubStanding.{cell_at, same_place}
 use Rattle.command_laws.proofs.ScrubTurns.{steps_whole}
 use Rattle.command_laws.specs.DeepScrubLaws.{FormIsFunction, FormAlways}

@@ -1,6 +1,6 @@
 -- A deep scrub mends the sectors that silently hold other bytes: what differs from a cartridge that stands in such ones alone
 -- stands behind it, and is mounted as that one before it.
-use Rattle.std.proofs.Common.{◌≡◌, ◌⊎◌, ℕ, inl, inr, List, [], ◌∷◌, ◌++◌, refl, ◌+◌, ◌-◌, ◌*◌, ◌<◌, ◌≤◌, arith, sym, ◌∙◌, subst, ap, length, get_or, slice_get, All, Contains, Option, Some, None, Bool, true, cond, nat_lt}
+use Rattle.std.proofs.Common.{◌≡◌, ◌⊎◌, ℕ, inl, inr, List, ◌∷◌, refl, ◌+◌, ◌-◌, ◌*◌, ◌<◌, ◌≤◌, arith, sym, ◌∙◌, subst, ap, length, slice_get, Contains, Option, Some, None, Bool, true, cond}
 use Rattle.std.proofs.lemmas.Bool.{cases_eq, lt-ltb, le-ltb}
 use Rattle.std.proofs.lemmas.List.{length-append}
 use Rattle.std.proofs.lemmas.List.Elements.{All-contains}
@@ -11,34 +11,31 @@ use Rattle.cartridge_laws.proofs.FormatStanding.{same_cells}
 use Rattle.cartridge_laws.proofs.Places.{count_below, usable_small}
 use Rattle.cartridge_laws.proofs.Sayings.{says_is_function, written_is_said, code_sectors}
 use Rattle.cartridge_laws.proofs.Segments.{count_of_cells, count_of_whole}
-use Rattle.cartridge_laws.specs.Shape.{Carries}
 use Rattle.cartridge_spec.specs.Code.{parity_sectors, IsCodeBlock}
 use Rattle.cartridge_spec.specs.Header.{has_signature, header_fault}
-use Rattle.cartridge_spec.specs.HeaderAndTable.{CopyReads, CopyDoesNotRead, IsInForce, copy_cells, last_segment, table_cells, TableIs}
-use Rattle.cartridge_spec.specs.Mounting.{Mounts, mounted_as}
+use Rattle.cartridge_spec.specs.HeaderAndTable.{CopyReads, IsInForce, copy_cells, last_segment, TableIs}
 use Rattle.cartridge_spec.specs.Says.{Saying, Says, Data, Mismatch, TableSays, AsRead, ByCode, Written, with_parity, unreadable_count, Agrees, HasNoBlock}
 use Rattle.cartridge_spec.specs.Settling.{changed_by}
-use Rattle.cartridge_spec.specs.Shape.{usable_places, usable_count}
+use Rattle.cartridge_spec.specs.Shape.{usable_count}
 use Rattle.cartridge_spec.specs.Table.{slot_fault}
 use Rattle.cartridge_spec.specs.Volumes.{Plain, Stands, entries_of}
 use Rattle.cartridge_spec.specs.Wear.{worn}
 use Rattle.command_laws.proofs.ScrubApart.{contains_cases, contains_first, one_looked, looked_rise}
-use Rattle.command_laws.proofs.ScrubBeside.{IsBeside, beside_stands, written_before, written_not_wrong, not_the_table, HasWritten, volumes_written}
+use Rattle.command_laws.proofs.ScrubBeside.{beside_stands, written_before, written_not_wrong, not_the_table, HasWritten, volumes_written}
 use Rattle.command_laws.proofs.ScrubForms.{as_seen, mended_as_seen}
 use Rattle.command_laws.proofs.ScrubMounted.{in_order}
 use Rattle.command_laws.proofs.ScrubOneWrong.{IsPlace, wrong_place, worn_count, finds_one, worn_not_held}
-use Rattle.command_laws.proofs.ScrubSeen.{SameIn, IsSeen, IsLostNow, AreSeen, FoundOf, found_of, worn_here, worn_elsewhere, wrong_small}
+use Rattle.command_laws.proofs.ScrubSeen.{SameIn, IsSeen, found_of, worn_here, worn_elsewhere}
 use Rattle.command_laws.proofs.ScrubStanding.{cell_at, mending_stands}
 use Rattle.command_laws.specs.DeepScrubLaws.{SilentSectorsAreMended, SilentSectorsAreMounted}
 use Rattle.command_laws.specs.ScrubFound.{FindAtOnce, without_all}
 use Rattle.command_laws.specs.ScrubSayings.{Rise}
 use Rattle.command_laws.specs.SilentSectors.{IsSameIn, HasOneSilent, IsSilentIn, HasCopy, DiffersSilently}
 use Rattle.command_spec.specs.Scrub.{Looked, cells_at, reads, looked_at, looked_volumes, whole_segment}
-use Rattle.command_spec.specs.ScrubForms.{Depth, Deep, Finding, IsSearched, IsWrong, HasFound, Finds, without}
+use Rattle.command_spec.specs.ScrubForms.{Deep, Finding, IsWrong, HasFound, without}
 use Rattle.gf256_qic.proofs.Parities.{parity_block, length-parity_sectors}
 use Rattle.qic_base.specs.Acts.{steps_of}
-use Rattle.qic_base.specs.Cartridge.{Cartridge, IsSector, view_at}
-use Rattle.qic_base.specs.Step.{worn_view}
+use Rattle.qic_base.specs.Cartridge.{Cartridge, view_at}
 use Rattle.qic_base.specs.declared.tape.SectorView.{SectorView}
 use Rattle.qic_base.specs.declared.tape.SectorView.TheVariants.{Lost, Holds}
 use Rattle.qic_base.specs.declared.tape.TapeInfo.{TapeInfo}

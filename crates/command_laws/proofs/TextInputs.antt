@@ -1,5 +1,5 @@
 -- The inputs of `script` and of `pulses`: their items are unique.
-use Rattle.std.proofs.Common.{◌≡◌, ℕ, ◌+◌, List, [], ◌∷◌, ◌++◌, sym, ap, ◌∙◌, append_assoc, length, arith, subst, append-nil, ◌⊎◌, inl, inr, refl, ◌≢◌, codes, ◌≤◌, ◌<◌, lit<}
+use Rattle.std.proofs.Common.{◌≡◌, ℕ, ◌+◌, List, [], ◌∷◌, ◌++◌, sym, ap, ◌∙◌, append_assoc, length, arith, subst, append-nil, ◌⊎◌, inl, inr, refl, ◌≢◌, codes, ◌≤◌, lit<}
 use Rattle.std.proofs.lemmas.List.{append_cancel_left, length-append, nil_from_length}
 use Rattle.command_laws.proofs.TextDecimals.{one_number, all_digits}
 use Rattle.command_laws.proofs.TextLined.{one_before, end_no_newline}

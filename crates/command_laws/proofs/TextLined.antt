@@ -1,5 +1,5 @@
 -- Lines and their newlines.
-use Rattle.std.proofs.Common.{ℕ, suc, List, ◌∷◌, arith, ◌≢◌, ◌≡◌, ◌+◌, [], ◌++◌, refl, sym, zero, codes}
+use Rattle.std.proofs.Common.{ℕ, suc, List, ◌∷◌, arith, ◌≢◌, ◌≡◌, [], ◌++◌, refl, sym, zero, codes}
 use Rattle.command_laws.specs.TextReading.{NoNewline}
 
 NoNewline-tail : (x : ℕ) (xs : List ℕ) → NoNewline (x ∷ xs) → NoNewline xs

@@ -1,5 +1,5 @@
 -- What is read is printed again.
-use Rattle.std.proofs.Common.{◌≡◌, ℕ, false, nat_lt, sym, arith, zero, suc, ◌+◌, ◌-◌, List, [], ◌∷◌, ◌++◌, replicate, refl, ap, ◌∙◌, append_assoc, append-nil, ◌<◌, map, length, get_or, ◌≢◌, Some, take}
+use Rattle.std.proofs.Common.{◌≡◌, ℕ, false, nat_lt, sym, arith, zero, suc, ◌-◌, List, [], ◌∷◌, ◌++◌, replicate, refl, ap, ◌∙◌, append_assoc, append-nil, ◌<◌, map, length, get_or, ◌≢◌, Some, take}
 use Rattle.std.proofs.lemmas.Bool.Decides.{nat_tests}
 use Rattle.std.proofs.lemmas.List.{take_all}
 use Rattle.std.proofs.lemmas.Option.{slice_get-get_or}

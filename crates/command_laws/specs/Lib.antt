@@ -12,6 +12,7 @@ pub mod MountedListed
 pub mod MountedListing
 pub mod OutputLaws
 pub mod OutputText
+pub mod PromiseLaws
 pub mod PulseLaws
 pub mod RestoreLaws
 pub mod ScriptItems

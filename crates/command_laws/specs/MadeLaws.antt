@@ -1,5 +1,5 @@
 -- What a run of `make` comes to, and what a stop in it leaves, as facts.
-use Rattle.std.specs.Prelude.{◌≡◌, ℕ, List, ◌≤◌, ◌+◌, ◌∷◌, ◌++◌, Option, Some, ◌⊎◌, [], IsSomeAnd, ◌≢◌}
+use Rattle.std.specs.Prelude.{◌≡◌, ℕ, List, ◌≤◌, ◌∷◌, ◌++◌, Option, Some, ◌⊎◌, [], IsSomeAnd, ◌≢◌}
 use Rattle.cartridge_spec.specs.Appending.{with_all}
 use Rattle.cartridge_spec.specs.Header.{Header}
 use Rattle.cartridge_spec.specs.Mounting.{Lists}

@@ -1,8 +1,8 @@
 -- A mounted cartridge that takes volumes, and what appends, worn sectors and scrubs leave of it, as facts (this project's own).
-use Rattle.std.specs.Prelude.{◌≡◌, ◌-◌, false, length, ℕ, ◌^◌, ◌<◌, List, All, ◌++◌, ◌⊎◌, Option, Some, IsSomeAnd, true, ◌≤◌}
+use Rattle.std.specs.Prelude.{◌≡◌, false, length, ℕ, ◌^◌, ◌<◌, List, All, ◌++◌, ◌⊎◌, Option, Some, IsSomeAnd, true, ◌≤◌}
 use Rattle.cartridge_spec.specs.Appending.{with_bytes, has_room}
 use Rattle.cartridge_spec.specs.Formatting.{IsLabel}
-use Rattle.cartridge_spec.specs.HeaderAndTable.{TableIs, last_segment}
+use Rattle.cartridge_spec.specs.HeaderAndTable.{TableIs}
 use Rattle.cartridge_spec.specs.Mounting.{IsTableLive}
 use Rattle.cartridge_spec.specs.Settling.{settling_steps, changed_by}
 use Rattle.cartridge_spec.specs.Volumes.{Plain, Stands, entries_of}
@@ -20,7 +20,6 @@ pub record IsOpen (c : Cartridge) (plain : Plain) : Type 0 where
   pub stands : Stands c plain
   pub table : TableIs c plain.table_area
   pub unprotected : c.info.protected ≡ false
-  pub last : length plain.words - 1 ≡ last_segment c
 
 -- .. and each sector of the table's segment takes what is written to it
 pub record IsKept (c : Cartridge) (plain : Plain) : Type 0 where
@@ -29,7 +28,6 @@ pub record IsKept (c : Cartridge) (plain : Plain) : Type 0 where
   pub table : TableIs c plain.table_area
   pub live : IsTableLive c
   pub unprotected : c.info.protected ≡ false
-  pub last : length plain.words - 1 ≡ last_segment c
 
 -- a name of 44 bytes, a date word, and bytes
 pub record IsAppendable (name : List ℕ) (date : ℕ) (bytes : List ℕ) : Type 0 where

@@ -1,5 +1,5 @@
 -- Each input is read in one way: its lines, its items, and what ends them, as facts (this project's own).
-use Rattle.std.specs.Prelude.{◌≡◌, ℕ, List, ◌+◌, [], ◌++◌}
+use Rattle.std.specs.Prelude.{◌≡◌, ℕ, List, [], ◌++◌}
 use Rattle.command_spec.specs.Input.{HasLineForm, Ending, HasItems}
 use Rattle.command_spec.specs.declared.line.Line.{Line}
 

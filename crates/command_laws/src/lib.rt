@@ -8,6 +8,7 @@ pub mod deep_scrubbing;
 pub mod generated;
 pub mod lives;
 pub mod mounted;
+pub mod promises;
 pub mod restoring;
 pub mod scripts;
 pub mod scrubbing;

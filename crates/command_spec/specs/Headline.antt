@@ -57,18 +57,15 @@ IsCut t s k words old new failing =
 -- ---- a stop
 
 -- Each cartridge that a run leaves, by what the drive held: that which the tape tells when the run is over, whatever it
--- answered; and, where the tape tells its stops, each that a stop since the run's start might have left, and each that
--- one now may leave.
+-- answered, and that a stop then leaves; and, where the tape tells its stops, each that a stop since the run's start might
+-- have left.
 pub record EachLeft {T : Type 0} (t : tapes.Meaning T) (old new : T) (P : (held left : Option Cartridge) → Type 0) : Type 0 where
   pub told : (held : Option Cartridge) → t.told old ≡ Some held → IsSomeAnd (t.told new) (P held)
   pub since : (held left : Option Cartridge) → t.tells_stops old ≡ true → t.told old ≡ Some held → t.left_since new (t.moment old) left → P held left
-  pub now : (held left : Option Cartridge) → t.tells_stops old ≡ true → t.told old ≡ Some held → t.left_since new (t.moment new) left → P held left
 
--- Each cartridge that stands when a run is over: that which the tape tells, and, where it told its stops, each that a stop
--- now may leave.
-pub record EachNow {T : Type 0} (t : tapes.Meaning T) (old new : T) (P : (left : Option Cartridge) → Type 0) : Type 0 where
-  pub told : IsSomeAnd (t.told new) P
-  pub now : (left : Option Cartridge) → t.tells_stops old ≡ true → t.left_since new (t.moment new) left → P left
+-- the cartridge that stands when a run is over: that which the tape tells, and that a stop then leaves
+abbrev pub ToldNow : {T : Type 0} (t : tapes.Meaning T) (new : T) (P : (left : Option Cartridge) → Type 0) → Type 0
+ToldNow t new P = IsSomeAnd (t.told new) P
 
 -- a stop in the steps of an outcome leaves this, over the input that is told, or some input where none is
 pub record StopLeaves (told : Option (List ℕ)) (command : Words) (held left : Option Cartridge) : Type 0 where

@@ -5,7 +5,7 @@ use Rattle.cartridge_spec.specs.Header.{Header}
 use Rattle.cartridge_spec.specs.Mounting.{Mounted, Mounts, Lists, settled}
 use Rattle.cartridge_spec.specs.Table.{Entry}
 use Rattle.command_spec.specs.Append.{entry_for, kept_in}
-use Rattle.command_spec.specs.Headline.{EachNow}
+use Rattle.command_spec.specs.Headline.{ToldNow}
 use Rattle.command_spec.specs.Input.{Item}
 use Rattle.command_spec.specs.Machine.{Spells}
 use Rattle.command_spec.specs.Make.{made_list}
@@ -26,22 +26,22 @@ pub record WasListed {T : Type 0} (t : tapes.Meaning T) (old : T) (c : Cartridge
   pub mounts : Mounts c (Mounted header words table entries)
 
 -- each cartridge that stands when a run is over is mounted with this list
-abbrev pub NowLists : {T : Type 0} (t : tapes.Meaning T) (old new : T) → Header → (words : List ℕ) → List Entry → Type 0
-NowLists t old new header words entries = EachNow t old new (λ left. IsSomeAnd left (λ d. Lists d header words entries))
+abbrev pub NowLists : {T : Type 0} (t : tapes.Meaning T) (new : T) → Header → (words : List ℕ) → List Entry → Type 0
+NowLists t new header words entries = ToldNow t new (λ left. IsSomeAnd left (λ d. Lists d header words entries))
 
 -- the list with the volume of an input
 pub record ListsVolume {T : Type 0} (t : tapes.Meaning T) (told : Option (List ℕ)) (old new : T) (header : Header) (words : List ℕ) (entries : List Entry) (name : List ℕ) (date : ℕ) : Type 0 where
   pub input : List ℕ
   pub is_told : IsInput told input
-  pub lists : NowLists t old new header words (entries ++ entry_for (kept_in words entries) name date input ∷ [])
+  pub lists : NowLists t new header words (entries ++ entry_for (kept_in words entries) name date input ∷ [])
 
 -- the list with the first ones of the made volumes; with all of them, where anything was printed, the sink failed, or all was
 -- carried out
 pub record ListsMade {T K : Type 0} (t : tapes.Meaning T) (k : sinks.Meaning K) (old new : T) (before behind : K) (answer : Status) (header : Header) (words : List ℕ) (entries : List Entry) (seed count : ℕ) : Type 0 where
   pub text : List ℕ
   pub took : k.took before text behind
-  pub some : (n : ℕ) × (n ≤ count) × NowLists t old new header words (made_list seed n words entries)
-  pub all : (text ≢ []) ⊎ IsCarriedOut answer → NowLists t old new header words (made_list seed count words entries)
+  pub some : (n : ℕ) × (n ≤ count) × NowLists t new header words (made_list seed n words entries)
+  pub all : (text ≢ []) ⊎ IsCarriedOut answer → NowLists t new header words (made_list seed count words entries)
 
 -- the input of a script was carried out, up to its end or to the line at fault
 abbrev pub IsHeard : Status → Type 0
@@ -52,9 +52,9 @@ IsHeard answer = (answer ≡ status.Done) ⊎ ((line place : ℕ) × (answer ≡
 pub record ListsLines {T K : Type 0} (t : tapes.Meaning T) (k : sinks.Meaning K) (old new : T) (before behind : K) (answer : Status) (header : Header) (words : List ℕ) (entries : List Entry) (items : List Item) (dids : List Did) : Type 0 where
   pub text : List ℕ
   pub took : k.took before text behind
-  pub answered : answer ≢ status.SinkFault → EachNow t old new (ListsAnswered header words entries items dids (length text))
-  pub broken : answer ≡ status.SinkFault → EachNow t old new (ListsBroken header words entries items dids (length text))
-  pub all : IsHeard answer → ItemsWearBehind items → NowLists t old new header words (entries_behind entries dids)
+  pub answered : answer ≢ status.SinkFault → ToldNow t new (ListsAnswered header words entries items dids (length text))
+  pub broken : answer ≡ status.SinkFault → ToldNow t new (ListsBroken header words entries items dids (length text))
+  pub all : IsHeard answer → ItemsWearBehind items → NowLists t new header words (entries_behind entries dids)
 
 -- so it is by what the lines of the input do: that which the source tells, or some input where it tells none
 pub record ListsScripted {T K : Type 0} (t : tapes.Meaning T) (k : sinks.Meaning K) (told : Option (List ℕ)) (old new : T) (before behind : K) (answer : Status) (c : Cartridge) (header : Header) (words : List ℕ) (table : List (List ℕ)) (entries : List Entry) : Type 0 where
@@ -71,7 +71,7 @@ pub record ListsAppends {T K : Type 0} (t : tapes.Meaning T) (k : sinks.Meaning 
       ListsVolume t told old new header map_words entries name date
   pub unchanged : (name : List ℕ) (date : ℕ) (c : Cartridge) (header : Header) (map_words : List ℕ) (table : List (List ℕ)) (entries : List Entry) →
       Spells words (commands.Append name date) → WasListed t old c header map_words table entries → WasNotDone answer →
-      NowLists t old new header map_words entries
+      NowLists t new header map_words entries
   pub made : (seed count : ℕ) (c : Cartridge) (header : Header) (map_words : List ℕ) (table : List (List ℕ)) (entries : List Entry) →
       Spells words (commands.Make seed count) → WasListed t old c header map_words table entries → answer ≢ status.TapeFault →
       ListsMade t k old new before behind answer header map_words entries seed count

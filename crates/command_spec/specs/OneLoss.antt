@@ -1,13 +1,12 @@
 -- What becomes of a cartridge that an append left, done or stopped, where then one sector more of its table's segment is lost
 -- (this project's own).
-use Rattle.std.specs.Prelude.{◌⊎◌, ℕ, List, Option, ◌≡◌, Some, IsSomeAnd, false}
+use Rattle.std.specs.Prelude.{◌⊎◌, ℕ, List, Option, ◌≡◌, Some, IsSomeAnd}
 use Rattle.cartridge_spec.specs.Appending.{with_bytes}
-use Rattle.cartridge_spec.specs.HeaderAndTable.{TableIs}
-use Rattle.cartridge_spec.specs.Mounting.{IsTableLive, settled}
+use Rattle.cartridge_spec.specs.Mounting.{IsTableLive}
 use Rattle.cartridge_spec.specs.OneLoss.{ComesBackAs, LosesOneAlone}
 use Rattle.cartridge_spec.specs.Settling.{settling_steps}
 use Rattle.cartridge_spec.specs.Volumes.{Plain, Stands}
-use Rattle.command_spec.specs.Headline.{EachLeft, EachNow}
+use Rattle.command_spec.specs.Headline.{EachLeft, ToldNow}
 use Rattle.command_spec.specs.Machine.{Spells}
 use Rattle.command_spec.specs.Volumes.{IsInput, AreBytes, IsCarriedOut}
 use Rattle.command_spec.specs.declared.status.Status.{Status}
@@ -37,18 +36,10 @@ StoppedComesBack told words held left =
     AreBytes told → Stands c plain → IsTableLive c →
     Torn (settling_steps plain.table_area c) (Some c) left ⊎ IsSomeAnd left (ComesBackEither told name date c plain)
 
--- The cartridge with its table settled, too, comes back: an append that was stopped between the settling and its first change.
-abbrev pub SettledComesBack : (told : Option (List ℕ)) → (words : List (List ℕ)) → (held left : Option Cartridge) → Type 0
-SettledComesBack told words held left =
-    (name : List ℕ) (date : ℕ) (c : Cartridge) (plain : Plain) → Spells words (commands.Append name date) → held ≡ Some c →
-    Stands c plain → IsTableLive c → TableIs c plain.table_area → c.info.protected ≡ false → left ≡ Some (settled plain.table_area c) →
-    IsSomeAnd left (ComesBackEither told name date c plain)
-
--- A sector of the table's segment may be lost behind an append: each cartridge that a run leaves from the settling on comes back,
--- and that of an append that was carried out comes back with the volume.
+-- A sector of the table's segment may be lost behind an append: each cartridge that a run leaves behind the settling comes back,
+-- and that of an append that was carried out comes back with the volume. The settled cartridge itself comes back, whatever left it.
 pub record SurvivesOneLoss {T : Type 0} (t : tapes.Meaning T) (told : Option (List ℕ)) (words : List (List ℕ)) (old new : T) (answer : Status) : Type 0 where
   pub stopped : EachLeft t old new (StoppedComesBack told words)
-  pub settled : EachLeft t old new (SettledComesBack told words)
   pub done : (name : List ℕ) (date : ℕ) (c : Cartridge) (plain : Plain) → IsCarriedOut answer → Spells words (commands.Append name date) →
       t.told old ≡ Some (Some c) → AreBytes told → Stands c plain → IsTableLive c →
-      EachNow t old new (λ left. IsSomeAnd left (ComesBackNew told name date c plain))
+      ToldNow t new (λ left. IsSomeAnd left (ComesBackNew told name date c plain))

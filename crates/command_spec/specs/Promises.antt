@@ -17,9 +17,7 @@ use Rattle.command_spec.specs.declared.status.Status.TheVariants as status
 
 -- What a run of words promises, by the objects of the outside before it and after it, and by its answer.
 pub record Promises {T S K : Type 0} (t : tapes.Meaning T) (s : sources.Meaning S) (k : sinks.Meaning K) (words : List (List ℕ)) (old new : Outside T S K) (answer : Status) : Type 0 where
-  -- Where no count of faults rose, over what is told the plain machine's step was made, or there was no memory.
-  pub answers : NoneRose t s k old new → Answers t s k words old new answer
-  -- Where no fault of the outside ended it, the same, whatever the counts say.
+  -- Where no fault of the outside ended it, over what is told the plain machine's step was made, or there was no memory.
   pub carried : is_fault answer ≡ false → Answers t s k words old new answer
   -- Where no count rose, and the command has all that it needs, it is Done, or there was no memory.
   pub complete : NoneRose t s k old new → (command : Words) → Spells words command →

@@ -1,4 +1,5 @@
--- What a script leaves of a cartridge: what it stands for, and the list that it is mounted with, behind the lines that were carried out (this project's own).
+-- What a script leaves of a cartridge behind the lines that were carried out: what these append, what the cartridge stands for,
+-- and the list that it is mounted with (this project's own).
 use Rattle.std.specs.Prelude.{ℕ, List, ◌==◌, length, if◌then◌else◌, [], ◌∷◌, suc, ◌≤◌, take, Option, IsSomeAnd, ◌<◌, ◌↔◌, ◌++◌}
 use Rattle.cartridge_spec.specs.Appending.{Content, with_all}
 use Rattle.cartridge_spec.specs.Header.{Header}
@@ -46,14 +47,18 @@ ItemsSpare c plain (item ∷ items) [] = Unit {0}
 ItemsSpare c plain (item ∷ items) (did ∷ dids) =
     LineSpares c plain item.line × ItemsSpare (changed_by (steps_of did.acts) c) (with_all plain (added (entries_of plain) item did)) items dids
 
+-- what so many items print, in bytes
+abbrev pub printed_by : List Did → (count : ℕ) → ℕ
+printed_by dids count = length (text_of (acts_of (take count dids)))
+
 -- What is left stands for the plain cartridge behind so many items, where so many bytes were printed: all items whose reply
 -- was written whole are among them, and at most one more.
 pub record StandsAnswered (plain : Plain) (items : List Item) (dids : List Did) (printed : ℕ) (left : Option Cartridge) : Type 0 where
   pub count : ℕ
   pub within : count ≤ length items
   pub stands : IsSomeAnd left (λ d. Stands d (with_all plain (all_added (entries_of plain) (take count items) (take count dids))))
-  pub answered : (n : ℕ) → n ≤ length items → length (text_of (acts_of (take n dids))) ≤ printed → n ≤ count
-  pub most : (n : ℕ) → suc n ≤ count → length (text_of (acts_of (take n dids))) ≤ printed
+  pub answered : (n : ℕ) → n ≤ length items → printed_by dids n ≤ printed → n ≤ count
+  pub most : (n : ℕ) → suc n ≤ count → printed_by dids n ≤ printed
 
 -- a sector that a line wears lies behind the table's segment; each cartridge has the segments in front
 abbrev pub WearsBehind : Line → Type 0
@@ -68,10 +73,6 @@ ItemsWearBehind (item ∷ items) = WearsBehind item.line × ItemsWearBehind item
 abbrev pub ListsBehind : Header → (words : List ℕ) → List Entry → List Item → List Did → (count : ℕ) → (left : Option Cartridge) → Type 0
 ListsBehind header words entries items dids count left =
     ItemsWearBehind (take count items) → IsSomeAnd left (λ d. Lists d header words (entries_behind entries (take count dids)))
-
--- what so many items print, in bytes
-abbrev pub printed_by : List Did → (count : ℕ) → ℕ
-printed_by dids count = length (text_of (acts_of (take count dids)))
 
 -- What is left is mounted with the list behind those items whose reply was written whole, where so many bytes were printed.
 pub record ListsAnswered (header : Header) (words : List ℕ) (entries : List Entry) (items : List Item) (dids : List Did) (printed : ℕ) (left : Option Cartridge) : Type 0 where

@@ -4,7 +4,7 @@ use Rattle.std.specs.Prelude.{ℕ, List, ◌≡◌, ◌≤◌, Option, Some, IsS
 use Rattle.cartridge_spec.specs.Appending.{with_all}
 use Rattle.cartridge_spec.specs.Mounting.{IsTableLive, settled}
 use Rattle.cartridge_spec.specs.Volumes.{Plain, Stands, entries_of}
-use Rattle.command_spec.specs.Headline.{EachNow, EachLeft}
+use Rattle.command_spec.specs.Headline.{ToldNow, EachLeft}
 use Rattle.command_spec.specs.Listing.{IsHeard}
 use Rattle.command_spec.specs.Machine.{Spells}
 use Rattle.command_spec.specs.MadeVolumes.{made_contents}
@@ -37,8 +37,8 @@ SomeMade words held left =
 pub record AllMade {T K : Type 0} (t : tapes.Meaning T) (k : sinks.Meaning K) (old new : T) (before behind : K) (answer : Status) (seed count : ℕ) (c : Cartridge) (plain : Plain) : Type 0 where
   pub text : List ℕ
   pub took : k.took before text behind
-  pub done : answer ≡ status.Done → EachNow t old new (λ left. IsSomeAnd left (λ d. Stands d (with_all plain (made_contents seed 1 count))))
-  pub all : IsTableLive c → (text ≢ []) ⊎ (answer ≡ status.SinkFault) → EachNow t old new (λ left. IsSomeAnd left (λ d. Stands d (with_all plain (made_contents seed 1 count))))
+  pub done : answer ≡ status.Done → ToldNow t new (λ left. IsSomeAnd left (λ d. Stands d (with_all plain (made_contents seed 1 count))))
+  pub all : IsTableLive c → (text ≢ []) ⊎ (answer ≡ status.SinkFault) → ToldNow t new (λ left. IsSomeAnd left (λ d. Stands d (with_all plain (made_contents seed 1 count))))
 
 -- A generated run may be stopped: each cartridge that it leaves is so; and so it is when it is over.
 pub record MakesVolumes {T K : Type 0} (t : tapes.Meaning T) (k : sinks.Meaning K) (words : List (List ℕ)) (old new : T) (before behind : K) (answer : Status) : Type 0 where
@@ -74,8 +74,8 @@ SomeScripted told words held left =
 pub record AllAnswered {T K : Type 0} (t : tapes.Meaning T) (k : sinks.Meaning K) {told : Option (List ℕ)} {words : List (List ℕ)} {c : Cartridge} {plain : Plain} (old new : T) (before behind : K) (answer : Status) (script : Scripted told words c plain) : Type 0 where
   pub text : List ℕ
   pub took : k.took before text behind
-  pub answered : IsTableLive c → EachNow t old new (StandsAnswered plain script.does.items script.does.dids (length text))
-  pub all : IsHeard answer → EachNow t old new (λ left. IsSomeAnd left (λ d. Stands d (with_all plain (all_added (entries_of plain) script.does.items script.does.dids))))
+  pub answered : IsTableLive c → ToldNow t new (StandsAnswered plain script.does.items script.does.dids (length text))
+  pub all : IsHeard answer → ToldNow t new (λ left. IsSomeAnd left (λ d. Stands d (with_all plain (all_added (entries_of plain) script.does.items script.does.dids))))
 
 -- A script may be stopped: each cartridge that it leaves is so; and so it is when it is over.
 pub record CarriesOutLines {T K : Type 0} (t : tapes.Meaning T) (k : sinks.Meaning K) (told : Option (List ℕ)) (words : List (List ℕ)) (old new : T) (before behind : K) (answer : Status) : Type 0 where

@@ -10,7 +10,7 @@ use Rattle.cartridge_spec.specs.Says.{unreadable_count}
 use Rattle.cartridge_spec.specs.Table.{Entry}
 use Rattle.cartridge_spec.specs.Volumes.{Plain, Stands, Volume}
 use Rattle.command_spec.specs.Commands.{command_of}
-use Rattle.command_spec.specs.Headline.{EachLeft, EachNow}
+use Rattle.command_spec.specs.Headline.{EachLeft, ToldNow}
 use Rattle.command_spec.specs.Machine.{Spells}
 use Rattle.command_spec.specs.Restore.{FirstLost, pieces_in, LosesFew, bytes_held, piece_cells}
 use Rattle.command_spec.specs.RestoreCommand.{HasNumber}
@@ -195,13 +195,13 @@ WasNotDone answer = (answer ≢ status.Done) × (answer ≢ status.SinkFault) ×
 -- where it was refused, or the input failed, what stood.
 pub record IsChanged {T : Type 0} (t : tapes.Meaning T) (told : Option (List ℕ)) (words : List (List ℕ)) (old new : T) (answer : Status) : Type 0 where
   pub renewed : (segments : ℕ) (held : Option Cartridge) → IsCarriedOut answer → Spells words (commands.New segments) →
-      t.told old ≡ Some held → EachNow t old new (λ left. left ≡ Some (new_cartridge segments))
+      t.told old ≡ Some held → ToldNow t new (λ left. left ≡ Some (new_cartridge segments))
   pub formatted : (label : List ℕ) (date : ℕ) (c : Cartridge) → IsCarriedOut answer → Spells words (commands.Format label date) →
-      t.told old ≡ Some (Some c) → EachNow t old new (λ left. IsSomeAnd left (StandsFresh c label date))
+      t.told old ≡ Some (Some c) → ToldNow t new (λ left. IsSomeAnd left (StandsFresh c label date))
   pub cleared : (label : List ℕ) (date segment : ℕ) (c : Cartridge) → answer ≡ status.DefectInFront segment →
       Spells words (commands.Format label date) → t.told old ≡ Some (Some c) →
-      EachNow t old new (λ left. IsSomeAnd left IsBare)
+      ToldNow t new (λ left. IsSomeAnd left IsBare)
   pub appended : (name : List ℕ) (date : ℕ) (c : Cartridge) (plain : Plain) → IsCarriedOut answer → Spells words (commands.Append name date) →
-      t.told old ≡ Some (Some c) → AreBytes told → Stands c plain → EachNow t old new (λ left. IsSomeAnd left (StandsAppended told name date c plain))
+      t.told old ≡ Some (Some c) → AreBytes told → Stands c plain → ToldNow t new (λ left. IsSomeAnd left (StandsAppended told name date c plain))
   pub unchanged : (name : List ℕ) (date : ℕ) (c : Cartridge) (plain : Plain) → WasNotDone answer → Spells words (commands.Append name date) →
-      t.told old ≡ Some (Some c) → Stands c plain → EachNow t old new (λ left. IsSomeAnd left (λ d. Stands d plain))
+      t.told old ≡ Some (Some c) → Stands c plain → ToldNow t new (λ left. IsSomeAnd left (λ d. Stands d plain))

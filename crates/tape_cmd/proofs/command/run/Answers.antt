@@ -11,7 +11,6 @@ returns-in_default-clause-promises g c =
       told = g.met.K.Sink.took_told;
       right = g.met.T.Tape.told_right c.args.unit.now.tape;
       before = g.met.T.Tape.left_now c.args.unit.now.tape;
-      after = g.met.T.Tape.left_now c.args.unit.now.tape;
     }
     (g.met.S.Source.keeps_itself c.args.source.now) c.in_default.ensures
 
@@ -26,7 +25,6 @@ returns-then-not-takes_memory-clause-promises g c =
       told = g.met.K.Sink.took_told;
       right = g.met.T.Tape.told_right c.args.unit.now.tape;
       before = g.met.T.Tape.left_now c.args.unit.now.tape;
-      after = g.met.T.Tape.left_now c.carry_out.new.unit.tape;
     }
     read.0 read.1 c.carry_out.ensures.source c.carry_out.ensures.kept c.carry_out.ensures.ends
 
@@ -45,6 +43,5 @@ returns-in-Err-clause-promises g c =
       told = g.met.K.Sink.took_told;
       right = g.met.T.Tape.told_right c.args.unit.now.tape;
       before = g.met.T.Tape.left_now c.args.unit.now.tape;
-      after = g.met.T.Tape.left_now c.args.unit.now.tape;
     }
     (g.met.S.Source.keeps_itself c.args.source.now) read.0 (sym c.takes_memory.ensures ∙ c.if-not-takes_memory.false)

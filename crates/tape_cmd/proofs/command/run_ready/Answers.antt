@@ -11,7 +11,6 @@ returns-then-takes_memory-clause-promises g c spelled spells =
       told = g.met.K.Sink.took_told;
       right = g.met.T.Tape.told_right c.args.unit.now.tape;
       before = g.met.T.Tape.left_now c.args.unit.now.tape;
-      after = g.met.T.Tape.left_now c.carry_out_in.new.unit.tape;
     }
     spells c.requires.values c.carry_out_in.ensures.source c.carry_out_in.ensures.kept c.carry_out_in.ensures.ends
 
@@ -25,6 +24,5 @@ returns-else-takes_memory-clause-promises g c spelled spells =
       told = g.met.K.Sink.took_told;
       right = g.met.T.Tape.told_right c.args.unit.now.tape;
       before = g.met.T.Tape.left_now c.args.unit.now.tape;
-      after = g.met.T.Tape.left_now c.carry_out.new.unit.tape;
     }
     spells c.requires.values c.carry_out.ensures.source c.carry_out.ensures.kept c.carry_out.ensures.ends
