@@ -2,6 +2,7 @@
 # Times format, append and restore of one volume on a cartridge of 100 segments per track, a file on a disk and
 # one in memory: beside the bare writes and syncs of the same places in the same order, beside cp of the image,
 # and beside tar into a file with one sync. Restore also with three lost sectors in each segment of the volume.
+# And upgrade of an image of version 1 with that volume, beside cp of it with one sync.
 #
 #     bench/volumes.sh [RUNS [BYTES [FOLDER ..]]]
 #
@@ -21,7 +22,7 @@ last=$((2 + (bytes + 29695) / 29696))
 [ "$last" -lt 2800 ] || { echo 'volumes.sh: the volume is longer than the cartridge' >&2; exit 2; }
 
 missing=''
-for tool in gcc strace tar awk sed sort cp cmp cut head nproc stat sync mktemp; do
+for tool in gcc strace tar awk sed sort cp cmp cut head nproc stat sync mktemp truncate; do
     command -v "$tool" >/dev/null || missing="$missing $tool"
 done
 for folder in "${folders[@]}"; do
@@ -94,6 +95,10 @@ for ((segment = 3; segment <= last; segment++)); do
     done
 done >/dev/null
 "$program" "$base/worn.img" restore 1 | cmp - "$base/input"
+printf 'QIC80IMG\1\0\144\0' > "$base/old.img"
+truncate -s 92019264 "$base/old.img"
+"$program" "$base/old.img" format L >/dev/null
+"$program" "$base/old.img" append v < "$base/input" >/dev/null
 listed format
 listed append
 read_list restore
@@ -126,6 +131,9 @@ round() {
     bare restore
     fresh worn.img; timed restore_worn "$program" "$room/image" restore 1
     timed cp cp --sparse=never "$room/image" "$room/copy"; rm "$room/copy"
+    fresh old.img
+    timed bare_upgrade sh -c 'cp --sparse=never "$1/image" "$1/copy" && sync "$1/copy"' sh "$room"; rm "$room/copy"
+    timed upgrade "$program" "$room/image" upgrade
     timed tar sh -c 'tar -cf "$1/tar" -C "$1" input && sync "$1/tar"' sh "$room"; rm "$room/tar"
     timed usage "$program" 2>/dev/null || [ $? = 2 ]
 }
@@ -167,10 +175,11 @@ for folder in "${folders[@]}"; do
     echo "$folder:"
     of_bare format
     of_bare append
+    of_bare upgrade
     of_bytes restore "$bytes" restore
     of_bytes bare_restore "$bytes" '  its reads alone'
     of_bytes restore_worn "$bytes" 'restore, three lost a segment'
-    of_bytes cp "$(stat -c %s "$room/image")" 'cp of the image'
+    of_bytes cp "$(stat -c %s "$base/worn.img")" 'cp of the image'
     of_bytes tar "$bytes" 'tar and one sync'
     echo "the usage line: $(memory usage) kB"
     rm -rf "$room"

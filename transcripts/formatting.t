@@ -230,13 +230,15 @@ The copy in segment 1 is the same, its three sectors of parity too, and all sect
   $ others 2 0 2624
   0
 
-Each of the 2,688 sectors was formatted, and its gate is open; three are defects.
+Each of the 2,688 sectors but the three defects was formatted, and its gate is open. Nothing is written to a defect.
 
   $ all() { states $1 0 2688 | tr ' ' '\n' | grep . | sort | uniq -c | sed 's/^ *//'; }
   $ all gate
-  2688 5a
+  3 00
+  2685 5a
   $ all formed
-  2688 f0
+  3 00
+  2685 f0
   $ all defect
   2685 00
   3 bd

@@ -77,11 +77,12 @@ take() {
     done
 }
 
-# states PART SEGMENT COUNT: shows that byte of state of so many sectors, from the first of a segment on.
+# states PART SEGMENT COUNT: shows that byte of state of so many sectors, from the first of a segment on, 16 a line.
 states() {
     local width=1027
     [ "$(version)" = 2 ] || width=1
-    od -An -v -tx1 -w$width -j "$(place "$1" "$2" 0)" -N $((width * $3)) cart.img | cut -c 1-3 | xargs -n 16 | sed 's/^/ /'
+    od -An -v -tx1 -w$width -j "$(place "$1" "$2" 0)" -N $((width * $3)) cart.img | cut -c 1-3 | tr -d '\n' | fold -w 48
+    echo
 }
 
 # sectors SEGMENT SECTOR COUNT: the bytes of so many sectors from one on, a sector a line.
