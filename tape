@@ -20,6 +20,7 @@ IMAGE is the file that holds the cartridge, and is created where there is none. 
     defect SEG SEC        make a defect of a sector that was never formatted
     lose SEG SEC          make a sector unreadable, until it is written again
     protect on | off      set or clear the write protect mark
+    upgrade               keep the cartridge in the newest layout of an image; what is on it stays
     format LABEL [DATE]   make the cartridge an empty one; what was on it is lost
     info                  print the label, the format date, and how many segments, bad sectors and volumes there are
     append NAME [DATE]    add a volume: standard input to its end

@@ -3,9 +3,11 @@ Image files
 
   $ . "$TESTDIR/image.sh"
 
-An image is a file that begins with `QIC80IMG`, the version 1 and the segments per track, and has just the length that
-follows: 64 bytes, and 1,027 for each of the 896 sectors that a segment per track makes. That is 2,760,640 for three, and
-3,680,832 for four.
+An image is a file that begins with `QIC80IMG`, tells its version and its segments per track, and is long enough: 64 bytes,
+and 1,027 for each of the 896 sectors that a segment per track makes. That is 2,760,640 for three, and 3,680,832 for four.
+
+In version 1 the number 1 stands behind the text. Nothing of the bytes 14 to 63 is read, but that the first of them is not the
+mark of the layout, 0x5A; and what is behind the sectors is not looked at.
 
   $ file() { rm -f cart.img; printf "$2" > cart.img; truncate -s $1 cart.img; cp cart.img before.img; }
   $ file 2760640 'QIC80IMG\1\0\3\0'
@@ -19,54 +21,110 @@ follows: 64 bytes, and 1,027 for each of the 896 sectors that a segment per trac
   $ tape cart.img format L
   tape: the cartridge is protected
   [5]
+  $ file 2760640 'QIC80IMG\1\0\3\0\0\0\xA5\xFF\xFF\xFF\xFF\xFF\xFF\xFF\xFF\xFF\xFF'
+  $ tape cart.img list
+  tape: the cartridge is not formatted
+  [6]
+  $ file 2760641 'QIC80IMG\1\0\3\0'
+  $ tape cart.img list
+  tape: the cartridge is not formatted
+  [6]
+
+In version 2 the mark stands. The eight bytes from 16 on are the base, where the sectors begin: 64; or, where an image of
+version 1 was upgraded, behind its sectors, at 2,760,640 for three segments per track, which is 0x2A1FC0. The number of the
+version is not read then.
+
+  $ file 2760640 'QIC80IMG\2\0\3\0\0\0\x5A\0\x40'
+  $ tape cart.img list
+  tape: the cartridge is not formatted
+  [6]
+  $ file 2760640 'QIC80IMG\xFF\xFF\3\0\x5A\0\x5A\xFF\x40\0\0\0\0\0\0\0\xFF'
+  $ tape cart.img format L
+  tape: the cartridge is protected
+  [5]
+  $ file 5521216 'QIC80IMG\1\0\3\0\0\0\x5A\0\xC0\x1F\x2A'
+  $ tape cart.img list
+  tape: the cartridge is not formatted
+  [6]
+  $ file 5521217 'QIC80IMG\2\0\3\0\0\0\x5A\0\x40'
+  $ tape cart.img list
+  tape: the cartridge is not formatted
+  [6]
 
 Any other file holds no cartridge, and each command but `new` leaves it as it is.
 
   $ looks() {
-  >     for command in list info 'format L' 'lose 0 0' 'defect 0 0' 'protect on' 'protect off'; do
+  >     for command in list info 'format L' 'lose 0 0' 'defect 0 0' 'protect on' 'protect off' upgrade; do
   >         tape cart.img $command 2>&1
   >         cmp cart.img before.img
   >     done | uniq -c | sed 's/^ *//'
   > }
   $ file 0 ''
   $ looks
-  7 tape: no cartridge
+  8 tape: no cartridge
   $ file 13 'QIC80IMG\1\0\3\0'
   $ looks
-  7 tape: no cartridge
+  8 tape: no cartridge
   $ file 14 'QIC80IMG\1\0\3\0'
   $ looks
-  7 tape: no cartridge
+  8 tape: no cartridge
   $ file 2760639 'QIC80IMG\1\0\3\0'
   $ looks
-  7 tape: no cartridge
-  $ file 2760641 'QIC80IMG\1\0\3\0'
-  $ looks
-  7 tape: no cartridge
+  8 tape: no cartridge
   $ file 2760640 'QIC80IMG\1\0\4\0'
   $ looks
-  7 tape: no cartridge
+  8 tape: no cartridge
   $ file 2760640 'QIC80IMH\1\0\3\0'
   $ looks
-  7 tape: no cartridge
+  8 tape: no cartridge
   $ file 2760640 'qIC80IMG\1\0\3\0'
   $ looks
-  7 tape: no cartridge
+  8 tape: no cartridge
   $ file 2760640 'QIC80IMG\2\0\3\0'
   $ looks
-  7 tape: no cartridge
+  8 tape: no cartridge
   $ file 2760640 'QIC80IMG\1\1\3\0'
   $ looks
-  7 tape: no cartridge
+  8 tape: no cartridge
   $ file 2760640 'QIC80IMG\1\0\3\1'
   $ looks
-  7 tape: no cartridge
+  8 tape: no cartridge
+
+So do an image with the mark that is too short for its base, and one with another base.
+
+  $ file 24 'QIC80IMG\2\0\3\0\0\0\x5A\0\x40'
+  $ looks
+  8 tape: no cartridge
+  $ file 2760639 'QIC80IMG\2\0\3\0\0\0\x5A\0\x40'
+  $ looks
+  8 tape: no cartridge
+  $ file 5521215 'QIC80IMG\2\0\3\0\0\0\x5A\0\xC0\x1F\x2A'
+  $ looks
+  8 tape: no cartridge
+  $ file 5521216 'QIC80IMG\1\0\3\0\0\0\x5A'
+  $ looks
+  8 tape: no cartridge
+  $ file 5521216 'QIC80IMG\2\0\3\0\0\0\x5A\0\x3F'
+  $ looks
+  8 tape: no cartridge
+  $ file 5521216 'QIC80IMG\2\0\3\0\0\0\x5A\0\x41'
+  $ looks
+  8 tape: no cartridge
+  $ file 5521216 'QIC80IMG\2\0\3\0\0\0\x5A\0\xC0\x1F\x2A\0\0\0\0\1'
+  $ looks
+  8 tape: no cartridge
+  $ file 2760640 'QIC80IMG\2\0\3\0\0\0\x5B\0\x40'
+  $ looks
+  8 tape: no cartridge
 
 An image of two segments per track would have 1,840,448 bytes, and is none.
 
   $ file 1840448 'QIC80IMG\1\0\2\0'
   $ looks
-  7 tape: no cartridge
+  8 tape: no cartridge
+  $ file 1840448 'QIC80IMG\2\0\2\0\0\0\x5A\0\x40'
+  $ looks
+  8 tape: no cartridge
 
 Nor is a letter an image. It is left as it was, by `pulses` too, which sends its trains to an empty drive, and by words
 that are no command.
@@ -97,24 +155,26 @@ that are no command.
 What a new image holds
 ----------------------
 
-It is its head, and zero bytes behind that; so is the one that is put in over a cartridge with a defect.
+It is its head, of version 2 with the base 64, and zero bytes behind that; so is the one that is put in over a cartridge with a
+defect.
 
   $ rm cart.img
   $ tape cart.img new 3
   blank 3
-  $ look_at 0 16
-   51 49 43 38 30 49 4d 47 01 00 03 00 00 00 00 00
-  $ tail -c +17 cart.img | tr -d '\0' | wc -c
+  $ look_at 0 32
+   51 49 43 38 30 49 4d 47 02 00 03 00 00 00 5a 00
+   40 00 00 00 00 00 00 00 00 00 00 00 00 00 00 00
+  $ tail -c +33 cart.img | tr -d '\0' | wc -c
   0
   $ cp cart.img new.img
 
-A defect is one byte of its plane. Sector 0 of segment 4 has the number 32 * 4 = 128; its byte is 64 + 2 * 2,688 + 128 =
-5,568, which becomes 0xBD. `cmp` counts from 1, and in octal.
+A defect is one byte. Sector 0 of segment 4 has the number 32 * 4 = 128; its third byte of state stands at 64 + 1,027 * 128 + 2
+= 131,522, and becomes 0xBD. `cmp` counts from 1, and in octal.
 
   $ tape cart.img defect 4 0
   defect 4 0
   $ cmp -l new.img cart.img | tr -s ' '
-   5569 0 275
+   131523 0 275
   $ tape cart.img new 3
   blank 3
   $ cmp new.img cart.img

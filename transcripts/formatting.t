@@ -83,12 +83,12 @@ of them with a defect is named, and the cartridge is unformatted then.
   formatted 84 2
 
 A cartridge that was in use and fails so is unformatted, too. Here the defect is put into the image by hand, since the
-command refuses a sector that is formatted: sector 1 of segment 2 has the number 65, and its byte in the plane of
-defects is 64 + 2 * 2,688 + 65 = 5,505.
+command refuses a sector that is formatted: sector 1 of segment 2 has the number 65, and its defect byte stands at
+64 + 1,027 * 65 + 2 = 66,821.
 
   $ tape cart.img list
   volumes 0
-  $ alter 5505 '\xBD'
+  $ alter 66821 '\xBD'
   $ tape cart.img format M
   tape: defect in segment 2
   [13]
@@ -212,32 +212,32 @@ its sector 5; bits 0 and 31 of those of segment 83, the last, are those of its t
 All other bytes of the 29 data sectors are zero. These are the bytes of sectors 0 and 2 that are not, and of the 26 others
 none is: 20 of the first 30 bytes, 44 and 4 behind them, and 3 of the map.
 
-  $ data() { tail -c +$((8129 + 1024 * (32 * $1 + $2))) cart.img | head -c $((1024 * $3)); }
-  $ data 0 0 1 | tr -d '\0' | wc -c
+  $ others() { sectors "$@" | tr ' ' '\n' | grep . | grep -v 00 | wc -l; }
+  $ others 0 0 1
   68
-  $ data 0 2 1 | tr -d '\0' | wc -c
+  $ others 0 2 1
   3
-  $ data 0 1 1 | tr -d '\0' | wc -c
+  $ others 0 1 1
   0
-  $ data 0 3 26 | tr -d '\0' | wc -c
+  $ others 0 3 26
   0
 
 The copy in segment 1 is the same, its three sectors of parity too, and all sectors from segment 2 on are zero bytes.
 
-  $ data 0 0 32 > first
-  $ data 1 0 32 > second
+  $ sectors 0 0 32 > first
+  $ sectors 1 0 32 > second
   $ cmp first second
-  $ data 2 0 2624 | tr -d '\0' | wc -c
+  $ others 2 0 2624
   0
 
 Each of the 2,688 sectors was formatted, and its gate is open; three are defects.
 
-  $ plane() { look_at $((64 + 2688 * $1)) 2688 | tr ' ' '\n' | grep . | sort | uniq -c | sed 's/^ *//'; }
-  $ plane 0
+  $ all() { states $1 0 2688 | tr ' ' '\n' | grep . | sort | uniq -c | sed 's/^ *//'; }
+  $ all gate
   2688 5a
-  $ plane 1
+  $ all formed
   2688 f0
-  $ plane 2
+  $ all defect
   2685 00
   3 bd
 

@@ -156,16 +156,16 @@ Data that do not begin with the four bytes of the signature are no header: then 
 Zero bytes are a code block, as a stopped formatting leaves it, but no header. Nor are others.
 
   $ cp whole.img cart.img
-  $ head -c 29696 /dev/zero | dd of=cart.img bs=64 seek=127 conv=notrunc status=none
+  $ fill 0 00
   $ tape cart.img info | sed -n 1p
   label B
-  $ head -c 29696 /dev/zero | tr '\0' '\377' | dd of=cart.img bs=64 seek=127 conv=notrunc status=none
+  $ fill 0 FF
   $ tape cart.img info | sed -n 1p
   label B
 
 With both copies so there is no header, which `format` mends.
 
-  $ head -c 29696 /dev/zero | tr '\0' '\377' | dd of=cart.img bs=64 seek=639 conv=notrunc status=none
+  $ fill 1 FF
   $ for command in info list 'restore 1' scrub; do tape cart.img $command; done
   tape: the cartridge is not formatted
   tape: the cartridge is not formatted

@@ -14,18 +14,18 @@ three of its sectors can be found again from the others.
   $ tape cart.img lose 40 0
   lost 40 0
 
-That is one byte of the image: the gate of sector 32 * 40 + 0 = 1,280, which stands at 64 + 1,280 = 1,344. `cmp` counts
-from 1, and shows its bytes in octal: 0x5A became 0xC1.
+That is one byte of the image: the gate of sector 32 * 40 + 0 = 1,280, which stands at 64 + 1,027 * 1,280 = 1,314,624. `cmp`
+counts from 1, and shows its bytes in octal: 0x5A became 0xC1.
 
   $ cmp -l whole.img cart.img | tr -s ' '
-   1345 132 301
+  1314625 132 301
 
 On a sector that can't be read, and on one that was never formatted, the command changes nothing.
 
   $ tape cart.img lose 40 0
   lost 40 0
   $ cmp -l whole.img cart.img | tr -s ' '
-   1345 132 301
+  1314625 132 301
   $ cp cart.img before.img
   $ tape new.img new 3
   blank 3
@@ -68,7 +68,7 @@ So it is with each three. The table has a volume here, which is written by hand:
 On a protected cartridge the table is found again, too, and nothing is written. Its gates tell what was lost: 0, 17 and
 30. When the mark is cleared, the next look settles the table.
 
-  $ gates() { look_at 128 32; }
+  $ gates() { states gate 2 32; }
   $ each lose 2 0 17 30
   3 of 3 done
   $ tape cart.img protect on
@@ -219,13 +219,7 @@ behind it; the volume has no byte, so they differ in these four sectors alone.
   $ tape cart.img append b < /dev/null
   appended 2 0 4 4
   $ cp cart.img both.img
-  $ stopped() {
-  >     cp both.img cart.img
-  >     for sector; do
-  >         place=$((127 + 16 * (32 * 2 + sector)))
-  >         dd if=whole.img of=cart.img bs=64 skip=$place seek=$place count=16 conv=notrunc status=none
-  >     done
-  > }
+  $ stopped() { cp both.img cart.img; take whole.img 2 "$@"; }
   $ stopped 0 29 30 31
   $ cmp whole.img cart.img
 
@@ -323,7 +317,7 @@ sectors are lost. To tell them apart, the second one is that of an older formatt
   $ cp cart.img older.img
   $ tape cart.img format A
   formatted 84 0
-  $ dd if=older.img of=cart.img bs=64 skip=639 seek=639 count=512 conv=notrunc status=none
+  $ take older.img 1 $(seq 0 31)
   $ cp cart.img whole.img
   $ label() { tape cart.img info | sed -n 1p; }
   $ lost() { cp whole.img cart.img; each lose 0 $1 > done; each lose 1 $2 > done; label; }
@@ -349,7 +343,7 @@ A look writes nothing in a header: what is lost stays lost.
 
   $ lost '0 7 31' ''
   label A
-  $ look_at 64 32
+  $ states gate 0 32
    c1 5a 5a 5a 5a 5a 5a c1 5a 5a 5a 5a 5a 5a 5a 5a
    5a 5a 5a 5a 5a 5a 5a 5a 5a 5a 5a 5a 5a 5a 5a c1
 

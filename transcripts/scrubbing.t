@@ -73,10 +73,10 @@ So is a header copy, as long as the other one is there.
 
 A sector that has become a defect since the formatting stays unreadable, whatever is written to it, and is counted each
 time. Here it is made one by hand: sector 5 of segment 3 has the number 32 * 3 + 5 = 101, and its defect byte stands at
-64 + 2 * 2,688 + 101 = 5,541.
+64 + 1,027 * 101 + 2 = 103,793.
 
   $ cp whole.img cart.img
-  $ alter 5541 '\xBD'
+  $ alter 103793 '\xBD'
   $ tape cart.img scrub
   scrub 7 1 0
   $ tape cart.img scrub

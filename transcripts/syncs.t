@@ -230,3 +230,45 @@ nothing to put on the disk then; another failure is one here, too.
   $ faulty 'openat:error=EROFS:when=1 fsync:error=EINVAL' cart.img new 3
   tape: the tape failed
   [18]
+
+An upgrade
+----------
+
+An image of version 1 is copied within its file. Whichever call a run is killed at, the image is then of one of the two
+versions, with the same cartridge; the next `upgrade` begins again, or finds it done.
+
+  $ . "$TESTDIR/image.sh"
+  $ old_image
+  $ tape cart.img format L
+  formatted 84 0
+  $ printf 'ten bytes.' | tape cart.img append a
+  appended 1 10 3 3
+  $ cp cart.img old.img
+  $ tape cart.img upgrade
+  upgraded from 1
+  $ cp cart.img new.img
+  $ for call in ftruncate fsync:when=2 pwrite64 pwrite64:when=2 pwrite64:when=2000 fdatasync fdatasync:when=2; do
+  >     cp old.img cart.img
+  >     killed $call cart.img upgrade
+  >     tape cart.img list
+  >     tape cart.img upgrade > ../said
+  >     tape cart.img list
+  >     cmp cart.img new.img
+  > done | sort | uniq -c | sed 's/^ *//'
+  14 1 3 3 10 1970-01-01T00:00:00 a
+  14 volumes 1
+
+So it is where a call fails.
+
+  $ for fault in ftruncate:error=ENOSPC fsync:error=EIO:when=2 pwrite64:error=EIO pwrite64:error=ENOSPC:when=2 \
+  >     fdatasync:error=EIO fdatasync:error=EIO:when=2; do
+  >     cp old.img cart.img
+  >     faulty $fault cart.img upgrade
+  >     tape cart.img list
+  >     tape cart.img upgrade > ../said
+  >     tape cart.img list
+  >     cmp cart.img new.img
+  > done 2>&1 | sort | uniq -c | sed 's/^ *//'
+  12 1 3 3 10 1970-01-01T00:00:00 a
+  6 tape: the tape failed
+  12 volumes 1

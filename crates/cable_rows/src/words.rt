@@ -75,9 +75,10 @@ fn make(seed: u32, count: u32) -> Words {
 
 #[test]
 fn words_have_their_values(rt: HostRuntime) -> Result<(), Fail> {
-    let table: [(&[&str], Words); 14] = [
+    let table: [(&[&str], Words); 15] = [
         (&["scrub"], Words::Scrub),
         (&["script"], Words::Script),
+        (&["upgrade"], Words::Upgrade),
         (&["restore", "0"], restore(0)),
         (&["restore", "1"], restore(1)),
         (&["restore", "999999999"], restore(999_999_999)),
@@ -97,9 +98,12 @@ fn words_have_their_values(rt: HostRuntime) -> Result<(), Fail> {
 
 #[test]
 fn other_words_are_no_command(rt: HostRuntime) -> Result<(), Fail> {
-    let table: [&[&str]; 26] = [
+    let table: [&[&str]; 29] = [
         &["scrub", "1"],
         &["script", "end"],
+        &["upgrade", "2"],
+        &["upgraded"],
+        &["Upgrade"],
         &["restore"],
         &["restore", ""],
         &["restore", "01"],

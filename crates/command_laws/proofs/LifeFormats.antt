@@ -71,7 +71,7 @@ without_bare begun (Some d) whole bare =
 
 -- ---- a new cartridge
 
-pub new_sound : (segments : ℕ) (begun : Bool) (left : Option Cartridge) → IfSome left IsCartridge → left ≡ Some (new_cartridge segments) → IsSound begun left None
+new_sound : (segments : ℕ) (begun : Bool) (left : Option Cartridge) → IfSome left IsCartridge → left ≡ Some (new_cartridge segments) → IsSound begun left None
 new_sound segments begun left whole is =
     without_bare begun left whole (subst (λ (o : Option Cartridge). IsSomeAnd o HasNoHeader) (sym is) (new_has_no_header segments))
 

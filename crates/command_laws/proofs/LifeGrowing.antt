@@ -1,25 +1,28 @@
 -- Which runs are runs of a life, how a life begins, and that it keeps its volumes and gives them back.
-use Rattle.std.proofs.Common.{arith, min, slice_get, ◌≡◌, ◌++◌, ◌+◌, ◌∙◌, ℕ, suc, append-nil, append_assoc, ap, sym, subst, refl, inl, inr, Bool, true, false, List, [], ◌∷◌, Option, Some, None, IfSome, length, take}
-use Rattle.std.proofs.lemmas.List.{length-append}
-use Rattle.std.proofs.lemmas.Option.{slice_get-get_or}
+use Rattle.std.proofs.Common.{IsSomeAnd, ◌-◌, ◌<◌, arith, min, slice_get, ◌≡◌, ◌++◌, ◌+◌, ◌==◌, ◌∙◌, ℕ, zero, suc, append-nil, append_assoc, ap, sym, subst, refl, inl, inr, Bool, true, false, cond, List, [], ◌∷◌, Option, Some, None, IfSome, length, take}
+use Rattle.std.proofs.lemmas.List.{get_or_append_left, length-append}
+use Rattle.std.proofs.lemmas.Option.{slice_get-get_or, slice_get_within}
 use Rattle.std.proofs.Math.Seq.{get_or-append_seam}
 use Rattle.cartridge_laws.proofs.AppendBytes.{done_bytes}
 use Rattle.cartridge_laws.specs.AppendSettled.{MayAppendTo}
 use Rattle.cartridge_spec.specs.Appending.{Content, appended_volume, volume_bytes, with_all, with_bytes}
+use Rattle.cartridge_spec.specs.Formatting.{fresh_plain}
 use Rattle.cartridge_spec.specs.Volumes.{Plain, Stands, Volume, entries_of}
 use Rattle.command_laws.proofs.CommandAppends.{course, done_fits, fits, kept_of}
 use Rattle.command_laws.proofs.RestoreGivenBack.{given, given_whole}
 use Rattle.command_laws.proofs.CommandTable.{has_values}
-use Rattle.command_laws.proofs.LifeFormats.{format_makes, new_sound, renewed}
+use Rattle.command_laws.proofs.CommandVolumes.{formatted_fresh}
+use Rattle.command_laws.proofs.LifeFormats.{renewed}
 use Rattle.command_laws.proofs.LifeLaws.{event_makes}
-use Rattle.command_laws.specs.Life.{Answered, Becomes, Ended, Event, Happens, HasRun, IsEmptied, IsSound, Loses, Runs, Stopped, begun_behind}
-use Rattle.command_laws.specs.LifeLaws.{AnsweredRuns, AreKeeping, BackupsAreGivenBack, FormattedIsSound, GivesBytes, HasGrown, IsKeeping, StoppedRuns, VolumesAreKept, run_of}
+use Rattle.command_laws.specs.Life.{Answered, Becomes, Ended, Event, Happens, IsEmptied, IsSound, Lives, Loses, Runs, Stopped, begun_behind}
+use Rattle.command_laws.specs.LifeLaws.{AnsweredRuns, AreKeeping, BackupsAreGivenBack, FormatBegins, GivesBytes, HasGrown, IsKeeping, NewAndFormatBegin, StoppedRuns, VolumesAreGivenBack, VolumesAreKept, run_of}
 use Rattle.command_spec.specs.Append.{room_in}
 use Rattle.command_spec.specs.Machine.{Yields}
 use Rattle.command_spec.specs.MadeVolumes.{made_contents}
 use Rattle.command_spec.specs.Outcome.{CommandOutcome}
 use Rattle.command_spec.specs.ScriptLists.{all_added}
 use Rattle.command_spec.specs.RestoreCommand.{HasNumber}
+use Rattle.command_spec.specs.Volumes.{StandsFresh}
 use Rattle.command_spec.specs.declared.words.Words.{Words}
 use Rattle.qic_base.specs.Acts.{steps_of}
 use Rattle.qic_base.specs.Cartridge.{Cartridge, IsCartridge, new_cartridge}
@@ -35,42 +38,36 @@ answered_runs ws input output taken answer held left (inr (command, spelled, (ou
     inr (command, spelled, record { values = has_values ws command spelled; outcome = outcome; plain = plain; leaves = (sym is_answer, sym is_output, is_left) })
 
 pub stopped_runs : StoppedRuns
-stopped_runs ws input held left (inl same) = inl same
-stopped_runs ws input held left (inr (command, spelled, l)) = inr (
-  command,
-  spelled,
-  record {
-    values = has_values ws command spelled;
-    outcome = l.outcome;
-    plain = subst (λ (i : List ℕ). Yields command held i l.outcome) l.is_told l.plain;
-    leaves = l.torn;
-  },
-)
+stopped_runs ws told held left (inl same) = inl same
+stopped_runs ws told held left (inr (command, spelled, l)) =
+    inr (l.input, l.is_told, (command, spelled, record { values = has_values ws command spelled; outcome = l.outcome; plain = l.plain; leaves = l.torn }))
 
 -- ---- the beginning of a life
 
--- formatting was carried out
-emptied : (label : List ℕ) (date : ℕ) (c : Cartridge) (input printed : List ℕ) (after : Option Plain) →
-    Becomes (words.Format label date) (Some c) input (Answered status.Done printed) None after → IsEmptied c label date after
-emptied label date c input printed after (inl done) = done.1
-emptied label date c input printed after (inr (inl ((segment, is), none))) = absurd (cc)
-emptied label date c input printed after (inr (inr (is, same))) = absurd (cc)
+-- what stands fresh is sound
+fresh_begins : (label : List ℕ) (date : ℕ) (c : Cartridge) (left : Option Cartridge) → IfSome left IsCartridge → IsSomeAnd left (StandsFresh c label date) →
+    (after : Option Plain) × IsEmptied c label date after × IsSound false left after
+fresh_begins label date c None whole fresh = absurd fresh
+fresh_begins label date c (Some d) whole fresh = (
+  Some (fresh_plain c label date fresh.words fresh.area),
+  record { words = fresh.words; area = fresh.area; fresh = fresh.fresh; is = refl },
+  record { whole = whole; stands = fresh.stands.stands; live = fresh.live; clean = λ is. record { first = fresh.stands.first; second = fresh.stands.second } },
+)
 
-pub formatted_is_sound : FormattedIsSound
-formatted_is_sound segments label date answer input other printed text begun held left life =
-    let c : Cartridge = new_cartridge segments in
+pub format_begins : FormatBegins
+format_begins label date input text begun c left whole life =
+    let did = life.1.0 in
+    fresh_begins label date c left (subst (λ (o : Option Cartridge). IfSome o IsCartridge) (sym life.2) life.1.1.whole)
+    (subst (λ (o : Option Cartridge). IsSomeAnd o (StandsFresh c label date)) (sym did.leaves.2 ∙ sym life.2)
+    (formatted_fresh label date c did.outcome whole did.plain did.leaves.0))
+
+pub new_and_format_begin : NewAndFormatBegin
+new_and_format_begin segments label date answer input other printed text begun held left life =
     let first = life.1.0 in
     let is_new : life.0 ≡ Some (new_cartridge segments) =
     first.leaves.2 ∙ ap (λ (o : CommandOutcome). effects (steps_of o.acts) held) first.plain ∙ renewed segments held in
-    let whole : IsCartridge (new_cartridge segments) = subst (λ (o : Option Cartridge). IfSome o IsCartridge) is_new life.1.1.whole in
-    let last = life.2 in
-    let ran : HasRun (run_of (words.Format label date) other (Answered status.Done text)) (Some (new_cartridge segments)) last.0 =
-    subst (λ (o : Option Cartridge). HasRun (run_of (words.Format label date) other (Answered status.Done text)) o last.0) is_new last.1.0 in
-    let made = format_makes label date other (Answered status.Done text) false c last.0 None ran.outcome (new_sound segments false (Some c) whole refl) tt ran.plain ran.leaves last.1.1.whole in (
-      made.0,
-      emptied label date c other text made.0 made.1,
-      subst (λ (o : Option Cartridge). IsSound false o made.0) (sym last.2) made.2,
-    )
+    format_begins label date other text false (new_cartridge segments) left (subst (λ (o : Option Cartridge). IfSome o IsCartridge) is_new life.1.1.whole)
+    (subst (λ (o : Option Cartridge). Lives (Runs (run_of (words.Format label date) other (Answered status.Done text)) ∷ []) false o left) is_new life.2)
 
 -- ---- volumes in a life
 
@@ -149,13 +146,39 @@ volumes_are_kept (event ∷ events) begun held left plain keeping sound life =
     let rest = volumes_are_kept events (begun_behind event begun) life.0 left next.later (rest_keeping event events keeping) next.sound life.2 in
     (rest.0, grown_both plain next.later rest.0 next.grown rest.1, rest.2)
 
--- ---- a backup, given back
+-- ---- volumes, given back
 
 -- the volume behind some is the one of their number
 behind_get : (front rest : List Volume) (volume : Volume) → slice_get (front ++ volume ∷ rest) (length front) ≡ Some volume
 behind_get front rest volume =
     let long : length (front ++ volume ∷ rest) ≡ length front + length (volume ∷ rest) = length-append front (volume ∷ rest) in
     slice_get-get_or (front ++ volume ∷ rest) (length front) volume (omega arith) ∙ ap Some (get_or-append_seam front volume rest volume)
+
+-- a volume has the same number, also with more of them behind
+front_get : (front rest : List Volume) (place : ℕ) (volume : Volume) → slice_get front place ≡ Some volume → slice_get (front ++ rest) place ≡ Some volume
+front_get front rest place volume at =
+    let within : place < length front = slice_get_within front place volume at in
+    let long : length (front ++ rest) ≡ length front + length rest = length-append front rest in
+    slice_get-get_or (front ++ rest) place volume (omega arith)
+    ∙ ap Some (get_or_append_left front rest volume place within)
+    ∙ sym (slice_get-get_or front place volume within)
+    ∙ at
+
+gives_bytes : (c : Cartridge) (plain later : Plain) (place : ℕ) (volume : Volume) → Stands c later → HasGrown plain later → slice_get plain.volumes place ≡ Some volume →
+    GivesBytes c later (suc place) volume (volume_bytes plain.words volume)
+gives_bytes c plain later place volume stood grown at input outcome reads few yields =
+    let there : slice_get later.volumes place ≡ Some volume =
+    ap (λ (vs : List Volume). slice_get vs place) grown.volumes ∙ front_get plain.volumes grown.more place volume at in
+    let has : HasNumber c later (suc place) volume = record { stands = stood; reads = reads; place = place; numbered = refl; is = there } in
+    let whole = given_whole (suc place) c later volume outcome has (given (suc place) c later volume outcome has yields) few in
+    (whole.0, whole.1 ∙ ap (λ (ws : List ℕ). volume_bytes ws volume) grown.words)
+
+pub volumes_are_given_back : VolumesAreGivenBack
+volumes_are_given_back events begun held c plain place volume keeping sound at life =
+    let kept = volumes_are_kept events begun held (Some c) plain keeping sound life in
+    (kept.0, kept.1, kept.2, gives_bytes c plain kept.0 place volume kept.2.stands kept.1 at)
+
+-- ---- a backup, given back
 
 -- an append that was carried out had room
 had_room : (name : List ℕ) (date : ℕ) (bytes : List ℕ) (b : Cartridge) (plain : Plain) (outcome : CommandOutcome) → Stands b plain →
@@ -168,24 +191,11 @@ had_room name date bytes b plain outcome stood yields done =
           (sym (ap (λ (o : CommandOutcome). o.status) run.is) ∙ done)
     ]
 
--- the bytes of its volume, on the same map, are those that were appended
-its_bytes : (name : List ℕ) (date : ℕ) (bytes : List ℕ) (b : Cartridge) (plain : Plain) (ws : List ℕ) → MayAppendTo b plain name date bytes → ws ≡ plain.words →
-    volume_bytes ws (appended_volume plain name date bytes) ≡ bytes
-its_bytes name date bytes b plain ws may same =
-    ap (λ (w : List ℕ). volume_bytes w (appended_volume plain name date bytes)) same
-    ∙ (done_bytes b plain name date bytes may).1
-
-gives_bytes : (c : Cartridge) (plain later : Plain) (name : List ℕ) (date : ℕ) (bytes : List ℕ) → Stands c later → HasGrown (with_bytes plain name date bytes) later →
-    volume_bytes later.words (appended_volume plain name date bytes) ≡ bytes → GivesBytes c later (suc (length plain.volumes)) (appended_volume plain name date bytes) bytes
-gives_bytes c plain later name date bytes stood grown are input outcome reads few yields =
-    let volume : Volume = appended_volume plain name date bytes in
-    let at : slice_get later.volumes (length plain.volumes) ≡ Some volume =
-    ap (λ (vs : List Volume). slice_get vs (length plain.volumes)) (grown.volumes ∙ append_assoc plain.volumes (volume ∷ []) grown.more)
-    ∙ behind_get plain.volumes grown.more volume in
-    let has : HasNumber c later (suc (length plain.volumes)) volume =
-    record { stands = stood; reads = reads; place = length plain.volumes; numbered = refl; is = at } in
-    let whole = given_whole (suc (length plain.volumes)) c later volume outcome has (given (suc (length plain.volumes)) c later volume outcome has yields) few in
-    (whole.0, whole.1 ∙ are)
+-- the bytes of its volume are those that were appended
+its_bytes : (name : List ℕ) (date : ℕ) (bytes : List ℕ) (b : Cartridge) (plain : Plain) → MayAppendTo b plain name date bytes →
+    volume_bytes plain.words (appended_volume plain name date bytes) ≡ bytes
+its_bytes name date bytes b plain may =
+    (done_bytes b plain name date bytes may).1
 
 done_sound : (name : List ℕ) (date : ℕ) (bytes printed : List ℕ) (begun : Bool) (b : Cartridge) (plain : Plain) (next : Option Cartridge) → IsSound begun (Some b) (Some plain) →
     Happens (Runs (run_of (words.Append name date) bytes (Answered status.Done printed))) begun (Some b) next → IsSound begun next (Some (with_bytes plain name date bytes))
@@ -209,11 +219,14 @@ backups_are_given_back name date bytes printed events begun (Some b) c plain kee
       word = did.values.1;
       content = within.bytes;
     } in
-    let next : Plain = with_bytes plain name date bytes in
-    let kept = volumes_are_kept events begun life.0 (Some c) next keeping (done_sound name date bytes printed begun b plain life.0 sound life.1) life.2 in (
+    let volume : Volume = appended_volume plain name date bytes in
+    let kept =
+    volumes_are_given_back events begun life.0 c (with_bytes plain name date bytes) (length plain.volumes) volume keeping
+    (done_sound name date bytes printed begun b plain life.0 sound life.1) (behind_get plain.volumes [] volume) life.2 in (
       kept.0,
       kept.1,
       kept.2,
-      gives_bytes c plain kept.0 name date bytes kept.2.stands kept.1
-          (its_bytes name date bytes b plain kept.0.words may kept.1.words),
+      λ input outcome reads few yields.
+          let gives = kept.3 input outcome reads few yields in
+          (gives.0, gives.1 ∙ its_bytes name date bytes b plain may),
     )

@@ -26,7 +26,9 @@ use Rattle.command_laws.proofs.ScrubApart.{contains_cases}
 use Rattle.command_laws.proofs.ScrubSeen.{SameIn, IsFoundWrong}
 use Rattle.command_laws.proofs.ScrubStanding.{cell_at}
 use Rattle.command_spec.specs.Scrub.{Looked, cells_at, looked_at, looked_segments, looked_volumes, whole_segment}
-use Rattle.command_spec.specs.ScrubForms.{Depth, Shallow, Deep, IsSearched, IsWrong}
+use Rattle.command_spec.specs.ScrubForms.{IsSearched, IsWrong}
+use Rattle.command_spec.specs.declared.depth.Depth.{Depth}
+use Rattle.command_spec.specs.declared.depth.Depth.TheVariants.{Shallow, Deep}
 use Rattle.gf256_qic.proofs.Parities.{block_count, length-parity_sectors}
 use Rattle.qic_base.specs.Cartridge.{Cartridge, IsSector, view_at, zero_sector}
 use Rattle.qic_base.specs.declared.tape.SectorView.{SectorView}

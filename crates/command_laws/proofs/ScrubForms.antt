@@ -18,14 +18,16 @@ use Rattle.command_laws.proofs.ScrubApart.{looked_rise}
 use Rattle.command_laws.proofs.ScrubAtOnce.{IsPlaced, at_once_placed}
 use Rattle.command_laws.proofs.ScrubDone.{scrubbed_at_once}
 use Rattle.command_laws.proofs.ScrubMending.{stopped_at_once, writes_more}
-use Rattle.command_laws.proofs.ScrubSeen.{found_at_once, IsSeen, is_seen, said_at_once, IsLostNow, finds_says}
+use Rattle.command_laws.proofs.ScrubSeen.{wrong_small, found_at_once, IsSeen, is_seen, said_at_once, IsLostNow, finds_says}
 use Rattle.command_laws.proofs.ScrubTurns.{steps_whole}
-use Rattle.command_laws.specs.DeepScrubLaws.{ShallowIsScrub, FindsAtOnce, DoneInForm, StoppedInForm, DoneFormIsCartridge, StoppedFormIsCartridge}
+use Rattle.command_laws.specs.DeepScrubLaws.{ShallowIsScrub, FoundMayBe, FindsAtOnce, DoneInForm, StoppedInForm, DoneFormIsCartridge, StoppedFormIsCartridge}
 use Rattle.command_laws.specs.ScrubFound.{FindAtOnce, without_all, IsBeingScrubbed}
 use Rattle.command_laws.specs.ScrubMended.{IsMended, IsBeingMended, IsScrubbed}
 use Rattle.command_laws.specs.ScrubSayings.{Rise, SayAtOnce, acts_at_once}
-use Rattle.command_spec.specs.Scrub.{Looked, looked_at, SayInTurn, looking_acts, scrub_acts, steps_in, look_act, unread_count, last_act}
-use Rattle.command_spec.specs.ScrubForms.{Depth, Shallow, Finding, FindInTurn, HasFound, ScrubsAs, finding_acts, acts_for, counts_for, sayings_of, steps_for, without}
+use Rattle.command_spec.specs.Scrub.{reads, Looked, looked_at, SayInTurn, looking_acts, scrub_acts, steps_in, look_act, unread_count, last_act}
+use Rattle.command_spec.specs.ScrubForms.{MayFind, Finding, FindInTurn, HasFound, ScrubsAs, finding_acts, acts_for, counts_for, sayings_of, steps_for, without}
+use Rattle.command_spec.specs.declared.depth.Depth.{Depth}
+use Rattle.command_spec.specs.declared.depth.Depth.TheVariants.{Shallow}
 use Rattle.qic_base.proofs.Joins.{steps_of-append}
 use Rattle.qic_base.proofs.Steps.{Torn-all}
 use Rattle.qic_base.specs.Acts.{Act, steps_of}
@@ -97,6 +99,19 @@ shallow_is_scrub c words entries acts = (
             ∙ sym (acts_so c (looked_at words entries) (plainly scrubs.sayings) found);
       },
 )
+
+-- ---- whatever the tape holds
+
+may_find : (depth : Depth) (c : Cartridge) (l : Looked) (s : Saying) (w : Option ℕ) → HasFound depth c l s w → MayFind depth l s w
+may_find depth c l s None found = tt
+may_find depth c l s (Some sector) found = (found.0, ap (reads l) found.2 ∙ found.3.can_be_read, wrong_small found.3)
+
+pub found_may_be : FoundMayBe
+found_may_be depth c [] [] found = tt
+found_may_be depth c [] (f ∷ fs) found = absurd found
+found_may_be depth c (l ∷ ls) [] found = absurd found
+found_may_be depth c (l ∷ ls) (f ∷ fs) found =
+    (may_find depth c l f.saying f.wrong found.0, found_may_be depth (changed_by (steps_for c l f) c) ls fs found.1)
 
 -- ---- at once
 

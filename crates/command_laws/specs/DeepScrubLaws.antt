@@ -12,8 +12,10 @@ use Rattle.command_laws.specs.ScrubFound.{FindAtOnce, finds_at_once, without_all
 use Rattle.command_laws.specs.ScrubLaws.{AreAllLive}
 use Rattle.command_laws.specs.ScrubMended.{IsScrubbed}
 use Rattle.command_laws.specs.SilentSectors.{DiffersSilently}
-use Rattle.command_spec.specs.Scrub.{Scrubs, looked_at}
-use Rattle.command_spec.specs.ScrubForms.{Depth, Shallow, Deep, ScrubsAs, finding_acts}
+use Rattle.command_spec.specs.Scrub.{Scrubs, Looked, looked_at}
+use Rattle.command_spec.specs.ScrubForms.{Finding, FindInTurn, MayBeFound, ScrubsAs, finding_acts}
+use Rattle.command_spec.specs.declared.depth.Depth.{Depth}
+use Rattle.command_spec.specs.declared.depth.Depth.TheVariants.{Shallow, Deep}
 use Rattle.qic_base.specs.Acts.{Act, steps_of}
 use Rattle.qic_base.specs.Cartridge.{Cartridge, IsCartridge}
 use Rattle.qic_base.specs.Stop.{Torn}
@@ -25,6 +27,12 @@ abbrev pub ShallowIsScrub : Type 0
 ShallowIsScrub =
     (c : Cartridge) (words : List ℕ) (entries : List Entry) (acts : List Act) →
     ScrubsAs Shallow c words entries acts ↔ Scrubs c words entries acts
+
+-- what is found is what may be found
+abbrev pub FoundMayBe : Type 0
+FoundMayBe =
+    (depth : Depth) (c : Cartridge) (looked : List Looked) (findings : List Finding) → FindInTurn depth c looked findings →
+    MayBeFound depth looked findings
 
 -- scrubbing a cartridge in a form is one list of acts: at most one sector of a segment is wrong
 abbrev pub FormIsFunction : Type 0

@@ -1,6 +1,6 @@
 -- What follows of lives, and which runs are runs of a life (this project's own).
-use Rattle.std.specs.Prelude.{◌≡◌, ◌⊎◌, ◌++◌, ℕ, suc, All, Bool, false, List, [], ◌∷◌, Option, Some, None, length}
-use Rattle.cartridge_spec.specs.Appending.{appended_volume, with_bytes}
+use Rattle.std.specs.Prelude.{◌≡◌, ◌⊎◌, ◌++◌, ℕ, suc, All, Bool, false, IfSome, List, [], ◌∷◌, Option, Some, None, length, slice_get}
+use Rattle.cartridge_spec.specs.Appending.{appended_volume, volume_bytes, with_bytes}
 use Rattle.cartridge_spec.specs.Mounting.{CanBeRead}
 use Rattle.cartridge_spec.specs.Volumes.{Plain, Volume}
 use Rattle.command_laws.specs.Life.{Answered, Ended, Event, HasRun, IsEmptied, IsSound, Lives, Loses, Run, Runs, Stopped, begun_behind_all}
@@ -10,7 +10,7 @@ use Rattle.command_spec.specs.Outcome.{CommandOutcome, output_of}
 use Rattle.command_spec.specs.Restore.{LosesFew, pieces_in}
 use Rattle.command_spec.specs.declared.status.Status.{Status}
 use Rattle.command_spec.specs.declared.words.Words.{Words}
-use Rattle.qic_base.specs.Cartridge.{Cartridge, new_cartridge}
+use Rattle.qic_base.specs.Cartridge.{Cartridge, IsCartridge, new_cartridge}
 use Rattle.command_spec.specs.declared.status.Status.TheVariants as status
 use Rattle.command_spec.specs.declared.words.Words.TheVariants as commands
 
@@ -30,17 +30,24 @@ AnsweredRuns =
     Step words held input left output taken answer →
     (SpellsNone words × (left ≡ held)) ⊎ WordsRan words input (Answered answer output) held left
 
--- what a stop in words leaves, a stopped run leaves, or it came before
+-- what a stop in words leaves, a stopped run leaves, over the input that is told or some input where none is; or it came before
 abbrev pub StoppedRuns : Type 0
 StoppedRuns =
-    (words : List (List ℕ)) (input : List ℕ) (held left : Option Cartridge) → WordsLeave (Some input) words held left →
-    (left ≡ held) ⊎ WordsRan words input (Stopped None) held left
+    (words : List (List ℕ)) (told : Option (List ℕ)) (held left : Option Cartridge) → WordsLeave told words held left →
+    (left ≡ held) ⊎ ((input : List ℕ) × IfSome told (λ bytes. input ≡ bytes) × WordsRan words input (Stopped None) held left)
 
 -- ---- the beginning of a life
 
--- whatever the drive held, behind a new cartridge that was formatted the empty list stands, and the next run may rely on it
-abbrev pub FormattedIsSound : Type 0
-FormattedIsSound =
+-- behind a `format` of any cartridge that was answered Done the empty list stands, and the next run may rely on it
+abbrev pub FormatBegins : Type 0
+FormatBegins =
+    (label : List ℕ) (date : ℕ) (input text : List ℕ) (begun : Bool) (c : Cartridge) (left : Option Cartridge) → IsCartridge c →
+    Lives (Runs (run_of (commands.Format label date) input (Answered status.Done text)) ∷ []) begun (Some c) left →
+    (after : Option Plain) × IsEmptied c label date after × IsSound false left after
+
+-- .. so it is, whatever the drive held, behind a new cartridge that was formatted
+abbrev pub NewAndFormatBegin : Type 0
+NewAndFormatBegin =
     (segments : ℕ) (label : List ℕ) (date : ℕ) (answer : Status) (input other printed text : List ℕ) (begun : Bool) (held left : Option Cartridge) →
     Lives (Runs (run_of (commands.New segments) input (Answered answer printed)) ∷ Runs (run_of (commands.Format label date) other (Answered status.Done text)) ∷ []) begun held left →
     (after : Option Plain) × IsEmptied (new_cartridge segments) label date after × IsSound false left after
@@ -72,7 +79,7 @@ VolumesAreKept =
     Lives events begun held left →
     (later : Plain) × HasGrown plain later × IsSound (begun_behind_all events begun) left (Some later)
 
--- ---- a backup, given back
+-- ---- volumes, given back
 
 -- a restore of the volume of this number prints just these bytes, where the volume table can be read, and no segment that holds some
 -- of them has lost more than three sectors
@@ -81,7 +88,15 @@ GivesBytes c plain number volume bytes =
     (input : List ℕ) (outcome : CommandOutcome) → CanBeRead c → All (LosesFew c plain.words) (pieces_in plain volume) →
     Yields (commands.Restore number) (Some c) input outcome → (outcome.status ≡ status.Done) × (output_of outcome ≡ bytes)
 
--- an append is answered Done, and whatever runs come behind it, and wherever they are stopped, its volume is given back
+-- whatever the runs, each volume is given back as it was, whoever appended it
+abbrev pub VolumesAreGivenBack : Type 0
+VolumesAreGivenBack =
+    (events : List Event) (begun : Bool) (held : Option Cartridge) (c : Cartridge) (plain : Plain) (place : ℕ) (volume : Volume) →
+    AreKeeping events → IsSound begun held (Some plain) → slice_get plain.volumes place ≡ Some volume → Lives events begun held (Some c) →
+    (later : Plain) × HasGrown plain later × IsSound (begun_behind_all events begun) (Some c) (Some later)
+    × GivesBytes c later (suc place) volume (volume_bytes plain.words volume)
+
+-- an append is answered Done, and whatever runs come behind it, and wherever they are stopped, its bytes are given back
 abbrev pub BackupsAreGivenBack : Type 0
 BackupsAreGivenBack =
     (name : List ℕ) (date : ℕ) (bytes printed : List ℕ) (events : List Event) (begun : Bool) (held : Option Cartridge) (c : Cartridge) (plain : Plain) →

@@ -2,13 +2,14 @@
 //! hold wrong bytes. Each law is the contract of a function that does nothing, so that other crates can rest on it; their
 //! proofs import the lemmas of this crate's `proofs`.
 
-ghost use Rattle.command_laws.specs.DeepScrubLaws.{ShallowIsScrub, FormIsFunction, FormAlways, FindsAtOnce, DoneInForm, DoneFormIsCartridge, DoneFormStands, DoneFormIsClean, DoneFormTable, DoneFormIsSettled, SecondFormWritesNothing, SilentSectorsAreMounted, SilentSectorsAreMended, StoppedInForm, StoppedFormIsCartridge, StoppedFormStands, StoppedFormIsClean, StoppedFormTable, StoppedFormIsSettled};
+ghost use Rattle.command_laws.specs.DeepScrubLaws.{ShallowIsScrub, FoundMayBe, FormIsFunction, FormAlways, FindsAtOnce, DoneInForm, DoneFormIsCartridge, DoneFormStands, DoneFormIsClean, DoneFormTable, DoneFormIsSettled, SecondFormWritesNothing, SilentSectorsAreMounted, SilentSectorsAreMended, StoppedInForm, StoppedFormIsCartridge, StoppedFormStands, StoppedFormIsClean, StoppedFormTable, StoppedFormIsSettled};
 
 /// Without a search for wrong sectors it is a scrub. Scrubbing in a form does one thing, and it does something: two code
 /// blocks differ in four sectors (QIC-80-MC), so at most one sector of a segment is found to be wrong. What is found of each segment follows from the cartridge before the
 /// first write.
 pub fn forms_of_scrubbing()
     ensures shallow { ShallowIsScrub }
+    ensures may { FoundMayBe }
     ensures function { FormIsFunction }
     ensures always { FormAlways }
     ensures at_once { FindsAtOnce }

@@ -2,7 +2,7 @@
 //! nothing, so that other crates can rest on it; their proofs import the lemmas of this crate's `proofs`.
 
 ghost use Rattle.command_laws.specs.Life.{ALife};
-ghost use Rattle.command_laws.specs.LifeLaws.{AnsweredRuns, BackupsAreGivenBack, FormattedIsSound, StoppedRuns, VolumesAreKept};
+ghost use Rattle.command_laws.specs.LifeLaws.{AnsweredRuns, BackupsAreGivenBack, FormatBegins, NewAndFormatBegin, StoppedRuns, VolumesAreGivenBack, VolumesAreKept};
 
 /// Behind each event of a life the cartridge stands for the volumes that the answered commands made, with those of the
 /// command that was stopped or not.
@@ -15,15 +15,17 @@ pub fn a_life_keeps_its_volumes()
     ensures { VolumesAreKept }
 {}
 
-/// A volume whose append was answered Done is given back byte for byte behind such a life, where the volume table can be
-/// read and none of its segments has lost more than three sectors.
-pub fn a_life_gives_its_backups_back()
-    ensures { BackupsAreGivenBack }
+/// Each volume is given back byte for byte behind such a life, where the volume table can be read and none of its segments
+/// has lost more than three sectors; and one whose append was answered Done is just the bytes of the input.
+pub fn a_life_gives_its_volumes_back()
+    ensures volumes { VolumesAreGivenBack }
+    ensures backups { BackupsAreGivenBack }
 {}
 
-/// A new cartridge that was formatted begins one.
+/// Any cartridge that was formatted begins one, and so does a new one that was.
 pub fn a_formatted_cartridge_begins_a_life()
-    ensures { FormattedIsSound }
+    ensures formatted { FormatBegins }
+    ensures renewed { NewAndFormatBegin }
 {}
 
 /// Each step of the plain machine over words, and what a stop in words leaves, is a run of a life.

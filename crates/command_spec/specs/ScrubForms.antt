@@ -13,16 +13,13 @@ use Rattle.command_spec.specs.Scrub.{Looked, looked_at, cells_at, reads, steps_i
 use Rattle.qic_base.specs.Acts.{Act, steps_of}
 use Rattle.qic_base.specs.Cartridge.{Cartridge}
 use Rattle.qic_base.specs.Step.{Step}
+use Rattle.command_spec.specs.declared.depth.Depth.{Depth}
+use Rattle.command_spec.specs.declared.depth.Depth.TheVariants.{Shallow, Deep}
 use Rattle.command_spec.specs.declared.status.Status.TheVariants as status
 
 -- ---- one segment
 
--- whether a wrong sector is looked for
-pub data Depth : Type 0 where
-  Shallow : Depth
-  Deep : Depth
-
--- never in the table's segment
+-- where a wrong sector is looked for: in no segment, or in each but the table's
 abbrev pub IsSearched : Depth → Looked → Type 0
 IsSearched Shallow looked = ⊥
 IsSearched Deep looked = looked.segment ≢ 2
@@ -116,10 +113,22 @@ lines_for [] fs = []
 lines_for (l ∷ ls) [] = []
 lines_for (l ∷ ls) (f ∷ fs) = line_for l f ++ lines_for ls fs
 
--- The text of a scrubbing with these counts, whatever is found of its segments.
-pub record IsTextFor (looked : List Looked) (counts : Counts) (text : List ℕ) : Type 0 where
+-- what may be found of a segment in a form, whatever the tape holds: a wrong sector where one is looked for and the segment reads
+abbrev pub MayFind : Depth → Looked → Saying → (wrong : Option ℕ) → Type 0
+MayFind depth looked saying None = Unit {0}
+MayFind depth looked saying (Some sector) = IsSearched depth looked × (reads looked saying ≡ true) × (sector < 32)
+
+abbrev pub MayBeFound : Depth → List Looked → List Finding → Type 0
+MayBeFound depth [] [] = Unit {0}
+MayBeFound depth [] (f ∷ fs) = ⊥
+MayBeFound depth (l ∷ ls) [] = ⊥
+MayBeFound depth (l ∷ ls) (f ∷ fs) = MayFind depth l f.saying f.wrong × MayBeFound depth ls fs
+
+-- The text of a scrubbing in this form with these counts, whatever the tape holds: at most one line for each segment, and the
+-- counts.
+pub record IsTextFor (depth : Depth) (looked : List Looked) (counts : Counts) (text : List ℕ) : Type 0 where
   pub findings : List Finding
-  pub each : length findings ≡ length looked
+  pub may : MayBeFound depth looked findings
   pub lines : text ≡ lines_for looked findings ++ counts_line counts
   pub segments : counts.segments ≡ length looked
   pub unreadable : counts.unreadable ≡ unread_count looked (sayings_of findings)

@@ -2,11 +2,13 @@
 //! promises of a run. Definitions alone, with the public types that they name.
 #![tactic(auto)]
 
+mod depth;
 mod line;
 mod refusal;
 mod status;
 mod words;
 
+pub use depth::Depth;
 pub use line::Line;
 pub use refusal::Refusal;
 pub use status::Status;

@@ -1,4 +1,4 @@
-use Rattle.command_laws.proofs.ScrubForms.{shallow_is_scrub, finds_at_once_is}
+use Rattle.command_laws.proofs.ScrubForms.{shallow_is_scrub, found_may_be, finds_at_once_is}
 use Rattle.command_laws.proofs.ScrubOneWrong.{form_is_function, form_always}
 use Rattle.command_laws.proofs.deep_scrubbing.forms_of_scrubbing.Goals as goal
 
@@ -13,3 +13,6 @@ returns-clause-function c = form_is_function
 
 pub returns-clause-always : goal.returns-clause-always
 returns-clause-always c = form_always
+
+pub returns-clause-may : goal.returns-clause-may
+returns-clause-may c = found_may_be

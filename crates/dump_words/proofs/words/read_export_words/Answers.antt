@@ -1,0 +1,27 @@
+use Rattle.std.proofs.Common.{◌≡◌, ◌∙◌, Global, Bor, List, ℕ, Some, ap, map, sym, codes}
+use Rattle.std.specs.Prelude.{string_bytes}
+use Rattle.std.specs.Option.{option_map}
+use Rattle.clap.specs.Matches.{found_of, first_value}
+use Rattle.clap.proofs.CallerLemmas.{some_of_text}
+use Rattle.dump_words.proofs.Asking.{image_is_there, none_is_not, are_asked, is_refused}
+use Rattle.dump_words.proofs.words.read_export_words.Goals as goal
+
+pub unreachable-requires : goal.unreachable-requires
+unreachable-requires c =
+    let there = image_is_there c.in_ok-command.command c.in-Ok.matches c.in_ok-command.ensures c.in-Ok.ensures.parsed in
+    let some = some_of_text (λ (s : Bor (List ℕ)). s.now) c.get_str.result (first_value (found_of c.in-Ok.matches) (codes "image")) c.get_str.ensures there in
+    none_is_not c.get_str.result c.in-None.is some
+
+pub returns-in-Some : goal.returns-in-Some
+returns-in-Some c =
+    let parse = c.in-Ok.ensures in
+    let m = c.in-Ok.matches in
+    let shown : Some c.in-Some.image.now ≡ first_value (found_of m) (codes "image") = ap (option_map (λ (s : Bor (List ℕ)). s.now)) (sym c.in-Some.is) ∙ c.get_str.ensures in
+    are_asked c.in_ok-command.command m (map (string_bytes {Z = Global}) c.as_slice.result.now) (map (string_bytes {Z = Global}) c.args.words.now.items)
+    (record { image = c.in-Some.image; map = c.get_str-in-Some.result }) c.in_ok-command.ensures (ap (map (string_bytes {Z = Global})) c.as_slice.ensures.value) (sym shown)
+    c.get_str-in-Some.ensures parse.matches parse.kinds
+
+pub returns-in-Err : goal.returns-in-Err
+returns-in-Err c =
+    is_refused c.in_ok-command.command c.in-Err.error (map (string_bytes {Z = Global}) c.as_slice.result.now) (map (string_bytes {Z = Global}) c.args.words.now.items)
+    c.in_ok-command.ensures (ap (map (string_bytes {Z = Global})) c.as_slice.ensures.value) c.in-Err.ensures.kinds c.in-Err.ensures.passes
