@@ -33,7 +33,7 @@ use Rattle.command_spec.specs.Input.{IsLine, IsLined, promised, Item, IsItem, En
 use Rattle.command_spec.specs.Lines.{reply_behind, lost_line}
 use Rattle.command_spec.specs.Restore.{Restored, LostIn, MismatchIn, framed, pieces}
 use Rattle.command_spec.specs.Script.{Did, Meeting, Finds, Meets, Refuses, append_did, line_refused, taken_as, given_as, RestoreDoes, LineDoes, ItemDoes, ItemsDo, entries_behind, acts_on, cartridge_behind}
-use Rattle.command_spec.specs.ScriptLists.{LineSpares, added, all_added, line_contents}
+use Rattle.command_spec.specs.ScriptLists.{LineSpares, item_added, all_added, line_contents}
 use Rattle.command_spec.specs.Scrub.{Scrubs}
 use Rattle.command_spec.specs.declared.line.Line.{Line}
 use Rattle.gf256_qic.proofs.Parities.{all_left, all_right}
@@ -324,7 +324,7 @@ pub next_is : (plain : Plain) (item : Item) (did : Did) (items : List Item) (did
     plain_behind (plain_after plain item did) items dids ≡ plain_behind plain (item ∷ items) (did ∷ dids)
 next_is plain item did items dids list =
     ap (λ (es : List Entry). with_all (plain_after plain item did) (all_added es items dids)) list
-    ∙ sym (with_all-append plain (added (entries_of plain) item did) (all_added did.entries items dids))
+    ∙ sym (with_all-append plain (item_added (entries_of plain) item did) (all_added did.entries items dids))
 
 -- what the next items do, on the plain cartridge behind the first
 pub next_do : (c : Cartridge) (plain next : Plain) (items : List Item) (entries : List Entry) (dids : List Did) → entries_of next ≡ entries → next.words ≡ plain.words →

@@ -8,7 +8,7 @@ use Rattle.command_laws.specs.MountedHeld.{IsHeld}
 use Rattle.command_laws.specs.MountedKept.{IsAppendable}
 use Rattle.command_spec.specs.Input.{Item, Ending, IsScript}
 use Rattle.command_spec.specs.Script.{Did, ItemsDo, entries_behind, cartridge_behind, ItemDoes, FaultDoes, ScriptRun, ScriptDoes}
-use Rattle.command_spec.specs.ScriptLists.{ItemsSpare, LineSpares, StandsAnswered, added, all_added}
+use Rattle.command_spec.specs.ScriptLists.{ItemsSpare, LineSpares, StandsAnswered, item_added, all_added}
 use Rattle.command_spec.specs.declared.line.Line.{Line}
 use Rattle.qic_base.specs.Acts.{steps_of, Act, text_of, next_steps}
 use Rattle.qic_base.specs.Cartridge.{Cartridge}
@@ -36,7 +36,7 @@ ItemsHaveBytes =
 
 -- the plain cartridge behind an item, and behind several
 abbrev pub plain_after : Plain → Item → Did → Plain
-plain_after plain item did = with_all plain (added (entries_of plain) item did)
+plain_after plain item did = with_all plain (item_added (entries_of plain) item did)
 
 abbrev pub plain_behind : Plain → List Item → List Did → Plain
 plain_behind plain items dids = with_all plain (all_added (entries_of plain) items dids)

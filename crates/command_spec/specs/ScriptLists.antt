@@ -23,15 +23,15 @@ line_contents (line.Append name promised date) bytes = record { name = name; dat
 line_contents other bytes = []
 
 -- what an item added to a list: that, where the list is longer behind it
-abbrev pub added : List Entry → Item → Did → List Content
-added entries item did =
+abbrev pub item_added : List Entry → Item → Did → List Content
+item_added entries item did =
     if length did.entries == length entries then [] else line_contents item.line item.bytes
 
 -- what several added, one behind the other
 abbrev pub all_added : List Entry → List Item → List Did → List Content
 all_added entries [] dids = []
 all_added entries (item ∷ items) [] = []
-all_added entries (item ∷ items) (did ∷ dids) = added entries item did ++ all_added did.entries items dids
+all_added entries (item ∷ items) (did ∷ dids) = item_added entries item did ++ all_added did.entries items dids
 
 -- ---- what is asked of the items
 
@@ -45,7 +45,7 @@ abbrev pub ItemsSpare : Cartridge → Plain → List Item → List Did → Type 
 ItemsSpare c plain [] dids = Unit {0}
 ItemsSpare c plain (item ∷ items) [] = Unit {0}
 ItemsSpare c plain (item ∷ items) (did ∷ dids) =
-    LineSpares c plain item.line × ItemsSpare (changed_by (steps_of did.acts) c) (with_all plain (added (entries_of plain) item did)) items dids
+    LineSpares c plain item.line × ItemsSpare (changed_by (steps_of did.acts) c) (with_all plain (item_added (entries_of plain) item did)) items dids
 
 -- what so many items print, in bytes
 abbrev pub printed_by : List Did → (count : ℕ) → ℕ

@@ -62,12 +62,7 @@ TakesNone s old new fault = ⊥
 
 -- what an append to the cartridge of a store goes by, where the table's data are these and these steps settle it
 abbrev pub kept_by : StoreView → (table : List (List ℕ)) → (settling : List Step) → Kept
-kept_by store table settling = record {
-  words = store.words;
-  entries = store.entries;
-  table = table;
-  settling = settling;
-}
+kept_by store table settling = record (kept_in store.words store.entries) { table = table; settling = settling }
 
 -- All acts went, and this became of the input that the source told, or of some input where it tells none.
 pub record AppendRan {T S : Type 0} (t : tapes.Meaning T) (s : sources.Meaning S) (old new : Outside T S (Unit {0})) (store : StoreView) (name : List ℕ) (date : ℕ) (promised : Option ℕ) (became : Taking) : Type 0 where
