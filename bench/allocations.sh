@@ -63,7 +63,7 @@ seq 20000 > numbers
 printf 'append two 10\n0123456789list\nlose 5 5\nrestore 1\nend\n' > lines
 printf '6\n11\n' > trains
 
-for command in info list 'restore 1' scrub 'format M' 'make 7 2' 'lose 5 5' 'defect 5 5' 'protect on' 'new 3' nothing; do
+for command in info list 'restore 1' scrub 'format M' 'make 7 2' 'lose 5 5' 'defect 5 5' 'protect on' upgrade 'new 3' nothing; do
     read -ra words <<< "$command"
     refusing /dev/null "${words[@]}"
 done

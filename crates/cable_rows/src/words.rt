@@ -1,5 +1,5 @@
-//! The words of `append`, `restore` and `scrub`, and of `script` and `make`, which are not built, with their values, and
-//! words beside them that are no command. Those of the others are shown by the transcripts.
+//! The words of `append`, `restore`, `scrub`, `script`, `make` and `upgrade` with their values, and words beside them that
+//! are no command. Those of the others are shown by the transcripts.
 
 use qic_base::Name;
 use std::alloc::{AllocError, Global};
