@@ -23,7 +23,7 @@ use Rattle.command_laws.proofs.TextWords.{one_command}
 use Rattle.command_laws.specs.ActStops.{Between, Behind, IsLeftBy}
 use Rattle.command_laws.specs.MountedHeld.{IsHeld}
 use Rattle.command_laws.specs.MountedKept.{IsKept, IsOpen}
-use Rattle.command_laws.specs.ScriptStanding.{plain_behind}
+use Rattle.command_laws.specs.ScriptStanding.{WentNoFurther, plain_behind}
 use Rattle.command_spec.specs.Headline.{ToldNow, StopLeaves, WordsLeave, EachLeft}
 use Rattle.command_spec.specs.Input.{Item}
 use Rattle.command_spec.specs.Listing.{IsHeard}
@@ -33,8 +33,8 @@ use Rattle.command_spec.specs.Make.{Makes, Making, MakeOutcome, make_status}
 use Rattle.command_spec.specs.Outcome.{Going, CommandOutcome, refused, Opened, OpenOutcome}
 use Rattle.command_spec.specs.Runs.{may_come_from, fault_of, is_fault, CommandEnds}
 use Rattle.command_spec.specs.Script.{ScriptDoes, Scripting, ScriptOutcome}
-use Rattle.command_spec.specs.ScriptLists.{StandsAnswered}
-use Rattle.command_spec.specs.Several.{Scripted, SomeMade, MakesVolumes, SomeScripted, CarriesOutLines}
+use Rattle.command_spec.specs.ScriptLists.{CameFurther, ItemsSpare, StandsAnswered}
+use Rattle.command_spec.specs.Several.{FirstLinesSpare, Scripted, SomeMade, MakesVolumes, SomeScripted, CarriesOutLines}
 use Rattle.command_spec.specs.Volumes.{IsCarriedOut}
 use Rattle.command_spec.specs.declared.status.Status.{Status}
 use Rattle.command_spec.specs.declared.words.Words.{Words}
@@ -479,39 +479,46 @@ module _ (told : Option (List ℕ)) (words : List (List ℕ)) (c : Cartridge) (p
             })
       ]
 
-  abbrev BehindSome : Option Cartridge → Type 0
-  BehindSome left = (n : ℕ) × (n ≤ length items) × IsSomeAnd left (λ d. Stands d (plain_behind plain (take n items) (take n dids)))
+  abbrev StopsFurther : ℕ → Option Cartridge → Type 0
+  StopsFurther count left = CameFurther (settled plain.table_area c) items dids script.does.last count left
 
-  -- a stop leaves the plain cartridge behind some of the lines
+  abbrev BehindSome : ℕ → Option Cartridge → Type 0
+  BehindSome count left = (n : ℕ) × (n ≤ count) × IsSomeAnd left (λ d. Stands d (plain_behind plain (take n items) (take n dids)))
+
+  -- a stop leaves the plain cartridge behind some of the lines, if it didn't come behind the first ones, which spare header and table
   pub script_stopped : (input : List ℕ) (outcome : CommandOutcome) (left : Option Cartridge) → IsTableLive c → input ≡ script.input → ScriptOutcome (Some c) input outcome →
-      Torn (steps_of outcome.acts) (Some c) left → BehindSome left
-  script_stopped input outcome left live same does torn =
+      (count : ℕ) → FirstLinesSpare script count → Torn (steps_of outcome.acts) (Some c) left → StopsFurther count left ⊎ BehindSome count left
+  script_stopped input outcome left live same does count spares torn =
       elim (script_course input outcome same does) [
         | inl turned ↦
-            (0, omega arith, some_and (λ d. Stands d plain) c left script.stands (subst (λ (o : CommandOutcome). Torn (steps_of o.acts) (Some c) left) turned.is torn))
+            inr (0, omega arith, some_and (λ d. Stands d plain) c left script.stands (subst (λ (o : CommandOutcome). Torn (steps_of o.acts) (Some c) left) turned.is torn))
         | inr run ↦
             elim (stopped_first c plain whole script.stands run.mounts script.outcome.acts left (subst (λ (acts : List Act). Torn (steps_of acts) (Some c) left) run.acts torn)) [
-              | inl stands ↦ (0, omega arith, stands)
+              | inl stands ↦ inr (0, omega arith, stands)
               | inr behind ↦ stopped_script_stands (settled plain.table_area c) plain script.input script.outcome left run.held (settled_live c plain.table_area run.mounts.reads live)
-                  script.does script.bytes script.spares behind
+                  script.does script.bytes count spares.0 spares.1 behind
             ]
       ]
 
   -- once its input was carried out the plain cartridge behind all of the lines stands, also where sectors of the table's segment take
   -- no write
   script_heard : (input : List ℕ) (outcome : CommandOutcome) → input ≡ script.input → ScriptOutcome (Some c) input outcome → IsHeard outcome.status →
-      IsSomeAnd (effects (steps_of outcome.acts) (Some c)) (λ d. Stands d (plain_behind plain items dids))
-  script_heard input outcome same does heard =
+      ItemsSpare (settled plain.table_area c) plain items dids → IsSomeAnd (effects (steps_of outcome.acts) (Some c)) (λ d. Stands d (plain_behind plain items dids))
+  script_heard input outcome same does heard spares =
       elim (script_course input outcome same does) [
         | inl turned ↦ absurd (turned.unheard (subst (λ (o : CommandOutcome). IsHeard o.status) turned.is heard))
         | inr run ↦
             some_and (λ d. Stands d (plain_behind plain items dids)) (changed_by (steps_of script.outcome.acts) (settled plain.table_area c)) (effects (steps_of outcome.acts) (Some c))
-            (done_script_stands (settled plain.table_area c) plain script.input script.outcome run.held script.does script.bytes script.spares)
+            (done_script_stands (settled plain.table_area c) plain script.input script.outcome run.held script.does script.bytes spares)
             (ap (λ (acts : List Act). effects (steps_of acts) (Some c)) run.acts ∙ behind_front c plain whole script.stands run.mounts script.outcome.acts)
       ]
 
   abbrev Answered : (text : List ℕ) → Option Cartridge → Type 0
   Answered text left = StandsAnswered plain items dids (length text) left
+
+  -- the lines that it went no further than, where this was printed, spare header and table
+  abbrev NoFurther : (text : List ℕ) → Type 0
+  NoFurther text = WentNoFurther (settled plain.table_area c) plain items dids (length text)
 
   -- nothing was printed yet
   nothing_answered : (text : List ℕ) (left : Option Cartridge) → text ≡ [] → IsSomeAnd left (λ d. Stands d plain) → Answered text left
@@ -520,8 +527,8 @@ module _ (told : Option (List ℕ)) (words : List (List ℕ)) (c : Cartridge) (p
       (none_answered (settled plain.table_area c) plain script.input script.outcome left script.does script.bytes stands)
 
   pub script_answered : (input : List ℕ) (outcome : CommandOutcome) (text : List ℕ) (left : Option Cartridge) → IsTableLive c → input ≡ script.input →
-      ScriptOutcome (Some c) input outcome → IsLeftBy c outcome.acts text left → Answered text left
-  script_answered input outcome text left live same does so =
+      ScriptOutcome (Some c) input outcome → NoFurther text → IsLeftBy c outcome.acts text left → Answered text left
+  script_answered input outcome text left live same does spares so =
       elim (script_course input outcome same does) [
         | inl turned ↦ turned_down text left (subst (λ (o : CommandOutcome). IsLeftBy c o.acts text left) turned.is so)
         | inr run ↦ ran run (subst (λ (acts : List Act). IsLeftBy c acts text left) run.acts so)
@@ -550,7 +557,8 @@ module _ (told : Option (List ℕ)) (words : List (List ℕ)) (c : Cartridge) (p
             | inr (more, is, parts) ↦
                 subst (λ (xs : List ℕ). Answered xs left) (sym (at.is_text ∙ ap text_of is))
                 (answered_between (settled plain.table_area c) plain script.input script.outcome more at.rest left run.held
-                (settled_live c plain.table_area run.mounts.reads live) script.does script.bytes script.spares parts
+                (settled_live c plain.table_area run.mounts.reads live) script.does script.bytes
+                (subst (λ (xs : List ℕ). NoFurther xs) (at.is_text ∙ ap text_of is) spares) parts
                 (subst (λ (held : Option Cartridge). Torn (next_steps at.rest) held left)
                 (ap (λ (acts : List Act). effects (steps_of acts) (Some c)) is ∙ behind_front c plain whole script.stands run.mounts more) at.torn))
           ]
@@ -566,7 +574,7 @@ module _ (told : Option (List ℕ)) (words : List (List ℕ)) (c : Cartridge) (p
                 let texts : length text ≡ length (text_of more) + length at.some = ap length (at.is_text ∙ ap (λ (acts : List Act). text_of acts ++ at.some) is) ∙ length-append (text_of more) at.some in
                 let act_text : length at.act.text ≡ length at.some + length at.more = ap length (sym at.written) ∙ length-append at.some at.more in
                 answered_behind (settled plain.table_area c) plain script.input script.outcome more at.act at.rest left (length text) run.held
-                (settled_live c plain.table_area run.mounts.reads live) script.does script.bytes script.spares parts
+                (settled_live c plain.table_area run.mounts.reads live) script.does script.bytes spares parts
                 (at.is ∙ ap (λ (acts : List Act). effects (steps_of acts ++ at.act.steps) (Some c)) is
                 ∙ ap (λ (ss : List TapeStep). effects ss (Some c)) (append_assoc (settling_steps plain.table_area c) (steps_of more) at.act.steps)
                 ∙ effects-append (settling_steps plain.table_area c) (steps_of more ++ at.act.steps) (Some c)
@@ -577,13 +585,13 @@ module _ (told : Option (List ℕ)) (words : List (List ℕ)) (c : Cartridge) (p
 
 -- what is left by words of a script
 some_scripted : (told : Option (List ℕ)) (words : List (List ℕ)) (held left : Option Cartridge) → IfSome held IsCartridge → WordsLeave told words held left → SomeScripted told words held left
-some_scripted told words held left whole (inl same) c plain is script live =
-    (0, omega arith, some_and (λ d. Stands d plain) c left script.stands (same ∙ is))
-some_scripted told words held left whole (inr (command, spelled, leaves)) c plain is script live =
+some_scripted told words held left whole (inl same) c plain is script live count spares =
+    inr (0, omega arith, some_and (λ d. Stands d plain) c left script.stands (same ∙ is))
+some_scripted told words held left whole (inr (command, spelled, leaves)) c plain is script live count spares =
     let same : command ≡ commands.Script = one_command words command commands.Script spelled script.spelled in
     let l : StopLeaves told commands.Script (Some c) left =
     subst (λ (w : Words). StopLeaves told w (Some c) left) same (subst (λ (h : Option Cartridge). StopLeaves told command h left) is leaves) in
-    script_stopped told words c plain (whole_of held c whole is) script l.input l.outcome left live (same_input told script.input l.input script.is_told l.is_told) l.plain l.torn
+    script_stopped told words c plain (whole_of held c whole is) script l.input l.outcome left live (same_input told script.input l.input script.is_told l.is_told) l.plain count spares l.torn
 
 pub carries_out_lines : {T S K : Type 0} (t : tapes.Meaning T) (s : sources.Meaning S) (k : sinks.Meaning K) (words : List (List ℕ)) (command : Words) (old new : Outside T S K) (answer : Status) →
     Laws t s k old new → Spells words command → CommandEnds t s k command old new answer →
@@ -597,15 +605,15 @@ carries_out_lines t s k words command old new answer laws spelled ends leaves = 
       let was = ran.was in record {
         text = was.text;
         took = was.took;
-        answered = λ live. now_weaker t old.tape new.tape
+        answered = λ live count further spares. now_weaker t old.tape new.tape
             (λ left is. script_answered (s.left old.source) words c plain whole script ran.input ran.outcome was.text left live
-            (same_input (s.left old.source) script.input ran.input script.is_told ran.is_told) ran.plain is) was.each;
-        all = λ heard.
+            (same_input (s.left old.source) script.input ran.input script.is_told ran.is_told) ran.plain (count, spares.0, further, spares.1) is) was.each;
+        all = λ heard spares.
             let all = ran.heard heard in
             now_weaker t old.tape new.tape
             (λ left is. subst (λ (o : Option Cartridge). IsSomeAnd o (λ d. Stands d (plain_behind plain script.does.items script.does.dids))) (sym is)
             (script_heard (s.left old.source) words c plain whole script ran.input ran.outcome
-            (same_input (s.left old.source) script.input ran.input script.is_told ran.is_told) ran.plain (subst IsHeard (sym all.0) heard)))
+            (same_input (s.left old.source) script.input ran.input script.is_told ran.is_told) ran.plain (subst IsHeard (sym all.0) heard) spares))
             (done_now t old.tape new.tape (steps_of ran.outcome.acts) (Some c) all.1 told);
       };
 }
@@ -634,8 +642,8 @@ none_scripted t k told words a x answer right nothing unheard leaves = record {
   over = λ c plain is script. record {
     text = [];
     took = nothing;
-    answered = λ live. untouched_now t a c (StandsAnswered plain script.does.items script.does.dids 0) is
+    answered = λ live count further spares. untouched_now t a c (StandsAnswered plain script.does.items script.does.dids 0) is
         (none_answered (settled plain.table_area c) plain script.input script.outcome (Some c) script.does script.bytes script.stands);
-    all = λ heard. absurd (unheard heard);
+    all = λ heard spares. absurd (unheard heard);
   };
 }

@@ -23,7 +23,7 @@ use Rattle.command_spec.specs.declared.words.Words.TheVariants as words
 
 command_makes : (command : Words) (input : List ℕ) (ended : Ended) (begun : Bool) (held left : Option Cartridge) (before : Option Plain) (outcome : CommandOutcome) →
     IsSound begun held before → HasValues command → All (λ b. b < 256) input → Yields command held input outcome → Leaves ended outcome held left → IfSome left IsCartridge →
-    IfSome held (CommandSpares command input) → MayEnd command ended begun → Makes command input ended begun held left before
+    IfSome held (CommandSpares command ended input left) → MayEnd command ended begun → Makes command input ended begun held left before
 command_makes (words.New segments) input ended begun held left before outcome sound values bytes yields leaves whole spares may =
     new_makes segments input ended begun held left before outcome sound yields leaves whole
 command_makes (words.Format label date) input ended begun (Some c) left before outcome sound values bytes yields leaves whole spares may =
@@ -36,14 +36,14 @@ command_makes command input ended begun None left None outcome sound values byte
 command_makes command input ended begun (Some c) left None outcome sound values bytes yields leaves whole spares may = (
   None,
   refl,
-  without_stays command c input begun left outcome (λ segments is. cc) (λ label date is. cc) tt spares sound yields (torn_by ended outcome (Some c) left leaves) whole,
+  without_stays command ended c input begun left outcome (λ segments is. cc) (λ label date is. cc) tt spares sound yields (torn_by ended outcome (Some c) left leaves) whole,
 )
 command_makes (words.Append name date) input ended begun (Some c) left (Some plain) outcome sound values bytes yields leaves whole spares may =
     append_makes name date c input begun plain left outcome values bytes sound yields whole ended leaves
 command_makes (words.Make seed count) input ended begun (Some c) left (Some plain) outcome sound values bytes yields leaves whole spares may =
     make_makes seed count c input begun plain left outcome values sound yields whole ended leaves
 command_makes words.Script input ended begun (Some c) left (Some plain) outcome sound values bytes yields leaves whole spares may =
-    script_makes c input begun plain left outcome bytes sound spares yields whole ended leaves
+    script_makes c input begun plain left outcome bytes sound yields whole ended spares leaves
 command_makes (words.Lose segment sector) input ended begun (Some c) left (Some plain) outcome sound values bytes yields leaves whole spares may = (
   Some plain,
   refl,

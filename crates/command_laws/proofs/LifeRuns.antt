@@ -90,13 +90,13 @@ without_now : (begun : Bool) (left : Option Cartridge) → IfSome left IsCartrid
 without_now begun None whole none bare = tt
 without_now begun (Some d) whole none bare = record { whole = whole; first = none.0; second = none.1; bare = bare }
 
-pub without_stays : (command : Words) (c : Cartridge) (input : List ℕ) (begun : Bool) (left : Option Cartridge) (outcome : CommandOutcome) →
-    ((segments : ℕ) → command ≢ words.New segments) → ((label : List ℕ) (date : ℕ) → command ≢ words.Format label date) → KeepsCopies command c → CommandSpares command input c →
+pub without_stays : (command : Words) (ended : Ended) (c : Cartridge) (input : List ℕ) (begun : Bool) (left : Option Cartridge) (outcome : CommandOutcome) →
+    ((segments : ℕ) → command ≢ words.New segments) → ((label : List ℕ) (date : ℕ) → command ≢ words.Format label date) → KeepsCopies command c → CommandSpares command ended input left c →
     IsWithout begun c → Yields command (Some c) input outcome → Torn (steps_of outcome.acts) (Some c) left → IfSome left IsCartridge → IsSound begun left None
-without_stays command c input begun left outcome other others keeps spares without yields torn whole =
+without_stays command ended c input begun left outcome other others keeps spares without yields torn whole =
     without_now begun left whole
     (stays_neither command c input outcome left other others
-    (λ segment sector same. subst (λ (w : Words). CommandSpares w input c) same spares) (without.first, without.second) yields torn)
+    (λ segment sector same. subst (λ (w : Words). CommandSpares w ended input left c) same spares) (without.first, without.second) yields torn)
     (λ is. copies_stay_bare command c input outcome left keeps yields (without.bare is) torn)
 
 -- where no cartridge is held none is left, but by `new`
@@ -229,7 +229,7 @@ none_said c acts text left none (inr at) = by_front at.front (at.parts ∙ none)
     by_front [] parts = absurd (cc)
     by_front (x ∷ xs) parts = absurd (cc)
 
-module _ (c : Cartridge) (input : List ℕ) (begun : Bool) (plain : Plain) (left : Option Cartridge) (outcome : CommandOutcome) (bytes : All (λ b. b < 256) input) (ready : IsReady begun c plain) (spares : CommandSpares words.Script input c) (yields : ScriptOutcome (Some c) input outcome) (whole : IfSome left IsCartridge) where
+module _ (c : Cartridge) (input : List ℕ) (begun : Bool) (plain : Plain) (left : Option Cartridge) (outcome : CommandOutcome) (bytes : All (λ b. b < 256) input) (ready : IsReady begun c plain) (yields : ScriptOutcome (Some c) input outcome) (whole : IfSome left IsCartridge) where
   abbrev ScriptMakes : Ended → Type 0
   ScriptMakes ended = Makes words.Script input ended begun (Some c) left (Some plain)
 
@@ -282,11 +282,10 @@ module _ (c : Cartridge) (input : List ℕ) (begun : Bool) (plain : Plain) (left
     stands = ready.stands;
     outcome = was.did.came;
     does = was.did.does;
-    spares = spares plain was.did.came ready.stands was.did.does;
   }
 
-  lines_make : (ended : Ended) → WasMounted (Scripting input) c plain outcome → Leaves ended outcome (Some c) left → ScriptMakes ended
-  lines_make (Answered answer printed) was (is, said, all) =
+  lines_make : (ended : Ended) → CommandSpares words.Script ended input left c → WasMounted (Scripting input) c plain outcome → Leaves ended outcome (Some c) left → ScriptMakes ended
+  lines_make (Answered answer printed) spares was (is, said, all) =
       let came : scripts.ScriptRun = was.did.came in
       let does : ScriptDoes (settled plain.table_area c) plain.words (entries_of plain) input was.did.came = was.did.does in
       let held : IsHeld (settled plain.table_area c) plain = mounted_held c plain ready.whole ready.stands was.mounts in
@@ -298,17 +297,22 @@ module _ (c : Cartridge) (input : List ℕ) (begun : Bool) (plain : Plain) (left
       (sym (all_lines does.items does.dids (as_many does.items does.dids (settled plain.table_area c) plain.words (entries_of plain) does.did)))
       (done_script_stands (settled plain.table_area c) plain input was.did.came held was.did.does bytes (spares plain was.did.came ready.stands was.did.does)))
       (all ∙ ap (λ (o : CommandOutcome). effects (steps_of o.acts) (Some c)) was.did.is ∙ behind_front c plain ready.whole ready.stands was.mounts came.acts))
-  lines_make (Stopped (Some text)) was so =
-      let answered = script_answered (Some input) (codes "script" ∷ []) c plain ready.whole (as_scripted was) input outcome text left ready.live refl yields so in
+  lines_make (Stopped (Some text)) spares was so =
+      let carried = spares plain was.did.came ready.stands was.did.does in
+      let answered = script_answered (Some input) (codes "script" ∷ []) c plain ready.whole (as_scripted was) input outcome text left ready.live refl yields
+      (carried.0, carried.1, carried.2, carried.3) so in
       some_lines (Stopped (Some text)) was.did.came was.did.does answered.count answered.within (answered.answered, answered.most)
       (torn_by (Stopped (Some text)) outcome (Some c) left so) answered.stands
-  lines_make (Stopped None) was torn =
-      let some = script_stopped (Some input) (codes "script" ∷ []) c plain ready.whole (as_scripted was) input outcome left ready.live refl yields torn in
-      some_lines (Stopped None) was.did.came was.did.does some.0 some.1 tt torn some.2
+  lines_make (Stopped None) spares was torn =
+      let carried = spares plain was.did.came ready.stands was.did.does in
+      elim (script_stopped (Some input) (codes "script" ∷ []) c plain ready.whole (as_scripted was) input outcome left ready.live refl yields carried.0 (carried.1, carried.3) torn) [
+        | inl further ↦ absurd (carried.2 further)
+        | inr some ↦ some_lines (Stopped None) was.did.came was.did.does some.0 (let less = some.1 in let most = carried.1 in omega arith) tt torn some.2
+      ]
 
-  pub script_makes : (ended : Ended) → Leaves ended outcome (Some c) left → ScriptMakes ended
-  script_makes ended leaves =
+  pub script_makes : (ended : Ended) → CommandSpares words.Script ended input left c → Leaves ended outcome (Some c) left → ScriptMakes ended
+  script_makes ended spares leaves =
       elim (mounted_or_turned (Scripting input) c plain outcome ready.stands yields) [
         | inl turned ↦ turned_makes ended turned leaves
-        | inr was ↦ lines_make ended was leaves
+        | inr was ↦ lines_make ended spares was leaves
       ]

@@ -1,21 +1,24 @@
 -- Which items of a script stand after a stop in it, and which of them were answered.
-use Rattle.std.proofs.Common.{List, [], ◌∷◌, Option, ◌≡◌, ◌++◌, Some, sym, ap, ◌∙◌, subst, inl, inr, refl, ◌⊎◌, None, IsSomeAnd, ℕ, ◌<◌, drop, All, take, length, arith, suc}
+use Rattle.std.proofs.Common.{List, [], ◌∷◌, Option, ◌≡◌, ◌++◌, Some, sym, ap, ◌∙◌, subst, inl, inr, refl, ◌⊎◌, None, IsSomeAnd, ℕ, ◌<◌, drop, All, take, length, arith, suc, zero, append_assoc, append-nil, ◌≤◌, ◌+◌}
+use Rattle.std.proofs.lemmas.Bool.{cases_lt}
+use Rattle.std.proofs.lemmas.List.{length-append, length-take-le, take-take, take_all}
 use Rattle.cartridge_laws.proofs.FormatWriting.{effects-some, changed_by-append, some_and}
 use Rattle.cartridge_spec.specs.Mounting.{IsTableLive}
 use Rattle.cartridge_spec.specs.Settling.{changed_by}
 use Rattle.cartridge_spec.specs.Table.{Entry}
 use Rattle.cartridge_spec.specs.Volumes.{Plain, Stands, entries_of}
+use Rattle.command_laws.proofs.MountedFronts.{ends_in}
 use Rattle.command_laws.proofs.MountedKeeping.{changed_by_acts}
 use Rattle.command_laws.proofs.ScriptReached.{AllLeave, Reached, reached_between, reached_behind, reached_none, leave_weaker}
 use Rattle.command_laws.proofs.ScriptReading.{cartridge_is}
-use Rattle.command_laws.proofs.ScriptSpeaking.{as_many, script_speaks}
+use Rattle.command_laws.proofs.ScriptSpeaking.{AllSpeak, as_many, script_speaks}
 use Rattle.command_laws.proofs.ScriptStanding.{fault_stands, items_have_bytes, items_stand, ItemLeaves, item_leaves, next_do, next_is}
 use Rattle.command_laws.specs.MountedHeld.{IsHeld}
 use Rattle.command_laws.specs.ScriptStanding.{HaveBytes, AnsweredBetween, AnsweredBehind, StoppedScriptStands, DoneScriptStands, plain_behind, plain_after}
 use Rattle.command_spec.specs.Input.{Ending, AtEnd, AtStop, AtFault, Item}
 use Rattle.command_spec.specs.Script.{EndDoes, ScriptRun, ScriptDoes, cartridge_behind, entries_behind, place_behind, Did, ItemsDo, acts_of}
-use Rattle.command_spec.specs.ScriptLists.{ItemsSpare, StandsAnswered}
-use Rattle.qic_base.proofs.Joins.{steps_of-append}
+use Rattle.command_spec.specs.ScriptLists.{FirstSpare, ItemsSpare, StandsAnswered, printed_by}
+use Rattle.qic_base.proofs.Joins.{steps_of-append, text_of-append}
 use Rattle.qic_base.proofs.Steps.{Torn-front, Torn-behind, Torn-append, Torn-nothing, Torn-all}
 use Rattle.qic_base.specs.Acts.{Act, steps_of, next_steps, text_of}
 use Rattle.qic_base.specs.Cartridge.{Cartridge}
@@ -143,18 +146,199 @@ stands_answered c plain items dids printed left ran r =
       most = r.most;
     }
 
+-- ---- the first items alone
+
+-- so many items, and what they did
+pub first_do : (n : ℕ) (items : List Item) (dids : List Did) (c : Cartridge) (words : List ℕ) (entries : List Entry) → ItemsDo c words entries items dids →
+    ItemsDo c words entries (take n items) (take n dids)
+first_do zero items dids c words entries ran = tt
+first_do (suc n) [] [] c words entries ran = tt
+first_do (suc n) [] (did ∷ dids) c words entries ran = absurd ran
+first_do (suc n) (item ∷ items) [] c words entries ran = absurd ran
+first_do (suc n) (item ∷ items) (did ∷ dids) c words entries ran = (ran.0, first_do n items dids (changed_by (steps_of did.acts) c) words did.entries ran.1)
+
+first_have : (n : ℕ) (items : List Item) → HaveBytes items → HaveBytes (take n items)
+first_have zero items have = tt
+first_have (suc n) [] have = tt
+first_have (suc n) (item ∷ items) have = (have.0, first_have n items have.1)
+
+first_speak : (n : ℕ) (dids : List Did) → AllSpeak dids → AllSpeak (take n dids)
+first_speak zero dids speak = tt
+first_speak (suc n) [] speak = tt
+first_speak (suc n) (did ∷ dids) speak = (speak.0, first_speak n dids speak.1)
+
+-- their acts come first
+acts_parted : (n : ℕ) (dids : List Did) → acts_of (take n dids) ++ acts_of (drop n dids) ≡ acts_of dids
+acts_parted zero dids = refl
+acts_parted (suc n) [] = refl
+acts_parted (suc n) (did ∷ dids) =
+    append_assoc did.acts (acts_of (take n dids)) (acts_of (drop n dids)) ∙ ap (λ (acts : List Act). did.acts ++ acts) (acts_parted n dids)
+
+-- of more items more is printed
+more_printed : (n m : ℕ) (dids : List Did) → n ≤ m → printed_by dids n ≤ printed_by dids m
+more_printed n m dids less =
+    let parts = ap (λ (acts : List Act). length (text_of acts)) (sym (acts_parted n (take m dids))) in
+    let texts = ap (λ (text : List ℕ). length text) (text_of-append (acts_of (take n (take m dids))) (acts_of (drop n (take m dids)))) in
+    let long = length-append (text_of (acts_of (take n (take m dids)))) (text_of (acts_of (drop n (take m dids)))) in
+    let same : printed_by (take m dids) n ≡ printed_by dids n = ap (λ (ds : List Did). length (text_of (acts_of ds))) (take-take n m dids less) in
+    omega arith
+
+first_stand : (n : ℕ) (c : Cartridge) (plain : Plain) (items : List Item) (dids : List Did) → IsHeld c plain → IsTableLive c → HaveBytes items →
+    ItemsDo c plain.words (entries_of plain) items dids → FirstSpare c plain items dids n → AllLeave Tears (StandsBehind plain (take n items) (take n dids)) c (take n dids) []
+first_stand n c plain items dids held live has ran spares =
+    let have : HaveBytes (take n items) = first_have n items has in
+    let did = first_do n items dids c plain.words (entries_of plain) ran in
+    let all = items_stand c plain (take n items) (take n dids) held have did spares in
+    all_stand (take n items) (take n dids) c plain [] held live have did spares
+    (λ left torn. some_and (λ e. Stands e (plain_behind plain (take n items) (take n dids))) (cartridge_behind c (take n dids)) left all.0.stands torn)
+
+-- what stands behind some of the first items stands behind so many of all
+of_first : (n count : ℕ) (plain : Plain) (items : List Item) (dids : List Did) (left : Option Cartridge) → count ≤ n → StandsBehind plain (take n items) (take n dids) count left →
+    StandsBehind plain items dids count left
+of_first n count plain items dids left less stands =
+    subst (λ (ds : List Did). IsSomeAnd left (λ d. Stands d (plain_behind plain (take count items) ds))) (take-take count n dids less)
+    (subst (λ (xs : List Item). IsSomeAnd left (λ d. Stands d (plain_behind plain xs (take count (take n dids))))) (take-take count n items less) stands)
+
+first_answered : (n : ℕ) (c : Cartridge) (plain : Plain) (items : List Item) (dids : List Did) (printed : ℕ) (left : Option Cartridge) → n ≤ length items → printed < printed_by dids n →
+    ItemsDo c plain.words (entries_of plain) items dids → Reached (StandsBehind plain (take n items) (take n dids)) (take n dids) printed left → StandsAnswered plain items dids printed left
+first_answered n c plain items dids printed left some less ran r =
+    let long : length dids ≡ length items = as_many items dids c plain.words (entries_of plain) ran in
+    let first : length (take n dids) ≡ n = length-take-le n dids (omega arith) in
+    let below : r.count ≤ n = (let most = r.within in omega arith) in
+    record {
+      count = r.count;
+      within = omega arith;
+      stands = of_first n r.count plain items dids left below r.holds;
+      answered = λ m within text.
+          elim (cases_lt m (suc n)) [
+            | inl few ↦ r.answered m (omega arith)
+                (subst (λ (ds : List Did). length (text_of (acts_of ds)) ≤ printed) (sym (take-take m n dids (omega arith))) text)
+            | inr many ↦ absurd (let more = more_printed n m dids (omega arith) in omega arith)
+          ];
+      most = λ m within.
+          subst (λ (ds : List Did). length (text_of (acts_of ds)) ≤ printed) (take-take m n dids (omega arith)) (r.most m within);
+    }
+
+-- all of them spare where all items do
+all_spare : (c : Cartridge) (plain : Plain) (items : List Item) (dids : List Did) (count : ℕ) → length dids ≡ length items → count ≡ length items → FirstSpare c plain items dids count →
+    ItemsSpare c plain items dids
+all_spare c plain items dids count long all spares =
+    subst (λ (ds : List Did). ItemsSpare c plain items ds) (take_all count dids (omega arith))
+    (subst (λ (xs : List Item). ItemsSpare c plain xs (take count dids)) (take_all count items (omega arith)) spares)
+
+module _ (c : Cartridge) (plain : Plain) (input : List ℕ) (outcome : ScriptRun) (held : IsHeld c plain) (live : IsTableLive c) (does : ScriptDoes c plain.words (entries_of plain) input outcome) (content : All (λ b. b < 256) input) where
+  abbrev items : List Item
+  items = does.items
+
+  abbrev dids : List Did
+  dids = does.dids
+
+  long : length dids ≡ length items
+  long = as_many items dids c plain.words (entries_of plain) does.did
+
+  speak : AllSpeak dids
+  speak = script_speaks c plain.words (entries_of plain) input outcome does
+
+  has : HaveBytes items
+  has = items_have_bytes input items does.ending does.read content
+
+  -- the acts of the first items, and those behind
+  acts_are : (n : ℕ) → outcome.acts ≡ acts_of (take n dids) ++ (acts_of (drop n dids) ++ does.last)
+  acts_are n =
+      ap (λ (o : ScriptRun). o.acts) does.is ∙ ap (λ (acts : List Act). acts ++ does.last) (sym (acts_parted n dids))
+      ∙ append_assoc (acts_of (take n dids)) (acts_of (drop n dids)) does.last
+
+  between_all : (front rest : List Act) (left : Option Cartridge) → ItemsSpare c plain items dids → front ++ rest ≡ outcome.acts →
+      Torn (next_steps rest) (Some (changed_by (steps_of front) c)) left → StandsAnswered plain items dids (length (text_of front)) left
+  between_all front rest left spares parts torn =
+      stands_answered c plain items dids (length (text_of front)) left does.did
+      (reached_between Tears (StandsBehind plain items dids) dids c does.last front rest left speak
+      (script_stands c plain input outcome held live does content spares) (parts ∙ ap (λ (o : ScriptRun). o.acts) does.is) torn)
+
+  between_first : (n : ℕ) (front rest : List Act) (left : Option Cartridge) → n ≤ length items → length (text_of front) < printed_by dids n → FirstSpare c plain items dids n →
+      front ++ rest ≡ outcome.acts → Torn (next_steps rest) (Some (changed_by (steps_of front) c)) left → StandsAnswered plain items dids (length (text_of front)) left
+  between_first n front rest left some less spares parts torn =
+      elim (ends_in front rest (acts_of (take n dids)) (acts_of (drop n dids) ++ does.last) (parts ∙ acts_are n)) [
+        | inl w ↦
+            first_answered n c plain items dids (length (text_of front)) left some less does.did
+            (reached_between Tears (StandsBehind plain (take n items) (take n dids)) (take n dids) c [] front (w.act ∷ w.behind) left (first_speak n dids speak)
+            (first_stand n c plain items dids held live has does.did spares) (w.whole ∙ sym (append-nil (acts_of (take n dids))))
+            (subst (λ (xs : List Act). Torn (next_steps xs) (Some (changed_by (steps_of front) c)) left) w.rest_is torn))
+        | inr p ↦
+            let text : length (text_of front) ≡ printed_by dids n + length (text_of p.next) =
+            ap (λ (xs : List Act). length (text_of xs)) p.front_is ∙ ap (λ (t : List ℕ). length t) (text_of-append (acts_of (take n dids)) p.next)
+            ∙ length-append (text_of (acts_of (take n dids))) (text_of p.next) in
+            absurd (omega arith)
+      ]
+
+  behind_all : (front : List Act) (act : Act) (rest : List Act) (left : Option Cartridge) (printed : ℕ) → ItemsSpare c plain items dids → front ++ act ∷ rest ≡ outcome.acts →
+      left ≡ Some (changed_by (steps_of front ++ act.steps) c) → length (text_of front) ≤ printed → printed ≤ length (text_of front) + length act.text → StandsAnswered plain items dids printed left
+  behind_all front act rest left printed spares parts is above below =
+      stands_answered c plain items dids printed left does.did
+      (reached_behind Tears (λ ss d. Torn-nothing ss (Some d)) (StandsBehind plain items dids) dids c does.last front act rest left printed
+      speak (script_stands c plain input outcome held live does content spares)
+      (parts ∙ ap (λ (o : ScriptRun). o.acts) does.is) is above below)
+
+  behind_first : (n : ℕ) (front : List Act) (act : Act) (rest : List Act) (left : Option Cartridge) (printed : ℕ) → n ≤ length items → printed < printed_by dids n → FirstSpare c plain items dids n →
+      front ++ act ∷ rest ≡ outcome.acts → left ≡ Some (changed_by (steps_of front ++ act.steps) c) → length (text_of front) ≤ printed → printed ≤ length (text_of front) + length act.text →
+      StandsAnswered plain items dids printed left
+  behind_first n front act rest left printed some less spares parts is above below =
+      elim (ends_in front (act ∷ rest) (acts_of (take n dids)) (acts_of (drop n dids) ++ does.last) (parts ∙ acts_are n)) [
+        | inl w ↦
+            let rest_is : act ∷ rest ≡ w.act ∷ (w.behind ++ (acts_of (drop n dids) ++ does.last)) = w.rest_is in
+            let same : act ≡ w.act = cc in
+            first_answered n c plain items dids printed left some less does.did
+            (reached_behind Tears (λ ss d. Torn-nothing ss (Some d)) (StandsBehind plain (take n items) (take n dids)) (take n dids) c [] front act w.behind left printed (first_speak n dids speak)
+            (first_stand n c plain items dids held live has does.did spares)
+            (ap (λ (a : Act). front ++ a ∷ w.behind) same ∙ w.whole ∙ sym (append-nil (acts_of (take n dids)))) is above below)
+        | inr p ↦
+            let text : length (text_of front) ≡ printed_by dids n + length (text_of p.next) =
+            ap (λ (xs : List Act). length (text_of xs)) p.front_is ∙ ap (λ (t : List ℕ). length t) (text_of-append (acts_of (take n dids)) p.next)
+            ∙ length-append (text_of (acts_of (take n dids))) (text_of p.next) in
+            absurd (omega arith)
+      ]
+
+  -- a stop among the acts of the first items
+  first_stopped : (n : ℕ) (left : Option Cartridge) → n ≤ length items → FirstSpare c plain items dids n → Torn (steps_of (acts_of (take n dids))) (Some c) left →
+      (m : ℕ) × (m ≤ n) × StandsBehind plain items dids m left
+  first_stopped n left some spares torn =
+      let s : StopsBehind (acts_of (take n dids)) c left = stops_behind (acts_of (take n dids)) c left torn in
+      let r : Reached (StandsBehind plain (take n items) (take n dids)) (take n dids) (length (text_of s.front)) left =
+      reached_between Tears (StandsBehind plain (take n items) (take n dids)) (take n dids) c [] s.front s.rest left (first_speak n dids speak)
+      (first_stand n c plain items dids held live has does.did spares) (s.parts ∙ sym (append-nil (acts_of (take n dids)))) s.torn in
+      let first : length (take n dids) ≡ n = length-take-le n dids (let all = long in omega arith) in
+      let below : r.count ≤ n = (let most = r.within in omega arith) in
+      (r.count, below, of_first n r.count plain items dids left below r.holds)
+
+  all_stopped : (left : Option Cartridge) → ItemsSpare c plain items dids → Torn (steps_of outcome.acts) (Some c) left → (m : ℕ) × (m ≤ length items) × StandsBehind plain items dids m left
+  all_stopped left spares torn =
+      let s : StopsBehind outcome.acts c left = stops_behind outcome.acts c left torn in
+      let reached : StandsAnswered plain items dids (length (text_of s.front)) left = between_all s.front s.rest left spares s.parts s.torn in
+      (reached.count, reached.within, reached.stands)
+
+  parted_stop : (n : ℕ) (left : Option Cartridge) → Torn (steps_of outcome.acts) (Some c) left →
+      Torn (steps_of (acts_of (take n dids))) (Some c) left ⊎ Torn (steps_of (acts_of (drop n dids) ++ does.last)) (Some (cartridge_behind c (take n dids))) left
+  parted_stop n left torn =
+      elim (Torn-append (steps_of (acts_of (take n dids))) (steps_of (acts_of (drop n dids) ++ does.last)) (Some c) left
+      (subst (λ (ss : List Step). Torn ss (Some c) left) (ap steps_of (acts_are n) ∙ steps_of-append (acts_of (take n dids)) (acts_of (drop n dids) ++ does.last)) torn)) [
+        | inl first ↦ inl first
+        | inr behind ↦ inr (subst (λ (o : Option Cartridge). Torn (steps_of (acts_of (drop n dids) ++ does.last)) o left)
+            (effects-some (steps_of (acts_of (take n dids))) c ∙ ap (λ (d : Cartridge). Some d) (sym (cartridge_is c (take n dids)))) behind)
+      ]
+
 pub answered_between : AnsweredBetween
-answered_between c plain input outcome front rest left held live does content spares parts torn =
-    stands_answered c plain does.items does.dids (length (text_of front)) left does.did
-    (reached_between Tears (StandsBehind plain does.items does.dids) does.dids c does.last front rest left (script_speaks c plain.words (entries_of plain) input outcome does)
-    (script_stands c plain input outcome held live does content spares) (parts ∙ ap (λ (o : ScriptRun). o.acts) does.is) torn)
+answered_between c plain input outcome front rest left held live does content (n, some, inl all, spares) parts torn =
+    between_all c plain input outcome held live does content front rest left
+    (all_spare c plain does.items does.dids n (long c plain input outcome held live does content) all spares) parts torn
+answered_between c plain input outcome front rest left held live does content (n, some, inr less, spares) parts torn =
+    between_first c plain input outcome held live does content n front rest left some less spares parts torn
 
 pub answered_behind : AnsweredBehind
-answered_behind c plain input outcome front act rest left printed held live does content spares parts is above below =
-    stands_answered c plain does.items does.dids printed left does.did
-    (reached_behind Tears (λ ss d. Torn-nothing ss (Some d)) (StandsBehind plain does.items does.dids) does.dids c does.last front act rest left printed
-    (script_speaks c plain.words (entries_of plain) input outcome does) (script_stands c plain input outcome held live does content spares)
-    (parts ∙ ap (λ (o : ScriptRun). o.acts) does.is) is above below)
+answered_behind c plain input outcome front act rest left printed held live does content (n, some, inl all, spares) parts is above below =
+    behind_all c plain input outcome held live does content front act rest left printed
+    (all_spare c plain does.items does.dids n (long c plain input outcome held live does content) all spares) parts is above below
+answered_behind c plain input outcome front act rest left printed held live does content (n, some, inr less, spares) parts is above below =
+    behind_first c plain input outcome held live does content n front act rest left printed some less spares parts is above below
 
 -- where nothing was printed no item was answered
 pub none_answered : (c : Cartridge) (plain : Plain) (input : List ℕ) (outcome : ScriptRun) (left : Option Cartridge) → (does : ScriptDoes c plain.words (entries_of plain) input outcome) →
@@ -166,11 +350,18 @@ none_answered c plain input outcome left does content stands =
 -- ---- a stop in a script
 
 pub stopped_script_stands : StoppedScriptStands
-stopped_script_stands c plain input outcome left held live does content spares torn =
-    let s : StopsBehind outcome.acts c left = stops_behind outcome.acts c left torn in
-    let reached : StandsAnswered plain does.items does.dids (length (text_of s.front)) left =
-    answered_between c plain input outcome s.front s.rest left held live does content spares s.parts s.torn in
-    (reached.count, reached.within, reached.stands)
+stopped_script_stands c plain input outcome left held live does content n some spares torn =
+    elim (parted_stop c plain input outcome held live does content n left torn) [
+      | inl first ↦ inr (first_stopped c plain input outcome held live does content n left some spares first)
+      | inr behind ↦ elim (cases_lt n (length does.items)) [
+        | inl more ↦ inl (record { more = more; torn = behind })
+        | inr all ↦
+            let same : n ≡ length does.items = omega arith in
+            let stood = all_stopped c plain input outcome held live does content left
+            (all_spare c plain does.items does.dids n (long c plain input outcome held live does content) same spares) torn in
+            inr (stood.0, (let most = stood.1 in omega arith), stood.2)
+      ]
+    ]
 
 -- ---- a script that was done
 

@@ -14,10 +14,10 @@ use Rattle.command_spec.specs.Machine.{HasValues, Yields}
 use Rattle.command_spec.specs.MadeVolumes.{made_contents}
 use Rattle.command_spec.specs.Outcome.{CommandOutcome, HasPlace, output_of}
 use Rattle.command_spec.specs.Script.{Did, ScriptDoes, ScriptRun}
-use Rattle.command_spec.specs.ScriptLists.{ItemsSpare, all_added, printed_by}
+use Rattle.command_spec.specs.ScriptLists.{CameFurther, FirstSpare, GoesNoFurther, ItemsSpare, all_added, printed_by}
 use Rattle.command_spec.specs.declared.status.Status.{Status}
 use Rattle.command_spec.specs.declared.words.Words.{Words}
-use Rattle.qic_base.specs.Acts.{steps_of}
+use Rattle.qic_base.specs.Acts.{Act, steps_of}
 use Rattle.qic_base.specs.Cartridge.{Cartridge, IsCartridge}
 use Rattle.qic_base.specs.Step.{Wear, effect, effects}
 use Rattle.qic_base.specs.Stop.{Torn}
@@ -91,14 +91,26 @@ pub record LossSpares (c : Cartridge) (segment sector : ℕ) : Type 0 where
   pub volumes : (plain : Plain) → Stands c plain → WearSpares c plain segment sector
   pub copies : CopyDoesNotRead c 0 → CopyDoesNotRead c 1 → (2 ≤ segment) ⊎ HasNoHeader c
 
--- so does each sector that a command loses
-abbrev pub CommandSpares : Words → (input : List ℕ) → Cartridge → Type 0
-CommandSpares (commands.Lose segment sector) input c = HasPlace c segment sector → LossSpares c segment sector
-CommandSpares commands.Script input c =
+-- a script that was stopped went no further than so many lines: by what it had printed, or by what it left
+abbrev pub StopsAmong : (printed : Option (List ℕ)) → Cartridge → List Item → List Did → (last : List Act) → (count : ℕ) → (left : Option Cartridge) → Type 0
+StopsAmong (Some text) c items dids last count left = GoesNoFurther items dids count (length text)
+StopsAmong None c items dids last count left = ¬ (CameFurther c items dids last count left)
+
+-- the lines that were carried out spare header and table: all of a script that was answered, and of one that was stopped so many
+-- that it went no further
+abbrev pub LinesSpare : Ended → Cartridge → Plain → List Item → List Did → (last : List Act) → (left : Option Cartridge) → Type 0
+LinesSpare (Answered answer printed) c plain items dids last left = ItemsSpare c plain items dids
+LinesSpare (Stopped printed) c plain items dids last left =
+    (count : ℕ) × (count ≤ length items) × StopsAmong printed c items dids last count left × FirstSpare c plain items dids count
+
+-- so does each sector that a command loses, up to where it ended
+abbrev pub CommandSpares : Words → Ended → (input : List ℕ) → (left : Option Cartridge) → Cartridge → Type 0
+CommandSpares (commands.Lose segment sector) ended input left c = HasPlace c segment sector → LossSpares c segment sector
+CommandSpares commands.Script ended input left c =
     (plain : Plain) (run : ScriptRun) → Stands c plain →
     (does : ScriptDoes (settled plain.table_area c) plain.words (entries_of plain) input run) →
-    ItemsSpare (settled plain.table_area c) plain does.items does.dids
-CommandSpares command input c = Unit {0}
+    LinesSpare ended (settled plain.table_area c) plain does.items does.dids does.last left
+CommandSpares command ended input left c = Unit {0}
 
 -- formatting isn't stopped a second time before one was carried out
 abbrev pub MayEnd : Words → Ended → (begun : Bool) → Type 0
@@ -127,7 +139,7 @@ pub record HasRun (run : Run) (held left : Option Cartridge) : Type 0 where
 pub record IsWithin (run : Run) (begun : Bool) (held left : Option Cartridge) : Type 0 where
   pub bytes : All (λ b. b < 256) run.input
   pub whole : IfSome left IsCartridge
-  pub spares : IfSome held (CommandSpares run.command run.input)
+  pub spares : IfSome held (CommandSpares run.command run.ended run.input left)
   pub may_end : MayEnd run.command run.ended begun
 
 abbrev pub Happens : Event → (begun : Bool) → (held left : Option Cartridge) → Type 0

@@ -8,7 +8,7 @@ use Rattle.command_laws.specs.MountedHeld.{IsHeld}
 use Rattle.command_laws.specs.MountedKept.{IsAppendable}
 use Rattle.command_spec.specs.Input.{Item, Ending, IsScript}
 use Rattle.command_spec.specs.Script.{Did, ItemsDo, entries_behind, cartridge_behind, ItemDoes, FaultDoes, ScriptRun, ScriptDoes}
-use Rattle.command_spec.specs.ScriptLists.{ItemsSpare, LineSpares, StandsAnswered, item_added, all_added}
+use Rattle.command_spec.specs.ScriptLists.{CameFurther, FirstSpare, GoesNoFurther, ItemsSpare, LineSpares, StandsAnswered, item_added, all_added}
 use Rattle.command_spec.specs.declared.line.Line.{Line}
 use Rattle.qic_base.specs.Acts.{steps_of, Act, text_of, next_steps}
 use Rattle.qic_base.specs.Cartridge.{Cartridge}
@@ -77,13 +77,20 @@ DoneScriptStands =
     ItemsSpare c plain does.items does.dids →
     Stands (changed_by (steps_of outcome.acts) c) (plain_behind plain does.items does.dids)
 
--- where each of these sectors takes a write, a stop in a script leaves the plain cartridge behind some of its items
+-- the lines that the script went no further than spare header and table
+abbrev pub WentNoFurther : Cartridge → Plain → List Item → List Did → (printed : ℕ) → Type 0
+WentNoFurther c plain items dids printed =
+    (count : ℕ) × (count ≤ length items) × GoesNoFurther items dids count printed × FirstSpare c plain items dids count
+
+-- where each of these sectors takes a write, and the first items spare header and table, a stop in a script leaves the plain
+-- cartridge behind some of these, or it came further
 abbrev pub StoppedScriptStands : Type 0
 StoppedScriptStands =
     (c : Cartridge) (plain : Plain) (input : List ℕ) (outcome : ScriptRun) (left : Option Cartridge) → IsHeld c plain → IsTableLive c →
     (does : ScriptDoes c plain.words (entries_of plain) input outcome) → All (λ b. b < 256) input →
-    ItemsSpare c plain does.items does.dids → Torn (steps_of outcome.acts) (Some c) left →
-    (n : ℕ) × (n ≤ length does.items) × IsSomeAnd left (λ d. Stands d (plain_behind plain (take n does.items) (take n does.dids)))
+    (count : ℕ) → count ≤ length does.items → FirstSpare c plain does.items does.dids count → Torn (steps_of outcome.acts) (Some c) left →
+    CameFurther c does.items does.dids does.last count left
+    ⊎ ((n : ℕ) × (n ≤ count) × IsSomeAnd left (λ d. Stands d (plain_behind plain (take n does.items) (take n does.dids))))
 
 -- so it is, where each of these sectors takes a write, after a stop among the steps of an act, with the acts before it done and
 -- their texts written
@@ -91,7 +98,7 @@ abbrev pub AnsweredBetween : Type 0
 AnsweredBetween =
     (c : Cartridge) (plain : Plain) (input : List ℕ) (outcome : ScriptRun) (front rest : List Act) (left : Option Cartridge) →
     IsHeld c plain → IsTableLive c → (does : ScriptDoes c plain.words (entries_of plain) input outcome) → All (λ b. b < 256) input →
-    ItemsSpare c plain does.items does.dids → front ++ rest ≡ outcome.acts →
+    WentNoFurther c plain does.items does.dids (length (text_of front)) → front ++ rest ≡ outcome.acts →
     Torn (next_steps rest) (Some (changed_by (steps_of front) c)) left →
     StandsAnswered plain does.items does.dids (length (text_of front)) left
 
@@ -101,7 +108,7 @@ AnsweredBehind =
     (c : Cartridge) (plain : Plain) (input : List ℕ) (outcome : ScriptRun) (front : List Act) (act : Act) (rest : List Act)
     (left : Option Cartridge) (printed : ℕ) →
     IsHeld c plain → IsTableLive c → (does : ScriptDoes c plain.words (entries_of plain) input outcome) → All (λ b. b < 256) input →
-    ItemsSpare c plain does.items does.dids → front ++ act ∷ rest ≡ outcome.acts →
+    WentNoFurther c plain does.items does.dids printed → front ++ act ∷ rest ≡ outcome.acts →
     left ≡ Some (changed_by (steps_of front ++ act.steps) c) → length (text_of front) ≤ printed →
     printed ≤ length (text_of front) + length act.text →
     StandsAnswered plain does.items does.dids printed left

@@ -1,6 +1,6 @@
 -- What a script leaves of a cartridge behind the lines that were carried out: what these append, what the cartridge stands for,
 -- and the list that it is mounted with (this project's own).
-use Rattle.std.specs.Prelude.{ℕ, List, ◌==◌, length, if◌then◌else◌, [], ◌∷◌, suc, ◌≤◌, take, Option, IsSomeAnd, ◌<◌, ◌↔◌, ◌++◌}
+use Rattle.std.specs.Prelude.{ℕ, List, ◌==◌, length, if◌then◌else◌, [], ◌∷◌, suc, ◌≤◌, take, drop, Option, Some, IsSomeAnd, ◌<◌, ◌↔◌, ◌++◌, ◌≡◌, ◌⊎◌}
 use Rattle.cartridge_spec.specs.Appending.{Content, with_all}
 use Rattle.cartridge_spec.specs.Header.{Header}
 use Rattle.cartridge_spec.specs.Mounting.{Lists}
@@ -9,10 +9,11 @@ use Rattle.cartridge_spec.specs.Table.{Entry}
 use Rattle.cartridge_spec.specs.Volumes.{Plain, entries_of, Stands}
 use Rattle.cartridge_spec.specs.Wear.{WearSpares}
 use Rattle.command_spec.specs.Input.{Item}
-use Rattle.command_spec.specs.Script.{Did, acts_of, entries_behind}
+use Rattle.command_spec.specs.Script.{Did, acts_of, cartridge_behind, entries_behind}
 use Rattle.command_spec.specs.declared.line.Line.{Line}
-use Rattle.qic_base.specs.Acts.{steps_of, text_of}
+use Rattle.qic_base.specs.Acts.{Act, steps_of, text_of}
 use Rattle.qic_base.specs.Cartridge.{Cartridge, IsPlace}
+use Rattle.qic_base.specs.Stop.{Torn}
 use Rattle.command_spec.specs.declared.line.Line.TheVariants as line
 
 -- ---- what items append
@@ -47,9 +48,27 @@ ItemsSpare c plain (item ∷ items) [] = Unit {0}
 ItemsSpare c plain (item ∷ items) (did ∷ dids) =
     LineSpares c plain item.line × ItemsSpare (changed_by (steps_of did.acts) c) (with_all plain (item_added (entries_of plain) item did)) items dids
 
+-- the first ones do
+abbrev pub FirstSpare : Cartridge → Plain → List Item → List Did → (count : ℕ) → Type 0
+FirstSpare c plain items dids count = ItemsSpare c plain (take count items) (take count dids)
+
+-- ---- how far a script went
+
 -- what so many items print, in bytes
 abbrev pub printed_by : List Did → (count : ℕ) → ℕ
 printed_by dids count = length (text_of (acts_of (take count dids)))
+
+-- It went no further than so many items, where so many bytes were printed: they are all, or the reply to the last of them was not
+-- written whole.
+abbrev pub GoesNoFurther : List Item → List Did → (count printed : ℕ) → Type 0
+GoesNoFurther items dids count printed = (count ≡ length items) ⊎ (printed < printed_by dids count)
+
+-- it was stopped behind the first ones, in what the others do, or in its last acts
+pub record CameFurther (c : Cartridge) (items : List Item) (dids : List Did) (last : List Act) (count : ℕ) (left : Option Cartridge) : Type 0 where
+  pub more : count < length items
+  pub torn : Torn (steps_of (acts_of (drop count dids) ++ last)) (Some (cartridge_behind c (take count dids))) left
+
+-- ---- what it leaves
 
 -- What is left stands for the plain cartridge behind so many items, where so many bytes were printed: all items whose reply
 -- was written whole are among them, and at most one more.

@@ -9,7 +9,7 @@ use Rattle.command_spec.specs.Listing.{IsHeard}
 use Rattle.command_spec.specs.Machine.{Spells}
 use Rattle.command_spec.specs.MadeVolumes.{made_contents}
 use Rattle.command_spec.specs.Script.{ScriptDoes}
-use Rattle.command_spec.specs.ScriptLists.{ItemsSpare, StandsAnswered, all_added}
+use Rattle.command_spec.specs.ScriptLists.{CameFurther, FirstSpare, GoesNoFurther, ItemsSpare, StandsAnswered, all_added}
 use Rattle.command_spec.specs.declared.status.Status.{Status}
 use Rattle.qic_base.specs.Cartridge.{Cartridge}
 use Rattle.command_spec.specs.declared.words.Words.TheVariants as commands
@@ -49,7 +49,7 @@ pub record MakesVolumes {T K : Type 0} (t : tapes.Meaning T) (k : sinks.Meaning 
 -- ---- a script
 
 -- The words ask for a script over an input of bytes that is told, on a cartridge that stands for a plain one. By the plain machine
--- the lines do this on the settled cartridge; and each sector that they wear spares the header and the table.
+-- the lines do this on the settled cartridge.
 pub record Scripted (told : Option (List ℕ)) (words : List (List ℕ)) (c : Cartridge) (plain : Plain) : Type 0 where
   pub spelled : Spells words commands.Script
   pub input : List ℕ
@@ -58,24 +58,31 @@ pub record Scripted (told : Option (List ℕ)) (words : List (List ℕ)) (c : Ca
   pub stands : Stands c plain
   pub outcome : scripts.ScriptRun
   pub does : ScriptDoes (settled plain.table_area c) plain.words (entries_of plain) input outcome
-  pub spares : ItemsSpare (settled plain.table_area c) plain does.items does.dids
 
--- Where each sector of its table's segment takes a write, what is left of it stands for the plain cartridge behind the first ones
--- of the lines.
+-- each sector that the first lines wear spares the header and the table, on the cartridge as it then stands
+abbrev pub FirstLinesSpare : {told : Option (List ℕ)} {words : List (List ℕ)} {c : Cartridge} {plain : Plain} → Scripted told words c plain → (count : ℕ) → Type 0
+FirstLinesSpare {told} {words} {c} {plain} script count =
+    (count ≤ length script.does.items) × FirstSpare (settled plain.table_area c) plain script.does.items script.does.dids count
+
+-- Where each sector of its table's segment takes a write, and the first lines spare header and table, what is left of it stands for
+-- the plain cartridge behind some of these; or the stop came further.
 abbrev pub SomeScripted : (told : Option (List ℕ)) → (words : List (List ℕ)) → (held left : Option Cartridge) → Type 0
 SomeScripted told words held left =
     (c : Cartridge) (plain : Plain) → held ≡ Some c → (script : Scripted told words c plain) → IsTableLive c →
-    (n : ℕ) × (n ≤ length script.does.items)
-    × IsSomeAnd left (λ d. Stands d (with_all plain (all_added (entries_of plain) (take n script.does.items) (take n script.does.dids))))
+    (count : ℕ) → FirstLinesSpare script count →
+    CameFurther (settled plain.table_area c) script.does.items script.does.dids script.does.last count left
+    ⊎ ((n : ℕ) × (n ≤ count)
+    × IsSomeAnd left (λ d. Stands d (with_all plain (all_added (entries_of plain) (take n script.does.items) (take n script.does.dids)))))
 
--- When it is over, whatever it answered, this was printed. Where each sector of the table's segment takes a write, all lines whose
--- reply was written whole are among these, and at most one more; and all lines, also where some of these sectors take none, once
--- the input was carried out.
+-- When it is over, whatever it answered, this was printed. Where each sector of the table's segment takes a write, and the lines that
+-- it went no further than spare header and table, all lines whose reply was written whole are among these, and at most one more; and
+-- all lines, also where some of these sectors take none, once the input was carried out, if all lines spare them.
 pub record AllAnswered {T K : Type 0} (t : tapes.Meaning T) (k : sinks.Meaning K) {told : Option (List ℕ)} {words : List (List ℕ)} {c : Cartridge} {plain : Plain} (old new : T) (before behind : K) (answer : Status) (script : Scripted told words c plain) : Type 0 where
   pub text : List ℕ
   pub took : k.took before text behind
-  pub answered : IsTableLive c → ToldNow t new (StandsAnswered plain script.does.items script.does.dids (length text))
-  pub all : IsHeard answer → ToldNow t new (λ left. IsSomeAnd left (λ d. Stands d (with_all plain (all_added (entries_of plain) script.does.items script.does.dids))))
+  pub answered : IsTableLive c → (count : ℕ) → GoesNoFurther script.does.items script.does.dids count (length text) → FirstLinesSpare script count →
+      ToldNow t new (StandsAnswered plain script.does.items script.does.dids (length text))
+  pub all : IsHeard answer → ItemsSpare (settled plain.table_area c) plain script.does.items script.does.dids → ToldNow t new (λ left. IsSomeAnd left (λ d. Stands d (with_all plain (all_added (entries_of plain) script.does.items script.does.dids))))
 
 -- A script may be stopped: each cartridge that it leaves is so; and so it is when it is over.
 pub record CarriesOutLines {T K : Type 0} (t : tapes.Meaning T) (k : sinks.Meaning K) (told : Option (List ℕ)) (words : List (List ℕ)) (old new : T) (before behind : K) (answer : Status) : Type 0 where
