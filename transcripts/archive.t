@@ -53,6 +53,8 @@ It is listed and given back, by scripts too, and the drive answers.
   scrub 4 0 0
   $ reader cart.img protect off
   protected off
+  $ reader cart.img upgrade
+  upgraded from 2
   $ reader cart.img lose 99 0
   tape: no such sector
   [15]
@@ -83,6 +85,17 @@ What has to write fails as the tape's.
   tape: the tape failed
   [18]
   $ cmp cart.img open.img
+
+So does an upgrade of an image of version 1.
+
+  $ printf 'QIC80IMG\1\0\3\0' > old.img
+  $ truncate -s 2760640 old.img
+  $ chmod a-w old.img
+  $ reader old.img upgrade
+  tape: the tape failed
+  [18]
+  $ tr -d '\0' < old.img | wc -c
+  10
 
 A table that is not settled has to be written, unless the cartridge is protected.
 

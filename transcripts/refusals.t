@@ -28,6 +28,8 @@ needs one.
   4 tape: no cartridge
   $ told cart.img protect off
   4 tape: no cartridge
+  $ told cart.img upgrade
+  4 tape: no cartridge
   $ told cart.img defect 84 32
   4 tape: no cartridge
   $ told cart.img lose 84 32
@@ -72,12 +74,15 @@ also where it is not formatted.
   $ told cart.img make 150 3
   5 tape: the cartridge is protected
 
-The protect mark stops nothing that a person's hand does: neither a defect, nor a lost sector, nor another cartridge.
+The protect mark stops nothing that a person's hand does: neither a defect, nor a lost sector, nor an upgrade, nor another
+cartridge.
 
   $ tape cart.img defect 83 31
   defect 83 31
   $ tape cart.img lose 83 30
   lost 83 30
+  $ tape cart.img upgrade
+  upgraded from 2
   $ tape cart.img new 3
   blank 3
   $ tape cart.img format L

@@ -247,16 +247,17 @@ versions, with the same cartridge; the next `upgrade` begins again, or finds it 
   $ tape cart.img upgrade
   upgraded from 1
   $ cp cart.img new.img
-  $ for call in ftruncate fsync:when=2 pwrite64 pwrite64:when=2 pwrite64:when=2000 fdatasync fdatasync:when=2; do
+  $ for call in ftruncate fsync:when=2 pwrite64 pwrite64:when=2 pwrite64:when=2000 fdatasync fdatasync:when=2 \
+  >     fdatasync:when=3; do
   >     cp old.img cart.img
-  >     killed $call cart.img upgrade
+  >     killed $call cart.img upgrade > ../said
   >     tape cart.img list
   >     tape cart.img upgrade > ../said
   >     tape cart.img list
   >     cmp cart.img new.img
   > done | sort | uniq -c | sed 's/^ *//'
-  14 1 3 3 10 1970-01-01T00:00:00 a
-  14 volumes 1
+  16 1 3 3 10 1970-01-01T00:00:00 a
+  16 volumes 1
 
 So it is where a call fails.
 

@@ -54,7 +54,7 @@ In what follows such words are told by `no`, which prints them if they should be
 
 Words count as they stand: case counts, nothing is trimmed, and an empty word is a word.
 
-  $ for word in '' ' ' List LIST 'list ' ' list' lists inf end help -h --help; do no "$word"; done
+  $ for word in '' ' ' List LIST 'list ' ' list' lists inf upgraded end help -h --help; do no "$word"; done
   $ no list ''
   $ no '' list
   $ no info info
@@ -72,6 +72,8 @@ Each command has its words, no fewer and no more.
   $ no lose 4 0 0
   $ no protect on off
   $ no protect on on
+  $ no upgrade 2
+  $ no upgrade on
   $ no format two names
   $ no format two names 1994-03-01T12:00:00
   $ no format L 1994-03-01T12:00:00 1994-03-01T12:00:00
