@@ -109,6 +109,7 @@ pub mod ScrubSettled
 pub mod ScrubStanding
 pub mod ScrubTurns
 pub mod SilentMended
+pub mod SilentSettled
 pub mod StoreAgain
 pub mod StoreBehind
 pub mod StoreEnding

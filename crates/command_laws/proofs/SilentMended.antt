@@ -262,7 +262,7 @@ silent_in_force k c plain stood silent rise (inr second) =
           )
     ]
 
-table_reads : (k c : Cartridge) (plain : Plain) (area : List (List ℕ)) → DiffersSilently k c plain → TableIs k area → TableIs c area
+pub table_reads : (k c : Cartridge) (plain : Plain) (area : List (List ℕ)) → DiffersSilently k c plain → TableIs k area → TableIs c area
 table_reads k c plain area silent reads =
     elim (silent.each 2) [
       | inr one ↦ absurd (one.not_table refl)

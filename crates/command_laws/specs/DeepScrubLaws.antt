@@ -1,5 +1,5 @@
 -- What scrubbing does in either form, and what a deep scrub leaves, done or stopped, as facts.
-use Rattle.std.specs.Prelude.{◌≡◌, ℕ, List, [], ◌↔◌, Option, Some, IsSomeAnd}
+use Rattle.std.specs.Prelude.{◌≡◌, ℕ, false, List, [], ◌↔◌, Option, Some, IsSomeAnd}
 use Rattle.cartridge_laws.specs.AppendSettled.{IsSettledFor}
 use Rattle.cartridge_laws.specs.Table.{IsSoundList}
 use Rattle.cartridge_spec.specs.HeaderAndTable.{TableIs}
@@ -12,8 +12,9 @@ use Rattle.command_laws.specs.ScrubFound.{FindAtOnce, finds_at_once, without_all
 use Rattle.command_laws.specs.ScrubLaws.{AreAllLive}
 use Rattle.command_laws.specs.ScrubMended.{IsScrubbed}
 use Rattle.command_laws.specs.SilentSectors.{DiffersSilently}
+use Rattle.command_spec.specs.Outcome.{CommandOutcome}
 use Rattle.command_spec.specs.Scrub.{Scrubs, Looked, looked_at}
-use Rattle.command_spec.specs.ScrubForms.{Finding, FindInTurn, MayBeFound, ScrubsAs, finding_acts}
+use Rattle.command_spec.specs.ScrubForms.{Finding, FindInTurn, MayBeFound, ScrubsAs, ScrubsDeepOn, finding_acts}
 use Rattle.command_spec.specs.declared.depth.Depth.{Depth}
 use Rattle.command_spec.specs.declared.depth.Depth.TheVariants.{Shallow, Deep}
 use Rattle.qic_base.specs.Acts.{Act, steps_of}
@@ -107,6 +108,13 @@ abbrev pub SilentSectorsAreMended : Type 0
 SilentSectorsAreMended =
     (k c : Cartridge) (plain : Plain) (acts : List Act) → Stands k plain → DiffersSilently k c plain →
     ScrubsAs Deep c plain.words (entries_of plain) acts → Stands (changed_by (steps_of acts) c) plain
+
+-- so what `scrub deep` makes of such a cartridge stands, where the table of the other was settled
+abbrev pub SilentSectorsEnd : Type 0
+SilentSectorsEnd =
+    (k c : Cartridge) (plain : Plain) (outcome : CommandOutcome) → Stands k plain → IsSettledFor k plain.table_area →
+    c.info.protected ≡ false → DiffersSilently k c plain →
+    ScrubsDeepOn c plain.words plain.table_area (entries_of plain) outcome → Stands (changed_by (steps_of outcome.acts) c) plain
 
 -- ---- a second scrub
 

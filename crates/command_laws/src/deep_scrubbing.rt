@@ -2,7 +2,7 @@
 //! hold wrong bytes. Each law is the contract of a function that does nothing, so that other crates can rest on it; their
 //! proofs import the lemmas of this crate's `proofs`.
 
-ghost use Rattle.command_laws.specs.DeepScrubLaws.{ShallowIsScrub, FoundMayBe, FormIsFunction, FormAlways, FindsAtOnce, DoneInForm, DoneFormIsCartridge, DoneFormStands, DoneFormIsClean, DoneFormTable, DoneFormIsSettled, SecondFormWritesNothing, SilentSectorsAreMounted, SilentSectorsAreMended, StoppedInForm, StoppedFormIsCartridge, StoppedFormStands, StoppedFormIsClean, StoppedFormTable, StoppedFormIsSettled};
+ghost use Rattle.command_laws.specs.DeepScrubLaws.{ShallowIsScrub, FoundMayBe, FormIsFunction, FormAlways, FindsAtOnce, DoneInForm, DoneFormIsCartridge, DoneFormStands, DoneFormIsClean, DoneFormTable, DoneFormIsSettled, SecondFormWritesNothing, SilentSectorsAreMounted, SilentSectorsAreMended, SilentSectorsEnd, StoppedInForm, StoppedFormIsCartridge, StoppedFormStands, StoppedFormIsClean, StoppedFormTable, StoppedFormIsSettled};
 
 /// Without a search for wrong sectors it is a scrub. Scrubbing in a form does one thing, and it does something: two code
 /// blocks differ in four sectors (QIC-80-MC), so at most one sector of a segment is found to be wrong. What is found of each segment follows from the cartridge before the
@@ -31,6 +31,7 @@ pub fn done_in_form()
 pub fn silent_sectors()
     ensures mounted { SilentSectorsAreMounted }
     ensures mended { SilentSectorsAreMended }
+    ensures ends { SilentSectorsEnd }
 {}
 
 /// Where each usable sector of the segments that are looked at takes what is written to it, a second scrub in the same form
