@@ -1,6 +1,5 @@
 -- The bytes that pieces give where zero bytes stand in the place of what doesn't read.
 use Rattle.std.proofs.Common.{◌≡◌, ℕ, ◌+◌, List, [], ◌∷◌, ◌++◌, length, All, refl, sym, ap, ◌∙◌, subst, arith, append_assoc, length-append}
-use Rattle.std.specs.Prelude.{replicate}
 use Rattle.std.proofs.lemmas.List.{length-replicate}
 use Rattle.std.proofs.lemmas.List.Elements.{All-head, All-tail}
 use Rattle.std.proofs.lemmas.List.Sums.{sum_by-cons}
@@ -11,7 +10,7 @@ use Rattle.cartridge_spec.specs.Volumes.{carrying_segments, volume_length}
 use Rattle.command_laws.proofs.MountedSaying.{says_anyway}
 use Rattle.command_laws.proofs.RestoreCounts.{FitsIn, pieces_fit, read_count, pieces_hold_all}
 use Rattle.command_laws.specs.RestoreLaws.{GivenIsFunction, GivenAlways, GivenBeginsRestored, GivenIsLong}
-use Rattle.command_spec.specs.Restore.{Piece, GivingEnd, Restored, IsRead, PieceEnds, Restores, GivenBytes, bytes_said, bytes_held, piece_cells, act_of, pieces}
+use Rattle.command_spec.specs.Restore.{Piece, IsRead, PieceEnds, GivenBytes, bytes_said, bytes_held, piece_cells, act_of, pieces}
 use Rattle.qic_base.specs.Acts.{Act, text_of}
 use Rattle.qic_base.specs.Cartridge.{Cartridge}
 

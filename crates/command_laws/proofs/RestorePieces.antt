@@ -1,8 +1,8 @@
 -- What a restore gives is what its pieces give one by one.
-use Rattle.std.proofs.Common.{◌≡◌, ℕ, zero, suc, ◌≤◌, List, [], ◌∷◌, length, Option, Some, None, slice_get, refl, ap, subst, arith}
+use Rattle.std.proofs.Common.{◌≡◌, ℕ, zero, suc, ◌≤◌, List, [], ◌∷◌, length, Some, slice_get, refl, ap, subst, arith}
 use Rattle.std.proofs.lemmas.Option.{same_Some}
 use Rattle.command_laws.specs.RestoreLaws.{GivesOneByOne, RestoresOneByOne, OneByOneRestores}
-use Rattle.command_spec.specs.Restore.{Piece, GivingEnd, IsRead, Restores}
+use Rattle.command_spec.specs.Restore.{Piece, IsRead}
 use Rattle.qic_base.specs.Acts.{Act}
 use Rattle.qic_base.specs.Cartridge.{Cartridge}
 
