@@ -1,5 +1,5 @@
 -- One piece of a volume, by its number.
-use Rattle.std.proofs.Common.{◌≡◌, ℕ, zero, suc, ◌+◌, ◌-◌, ◌*◌, ◌/◌, ◌<◌, ◌≤◌, inl, inr, nat_le, Bool, true, false, cond, List, [], ◌∷◌, ◌++◌, length, take, drop, All, Option, Some, None, slice_get, refl, sym, ap, ◌∙◌, subst, arith}
+use Rattle.std.proofs.Common.{◌≡◌, ℕ, zero, suc, ◌+◌, ◌-◌, ◌*◌, ◌/◌, ◌<◌, ◌≤◌, inl, inr, nat_le, Bool, cond, List, [], ◌∷◌, length, take, drop, All, Some, None, slice_get, refl, sym, ap, ◌∙◌, subst, arith}
 use Rattle.std.specs.Prelude.{min}
 use Rattle.std.proofs.lemmas.Bool.{cases_Bool, leb-true}
 use Rattle.std.proofs.lemmas.List.{length-take-le, take-append-le, take-append-drop}
@@ -12,7 +12,6 @@ use Rattle.cartridge_spec.specs.Says as saying
 use Rattle.cartridge_spec.specs.Shape.{mask_at, usable_count, data_count, capacity}
 use Rattle.cartridge_laws.proofs.Places.{count_below}
 use Rattle.cartridge_laws.proofs.Segments.{count_of_cells}
-use Rattle.cartridge_laws.specs.Shape.{Carries}
 use Rattle.command_spec.specs.Restore.{Piece, PieceEnds, LostIn, MismatchIn, piece_cells}
 use Rattle.segment_io.specs.Reading.{HasSolved}
 use Rattle.volume_output.specs.Part.{ReadsPiece, LosesPiece, MismatchesPiece}

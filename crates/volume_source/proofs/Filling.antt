@@ -1,5 +1,5 @@
 -- What the reading of the next piece makes of a source.
-use Rattle.std.proofs.Common.{◌≡◌, ◌≢◌, ℕ, ◌+◌, ◌-◌, ◌*◌, ◌^◌, ◌<◌, ◌≤◌, inl, inr, List, [], ◌∷◌, ◌++◌, take, drop, length, Option, Some, None, Result, Ok, Err, slice_get, refl, sym, ap, ◌∙◌, subst, arith}
+use Rattle.std.proofs.Common.{◌≡◌, ℕ, ◌+◌, ◌-◌, ◌*◌, ◌^◌, ◌<◌, ◌≤◌, inl, inr, List, [], ◌++◌, take, drop, length, Option, Some, None, Result, Ok, Err, slice_get, refl, sym, ap, ◌∙◌, subst, arith}
 use Rattle.std.specs.Prelude.{IfSome, min}
 use Rattle.std.proofs.lemmas.Bool.{cases_lt}
 use Rattle.std.proofs.lemmas.List.{length-take-le}
@@ -17,7 +17,7 @@ use Rattle.qic_base.specs.Cause.{Rose}
 use Rattle.qic_base.specs.Source.{HasEnded}
 use Rattle.qic_base.specs.Tape.{Meaning, Done, Broke, Stops, Tells}
 use Rattle.segment_io.proofs.Going.{done_moved}
-use Rattle.volume_output.specs.Part.{ReadsPiece, LosesPiece, MismatchesPiece}
+use Rattle.volume_output.specs.Part.{ReadsPiece}
 use Rattle.volume_store.specs.Mounting.{StoreView, StoreFits, KeepsStore}
 use Rattle.volume_store.specs.Restoring.{ReadsPart}
 use Rattle.volume_store.specs.declared.fault.StoreFault.{StoreFault}

@@ -9,7 +9,7 @@ use Rattle.qic_base.specs.Tape.{Meaning, Tells}
 use Rattle.segment_io.proofs.Going.{tells_always}
 use Rattle.volume_store.specs.Mounting.{StoreView, StoreFits}
 use Rattle.volume_source.proofs.Bytes.{given_is}
-use Rattle.volume_source.specs.Source.{SourceView, IsHeld, IsSoundSource, KeepsVolume, FirstRead, IsRefusal, keeps_on, left_where, new_source, pieces_of_number}
+use Rattle.volume_source.specs.Source.{SourceView, IsHeld, IsSoundSource, KeepsVolume, FirstRead, IsRefusal, left_where, new_source, pieces_of_number}
 
 there_at : {A : Type 0} (xs : List A) (i : ℕ) → i < length xs → (x : A) × (slice_get xs i ≡ Some x)
 there_at [] i below = absurd (omega arith)

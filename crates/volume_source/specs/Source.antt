@@ -2,7 +2,7 @@
 -- own). The laws at the end are those that a source has to have.
 use Rattle.std.proofs.Common.{arith, ◌∙◌, refl, sym, ap}
 use Rattle.std.proofs.lemmas.Option.{same_Some}
-use Rattle.std.specs.Prelude.{◌≡◌, ◌↔◌, ℕ, ◌+◌, ◌-◌, ◌*◌, ◌^◌, ◌<◌, ◌≤◌, List, [], ◌++◌, length, take, drop, min, slice_get, Option, Some, None, Result, Ok, Err}
+use Rattle.std.specs.Prelude.{◌≡◌, ℕ, ◌+◌, ◌-◌, ◌*◌, ◌^◌, ◌<◌, ◌≤◌, List, [], ◌++◌, length, take, drop, min, slice_get, Option, Some, None, Result, Ok, Err}
 use Rattle.std.specs.Option.{option_map}
 use Rattle.cartridge_spec.specs.Appending.{bytes_in}
 use Rattle.cartridge_spec.specs.Says.{Says, Data}

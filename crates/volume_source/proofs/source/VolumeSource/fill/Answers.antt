@@ -1,10 +1,9 @@
-use Rattle.std.proofs.Common.{◌≡◌, ℕ, ◌+◌, ◌<◌, length, List, [], take, Option, Some, None, Ok, Err, refl, sym, ap, ◌∙◌, subst}
+use Rattle.std.proofs.Common.{◌≡◌, ℕ, ◌+◌, ◌<◌, length, List, take, Some, None, Ok, Err, sym, ◌∙◌, subst}
 use Rattle.cartridge_spec.specs.Appending.{bytes_in}
-use Rattle.qic_base.specs.Source.{HasEnded}
 use Rattle.volume_store.specs.Restoring.{ReadsPart}
 use Rattle.volume_source.proofs.Bytes.{none_unread, none_held, some_unread}
 use Rattle.volume_source.proofs.Filling.{after, part_reads, part_held, part_some, some_sound, some_kept, some_left, none_sound, none_kept, none_ended, refused_sound, refused_kept, left_still}
-use Rattle.volume_source.specs.Source.{SourceView, KeepsVolume, first_refusal, left_where, source_means, unread_in}
+use Rattle.volume_source.specs.Source.{SourceView, KeepsVolume, first_refusal, left_where, unread_in}
 use Rattle.volume_source.proofs.source.VolumeSource.fill.Goals as goal
 
 pub returns-then-self-clause-some : goal.returns-then-self-clause-some

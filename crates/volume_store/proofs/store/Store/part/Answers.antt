@@ -1,4 +1,4 @@
-use Rattle.std.proofs.Common.{◌≡◌, ◌-◌, ◌<◌, ◌≤◌, inl, inr, false, length, take, Some, None, Ok, Err, refl, ap, ◌∙◌, arith, slice_get}
+use Rattle.std.proofs.Common.{◌≡◌, ◌-◌, ◌<◌, inl, inr, false, take, Some, None, Ok, Err, refl, ap, ◌∙◌, arith, slice_get}
 use Rattle.cartridge_spec.specs.Table.{Entry}
 use Rattle.cartridge_spec.specs.Volumes.{carrying, volume_length}
 use Rattle.cartridge_spec.specs.Mounting.{HasList}
