@@ -32,9 +32,10 @@ use Rattle.command_spec.specs.Headline.{ToldNow}
 use Rattle.command_spec.specs.Lines.{reply_behind}
 use Rattle.command_spec.specs.Listing.{IsHeard, ListsVolume, NowLists, WasListed, ListsAppends}
 use Rattle.command_spec.specs.Machine.{Yields, HasValues, Spells}
+use Rattle.command_spec.specs.MadeVolumes.{AppendedBy, AppendedFrom}
 use Rattle.command_spec.specs.Make.{made_list, Makes, Making, MakeOutcome, MakesOn, make_status}
 use Rattle.command_spec.specs.Outcome.{Going, Opened, OpenOutcome, CommandOutcome}
-use Rattle.command_spec.specs.Runs.{CommandEnds, IsCutOff, fault_of}
+use Rattle.command_spec.specs.Runs.{CommandEnds, IsCutOff, fault_of, is_fault}
 use Rattle.command_spec.specs.Script.{ScriptDoes, entries_behind, Scripting, ScriptOutcome, ScriptsOn}
 use Rattle.command_spec.specs.ScriptLists.{ItemsWearBehind, ListsAnswered, ListsBroken}
 use Rattle.command_spec.specs.Volumes.{IsCarriedOut, WasNotDone}
@@ -212,7 +213,8 @@ pub record RanDone {T S K : Type 0} (t : tapes.Meaning T) (s : sources.Meaning S
   pub took : k.took old.sink text new.sink
   pub at : FrontDone outcome.acts text
   pub now : ToldNow t new.tape (λ left. left ≡ effects (done_of outcome.acts text at) (Some c))
-  -- where the input was carried out, all of them
+  -- where no fault ended it, and where the input was carried out, all of them
+  pub sound : is_fault answer ≡ false → (outcome.status ≡ answer) × (done_of outcome.acts text at ≡ steps_of outcome.acts)
   pub heard : IsHeard answer → (outcome.status ≡ answer) × (done_of outcome.acts text at ≡ steps_of outcome.acts)
   -- the sink broke a text off where it failed, and just there
   pub broke : answer ≡ status.SinkFault → IsPart outcome.acts text at
@@ -230,6 +232,7 @@ ends_done t s k command old new answer laws values (inl finished) c told other =
       took = finished.went.wrote.took;
       at = inl (record { front = finished.outcome.acts; rest = []; parts = append-nil finished.outcome.acts; is_text = refl });
       now = done_now t old.tape new.tape (steps_of finished.outcome.acts) (Some c) finished.went.did told;
+      sound = λ none. (sym finished.answered, refl);
       heard = λ which. (sym finished.answered, refl);
       broke = λ is. absurd (never_sink answer command finished.sound is);
       whole = λ other. tt;
@@ -248,6 +251,7 @@ ends_done t s k command old new answer laws values (inr (SourceFails, is, stoppe
       took = cut.wrote.took;
       at = inl (record { front = cut.front; rest = cut.rest; parts = cut.parts; is_text = refl });
       now = done_now t old.tape new.tape (steps_of cut.front) (Some c) cut.did told;
+      sound = λ none. absurd (let fault : is_fault answer ≡ true = ap is_fault is in cc);
       heard = λ which. absurd (heard_fault SourceFails answer is which);
       broke = λ sink. let other : fault_of SourceFails ≡ status.SinkFault = sym is ∙ sink in absurd (cc);
       whole = λ other. tt;
@@ -277,6 +281,7 @@ ends_done t s k command old new answer laws values (inr (SinkFails, is, stopped)
         is_text = refl;
       });
       now = done_now t old.tape new.tape (steps_of at.front ++ at.act.steps) (Some c) cut.did told;
+      sound = λ none. absurd (let fault : is_fault answer ≡ true = ap is_fault is in cc);
       heard = λ which. absurd (heard_fault SinkFails answer is which);
       broke = λ sink. tt;
       whole = λ other. absurd (other is);
@@ -491,22 +496,30 @@ module _ (seed count : ℕ) (few : count ≤ 200) (c : Cartridge) (header : Head
       by_at (inl w) = by_whole w.front w.rest (w.parts ∙ acts) w.is_text
       by_at (inr p) = let so = by_part p.front p.act p.rest p.some p.more (p.parts ∙ acts) p.written p.lacks in (so.0, λ shown. so.1)
 
-  -- once it was carried out all of them are there
-  make_lists_all : (outcome : CommandOutcome) → MakeOutcome seed count (Some c) outcome → outcome.status ≡ status.Done → HasMade count (effects (steps_of outcome.acts) (Some c))
-  make_lists_all outcome (inl (locked, is)) done = let other = ap (λ (o : CommandOutcome). o.status) is in absurd (cc)
-  make_lists_all outcome (inr (free, opened)) done =
+  -- where all acts went, those are there that were appended by the answer, ..
+  make_lists_answered : (outcome : CommandOutcome) → MakeOutcome seed count (Some c) outcome →
+      (n : ℕ) × AppendedBy seed count words entries outcome.status n × HasMade n (effects (steps_of outcome.acts) (Some c))
+  make_lists_answered outcome (inl (locked, is)) = (
+    0,
+    (omega arith, subst (λ (why : Status). AppendedFrom seed 1 count words entries why 0) (sym (ap (λ (o : CommandOutcome). o.status) is)) tt),
+    some_and (λ e. Lists e header words entries) c (effects (steps_of outcome.acts) (Some c)) (table, mounts) (ap (λ (o : CommandOutcome). effects (steps_of o.acts) (Some c)) is),
+  )
+  make_lists_answered outcome (inr (free, opened)) =
       let did : MakesOn seed count c words table entries outcome = went_on c header words table entries whole mounts (Making seed count) outcome opened in
-      let answered : did.answer ≡ made.Done = all_made did.answer (sym (ap (λ (o : CommandOutcome). o.status) did.is) ∙ done) in
-      subst (HasMade count) (sym (ap (λ (o : CommandOutcome). effects (steps_of o.acts) (Some c)) did.is))
-      (behind_all did.acts did.answer did.acts [] did.makes (append-nil did.acts) (inl (refl, answered)))
-    where
-      all_made : (answer : made.Answer) → make_status answer ≡ status.Done → answer ≡ made.Done
-      all_made made.Done is = refl
-      all_made made.Protected is = cc
-      all_made made.TableMismatch is = cc
-      all_made (made.Full need have) is = cc
-      all_made (made.Lost segment lost) is = cc
-      all_made (made.Mismatch segment) is = cc
+      let l = make_lists seed count (settled table c) header words entries did.acts did.acts [] did.answer (effects (steps_of (quiet (settling_steps table c) ∷ did.acts)) (Some c)) few
+      (lists_still c header words table entries whole mounts) (listed c header words table entries whole mounts) did.makes (append-nil did.acts)
+      (behind_acts c header words table entries whole mounts did.acts) in (
+        l.appended,
+        (l.within, subst (λ (why : Status). AppendedFrom seed 1 count words entries why l.appended) (sym (ap (λ (o : CommandOutcome). o.status) did.is)) (l.answered refl)),
+        subst (HasMade l.appended) (sym (ap (λ (o : CommandOutcome). effects (steps_of o.acts) (Some c)) did.is)) l.lists,
+      )
+
+  -- .. and once it was carried out all of them
+  make_lists_all : (outcome : CommandOutcome) → MakeOutcome seed count (Some c) outcome → outcome.status ≡ status.Done → HasMade count (effects (steps_of outcome.acts) (Some c))
+  make_lists_all outcome does done =
+      let made = make_lists_answered outcome does in
+      subst (λ (n : ℕ). HasMade n (effects (steps_of outcome.acts) (Some c)))
+      (subst (λ (why : Status). AppendedFrom seed 1 count words entries why made.0) done made.1.1) made.2
 
 -- ---- all of them
 
@@ -531,6 +544,13 @@ lists_appends t s k words command old new answer laws spelled values ends = reco
         text = ran.text;
         took = ran.took;
         some = (so.0.0, so.0.1, now_weaker t old.tape new.tape (λ left is. subst (Made so.0.0) (sym is) so.0.2) ran.now);
+        answered = λ sound.
+            let all = ran.sound sound in
+            let made = make_lists_answered seed count few c header map_words table entries whole was.mounts ran.outcome ran.plain in (
+              made.0,
+              subst (λ (why : Status). AppendedBy seed count map_words entries why made.0) all.0 made.1,
+              now_weaker t old.tape new.tape (λ left is. subst (Made made.0) (sym (is ∙ ap (λ (ss : List TapeStep). effects ss (Some c)) all.1)) made.2) ran.now,
+            );
         all = λ either. elim either [
           | inl some ↦ now_weaker t old.tape new.tape (λ left is. subst (Made count) (sym is) (so.1 (inl some))) ran.now
           | inr (inl done) ↦
@@ -567,14 +587,16 @@ lists_appends t s k words command old new answer laws spelled values ends = reco
 -- ---- a run that touched nothing
 
 pub none_listed : {T K : Type 0} (t : tapes.Meaning T) (k : sinks.Meaning K) (told : Option (List ℕ)) (words : List (List ℕ)) (a : T) (x : K) (answer : Status) → tapes.IsToldRight (t.told a) (t.size a) →
-    k.took x [] x → (IsCarriedOut answer → ⊥) → (IsHeard answer → ⊥) → ListsAppends t k told words a a x x answer
-none_listed t k told words a x answer right nothing never unheard = record {
+    k.took x [] x → (IsCarriedOut answer → ⊥) → (IsHeard answer → ⊥) → ((seed count : ℕ) (words : List ℕ) (es : List Entry) → AppendedFrom seed 1 count words es answer 0) →
+    ListsAppends t k told words a a x x answer
+none_listed t k told words a x answer right nothing never unheard unmade = record {
   appended = λ name date c header map_words table entries spells was which. absurd (never which);
   unchanged = λ name date c header map_words table entries spells was not. as_before c header map_words table entries was;
   made = λ seed count c header map_words table entries spells was other. record {
     text = [];
     took = nothing;
     some = (0, omega arith, as_before c header map_words table entries was);
+    answered = λ sound. (0, (omega arith, unmade seed count map_words entries), as_before c header map_words table entries was);
     all = λ either. elim either [ inl some ↦ absurd (some refl) | inr done ↦ absurd (never done) ];
   };
   scripted = λ c header map_words table entries spells was other. record {

@@ -1,5 +1,6 @@
 -- What a run promises, by how its command ended.
 use Rattle.std.proofs.Common.{[], ◌≡◌, ℕ, List, Option, Some, None, IfSome, false, refl, true, ap, arith, inl, inr, sym, ◌∙◌, subst, Bool, ◌↔◌, IsSomeAnd}
+use Rattle.cartridge_spec.specs.Table.{Entry}
 use Rattle.command_laws.proofs.CommandCompleting.{completes}
 use Rattle.command_laws.proofs.CommandEndings.{appends_none, any_input, nothing_front, none_printed}
 use Rattle.command_laws.proofs.CommandEnds.{Laws, ends_asked, ends_cause, ends_answers, ends_carried, ends_cut, ends_stops, ends_joins, ends_otherwise, ends_named, ends_finished, ends_begun, ends_silent, is_a_fault, each_left, stops_go_on}
@@ -16,6 +17,7 @@ use Rattle.command_laws.specs.CommandLaws.{MachineIsFunction, MachineAnswers}
 use Rattle.command_spec.specs.Commands.{traits_of}
 use Rattle.command_spec.specs.Headline.{WordsLeave, EachLeft, PrintsRefused, PrintsFront, Stepped, Answers, SpellsOne}
 use Rattle.command_spec.specs.Listing.{IsHeard}
+use Rattle.command_spec.specs.MadeVolumes.{AppendedFrom}
 use Rattle.command_spec.specs.Machine.{HasInputFault, HasValues, Spells, SpellsNone}
 use Rattle.command_spec.specs.Outcome.{CommandOutcome, output_of}
 use Rattle.command_spec.specs.Promises.{Promises}
@@ -222,6 +224,11 @@ idle_carries_nothing answer is =
       ]),
     )
 
+idle_appends_none : (seed count : ℕ) (words : List ℕ) (es : List Entry) (answer : Status) → is_idle answer ≡ true → AppendedFrom seed 1 count words es answer 0
+idle_appends_none seed count words es status.Usage is = tt
+idle_appends_none seed count words es status.NoMemory is = tt
+idle_appends_none seed count words es answer is = absurd (cc)
+
 over_any : (o : Option (Option Cartridge)) (left : Option (List ℕ)) (R : Option Cartridge → List ℕ → Type 0) → ((held : Option Cartridge) (input : List ℕ) → o ≡ Some held → R held input) →
     IfSome o (λ held. (input : List ℕ) × IfSome left (λ bytes. input ≡ bytes) × R held input)
 over_any None left R follows = tt
@@ -259,9 +266,10 @@ module _ {T S K : Type 0} (t : tapes.Meaning T) (s : sources.Meaning S) (k : sin
         changed = none_changed t (s.left old.source) words old.tape answer nothing.0 nothing.1;
         survives = none_survives t (s.left old.source) words old.tape answer laws.right nothing.0 nothing.1 (λ other spells. has_values words other spells) stops;
         makes = none_made t k (s.left old.source) words old.tape old.sink answer laws.right (laws.nothing old.sink)
-            ends.0 (λ other spells. has_values words other spells) stops;
+            ends.0 (λ seed count map_words es. idle_appends_none seed count map_words es answer is) (λ other spells. has_values words other spells) stops;
         scripts = none_scripted t k (s.left old.source) words old.tape old.sink answer laws.right (laws.nothing old.sink) ends.1 stops;
-        listed = none_listed t k (s.left old.source) words old.tape old.sink answer laws.right (laws.nothing old.sink) ends.0 ends.1;
+        listed = none_listed t k (s.left old.source) words old.tape old.sink answer laws.right (laws.nothing old.sink) ends.0 ends.1
+            (λ seed count map_words es. idle_appends_none seed count map_words es answer is);
         restores = gives_back t s k words old old answer (λ sound. answers) (λ failing same. let fault = ap is_fault same ∙ is_a_fault failing in let no = nothing.0 in absurd (cc));
         joins = record {
           counts = record { tape = omega arith; source = omega arith; sink = omega arith };

@@ -8,13 +8,15 @@ use Rattle.cartridge_laws.proofs.MountWhole.{settling_effects}
 use Rattle.cartridge_spec.specs.Appending.{with_all}
 use Rattle.cartridge_spec.specs.Mounting.{Mounts, mounted_as, Mounting, settled, IsTableLive}
 use Rattle.cartridge_spec.specs.Settling.{changed_by, settling_steps}
+use Rattle.cartridge_spec.specs.Table.{Entry}
 use Rattle.cartridge_spec.specs.Volumes.{Plain, entries_of, Stands}
 use Rattle.command_laws.proofs.CommandEnds.{after_steps, is_a_fault, Laws, over_at, told_whole}
 use Rattle.command_laws.proofs.CommandOpened.{quiet}
 use Rattle.command_laws.proofs.CommandTable.{plain_answers}
 use Rattle.command_laws.proofs.CommandVolumes.{now_weaker, whole_of, done_now, each_weaker}
 use Rattle.command_laws.proofs.MadeAnswered.{made_are_answered}
-use Rattle.command_laws.proofs.MadeStops.{done_make_stands, stopped_make_stands}
+use Rattle.command_laws.proofs.MadeRefused.{answered_make_stands}
+use Rattle.command_laws.proofs.MadeStops.{stopped_make_stands}
 use Rattle.command_laws.proofs.MountedHeld.{mounted_open, settled_live, mounted_held}
 use Rattle.command_laws.proofs.MountedKeeping.{live_kept}
 use Rattle.command_laws.proofs.ScriptAnswered.{answered_behind, answered_between, done_script_stands, none_answered, stopped_script_stands}
@@ -28,7 +30,7 @@ use Rattle.command_spec.specs.Headline.{ToldNow, StopLeaves, WordsLeave, EachLef
 use Rattle.command_spec.specs.Input.{Item}
 use Rattle.command_spec.specs.Listing.{IsHeard}
 use Rattle.command_spec.specs.Machine.{Yields, HasValues, Spells}
-use Rattle.command_spec.specs.MadeVolumes.{made_contents}
+use Rattle.command_spec.specs.MadeVolumes.{AppendedBy, AppendedFrom, made_contents}
 use Rattle.command_spec.specs.Make.{Makes, Making, MakeOutcome, make_status}
 use Rattle.command_spec.specs.Outcome.{Going, CommandOutcome, refused, Opened, OpenOutcome}
 use Rattle.command_spec.specs.Runs.{may_come_from, fault_of, is_fault, CommandEnds}
@@ -63,6 +65,7 @@ pub record WasTurned (outcome : CommandOutcome) : Type 0 where
   pub why : Status
   pub is : outcome ≡ refused why
   pub unheard : IsHeard why → ⊥
+  pub none_made : (seed count : ℕ) (words : List ℕ) (es : List Entry) → AppendedFrom seed 1 count words es why 0
 
 never_heard : (lost : ℕ) → IsHeard (status.Lost 2 lost) → ⊥
 never_heard lost (inl done) = cc
@@ -73,7 +76,7 @@ pub mounted_or_turned : (goes : Going) (c : Cartridge) (plain : Plain) (outcome 
 mounted_or_turned goes c plain outcome stood (m, mounts, opened) =
     elim (standing_mounts_only_so c plain m stood mounts) [
       | inl same ↦ inr (record { mounts = subst (Mounts c) same mounts; did = subst (λ (a : Mounting). Opened goes c a outcome) same opened })
-      | inr (n, same) ↦ inl (record { why = status.Lost 2 n; is = subst (λ (a : Mounting). Opened goes c a outcome) same opened; unheard = never_heard n })
+      | inr (n, same) ↦ inl (record { why = status.Lost 2 n; is = subst (λ (a : Mounting). Opened goes c a outcome) same opened; unheard = never_heard n; none_made = λ seed count words es other. absurd (other refl) })
     ]
 
 -- what is left of some acts, the first of which settles the table
@@ -217,6 +220,7 @@ pub record Ran {T S K : Type 0} (t : tapes.Meaning T) (s : sources.Meaning S) (k
   pub outcome : CommandOutcome
   pub plain : Yields command (Some c) input outcome
   pub was : WasLeft t s k old new c told outcome.acts
+  pub sound : is_fault answer ≡ false → (outcome.status ≡ answer) × tapes.Done t old.tape new.tape (steps_of outcome.acts)
   pub heard : IsHeard answer → (outcome.status ≡ answer) × tapes.Done t old.tape new.tape (steps_of outcome.acts)
   pub broke : answer ≡ status.SinkFault → WasBroken t s k old new c told outcome.acts
 
@@ -243,6 +247,7 @@ ends_ran t s k command old new answer laws values (inl finished) c told =
       outcome = finished.outcome;
       plain = over.2.1;
       was = went_left t s k old new c told finished.outcome.acts finished.went;
+      sound = λ none. (sym finished.answered, finished.went.did);
       heard = λ which. (sym finished.answered, finished.went.did);
       broke = λ is. absurd (never_sink answer command finished.sound is);
     }
@@ -255,6 +260,7 @@ ends_ran t s k command old new answer laws values (inr (failing, is, stopped)) c
       outcome = some.0;
       plain = some.1;
       was = cut_left t s k old new c told some.0.acts failing off.cut;
+      sound = λ none. absurd (let fault : is_fault answer ≡ true = ap is_fault is ∙ is_a_fault failing in cc);
       heard = λ which. absurd (heard_fault failing answer is which);
       broke = λ sink. broke_left t s k old new c told some.0.acts
           (subst (Cut t s k old new some.0.acts) (sink_alone failing answer is sink) off.cut);
@@ -277,7 +283,7 @@ module _ (seed count : ℕ) (few : count ≤ 200) (c : Cartridge) (plain : Plain
   never_protected (inr (line, place, is)) = cc
 
   make_course : (outcome : CommandOutcome) → MakeOutcome seed count (Some c) outcome → WasTurned outcome ⊎ MakeRan outcome
-  make_course outcome (inl (locked, is)) = inl (record { why = status.Protected; is = is; unheard = never_protected })
+  make_course outcome (inl (locked, is)) = inl (record { why = status.Protected; is = is; unheard = never_protected; none_made = λ seed count words es. tt })
   make_course outcome (inr (free, opened)) =
       elim (mounted_or_turned (Making seed count) c plain outcome stood opened) [
         | inl turned ↦ inl turned
@@ -381,26 +387,35 @@ module _ (seed count : ℕ) (few : count ≤ 200) (c : Cartridge) (plain : Plain
           by_front [] rest none is = is
           by_front (x ∷ xs) rest none is = cc
 
-  -- and once it was carried out, also where sectors of the table's segment take no write
+  -- and where all acts went, as many as were appended by the answer, also where sectors of the table's segment take no write
+  pub make_answered : (outcome : CommandOutcome) → MakeOutcome seed count (Some c) outcome →
+      (n : ℕ) × AppendedBy seed count plain.words (entries_of plain) outcome.status n × HasMade n (effects (steps_of outcome.acts) (Some c))
+  make_answered outcome does =
+      elim (make_course outcome does) [
+        | inl turned ↦ (
+          0,
+          (
+            omega arith,
+            subst (λ (why : Status). AppendedFrom seed 1 count plain.words (entries_of plain) why 0) (sym (ap (λ (o : CommandOutcome). o.status) turned.is))
+                (turned.none_made seed count plain.words (entries_of plain)),
+          ),
+          some_and (λ d. Stands d plain) c (effects (steps_of outcome.acts) (Some c)) stood (ap (λ (o : CommandOutcome). effects (steps_of o.acts) (Some c)) turned.is),
+        )
+        | inr run ↦
+            let made = answered_make_stands seed count (settled plain.table_area c) plain run.acts run.answer few run.held run.makes in (
+              made.0,
+              (made.1, subst (λ (why : Status). AppendedFrom seed 1 count plain.words (entries_of plain) why made.0) (sym (ap (λ (o : CommandOutcome). o.status) run.is)) made.2),
+              some_and (λ d. Stands d (with_all plain (made_contents seed 1 made.0))) (changed_by (steps_of run.acts) (settled plain.table_area c)) (effects (steps_of outcome.acts) (Some c))
+                  made.3 (ap (λ (o : CommandOutcome). effects (steps_of o.acts) (Some c)) run.is ∙ behind_front c plain whole stood run.mounts run.acts),
+            )
+      ]
+
+  -- .. which are all once it was carried out
   pub make_done : (outcome : CommandOutcome) → MakeOutcome seed count (Some c) outcome → outcome.status ≡ status.Done → HasMade count (effects (steps_of outcome.acts) (Some c))
   make_done outcome does is_done =
-      elim (make_course outcome does) [
-        | inl turned ↦ absurd (turned.unheard (inl (sym (ap (λ (o : CommandOutcome). o.status) turned.is) ∙ is_done)))
-        | inr run ↦
-            let answered : run.answer ≡ made.Done = all_done run.answer (sym (ap (λ (o : CommandOutcome). o.status) run.is) ∙ is_done) in
-            some_and (λ d. Stands d (with_all plain (made_contents seed 1 count))) (changed_by (steps_of run.acts) (settled plain.table_area c)) (effects (steps_of outcome.acts) (Some c))
-            (done_make_stands seed count (settled plain.table_area c) plain run.acts few run.held
-            (subst (λ (a : made.Answer). Makes seed count (settled plain.table_area c) plain.words (entries_of plain) run.acts a) answered run.makes))
-            (ap (λ (o : CommandOutcome). effects (steps_of o.acts) (Some c)) run.is ∙ behind_front c plain whole stood run.mounts run.acts)
-      ]
-    where
-      all_done : (answer : made.Answer) → make_status answer ≡ status.Done → answer ≡ made.Done
-      all_done made.Done is = refl
-      all_done made.Protected is = cc
-      all_done made.TableMismatch is = cc
-      all_done (made.Full need have) is = cc
-      all_done (made.Lost segment lost) is = cc
-      all_done (made.Mismatch segment) is = cc
+      let made = make_answered outcome does in
+      subst (λ (n : ℕ). HasMade n (effects (steps_of outcome.acts) (Some c)))
+      (subst (λ (why : Status). AppendedFrom seed 1 count plain.words (entries_of plain) why made.0) is_done made.1.1) made.2
 
 -- what is left by words of a generated run
 some_made : (told : Option (List ℕ)) (words : List (List ℕ)) (held left : Option Cartridge) → ((command : Words) → Spells words command → HasValues command) → IfSome held IsCartridge →
@@ -428,12 +443,15 @@ makes_volumes t s k words command old new answer laws spelled values ends leaves
       let was = ran.was in record {
         text = was.text;
         took = was.took;
-        done = λ done.
-            let all = ran.heard (inl done) in
-            now_weaker t old.tape new.tape
-            (λ left is. subst (λ (o : Option Cartridge). IsSomeAnd o (λ d. Stands d (with_all plain (made_contents seed 1 count)))) (sym is)
-            (make_done seed count few c plain whole run.stands ran.outcome ran.plain (all.0 ∙ done)))
-            (done_now t old.tape new.tape (steps_of ran.outcome.acts) (Some c) all.1 told);
+        answered = λ sound.
+            let all = ran.sound sound in
+            let made = make_answered seed count few c plain whole run.stands ran.outcome ran.plain in (
+              made.0,
+              subst (λ (why : Status). AppendedBy seed count plain.words (entries_of plain) why made.0) all.0 made.1,
+              now_weaker t old.tape new.tape
+                  (λ left is. subst (λ (o : Option Cartridge). IsSomeAnd o (λ d. Stands d (with_all plain (made_contents seed 1 made.0)))) (sym is) made.2)
+                  (done_now t old.tape new.tape (steps_of ran.outcome.acts) (Some c) all.1 told),
+            );
         all = λ live which. elim which [
           | inl some ↦ now_weaker t old.tape new.tape
               (λ left is. make_printed seed count few c plain whole run.stands ran.outcome was.text left live ran.plain some is) was.each
@@ -624,13 +642,14 @@ untouched_now : {T : Type 0} (t : tapes.Meaning T) (a : T) (c : Cartridge) (P : 
 untouched_now t a c P told holds = subst (λ (o : Option (Option Cartridge)). IsSomeAnd o P) (sym told) holds
 
 pub none_made : {T K : Type 0} (t : tapes.Meaning T) (k : sinks.Meaning K) (told : Option (List ℕ)) (words : List (List ℕ)) (a : T) (x : K) (answer : Status) → tapes.IsToldRight (t.told a) (t.size a) →
-    k.took x [] x → (IsCarriedOut answer → ⊥) → ((other : Words) → Spells words other → HasValues other) → EachLeft t a a (WordsLeave told words) → MakesVolumes t k words a a x x answer
-none_made t k told words a x answer right nothing never values leaves = record {
+    k.took x [] x → (IsCarriedOut answer → ⊥) → ((seed count : ℕ) (words : List ℕ) (es : List Entry) → AppendedFrom seed 1 count words es answer 0) → ((other : Words) → Spells words other → HasValues other) → EachLeft t a a (WordsLeave told words) → MakesVolumes t k words a a x x answer
+none_made t k told words a x answer right nothing never unmade values leaves = record {
   stopped = each_weaker t a a right (λ held left whole is. some_made told words held left values whole is) leaves;
   over = λ seed count c plain is run. record {
     text = [];
     took = nothing;
-    done = λ done. absurd (never (inl done));
+    answered = λ sound.
+        (0, (omega arith, unmade seed count plain.words (entries_of plain)), untouched_now t a c (λ left. IsSomeAnd left (λ d. Stands d plain)) is run.stands);
     all = λ live which. elim which [ inl some ↦ absurd (some refl) | inr sink ↦ absurd (never (inr sink)) ];
   };
 }

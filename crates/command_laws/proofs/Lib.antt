@@ -38,12 +38,14 @@ pub mod ListCommand
 pub mod LoseCommand
 pub mod MadeAnswered
 pub mod MadeComplete
+pub mod MadeCounting
 pub mod MadeLeaving
 pub mod MadeLoops
 pub mod MadeMachineLaws
 pub mod MadeMadeBytes
 pub mod MadeMayLaws
 pub mod MadeOutcomes
+pub mod MadeRefused
 pub mod MadeStops
 pub mod MadeTelling
 pub mod MakeCommand

@@ -7,6 +7,7 @@ use Rattle.cartridge_spec.specs.Settling.{changed_by}
 use Rattle.cartridge_spec.specs.Table.{Entry}
 use Rattle.cartridge_spec.specs.Volumes.{volume_length}
 use Rattle.command_laws.proofs.MadeAnswered.{append_prints_nothing, quiet_front}
+use Rattle.command_laws.proofs.MadeCounting.{counts_behind, counts_more, counts_refused}
 use Rattle.command_laws.proofs.MadeOutcomes.{made_behind}
 use Rattle.command_laws.proofs.MadeStops.{IsStill, made_label, sum_in_no_step, AreStill, still_after, still_summing, still_wearing_behind, stills_append}
 use Rattle.command_laws.proofs.MountedFronts.{front_still, ends_in, no_nil}
@@ -17,7 +18,8 @@ use Rattle.command_laws.specs.MadeLaws.{MakeLists, MadeAreListed}
 use Rattle.command_laws.specs.MountedListed.{IsListed, listed_behind}
 use Rattle.command_spec.specs.Append.{Kept, Taking, Fits, TooLong, TooShort, has_promised_room, room_in, silently, taking, kept_over}
 use Rattle.command_spec.specs.Generator.{made_length, made_bytes}
-use Rattle.command_spec.specs.Make.{MakeStep, AppendMade, WearSector, ScrubAll, SumVolume, made_name, made_entry, Answer, Done, Full, StepDoes, IsAppended, made_acts, made_answer, Runs, after_items, appending, wearing_volumes, summing, made_list, Makes}
+use Rattle.command_spec.specs.MadeVolumes.{AppendedFrom}
+use Rattle.command_spec.specs.Make.{MakeStep, AppendMade, WearSector, ScrubAll, SumVolume, made_name, made_entry, Answer, Done, Full, StepDoes, IsAppended, made_acts, made_answer, Runs, after_items, appending, wearing_volumes, summing, made_list, make_status, Makes}
 use Rattle.qic_base.proofs.Joins.{text_of-append}
 use Rattle.qic_base.specs.Acts.{Act, steps_of, text_of}
 use Rattle.qic_base.specs.Cartridge.{Cartridge}
@@ -155,6 +157,7 @@ record ListsFrom (seed : ℕ) (header : Header) (words : List ℕ) (entries : Li
   within : appended ≤ n
   lists : Lists d header words (after_items seed words entries (appending volume appended))
   all : ((rest ≡ []) × (answer ≡ Done)) ⊎ (text_of front ≢ []) → appended ≡ n
+  answered : rest ≡ [] → AppendedFrom seed volume n words entries (make_status answer) appended
 
 -- what comes behind the appends is still where all of them are listed
 abbrev StillListed : (seed : ℕ) (words : List ℕ) (es : List Entry) (volume n : ℕ) (behind : List MakeStep) → Type 0
@@ -169,6 +172,7 @@ module _ (seed : ℕ) (header : Header) (words : List ℕ) (behind : List MakeSt
     within = omega arith;
     lists = stills_list seed behind c header words entries acts front rest answer (still c listed) lists listed runs parts;
     all = λ some. refl;
+    answered = λ none. counts_behind seed volume behind c words entries acts answer (still c listed) runs;
   }
   appends_list (suc n) c entries volume acts front rest answer few lists listed still (inl (other, does)) parts = record {
     appended = 0;
@@ -178,6 +182,7 @@ module _ (seed : ℕ) (header : Header) (words : List ℕ) (behind : List MakeSt
       | inl done ↦ other done.1
       | inr printed ↦ printed (quiet_front front rest acts parts (append_prints_nothing seed c words entries volume acts answer does))
     ]);
+    answered = λ none. counts_refused seed volume n c words entries acts answer other does;
   }
   appends_list (suc n) c entries volume acts front rest answer few lists listed still (inr (first, later, joined, does, more)) parts =
       let d : Cartridge = changed_by (steps_of first) c in
@@ -193,6 +198,7 @@ module _ (seed : ℕ) (header : Header) (words : List ℕ) (behind : List MakeSt
             | inl done ↦ no_nil w.act (w.behind ++ later) (sym w.rest_is ∙ done.0)
             | inr printed ↦ printed (quiet_front front (w.act ∷ w.behind) first w.whole quiet)
           ]);
+          answered = λ none. absurd (no_nil w.act (w.behind ++ later) (sym w.rest_is ∙ none));
         }
         | inr p ↦
             let r : ListsFrom seed header words next (volume + 1) n p.next rest answer (changed_by (steps_of p.next) d) =
@@ -205,6 +211,7 @@ module _ (seed : ℕ) (header : Header) (words : List ℕ) (behind : List MakeSt
                 | inl done ↦ inl done
                 | inr printed ↦ inr (λ none. printed (ap text_of p.front_is ∙ text_of-append first p.next ∙ ap (λ (text : List ℕ). text ++ text_of p.next) quiet ∙ none))
               ]));
+              answered = λ none. counts_more seed volume n r.appended words entries answer (r.answered none);
             }
       ]
 
@@ -227,6 +234,7 @@ make_lists seed count c header words entries acts front rest answer left few lis
     record {
       appended = r.appended;
       within = r.within;
+      answered = r.answered;
       lists = subst (λ (o : Option Cartridge). IsSomeAnd o (λ d. Lists d header words (made_list seed r.appended words entries))) (sym is) r.lists;
     }
 

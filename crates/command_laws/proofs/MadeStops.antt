@@ -113,7 +113,7 @@ module _ (seed : ℕ) (c : Cartridge) (plain : Plain) (held : IsOpen c plain) (v
       ap (λ (t : List (List ℕ)). made_acts seed c plain.words (entries_of plain) t volume) (standing_data c plain table held.stands reads)
       ∙ ap acts_by (sym (length-made_bytes seed volume))
 
-  same_room : has_promised_room (room_in (kept_in plain.words (entries_of plain))) (Some (made_length seed volume))
+  pub same_room : has_promised_room (room_in (kept_in plain.words (entries_of plain))) (Some (made_length seed volume))
       ≡ has_room plain (length bytes)
   same_room = ap room_for (sym (length-made_bytes seed volume))
 
@@ -127,7 +127,7 @@ module _ (seed : ℕ) (c : Cartridge) (plain : Plain) (held : IsOpen c plain) (v
       ap steps_of (same_acts table reads)
       ∙ ap (λ (rest : List Step). settling ++ rest) (all_writes plain (made_name volume) 0 bytes settling enough)
 
-  only_settled : (table : List (List ℕ)) → TableIs c table → has_room plain (length bytes) ≡ false →
+  pub only_settled : (table : List (List ℕ)) → TableIs c table → has_room plain (length bytes) ≡ false →
       steps_of (made_acts seed c plain.words (entries_of plain) table volume) ≡ settling
   only_settled table reads short =
       ap steps_of (same_acts table reads)
@@ -135,7 +135,7 @@ module _ (seed : ℕ) (c : Cartridge) (plain : Plain) (held : IsOpen c plain) (v
       ∙ append-nil settling
 
   -- what the step is: the table reads, and there is room or not
-  append_is : (acts : List Act) (answer : Answer) → StepDoes seed c plain.words (entries_of plain) (AppendMade volume) acts answer →
+  pub append_is : (acts : List Act) (answer : Answer) → StepDoes seed c plain.words (entries_of plain) (AppendMade volume) acts answer →
       IsAppended seed c plain.words (entries_of plain) volume acts answer
   append_is acts answer (inl refused) = absurd (never_unlocked c refused.mark held.unprotected)
   append_is acts answer (inr (free, inl appended)) = appended

@@ -8,8 +8,8 @@ use Rattle.cartridge_spec.specs.Table.{Entry}
 use Rattle.cartridge_spec.specs.Volumes.{Plain, Stands, entries_of}
 use Rattle.command_laws.specs.MountedKept.{IsKept, IsOpen}
 use Rattle.command_laws.specs.MountedListed.{IsListed}
-use Rattle.command_spec.specs.MadeVolumes.{HaveRoom, LoseFewBehind, made_contents}
-use Rattle.command_spec.specs.Make.{Answer, Makes, MakeStep, after_items, Done, StepDoes, Runs, made_list}
+use Rattle.command_spec.specs.MadeVolumes.{AppendedFrom, HaveRoom, LoseFewBehind, made_contents}
+use Rattle.command_spec.specs.Make.{Answer, Makes, MakeStep, after_items, Done, StepDoes, Runs, made_list, make_status}
 use Rattle.qic_base.specs.Acts.{Act, steps_of, text_of, next_steps}
 use Rattle.qic_base.specs.Cartridge.{Cartridge}
 use Rattle.qic_base.specs.Stop.{Torn}
@@ -68,6 +68,14 @@ DoneMakeStands =
     Makes seed count c plain.words (entries_of plain) acts Done →
     Stands (changed_by (steps_of acts) c) (with_all plain (made_contents seed 1 count))
 
+-- .. and however it was answered, as many of them as were appended by the answer
+abbrev pub AnsweredMakeStands : Type 0
+AnsweredMakeStands =
+    (seed count : ℕ) (c : Cartridge) (plain : Plain) (acts : List Act) (answer : Answer) → count ≤ 200 → IsOpen c plain →
+    Makes seed count c plain.words (entries_of plain) acts answer →
+    (n : ℕ) × (n ≤ count) × AppendedFrom seed 1 count plain.words (entries_of plain) (make_status answer) n
+    × Stands (changed_by (steps_of acts) c) (with_all plain (made_contents seed 1 n))
+
 -- .. and where each of these takes a write, so they do where something was printed before a stop, which may come inside the steps
 -- of the next act
 abbrev pub MadeAreAnswered : Type 0
@@ -86,10 +94,12 @@ MadeWhereThereIsRoom =
 
 -- ---- a mounted cartridge, whatever the sectors of its volumes hold
 
--- what is left is mounted with the list that was mounted and some of the made volumes behind it, up to so many
-pub record ListsWithMade (seed count : ℕ) (header : Header) (words : List ℕ) (entries : List Entry) (left : Option Cartridge) : Type 0 where
+-- what is left is mounted with the list that was mounted and some of the made volumes behind it, up to so many; with those that were
+-- appended by the answer where no act is left
+pub record ListsWithMade (seed count : ℕ) (header : Header) (words : List ℕ) (entries : List Entry) (rest : List Act) (answer : Answer) (left : Option Cartridge) : Type 0 where
   pub appended : ℕ
   pub within : appended ≤ count
+  pub answered : rest ≡ [] → AppendedFrom seed 1 count words entries (make_status answer) appended
   pub lists : IsSomeAnd left (λ d. Lists d header words (made_list seed appended words entries))
 
 -- so it is behind each front of the acts of a run
@@ -98,7 +108,7 @@ MakeLists =
     (seed count : ℕ) (c : Cartridge) (header : Header) (words : List ℕ) (entries : List Entry) (acts front rest : List Act)
     (answer : Answer) (left : Option Cartridge) → count ≤ 200 → Lists c header words entries → IsListed c words entries →
     Makes seed count c words entries acts answer → front ++ rest ≡ acts → left ≡ Some (changed_by (steps_of front) c) →
-    ListsWithMade seed count header words entries left
+    ListsWithMade seed count header words entries rest answer left
 
 -- .. with all of them where all acts were carried out, or something was printed
 abbrev pub MadeAreListed : Type 0

@@ -1,7 +1,7 @@
 //! What a run of `make` comes to. Each law is the contract of a function that does nothing, so that other crates can
 //! rest on it; their proofs import the lemmas of this crate's `proofs`.
 
-ghost use Rattle.command_laws.specs.MadeLaws.{MakesOneThing, MakesSomething, StopsAreInSteps, StoppedMakeStands, DoneMakeStands, MadeAreAnswered, MadeWhereThereIsRoom};
+ghost use Rattle.command_laws.specs.MadeLaws.{MakesOneThing, MakesSomething, StopsAreInSteps, StoppedMakeStands, DoneMakeStands, AnsweredMakeStands, MadeAreAnswered, MadeWhereThereIsRoom};
 ghost use Rattle.command_laws.specs.MadeLaws.{MakeLists, MadeAreListed};
 
 /// A run does one thing on a cartridge.
@@ -19,11 +19,13 @@ pub fn a_stop_is_in_one_step()
     ensures { StopsAreInSteps }
 {}
 
-/// On a cartridge that stands for a plain one a run leaves it with all made volumes, also where sectors of the table's
-/// segment take no write; and where each of these takes one, a stop in it with some of them: the worn sectors lie
-/// behind the table, and each append leaves the old volumes or the new ones.
+/// On a cartridge that stands for a plain one a run leaves it with all made volumes, or where it was refused with those
+/// that were appended by its answer, also where sectors of the table's segment take no write; and where each of these
+/// takes one, a stop in it with some of them: the worn sectors lie behind the table, and each append leaves the old
+/// volumes or the new ones.
 pub fn a_run_keeps_what_stands()
     ensures done { DoneMakeStands }
+    ensures answered { AnsweredMakeStands }
     ensures stopped { StoppedMakeStands }
 {}
 

@@ -1,6 +1,6 @@
 -- What a cartridge is mounted with when a run is over that adds volumes, whether it stands for a plain cartridge or not (this
 -- project's own).
-use Rattle.std.specs.Prelude.{◌≡◌, ℕ, List, Some, IsSomeAnd, [], ◌∷◌, ◌++◌, Option, ◌≢◌, ◌⊎◌, ◌≤◌, length}
+use Rattle.std.specs.Prelude.{◌≡◌, ℕ, List, Some, IsSomeAnd, [], ◌∷◌, ◌++◌, Option, ◌≢◌, ◌⊎◌, ◌≤◌, length, false}
 use Rattle.cartridge_spec.specs.Header.{Header}
 use Rattle.cartridge_spec.specs.Mounting.{Mounted, Mounts, Lists, settled}
 use Rattle.cartridge_spec.specs.Table.{Entry}
@@ -8,7 +8,9 @@ use Rattle.command_spec.specs.Append.{entry_for, kept_in}
 use Rattle.command_spec.specs.Headline.{ToldNow}
 use Rattle.command_spec.specs.Input.{Item}
 use Rattle.command_spec.specs.Machine.{Spells}
+use Rattle.command_spec.specs.MadeVolumes.{AppendedBy}
 use Rattle.command_spec.specs.Make.{made_list}
+use Rattle.command_spec.specs.Runs.{is_fault}
 use Rattle.command_spec.specs.Script.{Did, entries_behind, ScriptDoes}
 use Rattle.command_spec.specs.ScriptLists.{ItemsWearBehind, ListsAnswered, ListsBroken}
 use Rattle.command_spec.specs.Volumes.{IsInput, IsCarriedOut, WasNotDone}
@@ -35,12 +37,13 @@ pub record ListsVolume {T : Type 0} (t : tapes.Meaning T) (told : Option (List �
   pub is_told : IsInput told input
   pub lists : NowLists t new header words (entries ++ entry_for (kept_in words entries) name date input ∷ [])
 
--- the list with the first ones of the made volumes; with all of them, where anything was printed, the sink failed, or all was
--- carried out
+-- the list with the first ones of the made volumes; with those that were appended by the answer, where no fault of the outside ended
+-- it; with all of them, where anything was printed, the sink failed, or all was carried out
 pub record ListsMade {T K : Type 0} (t : tapes.Meaning T) (k : sinks.Meaning K) (old new : T) (before behind : K) (answer : Status) (header : Header) (words : List ℕ) (entries : List Entry) (seed count : ℕ) : Type 0 where
   pub text : List ℕ
   pub took : k.took before text behind
   pub some : (n : ℕ) × (n ≤ count) × NowLists t new header words (made_list seed n words entries)
+  pub answered : is_fault answer ≡ false → (n : ℕ) × AppendedBy seed count words entries answer n × NowLists t new header words (made_list seed n words entries)
   pub all : (text ≢ []) ⊎ IsCarriedOut answer → NowLists t new header words (made_list seed count words entries)
 
 -- the input of a script was carried out, up to its end or to the line at fault

@@ -54,8 +54,8 @@ pub record Promises {T S K : Type 0} (t : tapes.Meaning T) (s : sources.Meaning 
   -- A generated run leaves what stood with the first ones of its volumes, and with all of them once it has printed anything, or
   -- where the sink failed; a script leaves what stood with the appends of its first lines, among them all whose reply was written
   -- whole, and at most one line more, if no line that it came to wears out header or table; where each sector of the table's segment
-  -- takes a write. Once the run was carried out all volumes are there, and once the script's input was, the appends of all lines,
-  -- also where some of these sectors take none.
+  -- takes a write. Where no fault ended the run the volumes are there that were appended by its answer, and once the script's
+  -- input was carried out, the appends of all lines, also where some of these sectors take none.
   pub makes : MakesVolumes t k words old.tape new.tape old.sink new.sink answer
   pub scripts : CarriesOutLines t k (s.left old.source) words old.tape new.tape old.sink new.sink answer
   -- Whether it stands for a plain one or not, a cartridge that was mounted is mounted behind `append`, `make` and `script` with the

@@ -1,13 +1,14 @@
 -- What runs of several items leave of the plain cartridge that a cartridge stands for: generated runs, and scripts (this project's
 -- own).
-use Rattle.std.specs.Prelude.{ℕ, List, ◌≡◌, ◌≤◌, Option, Some, IsSomeAnd, ◌≢◌, ◌⊎◌, [], ◌<◌, All, length, take}
+use Rattle.std.specs.Prelude.{ℕ, List, ◌≡◌, ◌≤◌, Option, Some, IsSomeAnd, ◌≢◌, ◌⊎◌, [], ◌<◌, All, length, take, false}
 use Rattle.cartridge_spec.specs.Appending.{with_all}
 use Rattle.cartridge_spec.specs.Mounting.{IsTableLive, settled}
 use Rattle.cartridge_spec.specs.Volumes.{Plain, Stands, entries_of}
 use Rattle.command_spec.specs.Headline.{ToldNow, EachLeft}
 use Rattle.command_spec.specs.Listing.{IsHeard}
 use Rattle.command_spec.specs.Machine.{Spells}
-use Rattle.command_spec.specs.MadeVolumes.{made_contents}
+use Rattle.command_spec.specs.MadeVolumes.{AppendedBy, made_contents}
+use Rattle.command_spec.specs.Runs.{is_fault}
 use Rattle.command_spec.specs.Script.{ScriptDoes}
 use Rattle.command_spec.specs.ScriptLists.{CameFurther, FirstSpare, GoesNoFurther, ItemsSpare, StandsAnswered, all_added}
 use Rattle.command_spec.specs.declared.status.Status.{Status}
@@ -32,12 +33,14 @@ SomeMade words held left =
     (seed count : ℕ) (c : Cartridge) (plain : Plain) → held ≡ Some c → Generated words seed count c plain → IsTableLive c →
     (n : ℕ) × (n ≤ count) × IsSomeAnd left (λ d. Stands d (with_all plain (made_contents seed 1 n)))
 
--- When it is over this was printed; and once it was carried out, all of the volumes are there. Where each sector of the table's
--- segment takes a write, they are there, too, where anything was printed, or the sink failed.
+-- When it is over this was printed; and where no fault of the outside ended it, as many of the volumes are there as were appended by
+-- its answer, all of them once it was carried out. Where each sector of the table's segment takes a write, all are there, too, where
+-- anything was printed, or the sink failed.
 pub record AllMade {T K : Type 0} (t : tapes.Meaning T) (k : sinks.Meaning K) (old new : T) (before behind : K) (answer : Status) (seed count : ℕ) (c : Cartridge) (plain : Plain) : Type 0 where
   pub text : List ℕ
   pub took : k.took before text behind
-  pub done : answer ≡ status.Done → ToldNow t new (λ left. IsSomeAnd left (λ d. Stands d (with_all plain (made_contents seed 1 count))))
+  pub answered : is_fault answer ≡ false →
+      (n : ℕ) × AppendedBy seed count plain.words (entries_of plain) answer n × ToldNow t new (λ left. IsSomeAnd left (λ d. Stands d (with_all plain (made_contents seed 1 n))))
   pub all : IsTableLive c → (text ≢ []) ⊎ (answer ≡ status.SinkFault) → ToldNow t new (λ left. IsSomeAnd left (λ d. Stands d (with_all plain (made_contents seed 1 count))))
 
 -- A generated run may be stopped: each cartridge that it leaves is so; and so it is when it is over.
