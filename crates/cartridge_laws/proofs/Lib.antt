@@ -22,6 +22,7 @@ pub mod ChangeMounted
 pub mod ChangeStanding
 pub mod ChangeTable
 pub mod ChangeViews
+pub mod EachElement
 pub mod FormatClearing
 pub mod FormatCopies
 pub mod FormatDone

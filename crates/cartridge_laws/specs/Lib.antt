@@ -25,5 +25,6 @@ pub mod Slots
 pub mod Table
 pub mod TableLaws
 pub mod TableReading
+pub mod WorkedValues
 pub mod Writes
 pub mod WritingLaws

@@ -12,3 +12,4 @@ pub mod mounting;
 pub mod one_loss;
 pub mod saying;
 pub mod tables;
+pub mod worked_values;
