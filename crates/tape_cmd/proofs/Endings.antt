@@ -5,19 +5,20 @@ use Rattle.command_laws.proofs.CommandEndings.{Rules, appends_none, any_input, n
 use Rattle.command_laws.proofs.CommandTable.{plain_is_function}
 use Rattle.command_spec.specs.Commands.{traits_of}
 use Rattle.command_spec.specs.Defect.{DefectOutcome}
-use Rattle.command_spec.specs.Lines.{protected_line, lost_line, defect_line}
+use Rattle.command_spec.specs.Lines.{protected_line, lost_line, defect_line, upgraded_line}
 use Rattle.command_spec.specs.Lose.{LoseOutcome}
 use Rattle.command_spec.specs.Machine.{Yields, CommandPrints}
 use Rattle.command_spec.specs.Outcome.{CommandOutcome, refused, refused_behind, acted, carried_out}
 use Rattle.command_spec.specs.Protect.{ProtectOutcome}
 use Rattle.command_spec.specs.Runs.{InputLeft, IsOfBytes, may_come_from, IsCutOff, EndsBlind}
+use Rattle.command_spec.specs.Upgrade.{UpgradeOutcome}
 use Rattle.command_spec.specs.declared.status.Status.{Status}
 use Rattle.command_spec.specs.declared.words.Words.{Words}
 use Rattle.qic_base.proofs.Joins.{broke_first}
 use Rattle.qic_base.proofs.Steps.{Broke-front}
 use Rattle.qic_base.specs.Acts.{Act, next_steps, TapeFails, SinkFails, Went, TapeCut, SinkCut, no_source, around}
 use Rattle.qic_base.specs.Cartridge.{Cartridge, IsPlace, view_at}
-use Rattle.qic_base.specs.Step.{Step as TapeStep, SetProtected, Wear, Spoil}
+use Rattle.qic_base.specs.Step.{Step as TapeStep, SetProtected, Wear, Spoil, Upgrade}
 use Rattle.qic_base.specs.Tape.{spoil_answer}
 use Rattle.qic_base.specs.declared.sink.SinkFailed.{SinkFailed}
 use Rattle.qic_base.specs.declared.tape.TapeInfo.{TapeInfo}
@@ -256,6 +257,18 @@ protect_present on info (Some c) known = refl
 pub protect_front : (on : Bool) (info : TapeInfo) (held : Option Cartridge) (outcome : CommandOutcome) → Known (Some info) held → ProtectOutcome on held outcome → SetProtected on ∷ [] ≡ first_steps outcome
 protect_front on info None outcome known plain = cc
 protect_front on info (Some c) outcome known plain = sym (ap (λ (o : CommandOutcome). first_steps o) plain)
+
+pub upgrade_absent : (held : Option Cartridge) → Known None held → UpgradeOutcome held (refused status.NoCartridge)
+upgrade_absent None known = refl
+upgrade_absent (Some c) known = cc
+
+pub upgrade_present : (info : TapeInfo) (version : ℕ) (held : Option Cartridge) → Known (Some info) held → IfSome held (λ c. version ≡ c.version) → UpgradeOutcome held (carried_out Upgrade (upgraded_line version))
+upgrade_present info version None known told = cc
+upgrade_present info version (Some c) known told = ap (λ (v : ℕ). carried_out Upgrade (upgraded_line v)) told
+
+pub upgrade_front : (info : TapeInfo) (held : Option Cartridge) (outcome : CommandOutcome) → Known (Some info) held → UpgradeOutcome held outcome → Upgrade ∷ [] ≡ first_steps outcome
+upgrade_front info None outcome known plain = cc
+upgrade_front info (Some c) outcome known plain = sym (ap (λ (o : CommandOutcome). first_steps o) plain)
 
 pub lose_absent : (segment sector : ℕ) (held : Option Cartridge) → Known None held → LoseOutcome segment sector held (refused status.NoCartridge)
 lose_absent segment sector None known = refl

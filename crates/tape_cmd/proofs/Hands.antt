@@ -83,7 +83,7 @@ no_place None segment sector result P absent placed is never = absurd (cc)
 no_place (Some info) segment sector result P absent placed is never =
     record { info = info; known = refl; none = λ place. never (subst P is (placed place)) }
 
--- ---- the protect switch
+-- ---- a call for the whole cartridge
 
 pub record Switched (cartridge : Option TapeInfo) (P : Type 0) : Type 0 where
   pub info : TapeInfo
@@ -94,12 +94,12 @@ pub record NotSwitched (cartridge : Option TapeInfo) (Q : Type 0) : Type 0 where
   pub known : cartridge ≡ None
   pub same : Q
 
-pub switched : (cartridge : Option TapeInfo) (result : Result (Unit {0}) HandFault) (P : Result (Unit {0}) HandFault → Type 0) (Q : Type 0) →
+pub switched : {A : Type 0} (cartridge : Option TapeInfo) (result : Result A HandFault) (P : Result A HandFault → Type 0) (Q : Type 0) →
     IfNone cartridge ((result ≡ Err NoCartridge) × Q) → IfSome cartridge (λ info. P result) → result ≢ Err NoCartridge → Switched cartridge (P result)
 switched None result P Q absent present some = absurd (some absent.0)
 switched (Some info) result P Q absent present some = record { info = info; known = refl; fact = present }
 
-pub no_switch : (cartridge : Option TapeInfo) (result : Result (Unit {0}) HandFault) (P : Result (Unit {0}) HandFault → Type 0) (Q : Type 0) →
+pub no_switch : {A : Type 0} (cartridge : Option TapeInfo) (result : Result A HandFault) (P : Result A HandFault → Type 0) (Q : Type 0) →
     IfNone cartridge ((result ≡ Err NoCartridge) × Q) → IfSome cartridge (λ info. P result) → result ≡ Err NoCartridge → ¬ (P (Err NoCartridge)) → NotSwitched cartridge Q
 no_switch None result P Q absent present is never = record { known = refl; same = absent.1 }
 no_switch (Some info) result P Q absent present is never = absurd (never (subst P is present))

@@ -21,6 +21,7 @@ use crate::restore::restore;
 use crate::room::{Memory, Room};
 use crate::script::script;
 use crate::scrub::scrub;
+use crate::upgrade::upgrade;
 use bad_sector_map::BadMap;
 use drive_states::Unit;
 use qic_base::{NoMemory, Sink, Source, Tape};
@@ -48,27 +49,25 @@ fn carry_out<M: Memory + Drop, T: Tape, S: Source, K: Sink>(
     ensures source { (traits_of command.now).reads ≡ false → source.new ≡ source.old }
     ensures kept { S.means.keeps source.old source.new }
 {
-    Ok(match *command {
-        Words::New { segments } => put_in_new(unit, segments, sink),
-        Words::Defect { segment, sector } => spoil(unit, segment, sector, sink),
-        Words::Lose { segment, sector } => lose(unit, segment, sector, sink),
-        Words::Protect { on } => protect(unit, on, sink),
-        Words::Format { ref label, date } => format_cartridge(
-            unit,
-            memory.room()?,
-            label,
-            date,
-            sink,
-        ),
-        Words::Info => info(unit, memory.room()?, sink),
-        Words::Append { ref name, date } => append(unit, memory.room()?, name, date, source, sink),
-        Words::List => list(unit, memory.room()?, sink),
-        Words::Restore { number } => restore(unit, memory.room()?, number, sink),
-        Words::Scrub => scrub(unit, memory.room()?, sink),
-        Words::Pulses => pulses(unit, source, sink),
-        Words::Script => script(unit, memory.room()?, source, sink),
-        Words::Make { seed, count } => make(unit, memory.room()?, seed, count, sink),
-    })
+    match *command {
+        Words::New { segments } => Ok(put_in_new(unit, segments, sink)),
+        Words::Defect { segment, sector } => Ok(spoil(unit, segment, sector, sink)),
+        Words::Lose { segment, sector } => Ok(lose(unit, segment, sector, sink)),
+        Words::Protect { on } => Ok(protect(unit, on, sink)),
+        Words::Format { ref label, date } => {
+            let mut room = memory.room()?;
+            Ok(format_cartridge(unit, &mut room, label, date, sink))
+        }
+        Words::Info => Ok(info(unit, memory.room()?, sink)),
+        Words::Append { ref name, date } => Ok(append(unit, memory.room()?, name, date, source, sink)),
+        Words::List => Ok(list(unit, memory.room()?, sink)),
+        Words::Restore { number } => Ok(restore(unit, memory.room()?, number, sink)),
+        Words::Scrub => Ok(scrub(unit, memory.room()?, sink)),
+        Words::Pulses => Ok(pulses(unit, source, sink)),
+        Words::Script => Ok(script(unit, memory.room()?, source, sink)),
+        Words::Make { seed, count } => Ok(make(unit, memory.room()?, seed, count, sink)),
+        Words::Upgrade => Ok(upgrade(unit, sink)),
+    }
 }
 
 /// The command of the words.

@@ -18,7 +18,7 @@ use volume_lines::place_text;
 /// Formats the cartridge, and prints how many segments and how many bad sectors it has.
 pub fn format_cartridge<T: Tape, K: Sink>(
     unit: &mut Unit<T>,
-    mut room: Room,
+    room: &mut Room,
     label: &Name,
     date: u32,
     sink: &mut K,

@@ -20,6 +20,7 @@ mod room;
 mod script;
 mod scrub;
 mod status;
+mod upgrade;
 
 pub use command::{run, run_ready};
 pub use command_spec::Status;

@@ -1,5 +1,7 @@
-use Rattle.std.proofs.Common.{refl}
-use Rattle.command_spec.specs.declared.words.Words.TheVariants.{New, Defect, Lose, Protect}
+use Rattle.std.proofs.Common.{◌≡◌, false, refl, rules}
+use Rattle.command_spec.specs.Commands.{traits_of}
+use Rattle.command_spec.specs.Runs.{EndsBlind}
+use Rattle.command_spec.specs.declared.words.Words.TheVariants.{New, Defect, Lose, Protect, Format, Info, List, Restore, Scrub, Make, Upgrade}
 use Rattle.command_laws.proofs.CommandPromises.{ends_over}
 use Rattle.tape_cmd.proofs.command.carry_out.Goals as goal
 
@@ -22,3 +24,40 @@ pub returns-in-Protect-clause-ends : goal.returns-in-Protect-clause-ends
 returns-in-Protect-clause-ends g c =
     rw c.in-Protect.is (ends_over g.T.Tape.means g.S.Source.means g.K.Sink.means (Protect c.in-Protect.on)
     c.args.unit.now.tape c.protect.new.unit.tape c.args.source.now c.args.sink.now c.protect.new.sink c.protect.result refl c.protect.ensures)
+
+pub returns-in_ok-room-in-Format-clause-ends : goal.returns-in_ok-room-in-Format-clause-ends
+returns-in_ok-room-in-Format-clause-ends g c =
+    let blind : (traits_of c.args.command.now).reads ≡ false = rw c.in-Format.is refl in
+    let ends : EndsBlind g.T.Tape.means g.K.Sink.means c.args.command.now c.args.unit.now.tape c.format_cartridge.new.unit.tape c.args.sink.now c.format_cartridge.new.sink c.format_cartridge.result = search rules in
+    ends_over g.T.Tape.means g.S.Source.means g.K.Sink.means c.args.command.now
+    c.args.unit.now.tape c.format_cartridge.new.unit.tape c.args.source.now c.args.sink.now c.format_cartridge.new.sink c.format_cartridge.result blind ends
+
+pub returns-in_ok-room-in-Info-clause-ends : goal.returns-in_ok-room-in-Info-clause-ends
+returns-in_ok-room-in-Info-clause-ends g c =
+    rw c.in-Info.is (ends_over g.T.Tape.means g.S.Source.means g.K.Sink.means Info
+    c.args.unit.now.tape c.info.new.unit.tape c.args.source.now c.args.sink.now c.info.new.sink c.info.result refl c.info.ensures)
+
+pub returns-in_ok-room-in-List-clause-ends : goal.returns-in_ok-room-in-List-clause-ends
+returns-in_ok-room-in-List-clause-ends g c =
+    rw c.in-List.is (ends_over g.T.Tape.means g.S.Source.means g.K.Sink.means List
+    c.args.unit.now.tape c.list.new.unit.tape c.args.source.now c.args.sink.now c.list.new.sink c.list.result refl c.list.ensures)
+
+pub returns-in_ok-room-in-Restore-clause-ends : goal.returns-in_ok-room-in-Restore-clause-ends
+returns-in_ok-room-in-Restore-clause-ends g c =
+    rw c.in-Restore.is (ends_over g.T.Tape.means g.S.Source.means g.K.Sink.means (Restore c.in-Restore.number)
+    c.args.unit.now.tape c.restore.new.unit.tape c.args.source.now c.args.sink.now c.restore.new.sink c.restore.result refl c.restore.ensures)
+
+pub returns-in_ok-room-in-Scrub-clause-ends : goal.returns-in_ok-room-in-Scrub-clause-ends
+returns-in_ok-room-in-Scrub-clause-ends g c =
+    rw c.in-Scrub.is (ends_over g.T.Tape.means g.S.Source.means g.K.Sink.means Scrub
+    c.args.unit.now.tape c.scrub.new.unit.tape c.args.source.now c.args.sink.now c.scrub.new.sink c.scrub.result refl c.scrub.ensures)
+
+pub returns-in_ok-room-in-Make-clause-ends : goal.returns-in_ok-room-in-Make-clause-ends
+returns-in_ok-room-in-Make-clause-ends g c =
+    rw c.in-Make.is (ends_over g.T.Tape.means g.S.Source.means g.K.Sink.means (Make c.in-Make.seed c.in-Make.count)
+    c.args.unit.now.tape c.make.new.unit.tape c.args.source.now c.args.sink.now c.make.new.sink c.make.result refl c.make.ensures)
+
+pub returns-in-Upgrade-clause-ends : goal.returns-in-Upgrade-clause-ends
+returns-in-Upgrade-clause-ends g c =
+    rw c.in-Upgrade.is (ends_over g.T.Tape.means g.S.Source.means g.K.Sink.means Upgrade
+    c.args.unit.now.tape c.upgrade.new.unit.tape c.args.source.now c.args.sink.now c.upgrade.new.sink c.upgrade.result refl c.upgrade.ensures)
