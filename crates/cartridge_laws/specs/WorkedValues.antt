@@ -6,16 +6,16 @@ use Rattle.cartridge_spec.specs.Appending.{free_segments, room, taken_by, new_en
 use Rattle.cartridge_spec.specs.Code.{parity, value_at}
 use Rattle.cartridge_spec.specs.Field.{product, power, inverse}
 use Rattle.cartridge_spec.specs.Header.{Holds, profile_fields, header_fields, header_fault, fault_as, number}
-use Rattle.cartridge_spec.specs.Formatting.{fresh_header, copy_writes, segment_formats}
+use Rattle.cartridge_spec.specs.Formatting.{fresh_header, copy_writes, clearing_steps}
 use Rattle.cartridge_spec.specs.Says.{whole_mask}
 use Rattle.cartridge_spec.specs.Shape.{capacity, mask_of, usable_places, marked_sectors}
-use Rattle.cartridge_spec.specs.Table.{slot_bytes, slot_sector, slot_fault, BadRange, ForeignSlot, Entry}
+use Rattle.cartridge_spec.specs.Table.{slot_bytes, slot_sector, entry_in, slot_fault, BadRange, ForeignSlot, Entry}
 use Rattle.cartridge_spec.specs.TableSets.{table_sets}
 use Rattle.cartridge_spec.specs.Volumes.{volume_length}
 use Rattle.qic_base.specs.Cartridge.{new_cartridge, IsPlace, IsLength}
 use Rattle.qic_base.specs.Date.{date_word, ShowsDate, IsDate}
 use Rattle.qic_base.specs.Name.{filled, IsNameText}
-use Rattle.qic_base.specs.Step.{WriteSector, FormatSegment}
+use Rattle.qic_base.specs.Step.{WriteSector, FormatSegment, SetReferenced}
 use Rattle.qic_base.specs.declared.foreign.ForeignField.TheVariants.{FormatCode}
 use Rattle.qic_base.specs.declared.tape.SectorView.TheVariants as view
 
@@ -158,9 +158,9 @@ NameWidth = length (filled (codes "made-1")) ≡ 44
 abbrev pub CopyOrder : Type 0
 CopyOrder = copy_writes 1 (replicate 32 []) ≡ map (λ i. WriteSector 1 i []) (range_with_len 1 31) ++ WriteSector 1 0 [] ∷ []
 
--- the segments ascend
-abbrev pub ThreeSegments : Type 0
-ThreeSegments = segment_formats 3 ≡ FormatSegment 0 ∷ FormatSegment 1 ∷ FormatSegment 2 ∷ []
+-- with 3 segments per track: the reference bursts, and then 84 segments
+abbrev pub Clearing : Type 0
+Clearing = clearing_steps 3 ≡ SetReferenced ∷ map (λ s. FormatSegment s) (range_with_len 0 84)
 
 -- ---- room, on a cartridge of 3 segments per track without a bad sector
 
@@ -218,11 +218,11 @@ SlotSize = slice_range (slot_bytes (entry_of 3 10)) 96 104 ≡ 0x0A ∷ 0x00 ∷
 abbrev pub SlotWidth : Type 0
 SlotWidth = length (slot_bytes (entry_of 3 10)) ≡ 128
 
--- the ninth slot is in sector 1
-abbrev pub NinthSlot : Type 0
-NinthSlot = slot_sector 8 ≡ 1
+-- the slot is read as the entry
+abbrev pub SlotReadAgain : Type 0
+SlotReadAgain = entry_in (slot_bytes (entry_of 3 10)) ≡ entry_of 3 10
 
--- .. so its append writes the sectors 1, 29, 30 and 31, in this order
+-- the ninth slot is in sector 1, so its append writes the sectors 1, 29, 30 and 31, in this order
 abbrev pub NinthWrites : Type 0
 NinthWrites = table_places (slot_sector 8) ≡ 1 ∷ 29 ∷ 30 ∷ 31 ∷ []
 

@@ -1,6 +1,6 @@
 //! Worked values of the cartridge's definitions; the functions do nothing, and evaluation proves their contracts.
 
-ghost use Rattle.cartridge_laws.specs.WorkedValues.{SquareOfC0, EighthPower, InverseOfTwo, ParityOfOneByte, ParityOfTwoBytes, GeneratorAtItsRoots, WrongByteShows, NoonInMarch, NoonInMarchIsRead, LastSecond, NoDay32, WholeCapacity, FourUsable, ThreeUsable, LastFour, FiveMarks, NewSectors, HeaderHolds, HeaderTells, HeaderIsSound, FormatCode4, HeadOfTheLongest, ShortestLength, Length151, LongestLength, NoSegment84, NoSector32, NoSpaceAtTheEnd, NameWidth, CopyOrder, ThreeSegments, EmptyRoom, EmptyFree, OneSegment, TwoSegments, NoByte, AllSegments, FewUsable, TooFewUsable, SlotBegins, SlotDate, SlotSize, SlotWidth, NinthSlot, NinthWrites, StartInFront, OtherSignature, UsedBehindFree, SizeFits, SizeTooLarge, DataAlone, NoUsedSlot, DataAndFirstParity, DataAndSecondParity, DataAndLastParity, TwoData};
+ghost use Rattle.cartridge_laws.specs.WorkedValues.{SquareOfC0, EighthPower, InverseOfTwo, ParityOfOneByte, ParityOfTwoBytes, GeneratorAtItsRoots, WrongByteShows, NoonInMarch, NoonInMarchIsRead, LastSecond, NoDay32, WholeCapacity, FourUsable, ThreeUsable, LastFour, FiveMarks, NewSectors, HeaderHolds, HeaderTells, HeaderIsSound, FormatCode4, HeadOfTheLongest, ShortestLength, Length151, LongestLength, NoSegment84, NoSector32, NoSpaceAtTheEnd, NameWidth, CopyOrder, Clearing, EmptyRoom, EmptyFree, OneSegment, TwoSegments, NoByte, AllSegments, FewUsable, TooFewUsable, SlotBegins, SlotDate, SlotSize, SlotWidth, SlotReadAgain, NinthWrites, StartInFront, OtherSignature, UsedBehindFree, SizeFits, SizeTooLarge, DataAlone, NoUsedSlot, DataAndFirstParity, DataAndSecondParity, DataAndLastParity, TwoData};
 
 /// The field, the code and its parity.
 pub fn code()
@@ -54,7 +54,7 @@ pub fn places()
 /// The order of formatting.
 pub fn formatting()
     ensures copy { CopyOrder }
-    ensures segments { ThreeSegments }
+    ensures clearing { Clearing }
 {}
 
 /// Room, and the segments that volumes take.
@@ -75,8 +75,8 @@ pub fn table()
     ensures date { SlotDate }
     ensures size { SlotSize }
     ensures width { SlotWidth }
-    ensures ninth { NinthSlot }
-    ensures writes { NinthWrites }
+    ensures read { SlotReadAgain }
+    ensures ninth { NinthWrites }
     ensures in_front { StartInFront }
     ensures signature { OtherSignature }
     ensures behind_free { UsedBehindFree }

@@ -21,11 +21,12 @@ pub returns-clause-width : goal.returns-clause-width
 unfolding little_endian_bytes filled
 returns-clause-width c = refl
 
+pub returns-clause-read : goal.returns-clause-read
+unfolding little_endian_bytes filled number_at
+returns-clause-read c = refl
+
 pub returns-clause-ninth : goal.returns-clause-ninth
 returns-clause-ninth c = refl
-
-pub returns-clause-writes : goal.returns-clause-writes
-returns-clause-writes c = refl
 
 pub returns-clause-in_front : goal.returns-clause-in_front
 unfolding slot_fault slot some_free_below little_endian_bytes filled number_at
