@@ -93,7 +93,7 @@ module _ (name : List ℕ) (date : ℕ) (input : List ℕ) (c : Cartridge) (plai
       (free_writes_stand s plain (steps_of (segments_acts c plain input)) left s_stands (segments_are_free c plain input) torn)
 
   -- among the writes of an append
-  append_survives : fits plain input ≡ true → (left : Option Cartridge) → Torn (appends.append_steps_of plain name date input) (Some s) left →
+  pub append_survives : fits plain input ≡ true → (left : Option Cartridge) → Torn (appends.append_steps_of plain name date input) (Some s) left →
       IsSomeAnd left (Either plain (with_bytes plain name date input))
   append_survives enough left torn =
       let front : List Step = appends.volume_steps plain name date input in
@@ -124,7 +124,7 @@ module _ (name : List ℕ) (date : ℕ) (input : List ℕ) (c : Cartridge) (plai
       ]
 
   -- once all is done
-  done_survives : fits plain input ≡ true → (f : Cartridge) (lost : ℕ) →
+  pub done_survives : fits plain input ≡ true → (f : Cartridge) (lost : ℕ) →
       LosesOneAlone (changed_by (appends.append_steps_of plain name date input) s) f lost → ComesBackAs f (with_bytes plain name date input)
   done_survives enough f lost loses =
       done_append_comes_back s (changed_by (appends.append_steps_of plain name date input) s) plain name date input (ready enough)

@@ -56,6 +56,7 @@ pub mod MountedListed
 pub mod MountedListing
 pub mod MountedSaying
 pub mod MountedStanding
+pub mod MountedSurviving
 pub mod NewCommand
 pub mod OutputActsOfPieces
 pub mod OutputJoining

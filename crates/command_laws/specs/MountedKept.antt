@@ -4,6 +4,7 @@ use Rattle.cartridge_spec.specs.Appending.{with_bytes, has_room}
 use Rattle.cartridge_spec.specs.Formatting.{IsLabel}
 use Rattle.cartridge_spec.specs.HeaderAndTable.{TableIs}
 use Rattle.cartridge_spec.specs.Mounting.{IsTableLive}
+use Rattle.cartridge_spec.specs.OneLoss.{ComesBackAs, LosesOneAlone}
 use Rattle.cartridge_spec.specs.Settling.{settling_steps, changed_by}
 use Rattle.cartridge_spec.specs.Volumes.{Plain, Stands, entries_of}
 use Rattle.cartridge_spec.specs.Wear.{worn}
@@ -50,6 +51,22 @@ abbrev pub AppendsKeep : Type 0
 AppendsKeep =
     (c : Cartridge) (plain : Plain) (name : List ℕ) (date : ℕ) (bytes : List ℕ) → IsKept c plain → IsAppendable name date bytes →
     has_room plain (length bytes) ≡ true → AppendKeeps c plain name date bytes
+
+-- .. and a stop in them comes in the settling, or what it leaves is one of the two also where one sector of the table's segment is
+-- lost besides, whichever it is, and nothing else
+abbrev pub AppendsSurvive : Type 0
+AppendsSurvive =
+    (c : Cartridge) (plain : Plain) (name : List ℕ) (date : ℕ) (bytes : List ℕ) (left : Option Cartridge) → IsKept c plain →
+    IsAppendable name date bytes → has_room plain (length bytes) ≡ true → Torn (settle_and_append c plain name date bytes) (Some c) left →
+    Torn (settling_steps plain.table_area c) (Some c) left
+    ⊎ IsSomeAnd left (λ d. (f : Cartridge) (lost : ℕ) → LosesOneAlone d f lost → ComesBackAs f plain ⊎ ComesBackAs f (with_bytes plain name date bytes))
+
+-- .. and all of them done, it comes back so with the volume
+abbrev pub AppendedSurvive : Type 0
+AppendedSurvive =
+    (c : Cartridge) (plain : Plain) (name : List ℕ) (date : ℕ) (bytes : List ℕ) (f : Cartridge) (lost : ℕ) → IsKept c plain →
+    IsAppendable name date bytes → has_room plain (length bytes) ≡ true →
+    LosesOneAlone (changed_by (settle_and_append c plain name date bytes) c) f lost → ComesBackAs f (with_bytes plain name date bytes)
 
 -- ---- a worn sector, and a scrub
 

@@ -1,14 +1,17 @@
 //! What becomes of a mounted cartridge. Each law is the contract of a function that does nothing, so that other crates can rest
 //! on it; their proofs import the lemmas of this crate's `proofs`.
 
-ghost use Rattle.command_laws.specs.MountedKept.{AppendsKeep, WearsKeep, ScrubsKeep, AppendsLeaveOpen, WearsLeaveOpen, ScrubsLeaveOpen};
+ghost use Rattle.command_laws.specs.MountedKept.{AppendsKeep, AppendsSurvive, AppendedSurvive, WearsKeep, ScrubsKeep, AppendsLeaveOpen, WearsLeaveOpen, ScrubsLeaveOpen};
 ghost use Rattle.command_laws.specs.MountedListed.{MountedListed, ListedReads, AppendListed, WearListed, ScrubListed, RestoresAnyway, ScrubsAnyway};
 ghost use Rattle.command_laws.specs.MountedListing.{SettledLists, AppendLists, AppendFrontLists, WearLists, ScrubLists};
 
 /// An append of as many bytes as are promised, with room for them, leaves the plain cartridge with that volume; a stop
-/// in it that or the one before it.
+/// in it that or the one before it. So it is behind the settling of the table also where one sector of the table's
+/// segment is lost besides.
 pub fn an_append_keeps_what_stands()
-    ensures { AppendsKeep }
+    ensures keeps { AppendsKeep }
+    ensures survives { AppendsSurvive }
+    ensures appended { AppendedSurvive }
 {}
 
 /// A sector that is worn behind the table's segment, and a scrub, leave what stands.
