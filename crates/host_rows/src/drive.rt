@@ -98,7 +98,10 @@ fn a_fault_of_the_tape_leaves_the_head_where_it_was(rt: HostRuntime) {
         Row::Upgrade(Err(HandFault::Tape)),
         Row::Status(0x01),
     ];
-    assert_eq!(rt; first_wrong_written(&rt, rt.alloc(), &[7, 9, 11], &rows), None);
+    assert_eq!(rt;
+        first_wrong_written(&rt, rt.alloc(), &[7, 9, 11], &rows),
+        None
+    );
 }
 
 /// A drive whose tape never fails, with a cartridge of three segments per track whose segment 0 is formatted.

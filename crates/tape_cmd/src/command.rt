@@ -59,7 +59,14 @@ fn carry_out<M: Memory + Drop, T: Tape, S: Source, K: Sink>(
             Ok(format_cartridge(unit, &mut room, label, date, sink))
         }
         Words::Info => Ok(info(unit, memory.room()?, sink)),
-        Words::Append { ref name, date } => Ok(append(unit, memory.room()?, name, date, source, sink)),
+        Words::Append { ref name, date } => Ok(append(
+            unit,
+            memory.room()?,
+            name,
+            date,
+            source,
+            sink,
+        )),
         Words::List => Ok(list(unit, memory.room()?, sink)),
         Words::Restore { number } => Ok(restore(unit, memory.room()?, number, sink)),
         Words::Scrub => Ok(scrub(unit, memory.room()?, sink)),

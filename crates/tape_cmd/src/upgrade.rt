@@ -19,7 +19,10 @@ pub fn upgrade<T: Tape, K: Sink>(unit: &mut Unit<T>, sink: &mut K) -> Status
     }
     match unit.upgrade() {
         Ok(version) => {
-            printed(write_text(number_text(b"upgraded from", u64::from(version)).bytes(), sink))
+            printed(write_text(
+                number_text(b"upgraded from", u64::from(version)).bytes(),
+                sink,
+            ))
         }
         Err(HandFault::NoCartridge) => Status::NoCartridge,
         Err(HandFault::Tape) => Status::TapeFault,
