@@ -17,6 +17,7 @@ use Rattle.qic_base.specs.Date.{date_word, ShowsDate, IsDate}
 use Rattle.qic_base.specs.Name.{filled, IsNameText}
 use Rattle.qic_base.specs.Step.{WriteSector, FormatSegment, SetReferenced}
 use Rattle.qic_base.specs.declared.foreign.ForeignField.TheVariants.{FormatCode}
+use Rattle.qic_base.specs.declared.tape.SectorView.{SectorView}
 use Rattle.qic_base.specs.declared.tape.SectorView.TheVariants as view
 
 -- ---- the field and the code
@@ -43,7 +44,8 @@ ParityOfTwoBytes = parity (0x01 ∷ 0x00 ∷ []) ≡ 0x67 ∷ 0xA6 ∷ 0xC0 ∷ 
 
 -- the column 01 C0 C0 01, the generator, is 0 at its three roots
 abbrev pub GeneratorAtItsRoots : Type 0
-GeneratorAtItsRoots = map (λ p. value_at p (0x01 ∷ 0xC0 ∷ 0xC0 ∷ 0x01 ∷ [])) (0xC3 ∷ 0x01 ∷ 0x02 ∷ []) ≡ 0 ∷ 0 ∷ 0 ∷ []
+GeneratorAtItsRoots = map (λ p. value_at p (0x01 ∷ 0xC0 ∷ 0xC0 ∷ 0x01 ∷ [])) (0xC3 ∷ 0x01 ∷ 0x02 ∷ [])
+    ≡ 0 ∷ 0 ∷ 0 ∷ []
 
 -- with a last byte 00 it is not, at 1
 abbrev pub WrongByteShows : Type 0
@@ -156,7 +158,8 @@ NameWidth = length (filled (codes "made-1")) ≡ 44
 
 -- a header copy: sectors 1 to 31, ascending, then sector 0
 abbrev pub CopyOrder : Type 0
-CopyOrder = copy_writes 1 (replicate 32 []) ≡ map (λ i. WriteSector 1 i []) (range_with_len 1 31) ++ WriteSector 1 0 [] ∷ []
+CopyOrder = copy_writes 1 (replicate 32 [])
+    ≡ map (λ i. WriteSector 1 i []) (range_with_len 1 31) ++ WriteSector 1 0 [] ∷ []
 
 -- with 3 segments per track: the reference bursts, and then 84 segments
 abbrev pub Clearing : Type 0
@@ -190,11 +193,13 @@ AllSegments = taken_by (replicate 84 0) 2405376 (free_segments (replicate 84 0) 
 
 -- with 28 bad sectors in segment 4 one of 30,720 bytes takes the segments 3 and 4
 abbrev pub FewUsable : Type 0
-FewUsable = let words : List ℕ = replicate 4 0 ++ 0x0FFF_FFFF ∷ replicate 79 0 in taken_by words 30720 (free_segments words []) ≡ 3 ∷ 4 ∷ []
+FewUsable = let words : List ℕ = replicate 4 0 ++ 0x0FFF_FFFF ∷ replicate 79 0 in taken_by words 30720 (free_segments words [])
+    ≡ 3 ∷ 4 ∷ []
 
 -- with 29 it takes 3 and 5
 abbrev pub TooFewUsable : Type 0
-TooFewUsable = let words : List ℕ = replicate 4 0 ++ 0x1FFF_FFFF ∷ replicate 79 0 in taken_by words 30720 (free_segments words []) ≡ 3 ∷ 5 ∷ []
+TooFewUsable = let words : List ℕ = replicate 4 0 ++ 0x1FFF_FFFF ∷ replicate 79 0 in taken_by words 30720 (free_segments words [])
+    ≡ 3 ∷ 5 ∷ []
 
 -- ---- the volume table, with a volume `a` of 10 bytes and the date 0x305265C0 in segment 3
 
@@ -212,7 +217,8 @@ SlotDate = slice_range (slot_bytes (entry_of 3 10)) 52 58 ≡ 0xC0 ∷ 0x65 ∷ 
 
 -- its bytes 96 to 103 are 0A 00 00 00 00 00 00 00
 abbrev pub SlotSize : Type 0
-SlotSize = slice_range (slot_bytes (entry_of 3 10)) 96 104 ≡ 0x0A ∷ 0x00 ∷ 0x00 ∷ 0x00 ∷ 0x00 ∷ 0x00 ∷ 0x00 ∷ 0x00 ∷ []
+SlotSize = slice_range (slot_bytes (entry_of 3 10)) 96 104
+    ≡ 0x0A ∷ 0x00 ∷ 0x00 ∷ 0x00 ∷ 0x00 ∷ 0x00 ∷ 0x00 ∷ 0x00 ∷ []
 
 -- it has 128 bytes
 abbrev pub SlotWidth : Type 0
@@ -248,26 +254,38 @@ SizeTooLarge = volume_length (replicate 84 0) (entry_of 3 29697) ≡ 29696
 
 -- ---- the sets that the reading of a table tries: none first, and then by the unreadable sectors
 
+-- a sector whose first slot is used
+abbrev pub used : SectorView
+used = view.Holds (codes "VTBL")
+
+-- a sector without a used slot
+abbrev pub free : SectorView
+free = view.Holds []
+
 -- sector 5 alone, and sector 0 the last with a used slot: 5 and 31; 5 and 29; 5 and 0; 5, 30 and 31
 abbrev pub DataAlone : Type 0
-DataAlone = table_sets (replicate 1 (view.Holds (codes "VTBL")) ++ replicate 4 (view.Holds []) ++ replicate 1 view.Lost ++ replicate 26 (view.Holds [])) ≡ 0 ∷ 0x80000020 ∷ 0x20000020 ∷ 0x21 ∷ 0xC0000020 ∷ []
+DataAlone = table_sets (used ∷ replicate 4 free ++ view.Lost ∷ replicate 26 free)
+    ≡ 0 ∷ 0x80000020 ∷ 0x20000020 ∷ 0x21 ∷ 0xC0000020 ∷ []
 
 -- without a used slot the set with such a sector is passed over
 abbrev pub NoUsedSlot : Type 0
-NoUsedSlot = table_sets (replicate 5 (view.Holds []) ++ replicate 1 view.Lost ++ replicate 26 (view.Holds [])) ≡ 0 ∷ 0x80000020 ∷ 0x20000020 ∷ 0xC0000020 ∷ []
+NoUsedSlot = table_sets (replicate 5 free ++ view.Lost ∷ replicate 26 free)
+    ≡ 0 ∷ 0x80000020 ∷ 0x20000020 ∷ 0xC0000020 ∷ []
 
 -- sectors 5 and 29: 5, 29 and 0
 abbrev pub DataAndFirstParity : Type 0
-DataAndFirstParity = table_sets (replicate 1 (view.Holds (codes "VTBL")) ++ replicate 4 (view.Holds []) ++ replicate 1 view.Lost ++ replicate 23 (view.Holds []) ++ replicate 1 view.Lost ++ replicate 2 (view.Holds [])) ≡ 0 ∷ 0x20000021 ∷ []
+DataAndFirstParity = table_sets (used ∷ replicate 4 free ++ view.Lost ∷ replicate 23 free ++ view.Lost ∷ replicate 2 free)
+    ≡ 0 ∷ 0x20000021 ∷ []
 
 -- sectors 1 and 30: 1, 30 and 31
 abbrev pub DataAndSecondParity : Type 0
-DataAndSecondParity = table_sets (replicate 1 (view.Holds (codes "VTBL")) ++ replicate 1 view.Lost ++ replicate 28 (view.Holds []) ++ replicate 1 view.Lost ++ replicate 1 (view.Holds [])) ≡ 0 ∷ 0xC0000002 ∷ []
+DataAndSecondParity = table_sets (used ∷ view.Lost ∷ replicate 28 free ++ view.Lost ∷ free ∷ [])
+    ≡ 0 ∷ 0xC0000002 ∷ []
 
 -- sectors 5 and 31: no other
 abbrev pub DataAndLastParity : Type 0
-DataAndLastParity = table_sets (replicate 1 (view.Holds (codes "VTBL")) ++ replicate 4 (view.Holds []) ++ replicate 1 view.Lost ++ replicate 25 (view.Holds []) ++ replicate 1 view.Lost) ≡ 0 ∷ []
+DataAndLastParity = table_sets (used ∷ replicate 4 free ++ view.Lost ∷ replicate 25 free ++ view.Lost ∷ []) ≡ 0 ∷ []
 
 -- two sectors of data: no other
 abbrev pub TwoData : Type 0
-TwoData = table_sets (replicate 1 (view.Holds (codes "VTBL")) ++ replicate 4 (view.Holds []) ++ replicate 2 view.Lost ++ replicate 25 (view.Holds [])) ≡ 0 ∷ []
+TwoData = table_sets (used ∷ replicate 4 free ++ replicate 2 view.Lost ++ replicate 25 free) ≡ 0 ∷ []

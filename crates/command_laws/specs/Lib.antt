@@ -29,3 +29,4 @@ pub mod TextInput
 pub mod TextLaws
 pub mod TextReading
 pub mod TextWords
+pub mod WorkedValues

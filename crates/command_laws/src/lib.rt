@@ -16,3 +16,4 @@ pub mod texts;
 pub mod trains;
 pub mod volume_acts;
 pub mod volume_pieces;
+pub mod worked_values;
