@@ -73,25 +73,25 @@ module _ (P : Cartridge → Type 0) where
   abbrev pub Leaves : Cartridge → List Step → Type 0
   Leaves c steps = (left : Option Cartridge) → Torn steps (Some c) left → IsSomeAnd left P
 
-  none_leaves : (c : Cartridge) (steps : List Step) → P c → steps ≡ [] → Leaves c steps
+  pub none_leaves : (c : Cartridge) (steps : List Step) → P c → steps ≡ [] → Leaves c steps
   none_leaves c steps holds none left torn = some_and P c left holds (subst (λ (ss : List Step). Torn ss (Some c) left) none torn)
 
-  both_leave : (c : Cartridge) (xs ys : List Step) → Leaves c xs → Leaves (changed_by xs c) ys → Leaves c (xs ++ ys)
+  pub both_leave : (c : Cartridge) (xs ys : List Step) → Leaves c xs → Leaves (changed_by xs c) ys → Leaves c (xs ++ ys)
   both_leave c xs ys first next left torn =
       elim (Torn-append xs ys (Some c) left torn) [
         | inl front ↦ first left front
         | inr behind ↦ next left (subst (λ (held : Option Cartridge). Torn ys held left) (effects-some xs c) behind)
       ]
 
-  leaves_done : (c : Cartridge) (steps : List Step) → Leaves c steps → P (changed_by steps c)
+  pub leaves_done : (c : Cartridge) (steps : List Step) → Leaves c steps → P (changed_by steps c)
   leaves_done c steps leaves =
       subst (λ (o : Option Cartridge). IsSomeAnd o P) (effects-some steps c) (leaves (effects steps (Some c)) (Torn-all steps (Some c)))
 
-  leaves_by : (c : Cartridge) (xs ys : List Step) → xs ≡ ys → Leaves c ys → Leaves c xs
+  pub leaves_by : (c : Cartridge) (xs ys : List Step) → xs ≡ ys → Leaves c ys → Leaves c xs
   leaves_by c xs ys same leaves left torn = leaves left (subst (λ (ss : List Step). Torn ss (Some c) left) same torn)
 
   -- the steps of acts, one after the other
-  acts_leave : (c : Cartridge) (xs ys : List Act) → Leaves c (steps_of xs) → Leaves (changed_by (steps_of xs) c) (steps_of ys) → Leaves c (steps_of (xs ++ ys))
+  pub acts_leave : (c : Cartridge) (xs ys : List Act) → Leaves c (steps_of xs) → Leaves (changed_by (steps_of xs) c) (steps_of ys) → Leaves c (steps_of (xs ++ ys))
   acts_leave c xs ys first next = leaves_by c (steps_of (xs ++ ys)) (steps_of xs ++ steps_of ys) (steps_of-append xs ys) (both_leave c (steps_of xs) (steps_of ys) first next)
 
   -- ---- commands
@@ -101,7 +101,7 @@ module _ (P : Cartridge → Type 0) where
       (c : Cartridge) (header : Header) (ws : List ℕ) (table : List (List ℕ)) (entries : List Entry) (outcome : CommandOutcome) →
       Mounts c (mounting.Mounted header ws table entries) → goes c header ws table entries outcome → P c → Leaves c (steps_of outcome.acts)
 
-  refused_leaves : (c : Cartridge) (a b : CommandOutcome) → a ≡ b → steps_of b.acts ≡ [] → P c → Leaves c (steps_of a.acts)
+  pub refused_leaves : (c : Cartridge) (a b : CommandOutcome) → a ≡ b → steps_of b.acts ≡ [] → P c → Leaves c (steps_of a.acts)
   refused_leaves c a b same none holds = none_leaves c (steps_of a.acts) holds (ap (λ (o : CommandOutcome). steps_of o.acts) same ∙ none)
 
   pub open_leaves : (goes : Going) → GoesLeaving goes → (c : Cartridge) (outcome : CommandOutcome) → OpenOutcome goes (Some c) outcome → P c → Leaves c (steps_of outcome.acts)
@@ -125,7 +125,7 @@ module _ (P : Cartridge → Type 0) where
   sector_leaves step segment sector c left before behind (inl same) = some_and P c left before same
   sector_leaves step segment sector c left before behind (inr is) = some_and P (changed step c) left behind is.1
 
-  wear_leaves : (segment sector : ℕ) (c : Cartridge) → P c → P (changed (Wear segment sector) c) → Leaves c (Wear segment sector ∷ [])
+  pub wear_leaves : (segment sector : ℕ) (c : Cartridge) → P c → P (changed (Wear segment sector) c) → Leaves c (Wear segment sector ∷ [])
   wear_leaves segment sector c before behind left (inl is) = some_and P c left before is
   wear_leaves segment sector c before behind left (inr (inl inside)) = absurd inside
   wear_leaves segment sector c before behind left (inr (inr is)) = some_and P (changed (Wear segment sector) c) left behind is

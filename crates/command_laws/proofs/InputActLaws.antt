@@ -140,7 +140,7 @@ anywhere : (segments : List ℕ) → All Anywhere segments
 anywhere [] = All-nil Anywhere
 anywhere (s ∷ ss) = All-cons Anywhere s ss tt (anywhere ss)
 
-writes_whole : (s : ℕ) (places : List ℕ) (sectors : List (List ℕ)) → All IsSector sectors → AreWrites IsOfSector (writes_of s places sectors)
+pub writes_whole : (s : ℕ) (places : List ℕ) (sectors : List (List ℕ)) → All IsSector sectors → AreWrites IsOfSector (writes_of s places sectors)
 writes_whole s [] sectors are = tt
 writes_whole s (place ∷ places) [] are = tt
 writes_whole s (place ∷ places) (bytes ∷ sectors) are =

@@ -132,3 +132,5 @@ pub mod TextReadings
 pub mod TextTrimmed
 pub mod TextWords
 pub mod UpgradeCommand
+pub mod WholeSteps
+pub mod CommandWhole

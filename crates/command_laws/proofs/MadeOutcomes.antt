@@ -24,7 +24,7 @@ use Rattle.qic_base.specs.Step.{Step, Wear}
 -- ---- one step
 
 -- what it asks: a made volume's number is small, and a volume that is summed is in the list
-abbrev CanDo : List Entry → MakeStep → Type 0
+abbrev pub CanDo : List Entry → MakeStep → Type 0
 CanDo entries (AppendMade volume) = volume ≤ 200
 CanDo entries (WearSector segment sector) = Unit {0}
 CanDo entries ScrubAll = Unit {0}
@@ -152,7 +152,7 @@ module _ (seed : ℕ) (c : Cartridge) (words : List ℕ) (entries : List Entry) 
 
 -- ---- steps one after the other
 
-abbrev CanRun : (seed : ℕ) (words : List ℕ) → List Entry → List MakeStep → Type 0
+abbrev pub CanRun : (seed : ℕ) (words : List ℕ) → List Entry → List MakeStep → Type 0
 CanRun seed words entries [] = Unit {0}
 CanRun seed words entries (item ∷ items) = CanDo entries item × CanRun seed words (after_item seed words entries item) items
 
@@ -239,14 +239,17 @@ can_sum seed words es number (suc count) some within =
 
 -- ---- a run
 
-pub makes_something : MakesSomething
-makes_something seed count c words entries listed few =
+pub can_make : (seed count : ℕ) (words : List ℕ) (entries : List Entry) → count ≤ 200 → CanRun seed words entries (making seed count words entries)
+can_make seed count words entries few =
     let made : List Entry = made_list seed count words entries in
     let wears : List MakeStep = wearing_volumes words (drop (length entries) made) in
     let sums : List MakeStep = summing (length entries + 1) count in
     let long : length made ≡ length entries + count = length-made seed words entries 1 count in
-    runs_somehow seed words (making seed count words entries) c entries listed
-    (can_both seed words (appending 1 count) (wears ++ ScrubAll ∷ sums) entries (can_append seed words 1 count entries (omega arith))
+    can_both seed words (appending 1 count) (wears ++ ScrubAll ∷ sums) entries (can_append seed words 1 count entries (omega arith))
     (can_both seed words wears (ScrubAll ∷ sums) made (can_wear seed words made wears (wears_volumes words (drop (length entries) made)))
     (subst (λ (es : List Entry). CanRun seed words es (ScrubAll ∷ sums)) (sym (after_wearing_volumes seed words made (drop (length entries) made)))
-    (tt, can_sum seed words made (length entries + 1) count (omega arith) (omega arith)))))
+    (tt, can_sum seed words made (length entries + 1) count (omega arith) (omega arith))))
+
+pub makes_something : MakesSomething
+makes_something seed count c words entries listed few =
+    runs_somehow seed words (making seed count words entries) c entries listed (can_make seed count words entries few)

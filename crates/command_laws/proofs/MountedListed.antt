@@ -215,6 +215,28 @@ module _ (c : Cartridge) (words : List ℕ) (entries : List Entry) (table : List
           size = omega (arith, room_most words entries last);
         }
 
+    -- the table with the entry of a volume that has room is one
+    pub entry_area : (bytes : List ℕ) → taking (room_in kept) promised input ≡ Fits bytes → IsArea (with_slot table (length entries) (slot_bytes (entry_for kept name date bytes)))
+    entry_area bytes took =
+        let e : Entry = entry_for kept name date bytes in
+        let n : ℕ = length entries in
+        let fit = took_fits (room_in kept) promised input bytes took in
+        let has : HasRoom words entries (length bytes) =
+        room_is words entries (length bytes) (both_true (nat_le 1 (room words entries)) (nat_le (length bytes) (room words entries))
+        (le-leb 1 (room words entries) fit.0) (le-leb (length bytes) (room words entries) fit.1)) in
+        let within : n < 232 = has.free_slot in
+        let small : n / 8 < 29 = omega arith in
+        let slot : List ℕ = slot_bytes e in
+        slot_area table n slot area within (length-slot_bytes e label.size) (slot_are_bytes e label.bytes (omega arith) (omega arith))
+
+    pub slot_free : (bytes : List ℕ) → taking (room_in kept) promised input ≡ Fits bytes → length entries < 232
+    slot_free bytes took =
+        let fit = took_fits (room_in kept) promised input bytes took in
+        let has : HasRoom words entries (length bytes) =
+        room_is words entries (length bytes) (both_true (nat_le 1 (room words entries)) (nat_le (length bytes) (room words entries))
+        (le-leb 1 (room words entries) fit.0) (le-leb (length bytes) (room words entries) fit.1)) in
+        has.free_slot
+
     with_entry : (bytes : List ℕ) → taking (room_in kept) promised input ≡ Fits bytes →
         LeavesTable c (changed_by (steps_of (entry_acts kept name date reply (Fits bytes))) filled) last (entries ++ entry_for kept name date bytes ∷ [])
     with_entry bytes took =
@@ -228,7 +250,7 @@ module _ (c : Cartridge) (words : List ℕ) (entries : List Entry) (table : List
         let small : n / 8 < 29 = omega arith in
         let slot : List ℕ = slot_bytes e in
         let new : List (List ℕ) = with_slot table n slot in
-        let new_area : IsArea new = slot_area table n slot area within (length-slot_bytes e label.size) (slot_are_bytes e label.bytes (omega arith) (omega arith)) in
+        let new_area : IsArea new = entry_area bytes took in
         let writes : List Step = table_writes (slot_sector n) new in
         let kept_so = steps_kept (λ s i. s ≡ 2) writes filled (writes_in_table n new within) in
         let all : LeavesTable c (changed_by writes filled) last (entries ++ e ∷ []) = record {

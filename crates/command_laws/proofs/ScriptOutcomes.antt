@@ -33,7 +33,7 @@ use Rattle.command_spec.specs.declared.line.Line.TheVariants as line
 pub replied : (acts : List Act) (text : List ℕ) → steps_of (acts ++ reply text ∷ []) ≡ steps_of acts
 replied acts text = steps_of-append acts (reply text ∷ []) ∙ append-nil (steps_of acts)
 
-listed_by : (c : Cartridge) (words : List ℕ) (entries : List Entry) (x y : List Step) → x ≡ y → IsListed (changed_by y c) words entries → IsListed (changed_by x c) words entries
+pub listed_by : (c : Cartridge) (words : List ℕ) (entries : List Entry) (x y : List Step) → x ≡ y → IsListed (changed_by y c) words entries → IsListed (changed_by x c) words entries
 listed_by c words entries x y same listed = subst (λ (steps : List Step). IsListed (changed_by steps c) words entries) (sym same) listed
 
 -- a line was carried out, and what is known behind it
@@ -52,7 +52,7 @@ taken_listed c words kept name date acts (TooLong need have) listed =
 taken_listed c words kept name date acts (TooShort promised read) listed = listed
 
 -- .. a restore, which takes no step
-given_listed : (c : Cartridge) (words : List ℕ) (entries : List Entry) (number : ℕ) (e : Entry) (parts : List Act) (ending : restoring.GivingEnd) → steps_of parts ≡ [] →
+pub given_listed : (c : Cartridge) (words : List ℕ) (entries : List Entry) (number : ℕ) (e : Entry) (parts : List Act) (ending : restoring.GivingEnd) → steps_of parts ≡ [] →
     IsListed c words entries →
     IsListed (changed_by (steps_of (given_as words entries number e parts ending).acts) c) words (given_as words entries number e parts ending).entries
 given_listed c words entries number e parts restoring.Restored none listed =
