@@ -24,10 +24,10 @@ use qic_base::{Disk, DiskFailed, SectorRead, SectorWrite, Tape, TapeFailed, Tape
 pub struct ImageTape<D: Disk> {
     /// Nothing is pending in it, so a crash between two calls leaves the bytes that a read gives.
     disk: D,
-    /// The layout that the last `info` found or that a `renew` or `upgrade` made: None at first, where that `info` found no
-    /// image, and after a `renew` or `upgrade` that failed; an `info` that failed changes nothing. Where it is some, its
-    /// length is 3 to `LONGEST`, the disk was seen to be long enough for it, and bytes that the disk tells are an image
-    /// with just this layout.
+    /// The layout that the last `info` found or that a `renew` or `upgrade` made: None at first, where that `info`
+    /// found no image, and after a `renew` or `upgrade` that failed; an `info` that failed changes nothing. Where it
+    /// is some, its length is 3 to `LONGEST`, the disk was seen to be long enough for it, and bytes that the disk
+    /// tells are an image with just this layout.
     layout: Option<Layout>,
     /// What the planes say of the segment that was looked at last; None where that is not known, and in version 2.
     known: Option<SegmentStates>,

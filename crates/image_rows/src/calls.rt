@@ -216,6 +216,25 @@ fn a_segment_is_formatted_in_four_steps_and_again_in_three(rt: HostRuntime) -> R
     Ok(())
 }
 
+/// Sector 3 is a defect: the runs end before it and begin behind it.
+#[test]
+fn a_defect_is_left_out_of_formatting(rt: HostRuntime) -> Result<(), Fail> {
+    let rows = [
+        Row::Fill(128, 3, CLOSED),
+        Row::Sync,
+        Row::Fill(73_664, 3_072, 0),
+        Row::Fill(77_760, 28_672, 0),
+        Row::Sync,
+        Row::Fill(2_820, 28, 0xF0),
+        Row::Sync,
+        Row::Fill(128, 3, OPEN),
+        Row::Fill(132, 28, OPEN),
+        Row::Sync,
+    ];
+    assert!(rt; does(rt.alloc(), &[Call::Spoil(3), Call::Format], &rows)?);
+    Ok(())
+}
+
 /// The defect byte of sector 3, which was never formatted, is 64 + 2 * 2,688 + 67 = 5,507.
 #[test]
 fn a_state_byte_or_a_mark_is_one_write_or_none(rt: HostRuntime) -> Result<(), Fail> {

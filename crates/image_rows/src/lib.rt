@@ -16,3 +16,5 @@ mod scratched;
 mod sectors;
 #[cfg(test)]
 mod stops;
+#[cfg(test)]
+mod upgrades;

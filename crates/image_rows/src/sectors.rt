@@ -142,7 +142,7 @@ fn filled(tape: &mut ImageTape<MemDisk>, sector: u8) -> Result<Option<u8>, Fail>
 }
 
 /// The same of the sectors 0 to 2.
-fn three_filled(tape: &mut ImageTape<MemDisk>) -> Result<[Option<u8>; 3], Fail> {
+pub fn three_filled(tape: &mut ImageTape<MemDisk>) -> Result<[Option<u8>; 3], Fail> {
     let before = filled(tape, 0)?;
     let written = filled(tape, 1)?;
     let behind = filled(tape, 2)?;
