@@ -1,5 +1,5 @@
--- Worked values: what definitions give at small values, as facts. Each value stands in the tables and worked examples of the
--- formats and commands that the definitions are of; none comes of evaluating a definition.
+-- Worked values: what definitions give at small values, as facts. Each value stands in the tables and worked examples of
+-- the formats and commands that the definitions are of; none comes of evaluating a definition.
 use Rattle.std.specs.Prelude.{ℕ, ◌≡◌, List, [], ◌∷◌, ◌++◌, replicate, length, Some, None, codes, true, false, map, Bool}
 use Rattle.std.specs.List.{range_with_len}
 use Rattle.cartridge_spec.specs.Appending.{taken_by, new_entry}
@@ -19,7 +19,7 @@ use Rattle.command_spec.specs.Restore.{pieces, framed, Restored}
 use Rattle.command_spec.specs.Script.{refusal_line, given_as}
 use Rattle.command_spec.specs.Scrub.{counts_line, header_line, fault_line, looked_at}
 use Rattle.drive_spec.specs.Deck.{status_word, power_on_deck}
-use Rattle.drive_spec.specs.Record.{power_on}
+use Rattle.drive_spec.specs.Record.{Record, power_on}
 use Rattle.qic_base.specs.Acts.{text_of}
 use Rattle.qic_base.specs.Name.{filled}
 use Rattle.qic_base.specs.declared.tape.TapeInfo.{TapeInfo}
@@ -70,7 +70,8 @@ EmptyList = list_text (replicate 84 0) [] ≡ codes "volumes 0\n"
 
 -- a list with one
 abbrev pub OneVolumeListed : Type 0
-OneVolumeListed = list_text (replicate 84 0) (first_entry ∷ []) ≡ codes "1 3 3 10 1994-03-01T12:00:00 a\nvolumes 1\n"
+OneVolumeListed = list_text (replicate 84 0) (first_entry ∷ [])
+    ≡ codes "1 3 3 10 1994-03-01T12:00:00 a\nvolumes 1\n"
 
 -- a first volume of 29,697 bytes in the segments 3 and 4
 abbrev pub AppendedLine : Type 0
@@ -116,7 +117,8 @@ NewWords = IsCommand (codes "new" ∷ codes "151" ∷ []) (words.New 151)
 
 -- `append a` with a date
 abbrev pub AppendWords : Type 0
-AppendWords = IsCommand (codes "append" ∷ codes "a" ∷ codes "1994-03-01T12:00:00" ∷ []) (words.Append (filled (codes "a")) 0x305265C0)
+AppendWords = IsCommand (codes "append" ∷ codes "a" ∷ codes "1994-03-01T12:00:00" ∷ [])
+    (words.Append (filled (codes "a")) 0x305265C0)
 
 -- `append a` alone has the date word 0
 abbrev pub AppendWithoutDate : Type 0
@@ -147,7 +149,8 @@ ThreeWords = words_of (codes "append a 3") ≡ codes "append" ∷ codes "a" ∷ 
 -- 59,393 bytes in the segments 3 to 5: two segments of 29,696, and one byte
 abbrev pub ThreePieces : Type 0
 ThreePieces = pieces (replicate 84 0) (new_entry (3 ∷ 4 ∷ 5 ∷ []) (filled (codes "a")) 0 59393)
-    ≡ record { segment = 3; count = 29696 } ∷ record { segment = 4; count = 29696 } ∷ record { segment = 5; count = 1 } ∷ []
+    ≡ record { segment = 3; count = 29696 } ∷ record { segment = 4; count = 29696 }
+    ∷ record { segment = 5; count = 1 } ∷ []
 
 -- a promise of a byte beyond the room is full
 abbrev pub PromisedTooMuch : Type 0
@@ -183,7 +186,8 @@ ScriptIsRead = IsScript (codes "append a 3\nabclist\nrestore 1\nend\n")
 
 -- the reply to the append
 abbrev pub AppendReplies : Type 0
-AppendReplies = text_of (append_acts (kept_in script_words []) (filled (codes "a")) 0 (Some 3) (reply_behind 0) (codes "abc"))
+AppendReplies =
+    text_of (append_acts (kept_in script_words []) (filled (codes "a")) 0 (Some 3) (reply_behind 0) (codes "abc"))
     ≡ codes "appended 1 3 3 3\n"
 
 -- the reply to the list
@@ -220,7 +224,7 @@ ProtectedRefused = refusal_line why.Protected ≡ codes "refused protected\n"
 abbrev pub PlaceRefused : Type 0
 PlaceRefused = refusal_line (why.Place 84 0) ≡ codes "refused place 84 0\n"
 
--- ---- a generated run of three volumes with the seed 150, on a cartridge of 100 segments per track with 5 bad sectors in segment 10
+-- ---- a generated run of three volumes with the seed 150, on a long cartridge with 5 bad sectors in segment 10
 
 -- the map of its first 600 segments
 abbrev pub evening_words : List ℕ
@@ -257,7 +261,8 @@ ThirdMadeSegments = taken_by evening_words 5854000 (carrying evening_words 388 5
 -- the first two sectors of the segments 100, 200, 300, 400 and 500 are worn
 abbrev pub Worn : Type 0
 Worn = wearing_in evening_words (carrying evening_words 3 585)
-    ≡ WearSector 100 0 ∷ WearSector 100 1 ∷ WearSector 200 0 ∷ WearSector 200 1 ∷ WearSector 300 0 ∷ WearSector 300 1 ∷ WearSector 400 0 ∷ WearSector 400 1 ∷ WearSector 500 0 ∷ WearSector 500 1 ∷ []
+    ≡ WearSector 100 0 ∷ WearSector 100 1 ∷ WearSector 200 0 ∷ WearSector 200 1 ∷ WearSector 300 0
+    ∷ WearSector 300 1 ∷ WearSector 400 0 ∷ WearSector 400 1 ∷ WearSector 500 0 ∷ WearSector 500 1 ∷ []
 
 -- a scrub then looks at 586 segments
 abbrev pub Looked : Type 0
@@ -273,9 +278,17 @@ SumLine = sum_line 1 5652000 706499163 ≡ codes "volume 1 5652000 706499163\n"
 abbrev pub inserted : (protected : Bool) → TapeInfo
 inserted protected = record { segments_per_track = 3; protected = protected; referenced = true }
 
+-- the drive
+abbrev pub inserted_drive : Record
+inserted_drive = power_on (Some (inserted false))
+
+-- the trains that read the error word
+abbrev pub error_read : List ℕ
+error_read = 7 ∷ replicate 17 2
+
 -- the train 6 and nine trains of 2: the status report
 abbrev pub StatusLevels : Type 0
-StatusLevels = text_of (train_acts (power_on (Some (inserted false))) (6 ∷ replicate 9 2)) ≡ codes "1\n1\n0\n1\n0\n1\n1\n1\n0\n1\n"
+StatusLevels = text_of (train_acts inserted_drive (6 ∷ replicate 9 2)) ≡ codes "1\n1\n0\n1\n0\n1\n1\n1\n0\n1\n"
 
 -- .. which is 0x75
 abbrev pub StatusIs : Type 0
@@ -283,21 +296,22 @@ StatusIs = status_word (power_on_deck (Some (inserted false))) ≡ 0x75
 
 -- the error word read, 13, 30, and read again: 0x0D07, for track 28 is illegal
 abbrev pub IllegalTrackLevels : Type 0
-IllegalTrackLevels = text_of (train_acts (power_on (Some (inserted false))) (7 ∷ replicate 17 2 ++ 13 ∷ 30 ∷ 7 ∷ replicate 17 2))
+IllegalTrackLevels = text_of (train_acts inserted_drive (error_read ++ 13 ∷ 30 ∷ error_read))
     ≡ codes "1\n0\n0\n0\n0\n0\n0\n0\n0\n0\n0\n0\n0\n0\n0\n0\n0\n1\n0\n0\n1\n1\n1\n1\n0\n0\n0\n0\n0\n1\n0\n1\n1\n0\n0\n0\n0\n1\n"
 
 -- 6, 10, and the error word: 0x0A08, for the report was over at 10
 abbrev pub ReportBrokenOff : Type 0
-ReportBrokenOff = text_of (train_acts (power_on (Some (inserted false))) (6 ∷ 10 ∷ 7 ∷ replicate 17 2)) ≡ codes "1\n0\n1\n0\n0\n0\n1\n0\n0\n0\n0\n0\n1\n0\n1\n0\n0\n0\n0\n1\n"
+ReportBrokenOff = text_of (train_acts inserted_drive (6 ∷ 10 ∷ error_read))
+    ≡ codes "1\n0\n1\n0\n0\n0\n1\n0\n0\n0\n0\n0\n1\n0\n1\n0\n0\n0\n0\n1\n"
 
 -- the error word read, 14, 10, the error word and the status: 0x0A01, and 0x24, for the seek goes on
 abbrev pub SeekGoesOn : Type 0
-SeekGoesOn = text_of (train_acts (power_on (Some (inserted false))) (7 ∷ replicate 17 2 ++ 14 ∷ 10 ∷ 7 ∷ replicate 17 2 ++ 6 ∷ replicate 9 2))
+SeekGoesOn = text_of (train_acts inserted_drive (error_read ++ 14 ∷ 10 ∷ error_read ++ 6 ∷ replicate 9 2))
     ≡ codes "1\n0\n0\n0\n0\n0\n0\n0\n0\n0\n0\n0\n0\n0\n0\n0\n0\n1\n0\n0\n1\n1\n0\n0\n0\n0\n0\n0\n0\n0\n1\n0\n1\n0\n0\n0\n0\n1\n1\n0\n0\n1\n0\n0\n1\n0\n0\n1\n"
 
 -- the error words after one train: 15, 16, 48, 28, 10 and 1
 abbrev pub ErrorWords : Type 0
-ErrorWords = map (λ train. (after_trains (power_on (Some (inserted false))) (train ∷ [])).deck.error) (15 ∷ 16 ∷ 48 ∷ 28 ∷ 10 ∷ 1 ∷ [])
+ErrorWords = map (λ train. (after_trains inserted_drive (train ∷ [])).deck.error) (15 ∷ 16 ∷ 48 ∷ 28 ∷ 10 ∷ 1 ∷ [])
     ≡ 0x0F0D ∷ 0x100E ∷ 0x3006 ∷ 0x1C09 ∷ 0x0A0D ∷ 0x011B ∷ []
 
 -- 15 on a protected one
@@ -310,10 +324,11 @@ NoCartridgeError = (after_trains (power_on None) (10 ∷ [])).deck.error ≡ 0x0
 
 -- the error word read, 13 and 3: the head is on track 1, before the end of it, and seeks for 10 gaps
 abbrev pub SoughtTrack : Type 0
-SoughtTrack = let d = (after_trains (power_on (Some (inserted false))) (7 ∷ replicate 17 2 ++ 13 ∷ 3 ∷ [])).deck in
+SoughtTrack = let d = (after_trains inserted_drive (error_read ++ 13 ∷ 3 ∷ [])).deck in
     (d.track ≡ 1) × (d.offset ≡ 3) × (d.motion ≡ motion.Seeking 10)
 
 -- .. and after ten gaps 25, 4, 2 and eighty gaps: the tape stands behind the first segment of the track
 abbrev pub SkippedBack : Type 0
-SkippedBack = let d = (after_trains (power_on (Some (inserted false))) (7 ∷ replicate 17 2 ++ 13 ∷ 3 ∷ replicate 10 0 ++ 25 ∷ 4 ∷ 2 ∷ replicate 80 0)).deck in
+SkippedBack = let d = (after_trains inserted_drive (error_read ++ 13 ∷ 3 ∷ replicate 10 0
+    ++ 25 ∷ 4 ∷ 2 ∷ replicate 80 0)).deck in
     (d.track ≡ 1) × (d.offset ≡ 1) × (d.motion ≡ motion.Stopped)
