@@ -10,6 +10,7 @@ use Rattle.command_laws.proofs.CommandSteps.{writable_none, appends_none}
 use Rattle.command_laws.proofs.CommandTexts.{plain_texts}
 use Rattle.command_laws.proofs.CommandTotals.{writable_answers, appends_answers}
 use Rattle.command_laws.proofs.CommandValues.{dated_values}
+use Rattle.command_laws.proofs.CommandWhole.{append_whole, some_whole}
 use Rattle.command_laws.proofs.TextCommands.{dated_cases, two_words, three_words, dated_length, IsDateWord-value, guess}
 use Rattle.command_laws.specs.CommandRecord.{CommandLaws}
 use Rattle.command_spec.specs.Append.{Appends, AppendOutcome}
@@ -47,5 +48,7 @@ append_laws name date = record {
   clean = λ c area keeps is_area clean input outcome left does torn.
       writable_leaves (Clean area is_area) (Appends name date input) (appends_leave area is_area name date input) c outcome does clean left torn;
   bare = λ c keeps bare input outcome left does torn. bare_writable (Appends name date input) c outcome does bare left torn;
+  whole = λ c input outcome left values content whole does torn.
+      some_whole left (append_whole name date input values.0 values.1 content c outcome does whole left torn);
   live = λ held input outcome keeps does. writable_none (Appends name date input) (appends_none name date input) held outcome does;
 }

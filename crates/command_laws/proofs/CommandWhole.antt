@@ -2,6 +2,7 @@
 use Rattle.std.proofs.Common.{◌≡◌, ◌≢◌, ◌⊎◌, ℕ, ◌+◌, ◌<◌, ◌≤◌, ◌^◌, List, [], ◌∷◌, ◌++◌, All, Bool, true, false, Option, Some, None, IsSomeAnd, IfSome, inl, inr, refl, sym, ap, ◌∙◌, subst, arith, append_assoc, append-nil, drop, length}
 use Rattle.std.proofs.lemmas.List.Elements.{All-drop}
 use Rattle.cartridge_laws.proofs.FormatWriting.{some_and}
+use Rattle.cartridge_laws.proofs.MountSettled.{settled_keeps_table}
 use Rattle.cartridge_spec.specs.Formatting.{IsLabel, clearing_steps, format_steps}
 use Rattle.cartridge_spec.specs.Header.{Header}
 use Rattle.cartridge_spec.specs.HeaderAndTable.{TableIs}
@@ -18,16 +19,17 @@ use Rattle.command_laws.proofs.ScriptOutcomes.{given_listed, listed_by, replied,
 use Rattle.command_laws.proofs.ScriptStanding.{items_have_bytes}
 use Rattle.command_laws.proofs.ScriptValues.{append_values}
 use Rattle.command_laws.proofs.ScrubMending.{stopped_scrub_is_cartridge}
-use Rattle.command_laws.proofs.WholeSteps.{append_leaves, behind_leave, clearing_leaves, format_steps_leave, settling_leaves, worn_whole}
+use Rattle.command_laws.proofs.WholeSteps.{append_leaves, behind_leave, clearing_leaves, format_steps_leave, new_whole, worn_whole}
 use Rattle.command_laws.specs.MountedListed.{IsListed, listed_behind}
 use Rattle.command_laws.specs.ScriptStanding.{HaveBytes, LineHasBytes}
-use Rattle.command_spec.specs.Append.{Appends, Fits, Kept, Taking, TooLong, TooShort, append_acts, kept_over, room_in, silently, taking}
+use Rattle.command_spec.specs.Append.{AppendOutcome, Appends, Fits, Kept, Taking, TooLong, TooShort, append_acts, kept_over, room_in, silently, taking}
 use Rattle.command_spec.specs.Format.{FormatOutcome}
 use Rattle.command_spec.specs.Generator.{made_bytes, made_length}
 use Rattle.command_spec.specs.Input.{AtEnd, AtFault, AtStop, Ending, Item}
 use Rattle.command_spec.specs.Lines.{reply_behind}
 use Rattle.command_spec.specs.Make.{Answer, AppendMade, Making, MakeStep, Runs, ScrubAll, StepDoes, SumVolume, WearSector, after_item, made_acts, made_entry, made_name, making}
-use Rattle.command_spec.specs.Outcome.{CommandOutcome, Going, Printing, Shows, settling_act}
+use Rattle.command_spec.specs.New.{NewOutcome}
+use Rattle.command_spec.specs.Outcome.{CommandOutcome, Opened, Printing, Shows, StepOutcome}
 use Rattle.command_spec.specs.Restore.{GivingEnd, Gives, LostIn, MismatchIn, Restored, framed, pieces}
 use Rattle.command_spec.specs.Script.{Did, EndDoes, Finds, ItemsDo, LineDoes, Meeting, Meets, Refuses, ScriptRun, Scripting, acts_of, acts_on, append_did, cartridge_behind, entries_behind, given_as, line_refused, place_behind, refusal_line, reply, restored_line, taken_as}
 use Rattle.command_spec.specs.Scrub.{Mends}
@@ -35,8 +37,10 @@ use Rattle.command_spec.specs.declared.line.Line.{Line}
 use Rattle.gf256_qic.proofs.Parities.{all_right}
 use Rattle.qic_base.proofs.Joins.{steps_of-append}
 use Rattle.qic_base.specs.Acts.{Act, steps_of, text_of}
-use Rattle.qic_base.specs.Cartridge.{Cartridge, IsCartridge}
-use Rattle.qic_base.specs.Step.{Step, Wear}
+use Rattle.qic_base.specs.Cartridge.{Cartridge, IsCartridge, IsLength, new_cartridge}
+use Rattle.qic_base.specs.Step.{Renew, Step, Wear, changed}
+use Rattle.qic_base.specs.Stop.{Halfway, Torn}
+use Rattle.qic_base.specs.declared.tape.TapeInfo.{TapeInfo}
 use Rattle.cartridge_spec.specs.Mounting as mounting
 use Rattle.command_spec.specs.declared.line.Line.TheVariants as line
 use Rattle.command_spec.specs.declared.refusal.Refusal.TheVariants as why
@@ -199,15 +203,25 @@ scripting_whole input content c header ws table entries outcome mounts found who
 
 -- ---- an append
 
-pub appends_whole : (name : List ℕ) (date : ℕ) (input : List ℕ) → IsLabel name → date < 2 ^ 32 → All (λ b. b < 256) input → (c : Cartridge) (header : Header) (ws : List ℕ) (table : List (List ℕ))
-    (entries : List Entry) (outcome : CommandOutcome) → (settled table c).info.protected ≡ false → TableIs (settled table c) table →
-    Mounts c (mounting.Mounted header ws table entries) → Appends name date input c header ws table entries outcome → IsCartridge c → Whole c (steps_of outcome.acts)
-appends_whole name date input label word content c header ws table entries outcome mark reads mounts is whole =
+appends_whole : (name : List ℕ) (date : ℕ) (input : List ℕ) → IsLabel name → date < 2 ^ 32 → All (λ b. b < 256) input → (c : Cartridge) (m : mounting.Mounting) (outcome : CommandOutcome) →
+    c.info.protected ≡ false → Mounts c m → Opened (Appends name date input) c m outcome → IsCartridge c → Whole c (steps_of outcome.acts)
+appends_whole name date input label word content c mounting.NotFormatted outcome free mounts is whole = refused_leaves IsCartridge c outcome _ is refl whole
+appends_whole name date input label word content c (mounting.Foreign fault) outcome free mounts is whole = refused_leaves IsCartridge c outcome _ is refl whole
+appends_whole name date input label word content c (mounting.TableLost lost) outcome free mounts is whole = refused_leaves IsCartridge c outcome _ is refl whole
+appends_whole name date input label word content c mounting.TableMismatch outcome free mounts is whole = refused_leaves IsCartridge c outcome _ is refl whole
+appends_whole name date input label word content c (mounting.Mounted header ws table entries) outcome free mounts is whole =
     let s : Cartridge = settled table c in
+    let known = settled_keeps_table c table mounts.reads in
     let acts : List Act = append_acts (kept_over s ws entries table) name date None (reply_behind (length entries)) input in
     whole_outcome c outcome _ is
     (behind_leave c table (steps_of acts) whole mounts.reads (λ still.
-    append_leaves s ws entries table (listed_still c header ws table entries whole mounts) mark reads still name date None (reply_behind (length entries)) input label word content))
+    append_leaves s ws entries table (listed_still c header ws table entries whole mounts) (ap (λ (i : TapeInfo). i.protected) known.info ∙ free) known.table still
+    name date None (reply_behind (length entries)) input label word content))
+
+pub append_whole : (name : List ℕ) (date : ℕ) (input : List ℕ) → IsLabel name → date < 2 ^ 32 → All (λ b. b < 256) input → (c : Cartridge) (outcome : CommandOutcome) →
+    AppendOutcome name date (Some c) input outcome → IsCartridge c → Whole c (steps_of outcome.acts)
+append_whole name date input label word content c outcome (inl is) whole = refused_leaves IsCartridge c outcome _ is.1 refl whole
+append_whole name date input label word content c outcome (inr (free, (m, mounts, opened))) whole = appends_whole name date input label word content c m outcome free mounts opened whole
 
 -- ---- a generated run
 
@@ -260,3 +274,39 @@ making_whole seed count few c header ws table entries outcome mounts found whole
     (behind_leave c table (steps_of found.acts) whole mounts.reads (λ still.
     runs_leave seed (settled table c) ws entries (making seed count ws entries) found.acts found.answer still (listed_still c header ws table entries whole mounts)
     (can_make seed count ws entries few) found.makes))
+
+-- ---- one step
+
+-- a mark, or the version
+pub step_whole : (step : Step) (text : Cartridge → List ℕ) (c : Cartridge) (outcome : CommandOutcome) → StepOutcome step text (Some c) outcome → IsCartridge c → IsCartridge (changed step c) →
+    ((left : Option Cartridge) → Halfway step (Some c) left → ⊥) → Whole c (steps_of outcome.acts)
+step_whole step text c outcome is whole behind never = whole_outcome c outcome _ is by_stop
+  where
+    by_stop : Whole c (step ∷ [])
+    by_stop left (inl same) = some_and IsCartridge c left whole same
+    by_stop left (inr (inl half)) = absurd (never left half)
+    by_stop left (inr (inr done)) = some_and IsCartridge (changed step c) left behind done
+
+-- a new cartridge
+pub renewed_whole : (n : ℕ) (held left : Option Cartridge) (outcome : CommandOutcome) → IsLength n → IfSome held IsCartridge → NewOutcome n outcome → Torn (steps_of outcome.acts) held left →
+    IfSome left IsCartridge
+renewed_whole n held left outcome long whole is torn = by_held held whole (subst (λ (o : CommandOutcome). Torn (steps_of o.acts) held left) is torn)
+  where
+    by_none : left ≡ None → IfSome left IsCartridge
+    by_none same = subst (λ (o : Option Cartridge). IfSome o IsCartridge) (sym same) tt
+
+    by_new : left ≡ Some (new_cartridge n) → IfSome left IsCartridge
+    by_new same = subst (λ (o : Option Cartridge). IfSome o IsCartridge) (sym same) (new_whole n long)
+
+    by_held : (held : Option Cartridge) → IfSome held IsCartridge → Torn (Renew n ∷ []) held left → IfSome left IsCartridge
+    by_held None whole (inl same) = by_none same
+    by_held None whole (inr (inl half)) = by_none half
+    by_held None whole (inr (inr done)) = by_new done
+    by_held (Some c) whole (inl same) = subst (λ (o : Option Cartridge). IfSome o IsCartridge) (sym same) whole
+    by_held (Some c) whole (inr (inl half)) = by_none half
+    by_held (Some c) whole (inr (inr done)) = by_new done
+
+-- what is there is whole
+pub some_whole : (left : Option Cartridge) → IsSomeAnd left IsCartridge → IfSome left IsCartridge
+some_whole None whole = tt
+some_whole (Some c) whole = whole

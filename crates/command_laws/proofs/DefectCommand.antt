@@ -13,12 +13,14 @@ use Rattle.command_laws.proofs.CommandPlainLaws.{defect_is_function, defect_leav
 use Rattle.command_laws.proofs.CommandSteps.{defect_none}
 use Rattle.command_laws.proofs.CommandTexts.{plain_texts}
 use Rattle.command_laws.proofs.CommandTotals.{defect_answers}
+use Rattle.command_laws.proofs.CommandWhole.{some_whole}
+use Rattle.command_laws.proofs.WholeSteps.{spoiled_whole}
 use Rattle.command_laws.proofs.TextCommands.{only, three_words, spelled_length, IsNumber-value, guess}
 use Rattle.command_laws.specs.CommandRecord.{CommandLaws}
 use Rattle.command_spec.specs.CommandWords.{HasForm}
 use Rattle.command_spec.specs.Defect.{DefectOutcome, defect_command}
 use Rattle.command_spec.specs.Outcome.{HasPlace}
-use Rattle.qic_base.specs.Cartridge.{view_at}
+use Rattle.qic_base.specs.Cartridge.{view_at, IsCartridge}
 use Rattle.qic_base.specs.Step.{changed, Spoil}
 use Rattle.qic_base.specs.Tape.{spoil_answer}
 use Rattle.command_spec.specs.declared.status.Status.TheVariants as status
@@ -60,5 +62,7 @@ defect_laws segment sector = record {
   bare = λ c keeps bare input outcome left does torn.
       defect_leaving HasNoHeader segment sector c outcome does bare
       (bare_from_less c (changed (Spoil segment sector) c) (spoiled_alike c segment sector).no_more bare) left torn;
+  whole = λ c input outcome left values content whole does torn.
+      some_whole left (defect_leaving IsCartridge segment sector c outcome does whole (spoiled_whole c segment sector whole) left torn);
   live = λ held input outcome keeps does. defect_none segment sector held outcome does;
 }

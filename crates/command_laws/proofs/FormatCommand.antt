@@ -9,6 +9,7 @@ use Rattle.command_laws.proofs.CommandSteps.{format_none}
 use Rattle.command_laws.proofs.CommandTexts.{plain_texts}
 use Rattle.command_laws.proofs.CommandTotals.{format_answers}
 use Rattle.command_laws.proofs.CommandValues.{dated_values}
+use Rattle.command_laws.proofs.CommandWhole.{format_whole, some_whole}
 use Rattle.command_laws.proofs.TextCommands.{dated_cases, two_words, three_words, dated_length, IsDateWord-value, guess}
 use Rattle.command_laws.specs.CommandRecord.{CommandLaws}
 use Rattle.command_spec.specs.CommandWords.{HasForm}
@@ -48,5 +49,7 @@ format_laws label date = record {
       format_mounts c header words table entries left mounts label date keeps (format_leaves label date (Some c) left outcome does torn);
   clean = λ c area keeps is_area clean input outcome left does torn. leaves_format (Clean area is_area) label date c outcome does keeps clean left torn;
   bare = λ c keeps bare input outcome left does torn. leaves_format HasNoHeader label date c outcome does keeps bare left torn;
+  whole = λ c input outcome left values content whole does torn.
+      some_whole left (format_whole label date c outcome does whole left torn);
   live = λ held input outcome keeps does. format_none label date held outcome does;
 }

@@ -8,12 +8,14 @@ use Rattle.command_laws.proofs.CommandPlainLaws.{open_unformatted, opening_leave
 use Rattle.command_laws.proofs.CommandSteps.{open_none, shows_none}
 use Rattle.command_laws.proofs.CommandTexts.{plain_texts}
 use Rattle.command_laws.proofs.CommandTotals.{open_answers, shows_answers}
+use Rattle.command_laws.proofs.CommandWhole.{shows_whole, some_whole}
 use Rattle.command_laws.proofs.TextCommands.{only, one_word, spelled_length, guess}
 use Rattle.command_laws.specs.CommandRecord.{CommandLaws}
 use Rattle.command_spec.specs.CommandWords.{HasForm}
 use Rattle.command_spec.specs.Complete.{CanBeMounted}
 use Rattle.command_spec.specs.Info.{InfoOutcome, telling, info_command}
 use Rattle.command_spec.specs.Outcome.{Shows}
+use Rattle.qic_base.specs.Cartridge.{IsCartridge}
 use Rattle.command_spec.specs.declared.status.Status.TheVariants as status
 use Rattle.command_spec.specs.declared.words.Words.TheVariants as words
 
@@ -46,5 +48,7 @@ info_laws = record {
   clean = λ c area keeps is_area clean input outcome left does torn.
       open_leaves (Clean area is_area) (Shows telling) (shows_leave area is_area telling) c outcome does clean left torn;
   bare = λ c keeps bare input outcome left does torn. bare_open (Shows telling) c outcome does bare left torn;
+  whole = λ c input outcome left values content whole does torn.
+      some_whole left (open_leaves IsCartridge (Shows telling) (shows_whole telling) c outcome does whole left torn);
   live = λ held input outcome keeps does. open_none (Shows telling) (shows_none telling) held outcome does;
 }

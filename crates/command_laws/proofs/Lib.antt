@@ -134,3 +134,4 @@ pub mod TextWords
 pub mod UpgradeCommand
 pub mod WholeSteps
 pub mod CommandWhole
+pub mod CommandLeft

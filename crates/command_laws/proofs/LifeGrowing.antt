@@ -8,12 +8,14 @@ use Rattle.cartridge_laws.specs.AppendSettled.{MayAppendTo}
 use Rattle.cartridge_spec.specs.Appending.{Content, appended_volume, volume_bytes, with_all, with_bytes}
 use Rattle.cartridge_spec.specs.Formatting.{fresh_plain}
 use Rattle.cartridge_spec.specs.Volumes.{Plain, Stands, Volume, entries_of}
+use Rattle.command_laws.proofs.CommandLeft.{leaves_whole}
 use Rattle.command_laws.proofs.CommandAppends.{course, done_fits, fits, kept_of}
 use Rattle.command_laws.proofs.RestoreGivenBack.{given, given_whole}
 use Rattle.command_laws.proofs.CommandTable.{has_values}
 use Rattle.command_laws.proofs.CommandVolumes.{formatted_fresh}
-use Rattle.command_laws.proofs.LifeFormats.{renewed}
+use Rattle.command_laws.proofs.LifeFormats.{torn_by, renewed}
 use Rattle.command_laws.proofs.LifeLaws.{event_makes}
+use Rattle.command_laws.proofs.WholeSteps.{new_whole}
 use Rattle.command_laws.specs.Life.{Answered, Becomes, Ended, Event, Happens, IsEmptied, IsSound, Lives, Loses, Runs, Stopped, begun_behind}
 use Rattle.command_laws.specs.LifeLaws.{AnsweredRuns, AreKeeping, BackupsAreGivenBack, FormatBegins, GivesBytes, HasGrown, IsKeeping, NewAndFormatBegin, StoppedRuns, VolumesAreGivenBack, VolumesAreKept, run_of}
 use Rattle.command_spec.specs.Append.{room_in}
@@ -57,7 +59,9 @@ fresh_begins label date c (Some d) whole fresh = (
 pub format_begins : FormatBegins
 format_begins label date input text begun c left whole life =
     let did = life.1.0 in
-    fresh_begins label date c left (subst (λ (o : Option Cartridge). IfSome o IsCartridge) (sym life.2) life.1.1.whole)
+    fresh_begins label date c left (subst (λ (o : Option Cartridge). IfSome o IsCartridge) (sym life.2)
+    (leaves_whole (words.Format label date) (Some c) life.0 input did.outcome did.values life.1.1.bytes whole did.plain
+    (torn_by (Answered status.Done text) did.outcome (Some c) life.0 did.leaves)))
     (subst (λ (o : Option Cartridge). IsSomeAnd o (StandsFresh c label date)) (sym did.leaves.2 ∙ sym life.2)
     (formatted_fresh label date c did.outcome whole did.plain did.leaves.0))
 
@@ -66,7 +70,7 @@ new_and_format_begin segments label date answer input other printed text begun h
     let first = life.1.0 in
     let is_new : life.0 ≡ Some (new_cartridge segments) =
     first.leaves.2 ∙ ap (λ (o : CommandOutcome). effects (steps_of o.acts) held) first.plain ∙ renewed segments held in
-    format_begins label date other text false (new_cartridge segments) left (subst (λ (o : Option Cartridge). IfSome o IsCartridge) is_new life.1.1.whole)
+    format_begins label date other text false (new_cartridge segments) left (new_whole segments first.values)
     (subst (λ (o : Option Cartridge). Lives (Runs (run_of (words.Format label date) other (Answered status.Done text)) ∷ []) false o left) is_new life.2)
 
 -- ---- volumes in a life

@@ -6,10 +6,12 @@ use Rattle.cartridge_laws.proofs.ChangeStanding.{worn_stands}
 use Rattle.cartridge_laws.proofs.ChangeViews.{worn_reads_no_more}
 use Rattle.cartridge_spec.specs.Volumes.{Plain}
 use Rattle.cartridge_spec.specs.Wear.{worn}
+use Rattle.command_laws.proofs.CommandLeft.{leaves_whole}
 use Rattle.command_laws.proofs.CommandTable.{only_new_renews}
 use Rattle.command_laws.proofs.LifeFormats.{Makes, format_makes, new_makes, torn_by}
 use Rattle.command_laws.proofs.LifeRuns.{append_makes, keeping, make_makes, none_of_none, script_makes, without_stays, others_keep_live}
 use Rattle.command_laws.proofs.LifeUnformatted.{NeitherReads, worn_neither}
+use Rattle.command_laws.proofs.WholeSteps.{worn_whole}
 use Rattle.command_laws.specs.Life.{ALife, CommandSpares, Ended, Event, EventBecomes, Happens, IsSound, Leaves, LossSpares, Loses, MayEnd, Runs, begun_behind, begun_by}
 use Rattle.command_spec.specs.Machine.{HasValues, Yields}
 use Rattle.command_spec.specs.Outcome.{CommandOutcome}
@@ -73,12 +75,18 @@ worn_sound segment sector begun c (Some plain) small whole spares sound = record
   };
 }
 
-lost_sound : (segment sector : ℕ) (begun : Bool) (held left : Option Cartridge) (before : Option Plain) → sector < 32 → left ≡ effect (Wear segment sector) held → IfSome left IsCartridge →
+-- what is sound is whole
+pub sound_whole : (begun : Bool) (held : Option Cartridge) (before : Option Plain) → IsSound begun held before → IfSome held IsCartridge
+sound_whole begun None before sound = tt
+sound_whole begun (Some c) None sound = sound.whole
+sound_whole begun (Some c) (Some plain) sound = sound.whole
+
+lost_sound : (segment sector : ℕ) (begun : Bool) (held left : Option Cartridge) (before : Option Plain) → sector < 32 → left ≡ effect (Wear segment sector) held →
     IfSome held (λ c. LossSpares c segment sector) → IsSound begun held before → IsSound begun left before
-lost_sound segment sector begun None left before small is whole spares sound = subst (λ (o : Option Cartridge). IsSound begun o before) (sym is) sound
-lost_sound segment sector begun (Some c) left before small is whole spares sound =
+lost_sound segment sector begun None left before small is spares sound = subst (λ (o : Option Cartridge). IsSound begun o before) (sym is) sound
+lost_sound segment sector begun (Some c) left before small is spares sound =
     subst (λ (o : Option Cartridge). IsSound begun o before) (sym is)
-    (worn_sound segment sector begun c before small (subst (λ (o : Option Cartridge). IfSome o IsCartridge) is whole) spares sound)
+    (worn_sound segment sector begun c before small (worn_whole c segment sector (sound_whole begun (Some c) before sound)) spares sound)
 
 -- ---- a life
 
@@ -87,8 +95,10 @@ pub event_makes : (event : Event) (begun : Bool) (held left : Option Cartridge) 
 event_makes (Runs run) begun held left before sound ran =
     let did = ran.0 in
     let within = ran.1 in
-    command_makes run.command run.input run.ended begun held left before did.outcome sound did.values within.bytes did.plain did.leaves within.whole within.spares within.may_end
-event_makes (Loses segment sector) begun held left before sound lost = (before, refl, lost_sound segment sector begun held left before lost.0 lost.1 lost.2 lost.3 sound)
+    command_makes run.command run.input run.ended begun held left before did.outcome sound did.values within.bytes did.plain did.leaves
+    (leaves_whole run.command held left run.input did.outcome did.values within.bytes (sound_whole begun held before sound) did.plain (torn_by run.ended did.outcome held left did.leaves))
+    within.spares within.may_end
+event_makes (Loses segment sector) begun held left before sound lost = (before, refl, lost_sound segment sector begun held left before lost.0 lost.1 lost.2 sound)
 
 pub a_life : ALife
 a_life [] begun held left before sound life = (before, refl, subst (λ (o : Option Cartridge). IsSound begun o before) (sym life) sound)

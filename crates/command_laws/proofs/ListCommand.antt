@@ -8,12 +8,14 @@ use Rattle.command_laws.proofs.CommandPlainLaws.{open_unformatted, opening_leave
 use Rattle.command_laws.proofs.CommandSteps.{open_none, shows_none}
 use Rattle.command_laws.proofs.CommandTexts.{plain_texts}
 use Rattle.command_laws.proofs.CommandTotals.{open_answers, shows_answers}
+use Rattle.command_laws.proofs.CommandWhole.{shows_whole, some_whole}
 use Rattle.command_laws.proofs.TextCommands.{only, one_word, spelled_length, guess}
 use Rattle.command_laws.specs.CommandRecord.{CommandLaws}
 use Rattle.command_spec.specs.CommandWords.{HasForm}
 use Rattle.command_spec.specs.Complete.{CanBeMounted}
 use Rattle.command_spec.specs.List.{ListOutcome, listing, list_command}
 use Rattle.command_spec.specs.Outcome.{Shows}
+use Rattle.qic_base.specs.Cartridge.{IsCartridge}
 use Rattle.command_spec.specs.declared.status.Status.TheVariants as status
 use Rattle.command_spec.specs.declared.words.Words.TheVariants as words
 
@@ -46,5 +48,7 @@ list_laws = record {
   clean = λ c area keeps is_area clean input outcome left does torn.
       open_leaves (Clean area is_area) (Shows listing) (shows_leave area is_area listing) c outcome does clean left torn;
   bare = λ c keeps bare input outcome left does torn. bare_open (Shows listing) c outcome does bare left torn;
+  whole = λ c input outcome left values content whole does torn.
+      some_whole left (open_leaves IsCartridge (Shows listing) (shows_whole listing) c outcome does whole left torn);
   live = λ held input outcome keeps does. open_none (Shows listing) (shows_none listing) held outcome does;
 }

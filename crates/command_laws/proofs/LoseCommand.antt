@@ -13,12 +13,15 @@ use Rattle.command_laws.proofs.CommandPlainLaws.{lose_is_function, lose_leaves}
 use Rattle.command_laws.proofs.CommandSteps.{lose_none}
 use Rattle.command_laws.proofs.CommandTexts.{plain_texts}
 use Rattle.command_laws.proofs.CommandTotals.{lose_answers}
+use Rattle.command_laws.proofs.CommandWhole.{some_whole}
+use Rattle.command_laws.proofs.WholeSteps.{worn_whole}
 use Rattle.command_laws.proofs.TextCommands.{only, three_words, spelled_length, IsNumber-value, guess}
 use Rattle.command_laws.specs.CommandRecord.{CommandLaws}
 use Rattle.command_spec.specs.CommandWords.{HasForm}
 use Rattle.command_spec.specs.Lose.{LoseOutcome, lose_command}
 use Rattle.command_spec.specs.Outcome.{HasPlace}
 use Rattle.qic_base.specs.Step.{changed, Wear}
+use Rattle.qic_base.specs.Cartridge.{IsCartridge}
 use Rattle.command_spec.specs.declared.status.Status.TheVariants as status
 use Rattle.command_spec.specs.declared.words.Words.TheVariants as words
 
@@ -58,5 +61,7 @@ lose_laws segment sector = record {
       (clean_from_less area is_area c (changed (Wear segment sector) c) (worn_reads_no_more c segment sector) clean) left torn;
   bare = λ c keeps bare input outcome left does torn.
       lose_leaving HasNoHeader segment sector c outcome does bare (bare_from_less c (changed (Wear segment sector) c) (worn_reads_no_more c segment sector) bare) left torn;
+  whole = λ c input outcome left values content whole does torn.
+      some_whole left (lose_leaving IsCartridge segment sector c outcome does whole (worn_whole c segment sector whole) left torn);
   live = λ held input outcome keeps does. lose_none segment sector held outcome does;
 }

@@ -8,6 +8,7 @@ use Rattle.command_laws.proofs.CommandKeeping.{same_stands}
 use Rattle.command_laws.proofs.CommandPlainLaws.{writable_unformatted, appending_leaves, writable_is_function, making_one, writable_locked}
 use Rattle.command_laws.proofs.CommandSteps.{writable_none, making_none}
 use Rattle.command_laws.proofs.CommandTotals.{writable_answers, making_answers}
+use Rattle.command_laws.proofs.CommandWhole.{making_whole, some_whole}
 use Rattle.command_laws.proofs.TextCommands.{only, three_words, spelled_length, IsNumber-value, guess}
 use Rattle.command_laws.specs.CommandRecord.{CommandLaws}
 use Rattle.command_spec.specs.CommandWords.{HasForm}
@@ -66,5 +67,7 @@ make_laws seed count = record {
   clean = λ c area keeps is_area clean input outcome left does torn.
       writable_leaves (Clean area is_area) (Making seed count) (making_leaves area is_area seed count) c outcome does clean left torn;
   bare = λ c keeps bare input outcome left does torn. bare_writable (Making seed count) c outcome does bare left torn;
+  whole = λ c input outcome left values content whole does torn.
+      some_whole left (writable_leaves IsCartridge (Making seed count) (making_whole seed count values) c outcome does whole left torn);
   live = λ held input outcome keeps does. writable_none (Making seed count) (making_none seed count) held outcome does;
 }

@@ -1,7 +1,8 @@
 -- The laws of the command `new`.
-use Rattle.std.proofs.Common.{[], ◌∙◌, ℕ, List, ◌∷◌, ap, refl, sym, inl, inr, ◌≡◌, arith}
+use Rattle.std.proofs.Common.{Some, [], ◌∙◌, ℕ, List, ◌∷◌, ap, refl, sym, inl, inr, ◌≡◌, arith}
 use Rattle.command_laws.proofs.CommandComplete.{status_of}
 use Rattle.command_laws.proofs.CommandTexts.{plain_texts}
+use Rattle.command_laws.proofs.CommandWhole.{renewed_whole}
 use Rattle.command_laws.proofs.TextCommands.{only, two_words, spelled_length, IsNumber-value, guess}
 use Rattle.command_laws.specs.CommandRecord.{CommandLaws}
 use Rattle.command_spec.specs.CommandWords.{HasForm}
@@ -43,5 +44,7 @@ new_laws segments = record {
   mounts = λ c header words table entries keeps. absurd keeps;
   clean = λ c area keeps. absurd keeps;
   bare = λ c keeps. absurd keeps;
+  whole = λ c input outcome left values content whole does torn.
+      renewed_whole segments (Some c) left outcome values whole does torn;
   live = λ held input outcome keeps. absurd keeps;
 }

@@ -5,6 +5,8 @@ use Rattle.cartridge_laws.proofs.ChangeStanding.{marks_read_no_more, protected_s
 use Rattle.command_laws.proofs.CommandComplete.{status_of, where_some}
 use Rattle.command_laws.proofs.CommandStep.{KeepsAll, step_answers, step_is_one, step_no_renew, step_stands, step_mounts, step_clean, step_bare}
 use Rattle.command_laws.proofs.CommandTexts.{plain_texts}
+use Rattle.command_laws.proofs.CommandWhole.{some_whole, step_whole}
+use Rattle.command_laws.proofs.WholeSteps.{protected_whole}
 use Rattle.command_laws.proofs.TextCommands.{only, two_words, spelled_length, guess}
 use Rattle.command_laws.specs.CommandRecord.{CommandLaws}
 use Rattle.command_spec.specs.CommandWords.{HasForm}
@@ -62,5 +64,7 @@ protect_laws on = record {
   clean = λ c area keeps is_area clean input outcome left does torn.
       step_clean (SetProtected on) (line on) (mark_keeps on) c area is_area clean outcome left does torn;
   bare = λ c keeps bare input outcome left does torn. step_bare (SetProtected on) (line on) (mark_keeps on) c bare outcome left does torn;
+  whole = λ c input outcome left values content whole does torn.
+      some_whole left (step_whole (SetProtected on) (line on) c outcome does whole (protected_whole c on whole) (λ left half. half) left torn);
   live = λ held input outcome keeps does. step_no_renew (SetProtected on) (line on) (mark_keeps on) held outcome does;
 }

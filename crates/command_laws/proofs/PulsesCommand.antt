@@ -9,12 +9,15 @@ use Rattle.command_laws.proofs.CommandPlainLaws.{sent_leaves, sent_is_function}
 use Rattle.command_laws.proofs.CommandSteps.{sent_none}
 use Rattle.command_laws.proofs.CommandTexts.{fronted}
 use Rattle.command_laws.proofs.CommandTotals.{sent_answers}
+use Rattle.command_laws.proofs.CommandWhole.{some_whole}
+use Rattle.command_laws.proofs.WholeSteps.{referenced_whole}
 use Rattle.command_laws.proofs.TextCommands.{only, one_word, spelled_length, guess}
 use Rattle.command_laws.specs.CommandRecord.{CommandLaws}
 use Rattle.command_spec.specs.CommandWords.{HasForm}
 use Rattle.command_spec.specs.Pulses.{AreLevels}
 use Rattle.command_spec.specs.PulsesCommand.{pulses_command}
 use Rattle.qic_base.specs.Step.{changed, SetReferenced}
+use Rattle.qic_base.specs.Cartridge.{IsCartridge}
 use Rattle.command_spec.specs.declared.words.Words.TheVariants as words
 
 -- its words are read as it
@@ -45,5 +48,7 @@ pulses_laws = record {
       (clean_from_less area is_area c (changed SetReferenced c) (marks_read_no_more c (changed (SetReferenced) c) refl) clean) left torn;
   bare = λ c keeps bare input outcome left does torn.
       sent_leaving HasNoHeader c input outcome does bare (bare_from_less c (changed SetReferenced c) (marks_read_no_more c (changed (SetReferenced) c) refl) bare) left torn;
+  whole = λ c input outcome left values content whole does torn.
+      some_whole left (sent_leaving IsCartridge c input outcome does whole (referenced_whole c whole) left torn);
   live = λ held input outcome keeps does. sent_none held input outcome does;
 }

@@ -8,12 +8,14 @@ use Rattle.command_laws.proofs.CommandPlainLaws.{open_unformatted, restoring_lea
 use Rattle.command_laws.proofs.CommandSteps.{open_none, gives_none}
 use Rattle.command_laws.proofs.CommandTexts.{fronted}
 use Rattle.command_laws.proofs.CommandTotals.{open_answers, gives_answers}
+use Rattle.command_laws.proofs.CommandWhole.{gives_whole, some_whole}
 use Rattle.command_laws.proofs.TextCommands.{only, two_words, spelled_length, IsNumber-value, guess}
 use Rattle.command_laws.specs.CommandRecord.{CommandLaws}
 use Rattle.command_spec.specs.CommandWords.{HasForm}
 use Rattle.command_spec.specs.Restore.{Gives, RestoreOutcome}
 use Rattle.command_spec.specs.RestoreCommand.{CanGive, restore_command, restore_refused}
 use Rattle.command_spec.specs.declared.status.Status.{Status}
+use Rattle.qic_base.specs.Cartridge.{IsCartridge}
 use Rattle.command_spec.specs.declared.status.Status.TheVariants as status
 use Rattle.command_spec.specs.declared.words.Words.TheVariants as words
 
@@ -51,5 +53,7 @@ restore_laws number = record {
   clean = λ c area keeps is_area clean input outcome left does torn.
       open_leaves (Clean area is_area) (Gives number) (gives_leave area is_area number) c outcome does clean left torn;
   bare = λ c keeps bare input outcome left does torn. bare_open (Gives number) c outcome does bare left torn;
+  whole = λ c input outcome left values content whole does torn.
+      some_whole left (open_leaves IsCartridge (Gives number) (gives_whole number) c outcome does whole left torn);
   live = λ held input outcome keeps does. open_none (Gives number) (gives_none number) held outcome does;
 }

@@ -6,6 +6,7 @@ use Rattle.command_laws.proofs.CommandPlainLaws.{open_unformatted, open_is_funct
 use Rattle.command_laws.proofs.CommandSteps.{open_none, scripting_none}
 use Rattle.command_laws.proofs.CommandTexts.{fronted}
 use Rattle.command_laws.proofs.CommandTotals.{open_answers, scripting_answers}
+use Rattle.command_laws.proofs.CommandWhole.{scripting_whole, some_whole}
 use Rattle.command_laws.proofs.TextCommands.{only, one_word, spelled_length, guess}
 use Rattle.command_laws.specs.CommandRecord.{CommandLaws}
 use Rattle.command_spec.specs.CommandWords.{HasForm}
@@ -13,6 +14,7 @@ use Rattle.command_spec.specs.Complete.{CanBeMounted}
 use Rattle.command_spec.specs.Script.{Scripting, ScriptOutcome, end_line}
 use Rattle.command_spec.specs.ScriptCommand.{script_command, script_refused}
 use Rattle.command_spec.specs.declared.status.Status.{Status}
+use Rattle.qic_base.specs.Cartridge.{IsCartridge}
 use Rattle.command_spec.specs.declared.status.Status.TheVariants as status
 use Rattle.command_spec.specs.declared.words.Words.TheVariants as words
 
@@ -46,5 +48,7 @@ script_laws = record {
   clean = λ c area keeps is_area clean input outcome left does torn.
       open_leaves (Clean area is_area) (Scripting input) (scripting_leaves area is_area input) c outcome does clean left torn;
   bare = λ c keeps bare input outcome left does torn. bare_open (Scripting input) c outcome does bare left torn;
+  whole = λ c input outcome left values content whole does torn.
+      some_whole left (open_leaves IsCartridge (Scripting input) (scripting_whole input content) c outcome does whole left torn);
   live = λ held input outcome keeps does. open_none (Scripting input) (scripting_none input) held outcome does;
 }

@@ -9,12 +9,14 @@ use Rattle.command_laws.proofs.CommandPlainLaws.{writable_unformatted, scrubbing
 use Rattle.command_laws.proofs.CommandSteps.{writable_none, mends_none}
 use Rattle.command_laws.proofs.CommandTexts.{plain_texts}
 use Rattle.command_laws.proofs.CommandTotals.{writable_answers, mends_answers}
+use Rattle.command_laws.proofs.CommandWhole.{mends_whole, some_whole}
 use Rattle.command_laws.proofs.TextCommands.{only, one_word, spelled_length, guess}
 use Rattle.command_laws.specs.CommandRecord.{CommandLaws}
 use Rattle.command_spec.specs.CommandWords.{HasForm}
 use Rattle.command_spec.specs.Complete.{IsUnprotected, CanBeMounted}
 use Rattle.command_spec.specs.Scrub.{Mends, ScrubOutcome}
 use Rattle.command_spec.specs.ScrubCommand.{scrub_command}
+use Rattle.qic_base.specs.Cartridge.{IsCartridge}
 use Rattle.command_spec.specs.declared.status.Status.TheVariants as status
 use Rattle.command_spec.specs.declared.words.Words.TheVariants as words
 
@@ -63,5 +65,7 @@ scrub_laws = record {
   clean = λ c area keeps is_area clean input outcome left does torn.
       writable_leaves (Clean area is_area) Mends (mends_leave area is_area) c outcome does clean left torn;
   bare = λ c keeps bare input outcome left does torn. bare_writable Mends c outcome does bare left torn;
+  whole = λ c input outcome left values content whole does torn.
+      some_whole left (writable_leaves IsCartridge Mends mends_whole c outcome does whole left torn);
   live = λ held input outcome keeps does. writable_none Mends mends_none held outcome does;
 }

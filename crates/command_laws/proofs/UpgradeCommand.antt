@@ -9,6 +9,8 @@ use Rattle.cartridge_spec.specs.Volumes.{Plain, Stands, VolumeStands}
 use Rattle.command_laws.proofs.CommandComplete.{status_of, where_some}
 use Rattle.command_laws.proofs.CommandStep.{KeepsAll, step_answers, step_is_one, step_no_renew, step_stands, step_mounts, step_clean, step_bare}
 use Rattle.command_laws.proofs.CommandTexts.{plain_texts}
+use Rattle.command_laws.proofs.CommandWhole.{some_whole, step_whole}
+use Rattle.command_laws.proofs.WholeSteps.{upgraded_whole}
 use Rattle.command_laws.proofs.TextCommands.{guess, one_word, only, spelled_length}
 use Rattle.command_laws.specs.CommandRecord.{CommandLaws}
 use Rattle.command_spec.specs.CommandWords.{HasForm}
@@ -101,5 +103,7 @@ upgrade_laws = record {
   clean = λ c area keeps is_area clean input outcome left does torn.
       step_clean Upgrade line version_keeps c area is_area clean outcome left does torn;
   bare = λ c keeps bare input outcome left does torn. step_bare Upgrade line version_keeps c bare outcome left does torn;
+  whole = λ c input outcome left values content whole does torn.
+      some_whole left (step_whole Upgrade line c outcome does whole (upgraded_whole c whole) (λ left half. half) left torn);
   live = λ held input outcome keeps does. step_no_renew Upgrade line version_keeps held outcome does;
 }

@@ -1,5 +1,5 @@
 -- The laws of the plain machine, as facts (this project's own).
-use Rattle.std.specs.Prelude.{◌≡◌, ℕ, List, Option, Some, IfSome, IsSomeAnd}
+use Rattle.std.specs.Prelude.{All, ◌<◌, ◌≡◌, ℕ, List, Option, Some, IfSome, IsSomeAnd}
 use Rattle.cartridge_laws.specs.ChangeSteps.{HasNoRenew}
 use Rattle.cartridge_spec.specs.Formatting.{HasCleanCopies, HasNoHeader}
 use Rattle.cartridge_spec.specs.HeaderAndTable.{IsArea}
@@ -52,6 +52,12 @@ abbrev pub OnlyNewRenews : Type 0
 OnlyNewRenews =
     (command : Words) (held : Option Cartridge) (input : List ℕ) (outcome : CommandOutcome) →
     KeepsLive command → Yields command held input outcome → HasNoRenew (steps_of outcome.acts)
+
+-- what is left of a whole cartridge, or of none, is a whole one or none, at any moment of a command over an input of bytes
+abbrev pub LeavesWhole : Type 0
+LeavesWhole =
+    (command : Words) (held left : Option Cartridge) (input : List ℕ) (outcome : CommandOutcome) → HasValues command → All (λ b. b < 256) input →
+    IfSome held IsCartridge → Yields command held input outcome → Torn (steps_of outcome.acts) held left → IfSome left IsCartridge
 
 -- ---- header copies
 

@@ -1,5 +1,5 @@
 -- All that a theorem over all commands asks of one: the laws of a command, in one record.
-use Rattle.std.specs.Prelude.{length, ◌≤◌, true, None, ◌≡◌, ◌++◌, ℕ, List, [], Option, Some, IfSome, IsSomeAnd, false}
+use Rattle.std.specs.Prelude.{All, ◌<◌, length, ◌≤◌, true, None, ◌≡◌, ◌++◌, ℕ, List, [], Option, Some, IfSome, IsSomeAnd, false}
 use Rattle.cartridge_laws.specs.ChangeSteps.{HasNoRenew}
 use Rattle.cartridge_spec.specs.Formatting.{IsFirstDefectInFront, HasCleanCopies, HasNoHeader}
 use Rattle.cartridge_spec.specs.Header.{Header}
@@ -69,6 +69,9 @@ pub record CommandLaws (command : Command) : Type 0 where
       Mounts c (Mounted header map_words table entries) → LeavesEach command c (λ d. Mounts d (Mounted header map_words table entries))
   pub clean : (c : Cartridge) (area : List (List ℕ)) → command.keeps_copies c → IsArea area → HasCleanCopies c area → LeavesEach command c (λ d. HasCleanCopies d area)
   pub bare : (c : Cartridge) → command.keeps_copies c → HasNoHeader c → LeavesEach command c HasNoHeader
+  -- each cartridge that it leaves is a whole one, over an input of bytes
+  pub whole : (c : Cartridge) (input : List ℕ) (outcome : CommandOutcome) (left : Option Cartridge) → command.values → All (λ b. b < 256) input → IsCartridge c →
+      command.yields (Some c) input outcome → Torn (steps_of outcome.acts) (Some c) left → IfSome left IsCartridge
   -- one that keeps the table's segment live puts in no new cartridge
   pub live : (held : Option Cartridge) (input : List ℕ) (outcome : CommandOutcome) → command.keeps_live → command.yields held input outcome →
       HasNoRenew (steps_of outcome.acts)

@@ -134,18 +134,17 @@ pub record HasRun (run : Run) (held left : Option Cartridge) : Type 0 where
   pub plain : Yields run.command held run.input outcome
   pub leaves : Leaves run.ended outcome held left
 
--- The premises: an input is one of bytes, and what is left a whole cartridge, as each tape tells; the sectors that it loses spare
--- header and table; and no formatting is stopped a second time.
+-- The premises: an input is one of bytes; the sectors that it loses spare header and table; and no formatting is stopped a second
+-- time.
 pub record IsWithin (run : Run) (begun : Bool) (held left : Option Cartridge) : Type 0 where
   pub bytes : All (λ b. b < 256) run.input
-  pub whole : IfSome left IsCartridge
   pub spares : IfSome held (CommandSpares run.command run.ended run.input left)
   pub may_end : MayEnd run.command run.ended begun
 
 abbrev pub Happens : Event → (begun : Bool) → (held left : Option Cartridge) → Type 0
 Happens (Runs run) begun held left = HasRun run held left × IsWithin run begun held left
 Happens (Loses segment sector) begun held left =
-    (sector < 32) × (left ≡ effect (Wear segment sector) held) × IfSome left IsCartridge × IfSome held (λ c. LossSpares c segment sector)
+    (sector < 32) × (left ≡ effect (Wear segment sector) held) × IfSome held (λ c. LossSpares c segment sector)
 
 -- each event happens to what the one before it left
 abbrev pub Lives : List Event → (begun : Bool) → (held left : Option Cartridge) → Type 0
