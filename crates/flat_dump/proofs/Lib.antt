@@ -3,6 +3,7 @@ pub mod Coming
 pub mod Dumping
 pub mod Ended
 pub mod Held
+pub mod Importing
 pub mod Maps
 pub mod Seeing
 pub mod Standing

@@ -1,12 +1,13 @@
 -- The cartridge that a flat dump and its map are imported as (this project's own).
-use Rattle.std.specs.Prelude.{◌≡◌, ℕ, ◌+◌, ◌*◌, ◌≤◌, ◌<◌, ◌⊎◌, List, length, map, true, false, Option, Some, None, slice_index_or}
-use Rattle.std.specs.List.{slice_range}
+use Rattle.std.specs.Prelude.{◌≡◌, ℕ, ◌+◌, ◌*◌, ◌≤◌, ◌<◌, ◌⊎◌, ◌&&◌, List, length, map, nat_le, true, false, if◌then◌else◌, Option, Some, None, slice_index_or}
+use Rattle.std.specs.List.{range_with_len, slice_range}
 use Rattle.qic_base.specs.Cartridge.{Cartridge}
 use Rattle.qic_base.specs.declared.tape.SectorView.{SectorView}
 use Rattle.qic_base.specs.declared.tape.SectorView.TheVariants.{Blank, Defect, Lost, Holds}
 use Rattle.qic_base.specs.declared.tape.TapeInfo.{TapeInfo}
 use Rattle.rescue_map.specs.declared.form.Block.{Block}
 use Rattle.rescue_map.specs.Map.{IsWhole}
+use Rattle.rescue_map.specs.Text.{is_marked}
 
 -- the dump has all 1,024 bytes of the sector
 abbrev pub HasSector : (dump : List ℕ) → (sector : ℕ) → Type 0
@@ -35,6 +36,18 @@ pub record IsImported (dump : List ℕ) (blocks : Option (List Block)) (n : ℕ)
   pub version : c.version ≡ 2
   pub size : length c.views ≡ 896 * n
   pub views : (sector : ℕ) → sector < 896 * n → IsImportedView dump blocks sector (slice_index_or c.views sector Blank)
+
+-- ---- by a mask
+
+-- the view of a sector, by a mask of those that were rescued
+abbrev pub imported_view : (dump mask : List ℕ) → (sector : ℕ) → SectorView
+imported_view dump mask sector =
+    if is_marked mask sector && nat_le (1024 * sector + 1024) (length dump)
+    then Holds (slice_range dump (1024 * sector) (1024 * sector + 1024))
+    else Lost
+
+abbrev pub imported_by : (dump mask : List ℕ) → ℕ → Cartridge
+imported_by dump mask n = record { info = imported_info n; version = 2; views = map (imported_view dump mask) (range_with_len 0 (896 * n)) }
 
 -- ---- what an export brings back
 

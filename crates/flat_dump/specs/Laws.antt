@@ -1,12 +1,13 @@
 -- The laws of flat dumps (this project's own).
-use Rattle.std.specs.Prelude.{◌≡◌, ◌↔◌, ℕ, ◌*◌, ◌/◌, ◌<◌, List, length, Option, Some}
-use Rattle.qic_base.specs.Cartridge.{Cartridge, IsCartridge}
+use Rattle.std.specs.Prelude.{◌≡◌, ◌↔◌, ℕ, ◌*◌, ◌/◌, ◌<◌, ◌≤◌, List, length, All, Option, Some}
+use Rattle.qic_base.specs.Cartridge.{Cartridge, IsCartridge, IsLength}
 use Rattle.cartridge_spec.specs.Volumes.{Plain, Stands}
 use Rattle.rescue_map.specs.declared.form.Block.{Block}
 use Rattle.rescue_map.specs.Map.{Blocks, Rescued, reading_of}
+use Rattle.rescue_map.specs.Mask.{IsMaskOf}
 use Rattle.flat_dump.specs.Dump.{dump_of}
 use Rattle.flat_dump.specs.Held.{IsHeld, map_of}
-use Rattle.flat_dump.specs.Imported.{IsImported, brought_back}
+use Rattle.flat_dump.specs.Imported.{IsImported, imported_by, brought_back}
 
 -- a dump has 917,504 bytes for each segment per track
 abbrev pub DumpIsWhole : Type 0
@@ -26,6 +27,17 @@ abbrev pub ImportsOne : Type 0
 ImportsOne =
     (dump : List ℕ) (blocks : Option (List Block)) (n : ℕ) (c d : Cartridge) →
     IsImported dump blocks n c → IsImported dump blocks n d → c ≡ d
+
+-- it is a whole one, and each mask of the sectors that were rescued tells it
+abbrev pub ImportIsWhole : Type 0
+ImportIsWhole =
+    (dump : List ℕ) (blocks : Option (List Block)) (n : ℕ) (c : Cartridge) → All (λ b. b < 256) dump → IsLength n →
+    IsImported dump blocks n c → IsCartridge c
+
+abbrev pub MaskImports : Type 0
+MaskImports =
+    (dump mask : List ℕ) (blocks : List Block) (n : ℕ) → 28 * n ≤ length mask → IsMaskOf blocks mask →
+    IsImported dump (Some blocks) n (imported_by dump mask n)
 
 -- the dump and the map of a cartridge bring it back, each sector that held nothing as a lost one
 abbrev pub BringsBack : Type 0

@@ -1,6 +1,6 @@
 //! Laws of flat dumps. Each is the contract of a function that does nothing.
 
-ghost use Rattle.flat_dump.specs.Laws.{DumpIsWhole, EachMapTells, ImportsOne, BringsBack, StandsAgain};
+ghost use Rattle.flat_dump.specs.Laws.{DumpIsWhole, EachMapTells, ImportsOne, ImportIsWhole, MaskImports, BringsBack, StandsAgain};
 
 /// A dump has 917,504 bytes for each segment per track.
 pub fn dumps_are_whole()
@@ -12,9 +12,11 @@ pub fn maps_tell_what_is_held()
     ensures { EachMapTells }
 {}
 
-/// A dump and a map are imported as one cartridge.
+/// A dump and a map are imported as one cartridge, which is whole; each mask of the sectors that were rescued tells it.
 pub fn imports_are_one()
-    ensures { ImportsOne }
+    ensures one { ImportsOne }
+    ensures whole { ImportIsWhole }
+    ensures by_mask { MaskImports }
 {}
 
 /// A cartridge that is exported and imported again is the same one, each sector that held nothing a lost one, with the

@@ -1,5 +1,6 @@
 use Rattle.flat_dump.proofs.Coming.{imports_one}
+use Rattle.flat_dump.proofs.Importing.{import_is_whole, mask_imports}
 use Rattle.flat_dump.proofs.laws.imports_are_one.Goals as goal
 
 pub returns : goal.returns
-returns c = imports_one
+returns c = record { one = imports_one; whole = import_is_whole; by_mask = mask_imports }
