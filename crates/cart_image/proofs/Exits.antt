@@ -1,5 +1,6 @@
 -- What a function on the disk did, at each of its exits.
 use Rattle.std.proofs.Common.{◌≡◌, ℕ, inl, inr, List, [], ◌++◌, refl, ◌∙◌, ap, Option, Some, None, IfSome, subst, Result, Ok, Err}
+use Rattle.cart_image.specs.declared.layout.Layout.{Layout}
 use Rattle.qic_base.specs.Disk.{Meaning, DiskStep, Look, stored, Stored, Failed}
 use Rattle.std.specs.Option.{option_map}
 use Rattle.cart_image.specs.Run.{Looks, Looked, Ran, Halted, Runs, Went, Carried, CarriedBy}
@@ -88,6 +89,6 @@ Carried-after {D = D} {T = T} {E = E} m old mid new plan r looks carried = recor
     by_result (Err e) went = (went.0, Looks-Looks looks went.1, went.2)
 
 -- a look failed, whatever the plan
-pub CarriedBy-failed : {D E : Type 0} (T : Type 0) (m : Meaning D) (old new : D) (size : Option ℕ) (plan : ℕ → List ℕ → List DiskStep) (e : E) → ((mid : D) × Looks m old mid × Failed m mid new Look) → CarriedBy {T = T} {E = E} m old new size plan (Err e)
+pub CarriedBy-failed : {D E : Type 0} (T : Type 0) (m : Meaning D) (old new : D) (layout : Option Layout) (plan : Layout → List ℕ → List DiskStep) (e : E) → ((mid : D) × Looks m old mid × Failed m mid new Look) → CarriedBy {T = T} {E = E} m old new layout plan (Err e)
 CarriedBy-failed T m old new None plan e looked = tt
-CarriedBy-failed T m old new (Some n) plan e looked = Carried-failed m old looked.0 new (plan n) (Err e) e refl looked.1 looked.2
+CarriedBy-failed T m old new (Some l) plan e looked = Carried-failed m old looked.0 new (plan l) (Err e) e refl looked.1 looked.2

@@ -1,55 +1,57 @@
 -- What the writes of a segment's formatting make of the cartridge, at the end and in a crash.
-use Rattle.std.proofs.Common.{◌≡◌, ℕ, ◌+◌, ◌*◌, ◌-◌, ◌<◌, ◌≤◌, ◌⊎◌, inl, inr, ⊎_elim, Bool, true, false, List, [], ◌∷◌, ◌++◌, length, get_or, take, drop, map, replicate, refl, sym, ◌∙◌, ap, arith, Option, Some, subst}
-use Rattle.std.specs.Prelude.{slice_get, slice_index, slice_range, ◌==◌, ◌&&◌, not, if◌then◌else◌}
-use Rattle.std.proofs.lemmas.Bool.{cases_lt, lt-leb}
-use Rattle.std.proofs.lemmas.List.{same_lists, length-replicate, get_or-replicate, get_or-map, get_or_past, length-map, get_or_default, length-take-le, length-drop, length-append, get_or-take, get_or-drop, get_or_append_left, get_or-append_right}
+use Rattle.std.proofs.Common.{◌≡◌, ◌≢◌, ℕ, ◌+◌, ◌*◌, ◌-◌, ◌<◌, ◌≤◌, ◌⊎◌, inl, inr, ⊎_elim, Bool, true, false, List, [], ◌∷◌, ◌++◌, length, get_or, take, drop, map, refl, sym, ◌∙◌, ap, arith, Option, Some, subst}
+use Rattle.std.specs.Prelude.{slice_get, slice_index, ◌==◌, ◌&&◌, not, if◌then◌else◌}
+use Rattle.std.proofs.lemmas.Bool.{cases_lt}
+use Rattle.std.proofs.lemmas.List.{same_lists, length-replicate, get_or-replicate, get_or-map, length-map, get_or_default, get_or_past, length-take-le, length-drop, length-append, get_or-take, get_or-drop, get_or_append_left, get_or-append_right}
 use Rattle.std.proofs.lemmas.List.Edits.{length-between, get_or-between}
+use Rattle.std.proofs.lemmas.List.FromFn.{length-map-range_with_len, get_or-map-range_with_len}
 use Rattle.std.proofs.lemmas.Option.{slice_get-get_or, slice_get_past}
 use Rattle.qic_base.specs.declared.tape.SectorView.{SectorView}
 use Rattle.qic_base.specs.declared.tape.SectorView.TheVariants.{Blank, Defect, Lost, Holds}
-use Rattle.qic_base.specs.declared.tape.TapeInfo.{TapeInfo}
 use Rattle.qic_base.specs.Cartridge.{Cartridge, view_at, zero_sector}
-use Rattle.qic_base.specs.Disk.{TornRange}
-use Rattle.qic_base.specs.Field.{overwritten}
+use Rattle.qic_base.specs.Disk.{DiskStep}
 use Rattle.qic_base.specs.Step.{FormatSegment, effect, formatted_view}
-use Rattle.qic_base.specs.Stop.{ClosingView, OpeningView, SegmentBecame, HalfFormatted}
-use Rattle.qic_base.proofs.FieldLaws.{get_or-overwritten}
-use Rattle.cart_image.specs.Layout.{version, sectors, gate_place, formed_place, defect_place, sector_place, image_len, open_gate, closed_gate, formed_byte, defect_byte, zero_segment, put, write_runs, put_chosen, format_segment_steps}
-use Rattle.cart_image.specs.Image.{info_of, view_in, views_in, sector_bytes, cartridge_of}
-use Rattle.cart_image.specs.Run.{after_steps}
-use Rattle.cart_image.specs.Whole.{read_as, cartridge_of-read, length-views}
+use Rattle.qic_base.specs.Stop.{Torn, ClosingView, OpeningView, SegmentBecame, HalfFormatted}
+use Rattle.cart_image.specs.declared.layout.Head.{Head}
+use Rattle.cart_image.specs.declared.layout.Layout.{Layout}
+use Rattle.cart_image.specs.declared.layout.Part.{Part}
+use Rattle.cart_image.specs.declared.layout.Part.TheVariants.{GateByte, FormedByte, DefectByte, Data}
+use Rattle.cart_image.specs.Layout.{version_of, sectors, width, place, end_of, open_gate, closed_gate, formed_byte, defect_byte, synced, fill_writes, those, is_usable, is_open, is_unformed, format_segment_steps}
+use Rattle.cart_image.specs.Image.{head_of, info_by, view_in, views_in, sector_bytes, read_as, cartridge_of}
+use Rattle.cart_image.specs.Run.{after_steps, Crashed}
+use Rattle.cart_image.specs.Whole.{cartridge_of-read, length-views}
 use Rattle.cart_image.proofs.Carries.{Means}
-use Rattle.cart_image.proofs.Bytes.{OnlyIn, OnlyIn-torn, OnlyIn-written, bytes-same, cell-is, info-same, gate-view, gate-other, formed-view, formed-other, bytes-view, bytes-other, view_in-is}
+use Rattle.cart_image.proofs.Bytes.{head-same, range-same, view-same, view_in-is}
 use Rattle.cart_image.proofs.Changes.{get_or-views, view_at-read}
-use Rattle.cart_image.proofs.Sectors.{Crashed-put}
-use Rattle.cart_image.proofs.Writes.{Beyond, chosen_at, HasChosen, chosen-written, after-chosen, Crashed-chosen}
+use Rattle.cart_image.proofs.Fills.{OffChosen, fill-kept, fill-value, fill-crash}
+use Rattle.cart_image.proofs.Layouts.{laid_out, width-some}
+use Rattle.cart_image.proofs.Writes.{Kept, after-both, after-synced, Crashed-synced}
 
 -- a sector's view by the tests of its bytes
 abbrev shown : (bad formed open_is : Bool) (bytes : List ℕ) → SectorView
 shown bad formed open_is bytes = if bad then Defect else (if formed then (if open_is then Holds bytes else Lost) else Blank)
 
 -- gates closed, or torn while they are closed
-closing : (bad formed was now : Bool) (s : List ℕ) → (was ≡ false → now ≡ false) → ClosingView (shown bad formed was s) (shown bad formed now s)
-closing true formed was now s kept = refl
-closing false false was now s kept = refl
-closing false true true true s kept = inl refl
-closing false true true false s kept = inr refl
-closing false true false true s kept = let e = kept refl in cc
-closing false true false false s kept = refl
+closing : (bad formed was now : Bool) (s t : List ℕ) → (was ≡ false → now ≡ false) → t ≡ s → ClosingView (shown bad formed was s) (shown bad formed now t)
+closing true formed was now s t kept same = refl
+closing false false was now s t kept same = refl
+closing false true true true s t kept same = inl (ap Holds same)
+closing false true true false s t kept same = inr refl
+closing false true false true s t kept same = let e = kept refl in cc
+closing false true false false s t kept same = refl
 
 -- bytes written behind closed gates
-closed : (bad formed was now : Bool) (s t : List ℕ) → now ≡ false → ClosingView (shown bad formed was s) (shown bad formed now t)
+closed : (bad formed was now : Bool) (s t : List ℕ) → (bad ≡ false → now ≡ false) → ClosingView (shown bad formed was s) (shown bad formed now t)
 closed true formed was now s t shut = refl
 closed false false was now s t shut = refl
-closed false true true true s t shut = cc
+closed false true was true s t shut = let e = shut refl in cc
 closed false true true false s t shut = inr refl
-closed false true false true s t shut = cc
 closed false true false false s t shut = refl
 
 -- formed bytes torn behind closed gates
-forming : (bad formed was formed_now now : Bool) (s t : List ℕ) → now ≡ false → (formed ≡ true → formed_now ≡ true) → OpeningView (shown bad formed was s) (shown bad formed_now now t)
+forming : (bad formed was formed_now now : Bool) (s t : List ℕ) → (bad ≡ false → now ≡ false) → (formed ≡ true → formed_now ≡ true) → OpeningView (shown bad formed was s) (shown bad formed_now now t)
 forming true formed was formed_now now s t shut kept = refl
-forming false formed was formed_now true s t shut kept = cc
+forming false formed was formed_now true s t shut kept = let e = shut refl in cc
 forming false false was true false s t shut kept = inr (inl refl)
 forming false false was false false s t shut kept = inl refl
 forming false true was false false s t shut kept = let e = kept refl in cc
@@ -57,85 +59,88 @@ forming false true true true false s t shut kept = inl refl
 forming false true false true false s t shut kept = inl refl
 
 -- gates of zero sectors torn while they are opened
-opening : (bad formed was formed_now now : Bool) (s : List ℕ) → formed_now ≡ true → OpeningView (shown bad formed was s) (shown bad formed_now now zero_sector)
-opening true formed was formed_now now s are = refl
-opening false formed was false now s are = cc
-opening false false was true true s are = inr (inr refl)
-opening false false was true false s are = inr (inl refl)
-opening false true true true true s are = inr refl
-opening false true true true false s are = inl refl
-opening false true false true true s are = inr refl
-opening false true false true false s are = inl refl
+opening : (bad formed was formed_now now : Bool) (s t : List ℕ) → (bad ≡ false → formed_now ≡ true) → (bad ≡ false → t ≡ zero_sector) → OpeningView (shown bad formed was s) (shown bad formed_now now t)
+opening true formed was formed_now now s t are zero = refl
+opening false formed was false now s t are zero = let e = are refl in cc
+opening false false was true true s t are zero = inr (inr (ap Holds (zero refl)))
+opening false false was true false s t are zero = inr (inl refl)
+opening false true true true true s t are zero = inr (ap Holds (zero refl))
+opening false true true true false s t are zero = inl refl
+opening false true false true true s t are zero = inr (ap Holds (zero refl))
+opening false true false true false s t are zero = inl refl
 
-formatted : (bad formed was : Bool) (s : List ℕ) → shown bad true true zero_sector ≡ formatted_view (shown bad formed was s)
-formatted true formed was s = refl
-formatted false false was s = refl
-formatted false true true s = refl
-formatted false true false s = refl
+formatted : (bad formed was formed_now now : Bool) (s t : List ℕ) → (bad ≡ false → formed_now ≡ true) → (bad ≡ false → now ≡ true) → (bad ≡ false → t ≡ zero_sector) → shown bad formed_now now t ≡ formatted_view (shown bad formed was s)
+formatted true formed was formed_now now s t are opened zero = refl
+formatted false formed was false now s t are opened zero = let e = are refl in cc
+formatted false formed was true false s t are opened zero = let e = opened refl in cc
+formatted false false was true true s t are opened zero = ap Holds (zero refl)
+formatted false true true true true s t are opened zero = ap Holds (zero refl)
+formatted false true false true true s t are opened zero = ap Holds (zero refl)
+
+-- the chosen ones are sectors of the segment
+those-length : (segment : ℕ) (f : ℕ → Bool) → length (those segment f) ≡ 32
+those-length segment f = length-map-range_with_len f (32 * segment) 32
+
+pub those-fit : (segment : ℕ) (f : ℕ → Bool) (n : ℕ) → segment < 28 * n → 32 * segment + length (those segment f) ≤ sectors n
+those-fit segment f n on = let long = those-length segment f in omega arith
+
+within-chosen : (chosen : List Bool) → length chosen ≡ 32 → (i : ℕ) → get_or chosen i false ≡ true → i < 32
+within-chosen chosen long i is = ⊎_elim (λ less. less) (λ past. let e = get_or_past chosen i false (omega arith) in cc) (cases_lt i 32)
+
+pub in-segment : (segment : ℕ) (f : ℕ → Bool) (i : ℕ) → get_or (those segment f) i false ≡ true → i < 32
+in-segment segment f = within-chosen (those segment f) (those-length segment f)
 
 -- bytes that differ from these in one segment alone, and not in its defects
-record Stage (n first : ℕ) (bytes now : List ℕ) : Type 0 where
+record Stage (l : Layout) (first : ℕ) (bytes now : List ℕ) : Type 0 where
   size : length now ≡ length bytes
-  info : info_of now ≡ info_of bytes
-  others : (j : ℕ) → j < sectors n → (j < first) ⊎ (first + 32 ≤ j) → view_in n now j ≡ view_in n bytes j
-  defects : (j : ℕ) → j < sectors n → slice_index now (defect_place n j) ≡ slice_index bytes (defect_place n j)
+  head : head_of now ≡ head_of bytes
+  others : (j : ℕ) → j < sectors l.segments_per_track → (j < first) ⊎ (first + 32 ≤ j) → view_in l now j ≡ view_in l bytes j
+  defects : (j : ℕ) → j < sectors l.segments_per_track → slice_index now (place l DefectByte j) ≡ slice_index bytes (place l DefectByte j)
 
-Stage-all : (n first : ℕ) (bytes : List ℕ) → Stage n first bytes bytes
-Stage-all n first bytes = record { size = refl; info = refl; others = λ j on out. refl; defects = λ j on. refl }
+Stage-all : (l : Layout) (first : ℕ) (bytes : List ℕ) → Stage l first bytes bytes
+Stage-all l first bytes = record { size = refl; head = refl; others = λ j on out. refl; defects = λ j on. refl }
 
-module _ (n first : ℕ) (within : first + 32 ≤ sectors n) (bytes a b : List ℕ) (whole : length bytes ≡ image_len n) (stage : Stage n first bytes a) where
-  a_whole : length a ≡ image_len n
-  a_whole = stage.size ∙ whole
+-- what a change in a part of chosen sectors of a segment keeps
+module _ (l : Layout) (p : Part) (first : ℕ) (chosen : List Bool) (a b : List ℕ) (long : length chosen ≡ 32) (within : first + 32 ≤ sectors l.segments_per_track) (whole : end_of l ≤ length a)
+    (kept : Kept (λ k. (i : ℕ) → get_or chosen i false ≡ true → (k < place l p (first + i)) ⊎ (place l p (first + i) + width p ≤ k)) a b) where
+  -- parts of another kind or of sectors that are not chosen
+  abbrev NotChosen : (r : Part) (j : ℕ) → Type 0
+  NotChosen r j = (p ≢ r) ⊎ ((i : ℕ) → get_or chosen i false ≡ true → first + i ≢ j)
 
-  gates-stage : OnlyIn (gate_place first) 32 a b → Stage n first bytes b
-  gates-stage only = record {
-    size = only.size ∙ stage.size;
-    info = info-same (gate_place first) 32 a b only (omega arith) (let w = a_whole in omega arith) ∙ stage.info;
-    others = λ j on out. gate-other n first 32 a b only a_whole within j on out ∙ stage.others j on out;
-    defects = λ j on. only.above (defect_place n j) (omega arith) ∙ stage.defects j on;
+  off : (r : Part) (j : ℕ) → j < sectors l.segments_per_track → NotChosen r j → (k : ℕ) → place l r j ≤ k → k < place l r j + width r
+      → (i : ℕ) → get_or chosen i false ≡ true → (k < place l p (first + i)) ⊎ (place l p (first + i) + width p ≤ k)
+  off r j on none k at_least less i is =
+      let inside = within-chosen chosen long i is in
+      let out = laid_out l in
+      ⊎_elim (λ later. inr (omega arith)) (λ earlier. inl (omega arith))
+      (out.apart p r (first + i) j (omega arith) on (⊎_elim (λ ne. inl ne) (λ ne. inr (ne i is)) none))
+
+  byte-spared : (r : Part) (j : ℕ) → j < sectors l.segments_per_track → NotChosen r j → slice_index b (place l r j) ≡ slice_index a (place l r j)
+  byte-spared r j on none = kept.same (place l r j) (off r j on none (place l r j) (omega arith) (let w = width-some r in omega arith))
+
+  data-spared : (j : ℕ) → j < sectors l.segments_per_track → NotChosen Data j → sector_bytes l b j ≡ sector_bytes l a j
+  data-spared j on none =
+      let end = (laid_out l).before Data j on in
+      let size = kept.size in
+      range-same a b (place l Data j) (place l Data j + 1024) (omega arith) (omega arith) (omega arith) (λ k at_least less. kept.same k (off Data j on none k at_least (omega arith)))
+
+  next-stage : (bytes : List ℕ) → p ≢ DefectByte → Stage l first bytes a → Stage l first bytes b
+  next-stage bytes other stage = record {
+    size = kept.size ∙ stage.size;
+    head =
+        (let e : end_of l ≤ length a = whole in
+        let far = (laid_out l).behind GateByte first (omega arith) in
+        let end = (laid_out l).before GateByte first (omega arith) in
+        head-same a b kept.size (omega arith) (λ k less. kept.same k (λ i is. let inside = within-chosen chosen long i is in let behind = (laid_out l).behind p (first + i) (omega arith) in inl (omega arith)))) ∙ stage.head;
+    others = λ j on out.
+        let none : (i : ℕ) → get_or chosen i false ≡ true → first + i ≢ j = λ i is e. outside j out i is e in
+        view-same l a b j (λ r. byte-spared r j on (inr none)) (data-spared j on (inr none)) ∙ stage.others j on out;
+    defects = λ j on. byte-spared DefectByte j on (inl other) ∙ stage.defects j on;
   }
-
-  formed-stage : OnlyIn (formed_place n first) 32 a b → Stage n first bytes b
-  formed-stage only = record {
-    size = only.size ∙ stage.size;
-    info = info-same (formed_place n first) 32 a b only (omega arith) (let w = a_whole in omega arith) ∙ stage.info;
-    others = λ j on out. formed-other n first 32 a b only a_whole within j on out ∙ stage.others j on out;
-    defects = λ j on. only.above (defect_place n j) (omega arith) ∙ stage.defects j on;
-  }
-
-  bytes-stage : OnlyIn (sector_place n first) 32768 a b → Stage n first bytes b
-  bytes-stage only = record {
-    size = only.size ∙ stage.size;
-    info = info-same (sector_place n first) 32768 a b only (omega arith) (let w = a_whole in omega arith) ∙ stage.info;
-    others = λ j on out. bytes-other n first 32 a b only a_whole within j on out ∙ stage.others j on out;
-    defects = λ j on. only.below (defect_place n j) (omega arith) ∙ stage.defects j on;
-  }
-
--- the chosen places of 32 bytes lie in them
-beyond-only : (place : ℕ) (chosen : List Bool) (a b : List ℕ) → length chosen ≡ 32 → Beyond (chosen_at place chosen) a b → OnlyIn place 32 a b
-beyond-only place chosen a b long beyond = record {
-  size = beyond.size;
-  below = λ k h. beyond.same k (and-left _ _ (lt-leb place k h));
-  above = λ k h. beyond.same k (and-right _ _ (get_or_past chosen (k - place) false (omega arith)));
-}
-  where
-    and-left : (p q : Bool) → p ≡ false → (p && q) ≡ false
-    and-left true q is = cc
-    and-left false q is = refl
-
-    and-right : (p q : Bool) → q ≡ false → (p && q) ≡ false
-    and-right true q is = is
-    and-right false q is = refl
-
--- a place that is not chosen keeps its byte
-beyond-kept : (place : ℕ) (chosen : List Bool) (a b : List ℕ) (i : ℕ) → get_or chosen i false ≡ false → Beyond (chosen_at place chosen) a b → get_or b (place + i) 0 ≡ get_or a (place + i) 0
-beyond-kept place chosen a b i out beyond =
-    let at : place + i - place ≡ i = omega arith in
-    beyond.same (place + i) (and-right _ _ (ap (λ j. get_or chosen j false) at ∙ out))
-  where
-    and-right : (p q : Bool) → q ≡ false → (p && q) ≡ false
-    and-right true q is = is
-    and-right false q is = refl
+    where
+      outside : (j : ℕ) → (j < first) ⊎ (first + 32 ≤ j) → (i : ℕ) → get_or chosen i false ≡ true → first + i ≡ j → ⊥
+      outside j (inl below) i is e = omega arith
+      outside j (inr above) i is e = let inside = within-chosen chosen long i is in omega arith
 
 -- lists of views that agree outside a segment, where the new ones are the old ones formatted in it
 formatted-views : (old new : List SectorView) (segment : ℕ) → 32 * segment + 32 ≤ length old → length new ≡ length old
@@ -191,192 +196,220 @@ formatted-views old new segment within size below above inside =
         (cases_lt k (32 * segment + 32)))
         (cases_lt k (32 * segment))
 
-module _ (info : TapeInfo) (bytes : List ℕ) (segment : ℕ) (is : info_of bytes ≡ Some info) (whole : length bytes ≡ image_len info.segments_per_track) (on : segment < 28 * info.segments_per_track) where
-  -- a segment whose sectors all became so
-  became : (Became : SectorView → SectorView → Type 0) (left : List ℕ) → Stage info.segments_per_track (32 * segment) bytes left
-      → ((i : ℕ) → i < 32 → Became (view_in info.segments_per_track bytes (32 * segment + i)) (view_in info.segments_per_track left (32 * segment + i)))
-      → SegmentBecame Became segment (read_as info bytes) (read_as info left)
-  became Became left stage each = record {
-    info = refl;
-    version = refl;
-    sectors = length-views info.segments_per_track left ∙ sym (length-views info.segments_per_track bytes);
-    within = λ i less.
-        let there : 32 * segment + i < sectors info.segments_per_track = omega arith in
-        let P : SectorView → Type 0 = λ v. Became v (view_at (read_as info left) segment i) in
-        let Q : SectorView → Type 0 = λ v. Became (view_in info.segments_per_track bytes (32 * segment + i)) v in
-        subst P (sym (view_at-read info bytes segment i there)) (subst Q (sym (view_at-read info left segment i there)) (each i less));
-    below = λ place less. at place (omega arith) (inl less);
-    above = λ place more. ⊎_elim (λ there. at place there (inr (omega arith)))
-        (λ past. slice_get_past (views_in info.segments_per_track left) place (let l = length-views info.segments_per_track left in omega arith) ∙ sym (slice_get_past (views_in info.segments_per_track bytes) place (let l = length-views info.segments_per_track bytes in omega arith))) (cases_lt place (sectors info.segments_per_track));
-  }
-    where
-      at : (place : ℕ) → place < sectors info.segments_per_track → (place < 32 * segment) ⊎ (32 * segment + 32 ≤ place) → slice_get (views_in info.segments_per_track left) place ≡ slice_get (views_in info.segments_per_track bytes) place
-      at place there out =
-          slice_get-get_or (views_in info.segments_per_track left) place Blank (let l = length-views info.segments_per_track left in omega arith)
-          ∙ ap Some (get_or-views info.segments_per_track left place Blank there ∙ stage.others place there out ∙ sym (get_or-views info.segments_per_track bytes place Blank there))
-          ∙ sym (slice_get-get_or (views_in info.segments_per_track bytes) place Blank (let l = length-views info.segments_per_track bytes in omega arith))
-
-  half-closing : (left : List ℕ) → Stage info.segments_per_track (32 * segment) bytes left
-      → ((i : ℕ) → i < 32 → ClosingView (view_in info.segments_per_track bytes (32 * segment + i)) (view_in info.segments_per_track left (32 * segment + i)))
-      → HalfFormatted segment (cartridge_of bytes) (cartridge_of left)
-  half-closing left stage each =
-      let P : Option Cartridge → Type 0 = λ h. HalfFormatted segment h (cartridge_of left) in
-      let Q : Option Cartridge → Type 0 = λ l. HalfFormatted segment (Some (read_as info bytes)) l in
-      subst P (sym (cartridge_of-read bytes info is)) (subst Q (sym (cartridge_of-read left info (stage.info ∙ is))) (inl (became ClosingView left stage each)))
-
-  half-opening : (left : List ℕ) → Stage info.segments_per_track (32 * segment) bytes left
-      → ((i : ℕ) → i < 32 → OpeningView (view_in info.segments_per_track bytes (32 * segment + i)) (view_in info.segments_per_track left (32 * segment + i)))
-      → HalfFormatted segment (cartridge_of bytes) (cartridge_of left)
-  half-opening left stage each =
-      let P : Option Cartridge → Type 0 = λ h. HalfFormatted segment h (cartridge_of left) in
-      let Q : Option Cartridge → Type 0 = λ l. HalfFormatted segment (Some (read_as info bytes)) l in
-      subst P (sym (cartridge_of-read bytes info is)) (subst Q (sym (cartridge_of-read left info (stage.info ∙ is))) (inr (became OpeningView left stage each)))
-
-  -- the whole segment formatted
-  all-formatted : (left : List ℕ) → Stage info.segments_per_track (32 * segment) bytes left
-      → ((i : ℕ) → i < 32 → view_in info.segments_per_track left (32 * segment + i) ≡ formatted_view (view_in info.segments_per_track bytes (32 * segment + i)))
-      → cartridge_of left ≡ effect (FormatSegment segment) (cartridge_of bytes)
-  all-formatted left stage each =
-      cartridge_of-read left info (stage.info ∙ is)
-      ∙ ap (λ (vs : List SectorView). Some (record { info = info; version = version; views = vs })) views
-      ∙ ap (effect (FormatSegment segment)) (sym (cartridge_of-read bytes info is))
-    where
-      lengths : length (views_in info.segments_per_track bytes) ≡ sectors info.segments_per_track
-      lengths = length-views info.segments_per_track bytes
-
-      outside : (k : ℕ) (d : SectorView) → k < sectors info.segments_per_track → (k < 32 * segment) ⊎ (32 * segment + 32 ≤ k) → get_or (views_in info.segments_per_track left) k d ≡ get_or (views_in info.segments_per_track bytes) k d
-      outside k d there out = get_or-views info.segments_per_track left k d there ∙ stage.others k there out ∙ sym (get_or-views info.segments_per_track bytes k d there)
-
-      views : views_in info.segments_per_track left ≡ take (32 * segment) (views_in info.segments_per_track bytes) ++ map formatted_view (take 32 (drop (32 * segment) (views_in info.segments_per_track bytes))) ++ drop (32 * (segment + 1)) (views_in info.segments_per_track bytes)
-      views = formatted-views (views_in info.segments_per_track bytes) (views_in info.segments_per_track left) segment (let l = lengths in omega arith) (length-views info.segments_per_track left ∙ sym lengths)
-          (λ k d less. outside k d (let l = lengths in omega arith) (inl less))
-          (λ k d more less. outside k d (let l = lengths in omega arith) (inr (omega arith)))
-          (λ i d less.
-          let there : 32 * segment + i < sectors info.segments_per_track = omega arith in
-          get_or-views info.segments_per_track left (32 * segment + i) d there ∙ each i less ∙ ap formatted_view (sym (get_or-views info.segments_per_track bytes (32 * segment + i) d there)))
-
-  -- the stages of the writes
-  abbrev n : ℕ
-  n = info.segments_per_track
+module _ (h : Head) (bytes : List ℕ) (segment : ℕ) (is : head_of bytes ≡ Some h) (whole : end_of h.layout ≤ length bytes) (on : segment < 28 * h.layout.segments_per_track) where
+  abbrev l : Layout
+  l = h.layout
 
   abbrev first : ℕ
   first = 32 * segment
 
-  abbrev gates : List ℕ
-  gates = slice_range bytes (gate_place first) (gate_place first + 32)
-
-  abbrev formed : List ℕ
-  formed = slice_range bytes (formed_place n first) (formed_place n first + 32)
-
-  abbrev opens : List Bool
-  opens = map (λ b. b == open_gate) gates
-
-  abbrev unformed : List Bool
-  unformed = map (λ b. not (b == formed_byte)) formed
-
-  within : first + 32 ≤ sectors n
+  within : first + 32 ≤ sectors l.segments_per_track
   within = omega arith
 
-  gates-length : length gates ≡ 32
-  gates-length = let l = length-between bytes (gate_place first) (gate_place first + 32) (let w = whole in omega arith) in omega arith
+  -- a segment whose sectors all became so
+  became : (Became : SectorView → SectorView → Type 0) (left : List ℕ) → Stage l first bytes left
+      → ((i : ℕ) → i < 32 → Became (view_in l bytes (first + i)) (view_in l left (first + i)))
+      → SegmentBecame Became segment (read_as h bytes) (read_as h left)
+  became Became left stage each = record {
+    info = refl;
+    version = refl;
+    sectors = length-views l left ∙ sym (length-views l bytes);
+    within = λ i less.
+        let there : first + i < sectors l.segments_per_track = omega arith in
+        let P : SectorView → Type 0 = λ v. Became v (view_at (read_as h left) segment i) in
+        let Q : SectorView → Type 0 = λ v. Became (view_in l bytes (first + i)) v in
+        subst P (sym (view_at-read h bytes segment i there)) (subst Q (sym (view_at-read h left segment i there)) (each i less));
+    below = λ place less. at place (omega arith) (inl less);
+    above = λ place more. ⊎_elim (λ there. at place there (inr (omega arith)))
+        (λ past. slice_get_past (views_in l left) place (let n = length-views l left in omega arith) ∙ sym (slice_get_past (views_in l bytes) place (let n = length-views l bytes in omega arith))) (cases_lt place (sectors l.segments_per_track));
+  }
+    where
+      at : (place : ℕ) → place < sectors l.segments_per_track → (place < first) ⊎ (first + 32 ≤ place) → slice_get (views_in l left) place ≡ slice_get (views_in l bytes) place
+      at place there out =
+          slice_get-get_or (views_in l left) place Blank (let n = length-views l left in omega arith)
+          ∙ ap Some (get_or-views l left place Blank there ∙ stage.others place there out ∙ sym (get_or-views l bytes place Blank there))
+          ∙ sym (slice_get-get_or (views_in l bytes) place Blank (let n = length-views l bytes in omega arith))
 
-  formed-length : length formed ≡ 32
-  formed-length = let l = length-between bytes (formed_place n first) (formed_place n first + 32) (let w = whole in omega arith) in omega arith
+  half : (left : List ℕ) → Stage l first bytes left → SegmentBecame ClosingView segment (read_as h bytes) (read_as h left) ⊎ SegmentBecame OpeningView segment (read_as h bytes) (read_as h left)
+      → HalfFormatted segment (cartridge_of bytes) (cartridge_of left)
+  half left stage halves =
+      let P : Option Cartridge → Type 0 = λ c. HalfFormatted segment c (cartridge_of left) in
+      let Q : Option Cartridge → Type 0 = λ c. HalfFormatted segment (Some (read_as h bytes)) c in
+      subst P (sym (cartridge_of-read bytes h is)) (subst Q (sym (cartridge_of-read left h (stage.head ∙ is))) halves)
 
-  opens-length : length opens ≡ 32
-  opens-length = length-map gates (λ b. b == open_gate) ∙ gates-length
+  -- the whole segment formatted
+  all-formatted : (left : List ℕ) → Stage l first bytes left
+      → ((i : ℕ) → i < 32 → view_in l left (first + i) ≡ formatted_view (view_in l bytes (first + i)))
+      → cartridge_of left ≡ effect (FormatSegment segment) (cartridge_of bytes)
+  all-formatted left stage each =
+      cartridge_of-read left h (stage.head ∙ is)
+      ∙ ap (λ (vs : List SectorView). Some (record { info = info_by h; version = version_of l.kind; views = vs })) views
+      ∙ ap (effect (FormatSegment segment)) (sym (cartridge_of-read bytes h is))
+    where
+      lengths : length (views_in l bytes) ≡ sectors l.segments_per_track
+      lengths = length-views l bytes
 
-  unformed-length : length unformed ≡ 32
-  unformed-length = length-map formed (λ b. not (b == formed_byte)) ∙ formed-length
+      outside : (k : ℕ) (d : SectorView) → k < sectors l.segments_per_track → (k < first) ⊎ (first + 32 ≤ k) → get_or (views_in l left) k d ≡ get_or (views_in l bytes) k d
+      outside k d there out = get_or-views l left k d there ∙ stage.others k there out ∙ sym (get_or-views l bytes k d there)
 
-  opens-at : (i : ℕ) → i < 32 → get_or opens i false ≡ (slice_index bytes (gate_place (first + i)) == open_gate)
-  opens-at i less =
-      get_or-map (λ b. b == open_gate) gates i 0 false (let l = gates-length in omega arith)
-      ∙ ap (λ b. b == open_gate) (get_or-between bytes (gate_place first) (gate_place first + 32) i 0 (omega arith) ∙ ap (slice_index bytes) (let e : gate_place first + i ≡ gate_place (first + i) = omega arith in e))
+      views : views_in l left ≡ take first (views_in l bytes) ++ map formatted_view (take 32 (drop first (views_in l bytes))) ++ drop (32 * (segment + 1)) (views_in l bytes)
+      views = formatted-views (views_in l bytes) (views_in l left) segment (let n = lengths in omega arith) (length-views l left ∙ sym lengths)
+          (λ k d less. outside k d (let n = lengths in omega arith) (inl less))
+          (λ k d more less. outside k d (let n = lengths in omega arith) (inr (omega arith)))
+          (λ i d less.
+          let there : first + i < sectors l.segments_per_track = omega arith in
+          get_or-views l left (first + i) d there ∙ each i less ∙ ap formatted_view (sym (get_or-views l bytes (first + i) d there)))
 
-  unformed-at : (i : ℕ) → i < 32 → get_or unformed i false ≡ not (slice_index bytes (formed_place n (first + i)) == formed_byte)
-  unformed-at i less =
-      get_or-map (λ b. not (b == formed_byte)) formed i 0 false (let l = formed-length in omega arith)
-      ∙ ap (λ b. not (b == formed_byte)) (get_or-between bytes (formed_place n first) (formed_place n first + 32) i 0 (omega arith) ∙ ap (slice_index bytes) (let e : formed_place n first + i ≡ formed_place n (first + i) = omega arith in e))
+  -- the chosen ones
+  abbrev readable : List Bool
+  readable = those segment (is_open l bytes)
 
-  shown-is : (i : ℕ) → view_in n bytes (first + i) ≡ shown (slice_index bytes (defect_place n (first + i)) == defect_byte) (slice_index bytes (formed_place n (first + i)) == formed_byte) (slice_index bytes (gate_place (first + i)) == open_gate) (sector_bytes n bytes (first + i))
-  shown-is i = view_in-is n bytes (first + i)
+  abbrev usable : List Bool
+  usable = those segment (is_usable l bytes)
 
-  closing-at : (left : List ℕ) (i : ℕ) (v w : SectorView) → view_in n bytes (first + i) ≡ v → view_in n left (first + i) ≡ w → ClosingView v w → ClosingView (view_in n bytes (first + i)) (view_in n left (first + i))
-  closing-at left i v w old new view =
-      let P : SectorView → Type 0 = λ u. ClosingView u (view_in n left (first + i)) in
-      let Q : SectorView → Type 0 = λ u. ClosingView v u in
-      subst P (sym old) (subst Q (sym new) view)
+  abbrev unformed : List Bool
+  unformed = those segment (is_unformed l bytes)
 
-  opening-at : (left : List ℕ) (i : ℕ) (v w : SectorView) → view_in n bytes (first + i) ≡ v → view_in n left (first + i) ≡ w → OpeningView v w → OpeningView (view_in n bytes (first + i)) (view_in n left (first + i))
-  opening-at left i v w old new view =
-      let P : SectorView → Type 0 = λ u. OpeningView u (view_in n left (first + i)) in
-      let Q : SectorView → Type 0 = λ u. OpeningView v u in
-      subst P (sym old) (subst Q (sym new) view)
+  those-at : (f : ℕ → Bool) (i : ℕ) → i < 32 → get_or (those segment f) i false ≡ f (first + i)
+  those-at f i less = get_or-map-range_with_len f first 32 i (first + i) false less refl
+
+  fits : (f : ℕ → Bool) → first + length (those segment f) ≤ sectors l.segments_per_track
+  fits f = those-fit segment f l.segments_per_track on
+
+  -- a sector that is not chosen keeps its part
+  not-chosen : (f : ℕ → Bool) (i : ℕ) → i < 32 → f (first + i) ≡ false → (j : ℕ) → get_or (those segment f) j false ≡ true → first + j ≢ first + i
+  not-chosen f i less out j picked e =
+      let same : j ≡ i = omega arith in
+      let a : get_or (those segment f) i false ≡ true = ap (λ k. get_or (those segment f) k false) (sym same) ∙ picked in
+      let b = those-at f i less in cc
+
+  abbrev bad : ℕ → Bool
+  bad i = slice_index bytes (place l DefectByte (first + i)) == defect_byte
+
+  abbrev formed : List ℕ → ℕ → Bool
+  formed s i = slice_index s (place l FormedByte (first + i)) == formed_byte
+
+  abbrev opened : List ℕ → ℕ → Bool
+  opened s i = slice_index s (place l GateByte (first + i)) == open_gate
+
+  abbrev held : List ℕ → ℕ → List ℕ
+  held s i = sector_bytes l s (first + i)
+
+  -- what a sector shows in a stage
+  shows : (s : List ℕ) → Stage l first bytes s → (i : ℕ) → i < 32 → view_in l s (first + i) ≡ shown (bad i) (formed s i) (opened s i) (held s i)
+  shows s stage i less = view_in-is l s (first + i) ∙ ap (λ d. shown (d == defect_byte) (formed s i) (opened s i) (held s i)) (stage.defects (first + i) (omega arith))
+
+  all-stage : Stage l first bytes bytes
+  all-stage = Stage-all l first bytes
+
+  end-at : (s : List ℕ) → Stage l first bytes s → end_of l ≤ length s
+  end-at s stage = let size = stage.size in omega arith
+
+  closing-half : (left : List ℕ) → Stage l first bytes left → ((i : ℕ) → i < 32 → ClosingView (shown (bad i) (formed bytes i) (opened bytes i) (held bytes i)) (shown (bad i) (formed left i) (opened left i) (held left i)))
+      → HalfFormatted segment (cartridge_of bytes) (cartridge_of left)
+  closing-half left stage each = half left stage (inl (became ClosingView left stage (λ i less.
+      let P : SectorView → Type 0 = λ u. ClosingView u (view_in l left (first + i)) in
+      let Q : SectorView → Type 0 = λ u. ClosingView (shown (bad i) (formed bytes i) (opened bytes i) (held bytes i)) u in
+      subst P (sym (shows bytes all-stage i less)) (subst Q (sym (shows left stage i less)) (each i less)))))
+
+  opening-half : (left : List ℕ) → Stage l first bytes left → ((i : ℕ) → i < 32 → OpeningView (shown (bad i) (formed bytes i) (opened bytes i) (held bytes i)) (shown (bad i) (formed left i) (opened left i) (held left i)))
+      → HalfFormatted segment (cartridge_of bytes) (cartridge_of left)
+  opening-half left stage each = half left stage (inr (became OpeningView left stage (λ i less.
+      let P : SectorView → Type 0 = λ u. OpeningView u (view_in l left (first + i)) in
+      let Q : SectorView → Type 0 = λ u. OpeningView (shown (bad i) (formed bytes i) (opened bytes i) (held bytes i)) u in
+      subst P (sym (shows bytes all-stage i less)) (subst Q (sym (shows left stage i less)) (each i less)))))
+
+  not-both : (a b : Bool) → a ≡ false → (not a && b) ≡ b
+  not-both true b is = cc
+  not-both false b is = refl
+
+  and-no : (a b : Bool) → b ≡ false → (a && b) ≡ false
+  and-no true b is = is
+  and-no false b is = refl
+
+  not-no : (b : Bool) → b ≡ true → not b ≡ false
+  not-no true is = refl
+  not-no false is = cc
+
+  not-yes : (b : Bool) → not b ≡ false → b ≡ true
+  not-yes true is = refl
+  not-yes false is = cc
+
+  -- what a fill of a byte leaves of it
+  filled : (p : Part) (value : ℕ) (f : ℕ → Bool) (s : List ℕ) → end_of l ≤ length s → (i : ℕ) → i < 32 → f (first + i) ≡ true → width p ≡ 1 → slice_index (after_steps (fill_writes l p value first (those segment f) 0) s) (place l p (first + i)) ≡ value
+  filled p value f s there i less picked one =
+      fill-value l p value (length s) there first (those segment f) (fits f) s refl i (those-at f i less ∙ picked) (place l p (first + i)) (omega arith) (omega arith)
+
+  keeps : (p : Part) (value : ℕ) (f : ℕ → Bool) (s : List ℕ) → end_of l ≤ length s → Kept (OffChosen l p first (those segment f)) s (after_steps (fill_writes l p value first (those segment f) 0) s)
+  keeps p value f s there = fill-kept l p value (length s) there first (those segment f) (fits f) s refl
 
   -- the gates are closed
-  gates-torn : (left : List ℕ) → Beyond (chosen_at (gate_place first) opens) bytes left → HalfFormatted segment (cartridge_of bytes) (cartridge_of left)
-  gates-torn left beyond =
-      let only = beyond-only (gate_place first) opens bytes left opens-length beyond in
-      half-closing left (gates-stage n first within bytes bytes left whole (Stage-all n first bytes) only) (λ i less.
-      closing-at left i _ _ (shown-is i) (gate-view n first 32 bytes left only whole within (first + i) (omega arith))
-      (closing _ _ _ _ _ (λ shut. ap (λ b. b == open_gate) (kept i less shut) ∙ shut)))
-    where
-      kept : (i : ℕ) → i < 32 → (slice_index bytes (gate_place (first + i)) == open_gate) ≡ false → slice_index left (gate_place (first + i)) ≡ slice_index bytes (gate_place (first + i))
-      kept i less shut =
-          let at : gate_place (first + i) ≡ gate_place first + i = omega arith in
-          ap (slice_index left) at ∙ beyond-kept (gate_place first) opens bytes left i (opens-at i less ∙ shut) beyond ∙ ap (slice_index bytes) (sym at)
-
   abbrev b1 : List ℕ
-  b1 = after_steps (write_runs closed_gate (gate_place first) opens 0) bytes
+  b1 = after_steps (fill_writes l GateByte closed_gate first readable 0) bytes
 
-  has1 : HasChosen closed_gate (gate_place first) opens bytes b1
-  has1 = chosen-written closed_gate (gate_place first) opens bytes (let l = opens-length in let w = whole in omega arith)
+  module _ (left : List ℕ) (kept : Kept (OffChosen l GateByte first readable) bytes left) where
+    gates-stage : Stage l first bytes left
+    gates-stage = next-stage l GateByte first readable bytes left (those-length segment (is_open l bytes)) within whole kept bytes (λ e. cc) all-stage
 
-  only1 : OnlyIn (gate_place first) 32 bytes b1
-  only1 = let h = has1 in beyond-only (gate_place first) opens bytes b1 opens-length h.beyond
+    gates-formed : (i : ℕ) → i < 32 → formed left i ≡ formed bytes i
+    gates-formed i less = ap (λ b. b == formed_byte) (byte-spared l GateByte first readable bytes left (those-length segment (is_open l bytes)) within whole kept FormedByte (first + i) (omega arith) (inl (λ e. cc)))
 
-  stage1 : Stage n first bytes b1
-  stage1 = gates-stage n first within bytes bytes b1 whole (Stage-all n first bytes) only1
+    gates-data : (i : ℕ) → i < 32 → held left i ≡ held bytes i
+    gates-data i less = data-spared l GateByte first readable bytes left (those-length segment (is_open l bytes)) within whole kept (first + i) (omega arith) (inl (λ e. cc))
 
-  whole1 : length b1 ≡ image_len n
-  whole1 = let s = stage1 in s.size ∙ whole
+    gates-shut : (i : ℕ) → i < 32 → opened bytes i ≡ false → opened left i ≡ false
+    gates-shut i less shut =
+        ap (λ b. b == open_gate) (byte-spared l GateByte first readable bytes left (those-length segment (is_open l bytes)) within whole kept GateByte (first + i) (omega arith)
+        (inr (not-chosen (is_open l bytes) i less (and-no (not (bad i)) (opened bytes i) shut)))) ∙ shut
 
-  shut1 : (i : ℕ) → i < 32 → (slice_index b1 (gate_place (first + i)) == open_gate) ≡ false
-  shut1 i less = by_chosen (get_or opens i false) refl
+    gates-torn : HalfFormatted segment (cartridge_of bytes) (cartridge_of left)
+    gates-torn = closing-half left gates-stage (λ i less.
+        let P : Bool → Type 0 = λ f. ClosingView (shown (bad i) (formed bytes i) (opened bytes i) (held bytes i)) (shown (bad i) f (opened left i) (held left i)) in
+        subst P (sym (gates-formed i less)) (closing (bad i) (formed bytes i) (opened bytes i) (opened left i) (held bytes i) (held left i) (gates-shut i less) (gates-data i less)))
+
+  kept1 : Kept (OffChosen l GateByte first readable) bytes b1
+  kept1 = keeps GateByte closed_gate (is_open l bytes) bytes whole
+
+  stage1 : Stage l first bytes b1
+  stage1 = gates-stage b1 kept1
+
+  end1 : end_of l ≤ length b1
+  end1 = end-at b1 stage1
+
+  shut1 : (i : ℕ) → i < 32 → bad i ≡ false → opened b1 i ≡ false
+  shut1 i less good = by_gate (opened bytes i) refl
     where
-      at : gate_place (first + i) ≡ gate_place first + i
-      at = omega arith
-
-      by_chosen : (holds : Bool) → get_or opens i false ≡ holds → (slice_index b1 (gate_place (first + i)) == open_gate) ≡ false
-      by_chosen true chosen = let h = has1 in ap (λ k. slice_index b1 k == open_gate) at ∙ ap (λ b. b == open_gate) (h.chosen_are i chosen)
-      by_chosen false chosen =
-          let h = has1 in
-          ap (λ k. slice_index b1 k == open_gate) at ∙ ap (λ b. b == open_gate) (beyond-kept (gate_place first) opens bytes b1 i chosen h.beyond ∙ ap (slice_index bytes) (sym at)) ∙ sym (opens-at i less) ∙ chosen
-
-  formed1 : (i : ℕ) → i < 32 → slice_index b1 (formed_place n (first + i)) ≡ slice_index bytes (formed_place n (first + i))
-  formed1 i less = let o = only1 in o.above (formed_place n (first + i)) (omega arith)
+      by_gate : (o : Bool) → opened bytes i ≡ o → opened b1 i ≡ false
+      by_gate true was = ap (λ b. b == open_gate) (filled GateByte closed_gate (is_open l bytes) bytes whole i less (not-both (bad i) (opened bytes i) good ∙ was) refl)
+      by_gate false was = gates-shut b1 kept1 i less was
 
   -- the sectors are zeroed
-  zeros-torn : (left : List ℕ) → TornRange (sector_place n first) 32768 b1 left → HalfFormatted segment (cartridge_of bytes) (cartridge_of left)
-  zeros-torn left torn =
-      let only = OnlyIn-torn (sector_place n first) 32768 b1 left torn in
-      half-closing left (bytes-stage n first within bytes b1 left whole stage1 only) (λ i less.
-      closing-at left i _ _ (shown-is i)
-      (bytes-view n first 32 b1 left only whole1 within (first + i) (omega arith)
-      ∙ cell-is (slice_index b1 (defect_place n (first + i))) (slice_index bytes (defect_place n (first + i))) (slice_index b1 (formed_place n (first + i))) (slice_index bytes (formed_place n (first + i))) (slice_index b1 (gate_place (first + i))) (slice_index b1 (gate_place (first + i))) (sector_bytes n left (first + i)) (sector_bytes n left (first + i)) (let s = stage1 in s.defects (first + i) (omega arith)) (formed1 i less) refl refl)
-      (closed (slice_index bytes (defect_place n (first + i)) == defect_byte) (slice_index bytes (formed_place n (first + i)) == formed_byte) (slice_index bytes (gate_place (first + i)) == open_gate) (slice_index b1 (gate_place (first + i)) == open_gate) (sector_bytes n bytes (first + i)) (sector_bytes n left (first + i)) (shut1 i less)))
-
   abbrev b2 : List ℕ
-  b2 = overwritten b1 (sector_place n first) zero_segment
+  b2 = after_steps (fill_writes l Data 0 first usable 0) b1
 
-  zero_segment-length : length zero_segment ≡ 32768
-  unfolding zero_segment
-  zero_segment-length = length-replicate {A = ℕ} 32768 0
+  module _ (left : List ℕ) (kept : Kept (OffChosen l Data first usable) b1 left) where
+    zeroed-stage : Stage l first bytes left
+    zeroed-stage = next-stage l Data first usable b1 left (those-length segment (is_usable l bytes)) within end1 kept bytes (λ e. cc) stage1
 
-  zero_segment-zero : (k : ℕ) → k < 32768 → get_or zero_segment k 0 ≡ 0
-  unfolding zero_segment
-  zero_segment-zero k less = get_or-replicate {A = ℕ} 32768 k 0 0 less
+    zeroed-formed : (i : ℕ) → i < 32 → formed left i ≡ formed bytes i
+    zeroed-formed i less = ap (λ b. b == formed_byte) (byte-spared l Data first usable b1 left (those-length segment (is_usable l bytes)) within end1 kept FormedByte (first + i) (omega arith) (inl (λ e. cc))) ∙ gates-formed b1 kept1 i less
+
+    zeroed-shut : (i : ℕ) → i < 32 → bad i ≡ false → opened left i ≡ false
+    zeroed-shut i less good = ap (λ b. b == open_gate) (byte-spared l Data first usable b1 left (those-length segment (is_usable l bytes)) within end1 kept GateByte (first + i) (omega arith) (inl (λ e. cc))) ∙ shut1 i less good
+
+    zeroed-torn : HalfFormatted segment (cartridge_of bytes) (cartridge_of left)
+    zeroed-torn = closing-half left zeroed-stage (λ i less.
+        let P : Bool → Type 0 = λ f. ClosingView (shown (bad i) (formed bytes i) (opened bytes i) (held bytes i)) (shown (bad i) f (opened left i) (held left i)) in
+        subst P (sym (zeroed-formed i less)) (closed (bad i) (formed bytes i) (opened bytes i) (opened left i) (held bytes i) (held left i) (zeroed-shut i less)))
+
+  kept2 : Kept (OffChosen l Data first usable) b1 b2
+  kept2 = keeps Data 0 (is_usable l bytes) b1 end1
+
+  stage2 : Stage l first bytes b2
+  stage2 = zeroed-stage b2 kept2
+
+  end2 : end_of l ≤ length b2
+  end2 = end-at b2 stage2
 
   zero_sector-length : length zero_sector ≡ 1024
   unfolding zero_sector
@@ -386,153 +419,122 @@ module _ (info : TapeInfo) (bytes : List ℕ) (segment : ℕ) (is : info_of byte
   unfolding zero_sector
   zero_sector-zero k less = get_or-replicate {A = ℕ} 1024 k 0 0 less
 
-  only2 : OnlyIn (sector_place n first) 32768 b1 b2
-  only2 =
-      let long = zero_segment-length in
-      let w = whole1 in
-      subst (λ (count : ℕ). OnlyIn (sector_place n first) count b1 b2) long (OnlyIn-written (sector_place n first) b1 zero_segment (omega arith))
-
-  stage2 : Stage n first bytes b2
-  stage2 = bytes-stage n first within bytes b1 b2 whole stage1 only2
-
-  whole2 : length b2 ≡ image_len n
-  whole2 = let s = stage2 in s.size ∙ whole
-
-  shut2 : (i : ℕ) → i < 32 → (slice_index b2 (gate_place (first + i)) == open_gate) ≡ false
-  shut2 i less = let o = only2 in ap (λ b. b == open_gate) (o.below (gate_place (first + i)) (omega arith)) ∙ shut1 i less
-
-  formed2 : (i : ℕ) → i < 32 → slice_index b2 (formed_place n (first + i)) ≡ slice_index bytes (formed_place n (first + i))
-  formed2 i less = let o = only2 in o.below (formed_place n (first + i)) (omega arith) ∙ formed1 i less
-
-  zeros2 : (i : ℕ) → i < 32 → sector_bytes n b2 (first + i) ≡ zero_sector
-  zeros2 i less =
-      let w = whole2 in
-      let w1 = whole1 in
-      let l = length-between b2 (sector_place n (first + i)) (sector_place n (first + i) + 1024) (omega arith) in
-      same_lists _ _ (l ∙ (let e : sector_place n (first + i) + 1024 - sector_place n (first + i) ≡ 1024 = omega arith in e) ∙ sym zero_sector-length) (λ k d h.
+  zeros2 : (i : ℕ) → i < 32 → bad i ≡ false → held b2 i ≡ zero_sector
+  zeros2 i less good =
+      let e = end2 in
+      let b = (laid_out l).before Data (first + i) (omega arith) in
+      let n = length-between b2 (place l Data (first + i)) (place l Data (first + i) + 1024) (omega arith) in
+      let z = zero_sector-length in
+      same_lists _ _ (n ∙ (let e : place l Data (first + i) + 1024 - place l Data (first + i) ≡ 1024 = omega arith in e) ∙ sym zero_sector-length) (λ k d h.
       let k_less : k < 1024 = omega arith in
-      let at : sector_place n (first + i) + k ≡ sector_place n first + (1024 * i + k) = omega arith in
-      let zl = zero_segment-length in
-      let sl = zero_sector-length in
-      get_or-between b2 (sector_place n (first + i)) (sector_place n (first + i) + 1024) k d (omega arith)
-      ∙ get_or_default b2 (sector_place n (first + i) + k) d 0 (omega arith)
-      ∙ ap (slice_index b2) at
-      ∙ get_or-overwritten b1 zero_segment (sector_place n first) (1024 * i + k) 0 (omega arith) (omega arith)
-      ∙ zero_segment-zero (1024 * i + k) (omega arith)
+      get_or-between b2 (place l Data (first + i)) (place l Data (first + i) + 1024) k d (omega arith)
+      ∙ get_or_default b2 (place l Data (first + i) + k) d 0 (omega arith)
+      ∙ fill-value l Data 0 (length b1) end1 first usable (fits (is_usable l bytes)) b1 refl i (those-at (is_usable l bytes) i less ∙ ap not good) (place l Data (first + i) + k) (omega arith) (omega arith)
       ∙ sym (zero_sector-zero k k_less)
       ∙ get_or_default zero_sector k 0 d (omega arith))
 
   -- the sectors are formed
-  formed-torn : (left : List ℕ) → Beyond (chosen_at (formed_place n first) unformed) b2 left → HalfFormatted segment (cartridge_of bytes) (cartridge_of left)
-  formed-torn left beyond =
-      let only = beyond-only (formed_place n first) unformed b2 left unformed-length beyond in
-      half-opening left (formed-stage n first within bytes b2 left whole stage2 only) (λ i less.
-      opening-at left i _ _ (shown-is i)
-      (formed-view n first 32 b2 left only whole2 within (first + i) (omega arith)
-      ∙ cell-is (slice_index b2 (defect_place n (first + i))) (slice_index bytes (defect_place n (first + i))) (slice_index left (formed_place n (first + i))) (slice_index left (formed_place n (first + i))) (slice_index b2 (gate_place (first + i))) (slice_index b2 (gate_place (first + i))) (sector_bytes n b2 (first + i)) (sector_bytes n b2 (first + i)) (let s = stage2 in s.defects (first + i) (omega arith)) refl refl refl)
-      (forming (slice_index bytes (defect_place n (first + i)) == defect_byte) (slice_index bytes (formed_place n (first + i)) == formed_byte) (slice_index bytes (gate_place (first + i)) == open_gate) (slice_index left (formed_place n (first + i)) == formed_byte) (slice_index b2 (gate_place (first + i)) == open_gate) (sector_bytes n bytes (first + i)) (sector_bytes n b2 (first + i)) (shut2 i less) (kept i less)))
-    where
-      kept : (i : ℕ) → i < 32 → (slice_index bytes (formed_place n (first + i)) == formed_byte) ≡ true → (slice_index left (formed_place n (first + i)) == formed_byte) ≡ true
-      kept i less is_formed =
-          let at : formed_place n (first + i) ≡ formed_place n first + i = omega arith in
-          ap (λ k. slice_index left k == formed_byte) at
-          ∙ ap (λ b. b == formed_byte) (beyond-kept (formed_place n first) unformed b2 left i (unformed-at i less ∙ ap not is_formed) beyond ∙ ap (slice_index b2) (sym at) ∙ formed2 i less)
-          ∙ is_formed
-
   abbrev b3 : List ℕ
-  b3 = after_steps (write_runs formed_byte (formed_place n first) unformed 0) b2
+  b3 = after_steps (fill_writes l FormedByte formed_byte first unformed 0) b2
 
-  has3 : HasChosen formed_byte (formed_place n first) unformed b2 b3
-  has3 = chosen-written formed_byte (formed_place n first) unformed b2 (let l = unformed-length in let w = whole2 in omega arith)
+  module _ (left : List ℕ) (kept : Kept (OffChosen l FormedByte first unformed) b2 left) where
+    form-stage : Stage l first bytes left
+    form-stage = next-stage l FormedByte first unformed b2 left (those-length segment (is_unformed l bytes)) within end2 kept bytes (λ e. cc) stage2
 
-  only3 : OnlyIn (formed_place n first) 32 b2 b3
-  only3 = let h = has3 in beyond-only (formed_place n first) unformed b2 b3 unformed-length h.beyond
+    form-shut : (i : ℕ) → i < 32 → bad i ≡ false → opened left i ≡ false
+    form-shut i less good = ap (λ b. b == open_gate) (byte-spared l FormedByte first unformed b2 left (those-length segment (is_unformed l bytes)) within end2 kept GateByte (first + i) (omega arith) (inl (λ e. cc))) ∙ zeroed-shut b2 kept2 i less good
 
-  stage3 : Stage n first bytes b3
-  stage3 = formed-stage n first within bytes b2 b3 whole stage2 only3
+    form-zero : (i : ℕ) → i < 32 → bad i ≡ false → held left i ≡ zero_sector
+    form-zero i less good = data-spared l FormedByte first unformed b2 left (those-length segment (is_unformed l bytes)) within end2 kept (first + i) (omega arith) (inl (λ e. cc)) ∙ zeros2 i less good
 
-  whole3 : length b3 ≡ image_len n
-  whole3 = let s = stage3 in s.size ∙ whole
+    form-kept : (i : ℕ) → i < 32 → formed bytes i ≡ true → formed left i ≡ true
+    form-kept i less is_formed =
+        ap (λ b. b == formed_byte) (byte-spared l FormedByte first unformed b2 left (those-length segment (is_unformed l bytes)) within end2 kept FormedByte (first + i) (omega arith)
+        (inr (not-chosen (is_unformed l bytes) i less (and-no (not (bad i)) (not (formed bytes i)) (not-no (formed bytes i) is_formed)))))
+        ∙ zeroed-formed b2 kept2 i less ∙ is_formed
 
-  formed3 : (i : ℕ) → i < 32 → (slice_index b3 (formed_place n (first + i)) == formed_byte) ≡ true
-  formed3 i less = by_chosen (get_or unformed i false) refl
+    form-torn : HalfFormatted segment (cartridge_of bytes) (cartridge_of left)
+    form-torn = opening-half left form-stage (λ i less. forming (bad i) (formed bytes i) (opened bytes i) (formed left i) (opened left i) (held bytes i) (held left i) (form-shut i less) (form-kept i less))
+
+  kept3 : Kept (OffChosen l FormedByte first unformed) b2 b3
+  kept3 = keeps FormedByte formed_byte (is_unformed l bytes) b2 end2
+
+  stage3 : Stage l first bytes b3
+  stage3 = form-stage b3 kept3
+
+  end3 : end_of l ≤ length b3
+  end3 = end-at b3 stage3
+
+  formed3 : (i : ℕ) → i < 32 → bad i ≡ false → formed b3 i ≡ true
+  formed3 i less good = by_formed (formed bytes i) refl
     where
-      at : formed_place n (first + i) ≡ formed_place n first + i
-      at = omega arith
-
-      not-false : (b : Bool) → not b ≡ false → b ≡ true
-      not-false true is = refl
-      not-false false is = cc
-
-      by_chosen : (holds : Bool) → get_or unformed i false ≡ holds → (slice_index b3 (formed_place n (first + i)) == formed_byte) ≡ true
-      by_chosen true chosen = let h = has3 in ap (λ k. slice_index b3 k == formed_byte) at ∙ ap (λ b. b == formed_byte) (h.chosen_are i chosen)
-      by_chosen false chosen =
-          let h = has3 in
-          ap (λ k. slice_index b3 k == formed_byte) at ∙ ap (λ b. b == formed_byte) (beyond-kept (formed_place n first) unformed b2 b3 i chosen h.beyond ∙ ap (slice_index b2) (sym at) ∙ formed2 i less)
-          ∙ not-false _ (sym (unformed-at i less) ∙ chosen)
-
-  zeros3 : (i : ℕ) → i < 32 → sector_bytes n b3 (first + i) ≡ zero_sector
-  zeros3 i less = bytes-same n (formed_place n first) 32 b2 b3 only3 whole2 (first + i) (omega arith) (inr (omega arith)) ∙ zeros2 i less
-
-  -- what a sector shows then, by its gate
-  gated3 : (left : List ℕ) → OnlyIn (gate_place first) 32 b3 left → (i : ℕ) → i < 32
-      → view_in n left (first + i) ≡ shown (slice_index bytes (defect_place n (first + i)) == defect_byte) (slice_index b3 (formed_place n (first + i)) == formed_byte) (slice_index left (gate_place (first + i)) == open_gate) zero_sector
-  gated3 left only i less =
-      gate-view n first 32 b3 left only whole3 within (first + i) (omega arith)
-      ∙ cell-is (slice_index b3 (defect_place n (first + i))) (slice_index bytes (defect_place n (first + i))) (slice_index b3 (formed_place n (first + i))) (slice_index b3 (formed_place n (first + i))) (slice_index left (gate_place (first + i))) (slice_index left (gate_place (first + i))) (sector_bytes n b3 (first + i)) zero_sector (let s = stage3 in s.defects (first + i) (omega arith)) refl refl (zeros3 i less)
+      by_formed : (f : Bool) → formed bytes i ≡ f → formed b3 i ≡ true
+      by_formed true was = form-kept b3 kept3 i less was
+      by_formed false was = ap (λ b. b == formed_byte) (filled FormedByte formed_byte (is_unformed l bytes) b2 end2 i less (not-both (bad i) (not (formed bytes i)) good ∙ ap not was) refl)
 
   -- the gates are opened
-  open-torn : (left : List ℕ) → TornRange (gate_place first) 32 b3 left → HalfFormatted segment (cartridge_of bytes) (cartridge_of left)
-  open-torn left torn =
-      let only = OnlyIn-torn (gate_place first) 32 b3 left torn in
-      half-opening left (gates-stage n first within bytes b3 left whole stage3 only) (λ i less.
-      opening-at left i _ _ (shown-is i) (gated3 left only i less) (opening (slice_index bytes (defect_place n (first + i)) == defect_byte) (slice_index bytes (formed_place n (first + i)) == formed_byte) (slice_index bytes (gate_place (first + i)) == open_gate) (slice_index b3 (formed_place n (first + i)) == formed_byte) (slice_index left (gate_place (first + i)) == open_gate) (sector_bytes n bytes (first + i)) (formed3 i less)))
-
-  abbrev all_open : List ℕ
-  all_open = replicate 32 open_gate
-
   abbrev b4 : List ℕ
-  b4 = overwritten b3 (gate_place first) all_open
+  b4 = after_steps (fill_writes l GateByte open_gate first usable 0) b3
 
-  only4 : OnlyIn (gate_place first) 32 b3 b4
-  only4 = OnlyIn-written (gate_place first) b3 all_open (let w = whole3 in omega arith)
+  module _ (left : List ℕ) (kept : Kept (OffChosen l GateByte first usable) b3 left) where
+    open-stage : Stage l first bytes left
+    open-stage = next-stage l GateByte first usable b3 left (those-length segment (is_usable l bytes)) within end3 kept bytes (λ e. cc) stage3
 
-  open4 : (i : ℕ) → i < 32 → (slice_index b4 (gate_place (first + i)) == open_gate) ≡ true
-  open4 i less =
-      let at : gate_place (first + i) ≡ gate_place first + i = omega arith in
-      let w = whole3 in
-      ap (λ k. slice_index b4 k == open_gate) at
-      ∙ ap (λ b. b == open_gate) (get_or-overwritten b3 all_open (gate_place first) i 0 (omega arith) (omega arith) ∙ get_or-replicate 32 i open_gate 0 less)
+    open-formed : (i : ℕ) → i < 32 → bad i ≡ false → formed left i ≡ true
+    open-formed i less good = ap (λ b. b == formed_byte) (byte-spared l GateByte first usable b3 left (those-length segment (is_usable l bytes)) within end3 kept FormedByte (first + i) (omega arith) (inl (λ e. cc))) ∙ formed3 i less good
+
+    open-zero : (i : ℕ) → i < 32 → bad i ≡ false → held left i ≡ zero_sector
+    open-zero i less good = data-spared l GateByte first usable b3 left (those-length segment (is_usable l bytes)) within end3 kept (first + i) (omega arith) (inl (λ e. cc)) ∙ form-zero b3 kept3 i less good
+
+    open-torn : HalfFormatted segment (cartridge_of bytes) (cartridge_of left)
+    open-torn = opening-half left open-stage (λ i less. opening (bad i) (formed bytes i) (opened bytes i) (formed left i) (opened left i) (held bytes i) (held left i) (open-formed i less) (open-zero i less))
+
+  kept4 : Kept (OffChosen l GateByte first usable) b3 b4
+  kept4 = keeps GateByte open_gate (is_usable l bytes) b3 end3
 
   formatted4 : cartridge_of b4 ≡ effect (FormatSegment segment) (cartridge_of bytes)
-  formatted4 =
-      all-formatted b4 (gates-stage n first within bytes b3 b4 whole stage3 only4) (λ i less.
-      gated3 b4 only4 i less
-      ∙ ap (λ f. shown (slice_index bytes (defect_place n (first + i)) == defect_byte) f (slice_index b4 (gate_place (first + i)) == open_gate) zero_sector) (formed3 i less)
-      ∙ ap (λ o. shown (slice_index bytes (defect_place n (first + i)) == defect_byte) true o zero_sector) (open4 i less)
-      ∙ formatted (slice_index bytes (defect_place n (first + i)) == defect_byte) (slice_index bytes (formed_place n (first + i)) == formed_byte) (slice_index bytes (gate_place (first + i)) == open_gate) (sector_bytes n bytes (first + i))
-      ∙ ap formatted_view (sym (shown-is i)))
+  formatted4 = all-formatted b4 (open-stage b4 kept4) (λ i less.
+      shows b4 (open-stage b4 kept4) i less
+      ∙ formatted (bad i) (formed bytes i) (opened bytes i) (formed b4 i) (opened b4 i) (held bytes i) (held b4 i) (open-formed b4 kept4 i less)
+      (λ good. ap (λ b. b == open_gate) (filled GateByte open_gate (is_usable l bytes) b3 end3 i less (ap not good) refl)) (open-zero b4 kept4 i less)
+      ∙ ap formatted_view (sym (shows bytes all-stage i less)))
+
+  abbrev f1 : List DiskStep
+  f1 = fill_writes l GateByte closed_gate first readable 0
+
+  abbrev f2 : List DiskStep
+  f2 = fill_writes l Data 0 first usable 0
+
+  abbrev f3 : List DiskStep
+  f3 = fill_writes l FormedByte formed_byte first unformed 0
+
+  abbrev f4 : List DiskStep
+  f4 = fill_writes l GateByte open_gate first usable 0
+
+  abbrev run : List DiskStep
+  run = synced f1 ++ (synced f2 ++ (synced f3 ++ synced f4))
 
   -- the call leaves the effect of its step, and a crash in it a stop of it
-  pub format-means : Means (format_segment_steps info.segments_per_track segment (slice_range bytes (gate_place (32 * segment)) (gate_place (32 * segment) + 32)) (slice_range bytes (formed_place info.segments_per_track (32 * segment)) (formed_place info.segments_per_track (32 * segment) + 32))) (FormatSegment segment ∷ []) bytes
+  pub format-means : Means (format_segment_steps l segment readable usable unformed) (FormatSegment segment ∷ []) bytes
   unfolding format_segment_steps
-  format-means = record {
-    done =
-        ap cartridge_of (after-chosen closed_gate (gate_place first) opens (put (sector_place n first) zero_segment ++ (put_chosen formed_byte (formed_place n first) unformed ++ put (gate_place first) all_open)) bytes
-        ∙ after-chosen formed_byte (formed_place n first) unformed (put (gate_place first) all_open) b2)
-        ∙ formatted4;
-    torn = λ left crashed.
-        elim (Crashed-chosen closed_gate (gate_place first) opens (put (sector_place n first) zero_segment ++ (put_chosen formed_byte (formed_place n first) unformed ++ put (gate_place first) all_open)) bytes left crashed) [
-          | inl torn ↦ inr (inl (gates-torn left torn))
-          | inr later ↦ elim (Crashed-put (sector_place n first) zero_segment b1 left (put_chosen formed_byte (formed_place n first) unformed ++ put (gate_place first) all_open) later) [
-            | inl torn ↦ inr (inl (zeros-torn left (subst (λ (count : ℕ). TornRange (sector_place n first) count b1 left) zero_segment-length torn)))
-            | inr later2 ↦ elim (Crashed-chosen formed_byte (formed_place n first) unformed (put (gate_place first) all_open) b2 left later2) [
-              | inl torn ↦ inr (inl (formed-torn left torn))
-              | inr later3 ↦ elim (Crashed-put (gate_place first) all_open b3 left [] later3) [
-                | inl torn ↦ inr (inl (open-torn left torn))
-                | inr none ↦ absurd none
+  format-means = record { done = ap cartridge_of ran ∙ formatted4; torn = torn }
+    where
+      ran : after_steps run bytes ≡ b4
+      ran =
+          after-both (synced f1) (synced f2 ++ (synced f3 ++ synced f4)) bytes ∙ ap (after_steps (synced f2 ++ (synced f3 ++ synced f4))) (after-synced f1 bytes)
+          ∙ after-both (synced f2) (synced f3 ++ synced f4) b1 ∙ ap (after_steps (synced f3 ++ synced f4)) (after-synced f2 b1)
+          ∙ after-both (synced f3) (synced f4) b2 ∙ ap (after_steps (synced f4)) (after-synced f3 b2)
+          ∙ after-synced f4 b3
+
+      torn : (left : List ℕ) → Crashed (λ b. b ≡ bytes) bytes run left → Torn (FormatSegment segment ∷ []) (cartridge_of bytes) (cartridge_of left)
+      torn left crashed =
+          elim (Crashed-synced f1 (synced f2 ++ (synced f3 ++ synced f4)) bytes left crashed) [
+            | inl in1 ↦ inr (inl (gates-torn left (fill-crash l GateByte closed_gate (length bytes) whole first readable (fits (is_open l bytes)) bytes left refl in1)))
+            | inr later1 ↦ elim (Crashed-synced f2 (synced f3 ++ synced f4) b1 left later1) [
+              | inl in2 ↦ inr (inl (zeroed-torn left (fill-crash l Data 0 (length b1) end1 first usable (fits (is_usable l bytes)) b1 left refl in2)))
+              | inr later2 ↦ elim (Crashed-synced f3 (synced f4) b2 left later2) [
+                | inl in3 ↦ inr (inl (form-torn left (fill-crash l FormedByte formed_byte (length b2) end2 first unformed (fits (is_unformed l bytes)) b2 left refl in3)))
+                | inr in4 ↦ inr (inl (open-torn left (fill-crash l GateByte open_gate (length b3) end3 first usable (fits (is_usable l bytes)) b3 left refl in4)))
               ]
             ]
           ]
-        ];
-  }

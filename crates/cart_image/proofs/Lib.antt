@@ -1,16 +1,20 @@
-pub mod Bytes
-pub mod Carries
-pub mod Changes
-pub mod Exits
-pub mod Formats
-pub mod Heads
-pub mod Infos
-pub mod Known
-pub mod Loops
-pub mod Renews
-pub mod Runs
-pub mod Sectors
-pub mod Sizes
-pub mod States
-pub mod Tapes
-pub mod Writes
+mod Bytes
+mod Carries
+mod Changes
+mod Copies
+mod Exits
+mod Fills
+mod Formats
+mod Heads
+mod Infos
+mod Known
+mod Laid
+mod Layouts
+mod Loops
+mod Renews
+mod Runs
+mod Sectors
+mod States
+mod Tapes
+mod Upgrades
+mod Writes

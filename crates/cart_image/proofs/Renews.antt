@@ -8,7 +8,6 @@ use Rattle.std.proofs.lemmas.List.Edits.{length-between, get_or-between}
 use Rattle.std.proofs.lemmas.Option.{unwrap_or-slice_get}
 use Rattle.qic_base.specs.declared.tape.SectorView.{SectorView}
 use Rattle.qic_base.specs.declared.tape.SectorView.TheVariants.{Blank}
-use Rattle.qic_base.specs.declared.tape.TapeInfo.{TapeInfo}
 use Rattle.qic_base.specs.declared.TheConstants.{LONGEST}
 use Rattle.qic_base.specs.Cartridge.{Cartridge, IsLength, new_cartridge}
 use Rattle.qic_base.specs.Disk.{DiskStep, TornRange, TornLength, resized}
@@ -16,10 +15,14 @@ use Rattle.qic_base.specs.Field.{little_endian_bytes, number_at, overwritten}
 use Rattle.qic_base.specs.Step.{Renew, effect}
 use Rattle.qic_base.specs.Stop.{Torn}
 use Rattle.qic_base.proofs.FieldLaws.{get_or-overwritten, length-overwritten}
-use Rattle.cart_image.specs.Layout.{signature, version, first_letter, head_len, sectors, image_len, formed_place, defect_place, new_head, put, resize, renew_steps}
-use Rattle.cart_image.specs.Image.{read_len, info_by, info_of, view_by, view_in, views_in, cartridge_of}
+use Rattle.cart_image.specs.declared.layout.Head.{Head}
+use Rattle.cart_image.specs.declared.layout.Kind.TheVariants.{Cells}
+use Rattle.cart_image.specs.declared.layout.Layout.{Layout}
+use Rattle.cart_image.specs.declared.layout.Part.TheVariants.{FormedByte, DefectByte}
+use Rattle.cart_image.specs.Layout.{signature, first_letter, head_len, sectors, image_len, place, new_head, put, resize, renew_steps}
+use Rattle.cart_image.specs.Image.{read_len, layout_by, head_by, head_of, view_by, view_in, views_in, cartridge_of, layout_of}
 use Rattle.cart_image.specs.Run.{after_steps, Crashed}
-use Rattle.cart_image.specs.Whole.{info-parts, and_true, cartridge_of-read, cartridge_of-none, length-views}
+use Rattle.cart_image.specs.Whole.{head_of-parts, cartridge_of-read, cartridge_of-none, layout_of-read, length-views}
 use Rattle.cart_image.proofs.Carries.{Means}
 use Rattle.cart_image.proofs.Bytes.{OnlyIn, OnlyIn-torn, OnlyIn-written, view_in-is}
 use Rattle.cart_image.proofs.Changes.{get_or-views}
@@ -28,43 +31,43 @@ use Rattle.cart_image.proofs.Sectors.{Crashed-put, byte-written}
 -- bytes of no image
 
 pub none-by-first : (bytes : List ℕ) → (slice_index bytes 0 == first_letter) ≡ false → cartridge_of bytes ≡ None
-none-by-first bytes other = by_info (info_of bytes) refl
+none-by-first bytes other = by_head (head_of bytes) refl
   where
-    by_info : (o : Option TapeInfo) → info_of bytes ≡ o → cartridge_of bytes ≡ None
-    by_info None is = cartridge_of-none bytes is
-    by_info (Some info) is =
-        let h = info-parts bytes info is in
-        let signed = and_true _ _ h.image in
-        let long = h.len_is in
-        let short = h.shortest in
-        let e : slice_range (slice_range bytes 0 read_len) 0 8 ≡ signature = (bytes_eq-Decides (slice_range (slice_range bytes 0 read_len) 0 8) signature).0 signed.0 in
-        let l = length-between bytes 0 14 (omega arith) in
+    by_head : (o : Option Head) → head_of bytes ≡ o → cartridge_of bytes ≡ None
+    by_head None is = cartridge_of-none bytes is
+    by_head (Some h) is =
+        let p = head_of-parts bytes h is in
+        let f = p.fits in
+        let long = f.long in
+        let short = f.shortest in
+        let e : slice_range (slice_range bytes 0 read_len) 0 8 ≡ signature = (bytes_eq-Decides (slice_range (slice_range bytes 0 read_len) 0 8) signature).0 p.signed in
+        let n = length-between bytes 0 24 (omega arith) in
         let q : slice_index bytes 0 ≡ first_letter =
-        sym (get_or-between (slice_range bytes 0 read_len) 0 8 0 0 (omega arith) ∙ get_or-between bytes 0 14 0 0 (omega arith))
+        sym (get_or-between (slice_range bytes 0 read_len) 0 8 0 0 (omega arith) ∙ get_or-between bytes 0 24 0 0 (omega arith))
         ∙ ap (λ xs. slice_index xs 0) e in
         let holds : (slice_index bytes 0 == first_letter) ≡ true = eq-eqb (slice_index bytes 0) first_letter q in cc
 
 none-by-length : (bytes : List ℕ) → length bytes ≡ 64 → cartridge_of bytes ≡ None
-none-by-length bytes short = by_info (info_of bytes) refl
+none-by-length bytes short = by_head (head_of bytes) refl
   where
-    by_info : (o : Option TapeInfo) → info_of bytes ≡ o → cartridge_of bytes ≡ None
-    by_info None is = cartridge_of-none bytes is
-    by_info (Some info) is =
-        let h = info-parts bytes info is in
-        let long = h.len_is in
-        let least = h.shortest in
+    by_head : (o : Option Head) → head_of bytes ≡ o → cartridge_of bytes ≡ None
+    by_head None is = cartridge_of-none bytes is
+    by_head (Some h) is =
+        let f = (head_of-parts bytes h is).fits in
+        let long = f.long in
+        let least = f.shortest in
         absurd (omega arith)
 
 -- a new length
 
-length-resized : (n : ℕ) (bytes : List ℕ) → length (resized n bytes) ≡ n
+pub length-resized : (n : ℕ) (bytes : List ℕ) → length (resized n bytes) ≡ n
 length-resized n bytes =
     let a = length-append (take n bytes) (replicate (n - length bytes) 0) in
     let t = length-take n bytes in
     let r : length (replicate (n - length bytes) 0) ≡ n - length bytes = length-replicate {A = ℕ} (n - length bytes) 0 in
     omega (arith, a, t, r)
 
-get_or-resized : (n : ℕ) (bytes : List ℕ) (k : ℕ) → k < n → get_or (resized n bytes) k 0 ≡ get_or bytes k 0
+pub get_or-resized : (n : ℕ) (bytes : List ℕ) (k : ℕ) → k < n → get_or (resized n bytes) k 0 ≡ get_or bytes k 0
 get_or-resized n bytes k less =
     let t = length-take n bytes in
     ⊎_elim
@@ -75,7 +78,7 @@ get_or-resized n bytes k less =
     ∙ sym (get_or_past bytes k 0 past)) (cases_lt k (length bytes))
 
 -- a crash in a new length, or behind it
-Crashed-resize : (n : ℕ) (bytes left : List ℕ) (rest : List DiskStep) → Crashed (λ b. b ≡ bytes) bytes (resize n ++ rest) left
+pub Crashed-resize : (n : ℕ) (bytes left : List ℕ) (rest : List DiskStep) → Crashed (λ b. b ≡ bytes) bytes (resize n ++ rest) left
     → (left ≡ bytes) ⊎ TornLength n bytes left ⊎ Crashed (λ b. b ≡ resized n bytes) (resized n bytes) rest left
 Crashed-resize n bytes left rest (inl inside) = by_torn inside.0 inside.1 inside.2
   where
@@ -113,49 +116,55 @@ module _ (n : ℕ) (long : IsLength n) where
     at_head : (k : ℕ) → k < 64 → slice_index bytes k ≡ slice_index head k
     behind : (k : ℕ) → 64 ≤ k → slice_index bytes k ≡ 0
 
+  abbrev new_layout : Layout
+  new_layout = record { segments_per_track = n; kind = Cells }
+
+  abbrev new_told : Head
+  new_told = record { layout = new_layout; protected = false; referenced = false }
+
   new-head : (bytes : List ℕ) → IsNew bytes → slice_range bytes 0 read_len ≡ slice_range head 0 read_len
   new-head bytes new =
       let s = new.size in
       let h = head-length in
-      let a = length-between bytes 0 14 (omega arith) in
-      let b = length-between head 0 14 (omega arith) in
+      let a = length-between bytes 0 24 (omega arith) in
+      let b = length-between head 0 24 (omega arith) in
       same_lists _ _ (a ∙ sym b) (λ k d less.
       let zero_k : 0 + k ≡ k = omega arith in
-      get_or-between bytes 0 14 k d (omega arith) ∙ get_or_default bytes (0 + k) d 0 (omega arith)
+      get_or-between bytes 0 24 k d (omega arith) ∙ get_or_default bytes (0 + k) d 0 (omega arith)
       ∙ ap (slice_index bytes) zero_k ∙ new.at_head k (omega arith) ∙ ap (slice_index head) (sym zero_k)
-      ∙ get_or_default head (0 + k) 0 d (omega arith) ∙ sym (get_or-between head 0 14 k d (omega arith)))
+      ∙ get_or_default head (0 + k) 0 d (omega arith) ∙ sym (get_or-between head 0 24 k d (omega arith)))
 
   number : n % 256 + 256 * (n / 256 % 256 + 256 * 0) ≡ n
   number = let h = long.longest in omega arith
 
-  new-info : info_by whole (slice_range head 0 read_len) ≡ Some (record { segments_per_track = n; protected = false; referenced = false })
-  unfolding info_by little_endian_bytes number_at
-  new-info =
+  new-told : head_by whole (slice_range head 0 read_len) ≡ Some new_told
+  unfolding layout_by little_endian_bytes number_at
+  new-told =
       let least = le-leb 3 n long.shortest in
       let most = le-leb n LONGEST long.longest in
-      let same = eq-eqb whole whole refl in
-      rw (number, least, most, same) refl
+      let fits = le-leb whole whole (omega arith) in
+      rw (number, least, most, fits) refl
 
-  new-views : (bytes : List ℕ) → IsNew bytes → views_in n bytes ≡ replicate (896 * n) Blank
+  new-views : (bytes : List ℕ) → IsNew bytes → views_in new_layout bytes ≡ replicate (896 * n) Blank
   new-views bytes new =
-      same_lists _ _ (length-views n bytes ∙ sym (length-replicate (896 * n) Blank)) (λ k d less.
-      let there : k < sectors n = let l = length-views n bytes in omega arith in
-      get_or-views n bytes k d there ∙ blank k there ∙ sym (get_or-replicate (896 * n) k Blank d there))
+      same_lists _ _ (length-views new_layout bytes ∙ sym (length-replicate (896 * n) Blank)) (λ k d less.
+      let there : k < sectors n = let v = length-views new_layout bytes in omega arith in
+      get_or-views new_layout bytes k d there ∙ blank k there ∙ sym (get_or-replicate (896 * n) k Blank d there))
     where
       by_bytes : (d f g : ℕ) (s : List ℕ) → d ≡ 0 → f ≡ 0 → view_by d f g s ≡ Blank
       by_bytes d f g s p q = rw (p, q) refl
 
-      blank : (k : ℕ) → k < sectors n → view_in n bytes k ≡ Blank
-      blank k there = view_in-is n bytes k ∙ by_bytes _ _ _ _ (new.behind (defect_place n k) (omega arith)) (new.behind (formed_place n k) (omega arith))
+      blank : (k : ℕ) → k < sectors n → view_in new_layout bytes k ≡ Blank
+      blank k there = view_in-is new_layout bytes k ∙ by_bytes _ _ _ _ (new.behind (place new_layout DefectByte k) (omega arith)) (new.behind (place new_layout FormedByte k) (omega arith))
+
+  head-new : (bytes : List ℕ) → IsNew bytes → head_of bytes ≡ Some new_told
+  unfolding head_of
+  head-new bytes new = ap (λ len. head_by len (slice_range bytes 0 read_len)) new.size ∙ ap (head_by whole) (new-head bytes new) ∙ new-told
 
   reads-new : (bytes : List ℕ) → IsNew bytes → cartridge_of bytes ≡ Some (new_cartridge n)
-  unfolding info_of
   reads-new bytes new =
-      cartridge_of-read bytes (record { segments_per_track = n; protected = false; referenced = false }) (info bytes new)
-      ∙ ap (λ (vs : List SectorView). Some (record { info = record { segments_per_track = n; protected = false; referenced = false }; version = version; views = vs })) (new-views bytes new)
-    where
-      info : (bytes : List ℕ) → IsNew bytes → info_of bytes ≡ Some (record { segments_per_track = n; protected = false; referenced = false })
-      info bytes new = ap (λ len. info_by len (slice_range bytes 0 read_len)) new.size ∙ ap (info_by whole) (new-head bytes new) ∙ new-info
+      cartridge_of-read bytes new_told (head-new bytes new)
+      ∙ ap (λ (vs : List SectorView). Some (record { info = record { segments_per_track = n; protected = false; referenced = false }; version = 2; views = vs })) (new-views bytes new)
 
   module _ (b0 : List ℕ) (other : (slice_index b0 0 == first_letter) ≡ false) where
     abbrev b5 : List ℕ
@@ -258,6 +267,9 @@ module _ (n : ℕ) (long : IsLength n) where
     tail-done : cartridge_of (after_steps tail_steps b0) ≡ Some (new_cartridge n)
     tail-done = reads-new b8 new8
 
+    tail-laid : layout_of (after_steps tail_steps b0) ≡ Some new_layout
+    tail-laid = layout_of-read b8 new_told (head-new b8 new8)
+
     tail-torn : (left : List ℕ) → Crashed (λ b. b ≡ b0) b0 tail_steps left → (cartridge_of left ≡ None) ⊎ (cartridge_of left ≡ Some (new_cartridge n))
     tail-torn left crashed =
         elim (Crashed-resize head_len b0 left (resize whole ++ (put 1 (drop 1 head) ++ put 0 (first_letter ∷ []))) crashed) [
@@ -324,3 +336,12 @@ module _ (n : ℕ) (long : IsLength n) where
   pub renew-means : (bytes : List ℕ) → Means (renew_steps n (slice_index bytes 0)) (Renew n ∷ []) bytes
   unfolding renew_steps
   renew-means bytes = renew-by bytes (slice_index bytes 0 == first_letter) refl
+
+  -- .. in the layout of new ones
+  laid-by : (bytes : List ℕ) (q : Bool) → (slice_index bytes 0 == first_letter) ≡ q → layout_of (after_steps (with-first q) bytes) ≡ Some new_layout
+  laid-by bytes false is = tail-laid bytes is
+  laid-by bytes true is = tail-laid (overwritten bytes 0 (0 ∷ [])) (ap (λ b. b == first_letter) (byte-written bytes 0 0 (omega arith)))
+
+  pub renew-laid : (bytes : List ℕ) → layout_of (after_steps (renew_steps n (slice_index bytes 0)) bytes) ≡ Some (record { segments_per_track = n; kind = Cells })
+  unfolding renew_steps
+  renew-laid bytes = laid-by bytes (slice_index bytes 0 == first_letter) refl

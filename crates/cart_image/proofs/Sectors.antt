@@ -1,22 +1,25 @@
 -- What the writes of the calls of one sector make of the cartridge, at the end and in a crash.
 use Rattle.std.proofs.Common.{◌≡◌, ◌≢◌, ℕ, ◌+◌, ◌<◌, ◌≤◌, ◌⊎◌, inl, inr, Bool, true, false, List, [], ◌∷◌, ◌++◌, length, refl, sym, ◌∙◌, ap, arith, Some, subst}
-use Rattle.std.specs.Prelude.{slice_index, slice_range, ◌==◌, if◌then◌else◌}
+use Rattle.std.specs.Prelude.{slice_index, ◌==◌, if◌then◌else◌}
 use Rattle.qic_base.specs.declared.tape.SectorView.{SectorView}
 use Rattle.qic_base.specs.declared.tape.SectorView.TheVariants.{Blank, Defect, Lost, Holds}
-use Rattle.qic_base.specs.declared.tape.TapeInfo.{TapeInfo}
 use Rattle.qic_base.specs.Cartridge.{Cartridge, with_view, view_at, place_of}
 use Rattle.qic_base.specs.Disk.{DiskStep, TornRange}
 use Rattle.qic_base.specs.Field.{overwritten}
 use Rattle.qic_base.specs.Step.{Step, WriteSector, Wear, Spoil, effect, written_view, worn_view, spoiled_view}
 use Rattle.qic_base.specs.Stop.{Torn}
 use Rattle.qic_base.proofs.FieldLaws.{get_or-overwritten, slice_range-overwritten}
-use Rattle.cart_image.specs.Layout.{sectors, gate_place, formed_place, defect_place, sector_place, image_len, open_gate, closed_gate, formed_byte, defect_byte, put, write_sector_steps, wear_steps, spoil_steps}
-use Rattle.cart_image.specs.Image.{info_of, view_by, view_in, cartridge_of}
+use Rattle.cart_image.specs.declared.layout.Head.{Head}
+use Rattle.cart_image.specs.declared.layout.Layout.{Layout}
+use Rattle.cart_image.specs.declared.layout.Part.TheVariants.{GateByte, FormedByte, DefectByte, Data}
+use Rattle.cart_image.specs.Layout.{sectors, place, end_of, open_gate, closed_gate, formed_byte, defect_byte, put, write_sector_steps, wear_steps, spoil_steps}
+use Rattle.cart_image.specs.Image.{head_of, view_by, view_in, sector_bytes, read_as, cartridge_of}
 use Rattle.cart_image.specs.Run.{Crashed}
+use Rattle.cart_image.specs.Whole.{cartridge_of-read}
 use Rattle.cart_image.proofs.Carries.{Means}
-use Rattle.cart_image.proofs.Bytes.{OnlyIn, OnlyIn-torn, OnlyIn-written, range-same, gate-view, defect-view, bytes-view, view_in-is}
-use Rattle.cart_image.specs.Whole.{read_as, cartridge_of-read}
-use Rattle.cart_image.proofs.Changes.{Beside, Beside-all, Beside-Beside, Beside-gate, Beside-defect, Beside-bytes, cartridge-beside, same-view, view_at-read}
+use Rattle.cart_image.proofs.Bytes.{OnlyIn, OnlyIn-torn, OnlyIn-written, byte-kept, data-kept, gate-view, defect-view, bytes-view, view_in-is}
+use Rattle.cart_image.proofs.Changes.{Beside, Beside-all, Beside-Beside, Beside-part, cartridge-beside, same-view, view_at-read}
+use Rattle.cart_image.proofs.Layouts.{laid_out}
 
 -- a crash in a put, or behind it
 pub Crashed-put : (place : ℕ) (part bytes left : List ℕ) (rest : List DiskStep) → Crashed (λ b. b ≡ bytes) bytes (put place part ++ rest) left
@@ -39,65 +42,70 @@ byte-written bytes place value within =
     ap (λ k. slice_index (overwritten bytes place (value ∷ [])) k) here ∙ get_or-overwritten bytes (value ∷ []) place 0 0 within (omega arith)
 
 -- .. with its gate and its bytes
-record Formed (n sector : ℕ) (bytes : List ℕ) (gate : ℕ) (holds : List ℕ) : Type 0 where
-  whole : length bytes ≡ image_len n
-  defect : (slice_index bytes (defect_place n sector) == defect_byte) ≡ false
-  formed : (slice_index bytes (formed_place n sector) == formed_byte) ≡ true
-  gate_is : slice_index bytes (gate_place sector) ≡ gate
-  holds_is : slice_range bytes (sector_place n sector) (sector_place n sector + 1024) ≡ holds
+record Formed (l : Layout) (sector : ℕ) (bytes : List ℕ) (gate : ℕ) (holds : List ℕ) : Type 0 where
+  whole : end_of l ≤ length bytes
+  defect : (slice_index bytes (place l DefectByte sector) == defect_byte) ≡ false
+  formed : (slice_index bytes (place l FormedByte sector) == formed_byte) ≡ true
+  gate_is : slice_index bytes (place l GateByte sector) ≡ gate
+  holds_is : sector_bytes l bytes sector ≡ holds
 
-view-gated : {n sector : ℕ} {bytes : List ℕ} {gate : ℕ} {holds : List ℕ} → Formed n sector bytes gate holds → view_in n bytes sector ≡ gated gate holds
-view-gated {n = n} {sector = sector} {bytes = bytes} f =
-    view_in-is n bytes sector ∙ view_by-gated _ _ _ _ f.defect f.formed ∙ ap (λ g. gated g (slice_range bytes (sector_place n sector) (sector_place n sector + 1024))) f.gate_is ∙ ap (gated _) f.holds_is
+view-gated : {l : Layout} {sector : ℕ} {bytes : List ℕ} {gate : ℕ} {holds : List ℕ} → Formed l sector bytes gate holds → view_in l bytes sector ≡ gated gate holds
+view-gated {l = l} {sector = sector} {bytes = bytes} f =
+    view_in-is l bytes sector ∙ view_by-gated _ _ _ _ f.defect f.formed ∙ ap (λ g. gated g (sector_bytes l bytes sector)) f.gate_is ∙ ap (gated _) f.holds_is
 
-module _ (n sector : ℕ) (on : sector < sectors n) (bytes : List ℕ) (gate : ℕ) (holds : List ℕ) (f : Formed n sector bytes gate holds) where
-  gate-onlyin : (value : ℕ) → OnlyIn (gate_place sector) 1 bytes (overwritten bytes (gate_place sector) (value ∷ []))
-  gate-onlyin value = OnlyIn-written (gate_place sector) bytes (value ∷ []) (let w = f.whole in omega arith)
+module _ (l : Layout) (sector : ℕ) (on : sector < sectors l.segments_per_track) (bytes : List ℕ) (gate : ℕ) (holds : List ℕ) (f : Formed l sector bytes gate holds) where
+  gate-onlyin : (value : ℕ) → OnlyIn (place l GateByte sector) 1 bytes (overwritten bytes (place l GateByte sector) (value ∷ []))
+  gate-onlyin value = OnlyIn-written (place l GateByte sector) bytes (value ∷ []) (let w = f.whole in let b = (laid_out l).before GateByte sector on in omega arith)
 
-  gate-put : (value : ℕ) → Formed n sector (overwritten bytes (gate_place sector) (value ∷ [])) value holds
+  gate-put : (value : ℕ) → Formed l sector (overwritten bytes (place l GateByte sector) (value ∷ [])) value holds
   gate-put value =
       let only = gate-onlyin value in
       let w = f.whole in
+      let size = only.size in
+      let b = (laid_out l).before GateByte sector on in
       record {
-        whole = only.size ∙ f.whole;
-        defect = ap (λ b. b == defect_byte) (only.above (defect_place n sector) (omega arith)) ∙ f.defect;
-        formed = ap (λ b. b == formed_byte) (only.above (formed_place n sector) (omega arith)) ∙ f.formed;
-        gate_is = byte-written bytes (gate_place sector) value (omega arith);
-        holds_is = range-same bytes (overwritten bytes (gate_place sector) (value ∷ [])) (sector_place n sector) (sector_place n sector + 1024) only.size (omega arith) (omega arith) (λ k h l. only.above k (omega arith)) ∙ f.holds_is;
+        whole = omega arith;
+        defect = ap (λ b. b == defect_byte) (byte-kept l GateByte sector bytes _ only w on DefectByte sector on (inl (λ e. cc))) ∙ f.defect;
+        formed = ap (λ b. b == formed_byte) (byte-kept l GateByte sector bytes _ only w on FormedByte sector on (inl (λ e. cc))) ∙ f.formed;
+        gate_is = byte-written bytes (place l GateByte sector) value (omega arith);
+        holds_is = data-kept l GateByte sector bytes _ only w on sector on (inl (λ e. cc)) ∙ f.holds_is;
       }
 
-  gate-torn : (left : List ℕ) → TornRange (gate_place sector) 1 bytes left → (view_in n left sector ≡ Lost) ⊎ (view_in n left sector ≡ Holds holds)
+  gate-torn : (left : List ℕ) → TornRange (place l GateByte sector) 1 bytes left → (view_in l left sector ≡ Lost) ⊎ (view_in l left sector ≡ Holds holds)
   gate-torn left torn =
-      let shown : view_in n left sector ≡ gated (slice_index left (gate_place sector)) holds =
-      gate-view n sector 1 bytes left (OnlyIn-torn _ _ _ _ torn) f.whole (omega arith) sector on ∙ view_by-gated _ _ _ _ f.defect f.formed ∙ ap (gated _) f.holds_is in
-      by_gate (slice_index left (gate_place sector) == open_gate) refl shown
+      let shown : view_in l left sector ≡ gated (slice_index left (place l GateByte sector)) holds =
+      gate-view l sector bytes left (OnlyIn-torn _ _ _ _ torn) f.whole on ∙ view_by-gated _ _ _ _ f.defect f.formed ∙ ap (gated _) f.holds_is in
+      by_gate (slice_index left (place l GateByte sector) == open_gate) refl shown
     where
-      by_gate : (opens : Bool) → (slice_index left (gate_place sector) == open_gate) ≡ opens → view_in n left sector ≡ gated (slice_index left (gate_place sector)) holds → (view_in n left sector ≡ Lost) ⊎ (view_in n left sector ≡ Holds holds)
+      by_gate : (opens : Bool) → (slice_index left (place l GateByte sector) == open_gate) ≡ opens → view_in l left sector ≡ gated (slice_index left (place l GateByte sector)) holds → (view_in l left sector ≡ Lost) ⊎ (view_in l left sector ≡ Holds holds)
       by_gate true is shown = inr (shown ∙ ap (λ b. if b then Holds holds else Lost) is)
       by_gate false is shown = inl (shown ∙ ap (λ b. if b then Holds holds else Lost) is)
 
-  bytes-put : (part : List ℕ) → length part ≡ 1024 → Formed n sector (overwritten bytes (sector_place n sector) part) gate part
-  bytes-put part long =
-      let w = f.whole in
-      let only = OnlyIn-written (sector_place n sector) bytes part (omega arith) in
-      record {
-        whole = only.size ∙ f.whole;
-        defect = ap (λ b. b == defect_byte) (only.below (defect_place n sector) (omega arith)) ∙ f.defect;
-        formed = ap (λ b. b == formed_byte) (only.below (formed_place n sector) (omega arith)) ∙ f.formed;
-        gate_is = only.below (gate_place sector) (omega arith) ∙ f.gate_is;
-        holds_is = slice_range-overwritten bytes part (sector_place n sector) (sector_place n sector + 1024) (omega arith) (omega arith);
-      }
-
-  bytes-onlyin : (part : List ℕ) → length part ≡ 1024 → OnlyIn (sector_place n sector) 1024 bytes (overwritten bytes (sector_place n sector) part)
+  bytes-onlyin : (part : List ℕ) → length part ≡ 1024 → OnlyIn (place l Data sector) 1024 bytes (overwritten bytes (place l Data sector) part)
   bytes-onlyin part long =
       let w = f.whole in
-      subst (λ (count : ℕ). OnlyIn (sector_place n sector) count bytes (overwritten bytes (sector_place n sector) part)) long (OnlyIn-written (sector_place n sector) bytes part (omega arith))
+      let b = (laid_out l).before Data sector on in
+      subst (λ (count : ℕ). OnlyIn (place l Data sector) count bytes (overwritten bytes (place l Data sector) part)) long (OnlyIn-written (place l Data sector) bytes part (omega arith))
 
-  bytes-torn : (left : List ℕ) → (gate == open_gate) ≡ false → TornRange (sector_place n sector) 1024 bytes left → view_in n left sector ≡ Lost
+  bytes-put : (part : List ℕ) → length part ≡ 1024 → Formed l sector (overwritten bytes (place l Data sector) part) gate part
+  bytes-put part long =
+      let w = f.whole in
+      let only = bytes-onlyin part long in
+      let size = only.size in
+      let b = (laid_out l).before Data sector on in
+      record {
+        whole = omega arith;
+        defect = ap (λ b. b == defect_byte) (byte-kept l Data sector bytes _ only w on DefectByte sector on (inl (λ e. cc))) ∙ f.defect;
+        formed = ap (λ b. b == formed_byte) (byte-kept l Data sector bytes _ only w on FormedByte sector on (inl (λ e. cc))) ∙ f.formed;
+        gate_is = byte-kept l Data sector bytes _ only w on GateByte sector on (inl (λ e. cc)) ∙ f.gate_is;
+        holds_is = slice_range-overwritten bytes part (place l Data sector) (place l Data sector + 1024) (omega arith) (omega arith);
+      }
+
+  bytes-torn : (left : List ℕ) → (gate == open_gate) ≡ false → TornRange (place l Data sector) 1024 bytes left → view_in l left sector ≡ Lost
   bytes-torn left closed torn =
-      bytes-view n sector 1 bytes left (OnlyIn-torn _ _ _ _ torn) f.whole (omega arith) sector on ∙ view_by-gated _ _ _ _ f.defect f.formed
-      ∙ ap (λ g. gated g (slice_range left (sector_place n sector) (sector_place n sector + 1024))) f.gate_is
-      ∙ ap (λ b. if b then Holds (slice_range left (sector_place n sector) (sector_place n sector + 1024)) else Lost) closed
+      bytes-view l sector bytes left (OnlyIn-torn _ _ _ _ torn) f.whole on ∙ view_by-gated _ _ _ _ f.defect f.formed
+      ∙ ap (λ g. gated g (sector_bytes l left sector)) f.gate_is
+      ∙ ap (λ b. if b then Holds (sector_bytes l left sector) else Lost) closed
 
 -- from its view
 formed_by : (bd bf bg : Bool) (s : List ℕ) (v : SectorView) → (if bd then Defect else (if bf then (if bg then Holds s else Lost) else Blank)) ≡ v → v ≢ Blank → v ≢ Defect
@@ -123,38 +131,38 @@ blank_by false false bg s is = (refl, refl)
 view_by-blank : (d f g : ℕ) (bytes : List ℕ) → (f == formed_byte) ≡ false → view_by d f g bytes ≡ (if d == defect_byte then Defect else Blank)
 view_by-blank d f g bytes p = rw p refl
 
-module _ (info : TapeInfo) (bytes : List ℕ) (segment sector : ℕ) (is : info_of bytes ≡ Some info) (whole : length bytes ≡ image_len info.segments_per_track) (on : place_of segment sector < sectors info.segments_per_track) where
-  formed-here : (v : SectorView) → view_in info.segments_per_track bytes (place_of segment sector) ≡ v → v ≢ Blank → v ≢ Defect
-      → Formed info.segments_per_track (place_of segment sector) bytes (slice_index bytes (gate_place (place_of segment sector))) (slice_range bytes (sector_place info.segments_per_track (place_of segment sector)) (sector_place info.segments_per_track (place_of segment sector) + 1024))
-      × (gated (slice_index bytes (gate_place (place_of segment sector))) (slice_range bytes (sector_place info.segments_per_track (place_of segment sector)) (sector_place info.segments_per_track (place_of segment sector) + 1024)) ≡ v)
+module _ (head : Head) (bytes : List ℕ) (segment sector : ℕ) (is : head_of bytes ≡ Some head) (whole : end_of head.layout ≤ length bytes) (on : place_of segment sector < sectors head.layout.segments_per_track) where
+  formed-here : (v : SectorView) → view_in head.layout bytes (place_of segment sector) ≡ v → v ≢ Blank → v ≢ Defect
+      → Formed head.layout (place_of segment sector) bytes (slice_index bytes (place head.layout GateByte (place_of segment sector))) (sector_bytes head.layout bytes (place_of segment sector))
+      × (gated (slice_index bytes (place head.layout GateByte (place_of segment sector))) (sector_bytes head.layout bytes (place_of segment sector)) ≡ v)
   formed-here v view blank defect =
-      let f = formed_by _ _ _ _ v (sym (view_in-is info.segments_per_track bytes (place_of segment sector)) ∙ view) blank defect in
+      let f = formed_by _ _ _ _ v (sym (view_in-is head.layout bytes (place_of segment sector)) ∙ view) blank defect in
       (record { whole = whole; defect = f.0; formed = f.1; gate_is = refl; holds_is = refl }, f.2)
 
   -- what the cartridge is with another view there
-  pub becomes : (left : List ℕ) (view : SectorView) → Beside info.segments_per_track (place_of segment sector) bytes left → view_in info.segments_per_track left (place_of segment sector) ≡ view → cartridge_of left ≡ Some (with_view (read_as info bytes) segment sector view)
-  becomes left view beside now = cartridge-beside info segment sector bytes left view is on beside now
+  pub becomes : (left : List ℕ) (view : SectorView) → Beside head.layout (place_of segment sector) bytes left → view_in head.layout left (place_of segment sector) ≡ view → cartridge_of left ≡ Some (with_view (read_as head bytes) segment sector view)
+  becomes left view beside now = cartridge-beside head segment sector bytes left view is on beside now
 
   -- the view there
-  pub viewed : (v : SectorView) → view_in info.segments_per_track bytes (place_of segment sector) ≡ v → view_at (read_as info bytes) segment sector ≡ v
-  viewed v view = view_at-read info bytes segment sector on ∙ view
+  pub viewed : (v : SectorView) → view_in head.layout bytes (place_of segment sector) ≡ v → view_at (read_as head bytes) segment sector ≡ v
+  viewed v view = view_at-read head bytes segment sector on ∙ view
 
-  pub stays : (v : SectorView) → view_in info.segments_per_track bytes (place_of segment sector) ≡ v → Some (with_view (read_as info bytes) segment sector v) ≡ cartridge_of bytes
-  stays v view = ap Some (same-view info bytes segment sector v on view) ∙ sym (cartridge_of-read bytes info is)
+  pub stays : (v : SectorView) → view_in head.layout bytes (place_of segment sector) ≡ v → Some (with_view (read_as head bytes) segment sector v) ≡ cartridge_of bytes
+  stays v view = ap Some (same-view head bytes segment sector v on view) ∙ sym (cartridge_of-read bytes head is)
 
   -- a step that puts in the view f of the view there
   pub put-view : (s : Step) (f : SectorView → SectorView) (v : SectorView) → ((c : Cartridge) → effect s (Some c) ≡ Some (with_view c segment sector (f (view_at c segment sector))))
-      → view_in info.segments_per_track bytes (place_of segment sector) ≡ v → Some (with_view (read_as info bytes) segment sector (f v)) ≡ effect s (cartridge_of bytes)
+      → view_in head.layout bytes (place_of segment sector) ≡ v → Some (with_view (read_as head bytes) segment sector (f v)) ≡ effect s (cartridge_of bytes)
   put-view s f v puts view =
-      ap (λ w. Some (with_view (read_as info bytes) segment sector (f w))) (sym (viewed v view)) ∙ sym (puts (read_as info bytes)) ∙ ap (effect s) (sym (cartridge_of-read bytes info is))
+      ap (λ w. Some (with_view (read_as head bytes) segment sector (f w))) (sym (viewed v view)) ∙ sym (puts (read_as head bytes)) ∙ ap (effect s) (sym (cartridge_of-read bytes head is))
 
   -- writing a sector: it stays, or is lost, or holds the new bytes
   module _ (from : List ℕ) (long : length from ≡ 1024) where
-    write-ends : (left : List ℕ) (v w : SectorView) → view_in info.segments_per_track bytes (place_of segment sector) ≡ v → v ≢ Blank → v ≢ Defect → Beside info.segments_per_track (place_of segment sector) bytes left
-        → view_in info.segments_per_track left (place_of segment sector) ≡ w → (w ≡ v) ⊎ (w ≡ Lost) ⊎ (w ≡ Holds from) → Torn (WriteSector segment sector from ∷ []) (cartridge_of bytes) (cartridge_of left)
+    write-ends : (left : List ℕ) (v w : SectorView) → view_in head.layout bytes (place_of segment sector) ≡ v → v ≢ Blank → v ≢ Defect → Beside head.layout (place_of segment sector) bytes left
+        → view_in head.layout left (place_of segment sector) ≡ w → (w ≡ v) ⊎ (w ≡ Lost) ⊎ (w ≡ Holds from) → Torn (WriteSector segment sector from ∷ []) (cartridge_of bytes) (cartridge_of left)
     write-ends left v w view blank defect beside now (inl old) = inl (becomes left v beside (now ∙ old) ∙ stays v view)
     write-ends left v w view blank defect beside now (inr (inl lost)) =
-        inr (inl (becomes left Lost beside (now ∙ lost) ∙ ap (λ u. Some (with_view (read_as info bytes) segment sector u)) (sym (worn v blank defect)) ∙ put-view (Wear segment sector) worn_view v (λ c. refl) view))
+        inr (inl (becomes left Lost beside (now ∙ lost) ∙ ap (λ u. Some (with_view (read_as head bytes) segment sector u)) (sym (worn v blank defect)) ∙ put-view (Wear segment sector) worn_view v (λ c. refl) view))
       where
         worn : (v : SectorView) → v ≢ Blank → v ≢ Defect → worn_view v ≡ Lost
         worn Blank blank defect = absurd (blank refl)
@@ -162,7 +170,7 @@ module _ (info : TapeInfo) (bytes : List ℕ) (segment sector : ℕ) (is : info_
         worn Lost blank defect = refl
         worn (Holds old) blank defect = refl
     write-ends left v w view blank defect beside now (inr (inr new)) =
-        inr (inr (becomes left (Holds from) beside (now ∙ new) ∙ ap (λ u. Some (with_view (read_as info bytes) segment sector u)) (sym (written v blank defect)) ∙ put-view (WriteSector segment sector from) (written_view from) v (λ c. refl) view))
+        inr (inr (becomes left (Holds from) beside (now ∙ new) ∙ ap (λ u. Some (with_view (read_as head bytes) segment sector u)) (sym (written v blank defect)) ∙ put-view (WriteSector segment sector from) (written_view from) v (λ c. refl) view))
       where
         written : (v : SectorView) → v ≢ Blank → v ≢ Defect → written_view from v ≡ Holds from
         written Blank blank defect = absurd (blank refl)
@@ -171,41 +179,41 @@ module _ (info : TapeInfo) (bytes : List ℕ) (segment sector : ℕ) (is : info_
         written (Holds old) blank defect = refl
 
     -- the writes behind a closed gate
-    write-tail : (s : List ℕ) (g : ℕ) (h : List ℕ) → Formed info.segments_per_track (place_of segment sector) s g h → (g == open_gate) ≡ false → Beside info.segments_per_track (place_of segment sector) bytes s → (left : List ℕ)
-        → Crashed (λ b. b ≡ s) s (put (sector_place info.segments_per_track (place_of segment sector)) from ++ put (gate_place (place_of segment sector)) (open_gate ∷ [])) left
-        → Beside info.segments_per_track (place_of segment sector) bytes left × ((view_in info.segments_per_track left (place_of segment sector) ≡ Lost) ⊎ (view_in info.segments_per_track left (place_of segment sector) ≡ Holds from))
+    write-tail : (s : List ℕ) (g : ℕ) (h : List ℕ) → Formed head.layout (place_of segment sector) s g h → (g == open_gate) ≡ false → Beside head.layout (place_of segment sector) bytes s → (left : List ℕ)
+        → Crashed (λ b. b ≡ s) s (put (place head.layout Data (place_of segment sector)) from ++ put (place head.layout GateByte (place_of segment sector)) (open_gate ∷ [])) left
+        → Beside head.layout (place_of segment sector) bytes left × ((view_in head.layout left (place_of segment sector) ≡ Lost) ⊎ (view_in head.layout left (place_of segment sector) ≡ Holds from))
     write-tail s g h f closed beside left crashed =
-        elim (Crashed-put (sector_place info.segments_per_track (place_of segment sector)) from s left (put (gate_place (place_of segment sector)) (open_gate ∷ [])) crashed) [
+        elim (Crashed-put (place head.layout Data (place_of segment sector)) from s left (put (place head.layout GateByte (place_of segment sector)) (open_gate ∷ [])) crashed) [
           | inl torn ↦
-              let at_once : TornRange (sector_place info.segments_per_track (place_of segment sector)) 1024 s left = subst (λ (count : ℕ). TornRange (sector_place info.segments_per_track (place_of segment sector)) count s left) long torn in (
-                Beside-Beside beside (Beside-bytes info.segments_per_track (place_of segment sector) s left f.whole on (OnlyIn-torn _ _ _ _ at_once)),
-                inl (bytes-torn info.segments_per_track (place_of segment sector) on s g h f left closed at_once),
+              let at_once : TornRange (place head.layout Data (place_of segment sector)) 1024 s left = subst (λ (count : ℕ). TornRange (place head.layout Data (place_of segment sector)) count s left) long torn in (
+                Beside-Beside beside (Beside-part head.layout Data (place_of segment sector) s left f.whole on (OnlyIn-torn _ _ _ _ at_once)),
+                inl (bytes-torn head.layout (place_of segment sector) on s g h f left closed at_once),
               )
-          | inr behind ↦ elim (Crashed-put (gate_place (place_of segment sector)) (open_gate ∷ []) (overwritten s (sector_place info.segments_per_track (place_of segment sector)) from) left [] behind) [
+          | inr behind ↦ elim (Crashed-put (place head.layout GateByte (place_of segment sector)) (open_gate ∷ []) (overwritten s (place head.layout Data (place_of segment sector)) from) left [] behind) [
             | inl torn ↦
-                let t : Formed info.segments_per_track (place_of segment sector) (overwritten s (sector_place info.segments_per_track (place_of segment sector)) from) g from = bytes-put info.segments_per_track (place_of segment sector) on s g h f from long in
-                let there : Beside info.segments_per_track (place_of segment sector) s (overwritten s (sector_place info.segments_per_track (place_of segment sector)) from) =
-                Beside-bytes info.segments_per_track (place_of segment sector) s _ f.whole on (bytes-onlyin info.segments_per_track (place_of segment sector) on s g h f from long) in (
-                  Beside-Beside beside (Beside-Beside there (Beside-gate info.segments_per_track (place_of segment sector) _ left t.whole on (OnlyIn-torn _ _ _ _ torn))),
-                  gate-torn info.segments_per_track (place_of segment sector) on _ g from t left torn,
+                let t : Formed head.layout (place_of segment sector) (overwritten s (place head.layout Data (place_of segment sector)) from) g from = bytes-put head.layout (place_of segment sector) on s g h f from long in
+                let there : Beside head.layout (place_of segment sector) s (overwritten s (place head.layout Data (place_of segment sector)) from) =
+                Beside-part head.layout Data (place_of segment sector) s _ f.whole on (bytes-onlyin head.layout (place_of segment sector) on s g h f from long) in (
+                  Beside-Beside beside (Beside-Beside there (Beside-part head.layout GateByte (place_of segment sector) _ left t.whole on (OnlyIn-torn _ _ _ _ torn))),
+                  gate-torn head.layout (place_of segment sector) on _ g from t left torn,
                 )
             | inr none ↦ absurd none
           ]
         ]
 
-    write-tail-done : (s : List ℕ) (g : ℕ) (h : List ℕ) → Formed info.segments_per_track (place_of segment sector) s g h → Beside info.segments_per_track (place_of segment sector) bytes s
-        → Beside info.segments_per_track (place_of segment sector) bytes (overwritten (overwritten s (sector_place info.segments_per_track (place_of segment sector)) from) (gate_place (place_of segment sector)) (open_gate ∷ []))
-        × (view_in info.segments_per_track (overwritten (overwritten s (sector_place info.segments_per_track (place_of segment sector)) from) (gate_place (place_of segment sector)) (open_gate ∷ [])) (place_of segment sector) ≡ Holds from)
+    write-tail-done : (s : List ℕ) (g : ℕ) (h : List ℕ) → Formed head.layout (place_of segment sector) s g h → Beside head.layout (place_of segment sector) bytes s
+        → Beside head.layout (place_of segment sector) bytes (overwritten (overwritten s (place head.layout Data (place_of segment sector)) from) (place head.layout GateByte (place_of segment sector)) (open_gate ∷ []))
+        × (view_in head.layout (overwritten (overwritten s (place head.layout Data (place_of segment sector)) from) (place head.layout GateByte (place_of segment sector)) (open_gate ∷ [])) (place_of segment sector) ≡ Holds from)
     write-tail-done s g h f beside =
-        let t : Formed info.segments_per_track (place_of segment sector) (overwritten s (sector_place info.segments_per_track (place_of segment sector)) from) g from = bytes-put info.segments_per_track (place_of segment sector) on s g h f from long in
-        let there : Beside info.segments_per_track (place_of segment sector) s (overwritten s (sector_place info.segments_per_track (place_of segment sector)) from) =
-        Beside-bytes info.segments_per_track (place_of segment sector) s _ f.whole on (bytes-onlyin info.segments_per_track (place_of segment sector) on s g h f from long) in (
-          Beside-Beside beside (Beside-Beside there (Beside-gate info.segments_per_track (place_of segment sector) _ _ t.whole on (gate-onlyin info.segments_per_track (place_of segment sector) on _ g from t open_gate))),
-          view-gated (gate-put info.segments_per_track (place_of segment sector) on _ g from t open_gate),
+        let t : Formed head.layout (place_of segment sector) (overwritten s (place head.layout Data (place_of segment sector)) from) g from = bytes-put head.layout (place_of segment sector) on s g h f from long in
+        let there : Beside head.layout (place_of segment sector) s (overwritten s (place head.layout Data (place_of segment sector)) from) =
+        Beside-part head.layout Data (place_of segment sector) s _ f.whole on (bytes-onlyin head.layout (place_of segment sector) on s g h f from long) in (
+          Beside-Beside beside (Beside-Beside there (Beside-part head.layout GateByte (place_of segment sector) _ _ t.whole on (gate-onlyin head.layout (place_of segment sector) on _ g from t open_gate))),
+          view-gated (gate-put head.layout (place_of segment sector) on _ g from t open_gate),
         )
 
     -- the call leaves the effect of its step, and a crash in it leaves a stop of it
-    pub write-means : (v : SectorView) → view_in info.segments_per_track bytes (place_of segment sector) ≡ v → Means (write_sector_steps info.segments_per_track (place_of segment sector) from v) (WriteSector segment sector from ∷ []) bytes
+    pub write-means : (v : SectorView) → view_in head.layout bytes (place_of segment sector) ≡ v → Means (write_sector_steps head.layout (place_of segment sector) from v) (WriteSector segment sector from ∷ []) bytes
     write-means Blank view = record { done = sym (stays Blank view) ∙ put-view (WriteSector segment sector from) (written_view from) Blank (λ c. refl) view; torn = λ left crashed. absurd crashed }
     write-means Defect view = record { done = sym (stays Defect view) ∙ put-view (WriteSector segment sector from) (written_view from) Defect (λ c. refl) view; torn = λ left crashed. absurd crashed }
     write-means Lost view =
@@ -223,17 +231,17 @@ module _ (info : TapeInfo) (bytes : List ℕ) (segment sector : ℕ) (is : info_
         }
     write-means (Holds old) view =
         let f = formed-here (Holds old) view (λ e. cc) (λ e. cc) in
-        let shut = gate-put info.segments_per_track (place_of segment sector) on bytes _ _ f.0 closed_gate in
-        let there : Beside info.segments_per_track (place_of segment sector) bytes (overwritten bytes (gate_place (place_of segment sector)) (closed_gate ∷ [])) =
-        Beside-gate info.segments_per_track (place_of segment sector) bytes _ whole on (gate-onlyin info.segments_per_track (place_of segment sector) on bytes _ _ f.0 closed_gate) in
+        let shut = gate-put head.layout (place_of segment sector) on bytes _ _ f.0 closed_gate in
+        let there : Beside head.layout (place_of segment sector) bytes (overwritten bytes (place head.layout GateByte (place_of segment sector)) (closed_gate ∷ [])) =
+        Beside-part head.layout GateByte (place_of segment sector) bytes _ whole on (gate-onlyin head.layout (place_of segment sector) on bytes _ _ f.0 closed_gate) in
         let done = write-tail-done _ _ _ shut there in
         record {
           done = becomes _ (Holds from) done.0 done.1 ∙ put-view (WriteSector segment sector from) (written_view from) (Holds old) (λ c. refl) view;
           torn = λ left crashed.
-              elim (Crashed-put (gate_place (place_of segment sector)) (closed_gate ∷ []) bytes left (put (sector_place info.segments_per_track (place_of segment sector)) from ++ put (gate_place (place_of segment sector)) (open_gate ∷ [])) crashed) [
+              elim (Crashed-put (place head.layout GateByte (place_of segment sector)) (closed_gate ∷ []) bytes left (put (place head.layout Data (place_of segment sector)) from ++ put (place head.layout GateByte (place_of segment sector)) (open_gate ∷ [])) crashed) [
                 | inl torn ↦
-                    let near = Beside-gate info.segments_per_track (place_of segment sector) bytes left whole on (OnlyIn-torn _ _ _ _ torn) in
-                    elim (gate-torn info.segments_per_track (place_of segment sector) on bytes _ _ f.0 left torn) [
+                    let near = Beside-part head.layout GateByte (place_of segment sector) bytes left whole on (OnlyIn-torn _ _ _ _ torn) in
+                    elim (gate-torn head.layout (place_of segment sector) on bytes _ _ f.0 left torn) [
                       | inl lost ↦ write-ends left (Holds old) Lost view (λ e. cc) (λ e. cc) near lost (inr (inl refl))
                       | inr same ↦ write-ends left (Holds old) (Holds old) view (λ e. cc) (λ e. cc) near (same ∙ opened _ _ old f.1) (inl refl)
                     ]
@@ -247,22 +255,22 @@ module _ (info : TapeInfo) (bytes : List ℕ) (segment sector : ℕ) (is : info_
         }
 
   -- making a sector unreadable: it stays or is lost
-  pub wear-means : (v : SectorView) → view_in info.segments_per_track bytes (place_of segment sector) ≡ v → Means (wear_steps info.segments_per_track (place_of segment sector) v) (Wear segment sector ∷ []) bytes
+  pub wear-means : (v : SectorView) → view_in head.layout bytes (place_of segment sector) ≡ v → Means (wear_steps head.layout (place_of segment sector) v) (Wear segment sector ∷ []) bytes
   wear-means Blank view = record { done = sym (stays Blank view) ∙ put-view (Wear segment sector) worn_view Blank (λ c. refl) view; torn = λ left crashed. absurd crashed }
   wear-means Defect view = record { done = sym (stays Defect view) ∙ put-view (Wear segment sector) worn_view Defect (λ c. refl) view; torn = λ left crashed. absurd crashed }
   wear-means Lost view = record { done = sym (stays Lost view) ∙ put-view (Wear segment sector) worn_view Lost (λ c. refl) view; torn = λ left crashed. absurd crashed }
   wear-means (Holds old) view =
       let f = formed-here (Holds old) view (λ e. cc) (λ e. cc) in
-      let shut = gate-put info.segments_per_track (place_of segment sector) on bytes _ _ f.0 closed_gate in
-      let there : Beside info.segments_per_track (place_of segment sector) bytes (overwritten bytes (gate_place (place_of segment sector)) (closed_gate ∷ [])) =
-      Beside-gate info.segments_per_track (place_of segment sector) bytes _ whole on (gate-onlyin info.segments_per_track (place_of segment sector) on bytes _ _ f.0 closed_gate) in
+      let shut = gate-put head.layout (place_of segment sector) on bytes _ _ f.0 closed_gate in
+      let there : Beside head.layout (place_of segment sector) bytes (overwritten bytes (place head.layout GateByte (place_of segment sector)) (closed_gate ∷ [])) =
+      Beside-part head.layout GateByte (place_of segment sector) bytes _ whole on (gate-onlyin head.layout (place_of segment sector) on bytes _ _ f.0 closed_gate) in
       record {
         done = becomes _ Lost there (view-gated shut) ∙ put-view (Wear segment sector) worn_view (Holds old) (λ c. refl) view;
         torn = λ left crashed.
-            elim (Crashed-put (gate_place (place_of segment sector)) (closed_gate ∷ []) bytes left [] crashed) [
+            elim (Crashed-put (place head.layout GateByte (place_of segment sector)) (closed_gate ∷ []) bytes left [] crashed) [
               | inl torn ↦
-                  let near = Beside-gate info.segments_per_track (place_of segment sector) bytes left whole on (OnlyIn-torn _ _ _ _ torn) in
-                  elim (gate-torn info.segments_per_track (place_of segment sector) on bytes _ _ f.0 left torn) [
+                  let near = Beside-part head.layout GateByte (place_of segment sector) bytes left whole on (OnlyIn-torn _ _ _ _ torn) in
+                  elim (gate-torn head.layout (place_of segment sector) on bytes _ _ f.0 left torn) [
                     | inl lost ↦ inr (inr (becomes left Lost near lost ∙ put-view (Wear segment sector) worn_view (Holds old) (λ c. refl) view))
                     | inr same ↦ inl (becomes left (Holds old) near (same ∙ opened _ _ old f.1) ∙ stays (Holds old) view)
                   ]
@@ -271,30 +279,30 @@ module _ (info : TapeInfo) (bytes : List ℕ) (segment sector : ℕ) (is : info_
       }
 
   -- making a defect of a blank sector: it stays or is one
-  pub spoil-means : (v : SectorView) → view_in info.segments_per_track bytes (place_of segment sector) ≡ v → Means (spoil_steps info.segments_per_track (place_of segment sector) v) (Spoil segment sector ∷ []) bytes
+  pub spoil-means : (v : SectorView) → view_in head.layout bytes (place_of segment sector) ≡ v → Means (spoil_steps head.layout (place_of segment sector) v) (Spoil segment sector ∷ []) bytes
   spoil-means Defect view = record { done = sym (stays Defect view) ∙ put-view (Spoil segment sector) spoiled_view Defect (λ c. refl) view; torn = λ left crashed. absurd crashed }
   spoil-means Lost view = record { done = sym (stays Lost view) ∙ put-view (Spoil segment sector) spoiled_view Lost (λ c. refl) view; torn = λ left crashed. absurd crashed }
   spoil-means (Holds old) view = record { done = sym (stays (Holds old) view) ∙ put-view (Spoil segment sector) spoiled_view (Holds old) (λ c. refl) view; torn = λ left crashed. absurd crashed }
   spoil-means Blank view =
       let q : ℕ = place_of segment sector in
-      let n : ℕ = info.segments_per_track in
-      let b = blank_by (slice_index bytes (defect_place n q) == defect_byte) (slice_index bytes (formed_place n q) == formed_byte) (slice_index bytes (gate_place q) == open_gate) (slice_range bytes (sector_place n q) (sector_place n q + 1024)) (sym (view_in-is n bytes q) ∙ view) in
-      let shown : (left : List ℕ) → OnlyIn (defect_place n q) 1 bytes left → view_in n left q ≡ (if slice_index left (defect_place n q) == defect_byte then Defect else Blank) =
-      λ left only. defect-view n q 1 bytes left only whole (omega arith) q on ∙ view_by-blank (slice_index left (defect_place n q)) (slice_index bytes (formed_place n q)) (slice_index bytes (gate_place q)) (slice_range bytes (sector_place n q) (sector_place n q + 1024)) b.1 in
-      let only = OnlyIn-written (defect_place n q) bytes (defect_byte ∷ []) (omega arith) in
-      let put_there = byte-written bytes (defect_place n q) defect_byte (omega arith) in
-      let by_byte : (left : List ℕ) (bad : Bool) → Beside n q bytes left → view_in n left q ≡ (if bad then Defect else Blank) → Torn (Spoil segment sector ∷ []) (cartridge_of bytes) (cartridge_of left) =
+      let l : Layout = head.layout in
+      let b = blank_by (slice_index bytes (place l DefectByte q) == defect_byte) (slice_index bytes (place l FormedByte q) == formed_byte) (slice_index bytes (place l GateByte q) == open_gate) (sector_bytes l bytes q) (sym (view_in-is l bytes q) ∙ view) in
+      let shown : (left : List ℕ) → OnlyIn (place l DefectByte q) 1 bytes left → view_in l left q ≡ (if slice_index left (place l DefectByte q) == defect_byte then Defect else Blank) =
+      λ left only. defect-view l q bytes left only whole on ∙ view_by-blank (slice_index left (place l DefectByte q)) (slice_index bytes (place l FormedByte q)) (slice_index bytes (place l GateByte q)) (sector_bytes l bytes q) b.1 in
+      let only = OnlyIn-written (place l DefectByte q) bytes (defect_byte ∷ []) (let b = (laid_out l).before DefectByte q on in omega arith) in
+      let put_there = byte-written bytes (place l DefectByte q) defect_byte (let b = (laid_out l).before DefectByte q on in omega arith) in
+      let by_byte : (left : List ℕ) (bad : Bool) → Beside l q bytes left → view_in l left q ≡ (if bad then Defect else Blank) → Torn (Spoil segment sector ∷ []) (cartridge_of bytes) (cartridge_of left) =
       λ left bad near now. spoiled left bad near now view in
       record {
-        done = becomes _ Defect (Beside-defect n q bytes _ whole on only) (shown _ only ∙ ap (λ d. if d == defect_byte then Defect else Blank) put_there) ∙ put-view (Spoil segment sector) spoiled_view Blank (λ c. refl) view;
+        done = becomes _ Defect (Beside-part l DefectByte q bytes _ whole on only) (shown _ only ∙ ap (λ d. if d == defect_byte then Defect else Blank) put_there) ∙ put-view (Spoil segment sector) spoiled_view Blank (λ c. refl) view;
         torn = λ left crashed.
-            elim (Crashed-put (defect_place n q) (defect_byte ∷ []) bytes left [] crashed) [
-              | inl torn ↦ by_byte left (slice_index left (defect_place n q) == defect_byte) (Beside-defect n q bytes left whole on (OnlyIn-torn _ _ _ _ torn)) (shown left (OnlyIn-torn _ _ _ _ torn))
+            elim (Crashed-put (place l DefectByte q) (defect_byte ∷ []) bytes left [] crashed) [
+              | inl torn ↦ by_byte left (slice_index left (place l DefectByte q) == defect_byte) (Beside-part l DefectByte q bytes left whole on (OnlyIn-torn _ _ _ _ torn)) (shown left (OnlyIn-torn _ _ _ _ torn))
               | inr none ↦ absurd none
             ];
       }
     where
-      spoiled : (left : List ℕ) (bad : Bool) → Beside info.segments_per_track (place_of segment sector) bytes left → view_in info.segments_per_track left (place_of segment sector) ≡ (if bad then Defect else Blank)
-          → view_in info.segments_per_track bytes (place_of segment sector) ≡ Blank → Torn (Spoil segment sector ∷ []) (cartridge_of bytes) (cartridge_of left)
+      spoiled : (left : List ℕ) (bad : Bool) → Beside head.layout (place_of segment sector) bytes left → view_in head.layout left (place_of segment sector) ≡ (if bad then Defect else Blank)
+          → view_in head.layout bytes (place_of segment sector) ≡ Blank → Torn (Spoil segment sector ∷ []) (cartridge_of bytes) (cartridge_of left)
       spoiled left true near now view = inr (inr (becomes left Defect near now ∙ put-view (Spoil segment sector) spoiled_view Blank (λ c. refl) view))
       spoiled left false near now view = inl (becomes left Blank near now ∙ stays Blank view)

@@ -1,230 +1,157 @@
--- What the writes between two syncs leave: the writes of chosen places of a plane.
-use Rattle.std.proofs.Common.{◌≡◌, ℕ, zero, suc, ◌+◌, ◌-◌, ◌<◌, ◌≤◌, ◌⊎◌, inl, inr, ⊎_elim, Bool, true, false, List, [], ◌∷◌, ◌++◌, length, get_or, replicate, leb, append_assoc, refl, sym, ◌∙◌, ap, arith, subst}
-use Rattle.std.specs.Prelude.{◌&&◌}
-use Rattle.std.proofs.lemmas.Bool.{cases_lt, le-leb, lt-leb}
-use Rattle.std.specs.Cmp.Derive.{both_true}
-use Rattle.std.proofs.lemmas.List.{length-replicate, get_or-replicate}
+-- What writes leave of places that they spare, told and in a crash, and what stands where they write one value.
+use Rattle.std.proofs.Common.{◌≡◌, ℕ, ◌+◌, ◌-◌, ◌<◌, ◌≤◌, ◌⊎◌, inl, inr, ⊎_elim, List, [], ◌∷◌, ◌++◌, length, get_or, refl, sym, ◌∙◌, ap, arith, subst}
+use Rattle.std.proofs.lemmas.Bool.{cases_lt}
 use Rattle.qic_base.specs.Disk.{DiskStep, Look, WriteAt, SetLen, Sync, stored}
 use Rattle.qic_base.specs.Field.{overwritten}
-use Rattle.qic_base.proofs.FieldLaws.{get_or-overwritten, length-overwritten}
-use Rattle.cart_image.specs.Layout.{write_runs, synced, put_chosen}
+use Rattle.qic_base.proofs.FieldLaws.{get_or-overwritten}
+use Rattle.cart_image.specs.Layout.{synced}
 use Rattle.cart_image.specs.Run.{after_steps, Pending, Crashed}
 use Rattle.cart_image.proofs.Bytes.{OnlyIn, OnlyIn-torn, OnlyIn-written}
 
--- writes at places of a set
-abbrev pub WritesIn : (T : ℕ → Bool) → List DiskStep → Type 0
-WritesIn T [] = Unit {0}
-WritesIn T (WriteAt place part ∷ steps) = ((k : ℕ) → place ≤ k → k < place + length part → T k ≡ true) × WritesIn T steps
-WritesIn T (Look ∷ steps) = ⊥
-WritesIn T (SetLen n ∷ steps) = ⊥
-WritesIn T (Sync ∷ steps) = ⊥
-
--- bytes that differ in places of a set at most
-pub record Beyond (T : ℕ → Bool) (old new : List ℕ) : Type 0 where
+-- bytes that are the same at each place of a set
+pub record Kept (P : ℕ → Type 0) (old new : List ℕ) : Type 0 where
   pub size : length new ≡ length old
-  pub same : (k : ℕ) → T k ≡ false → get_or new k 0 ≡ get_or old k 0
+  pub same : (k : ℕ) → P k → get_or new k 0 ≡ get_or old k 0
 
-pub Beyond-all : (T : ℕ → Bool) (bytes : List ℕ) → Beyond T bytes bytes
-Beyond-all T bytes = record { size = refl; same = λ k out. refl }
+pub Kept-all : (P : ℕ → Type 0) (bytes : List ℕ) → Kept P bytes bytes
+Kept-all P bytes = record { size = refl; same = λ k at. refl }
 
-Beyond-only : (T : ℕ → Bool) (place count : ℕ) (a b c : List ℕ) → ((k : ℕ) → place ≤ k → k < place + count → T k ≡ true) → Beyond T a b → OnlyIn place count b c → Beyond T a c
-Beyond-only T place count a b c within beyond only = record {
-  size = only.size ∙ beyond.size;
-  same = λ k out. ⊎_elim
-      (λ below. only.below k below ∙ beyond.same k out)
-      (λ at_least. ⊎_elim
-      (λ inside. let holds : T k ≡ true = within k at_least inside in cc)
-      (λ above. only.above k above ∙ beyond.same k out) (cases_lt k (place + count))) (cases_lt k place);
+pub Kept-only : (P : ℕ → Type 0) (place count : ℕ) (a b c : List ℕ) → ((k : ℕ) → P k → (k < place) ⊎ (place + count ≤ k)) → Kept P a b → OnlyIn place count b c → Kept P a c
+Kept-only P place count a b c off kept only = record {
+  size = only.size ∙ kept.size;
+  same = λ k at. ⊎_elim (λ below. only.below k below ∙ kept.same k at) (λ above. only.above k above ∙ kept.same k at) (off k at);
 }
 
--- what a crash leaves in writes of a set and the sync behind them
-pub Crashed-writes : (T : ℕ → Bool) (origin : List ℕ) (writes rest : List DiskStep) (may : List ℕ → Type 0) (bytes left : List ℕ) → WritesIn T writes → ((b : List ℕ) → may b → Beyond T origin b)
-    → Crashed may bytes (writes ++ Sync ∷ rest) left → Beyond T origin left ⊎ Crashed (λ b. b ≡ after_steps writes bytes) (after_steps writes bytes) rest left
-Crashed-writes T origin [] rest may bytes left within only (inl inside) = inl (only left (subst may (sym inside.2) inside.1))
-Crashed-writes T origin [] rest may bytes left within only (inr behind) = inr behind
-Crashed-writes T origin (WriteAt place part ∷ writes) rest may bytes left within only (inl inside) =
-    inl (Beyond-only T place (length part) origin inside.0 left within.0 (only inside.0 inside.1) (OnlyIn-torn _ _ _ _ inside.2))
-Crashed-writes T origin (WriteAt place part ∷ writes) rest may bytes left within only (inr behind) =
-    Crashed-writes T origin writes rest (Pending (WriteAt place part) bytes may) (overwritten bytes place part) left within.1
-    (λ b pending. Beyond-only T place (length part) origin pending.0 b within.0 (only pending.0 pending.1) (OnlyIn-torn _ _ _ _ pending.2)) behind
-Crashed-writes T origin (Look ∷ writes) rest may bytes left within only crashed = absurd within
-Crashed-writes T origin (SetLen n ∷ writes) rest may bytes left within only crashed = absurd within
-Crashed-writes T origin (Sync ∷ writes) rest may bytes left within only crashed = absurd within
+-- writes that lie in a file and spare the places of a set
+abbrev pub Spares : (P : ℕ → Type 0) (len : ℕ) → List DiskStep → Type 0
+Spares P len [] = Unit {0}
+Spares P len (Look ∷ steps) = Spares P len steps
+Spares P len (Sync ∷ steps) = Spares P len steps
+Spares P len (SetLen n ∷ steps) = ⊥
+Spares P len (WriteAt place part ∷ steps) = (place + length part ≤ len) × ((k : ℕ) → P k → (k < place) ⊎ (place + length part ≤ k)) × Spares P len steps
 
--- writes that lie in the file
-abbrev pub WritesFit : (len : ℕ) → List DiskStep → Type 0
-WritesFit len [] = Unit {0}
-WritesFit len (WriteAt place part ∷ steps) = (place + length part ≤ len) × WritesFit len steps
-WritesFit len (Look ∷ steps) = ⊥
-WritesFit len (SetLen n ∷ steps) = ⊥
-WritesFit len (Sync ∷ steps) = ⊥
+pub Spares-both : (P : ℕ → Type 0) (len : ℕ) (xs ys : List DiskStep) → Spares P len xs → Spares P len ys → Spares P len (xs ++ ys)
+Spares-both P len [] ys a b = b
+Spares-both P len (Look ∷ xs) ys a b = Spares-both P len xs ys a b
+Spares-both P len (Sync ∷ xs) ys a b = Spares-both P len xs ys a b
+Spares-both P len (SetLen n ∷ xs) ys a b = absurd a
+Spares-both P len (WriteAt place part ∷ xs) ys a b = (a.0, a.1, Spares-both P len xs ys a.2 b)
 
-pub written-Beyond : (T : ℕ → Bool) (writes : List DiskStep) (origin bytes : List ℕ) → WritesIn T writes → WritesFit (length bytes) writes → Beyond T origin bytes → Beyond T origin (after_steps writes bytes)
-written-Beyond T [] origin bytes within fit beyond = beyond
-written-Beyond T (WriteAt place part ∷ writes) origin bytes within fit beyond =
-    let only = OnlyIn-written place bytes part fit.0 in
-    written-Beyond T writes origin (overwritten bytes place part) within.1 (subst (λ (len : ℕ). WritesFit len writes) (sym only.size) fit.1) (Beyond-only T place (length part) origin bytes _ within.0 beyond only)
-written-Beyond T (Look ∷ writes) origin bytes within fit beyond = absurd within
-written-Beyond T (SetLen n ∷ writes) origin bytes within fit beyond = absurd within
-written-Beyond T (Sync ∷ writes) origin bytes within fit beyond = absurd within
+-- .. with a sync behind them
+pub Spares-synced : (P : ℕ → Type 0) (len : ℕ) (writes : List DiskStep) → Spares P len writes → Spares P len (synced writes)
+Spares-synced P len [] spares = tt
+Spares-synced P len (w ∷ ws) spares = Spares-both P len (w ∷ ws) (Sync ∷ []) spares tt
 
--- where the runs write
+pub spared : (P : ℕ → Type 0) (steps : List DiskStep) (origin bytes : List ℕ) → Spares P (length bytes) steps → Kept P origin bytes → Kept P origin (after_steps steps bytes)
+spared P [] origin bytes spares kept = kept
+spared P (Look ∷ steps) origin bytes spares kept = spared P steps origin bytes spares kept
+spared P (Sync ∷ steps) origin bytes spares kept = spared P steps origin bytes spares kept
+spared P (SetLen n ∷ steps) origin bytes spares kept = absurd spares
+spared P (WriteAt place part ∷ steps) origin bytes spares kept =
+    let only = OnlyIn-written place bytes part spares.0 in
+    spared P steps origin (overwritten bytes place part) (subst (λ (len : ℕ). Spares P len steps) (sym only.size) spares.2) (Kept-only P place (length part) origin bytes _ spares.1 kept only)
 
-run-in : (T : ℕ → Bool) (value place count : ℕ) → ((i : ℕ) → i < count → T (place + i) ≡ true) → (k : ℕ) → place ≤ k → k < place + length (replicate count value) → T k ≡ true
-run-in T value place count front k at_least less =
-    let l = length-replicate count value in
-    let at : k ≡ place + (k - place) = omega arith in
-    ap T at ∙ front (k - place) (omega arith)
+pub spared-crash : (P : ℕ → Type 0) (steps : List DiskStep) (origin bytes left : List ℕ) (may : List ℕ → Type 0) → Spares P (length bytes) steps → Kept P origin bytes → ((b : List ℕ) → may b → Kept P origin b)
+    → Crashed may bytes steps left → Kept P origin left
+spared-crash P [] origin bytes left may spares kept only crashed = absurd crashed
+spared-crash P (Look ∷ steps) origin bytes left may spares kept only (inl inside) = only left (subst may (sym inside.2) inside.1)
+spared-crash P (Look ∷ steps) origin bytes left may spares kept only (inr behind) = spared-crash P steps origin bytes left may spares kept only behind
+spared-crash P (Sync ∷ steps) origin bytes left may spares kept only (inl inside) = only left (subst may (sym inside.2) inside.1)
+spared-crash P (Sync ∷ steps) origin bytes left may spares kept only (inr behind) =
+    spared-crash P steps origin bytes left (λ b. b ≡ bytes) spares kept (λ b same. let Q : List ℕ → Type 0 = λ c. Kept P origin c in subst Q (sym same) kept) behind
+spared-crash P (SetLen n ∷ steps) origin bytes left may spares kept only crashed = absurd spares
+spared-crash P (WriteAt place part ∷ steps) origin bytes left may spares kept only (inl inside) =
+    Kept-only P place (length part) origin inside.0 left spares.1 (only inside.0 inside.1) (OnlyIn-torn _ _ _ _ inside.2)
+spared-crash P (WriteAt place part ∷ steps) origin bytes left may spares kept only (inr behind) =
+    let written = OnlyIn-written place bytes part spares.0 in
+    spared-crash P steps origin (overwritten bytes place part) left (Pending (WriteAt place part) bytes may) (subst (λ (len : ℕ). Spares P len steps) (sym written.size) spares.2)
+    (Kept-only P place (length part) origin bytes _ spares.1 kept written)
+    (λ b pending. Kept-only P place (length part) origin pending.0 b spares.1 (only pending.0 pending.1) (OnlyIn-torn _ _ _ _ pending.2)) behind
 
-pub runs-in : (T : ℕ → Bool) (value place : ℕ) (chosen : List Bool) (under : ℕ) → ((i : ℕ) → i < under → T (place + i) ≡ true) → ((i : ℕ) → get_or chosen i false ≡ true → T (place + under + i) ≡ true) → WritesIn T (write_runs value place chosen under)
-runs-in T value place [] zero front back = tt
-runs-in T value place [] (suc under) front back = (run-in T value place (suc under) front, tt)
-runs-in T value place (true ∷ chosen) under front back =
-    runs-in T value place chosen (suc under)
-    (λ i less. ⊎_elim (λ in_front. front i in_front) (λ last.
-    let at : place + i ≡ place + under + 0 = omega arith in
-    ap T at ∙ back 0 refl) (cases_lt i under))
-    (λ i holds. let at : place + suc under + i ≡ place + under + suc i = omega arith in ap T at ∙ back (suc i) holds)
-runs-in T value place (false ∷ chosen) zero front back =
-    runs-in T value (place + 0 + 1) chosen zero (λ i less. absurd (omega arith))
-    (λ i holds. let at : place + 0 + 1 + 0 + i ≡ place + 0 + suc i = omega arith in ap T at ∙ back (suc i) holds)
-runs-in T value place (false ∷ chosen) (suc under) front back = (
-  run-in T value place (suc under) front,
-  runs-in T value (place + suc under + 1) chosen zero (λ i less. absurd (omega arith))
-      (λ i holds. let at : place + suc under + 1 + 0 + i ≡ place + suc under + suc i = omega arith in ap T at ∙ back (suc i) holds),
-)
+-- a crash in steps that end in a sync, or behind them
+pub Crashed-front : (may : List ℕ → Type 0) (steps rest : List DiskStep) (bytes left : List ℕ) → Crashed may bytes ((steps ++ Sync ∷ []) ++ rest) left
+    → Crashed may bytes (steps ++ Sync ∷ []) left ⊎ Crashed (λ b. b ≡ after_steps steps bytes) (after_steps steps bytes) rest left
+Crashed-front may [] rest bytes left (inl inside) = inl (inl inside)
+Crashed-front may [] rest bytes left (inr behind) = inr behind
+Crashed-front may (s ∷ steps) rest bytes left (inl inside) = inl (inl inside)
+Crashed-front may (s ∷ steps) rest bytes left (inr behind) =
+    elim (Crashed-front (Pending s bytes may) steps rest (stored s bytes) left behind) [
+      | inl in_front ↦ inl (inr in_front)
+      | inr later ↦ inr later
+    ]
 
-pub runs-fit : (len value place : ℕ) (chosen : List Bool) (under : ℕ) → place + under + length chosen ≤ len → WritesFit len (write_runs value place chosen under)
-runs-fit len value place [] zero within = tt
-runs-fit len value place [] (suc under) within = (let l = length-replicate (suc under) value in omega arith, tt)
-runs-fit len value place (true ∷ chosen) under within = runs-fit len value place chosen (suc under) (omega arith)
-runs-fit len value place (false ∷ chosen) zero within = runs-fit len value (place + 0 + 1) chosen zero (omega arith)
-runs-fit len value place (false ∷ chosen) (suc under) within = (let l = length-replicate (suc under) value in omega arith, runs-fit len value (place + suc under + 1) chosen zero (omega arith))
+pub after-both : (xs ys : List DiskStep) (bytes : List ℕ) → after_steps (xs ++ ys) bytes ≡ after_steps ys (after_steps xs bytes)
+after-both [] ys bytes = refl
+after-both (x ∷ xs) ys bytes = after-both xs ys (stored x bytes)
 
--- what the runs leave
+pub after-synced : (writes : List DiskStep) (bytes : List ℕ) → after_steps (synced writes) bytes ≡ after_steps writes bytes
+after-synced [] bytes = refl
+after-synced (w ∷ ws) bytes = after-both ws (Sync ∷ []) (stored w bytes)
 
-untouched : (value place : ℕ) (chosen : List Bool) (under : ℕ) (bytes : List ℕ) (k : ℕ) → place + under + length chosen ≤ length bytes → k < place → get_or (after_steps (write_runs value place chosen under) bytes) k 0 ≡ get_or bytes k 0
-untouched value place chosen under bytes k within below =
-    let T : ℕ → Bool = λ j. leb place j in
-    let b = written-Beyond T (write_runs value place chosen under) bytes bytes
-    (runs-in T value place chosen under (λ i less. le-leb place (place + i) (omega arith)) (λ i holds. le-leb place (place + under + i) (omega arith)))
-    (runs-fit (length bytes) value place chosen under within) (Beyond-all T bytes) in
-    b.same k (lt-leb place k below)
+-- a crash in writes and the sync behind them, or later
+pub Crashed-synced : (writes rest : List DiskStep) (bytes left : List ℕ) → Crashed (λ b. b ≡ bytes) bytes (synced writes ++ rest) left
+    → Crashed (λ b. b ≡ bytes) bytes (synced writes) left ⊎ Crashed (λ b. b ≡ after_steps writes bytes) (after_steps writes bytes) rest left
+Crashed-synced [] rest bytes left crashed = inr crashed
+Crashed-synced (w ∷ ws) rest bytes left crashed = Crashed-front (λ b. b ≡ bytes) (w ∷ ws) rest bytes left crashed
 
-runs-length : (value place : ℕ) (chosen : List Bool) (under : ℕ) (bytes : List ℕ) → place + under + length chosen ≤ length bytes → length (after_steps (write_runs value place chosen under) bytes) ≡ length bytes
-runs-length value place chosen under bytes within =
-    let T : ℕ → Bool = λ j. true in
-    (written-Beyond T (write_runs value place chosen under) bytes bytes (runs-in T value place chosen under (λ i less. refl) (λ i holds. refl)) (runs-fit (length bytes) value place chosen under within) (Beyond-all T bytes)).size
+-- writes whose bytes are those of a function of the place
+abbrev pub Even : (value : ℕ → ℕ) (len : ℕ) → List DiskStep → Type 0
+Even value len [] = Unit {0}
+Even value len (Look ∷ steps) = Even value len steps
+Even value len (Sync ∷ steps) = Even value len steps
+Even value len (SetLen n ∷ steps) = ⊥
+Even value len (WriteAt place part ∷ steps) = (place + length part ≤ len) × ((i : ℕ) → i < length part → get_or part i 0 ≡ value (place + i)) × Even value len steps
 
--- a run that is written holds the value, after the later runs too
-run-there : (value place count : ℕ) (chosen : List Bool) (bytes : List ℕ) (i : ℕ) → place + count + 1 + length chosen ≤ length bytes → i < count
-    → get_or (after_steps (write_runs value (place + count + 1) chosen 0) (overwritten bytes place (replicate count value))) (place + i) 0 ≡ value
-run-there value place count chosen bytes i within less =
-    let long : length (replicate count value) ≡ count = length-replicate count value in
-    let size : length (overwritten bytes place (replicate count value)) ≡ length bytes = length-overwritten bytes (replicate count value) place (omega arith) in
-    untouched value (place + count + 1) chosen 0 (overwritten bytes place (replicate count value)) (place + i) (omega arith) (omega arith)
-    ∙ get_or-overwritten bytes (replicate count value) place i 0 (omega arith) (omega arith)
-    ∙ get_or-replicate count i value 0 less
+pub Even-both : (value : ℕ → ℕ) (len : ℕ) (xs ys : List DiskStep) → Even value len xs → Even value len ys → Even value len (xs ++ ys)
+Even-both value len [] ys a b = b
+Even-both value len (Look ∷ xs) ys a b = Even-both value len xs ys a b
+Even-both value len (Sync ∷ xs) ys a b = Even-both value len xs ys a b
+Even-both value len (SetLen n ∷ xs) ys a b = absurd a
+Even-both value len (WriteAt place part ∷ xs) ys a b = (a.0, a.1, Even-both value len xs ys a.2 b)
 
--- the run under way and the chosen places get the value
-pub runs-value : (value place : ℕ) (chosen : List Bool) (under : ℕ) (bytes : List ℕ) → place + under + length chosen ≤ length bytes
-    → ((i : ℕ) → i < under → get_or (after_steps (write_runs value place chosen under) bytes) (place + i) 0 ≡ value)
-    × ((i : ℕ) → get_or chosen i false ≡ true → get_or (after_steps (write_runs value place chosen under) bytes) (place + under + i) 0 ≡ value)
-runs-value value place [] zero bytes within = (λ i less. absurd (omega arith), λ i holds. cc)
-runs-value value place [] (suc under) bytes within = (
-  λ i less.
-      let long : length (replicate (suc under) value) ≡ suc under = length-replicate (suc under) value in
-      get_or-overwritten bytes (replicate (suc under) value) place i 0 (omega arith) (omega arith) ∙ get_or-replicate (suc under) i value 0 less,
-  λ i holds. cc,
-)
-runs-value value place (true ∷ chosen) under bytes within =
-    let rest = runs-value value place chosen (suc under) bytes (omega arith) in (
-      λ i less. rest.0 i (omega arith),
-      λ i holds. at i holds rest,
-    )
+-- a place that one of the writes reaches
+abbrev pub Reached : (k : ℕ) → List DiskStep → Type 0
+Reached k [] = ⊥
+Reached k (Look ∷ steps) = Reached k steps
+Reached k (Sync ∷ steps) = Reached k steps
+Reached k (SetLen n ∷ steps) = Reached k steps
+Reached k (WriteAt place part ∷ steps) = ((place ≤ k) × (k < place + length part)) ⊎ Reached k steps
+
+pub Reached-first : (k : ℕ) (xs ys : List DiskStep) → Reached k xs → Reached k (xs ++ ys)
+Reached-first k [] ys reached = absurd reached
+Reached-first k (Look ∷ xs) ys reached = Reached-first k xs ys reached
+Reached-first k (Sync ∷ xs) ys reached = Reached-first k xs ys reached
+Reached-first k (SetLen n ∷ xs) ys reached = Reached-first k xs ys reached
+Reached-first k (WriteAt place part ∷ xs) ys (inl here) = inl here
+Reached-first k (WriteAt place part ∷ xs) ys (inr later) = inr (Reached-first k xs ys later)
+
+pub Reached-later : (k : ℕ) (xs ys : List DiskStep) → Reached k ys → Reached k (xs ++ ys)
+Reached-later k [] ys reached = reached
+Reached-later k (Look ∷ xs) ys reached = Reached-later k xs ys reached
+Reached-later k (Sync ∷ xs) ys reached = Reached-later k xs ys reached
+Reached-later k (SetLen n ∷ xs) ys reached = Reached-later k xs ys reached
+Reached-later k (WriteAt place part ∷ xs) ys reached = inr (Reached-later k xs ys reached)
+
+-- .. has its byte in the end, as has one that had it before
+pub has-value : (value : ℕ → ℕ) (k : ℕ) (steps : List DiskStep) (bytes : List ℕ) → Even value (length bytes) steps → (get_or bytes k 0 ≡ value k) ⊎ Reached k steps → get_or (after_steps steps bytes) k 0 ≡ value k
+has-value value k [] bytes even (inl has) = has
+has-value value k [] bytes even (inr reached) = absurd reached
+has-value value k (Look ∷ steps) bytes even has = has-value value k steps bytes even has
+has-value value k (Sync ∷ steps) bytes even has = has-value value k steps bytes even has
+has-value value k (SetLen n ∷ steps) bytes even has = absurd even
+has-value value k (WriteAt place part ∷ steps) bytes even has =
+    let only = OnlyIn-written place bytes part even.0 in
+    has-value value k steps (overwritten bytes place part) (subst (λ (len : ℕ). Even value len steps) (sym only.size) even.2) (now has)
   where
-    at : (i : ℕ) → get_or (true ∷ chosen) i false ≡ true
-        → ((i : ℕ) → i < suc under → get_or (after_steps (write_runs value place chosen (suc under)) bytes) (place + i) 0 ≡ value)
-        × ((i : ℕ) → get_or chosen i false ≡ true → get_or (after_steps (write_runs value place chosen (suc under)) bytes) (place + suc under + i) 0 ≡ value)
-        → get_or (after_steps (write_runs value place chosen (suc under)) bytes) (place + under + i) 0 ≡ value
-    at zero holds rest =
-        let here : place + under + 0 ≡ place + under = omega arith in
-        ap (λ k. get_or (after_steps (write_runs value place chosen (suc under)) bytes) k 0) here ∙ rest.0 under (omega arith)
-    at (suc i) holds rest =
-        let here : place + under + suc i ≡ place + suc under + i = omega arith in
-        ap (λ k. get_or (after_steps (write_runs value place chosen (suc under)) bytes) k 0) here ∙ rest.1 i holds
-runs-value value place (false ∷ chosen) zero bytes within =
-    let rest = runs-value value (place + 0 + 1) chosen zero bytes (omega arith) in (
-      λ i less. absurd (omega arith),
-      λ i holds. at i holds rest.1,
-    )
-  where
-    at : (i : ℕ) → get_or (false ∷ chosen) i false ≡ true
-        → ((i : ℕ) → get_or chosen i false ≡ true → get_or (after_steps (write_runs value (place + 0 + 1) chosen zero) bytes) (place + 0 + 1 + 0 + i) 0 ≡ value)
-        → get_or (after_steps (write_runs value (place + 0 + 1) chosen zero) bytes) (place + 0 + i) 0 ≡ value
-    at zero holds rest = cc
-    at (suc i) holds rest =
-        let here : place + 0 + suc i ≡ place + 0 + 1 + 0 + i = omega arith in
-        ap (λ k. get_or (after_steps (write_runs value (place + 0 + 1) chosen zero) bytes) k 0) here ∙ rest i holds
-runs-value value place (false ∷ chosen) (suc under) bytes within =
-    let long : length (replicate (suc under) value) ≡ suc under = length-replicate (suc under) value in
-    let size : length (overwritten bytes place (replicate (suc under) value)) ≡ length bytes = length-overwritten bytes (replicate (suc under) value) place (omega arith) in
-    let rest = runs-value value (place + suc under + 1) chosen zero (overwritten bytes place (replicate (suc under) value)) (omega arith) in (
-      λ i less. run-there value place (suc under) chosen bytes i (omega arith) less,
-      λ i holds. at i holds rest.1,
-    )
-  where
-    at : (i : ℕ) → get_or (false ∷ chosen) i false ≡ true
-        → ((i : ℕ) → get_or chosen i false ≡ true → get_or (after_steps (write_runs value (place + suc under + 1) chosen zero) (overwritten bytes place (replicate (suc under) value))) (place + suc under + 1 + 0 + i) 0 ≡ value)
-        → get_or (after_steps (write_runs value (place + suc under + 1) chosen zero) (overwritten bytes place (replicate (suc under) value))) (place + suc under + i) 0 ≡ value
-    at zero holds rest = cc
-    at (suc i) holds rest =
-        let here : place + suc under + suc i ≡ place + suc under + 1 + 0 + i = omega arith in
-        ap (λ k. get_or (after_steps (write_runs value (place + suc under + 1) chosen zero) (overwritten bytes place (replicate (suc under) value))) k 0) here ∙ rest i holds
+    here : place ≤ k → k < place + length part → get_or (overwritten bytes place part) k 0 ≡ value k
+    here at_least less =
+        let at : k ≡ place + (k - place) = omega arith in
+        let fits = even.0 in
+        ap (λ j. get_or (overwritten bytes place part) j 0) at ∙ get_or-overwritten bytes part place (k - place) 0 (omega arith) (omega arith) ∙ even.1 (k - place) (omega arith) ∙ ap value (sym at)
 
--- The chosen places of a part of a plane, with one sync behind them: a crash leaves changes in those alone, and at the
--- end they have the value and all others are as they were.
-abbrev pub chosen_at : (place : ℕ) (chosen : List Bool) → ℕ → Bool
-chosen_at place chosen k = leb place k && get_or chosen (k - place) false
-
-chosen-in : (value place : ℕ) (chosen : List Bool) → WritesIn (chosen_at place chosen) (write_runs value place chosen 0)
-chosen-in value place chosen =
-    runs-in (chosen_at place chosen) value place chosen 0 (λ i less. absurd (omega arith))
-    (λ i holds.
-    let at : place + 0 + i - place ≡ i = omega arith in
-    both_true (le-leb place (place + 0 + i) (omega arith)) (ap (λ j. get_or chosen j false) at ∙ holds))
-
-pub record HasChosen (value place : ℕ) (chosen : List Bool) (old new : List ℕ) : Type 0 where
-  pub beyond : Beyond (chosen_at place chosen) old new
-  pub chosen_are : (i : ℕ) → get_or chosen i false ≡ true → get_or new (place + i) 0 ≡ value
-
-pub chosen-written : (value place : ℕ) (chosen : List Bool) (bytes : List ℕ) → place + length chosen ≤ length bytes → HasChosen value place chosen bytes (after_steps (write_runs value place chosen 0) bytes)
-chosen-written value place chosen bytes within = record {
-  beyond = written-Beyond (chosen_at place chosen) (write_runs value place chosen 0) bytes bytes (chosen-in value place chosen) (runs-fit (length bytes) value place chosen 0 (omega arith)) (Beyond-all _ bytes);
-  chosen_are = λ i holds.
-      let at : place + i ≡ place + 0 + i = omega arith in
-      ap (λ k. get_or (after_steps (write_runs value place chosen 0) bytes) k 0) at ∙ (runs-value value place chosen 0 bytes (omega arith)).1 i holds;
-}
-
-after-synced : (writes rest : List DiskStep) (bytes : List ℕ) → after_steps (synced writes ++ rest) bytes ≡ after_steps rest (after_steps writes bytes)
-after-synced [] rest bytes = refl
-after-synced (w ∷ ws) rest bytes = after-both ws rest (stored w bytes)
-  where
-    after-both : (ws rest : List DiskStep) (bytes : List ℕ) → after_steps (ws ++ Sync ∷ [] ++ rest) bytes ≡ after_steps rest (after_steps ws bytes)
-    after-both [] rest bytes = refl
-    after-both (w ∷ ws) rest bytes = after-both ws rest (stored w bytes)
-
-pub after-chosen : (value place : ℕ) (chosen : List Bool) (rest : List DiskStep) (bytes : List ℕ) → after_steps (put_chosen value place chosen ++ rest) bytes ≡ after_steps rest (after_steps (write_runs value place chosen 0) bytes)
-after-chosen value place chosen rest bytes = after-synced (write_runs value place chosen 0) rest bytes
-
-Crashed-synced : (T : ℕ → Bool) (writes rest : List DiskStep) (bytes left : List ℕ) → WritesIn T writes → Crashed (λ b. b ≡ bytes) bytes (synced writes ++ rest) left
-    → Beyond T bytes left ⊎ Crashed (λ b. b ≡ after_steps writes bytes) (after_steps writes bytes) rest left
-Crashed-synced T [] rest bytes left within crashed = inr crashed
-Crashed-synced T (w ∷ ws) rest bytes left within crashed =
-    let regroup : synced (w ∷ ws) ++ rest ≡ (w ∷ ws) ++ Sync ∷ rest = append_assoc (w ∷ ws) (Sync ∷ []) rest in
-    let P : List DiskStep → Type 0 = λ ss. Crashed (λ b. b ≡ bytes) bytes ss left in
-    Crashed-writes T bytes (w ∷ ws) rest (λ b. b ≡ bytes) bytes left within (λ b same. let Q : List ℕ → Type 0 = λ c. Beyond T bytes c in subst Q (sym same) (Beyond-all T bytes)) (subst P regroup crashed)
-
-pub Crashed-chosen : (value place : ℕ) (chosen : List Bool) (rest : List DiskStep) (bytes left : List ℕ) → Crashed (λ b. b ≡ bytes) bytes (put_chosen value place chosen ++ rest) left
-    → Beyond (chosen_at place chosen) bytes left ⊎ Crashed (λ b. b ≡ after_steps (write_runs value place chosen 0) bytes) (after_steps (write_runs value place chosen 0) bytes) rest left
-Crashed-chosen value place chosen rest bytes left = Crashed-synced (chosen_at place chosen) (write_runs value place chosen 0) rest bytes left (chosen-in value place chosen)
+    now : (get_or bytes k 0 ≡ value k) ⊎ Reached k (WriteAt place part ∷ steps) → (get_or (overwritten bytes place part) k 0 ≡ value k) ⊎ Reached k steps
+    now (inl had) =
+        let only = OnlyIn-written place bytes part even.0 in
+        ⊎_elim (λ below. inl (only.below k below ∙ had)) (λ at_least. ⊎_elim (λ less. inl (here at_least less)) (λ above. inl (only.above k above ∙ had)) (cases_lt k (place + length part))) (cases_lt k place)
+    now (inr (inl there)) = inl (here there.0 there.1)
+    now (inr (inr later)) = inr later

@@ -8,45 +8,55 @@ use Rattle.qic_base.specs.Cartridge.{Cartridge, IsLength}
 use Rattle.qic_base.specs.Disk as disk
 use Rattle.qic_base.specs.Tape.{Meaning, IsToldRight, IsLeftNow}
 use Rattle.cart_image.specs.declared.tape.ImageTape.{ImageTape}
-use Rattle.cart_image.specs.Image.{cartridge_of, size_of}
+use Rattle.cart_image.specs.declared.layout.Layout.{Layout}
+use Rattle.cart_image.specs.declared.segment.SegmentStates.{SegmentStates}
+use Rattle.cart_image.specs.Image.{cartridge_of, layout_of}
 use Rattle.cart_image.specs.Tape.{LeftBy}
-use Rattle.cart_image.specs.Whole.{reads-whole, size_of-cartridge}
+use Rattle.cart_image.specs.Whole.{reads-whole, layout_of-cartridge, layout_of-none}
 
 -- the disk under a tape
 abbrev pub disk_of : {D : Type 0} {g : Ghosts D} → ImageTape D g → D
 disk_of tape = tape.disk
 
+-- the layout that it found or made, and what it knows of a segment
+abbrev pub layout_at : {D : Type 0} {g : Ghosts D} → ImageTape D g → Option Layout
+layout_at tape = tape.layout
+
+abbrev pub known_of : {D : Type 0} {g : Ghosts D} → ImageTape D g → Option SegmentStates
+known_of tape = tape.known
+
+abbrev pub size_by : Option Layout → Option ℕ
+size_by layout = option_map (λ (l : Layout). l.segments_per_track) layout
+
 -- It holds what the disk's bytes are read as.
 abbrev pub image_means : {D : Type 0} {g : Ghosts D} → Meaning (ImageTape D g)
-image_means {g = g} = record { told = λ s. option_map cartridge_of (g.means.told s.disk); size = λ s. s.segments_per_track; faults = λ s. g.means.faults s.disk; tells_stops = λ s. g.means.tells_stops s.disk; moment = λ s. g.means.moment s.disk; left_since = λ s. LeftBy g.means s.disk }
+image_means {g = g} = record { told = λ s. option_map cartridge_of (g.means.told s.disk); size = λ s. size_by s.layout; faults = λ s. g.means.faults s.disk; tells_stops = λ s. g.means.tells_stops s.disk; moment = λ s. g.means.moment s.disk; left_since = λ s. LeftBy g.means s.disk }
 
-pub image-size_fits : {D : Type 0} {g : Ghosts D} (s : ImageTape D g) → IfSome s.segments_per_track IsLength
-image-size_fits s = by_size s.segments_per_track s.shortest s.longest
+pub image-size_fits : {D : Type 0} {g : Ghosts D} (s : ImageTape D g) → IfSome (size_by s.layout) IsLength
+image-size_fits s = by_layout s.layout s.shortest s.longest
   where
-    by_size : (size : Option ℕ) → ((n : ℕ) → size ≡ Some n → 3 ≤ n) → ((n : ℕ) → size ≡ Some n → n ≤ LONGEST) → IfSome size IsLength
-    by_size None shortest longest = tt
-    by_size (Some n) shortest longest = record { shortest = shortest n refl; longest = longest n refl }
+    by_layout : (layout : Option Layout) → ((l : Layout) → layout ≡ Some l → 3 ≤ l.segments_per_track) → ((l : Layout) → layout ≡ Some l → l.segments_per_track ≤ LONGEST) → IfSome (size_by layout) IsLength
+    by_layout None shortest longest = tt
+    by_layout (Some l) shortest longest = record { shortest = shortest l refl; longest = longest l refl }
 
-pub image-told_right : {D : Type 0} {g : Ghosts D} → ((d : D) → disk.IsToldRight g.means d) → (s : ImageTape D g) → IsToldRight (option_map cartridge_of (g.means.told s.disk)) s.segments_per_track
+pub image-told_right : {D : Type 0} {g : Ghosts D} → ((d : D) → disk.IsToldRight g.means d) → (s : ImageTape D g) → IsToldRight (option_map cartridge_of (g.means.told s.disk)) (size_by s.layout)
 image-told_right {D = D} {g = g} right s = by_told (g.means.told s.disk) refl
   where
-    by_size : (size : Option ℕ) (bytes : List ℕ) → ((n : ℕ) → size ≡ Some n → size_of bytes ≡ Some n) → cartridge_of bytes ≡ None → size ≡ None
-    by_size None bytes sized none = refl
-    by_size (Some n) bytes sized none =
-        let e : size_of bytes ≡ Some n = sized n refl in
-        let f : size_of bytes ≡ None = size_of-cartridge bytes ∙ ap (option_map (λ (c : Cartridge). c.info.segments_per_track)) none in cc
+    by_layout : (layout : Option Layout) (bytes : List ℕ) → ((l : Layout) → layout ≡ Some l → layout_of bytes ≡ Some l) → cartridge_of bytes ≡ None → size_by layout ≡ None
+    by_layout None bytes laid none = refl
+    by_layout (Some l) bytes laid none =
+        let e : layout_of bytes ≡ Some l = laid l refl in
+        let f : layout_of bytes ≡ None = layout_of-none bytes none in cc
 
-    same_size : (size : Option ℕ) (bytes : List ℕ) (c : Cartridge) → ((n : ℕ) → size ≡ Some n → size_of bytes ≡ Some n) → cartridge_of bytes ≡ Some c → IfSome size (λ n. c.info.segments_per_track ≡ n)
-    same_size None bytes c sized is = tt
-    same_size (Some n) bytes c sized is =
-        let e : size_of bytes ≡ Some n = sized n refl in
-        let f : size_of bytes ≡ Some c.info.segments_per_track = size_of-cartridge bytes ∙ ap (option_map (λ (c : Cartridge). c.info.segments_per_track)) is in cc
+    same_size : (layout : Option Layout) (bytes : List ℕ) (c : Cartridge) → ((l : Layout) → layout ≡ Some l → layout_of bytes ≡ Some l) → cartridge_of bytes ≡ Some c → IfSome (size_by layout) (λ n. c.info.segments_per_track ≡ n)
+    same_size None bytes c laid is = tt
+    same_size (Some l) bytes c laid is = layout_of-cartridge bytes l c (laid l refl) is
 
-    by_read : (bytes : List ℕ) (o : Option Cartridge) → g.means.told s.disk ≡ Some bytes → cartridge_of bytes ≡ o → IsToldRight (Some o) s.segments_per_track
-    by_read bytes None told is = by_size s.segments_per_track bytes (λ n e. s.sized n bytes e told) is
-    by_read bytes (Some c) told is = (reads-whole bytes c ((right s.disk).bytes bytes told) is, same_size s.segments_per_track bytes c (λ n e. s.sized n bytes e told) is)
+    by_read : (bytes : List ℕ) (o : Option Cartridge) → g.means.told s.disk ≡ Some bytes → cartridge_of bytes ≡ o → IsToldRight (Some o) (size_by s.layout)
+    by_read bytes None told is = by_layout s.layout bytes (λ l e. s.laid l bytes e told) is
+    by_read bytes (Some c) told is = (reads-whole bytes c ((right s.disk).bytes bytes told) is, same_size s.layout bytes c (λ l e. s.laid l bytes e told) is)
 
-    by_told : (o : Option (List ℕ)) → g.means.told s.disk ≡ o → IsToldRight (option_map cartridge_of o) s.segments_per_track
+    by_told : (o : Option (List ℕ)) → g.means.told s.disk ≡ o → IsToldRight (option_map cartridge_of o) (size_by s.layout)
     by_told None told = tt
     by_told (Some bytes) told = by_read bytes (cartridge_of bytes) told refl
 

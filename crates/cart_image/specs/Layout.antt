@@ -1,19 +1,24 @@
--- The image file: where its head, planes and sectors stand, and what each call writes (this project's profile, version 1).
-use Rattle.std.specs.Prelude.{ℕ, zero, suc, ◌+◌, ◌*◌, Bool, true, false, not, ◌==◌, if◌then◌else◌, List, [], ◌∷◌, ◌++◌, map, drop, replicate, codes, slice_range}
+-- The image file: where its head and the parts of its sectors stand in its two layouts, and what each call writes (this
+-- project's profile, versions 1 and 2).
+use Rattle.std.specs.Prelude.{ℕ, zero, suc, ◌+◌, ◌-◌, ◌*◌, Bool, true, false, not, ◌&&◌, ◌==◌, if◌then◌else◌, List, [], ◌∷◌, ◌++◌, map, drop, replicate, codes, slice_index, slice_range}
+use Rattle.std.specs.List.{range_with_len}
 use Rattle.qic_base.specs.declared.tape.SectorView.{SectorView}
 use Rattle.qic_base.specs.declared.tape.SectorView.TheVariants.{Blank, Defect, Lost, Holds}
-use Rattle.qic_base.specs.Disk.{DiskStep, WriteAt, SetLen, Sync}
+use Rattle.qic_base.specs.Disk.{DiskStep, Look, WriteAt, SetLen, Sync}
 use Rattle.qic_base.specs.Field.{little_endian_bytes}
+use Rattle.cart_image.specs.declared.layout.Kind.{Kind}
+use Rattle.cart_image.specs.declared.layout.Kind.TheVariants.{Planes, Cells, CellsBehind}
+use Rattle.cart_image.specs.declared.layout.Layout.{Layout}
+use Rattle.cart_image.specs.declared.layout.Part.{Part}
+use Rattle.cart_image.specs.declared.layout.Part.TheVariants.{GateByte, FormedByte, DefectByte, Data}
 
--- The head: the signature, the version and the segments per track in two bytes each, the two marks, and zeros to 64.
+-- The head: the signature, the version word and the segments per track in two bytes each, the two marks, the layout mark,
+-- and the base in eight bytes; all others are written zero and not read.
 abbrev pub signature : List ℕ
 signature = codes "QIC80IMG"
 
 abbrev pub first_letter : ℕ
 first_letter = 0x51
-
-abbrev pub version : ℕ
-version = 1
 
 abbrev pub version_place : ℕ
 version_place = 8
@@ -27,6 +32,13 @@ protected_place = 12
 abbrev pub referenced_place : ℕ
 referenced_place = 13
 
+-- the layout mark: where it stands, the file is of version 2
+abbrev pub layout_place : ℕ
+layout_place = 14
+
+abbrev pub base_place : ℕ
+base_place = 16
+
 -- a mark stands where its byte is this, and is cleared to 0
 abbrev pub mark_byte : ℕ
 mark_byte = 0x5A
@@ -34,7 +46,7 @@ mark_byte = 0x5A
 abbrev pub head_len : ℕ
 head_len = 64
 
--- what a sector's byte in each plane says; any other byte says the contrary
+-- what a sector's state bytes say; any other byte says the contrary
 abbrev pub open_gate : ℕ
 open_gate = 0x5A
 
@@ -52,115 +64,162 @@ closed_gate = 0xC1
 abbrev pub sectors : ℕ → ℕ
 sectors n = 896 * n
 
--- where the byte of a sector stands in each plane, and where its 1,024 bytes begin
-abbrev pub gate_place : (sector : ℕ) → ℕ
-gate_place sector = 64 + sector
-
-abbrev pub formed_place : (n sector : ℕ) → ℕ
-formed_place n sector = 64 + sectors n + sector
-
-abbrev pub defect_place : (n sector : ℕ) → ℕ
-defect_place n sector = 64 + 2 * sectors n + sector
-
-abbrev pub sector_place : (n sector : ℕ) → ℕ
-sector_place n sector = 64 + 3 * sectors n + 1024 * sector
-
+-- the length of an image of version 1, and of a new one
 abbrev pub image_len : ℕ → ℕ
 image_len n = 64 + 1027 * sectors n
 
+-- .. and of one that was upgraded: the cells stand behind the planes
+abbrev pub upgraded_len : ℕ → ℕ
+upgraded_len n = 64 + 2054 * sectors n
+
+-- the version of a layout
+abbrev pub version_of : Kind → ℕ
+version_of Planes = 1
+version_of Cells = 2
+version_of CellsBehind = 2
+
+-- where the sectors of a layout begin, and where they end
+abbrev pub base_of : Kind → ℕ → ℕ
+base_of Planes n = head_len
+base_of Cells n = head_len
+base_of CellsBehind n = image_len n
+
+abbrev pub end_of : Layout → ℕ
+end_of l = base_of l.kind l.segments_per_track + 1027 * sectors l.segments_per_track
+
+-- bytes of a part of a sector
+abbrev pub width : Part → ℕ
+width GateByte = 1
+width FormedByte = 1
+width DefectByte = 1
+width Data = 1024
+
+-- version 1: a plane for each state byte, and the sectors' bytes behind them
+abbrev pub plane_place : (n : ℕ) → Part → (sector : ℕ) → ℕ
+plane_place n GateByte sector = 64 + sector
+plane_place n FormedByte sector = 64 + sectors n + sector
+plane_place n DefectByte sector = 64 + 2 * sectors n + sector
+plane_place n Data sector = 64 + 3 * sectors n + 1024 * sector
+
+-- version 2: a sector's state bytes beside its bytes
+abbrev pub cell_place : (base : ℕ) → Part → (sector : ℕ) → ℕ
+cell_place base GateByte sector = base + 1027 * sector
+cell_place base FormedByte sector = base + 1027 * sector + 1
+cell_place base DefectByte sector = base + 1027 * sector + 2
+cell_place base Data sector = base + 1027 * sector + 3
+
+abbrev pub place_in : Kind → (n : ℕ) → Part → (sector : ℕ) → ℕ
+place_in Planes n part sector = plane_place n part sector
+place_in Cells n part sector = cell_place head_len part sector
+place_in CellsBehind n part sector = cell_place (image_len n) part sector
+
+-- where a part of a sector begins
+abbrev pub place : Layout → Part → (sector : ℕ) → ℕ
+place l part sector = place_in l.kind l.segments_per_track part sector
+
+-- whether a part of a sector and the same part of the next one are neighbours
+abbrev pub touches : Kind → Bool
+touches Planes = true
+touches Cells = false
+touches CellsBehind = false
+
 -- the head of a new image
 abbrev pub new_head : ℕ → List ℕ
-new_head n = signature ++ (little_endian_bytes 2 version ++ (little_endian_bytes 2 n ++ replicate 52 0))
+new_head n =
+    signature ++ (little_endian_bytes 2 2 ++ (little_endian_bytes 2 n ++ (0 ∷ 0 ∷ mark_byte ∷ 0 ∷ [] ++ (little_endian_bytes 8 head_len ++ replicate 40 0))))
 
 -- bytes written, and then a sync
 abbrev pub put : ℕ → List ℕ → List DiskStep
-put place bytes = WriteAt place bytes ∷ Sync ∷ []
+put at bytes = WriteAt at bytes ∷ Sync ∷ []
 
 -- a length set, and then a sync
 abbrev pub resize : ℕ → List DiskStep
 resize length = SetLen length ∷ Sync ∷ []
 
--- a run of places that get one value, as one write
-abbrev pub run_write : (value place count : ℕ) → List DiskStep
-run_write value place zero = []
-run_write value place (suc count) = WriteAt place (replicate (suc count) value) ∷ []
+-- a run of sectors from a first one on whose part gets one value, as one write
+abbrev pub run_write : (l : Layout) (part : Part) (value sector count : ℕ) → List DiskStep
+run_write l part value sector zero = []
+run_write l part value sector (suc count) = WriteAt (place l part sector) (replicate (width part * suc count) value) ∷ []
 
--- Neighbouring places that are chosen go as one write; `under` is the length of the run that begins at the place.
-abbrev pub write_runs : (value place : ℕ) (chosen : List Bool) (under : ℕ) → List DiskStep
-write_runs value place [] under = run_write value place under
-write_runs value place (true ∷ chosen) under = write_runs value place chosen (suc under)
-write_runs value place (false ∷ chosen) under = run_write value place under ++ write_runs value (place + under + 1) chosen zero
+-- what one sector adds to the writes, and to the run under way that ends before it
+abbrev pub step_writes : (l : Layout) (part : Part) (value sector : ℕ) (chosen : Bool) (under : ℕ) → List DiskStep
+step_writes l part value sector true under = if touches l.kind then [] else run_write l part value sector 1
+step_writes l part value sector false under = run_write l part value (sector - under) under
+
+abbrev pub step_under : (kind : Kind) (chosen : Bool) (under : ℕ) → ℕ
+step_under kind true under = if touches kind then suc under else under
+step_under kind false under = 0
+
+-- A part of the chosen ones of sectors from one on gets a value. Neighbouring parts go as one write; `under` is the length
+-- of the run that ends before the sector.
+abbrev pub fill_writes : (l : Layout) (part : Part) (value sector : ℕ) (chosen : List Bool) (under : ℕ) → List DiskStep
+fill_writes l part value sector [] under = run_write l part value (sector - under) under
+fill_writes l part value sector (true ∷ chosen) under =
+    if touches l.kind then fill_writes l part value (suc sector) chosen (suc under) else run_write l part value sector 1 ++ fill_writes l part value (suc sector) chosen under
+fill_writes l part value sector (false ∷ chosen) under = run_write l part value (sector - under) under ++ fill_writes l part value (suc sector) chosen zero
 
 -- writes, and one sync where there was any
 abbrev pub synced : List DiskStep → List DiskStep
 synced [] = []
 synced (write ∷ writes) = write ∷ writes ++ Sync ∷ []
 
--- the chosen places of a part of a plane get a value
-abbrev pub put_chosen : (value place : ℕ) → List Bool → List DiskStep
-put_chosen value place chosen = synced (write_runs value place chosen 0)
+abbrev pub fill : (l : Layout) (part : Part) (value sector : ℕ) (chosen : List Bool) → List DiskStep
+fill l part value sector chosen = synced (fill_writes l part value sector chosen 0)
 
 -- What each call writes, by the view of its sector. No byte whose meaning stays is written: a gate is closed only where
 -- it is open.
-abbrev pub close_steps : (sector : ℕ) (was_open : Bool) → List DiskStep
-close_steps sector was_open = if was_open then put (gate_place sector) (closed_gate ∷ []) else []
+abbrev pub close_steps : (l : Layout) (sector : ℕ) (was_open : Bool) → List DiskStep
+close_steps l sector was_open = if was_open then put (place l GateByte sector) (closed_gate ∷ []) else []
 
-abbrev pub overwrite_steps : (n sector : ℕ) (was_open : Bool) (bytes : List ℕ) → List DiskStep
-overwrite_steps n sector was_open bytes =
-    close_steps sector was_open ++ (put (sector_place n sector) bytes ++ put (gate_place sector) (open_gate ∷ []))
+abbrev pub overwrite_steps : (l : Layout) (sector : ℕ) (was_open : Bool) (bytes : List ℕ) → List DiskStep
+overwrite_steps l sector was_open bytes =
+    close_steps l sector was_open ++ (put (place l Data sector) bytes ++ put (place l GateByte sector) (open_gate ∷ []))
 
-abbrev pub write_sector_steps : (n sector : ℕ) (bytes : List ℕ) → SectorView → List DiskStep
-write_sector_steps n sector bytes Blank = []
-write_sector_steps n sector bytes Defect = []
-write_sector_steps n sector bytes Lost = overwrite_steps n sector false bytes
-write_sector_steps n sector bytes (Holds old) = overwrite_steps n sector true bytes
+abbrev pub write_sector_steps : (l : Layout) (sector : ℕ) (bytes : List ℕ) → SectorView → List DiskStep
+write_sector_steps l sector bytes Blank = []
+write_sector_steps l sector bytes Defect = []
+write_sector_steps l sector bytes Lost = overwrite_steps l sector false bytes
+write_sector_steps l sector bytes (Holds old) = overwrite_steps l sector true bytes
 
-abbrev pub wear_steps : (n sector : ℕ) → SectorView → List DiskStep
-wear_steps n sector Blank = []
-wear_steps n sector Defect = []
-wear_steps n sector Lost = []
-wear_steps n sector (Holds old) = put (gate_place sector) (closed_gate ∷ [])
+abbrev pub wear_steps : (l : Layout) (sector : ℕ) → SectorView → List DiskStep
+wear_steps l sector Blank = []
+wear_steps l sector Defect = []
+wear_steps l sector Lost = []
+wear_steps l sector (Holds old) = put (place l GateByte sector) (closed_gate ∷ [])
 
-abbrev pub spoil_steps : (n sector : ℕ) → SectorView → List DiskStep
-spoil_steps n sector Blank = put (defect_place n sector) (defect_byte ∷ [])
-spoil_steps n sector Defect = []
-spoil_steps n sector Lost = []
-spoil_steps n sector (Holds old) = []
+abbrev pub spoil_steps : (l : Layout) (sector : ℕ) → SectorView → List DiskStep
+spoil_steps l sector Blank = put (place l DefectByte sector) (defect_byte ∷ [])
+spoil_steps l sector Defect = []
+spoil_steps l sector Lost = []
+spoil_steps l sector (Holds old) = []
 
 -- by what the mark's byte is
 abbrev pub mark_steps : (place : ℕ) (on : Bool) (byte : ℕ) → List DiskStep
 mark_steps place true byte = if byte == mark_byte then [] else put place (mark_byte ∷ [])
 mark_steps place false byte = if byte == mark_byte then put place (0 ∷ []) else []
 
--- the bytes of a segment's 32 sectors
-unfoldable pub zero_segment : List ℕ
-zero_segment = replicate 32768 0
+-- The steps of formatting, for the sectors of a segment that are no defects: the open gates are closed, the sectors are
+-- zeroed, those not formed are formed, and all gates are opened.
+unfoldable pub format_segment_steps : (l : Layout) (segment : ℕ) (readable usable unformed : List Bool) → List DiskStep
+format_segment_steps l segment readable usable unformed =
+    fill l GateByte closed_gate (32 * segment) readable ++ (fill l Data 0 (32 * segment) usable ++ (fill l FormedByte formed_byte (32 * segment) unformed ++ fill l GateByte open_gate (32 * segment) usable))
 
--- The steps of formatting: the open gates are closed, the sectors are zeroed, those not formed are formed, and all
--- gates are opened.
-abbrev pub close_segment : (segment : ℕ) (gates : List ℕ) → List DiskStep
-close_segment segment gates = put_chosen closed_gate (gate_place (32 * segment)) (map (λ b. b == open_gate) gates)
+-- by the state bytes that the file has
+abbrev pub is_usable : (l : Layout) (bytes : List ℕ) (sector : ℕ) → Bool
+is_usable l bytes sector = not (slice_index bytes (place l DefectByte sector) == defect_byte)
 
-abbrev pub clean_segment : (n segment : ℕ) → List DiskStep
-clean_segment n segment = put (sector_place n (32 * segment)) zero_segment
+abbrev pub is_open : (l : Layout) (bytes : List ℕ) (sector : ℕ) → Bool
+is_open l bytes sector = is_usable l bytes sector && (slice_index bytes (place l GateByte sector) == open_gate)
 
-abbrev pub form_segment : (n segment : ℕ) (formed : List ℕ) → List DiskStep
-form_segment n segment formed = put_chosen formed_byte (formed_place n (32 * segment)) (map (λ b. not (b == formed_byte)) formed)
+abbrev pub is_unformed : (l : Layout) (bytes : List ℕ) (sector : ℕ) → Bool
+is_unformed l bytes sector = is_usable l bytes sector && not (slice_index bytes (place l FormedByte sector) == formed_byte)
 
-abbrev pub open_segment : (segment : ℕ) → List DiskStep
-open_segment segment = put (gate_place (32 * segment)) (replicate 32 open_gate)
+-- which of the 32 sectors of a segment
+abbrev pub those : (segment : ℕ) → (ℕ → Bool) → List Bool
+those segment is = map is (range_with_len (32 * segment) 32)
 
--- by the gate bytes and the formed bytes of the segment's 32 sectors
-unfoldable pub format_segment_steps : (n segment : ℕ) (gates formed : List ℕ) → List DiskStep
-format_segment_steps n segment gates formed =
-    close_segment segment gates ++ (clean_segment n segment ++ (form_segment n segment formed ++ open_segment segment))
-
--- .. that the file has
-abbrev pub format_plan : (n segment : ℕ) (bytes : List ℕ) → List DiskStep
-format_plan n segment bytes =
-    format_segment_steps n segment
-    (slice_range bytes (gate_place (32 * segment)) (gate_place (32 * segment) + 32))
-    (slice_range bytes (formed_place n (32 * segment)) (formed_place n (32 * segment) + 32))
+abbrev pub format_plan : (l : Layout) (segment : ℕ) (bytes : List ℕ) → List DiskStep
+format_plan l segment bytes = format_segment_steps l segment (those segment (is_open l bytes)) (those segment (is_usable l bytes)) (those segment (is_unformed l bytes))
 
 -- an image's first byte is cleared
 abbrev pub clear_steps : (first : ℕ) → List DiskStep
@@ -170,3 +229,36 @@ clear_steps first = if first == first_letter then put 0 (0 ∷ []) else []
 unfoldable pub renew_steps : (n first : ℕ) → List DiskStep
 renew_steps n first =
     clear_steps first ++ (resize head_len ++ (resize (image_len n) ++ (put 1 (drop 1 (new_head n)) ++ put 0 (first_letter ∷ []))))
+
+-- The four parts of a sector of a version 1 image, as they stand beside each other in version 2.
+unfoldable pub cell : (n : ℕ) (bytes : List ℕ) (sector : ℕ) → List ℕ
+cell n bytes sector =
+    slice_index bytes (plane_place n GateByte sector) ∷ slice_index bytes (plane_place n FormedByte sector) ∷ slice_index bytes (plane_place n DefectByte sector) ∷ slice_range bytes (plane_place n Data sector) (plane_place n Data sector + 1024)
+
+-- .. by the state bytes of a segment and its 32,768 bytes
+unfoldable pub cell_with : (gates formed defects block : List ℕ) (i : ℕ) → List ℕ
+cell_with gates formed defects block i = slice_index gates i ∷ slice_index formed i ∷ slice_index defects i ∷ slice_range block (1024 * i) (1024 * i + 1024)
+
+-- the first ones of sectors from one on are written as cells behind the planes
+abbrev pub cells_by : (n sector : ℕ) (parts : ℕ → List ℕ) (count : ℕ) → List DiskStep
+cells_by n sector parts zero = []
+cells_by n sector parts (suc count) = cells_by n sector parts count ++ WriteAt (cell_place (image_len n) GateByte (sector + count)) (parts count) ∷ []
+
+-- a segment is looked at, and its 32 sectors are written
+abbrev pub copy_segment : (n segment : ℕ) (bytes : List ℕ) → List DiskStep
+copy_segment n segment bytes = Look ∷ cells_by n (32 * segment) (λ i. cell n bytes (32 * segment + i)) 32
+
+-- .. the first ones of the segments
+abbrev pub copy_steps : (n : ℕ) (bytes : List ℕ) (count : ℕ) → List DiskStep
+copy_steps n bytes zero = []
+copy_steps n bytes (suc count) = copy_steps n bytes count ++ copy_segment n count bytes
+
+-- A version 1 image is brought to version 2: it gets longer, its sectors are written as cells behind the planes, then the
+-- base, and at last the layout mark.
+unfoldable pub upgrade_steps : (n : ℕ) (bytes : List ℕ) → List DiskStep
+upgrade_steps n bytes =
+    (resize (upgraded_len n) ++ (copy_steps n bytes (28 * n) ++ (Sync ∷ [] ++ put base_place (little_endian_bytes 8 (image_len n))))) ++ put layout_place (mark_byte ∷ [])
+
+-- .. and one of version 2 stays
+abbrev pub upgrade_plan : (l : Layout) (bytes : List ℕ) → List DiskStep
+upgrade_plan l bytes = if version_of l.kind == 1 then upgrade_steps l.segments_per_track bytes else []

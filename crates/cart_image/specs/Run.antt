@@ -1,5 +1,6 @@
 -- What a call of a tape does to the disk under it: looks, and then steps in order.
 use Rattle.std.specs.Prelude.{◌≡◌, ℕ, ◌≤◌, ◌⊎◌, List, [], ◌∷◌, Option, Some, IfSome, Result, Ok, Err}
+use Rattle.cart_image.specs.declared.layout.Layout.{Layout}
 use Rattle.qic_base.specs.Disk.{Meaning, DiskStep, Look, WriteAt, SetLen, Sync, stored, Unsynced, Stored, Failed}
 
 -- From old on the disk was only looked at.
@@ -44,9 +45,15 @@ pub record Carried {D T E : Type 0} (m : Meaning D) (old new : D) (plan : List �
   pub planned : (bytes : List ℕ) → m.told old ≡ Some bytes → steps ≡ plan bytes
   pub went : Went m old new steps result
 
--- .. where the plan is by the segments per track
-abbrev pub CarriedBy : {D T E : Type 0} (m : Meaning D) (old new : D) (size : Option ℕ) (plan : ℕ → List ℕ → List DiskStep) (result : Result T E) → Type 0
-CarriedBy m old new size plan result = IfSome size (λ n. Carried m old new (plan n) result)
+-- .. where the plan is by the layout
+abbrev pub CarriedBy : {D T E : Type 0} (m : Meaning D) (old new : D) (layout : Option Layout) (plan : Layout → List ℕ → List DiskStep) (result : Result T E) → Type 0
+CarriedBy m old new layout plan result = IfSome layout (λ l. Carried m old new (plan l) result)
+
+-- the steps were run; where the disk tells its bytes, they are those of the plan
+pub record Planned {D T E : Type 0} (m : Meaning D) (old new : D) (plan : List ℕ → List DiskStep) (result : Result T E) : Type 0 where
+  pub steps : List DiskStep
+  pub planned : (bytes : List ℕ) → m.told old ≡ Some bytes → steps ≡ plan bytes
+  pub runs : Runs m old new steps result
 
 -- the bytes after the steps
 abbrev pub after_steps : List DiskStep → List ℕ → List ℕ

@@ -1,11 +1,15 @@
--- What the planes say of a sector, without its bytes (this project's profile).
-use Rattle.std.specs.Prelude.{◌≡◌, ℕ, ◌<◌, Option, Some, slice_index_or}
-use Rattle.qic_base.specs.Cartridge.{Cartridge, view_at}
+-- What the state bytes say of a sector, without its bytes (this project's profile).
+use Rattle.std.specs.Prelude.{◌≡◌, ℕ, ◌<◌, List, Option, Some, slice_index, slice_index_or, slice_set}
+use Rattle.qic_base.specs.Cartridge.{Cartridge, place_of, view_at}
 use Rattle.qic_base.specs.declared.tape.SectorView.{SectorView}
 use Rattle.qic_base.specs.declared.tape.SectorView.TheVariants.{Blank, Defect, Lost, Holds}
 use Rattle.cart_image.specs.declared.reading.SectorState.{SectorState}
 use Rattle.cart_image.specs.declared.reading.SectorState.TheVariants as state
 use Rattle.cart_image.specs.declared.segment.SegmentStates.{SegmentStates}
+use Rattle.cart_image.specs.declared.segment.SegmentMarks.{SegmentMarks}
+use Rattle.cart_image.specs.declared.layout.Layout.{Layout}
+use Rattle.cart_image.specs.declared.layout.Part.TheVariants.{GateByte, FormedByte, DefectByte}
+use Rattle.cart_image.specs.Layout.{place}
 
 abbrev pub state_of : SectorView → SectorState
 state_of Blank = state.Blank
@@ -17,6 +21,16 @@ state_of (Holds bytes) = state.Readable
 abbrev pub HoldsStates : SegmentStates → Cartridge → Type 0
 HoldsStates states c = (i : ℕ) → i < 32 → slice_index_or states.states i state.Blank ≡ state_of (view_at c states.segment i)
 
+-- .. with another state of a sector
+abbrev pub with_state : SegmentStates → (sector : ℕ) → SectorState → SegmentStates
+with_state states sector state = record { segment = states.segment; states = slice_set states.states sector state }
+
 -- .. where there is one
 abbrev pub AreStates : SegmentStates → Option Cartridge → Type 0
 AreStates states held = (c : Cartridge) → held ≡ Some c → HoldsStates states c
+
+-- the state bytes that a file has of a segment's sectors
+pub record AreMarks (l : Layout) (segment : ℕ) (bytes : List ℕ) (m : SegmentMarks) : Type 0 where
+  pub gates : (i : ℕ) → i < 32 → slice_index m.gates i ≡ slice_index bytes (place l GateByte (place_of segment i))
+  pub formed : (i : ℕ) → i < 32 → slice_index m.formed i ≡ slice_index bytes (place l FormedByte (place_of segment i))
+  pub defects : (i : ℕ) → i < 32 → slice_index m.defects i ≡ slice_index bytes (place l DefectByte (place_of segment i))

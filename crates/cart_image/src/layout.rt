@@ -1,19 +1,26 @@
-//! Where the head, the planes and the sectors of an image file stand, and what their bytes say (this project's profile,
-//! version 1).
+//! Where the head of an image file stands and, in each of its layouts, the parts of a sector; and what their bytes say
+//! (this project's profile, versions 1 and 2).
 ghost use Rattle.std.specs.Prelude.{◌≡◌, ◌<◌};
-ghost use Rattle.cart_image.specs.Layout.{sectors, gate_place as gate_at, formed_place as formed_at, defect_place as defect_at, sector_place as sector_at, image_len as length_of};
+ghost use Rattle.qic_base.specs.Cartridge.{IsVersion};
+ghost use Rattle.cart_image.specs.Layout.{sectors, image_len as length_of, upgraded_len as upgraded_to, place as place_at, plane_place as plane_at, cell_place as cell_at, end_of, width, touches as touch, version_of};
 
 /// The first bytes of an image.
 pub const SIGNATURE: &[u8; 8] = b"QIC80IMG";
 
-/// The version of the image.
-pub const VERSION: u16 = 1;
+/// The length of the head.
+pub const HEAD_LEN: u64 = 64;
 
 /// Where the byte of the write protect mark stands.
 pub const PROTECTED_PLACE: u64 = 12;
 
 /// Where the byte of the referenced mark stands.
 pub const REFERENCED_PLACE: u64 = 13;
+
+/// Where the layout mark stands: it makes the image one of version 2.
+pub const LAYOUT_PLACE: u64 = 14;
+
+/// Where the eight bytes of the base stand.
+pub const BASE_PLACE: u64 = 16;
 
 /// The byte of a mark that stands; any other is none.
 pub const MARK: u8 = 0x5A;
@@ -30,41 +37,136 @@ pub const FORMED: u8 = 0xF0;
 /// The defect byte of a defect; any other says that it is none.
 pub const DEFECT: u8 = 0xBD;
 
-/// Where the gate of a sector stands.
-pub fn gate_place(sector: u64) -> u64
-    requires { sector < sectors 65536 }
-    ensures { result ≡ gate_at sector }
-{
-    64 + sector
+/// How the parts of the sectors lie.
+#[derive(Clone, Copy, Debug, PartialEq, Eq)]
+pub enum Kind {
+    /// Version 1: a plane for each state byte, and the sectors' bytes behind them.
+    Planes,
+    /// Version 2: the four parts of each sector beside each other, behind the head.
+    Cells,
+    /// Version 2, as an upgrade leaves it: beside each other, behind the planes of version 1.
+    CellsBehind,
 }
 
-/// Where its formed byte stands.
-pub fn formed_place(segments_per_track: u16, sector: u64) -> u64
+/// A part of a sector: a byte of its state, or its 1,024 bytes.
+#[derive(Clone, Copy, Debug, PartialEq, Eq)]
+pub enum Part {
+    GateByte,
+    FormedByte,
+    DefectByte,
+    Data,
+}
+
+/// How a cartridge of some length, 3 to `LONGEST` segments per track, lies in its file.
+#[derive(Clone, Copy, Debug, PartialEq, Eq)]
+pub struct Layout {
+    pub segments_per_track: u16,
+    pub kind: Kind,
+}
+
+/// What the head of an image tells.
+#[derive(Clone, Copy, Debug, PartialEq, Eq)]
+pub struct Head {
+    pub layout: Layout,
+    pub protected: bool,
+    pub referenced: bool,
+}
+
+impl Layout {
+    /// Where a part of a sector begins.
+    pub fn place(self, part: Part, sector: u64) -> u64
+        requires { sector < sectors self.segments_per_track }
+        ensures { result ≡ place_at self part sector }
+    {
+        let n = self.segments_per_track;
+        match self.kind {
+            Kind::Planes => plane_place(n, part, sector),
+            Kind::Cells => cell_place(HEAD_LEN, part, sector),
+            Kind::CellsBehind => cell_place(image_len(n), part, sector),
+        }
+    }
+
+    /// Where the last sector ends.
+    pub fn end(self) -> u64
+        ensures { result ≡ end_of self }
+    {
+        match self.kind {
+            Kind::Planes | Kind::Cells => image_len(self.segments_per_track),
+            Kind::CellsBehind => upgraded_len(self.segments_per_track),
+        }
+    }
+
+    /// Whether a part of a sector and the same part of the next one are neighbours.
+    pub fn touches(self) -> bool
+        ensures { result ≡ touch self.kind }
+    {
+        match self.kind {
+            Kind::Planes => true,
+            Kind::Cells | Kind::CellsBehind => false,
+        }
+    }
+
+    /// Its version, 1 or 2.
+    pub fn version(self) -> u8
+        ensures version { result ≡ version_of self.kind }
+        ensures fits { IsVersion result }
+    {
+        match self.kind {
+            Kind::Planes => 1,
+            Kind::Cells | Kind::CellsBehind => 2,
+        }
+    }
+}
+
+/// The bytes of a part of a sector.
+pub fn part_len(part: Part) -> usize
+    ensures { result ≡ width part }
+{
+    match part {
+        Part::GateByte | Part::FormedByte | Part::DefectByte => 1,
+        Part::Data => 1024,
+    }
+}
+
+/// Where a part of a sector begins in version 1.
+pub fn plane_place(segments_per_track: u16, part: Part, sector: u64) -> u64
     requires { sector < sectors segments_per_track }
-    ensures { result ≡ formed_at segments_per_track sector }
+    ensures { result ≡ plane_at segments_per_track part sector }
 {
-    64 + 896 * segments_per_track as u64 + sector
+    let sectors = 896 * segments_per_track as u64;
+    match part {
+        Part::GateByte => 64 + sector,
+        Part::FormedByte => 64 + sectors + sector,
+        Part::DefectByte => 64 + 2 * sectors + sector,
+        Part::Data => 64 + 3 * sectors + 1024 * sector,
+    }
 }
 
-/// Where its defect byte stands.
-pub fn defect_place(segments_per_track: u16, sector: u64) -> u64
-    requires { sector < sectors segments_per_track }
-    ensures { result ≡ defect_at segments_per_track sector }
+/// Where it begins in version 2, whose sectors begin at the base.
+pub fn cell_place(base: u64, part: Part, sector: u64) -> u64
+    requires base { base < length_of 65536 }
+    requires sector { sector < sectors 65536 }
+    ensures { result ≡ cell_at base part sector }
 {
-    64 + 2 * 896 * segments_per_track as u64 + sector
+    let cell = base + 1027 * sector;
+    match part {
+        Part::GateByte => cell,
+        Part::FormedByte => cell + 1,
+        Part::DefectByte => cell + 2,
+        Part::Data => cell + 3,
+    }
 }
 
-/// Where its 1,024 bytes begin.
-pub fn sector_place(segments_per_track: u16, sector: u64) -> u64
-    requires { sector < sectors segments_per_track }
-    ensures { result ≡ sector_at segments_per_track sector }
-{
-    64 + 3 * 896 * segments_per_track as u64 + 1024 * sector
-}
-
-/// The length of an image in bytes.
+/// The length of an image of version 1 and of a new one, in bytes.
 pub fn image_len(segments_per_track: u16) -> u64
     ensures { result ≡ length_of segments_per_track }
 {
     64 + 1027 * 896 * segments_per_track as u64
+}
+
+/// The length of an image that was upgraded, in bytes.
+pub fn upgraded_len(segments_per_track: u16) -> u64
+    ensures { result ≡ upgraded_to segments_per_track }
+{
+    64 + 2054 * 896 * segments_per_track as u64
 }

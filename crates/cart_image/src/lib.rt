@@ -9,6 +9,7 @@ mod renewing;
 mod segment;
 mod synced;
 mod tape;
+mod upgrading;
 mod writing;
 
 pub use tape::ImageTape;

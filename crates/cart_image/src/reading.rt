@@ -1,24 +1,23 @@
-//! What an image file tells: its head, and what its planes and sectors hold.
-ghost use Rattle.std.specs.Prelude.{◌≡◌, ◌≢◌, ℕ, ◌+◌, ◌*◌, ◌<◌, ◌≤◌, List, length, slice_index, slice_index_or, slice_range, IfOk, IfSome, OnErr};
+//! What an image file tells: its head, and what it holds of its sectors.
+ghost use Rattle.std.specs.Prelude.{◌≡◌, ◌≢◌, ℕ, ◌+◌, ◌*◌, ◌<◌, ◌≤◌, List, length, slice_index, slice_index_or, slice_range, IfOk, IfSome, OnErr, false};
 ghost use Rattle.qic_base.specs.Cartridge.{place_of};
 ghost use Rattle.qic_base.specs.Tape.{Reads};
-ghost use Rattle.cart_image.specs.Image.{info_by, info_of, view_by, view_in, sector_bytes};
-ghost use Rattle.cart_image.specs.Layout.{sectors, image_len as length_of};
+ghost use Rattle.cart_image.specs.Image.{cells_by, kind_by, layout_by, head_by as head_told, head_of, view_by, view_in, sector_bytes};
+ghost use Rattle.cart_image.specs.Layout.{sectors, end_of, touches};
 ghost use Rattle.cart_image.specs.Run.{Looked};
-ghost use Rattle.cart_image.specs.State.{state_of};
-ghost use Rattle.cart_image.specs.Whole.{IsHeadOf};
+ghost use Rattle.cart_image.specs.State.{state_of, AreMarks};
+ghost use Rattle.cart_image.specs.Whole.{IsHeadIn};
 
 use crate::layout::{
-    DEFECT, FORMED, MARK, OPEN, SIGNATURE, VERSION, defect_place, formed_place, gate_place,
-    image_len, sector_place,
+    DEFECT, FORMED, HEAD_LEN, Head, Kind, Layout, MARK, OPEN, Part, SIGNATURE, image_len,
 };
-use crate::segment::SegmentStates;
-use qic_base::{Disk, DiskFailed, LONGEST, SectorRead, TapeInfo, read_u16};
+use crate::segment::SegmentMarks;
+use qic_base::{Disk, DiskFailed, LONGEST, SectorRead, read_u16, read_u64};
 
 /// The fewest segments per track of a cartridge.
 const SHORTEST: u16 = 3;
 
-/// What the planes say of a sector.
+/// What the state bytes say of a sector.
 #[derive(Clone, Copy, Debug, PartialEq, Eq)]
 pub enum SectorState {
     Blank,
@@ -27,42 +26,88 @@ pub enum SectorState {
     Readable,
 }
 
-/// What a file of this length that begins so tells of its cartridge; None where it is no image.
-#[tactic(auto, unfolding(crate::specs::Image::info_by))]
-fn info_by_head(len: u64, head: &[u8; 14]) -> Option<TapeInfo>
-    ensures { result ≡ info_by len head.now }
+/// How the parts lie in a version 2 image with this base.
+fn cells_at(segments_per_track: u16, base: u64) -> Option<Kind>
+    ensures { result ≡ cells_by segments_per_track base }
+{
+    if base == HEAD_LEN {
+        Some(Kind::Cells)
+    } else if base == image_len(segments_per_track) {
+        Some(Kind::CellsBehind)
+    } else {
+        None
+    }
+}
+
+/// How they lie in an image with this head.
+fn kind_of(segments_per_track: u16, head: &[u8; 24]) -> Option<Kind>
+    ensures { result ≡ kind_by segments_per_track head.now }
+{
+    if head[14] == MARK {
+        cells_at(segments_per_track, read_u64(head, 16))
+    } else if read_u16(head, 8) == 1 {
+        Some(Kind::Planes)
+    } else {
+        None
+    }
+}
+
+/// The layout of a file of this length that begins so; None where it is no image.
+#[tactic(auto, unfolding(crate::specs::Image::layout_by))]
+fn layout_by_head(len: u64, head: &[u8; 24]) -> Option<Layout>
+    ensures { result ≡ layout_by len head.now }
 {
     let segments_per_track = read_u16(head, 10);
-    if head[..8] != SIGNATURE[..] || read_u16(head, 8) != VERSION {
+    if head[..8] != SIGNATURE[..] {
         return None;
     }
     if segments_per_track < SHORTEST || segments_per_track > LONGEST {
         return None;
     }
-    if len != image_len(segments_per_track) {
-        return None;
+    match kind_of(segments_per_track, head) {
+        None => None,
+        Some(kind) => {
+            let layout = Layout {
+                segments_per_track,
+                kind,
+            };
+            if layout.end() <= len {
+                Some(layout)
+            } else {
+                None
+            }
+        }
     }
-    Some(TapeInfo {
-        segments_per_track,
-        protected: head[12] == MARK,
-        referenced: head[13] == MARK,
-    })
 }
 
-/// What the file tells of its cartridge; None where it is no image.
-pub fn read_info<D: Disk>(disk: &mut D) -> Result<Option<TapeInfo>, DiskFailed>
+/// What a file of this length that begins so tells; None where it is no image.
+fn head_by(len: u64, head: &[u8; 24]) -> Option<Head>
+    ensures { result ≡ head_told len head.now }
+{
+    match layout_by_head(len, head) {
+        None => None,
+        Some(layout) => Some(Head {
+            layout,
+            protected: head[12] == MARK,
+            referenced: head[13] == MARK,
+        }),
+    }
+}
+
+/// What the head of the file tells; None where it is no image.
+pub fn read_head<D: Disk>(disk: &mut D) -> Result<Option<Head>, DiskFailed>
     ensures looked { Looked D.means disk.old disk.new result }
-    ensures info { IfOk result (λ info.
-        IfSome (D.means.told disk.old) (λ bytes. info ≡ info_of bytes)) }
-    ensures fits { IfOk result (λ info. IfSome info (λ i.
-        IsHeadOf (D.means.seen_len disk.new) i)) }
+    ensures head { IfOk result (λ head.
+        IfSome (D.means.told disk.old) (λ bytes. head ≡ head_of bytes)) }
+    ensures fits { IfOk result (λ head. IfSome head (λ h.
+        IsHeadIn (D.means.seen_len disk.new) h)) }
     ensures failed { OnErr result (D.means.seen_len disk.new ≡ D.means.seen_len disk.old) }
 {
-    let mut head = [0; 14];
+    let mut head = [0; 24];
     let count = disk.read_at(0, &mut head)?;
     let len = disk.len()?;
     Ok(if count == head.len() {
-        info_by_head(len, &head)
+        head_by(len, &head)
     } else {
         None
     })
@@ -80,7 +125,7 @@ pub fn read_byte<D: Disk>(disk: &mut D, place: u64) -> Result<u8, DiskFailed>
     Ok(if count == 1 { byte[0] } else { 0 })
 }
 
-/// What these bytes in the planes say of a sector.
+/// What these state bytes say of a sector.
 fn state_by(defect: u8, formed: u8, gate: u8) -> SectorState
     ensures { (bytes : List ℕ) → result ≡ state_of (view_by defect formed gate bytes) }
 {
@@ -96,7 +141,7 @@ fn state_by(defect: u8, formed: u8, gate: u8) -> SectorState
 }
 
 /// 32 bytes of a plane.
-pub fn read_plane<D: Disk>(disk: &mut D, place: u64) -> Result<[u8; 32], DiskFailed>
+fn read_plane<D: Disk>(disk: &mut D, place: u64) -> Result<[u8; 32], DiskFailed>
     ensures looked { Looked D.means disk.old disk.new result }
     ensures bytes { IfOk result (λ part. IfSome (D.means.told disk.old) (λ bytes.
         place + 32 ≤ length bytes → part ≡ slice_range bytes place (place + 32))) }
@@ -107,57 +152,158 @@ pub fn read_plane<D: Disk>(disk: &mut D, place: u64) -> Result<[u8; 32], DiskFai
     Ok(part)
 }
 
-/// What these bytes in the planes say of 32 sectors.
-fn states_by(defects: &[u8; 32], formed: &[u8; 32], gates: &[u8; 32]) -> [SectorState; 32]
+/// The bytes of a segment's sectors, where they stand beside each other.
+pub fn read_block<D: Disk>(disk: &mut D, place: u64) -> Result<[u8; 32768], DiskFailed>
+    ensures looked { Looked D.means disk.old disk.new result }
+    ensures bytes { IfOk result (λ part. IfSome (D.means.told disk.old) (λ bytes.
+        place + 32768 ≤ length bytes → part ≡ slice_range bytes place (place + 32768))) }
+    ensures seen { D.means.seen_len disk.new ≡ D.means.seen_len disk.old }
+{
+    let mut part = [0; 32768];
+    disk.read_at(place, &mut part)?;
+    Ok(part)
+}
+
+/// The three state bytes of a sector that stand beside each other: its gate, its formed byte and its defect byte.
+fn read_flags<D: Disk>(disk: &mut D, place: u64) -> Result<[u8; 3], DiskFailed>
+    ensures looked { Looked D.means disk.old disk.new result }
+    ensures bytes { IfOk result (λ part. IfSome (D.means.told disk.old) (λ bytes.
+        place + 3 ≤ length bytes → part ≡ slice_range bytes place (place + 3))) }
+    ensures seen { D.means.seen_len disk.new ≡ D.means.seen_len disk.old }
+{
+    let mut part = [0; 3];
+    disk.read_at(place, &mut part)?;
+    Ok(part)
+}
+
+/// A sector in a cell: those three, and its 1,024 bytes behind them.
+fn read_cell<D: Disk>(disk: &mut D, place: u64) -> Result<[u8; 1027], DiskFailed>
+    ensures looked { Looked D.means disk.old disk.new result }
+    ensures bytes { IfOk result (λ part. IfSome (D.means.told disk.old) (λ bytes.
+        place + 1027 ≤ length bytes → part ≡ slice_range bytes place (place + 1027))) }
+    ensures seen { D.means.seen_len disk.new ≡ D.means.seen_len disk.old }
+{
+    let mut part = [0; 1027];
+    disk.read_at(place, &mut part)?;
+    Ok(part)
+}
+
+/// The state bytes of a segment in planes.
+pub fn read_planes<D: Disk>(
+    disk: &mut D,
+    layout: Layout,
+    segment: u32,
+) -> Result<SegmentMarks, DiskFailed>
+    requires place { segment < 28 * layout.segments_per_track }
+    requires planes { layout.kind ≡ Kind.Planes }
+    ensures looked { Looked D.means disk.old disk.new result }
+    ensures marks { IfOk result (λ marks. IfSome (D.means.told disk.old) (λ bytes.
+        end_of layout ≤ length bytes → AreMarks layout segment bytes marks)) }
+    ensures seen { D.means.seen_len disk.new ≡ D.means.seen_len disk.old }
+{
+    let first = 32 * segment as u64;
+    let defects = read_plane(disk, layout.place(Part::DefectByte, first))?;
+    let formed = read_plane(disk, layout.place(Part::FormedByte, first))?;
+    let gates = read_plane(disk, layout.place(Part::GateByte, first))?;
+    Ok(SegmentMarks {
+        gates,
+        formed,
+        defects,
+    })
+}
+
+/// The state bytes of a segment in cells.
+fn read_all_flags<D: Disk>(
+    disk: &mut D,
+    layout: Layout,
+    segment: u32,
+) -> Result<SegmentMarks, DiskFailed>
+    requires place { segment < 28 * layout.segments_per_track }
+    requires cells { touches layout.kind ≡ false }
+    ensures looked { Looked D.means disk.old disk.new result }
+    ensures marks { IfOk result (λ marks. IfSome (D.means.told disk.old) (λ bytes.
+        end_of layout ≤ length bytes → AreMarks layout segment bytes marks)) }
+    ensures seen { D.means.seen_len disk.new ≡ D.means.seen_len disk.old }
+{
+    let first = 32 * segment as u64;
+    let mut gates = [0; 32];
+    let mut formed = [0; 32];
+    let mut defects = [0; 32];
+    for i in 0..32 {
+        let flags = read_flags(disk, layout.place(Part::GateByte, first + i as u64))?;
+        gates[i] = flags[0];
+        formed[i] = flags[1];
+        defects[i] = flags[2];
+    }
+    Ok(SegmentMarks {
+        gates,
+        formed,
+        defects,
+    })
+}
+
+/// The state bytes of the sectors of a segment.
+pub fn read_marks<D: Disk>(
+    disk: &mut D,
+    layout: Layout,
+    segment: u32,
+) -> Result<SegmentMarks, DiskFailed>
+    requires { segment < 28 * layout.segments_per_track }
+    ensures looked { Looked D.means disk.old disk.new result }
+    ensures marks { IfOk result (λ marks. IfSome (D.means.told disk.old) (λ bytes.
+        end_of layout ≤ length bytes → AreMarks layout segment bytes marks)) }
+    ensures seen { D.means.seen_len disk.new ≡ D.means.seen_len disk.old }
+{
+    match layout.kind {
+        Kind::Planes => read_planes(disk, layout, segment),
+        Kind::Cells | Kind::CellsBehind => read_all_flags(disk, layout, segment),
+    }
+}
+
+/// What these state bytes say of the sectors of a segment.
+pub fn states_by(marks: &SegmentMarks) -> [SectorState; 32]
     ensures { (i : ℕ) (bytes : List ℕ) → i < 32 → slice_index_or result i SectorState.Blank
-        ≡ state_of (view_by (slice_index defects.now i) (slice_index formed.now i)
-        (slice_index gates.now i) bytes) }
+        ≡ state_of (view_by (slice_index marks.now.defects i) (slice_index marks.now.formed i)
+        (slice_index marks.now.gates i) bytes) }
 {
     let mut states = [SectorState::Blank; 32];
     for i in 0..32 {
-        states[i] = state_by(defects[i], formed[i], gates[i]);
+        states[i] = state_by(marks.defects[i], marks.formed[i], marks.gates[i]);
     }
     states
 }
 
-/// What the planes say of the sectors of a segment.
-pub fn read_states<D: Disk>(
+/// What the state bytes of a sector in a cell say.
+pub fn read_state<D: Disk>(
     disk: &mut D,
-    segments_per_track: u16,
-    segment: u32,
-) -> Result<SegmentStates, DiskFailed>
-    requires { segment < 28 * segments_per_track }
+    layout: Layout,
+    sector: u64,
+) -> Result<SectorState, DiskFailed>
+    requires place { sector < sectors layout.segments_per_track }
+    requires cells { touches layout.kind ≡ false }
     ensures looked { Looked D.means disk.old disk.new result }
-    ensures segment { IfOk result (λ states. states.segment ≡ segment) }
-    ensures states { IfOk result (λ states. IfSome (D.means.told disk.old) (λ bytes.
-        length_of segments_per_track ≤ length bytes → (i : ℕ) → i < 32 →
-        slice_index_or states.states i SectorState.Blank
-        ≡ state_of (view_in segments_per_track bytes (place_of segment i)))) }
+    ensures state { IfOk result (λ state. IfSome (D.means.told disk.old) (λ bytes.
+        end_of layout ≤ length bytes → state ≡ state_of (view_in layout bytes sector))) }
     ensures seen { D.means.seen_len disk.new ≡ D.means.seen_len disk.old }
 {
-    let first = 32 * segment as u64;
-    let defects = read_plane(disk, defect_place(segments_per_track, first))?;
-    let formed = read_plane(disk, formed_place(segments_per_track, first))?;
-    let gates = read_plane(disk, gate_place(first))?;
-    let states = states_by(&defects, &formed, &gates);
-    Ok(SegmentStates { segment, states })
+    let flags = read_flags(disk, layout.place(Part::GateByte, sector))?;
+    Ok(state_by(flags[2], flags[1], flags[0]))
 }
 
 /// The bytes of a sector; None where the disk has fewer.
 fn read_bytes<D: Disk>(
     disk: &mut D,
-    segments_per_track: u16,
+    layout: Layout,
     sector: u64,
 ) -> Result<Option<[u8; 1024]>, DiskFailed>
-    requires { sector < sectors segments_per_track }
+    requires { sector < sectors layout.segments_per_track }
     ensures looked { Looked D.means disk.old disk.new result }
     ensures bytes { IfOk result (λ found. IfSome (D.means.told disk.old) (λ bytes.
-        length_of segments_per_track ≤ length bytes →
-        found ≡ Some (sector_bytes segments_per_track bytes sector))) }
+        end_of layout ≤ length bytes → found ≡ Some (sector_bytes layout bytes sector))) }
     ensures seen { D.means.seen_len disk.new ≡ D.means.seen_len disk.old }
 {
     let mut bytes = [0; 1024];
-    let count = disk.read_at(sector_place(segments_per_track, sector), &mut bytes)?;
+    let count = disk.read_at(layout.place(Part::Data, sector), &mut bytes)?;
     Ok(if count == bytes.len() {
         Some(bytes)
     } else {
@@ -165,33 +311,60 @@ fn read_bytes<D: Disk>(
     })
 }
 
-/// Reads a sector of which the planes say this. `into` is unchanged unless the answer is `Good`.
+/// Reads a sector of which the state bytes say this. `into` is unchanged unless the answer is `Good`.
 pub fn read_sector<D: Disk>(
     disk: &mut D,
-    segments_per_track: u16,
+    layout: Layout,
     sector: u64,
     state: SectorState,
     into: &mut [u8; 1024],
 ) -> Result<SectorRead, DiskFailed>
-    requires place { sector < sectors segments_per_track }
+    requires place { sector < sectors layout.segments_per_track }
     requires state { IfSome (D.means.told disk.old) (λ bytes.
-        state ≡ state_of (view_in segments_per_track bytes sector)) }
+        state ≡ state_of (view_in layout bytes sector)) }
     ensures looked { Looked D.means disk.old disk.new result }
     ensures view { IfOk result (λ answer. IfSome (D.means.told disk.old) (λ bytes.
-        length_of segments_per_track ≤ length bytes →
-        Reads (view_in segments_per_track bytes sector) into.old into.new answer)) }
+        end_of layout ≤ length bytes →
+        Reads (view_in layout bytes sector) into.old into.new answer)) }
     ensures unchanged { result ≢ Ok SectorRead.Good → into.new ≡ into.old }
     ensures seen { D.means.seen_len disk.new ≡ D.means.seen_len disk.old }
 {
     match state {
         SectorState::Blank => Ok(SectorRead::Blank),
         SectorState::Defect | SectorState::Lost => Ok(SectorRead::Lost),
-        SectorState::Readable => match read_bytes(disk, segments_per_track, sector)? {
+        SectorState::Readable => match read_bytes(disk, layout, sector)? {
             Some(bytes) => {
                 *into = bytes;
                 Ok(SectorRead::Good)
             }
             None => Ok(SectorRead::Lost),
         },
+    }
+}
+
+/// Reads a sector in a cell, its state bytes and its bytes at once. `into` is unchanged unless the answer is `Good`.
+pub fn read_whole<D: Disk>(
+    disk: &mut D,
+    layout: Layout,
+    sector: u64,
+    into: &mut [u8; 1024],
+) -> Result<SectorRead, DiskFailed>
+    requires place { sector < sectors layout.segments_per_track }
+    requires cells { touches layout.kind ≡ false }
+    ensures looked { Looked D.means disk.old disk.new result }
+    ensures view { IfOk result (λ answer. IfSome (D.means.told disk.old) (λ bytes.
+        end_of layout ≤ length bytes →
+        Reads (view_in layout bytes sector) into.old into.new answer)) }
+    ensures unchanged { result ≢ Ok SectorRead.Good → into.new ≡ into.old }
+    ensures seen { D.means.seen_len disk.new ≡ D.means.seen_len disk.old }
+{
+    let cell = read_cell(disk, layout.place(Part::GateByte, sector))?;
+    match state_by(cell[2], cell[1], cell[0]) {
+        SectorState::Blank => Ok(SectorRead::Blank),
+        SectorState::Defect | SectorState::Lost => Ok(SectorRead::Lost),
+        SectorState::Readable => {
+            into.copy_from_slice(&cell[3..]);
+            Ok(SectorRead::Good)
+        }
     }
 }

@@ -4,10 +4,10 @@ ghost use Rattle.qic_base.specs.Disk.{IsSettled};
 ghost use Rattle.cart_image.specs.Layout.{image_len as length_of, first_letter, clear_steps, new_head as head_of, renew_steps};
 ghost use Rattle.cart_image.specs.Run.{Runs, Looked, Carried};
 
-use crate::layout::{SIGNATURE, VERSION, image_len};
+use crate::layout::{HEAD_LEN, MARK, SIGNATURE, image_len};
 use crate::reading::read_byte;
 use crate::synced::{put, put_len};
-use qic_base::{Disk, DiskFailed, write_u16};
+use qic_base::{Disk, DiskFailed, write_u16, write_u64};
 
 /// The head of a new image, behind its first byte.
 #[tactic(auto, unfolding(qic_base::specs::Field::overwritten, qic_base::specs::Field::little_endian_bytes))]
@@ -17,8 +17,10 @@ fn new_head_rest(segments_per_track: u16) -> [u8; 63]
     let signature: &[u8] = SIGNATURE;
     let mut rest = [0; 63];
     rest[..7].copy_from_slice(&signature[1..]);
-    write_u16(&mut rest, 7, VERSION);
+    write_u16(&mut rest, 7, 2);
     write_u16(&mut rest, 9, segments_per_track);
+    rest[13] = MARK;
+    write_u64(&mut rest, 15, HEAD_LEN);
     rest
 }
 
@@ -60,7 +62,7 @@ fn write_new<D: Disk>(disk: &mut D, segments_per_track: u16, first: u8) -> Resul
     ensures seen { OnOk result (D.means.seen_len disk.new ≡ length_of segments_per_track) }
 {
     clear_first(disk, first)?;
-    put_len(disk, 64)?;
+    put_len(disk, HEAD_LEN)?;
     put_len(disk, image_len(segments_per_track))?;
     put(disk, 1, &new_head_rest(segments_per_track))?;
     put(disk, 0, &[SIGNATURE[0]])

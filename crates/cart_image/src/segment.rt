@@ -1,4 +1,4 @@
-//! What the planes say of the sectors of one segment, and what a call makes of it.
+//! What the state bytes say of the sectors of one segment, and what a call makes of it.
 ghost use Rattle.std.specs.Prelude.{◌≡◌, ℕ, ◌<◌, List, slice_index_or, slice_set};
 ghost use Rattle.qic_base.specs.declared.tape.SectorView.{SectorView};
 ghost use Rattle.qic_base.specs.Step.{written_view, worn_view, spoiled_view};
@@ -6,7 +6,15 @@ ghost use Rattle.cart_image.specs.State.{state_of};
 
 use crate::reading::SectorState;
 
-/// A segment, and what the planes say of each of its sectors.
+/// The state bytes of the sectors of a segment.
+#[derive(Clone, Copy, Debug)]
+pub struct SegmentMarks {
+    pub gates: [u8; 32],
+    pub formed: [u8; 32],
+    pub defects: [u8; 32],
+}
+
+/// A segment, and what the state bytes say of each of its sectors.
 #[derive(Clone, Copy, Debug)]
 pub struct SegmentStates {
     pub segment: u32,
@@ -38,7 +46,7 @@ impl SegmentStates {
 }
 
 impl SectorState {
-    /// What the planes say of a sector that was written.
+    /// What the state bytes say of a sector that was written.
     pub fn written(self) -> SectorState
         ensures { (from : List ℕ) (view : SectorView) →
             self ≡ state_of view → result ≡ state_of (written_view from view) }

@@ -1,20 +1,22 @@
 //! A tape over any disk: its calls, as reads and writes of the image.
 
-ghost use Rattle.std.specs.Prelude.{◌≡◌, ◌≢◌, ◌≤◌, ℕ, List, [], ◌∷◌, true, Some, None, slice_index, IsSome, IfOk, IfSome, OnOk, OnErr};
+ghost use Rattle.std.specs.Prelude.{◌≡◌, ◌≢◌, ◌<◌, ◌≤◌, ℕ, List, [], ◌∷◌, true, Some, None, length, slice_index, IsSome, IfOk, IfSome, OnOk, OnErr};
 ghost use Rattle.std.specs.Option.{option_map};
-ghost use Rattle.qic_base.specs.Cartridge.{IsLength, view_at, place_of};
+ghost use Rattle.qic_base.specs.Cartridge.{Cartridge, IsLength, IsVersion, view_at, place_of};
 ghost use Rattle.qic_base.specs.Disk.{IsSettled};
-ghost use Rattle.qic_base.specs.Step.{WriteSector, FormatSegment, SetReferenced, SetProtected, Renew, Wear, Spoil};
+ghost use Rattle.qic_base.specs.Step.{WriteSector, FormatSegment, SetReferenced, SetProtected, Renew, Wear, Spoil, Upgrade};
 ghost use Rattle.qic_base.specs.Tape.{Does, Tells, IsPlaceOf, Reads, write_answer, spoil_answer};
 ghost use Rattle.qic_base.specs.declared.TheConstants.{LONGEST};
-ghost use Rattle.cart_image.specs.Image.{cartridge_of, size_of, view_in};
-ghost use Rattle.cart_image.specs.Layout.{image_len};
-ghost use Rattle.cart_image.specs.State.{AreStates};
+ghost use Rattle.cart_image.specs.Image.{cartridge_of, layout_of, view_in, info_by as info_told};
+ghost use Rattle.cart_image.specs.Layout.{end_of, touches};
+ghost use Rattle.cart_image.specs.State.{AreStates, state_of, with_state};
+ghost use Rattle.cart_image.specs.declared.layout.Layout.{Layout};
 ghost use Rattle.cart_image.specs.declared.segment.SegmentStates.{SegmentStates};
 
-use crate::layout::{PROTECTED_PLACE, REFERENCED_PLACE};
+use crate::layout::{Head, Kind, Layout, PROTECTED_PLACE, REFERENCED_PLACE};
+use crate::reading::SectorState;
 use crate::segment::SegmentStates;
-use crate::{formatting, reading, renewing, writing};
+use crate::{formatting, reading, renewing, upgrading, writing};
 use qic_base::{Disk, DiskFailed, SectorRead, SectorWrite, Tape, TapeFailed, TapeInfo};
 
 /// A tape in an image file on a disk.
@@ -22,27 +24,26 @@ use qic_base::{Disk, DiskFailed, SectorRead, SectorWrite, Tape, TapeFailed, Tape
 pub struct ImageTape<D: Disk> {
     /// Nothing is pending in it, so a crash between two calls leaves the bytes that a read gives.
     disk: D,
-    /// The segments per track that the last `info` or `renew` told: None at first, where that `info` found no image,
-    /// and after a `renew` that failed; an `info` that failed changes nothing. Where it is some, it is 3 to `LONGEST`,
-    /// the disk was seen to be at least as long as an image of it, and bytes that the disk tells are an image of just
-    /// it.
-    segments_per_track: Option<u16>,
-    /// What the planes say of the segment that was looked at last; None where that is not known.
+    /// The layout that the last `info` found or that a `renew` or `upgrade` made: None at first, where that `info` found no
+    /// image, and after a `renew` or `upgrade` that failed; an `info` that failed changes nothing. Where it is some, its
+    /// length is 3 to `LONGEST`, the disk was seen to be long enough for it, and bytes that the disk tells are an image
+    /// with just this layout.
+    layout: Option<Layout>,
+    /// What the planes say of the segment that was looked at last; None where that is not known, and in version 2.
     known: Option<SegmentStates>,
     ghost settled: { (bytes left : List ℕ) →
         D.means.told disk ≡ Some bytes → D.means.may_leave disk left → left ≡ bytes },
-    ghost shortest: { (n : ℕ) → segments_per_track ≡ Some n → 3 ≤ n },
-    ghost longest: { (n : ℕ) → segments_per_track ≡ Some n → n ≤ LONGEST },
-    ghost covers: { (n : ℕ) →
-        segments_per_track ≡ Some n → image_len n ≤ D.means.seen_len disk },
-    ghost sized: { (n : ℕ) (bytes : List ℕ) → segments_per_track ≡ Some n →
-        D.means.told disk ≡ Some bytes → size_of bytes ≡ Some n },
+    ghost shortest: { (l : Layout) → layout ≡ Some l → 3 ≤ l.segments_per_track },
+    ghost longest: { (l : Layout) → layout ≡ Some l → l.segments_per_track ≤ LONGEST },
+    ghost covers: { (l : Layout) → layout ≡ Some l → end_of l ≤ D.means.seen_len disk },
+    ghost laid: { (l : Layout) (bytes : List ℕ) → layout ≡ Some l →
+        D.means.told disk ≡ Some bytes → layout_of bytes ≡ Some l },
     ghost right: { (states : SegmentStates) (bytes : List ℕ) → known ≡ Some states →
         D.means.told disk ≡ Some bytes → AreStates states (cartridge_of bytes) },
 }
 
 impl<D: Disk> ImageTape<D> {
-    ghost use Rattle.cart_image.specs.ImageTape.{disk_of, image_means};
+    ghost use Rattle.cart_image.specs.ImageTape.{disk_of, layout_at, known_of, image_means};
     ghost use Rattle.cart_image.specs.Run.{Looked};
 
     /// A tape in this file, of which nothing is known yet. It makes no call of the disk.
@@ -53,7 +54,7 @@ impl<D: Disk> ImageTape<D> {
     {
         ImageTape {
             disk,
-            segments_per_track: None,
+            layout: None,
             known: None,
         }
     }
@@ -65,32 +66,34 @@ impl<D: Disk> ImageTape<D> {
     {
         let ImageTape {
             disk,
-            segments_per_track: _,
+            layout: _,
             known: _,
         } = self;
         disk
     }
 
-    /// The segments per track, where they were told.
-    fn size(&self) -> u16
+    /// The layout, where it is known.
+    fn layout(&self) -> Layout
         requires { IsSome (image_means.size self.now) }
-        ensures { image_means.size self.now ≡ Some result }
+        ensures { layout_at self.now ≡ Some result }
     {
-        match self.segments_per_track {
-            Some(size) => size,
+        match self.layout {
+            Some(layout) => layout,
             None => unreachable!(),
         }
     }
 
     /// What the planes say of the sectors of a segment. They are read where that is not known.
-    fn look(&mut self, segment: u32) -> Result<SegmentStates, DiskFailed>
-        requires { IsPlaceOf image_means self.old segment 0 }
+    fn look_at_segment(&mut self, layout: Layout, segment: u32) -> Result<SegmentStates, DiskFailed>
+        requires place { IsPlaceOf image_means self.old segment 0 }
+        requires layout { layout_at self.old ≡ Some layout }
         ensures segment { IfOk result (λ states. states.segment ≡ segment) }
         ensures states { IfOk result (λ states. (bytes : List ℕ) →
             D.means.told (disk_of self.new) ≡ Some bytes →
             AreStates states (cartridge_of bytes)) }
         ensures looked { Looked D.means (disk_of self.old) (disk_of self.new) result }
-        ensures size { image_means.size self.new ≡ image_means.size self.old }
+        ensures known { IfOk result (λ states. known_of self.new ≡ Some states) }
+        ensures layout { layout_at self.new ≡ layout_at self.old }
     {
         if let Some(states) = self.known {
             if states.segment == segment {
@@ -98,16 +101,93 @@ impl<D: Disk> ImageTape<D> {
             }
         }
         self.known = None;
-        let size = self.size();
-        let states = reading::read_states(&mut self.disk, size, segment)?;
+        let marks = reading::read_marks(&mut self.disk, layout, segment)?;
+        let states = SegmentStates {
+            segment,
+            states: reading::states_by(&marks),
+        };
         self.known = Some(states);
         Ok(states)
+    }
+
+    /// What the state bytes say of a sector. In planes those of its segment are read where they are not known.
+    fn look(&mut self, layout: Layout, segment: u32, sector: u8) -> Result<SectorState, DiskFailed>
+        requires place { IsPlaceOf image_means self.old segment sector }
+        requires layout { layout_at self.old ≡ Some layout }
+        ensures state { IfOk result (λ state. (bytes : List ℕ) →
+            D.means.told (disk_of self.new) ≡ Some bytes →
+            state ≡ state_of (view_in layout bytes (place_of segment sector))) }
+        ensures known { IfOk result (λ state. IfSome (known_of self.new) (λ states.
+            states.segment ≡ segment)) }
+        ensures looked { Looked D.means (disk_of self.old) (disk_of self.new) result }
+        ensures layout { layout_at self.new ≡ layout_at self.old }
+    {
+        if layout.touches() {
+            let states = self.look_at_segment(layout, segment)?;
+            Ok(states.of(sector))
+        } else {
+            self.known = None;
+            reading::read_state(&mut self.disk, layout, sector_number(segment, sector))
+        }
+    }
+
+    /// Reads a sector in planes: its state bytes are known or read first.
+    fn read_in_planes(
+        &mut self,
+        layout: Layout,
+        segment: u32,
+        sector: u8,
+        into: &mut [u8; 1024],
+    ) -> Result<SectorRead, DiskFailed>
+        requires place { IsPlaceOf image_means self.old segment sector }
+        requires layout { layout_at self.old ≡ Some layout }
+        ensures looked { Looked D.means (disk_of self.old) (disk_of self.new) result }
+        ensures view { IfOk result (λ answer. IfSome (D.means.told (disk_of self.old))
+            (λ bytes. end_of layout ≤ length bytes →
+            Reads (view_in layout bytes (place_of segment sector)) into.old into.new answer)) }
+        ensures unchanged { result ≢ Ok SectorRead.Good → into.new ≡ into.old }
+        ensures layout { layout_at self.new ≡ layout_at self.old }
+    {
+        let states = self.look_at_segment(layout, segment)?;
+        let place = sector_number(segment, sector);
+        match reading::read_sector(&mut self.disk, layout, place, states.of(sector), into) {
+            Ok(read) => Ok(read),
+            Err(failed) => {
+                self.known = None;
+                Err(failed)
+            }
+        }
+    }
+
+    /// Reads a sector: in a cell all of it at once.
+    fn read_at(
+        &mut self,
+        layout: Layout,
+        segment: u32,
+        sector: u8,
+        into: &mut [u8; 1024],
+    ) -> Result<SectorRead, DiskFailed>
+        requires place { IsPlaceOf image_means self.old segment sector }
+        requires layout { layout_at self.old ≡ Some layout }
+        ensures looked { Looked D.means (disk_of self.old) (disk_of self.new) result }
+        ensures view { IfOk result (λ answer. IfSome (D.means.told (disk_of self.old))
+            (λ bytes. end_of layout ≤ length bytes →
+            Reads (view_in layout bytes (place_of segment sector)) into.old into.new answer)) }
+        ensures unchanged { result ≢ Ok SectorRead.Good → into.new ≡ into.old }
+        ensures layout { layout_at self.new ≡ layout_at self.old }
+    {
+        if layout.touches() {
+            self.read_in_planes(layout, segment, sector, into)
+        } else {
+            self.known = None;
+            reading::read_whole(&mut self.disk, layout, sector_number(segment, sector), into)
+        }
     }
 }
 
 impl<D: Disk> Tape for ImageTape<D> {
-    ghost use Rattle.cart_image.specs.ImageTape.{disk_of, image_means, image-size_fits, image-told_right, image-left_now};
-    ghost use Rattle.cart_image.specs.Layout.{write_sector_steps, format_plan, renew_steps, wear_steps, spoil_steps, mark_steps, protected_place, referenced_place};
+    ghost use Rattle.cart_image.specs.ImageTape.{disk_of, layout_at, image_means, image-size_fits, image-told_right, image-left_now};
+    ghost use Rattle.cart_image.specs.Layout.{write_sector_steps, format_plan, renew_steps, wear_steps, spoil_steps, mark_steps, protected_place, referenced_place, upgrade_plan};
     ghost use Rattle.cart_image.specs.Run.{Looked, Carried, CarriedBy};
 
     ghost means = { image_means };
@@ -130,10 +210,10 @@ impl<D: Disk> Tape for ImageTape<D> {
         ensures looked { Looked D.means (disk_of self.old) (disk_of self.new) result }
     {
         self.known = None;
-        match reading::read_info(&mut self.disk) {
-            Ok(info) => {
-                self.segments_per_track = size_by(info);
-                Ok(info)
+        match reading::read_head(&mut self.disk) {
+            Ok(head) => {
+                self.layout = layout_by(head);
+                Ok(info_by(head))
             }
             Err(DiskFailed) => Err(TapeFailed),
         }
@@ -155,24 +235,10 @@ impl<D: Disk> Tape for ImageTape<D> {
         // It only looks at the disk.
         ensures looked { Looked D.means (disk_of self.old) (disk_of self.new) result }
     {
-        let size = self.size();
-        let states = match self.look(segment) {
-            Ok(states) => states,
-            Err(DiskFailed) => return Err(TapeFailed),
-        };
-        let state = states.of(sector);
-        match reading::read_sector(
-            &mut self.disk,
-            size,
-            sector_number(segment, sector),
-            state,
-            into,
-        ) {
+        let layout = self.layout();
+        match self.read_at(layout, segment, sector, into) {
             Ok(read) => Ok(read),
-            Err(DiskFailed) => {
-                self.known = None;
-                Err(TapeFailed)
-            }
+            Err(DiskFailed) => Err(TapeFailed),
         }
     }
 
@@ -191,24 +257,23 @@ impl<D: Disk> Tape for ImageTape<D> {
 
         // The disk's steps, in order.
         ensures steps { CarriedBy D.means (disk_of self.old) (disk_of self.new)
-            (image_means.size self.old) (λ n bytes. write_sector_steps n (place_of segment sector)
-            from.now (view_in n bytes (place_of segment sector))) result }
+            (layout_at self.old) (λ l bytes. write_sector_steps l (place_of segment sector)
+            from.now (view_in l bytes (place_of segment sector))) result }
     {
-        let size = self.size();
-        let states = match self.look(segment) {
-            Ok(states) => states,
+        let layout = self.layout();
+        let state = match self.look(layout, segment, sector) {
+            Ok(state) => state,
             Err(DiskFailed) => return Err(TapeFailed),
         };
-        let state = states.of(sector);
         match writing::write_sector(
             &mut self.disk,
-            size,
+            layout,
             sector_number(segment, sector),
             state,
             from,
         ) {
             Ok(write) => {
-                self.known = Some(states.with(sector, state.written()));
+                self.known = known_with(self.known, sector, state.written());
                 Ok(write)
             }
             Err(DiskFailed) => {
@@ -224,11 +289,11 @@ impl<D: Disk> Tape for ImageTape<D> {
         ensures size { image_means.size self.new ≡ image_means.size self.old }
 
         ensures steps { CarriedBy D.means (disk_of self.old) (disk_of self.new)
-            (image_means.size self.old) (λ n bytes. format_plan n segment bytes) result }
+            (layout_at self.old) (λ l bytes. format_plan l segment bytes) result }
     {
-        let size = self.size();
+        let layout = self.layout();
         self.known = None;
-        match formatting::format_segment(&mut self.disk, size, segment) {
+        match formatting::format_segment(&mut self.disk, layout, segment) {
             Ok(()) => Ok(()),
             Err(DiskFailed) => Err(TapeFailed),
         }
@@ -275,10 +340,13 @@ impl<D: Disk> Tape for ImageTape<D> {
             (λ bytes. renew_steps segments_per_track (slice_index bytes 0)) result }
     {
         self.known = None;
-        self.segments_per_track = None;
+        self.layout = None;
         match renewing::renew(&mut self.disk, segments_per_track) {
             Ok(()) => {
-                self.segments_per_track = Some(segments_per_track);
+                self.layout = Some(Layout {
+                    segments_per_track,
+                    kind: Kind::Cells,
+                });
                 Ok(())
             }
             Err(DiskFailed) => Err(TapeFailed),
@@ -291,18 +359,22 @@ impl<D: Disk> Tape for ImageTape<D> {
         ensures size { image_means.size self.new ≡ image_means.size self.old }
 
         ensures steps { CarriedBy D.means (disk_of self.old) (disk_of self.new)
-            (image_means.size self.old) (λ n bytes. wear_steps n (place_of segment sector)
-            (view_in n bytes (place_of segment sector))) result }
+            (layout_at self.old) (λ l bytes. wear_steps l (place_of segment sector)
+            (view_in l bytes (place_of segment sector))) result }
     {
-        let size = self.size();
-        let states = match self.look(segment) {
-            Ok(states) => states,
+        let layout = self.layout();
+        let state = match self.look(layout, segment, sector) {
+            Ok(state) => state,
             Err(DiskFailed) => return Err(TapeFailed),
         };
-        let state = states.of(sector);
-        match writing::wear(&mut self.disk, size, sector_number(segment, sector), state) {
+        match writing::wear(
+            &mut self.disk,
+            layout,
+            sector_number(segment, sector),
+            state,
+        ) {
             Ok(()) => {
-                self.known = Some(states.with(sector, state.worn()));
+                self.known = known_with(self.known, sector, state.worn());
                 Ok(())
             }
             Err(DiskFailed) => {
@@ -320,18 +392,22 @@ impl<D: Disk> Tape for ImageTape<D> {
         ensures size { image_means.size self.new ≡ image_means.size self.old }
 
         ensures steps { CarriedBy D.means (disk_of self.old) (disk_of self.new)
-            (image_means.size self.old) (λ n bytes. spoil_steps n (place_of segment sector)
-            (view_in n bytes (place_of segment sector))) result }
+            (layout_at self.old) (λ l bytes. spoil_steps l (place_of segment sector)
+            (view_in l bytes (place_of segment sector))) result }
     {
-        let size = self.size();
-        let states = match self.look(segment) {
-            Ok(states) => states,
+        let layout = self.layout();
+        let state = match self.look(layout, segment, sector) {
+            Ok(state) => state,
             Err(DiskFailed) => return Err(TapeFailed),
         };
-        let state = states.of(sector);
-        match writing::spoil(&mut self.disk, size, sector_number(segment, sector), state) {
+        match writing::spoil(
+            &mut self.disk,
+            layout,
+            sector_number(segment, sector),
+            state,
+        ) {
             Ok(spoiled) => {
-                self.known = Some(states.with(sector, state.spoiled()));
+                self.known = known_with(self.known, sector, state.spoiled());
                 Ok(spoiled)
             }
             Err(DiskFailed) => {
@@ -340,13 +416,66 @@ impl<D: Disk> Tape for ImageTape<D> {
             }
         }
     }
+
+    fn upgrade(&mut self) -> Result<u8, TapeFailed>
+        requires { IsSome (image_means.size self.old) }
+        ensures did { Does image_means self.old self.new (Upgrade ∷ []) result }
+        ensures answer { IfOk result (λ version. Tells image_means self.old (λ c.
+            version ≡ c.version)) }
+        ensures version { IfOk result (λ version. IsVersion version) }
+        ensures size { OnOk result (image_means.size self.new ≡ image_means.size self.old) }
+        ensures failed { OnErr result (image_means.size self.new ≡ None) }
+
+        ensures steps { CarriedBy D.means (disk_of self.old) (disk_of self.new)
+            (layout_at self.old) (λ l bytes. upgrade_plan l bytes) result }
+    {
+        let layout = self.layout();
+        if !layout.touches() {
+            return Ok(layout.version());
+        }
+        self.known = None;
+        self.layout = None;
+        match upgrading::upgrade(&mut self.disk, layout.segments_per_track) {
+            Ok(()) => {
+                self.layout = Some(Layout {
+                    segments_per_track: layout.segments_per_track,
+                    kind: Kind::CellsBehind,
+                });
+                Ok(layout.version())
+            }
+            Err(DiskFailed) => Err(TapeFailed),
+        }
+    }
 }
 
-/// The segments per track of a cartridge that was told.
-fn size_by(info: Option<TapeInfo>) -> Option<u16>
-    ensures { result ≡ option_map (λ i. i.segments_per_track) info }
+/// The layout that a head tells.
+fn layout_by(head: Option<Head>) -> Option<Layout>
+    ensures { result ≡ option_map (λ h. h.layout) head }
 {
-    info.map(|info| info.segments_per_track)
+    head.map(|head| head.layout)
+}
+
+/// What a drive can tell of a cartridge with this head.
+fn info_by(head: Option<Head>) -> Option<TapeInfo>
+    ensures { result ≡ option_map info_told head }
+{
+    head.map(|head| TapeInfo {
+        segments_per_track: head.layout.segments_per_track,
+        protected: head.protected,
+        referenced: head.referenced,
+    })
+}
+
+/// What is known of a segment after a call that left a sector in this state.
+fn known_with(known: Option<SegmentStates>, sector: u8, state: SectorState) -> Option<SegmentStates>
+    requires { sector < 32 }
+    ensures known { result ≡ option_map (λ states. with_state states sector state) known }
+    ensures whole { IfSome known (λ states. length states.states ≡ 32) }
+{
+    match known {
+        Some(states) => Some(states.with(sector, state)),
+        None => None,
+    }
 }
 
 /// The number of a sector on the cartridge, counted from 0.

@@ -3,154 +3,155 @@ ghost use Rattle.std.specs.Prelude.{◌≡◌, ◌<◌, ◌≤◌, [], ◌∷◌
 ghost use Rattle.qic_base.specs.Disk.{IsSettled};
 ghost use Rattle.qic_base.specs.Tape.{write_answer, spoil_answer};
 ghost use Rattle.cart_image.specs.Image.{view_in};
-ghost use Rattle.cart_image.specs.Layout.{sectors, gate_place as gate_at, sector_place as sector_at, image_len as length_of, overwrite_steps, write_sector_steps, wear_steps, spoil_steps, mark_steps, put as put_steps};
+ghost use Rattle.cart_image.specs.Layout.{sectors, place as place_at, end_of, overwrite_steps, write_sector_steps, wear_steps, spoil_steps, mark_steps, put as put_steps};
 ghost use Rattle.cart_image.specs.Run.{Runs, Carried};
 ghost use Rattle.cart_image.specs.State.{state_of};
 
-use crate::layout::{CLOSED, DEFECT, MARK, OPEN, defect_place, gate_place, sector_place};
+use crate::layout::{CLOSED, DEFECT, Layout, MARK, OPEN, Part};
 use crate::reading::{SectorState, read_byte};
 use crate::synced::put;
 use qic_base::{Disk, DiskFailed, SectorWrite};
 
 /// Writes the gate of a sector.
-fn put_gate<D: Disk>(disk: &mut D, sector: u64, gate: u8) -> Result<(), DiskFailed>
-    requires place { sector < sectors 65536 }
-    requires covers { gate_at sector < D.means.seen_len disk.old }
-    ensures ran { Runs D.means disk.old disk.new (put_steps (gate_at sector) (gate ∷ [])) result }
+fn put_gate<D: Disk>(disk: &mut D, layout: Layout, sector: u64, gate: u8) -> Result<(), DiskFailed>
+    requires place { sector < sectors layout.segments_per_track }
+    requires covers { end_of layout ≤ D.means.seen_len disk.old }
+    ensures ran { Runs D.means disk.old disk.new
+        (put_steps (place_at layout Part.GateByte sector) (gate ∷ [])) result }
     ensures settled { IsSettled D.means disk.new }
     ensures seen { D.means.seen_len disk.new ≡ D.means.seen_len disk.old }
 {
-    put(disk, gate_place(sector), &[gate])
+    put(disk, layout.place(Part::GateByte, sector), &[gate])
 }
 
 /// Writes the bytes of a sector.
 fn put_bytes<D: Disk>(
     disk: &mut D,
-    segments_per_track: u16,
+    layout: Layout,
     sector: u64,
     from: &[u8; 1024],
 ) -> Result<(), DiskFailed>
-    requires place { sector < sectors segments_per_track }
-    requires covers { length_of segments_per_track ≤ D.means.seen_len disk.old }
+    requires place { sector < sectors layout.segments_per_track }
+    requires covers { end_of layout ≤ D.means.seen_len disk.old }
     ensures ran { Runs D.means disk.old disk.new
-        (put_steps (sector_at segments_per_track sector) from.now) result }
+        (put_steps (place_at layout Part.Data sector) from.now) result }
     ensures settled { IsSettled D.means disk.new }
     ensures seen { D.means.seen_len disk.new ≡ D.means.seen_len disk.old }
 {
-    put(disk, sector_place(segments_per_track, sector), from)
+    put(disk, layout.place(Part::Data, sector), from)
 }
 
 /// Writes a sector whose gate is closed, and opens it.
 fn overwrite_closed<D: Disk>(
     disk: &mut D,
-    segments_per_track: u16,
+    layout: Layout,
     sector: u64,
     from: &[u8; 1024],
 ) -> Result<(), DiskFailed>
-    requires place { sector < sectors segments_per_track }
-    requires covers { length_of segments_per_track ≤ D.means.seen_len disk.old }
+    requires place { sector < sectors layout.segments_per_track }
+    requires covers { end_of layout ≤ D.means.seen_len disk.old }
     ensures ran { Runs D.means disk.old disk.new
-        (overwrite_steps segments_per_track sector false from.now) result }
+        (overwrite_steps layout sector false from.now) result }
     ensures settled { IsSettled D.means disk.new }
     ensures seen { D.means.seen_len disk.new ≡ D.means.seen_len disk.old }
 {
-    put_bytes(disk, segments_per_track, sector, from)?;
-    put_gate(disk, sector, OPEN)
+    put_bytes(disk, layout, sector, from)?;
+    put_gate(disk, layout, sector, OPEN)
 }
 
 /// Closes a sector's gate, writes it, and opens it.
 fn overwrite_open<D: Disk>(
     disk: &mut D,
-    segments_per_track: u16,
+    layout: Layout,
     sector: u64,
     from: &[u8; 1024],
 ) -> Result<(), DiskFailed>
-    requires place { sector < sectors segments_per_track }
-    requires covers { length_of segments_per_track ≤ D.means.seen_len disk.old }
+    requires place { sector < sectors layout.segments_per_track }
+    requires covers { end_of layout ≤ D.means.seen_len disk.old }
     ensures ran { Runs D.means disk.old disk.new
-        (overwrite_steps segments_per_track sector true from.now) result }
+        (overwrite_steps layout sector true from.now) result }
     ensures settled { IsSettled D.means disk.new }
     ensures seen { D.means.seen_len disk.new ≡ D.means.seen_len disk.old }
 {
-    put_gate(disk, sector, CLOSED)?;
-    overwrite_closed(disk, segments_per_track, sector, from)
+    put_gate(disk, layout, sector, CLOSED)?;
+    overwrite_closed(disk, layout, sector, from)
 }
 
-/// Writes a sector of which the planes say this.
+/// Writes a sector of which the state bytes say this.
 pub fn write_sector<D: Disk>(
     disk: &mut D,
-    segments_per_track: u16,
+    layout: Layout,
     sector: u64,
     state: SectorState,
     from: &[u8; 1024],
 ) -> Result<SectorWrite, DiskFailed>
-    requires place { sector < sectors segments_per_track }
-    requires covers { length_of segments_per_track ≤ D.means.seen_len disk.old }
+    requires place { sector < sectors layout.segments_per_track }
+    requires covers { end_of layout ≤ D.means.seen_len disk.old }
     requires settled { IsSettled D.means disk.old }
     requires state { IfSome (D.means.told disk.old) (λ bytes.
-        state ≡ state_of (view_in segments_per_track bytes sector)) }
+        state ≡ state_of (view_in layout bytes sector)) }
     ensures carried { Carried D.means disk.old disk.new (λ bytes. write_sector_steps
-        segments_per_track sector from.now (view_in segments_per_track bytes sector)) result }
+        layout sector from.now (view_in layout bytes sector)) result }
     ensures answer { IfOk result (λ answer. IfSome (D.means.told disk.old) (λ bytes.
-        answer ≡ write_answer (view_in segments_per_track bytes sector))) }
+        answer ≡ write_answer (view_in layout bytes sector))) }
     ensures settled { IsSettled D.means disk.new }
     ensures seen { D.means.seen_len disk.new ≡ D.means.seen_len disk.old }
 {
     match state {
         SectorState::Blank => return Ok(SectorWrite::Blank),
         SectorState::Defect => return Ok(SectorWrite::Taken),
-        SectorState::Lost => overwrite_closed(disk, segments_per_track, sector, from)?,
-        SectorState::Readable => overwrite_open(disk, segments_per_track, sector, from)?,
+        SectorState::Lost => overwrite_closed(disk, layout, sector, from)?,
+        SectorState::Readable => overwrite_open(disk, layout, sector, from)?,
     }
     Ok(SectorWrite::Taken)
 }
 
-/// Makes a sector of which the planes say this unreadable, where it is readable.
+/// Makes a sector of which the state bytes say this unreadable, where it is readable.
 pub fn wear<D: Disk>(
     disk: &mut D,
-    segments_per_track: u16,
+    layout: Layout,
     sector: u64,
     state: SectorState,
 ) -> Result<(), DiskFailed>
-    requires place { sector < sectors segments_per_track }
-    requires covers { length_of segments_per_track ≤ D.means.seen_len disk.old }
+    requires place { sector < sectors layout.segments_per_track }
+    requires covers { end_of layout ≤ D.means.seen_len disk.old }
     requires settled { IsSettled D.means disk.old }
     requires state { IfSome (D.means.told disk.old) (λ bytes.
-        state ≡ state_of (view_in segments_per_track bytes sector)) }
+        state ≡ state_of (view_in layout bytes sector)) }
     ensures carried { Carried D.means disk.old disk.new (λ bytes. wear_steps
-        segments_per_track sector (view_in segments_per_track bytes sector)) result }
+        layout sector (view_in layout bytes sector)) result }
     ensures settled { IsSettled D.means disk.new }
     ensures seen { D.means.seen_len disk.new ≡ D.means.seen_len disk.old }
 {
     match state {
-        SectorState::Readable => put_gate(disk, sector, CLOSED),
+        SectorState::Readable => put_gate(disk, layout, sector, CLOSED),
         SectorState::Blank | SectorState::Defect | SectorState::Lost => Ok(()),
     }
 }
 
-/// Makes a defect of a sector of which the planes say this, where it was never formatted. Answers whether it is a
+/// Makes a defect of a sector of which the state bytes say this, where it was never formatted. Answers whether it is a
 /// defect now.
 pub fn spoil<D: Disk>(
     disk: &mut D,
-    segments_per_track: u16,
+    layout: Layout,
     sector: u64,
     state: SectorState,
 ) -> Result<bool, DiskFailed>
-    requires place { sector < sectors segments_per_track }
-    requires covers { length_of segments_per_track ≤ D.means.seen_len disk.old }
+    requires place { sector < sectors layout.segments_per_track }
+    requires covers { end_of layout ≤ D.means.seen_len disk.old }
     requires settled { IsSettled D.means disk.old }
     requires state { IfSome (D.means.told disk.old) (λ bytes.
-        state ≡ state_of (view_in segments_per_track bytes sector)) }
+        state ≡ state_of (view_in layout bytes sector)) }
     ensures carried { Carried D.means disk.old disk.new (λ bytes. spoil_steps
-        segments_per_track sector (view_in segments_per_track bytes sector)) result }
+        layout sector (view_in layout bytes sector)) result }
     ensures answer { IfOk result (λ answer. IfSome (D.means.told disk.old) (λ bytes.
-        answer ≡ spoil_answer (view_in segments_per_track bytes sector))) }
+        answer ≡ spoil_answer (view_in layout bytes sector))) }
     ensures settled { IsSettled D.means disk.new }
     ensures seen { D.means.seen_len disk.new ≡ D.means.seen_len disk.old }
 {
     match state {
         SectorState::Blank => {
-            put(disk, defect_place(segments_per_track, sector), &[DEFECT])?;
+            put(disk, layout.place(Part::DefectByte, sector), &[DEFECT])?;
             Ok(true)
         }
         SectorState::Defect => Ok(true),

@@ -6,9 +6,9 @@ invariant_of-result g c =
     let settled = open-settled g.D.Disk.means c.args.disk (g.met.D.Disk.told_right c.args.disk) c.requires in
     record {
       settled = settled.only;
-      shortest = λ n none. cc;
-      longest = λ n none. cc;
-      covers = λ n none. cc;
-      sized = λ n bytes none told. cc;
+      shortest = λ l none. cc;
+      longest = λ l none. cc;
+      covers = λ l none. cc;
+      laid = λ l bytes none told. cc;
       right = λ states bytes none told. cc;
     }

@@ -1,6 +1,6 @@
-use Rattle.std.proofs.Common.{[], ◌∷◌}
+use Rattle.std.proofs.Common.{[], ◌∷◌, refl}
 use Rattle.qic_base.specs.Step.{Renew}
-use Rattle.cart_image.proofs.Tapes.{Tape-done, Tape-broke, renew-does, new-size, same-number}
+use Rattle.cart_image.proofs.Tapes.{Tape-done, Tape-broke, renew-does, new-laid, same-layout}
 use Rattle.cart_image.proofs.tape.ImageTapeTape.renew.Goals as goal
 
 pub invariant_of-self : goal.invariant_of-self
@@ -8,10 +8,10 @@ invariant_of-self g c =
     let settled = c.in-Ok.ensures.settled in
     record {
       settled = settled.only;
-      shortest = λ n same. (same-number c.args.segments_per_track n _ c.requires c.in-Ok.ensures.seen same).0;
-      longest = λ n same. (same-number c.args.segments_per_track n _ c.requires c.in-Ok.ensures.seen same).1;
-      covers = λ n same. (same-number c.args.segments_per_track n _ c.requires c.in-Ok.ensures.seen same).2;
-      sized = new-size g.D.Disk.means c.args.self.now.disk _ c.args.segments_per_track (renew-does c.args.self.now _ _ c.args.segments_per_track c.requires c.in-Ok.ensures.carried);
+      shortest = λ l same. (same-layout c.args.segments_per_track l _ c.requires c.in-Ok.ensures.seen same).0;
+      longest = λ l same. (same-layout c.args.segments_per_track l _ c.requires c.in-Ok.ensures.seen same).1;
+      covers = λ l same. (same-layout c.args.segments_per_track l _ c.requires c.in-Ok.ensures.seen same).2;
+      laid = new-laid g.D.Disk.means c.args.self.now.disk _ c.args.segments_per_track c.requires _ _ refl c.in-Ok.ensures.carried;
       right = λ states bytes none told. cc;
     }
 
@@ -20,10 +20,10 @@ invariant_of-self-in-Err g c =
     let settled = c.in-Err.ensures.settled in
     record {
       settled = settled.only;
-      shortest = λ n none. cc;
-      longest = λ n none. cc;
-      covers = λ n none. cc;
-      sized = λ n bytes none told. cc;
+      shortest = λ l none. cc;
+      longest = λ l none. cc;
+      covers = λ l none. cc;
+      laid = λ l bytes none told. cc;
       right = λ states bytes none told. cc;
     }
 

@@ -1,13 +1,17 @@
-use Rattle.std.proofs.Common.{[], ◌∷◌, refl}
+use Rattle.std.proofs.Common.{[], ◌∷◌, refl, arith}
+use Rattle.std.specs.Prelude.{slice_index}
 use Rattle.qic_base.specs.Step.{SetProtected}
-use Rattle.cart_image.proofs.Sizes.{keeps-protected}
-use Rattle.cart_image.proofs.Tapes.{Tape-done, Tape-broke, protected-does, unknown-tape}
+use Rattle.cart_image.specs.Layout.{mark_steps, protected_place}
+use Rattle.cart_image.proofs.Tapes.{Tape-done, Tape-broke, mark-covers, protected-does, protected-plans, unknown-tape}
 use Rattle.cart_image.proofs.tape.ImageTapeTape.set_protected.Goals as goal
+
+pub set_mark-requires-clause-covers : goal.set_mark-requires-clause-covers
+set_mark-requires-clause-covers g c = mark-covers c.args.self.now protected_place (omega arith) c.requires
 
 pub invariant_of-self : goal.invariant_of-self
 invariant_of-self g c =
     let s = c.args.self.now in
-    unknown-tape s _ c.set_mark.result s refl c.set_mark.ensures.seen c.set_mark.ensures.settled (SetProtected c.args.on ∷ []) (keeps-protected c.args.on) (protected-does s _ c.set_mark.result c.requires c.args.on c.set_mark.ensures.carried)
+    unknown-tape s _ c.set_mark.result s refl c.set_mark.ensures.seen c.set_mark.ensures.settled (λ bytes. mark_steps protected_place c.args.on (slice_index bytes protected_place)) (protected-plans s c.args.on) c.set_mark.ensures.carried
 
 pub returns-in-Ok-clause-did : goal.returns-in-Ok-clause-did
 returns-in-Ok-clause-did g c = Tape-done _ _ (SetProtected c.args.on ∷ []) (protected-does c.args.self.now _ _ c.requires c.args.on c.in-Ok.ensures.carried)

@@ -1,0 +1,143 @@
+//! A version 1 image brought to version 2: its sectors are copied behind its planes, and then its head turns to them.
+ghost use Rattle.std.specs.Prelude.{◌≡◌, ℕ, ◌+◌, ◌*◌, ◌<◌, ◌≤◌, length, IfOk, IfSome, OnOk};
+ghost use Rattle.qic_base.specs.Disk.{IsSettled};
+ghost use Rattle.qic_base.specs.Field.{little_endian_bytes};
+ghost use Rattle.cart_image.specs.Layout.{image_len as length_of, upgraded_len as upgraded_to, base_place, cell, cell_with, cells_by, copy_segment as copy_segment_steps, copy_steps, upgrade_steps, put as put_steps};
+ghost use Rattle.cart_image.specs.Run.{Runs, Looked, Planned};
+
+use crate::layout::{
+    BASE_PLACE, Kind, LAYOUT_PLACE, Layout, MARK, Part, cell_place, image_len, plane_place,
+    upgraded_len,
+};
+use crate::reading::{read_block, read_planes};
+use crate::segment::SegmentMarks;
+use crate::synced::{put, put_len};
+use qic_base::{Disk, DiskFailed, write_u64};
+
+/// A segment: the state bytes of its sectors, and their bytes.
+#[derive(Clone, Copy)]
+struct Segment {
+    marks: SegmentMarks,
+    block: [u8; 32768],
+}
+
+/// Reads a segment in planes.
+fn read_segment<D: Disk>(
+    disk: &mut D,
+    segments_per_track: u16,
+    segment: u32,
+) -> Result<Segment, DiskFailed>
+    requires { segment < 28 * segments_per_track }
+    ensures looked { Looked D.means disk.old disk.new result }
+    ensures cells { IfOk result (λ found. IfSome (D.means.told disk.old) (λ bytes.
+        length_of segments_per_track ≤ length bytes → (i : ℕ) → i < 32 →
+        cell_with found.marks.gates found.marks.formed found.marks.defects found.block i
+        ≡ cell segments_per_track bytes (32 * segment + i))) }
+    ensures seen { D.means.seen_len disk.new ≡ D.means.seen_len disk.old }
+{
+    let layout = Layout {
+        segments_per_track,
+        kind: Kind::Planes,
+    };
+    let marks = read_planes(disk, layout, segment)?;
+    let first = 32 * segment as u64;
+    let block = read_block(disk, plane_place(segments_per_track, Part::Data, first))?;
+    Ok(Segment { marks, block })
+}
+
+/// The four parts of one of its sectors, beside each other.
+#[tactic(auto, unfolding(crate::specs::Layout::cell_with))]
+fn cell_of(segment: &Segment, i: usize) -> [u8; 1027]
+    requires { i < 32 }
+    ensures { result ≡ cell_with segment.now.marks.gates segment.now.marks.formed
+        segment.now.marks.defects segment.now.block i }
+{
+    let mut cell = [0; 1027];
+    cell[0] = segment.marks.gates[i];
+    cell[1] = segment.marks.formed[i];
+    cell[2] = segment.marks.defects[i];
+    cell[3..].copy_from_slice(&segment.block[1024 * i..1024 * i + 1024]);
+    cell
+}
+
+/// Writes the sectors of a segment, whose first one is this, as cells behind the planes.
+fn write_cells<D: Disk>(
+    disk: &mut D,
+    segments_per_track: u16,
+    first: u64,
+    segment: &Segment,
+) -> Result<(), DiskFailed>
+    requires on { first + 32 ≤ 896 * segments_per_track }
+    requires covers { upgraded_to segments_per_track ≤ D.means.seen_len disk.old }
+    ensures ran { Runs D.means disk.old disk.new (cells_by segments_per_track first
+        (cell_with segment.now.marks.gates segment.now.marks.formed segment.now.marks.defects
+        segment.now.block) 32) result }
+    ensures seen { D.means.seen_len disk.new ≡ D.means.seen_len disk.old }
+{
+    for i in 0..32 {
+        let place = cell_place(
+            image_len(segments_per_track),
+            Part::GateByte,
+            first + i as u64,
+        );
+        disk.write_at(place, &cell_of(segment, i))?;
+    }
+    Ok(())
+}
+
+/// Copies a segment.
+fn copy_segment<D: Disk>(
+    disk: &mut D,
+    segments_per_track: u16,
+    segment: u32,
+) -> Result<(), DiskFailed>
+    requires place { segment < 28 * segments_per_track }
+    requires covers { upgraded_to segments_per_track ≤ D.means.seen_len disk.old }
+    ensures planned { Planned D.means disk.old disk.new
+        (λ bytes. copy_segment_steps segments_per_track segment bytes) result }
+    ensures seen { D.means.seen_len disk.new ≡ D.means.seen_len disk.old }
+{
+    let found = read_segment(disk, segments_per_track, segment)?;
+    write_cells(disk, segments_per_track, 32 * segment as u64, &found)
+}
+
+/// Copies all segments.
+fn copy_all<D: Disk>(disk: &mut D, segments_per_track: u16) -> Result<(), DiskFailed>
+    requires covers { upgraded_to segments_per_track ≤ D.means.seen_len disk.old }
+    ensures planned { Planned D.means disk.old disk.new
+        (λ bytes. copy_steps segments_per_track bytes (28 * segments_per_track)) result }
+    ensures seen { D.means.seen_len disk.new ≡ D.means.seen_len disk.old }
+{
+    let count = 28 * segments_per_track as u32;
+    for segment in 0..count {
+        copy_segment(disk, segments_per_track, segment)?;
+    }
+    Ok(())
+}
+
+/// Writes the base.
+#[tactic(auto, unfolding(qic_base::specs::Field::overwritten, qic_base::specs::Field::little_endian_bytes))]
+fn base_bytes(base: u64) -> [u8; 8]
+    ensures { result ≡ little_endian_bytes 8 base }
+{
+    let mut bytes = [0; 8];
+    write_u64(&mut bytes, 0, base);
+    bytes
+}
+
+/// Brings a version 1 image to version 2. It is a whole image of version 1 until the last byte, the layout mark, is
+/// written.
+#[tactic(auto, unfolding(crate::specs::Layout::upgrade_steps))]
+pub fn upgrade<D: Disk>(disk: &mut D, segments_per_track: u16) -> Result<(), DiskFailed>
+    requires covers { length_of segments_per_track ≤ D.means.seen_len disk.old }
+    ensures planned { Planned D.means disk.old disk.new
+        (λ bytes. upgrade_steps segments_per_track bytes) result }
+    ensures settled { IsSettled D.means disk.new }
+    ensures seen { OnOk result (D.means.seen_len disk.new ≡ upgraded_to segments_per_track) }
+{
+    put_len(disk, upgraded_len(segments_per_track))?;
+    copy_all(disk, segments_per_track)?;
+    disk.sync()?;
+    put(disk, BASE_PLACE, &base_bytes(image_len(segments_per_track)))?;
+    put(disk, LAYOUT_PLACE, &[MARK])
+}
