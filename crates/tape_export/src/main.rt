@@ -1,7 +1,7 @@
 //! The program: the flat dump of a cartridge in an image file, on standard output, and its map.
 #![tactic(auto)]
 
-ghost use Rattle.std.specs.Prelude.{◌≡◌, ◌≤◌, length, IfOk, vec_len};
+ghost use Rattle.std.specs.Prelude.{◌≡◌, ◌≤◌, IfOk, vec_len};
 ghost use Rattle.std.specs.Vec.{vec_capacity};
 ghost use Rattle.rescue_map.specs.Laws.{most_words};
 
@@ -121,7 +121,10 @@ fn run_over_disks(
     room: &mut Room,
     image: FileDisk,
     mut map: Option<FileDisk>,
-) -> ExportStatus {
+) -> ExportStatus
+    requires sectors { vec_len room.old.sectors ≡ 32 }
+    requires words { most_words ≤ vec_capacity room.old.mask }
+{
     if let Some(disk) = &mut map {
         if let Err(status) = require_empty(disk) {
             return status;

@@ -1,4 +1,4 @@
-use Rattle.std.proofs.Common.{◌≡◌, ◌≤◌, ◌∙◌, ℕ, List, length, sym, ap, subst}
+use Rattle.std.proofs.Common.{◌≡◌, ◌≤◌, ◌∙◌, ℕ, List, length, sym, subst}
 use Rattle.rescue_map.specs.Laws.{most_words}
 use Rattle.flat_dump.specs.Held.{held_mask}
 use Rattle.flat_dump.proofs.Maps.{few_words}
