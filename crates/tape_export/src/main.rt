@@ -1,0 +1,157 @@
+//! The program: the flat dump of a cartridge in an image file, on standard output, and its map.
+#![tactic(auto)]
+
+ghost use Rattle.std.specs.Prelude.{◌≡◌, ◌≤◌, IfOk, vec_len};
+ghost use Rattle.std.specs.Vec.{vec_capacity};
+ghost use Rattle.rescue_map.specs.Laws.{most_words};
+
+mod map_file;
+mod run;
+mod status;
+
+use cart_image::ImageTape;
+use dump_words::{ExportWords, read_export_words};
+use map_file::{MapFile, require_empty};
+use qic_base::{DiskFailed, NoMemory};
+use read_ahead::{MOST, ReadAhead};
+use rescue_map::write_bytes;
+use run::{run_export, unread};
+use status::ExportStatus;
+use std::alloc::Global;
+use std::env::Env;
+use std::process::ExitCode;
+use std::{env, io};
+use tape_files::{FileDisk, NoImage, NullStreams, StderrSink, StdoutSink, open_image};
+
+/// The most segments of a cartridge.
+const MOST_SEGMENTS: usize = 6888;
+
+/// What a run works in: the sectors of a segment, and the mask of the sectors that hold bytes.
+#[derive(Drop)]
+struct Room {
+    sectors: Vec<[u8; 1024]>,
+    mask: Vec<u32>,
+}
+
+fn main(rt: HostRuntime) -> ExitCode {
+    // Held to the end, so that no file that is opened becomes a standard stream.
+    let _streams = NullStreams::take(&rt);
+    ExitCode::from(match read_words(&rt) {
+        Ok(words) => run_over_words(&rt, &words),
+        Err(error) => finish(&rt, unread(error.kind())),
+    })
+}
+
+/// The words of the command line, the program's name the first of them.
+fn read_words<R: Env + AllocGlobal>(rt: &R) -> io::Result<Vec<String>> {
+    let mut words = Vec::new(rt.alloc());
+    for word in env::args(rt)? {
+        words.push(word)?;
+    }
+    Ok(words)
+}
+
+/// Does what the words ask for, and answers the exit status.
+fn run_over_words(rt: &HostRuntime, words: &Vec<String>) -> u8 {
+    match read_export_words(rt.alloc(), words) {
+        Ok(asked) => match run_over_files(rt, asked) {
+            Ok(status) => finish(rt, status),
+            // Nothing is printed into a file that was asked for.
+            Err(status) => status.code(),
+        },
+        Err(error) => refuse_words(rt, &error),
+    }
+}
+
+/// Prints why the words are refused, or the page of usage, and answers the exit status.
+fn refuse_words(rt: &HostRuntime, error: &clap::Error) -> u8 {
+    if matches!(error.kind(), clap::error::ErrorKind::OutOfMemory) {
+        return finish(rt, ExportStatus::NoMemory);
+    }
+    // The exit status tells it, too, where the streams can't.
+    let _printed = error.print(rt);
+    if error.use_stderr() {
+        ExportStatus::Usage.code()
+    } else {
+        ExportStatus::Done.code()
+    }
+}
+
+fn make_room(alloc: Global) -> Result<Room, NoMemory>
+    ensures sectors { IfOk result (λ room. vec_len room.sectors ≡ 32) }
+    ensures words { IfOk result (λ room. most_words ≤ vec_capacity room.mask) }
+{
+    let sectors = vec![in alloc; [0; 1024]; 32]?;
+    let mask = Vec::with_capacity(alloc, MOST_SEGMENTS)?;
+    Ok(Room { sectors, mask })
+}
+
+/// The status of a file that can't be opened. An error is one that nothing may be printed of.
+fn unopened(cause: NoImage, status: ExportStatus) -> Result<ExportStatus, ExportStatus> {
+    match cause {
+        NoImage::NoMemory => Ok(ExportStatus::NoMemory),
+        NoImage::IsErrorStream => Err(status),
+        _ => Ok(status),
+    }
+}
+
+/// Opens the files and exports the image. An error is a status that nothing may be printed of, since the file at fault is
+/// standard error.
+fn run_over_files(rt: &HostRuntime, asked: ExportWords) -> Result<ExportStatus, ExportStatus> {
+    let Ok(mut room) = make_room(rt.alloc()) else {
+        return Ok(ExportStatus::NoMemory);
+    };
+    let image = match open_image(rt, asked.image) {
+        Ok(image) => image,
+        Err(cause) => return unopened(cause, ExportStatus::NoImage),
+    };
+    let map = match asked.map {
+        Some(path) => match open_image(rt, path) {
+            Ok(map) => Some(map),
+            Err(cause) => return unopened(cause, ExportStatus::NoMap),
+        },
+        None => None,
+    };
+    Ok(run_over_disks(rt, &mut room, image, map))
+}
+
+/// Exports the image, where the map's file is empty.
+fn run_over_disks(
+    rt: &HostRuntime,
+    room: &mut Room,
+    image: FileDisk,
+    mut map: Option<FileDisk>,
+) -> ExportStatus
+    requires sectors { vec_len room.old.sectors ≡ 32 }
+    requires words { most_words ≤ vec_capacity room.old.mask }
+{
+    if let Some(disk) = &mut map {
+        if let Err(status) = require_empty(disk) {
+            return status;
+        }
+    }
+    let mut ahead = [0; MOST];
+    let mut tape = ImageTape::open(ReadAhead::new(image, &mut ahead));
+    let mut dump = StdoutSink::new(rt.stdout());
+    let mut chart = MapFile::new(map);
+    match run_export(
+        &mut room.sectors,
+        &mut room.mask,
+        &mut tape,
+        &mut dump,
+        &mut chart,
+    ) {
+        ExportStatus::Done => match chart.sync() {
+            Ok(()) => ExportStatus::Done,
+            Err(DiskFailed) => ExportStatus::SinkFault,
+        },
+        status => status,
+    }
+}
+
+/// Prints a status, and answers its exit status.
+fn finish(rt: &HostRuntime, status: ExportStatus) -> u8 {
+    // The exit status tells it, too, where standard error can't.
+    let _printed = write_bytes(status.line().as_bytes(), &mut StderrSink::new(rt.stderr()));
+    status.code()
+}

@@ -1,0 +1,50 @@
+//! A run over opened files.
+
+ghost use Rattle.std.specs.Prelude.{◌≡◌, ◌≢◌, ◌≤◌, length};
+ghost use Rattle.std.specs.Vec.{vec_capacity};
+ghost use Rattle.rescue_map.specs.Laws.{most_words};
+ghost use Rattle.tape_export.specs.Runs.{Runs};
+
+use crate::status::ExportStatus;
+use flat_dump::{ExportError, export};
+use qic_base::{Sink, SinkFailed, Tape};
+use rescue_map::write_map;
+use std::io::ErrorKind;
+
+/// The status of a run whose words could not be had: there was no memory for them, or one is no UTF-8 text, so none of
+/// the words that the command takes.
+pub fn unread(kind: ErrorKind) -> ExportStatus
+    ensures memory { kind ≡ ErrorKind.OutOfMemory → result ≡ ExportStatus.NoMemory }
+    ensures usage { kind ≢ ErrorKind.OutOfMemory → result ≡ ExportStatus.Usage }
+{
+    match kind {
+        ErrorKind::OutOfMemory => ExportStatus::NoMemory,
+        _ => ExportStatus::Usage,
+    }
+}
+
+/// Writes the flat dump of a tape's cartridge, and then its map. The room is one for the 32 sectors of a segment, and the
+/// mask has room for 6,888 words.
+pub fn run_export<T: Tape, K: Sink, M: Sink>(
+    sectors: &mut [[u8; 1024]],
+    mask: &mut Vec<u32>,
+    tape: &mut T,
+    dump: &mut K,
+    chart: &mut M,
+) -> ExportStatus
+    requires sectors { length sectors.old ≡ 32 }
+    requires words { most_words ≤ vec_capacity mask.old }
+    ensures { Runs T.means K.means M.means
+        record { tape = tape.old; dump = dump.old; chart = chart.old }
+        record { tape = tape.new; dump = dump.new; chart = chart.new } result }
+{
+    match export(tape, sectors, mask, dump) {
+        Ok(()) => match write_map(mask, chart) {
+            Ok(()) => ExportStatus::Done,
+            Err(SinkFailed) => ExportStatus::SinkFault,
+        },
+        Err(ExportError::NoCartridge) => ExportStatus::NoCartridge,
+        Err(ExportError::Tape) => ExportStatus::TapeFault,
+        Err(ExportError::Sink) => ExportStatus::SinkFault,
+    }
+}
