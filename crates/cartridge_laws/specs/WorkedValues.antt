@@ -1,5 +1,5 @@
--- Worked values: what definitions give at small values, as facts. Each value stands in the tables and worked examples of
--- the formats that the definitions are of; none comes of evaluating a definition.
+-- Worked values: what definitions give at small values, as facts. Each value stands in the tables and worked examples of the
+-- formats that the definitions are of; none comes of evaluating a definition.
 use Rattle.std.specs.Prelude.{ℕ, ◌≡◌, List, [], ◌∷◌, ◌++◌, replicate, length, Some, None, codes, take, slice_range, slice_get, All, map}
 use Rattle.std.specs.List.{range_with_len}
 use Rattle.cartridge_spec.specs.Appending.{free_segments, room, taken_by, new_entry, table_places}
@@ -100,8 +100,8 @@ NewSectors = length (new_cartridge 3).views ≡ 2688
 -- its first 78 bytes, with this format code
 abbrev pub header_bytes : (format_code : ℕ) → List (List ℕ)
 header_bytes format_code =
-    ((0x55 ∷ 0xAA ∷ 0x55 ∷ 0xAA ∷ format_code ∷ 0x00 ∷ 0x00 ∷ 0x00 ∷ 0x01 ∷ 0x00 ∷ 0x02 ∷ 0x00 ∷ 0x53 ∷ 0x00
-    ∷ 0xC0 ∷ 0x65 ∷ 0x52 ∷ 0x30 ∷ 0xC0 ∷ 0x65 ∷ 0x52 ∷ 0x30 ∷ 0x00 ∷ 0x00 ∷ 0x03 ∷ 0x00 ∷ 0x1C ∷ 0x00 ∷ 0x95 ∷ 0x80 ∷ [])
+    ((0x55 ∷ 0xAA ∷ 0x55 ∷ 0xAA ∷ format_code ∷ 0x00 ∷ 0x00 ∷ 0x00 ∷ 0x01 ∷ 0x00 ∷ 0x02 ∷ 0x00 ∷ 0x53 ∷ 0x00 ∷ 0xC0 ∷ 0x65 ∷ 0x52 ∷ 0x30
+    ∷ 0xC0 ∷ 0x65 ∷ 0x52 ∷ 0x30 ∷ 0x00 ∷ 0x00 ∷ 0x03 ∷ 0x00 ∷ 0x1C ∷ 0x00 ∷ 0x95 ∷ 0x80 ∷ [])
     ++ filled (codes "L") ++ (0xC0 ∷ 0x65 ∷ 0x52 ∷ 0x30 ∷ [])) ∷ []
 
 -- the fields that follow from the length
@@ -193,13 +193,13 @@ AllSegments = taken_by (replicate 84 0) 2405376 (free_segments (replicate 84 0) 
 
 -- with 28 bad sectors in segment 4 one of 30,720 bytes takes the segments 3 and 4
 abbrev pub FewUsable : Type 0
-FewUsable = let words : List ℕ = replicate 4 0 ++ 0x0FFF_FFFF ∷ replicate 79 0 in
-    taken_by words 30720 (free_segments words []) ≡ 3 ∷ 4 ∷ []
+FewUsable = let words : List ℕ = replicate 4 0 ++ 0x0FFF_FFFF ∷ replicate 79 0 in taken_by words 30720 (free_segments words [])
+    ≡ 3 ∷ 4 ∷ []
 
 -- with 29 it takes 3 and 5
 abbrev pub TooFewUsable : Type 0
-TooFewUsable = let words : List ℕ = replicate 4 0 ++ 0x1FFF_FFFF ∷ replicate 79 0 in
-    taken_by words 30720 (free_segments words []) ≡ 3 ∷ 5 ∷ []
+TooFewUsable = let words : List ℕ = replicate 4 0 ++ 0x1FFF_FFFF ∷ replicate 79 0 in taken_by words 30720 (free_segments words [])
+    ≡ 3 ∷ 5 ∷ []
 
 -- ---- the volume table, with a volume `a` of 10 bytes and the date 0x305265C0 in segment 3
 
@@ -274,8 +274,7 @@ NoUsedSlot = table_sets (replicate 5 free ++ view.Lost ∷ replicate 26 free)
 
 -- sectors 5 and 29: 5, 29 and 0
 abbrev pub DataAndFirstParity : Type 0
-DataAndFirstParity = table_sets (used ∷ replicate 4 free
-    ++ view.Lost ∷ replicate 23 free ++ view.Lost ∷ replicate 2 free)
+DataAndFirstParity = table_sets (used ∷ replicate 4 free ++ view.Lost ∷ replicate 23 free ++ view.Lost ∷ replicate 2 free)
     ≡ 0 ∷ 0x20000021 ∷ []
 
 -- sectors 1 and 30: 1, 30 and 31
