@@ -9,31 +9,32 @@ program=$top/crates/tape/out/tape
 kit=rattle-kit-13f
 room=${XDG_CACHE_HOME:-${HOME:-/tmp}/.cache}/tape/$(printf '%s' "$top" | cksum | tr ' ' -)
 
-# The commands, a line each, and where they are described.
+# The commands, as docs/COMMANDS.md has them in its table, and where they are described.
 tell_commands() {
-    cat << END
-usage: tape IMAGE COMMAND
-
-IMAGE is the file that holds the cartridge, and is created where there is none. The commands:
-
-    new N                 put in a new cartridge of N segments per track, in place of what was there
-    defect SEG SEC        make a defect of a sector that was never formatted
-    lose SEG SEC          make a sector unreadable, until it is written again
-    protect on | off      set or clear the write protect mark
-    upgrade               keep the cartridge in the newest layout of an image; what is on it stays
-    format LABEL [DATE]   make the cartridge an empty one; what was on it is lost
-    info                  print the label, the format date, and how many segments, bad sectors and volumes there are
-    append NAME [DATE]    add a volume: standard input to its end
-    list                  print the volumes
-    restore N             print the bytes of volume N
-    scrub                 write the sectors again that can't be read and can be found
-    pulses                send trains of step pulses, read from standard input, and print the levels
-    script                carry out the lines of standard input, and print a reply to each
-    make SEED COUNT       append COUNT made volumes, lose some of their sectors, scrub, and read them back
-
-The manual page: man $top/man/tape.1
-All of it, with what is printed and the exit statuses: $top/docs/COMMANDS.md
-END
+    echo 'usage: tape IMAGE COMMAND'
+    echo
+    echo 'IMAGE is the file that holds the cartridge, and is created where there is none. The commands:'
+    echo
+    awk -F ' *[|] *' '
+        /^[|] Command [|] Does [|]/ { is_table = 1; next }
+        is_table && !/^[|]/ { exit }
+        is_table && /^[|] `/ {
+            gsub(/`/, "")
+            gsub(/ [(][[][^)]*[)][)]/, "")
+            sub(/, protect off/, " | off", $2)
+            if ($2 ~ / DATE$/) { sub(/^.*, /, "", $2); sub(/DATE/, "[DATE]", $2) }
+            line = sprintf("    %-22s", $2)
+            count = split($3, words, " ")
+            for (i = 1; i <= count; i++) {
+                if (length(line) + length(words[i]) > 110) { print line; line = sprintf("%25s", "") }
+                line = line (i == 1 ? "" : " ") words[i]
+            }
+            print line
+        }
+    ' "$top/docs/COMMANDS.md"
+    echo
+    echo "The manual page: man $top/man/tape.1"
+    echo "All of it, with what is printed and the exit statuses: $top/docs/COMMANDS.md"
 }
 
 # The lines of crates.txt of the program and of all crates below it.

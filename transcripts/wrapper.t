@@ -4,9 +4,10 @@ The script at the top
 `./tape` of a checkout: its help, a machine without `rt`, and what it tells while it builds. `TOP` is the checkout. The page
 tries the script in a small one of its own, with a stub in place of `rt`, so nothing is proved here.
 
-  $ mkdir -p small/bench small/crates/{first,second,kept,tape,rows}/src
+  $ mkdir -p small/bench small/docs small/crates/{first,second,kept,tape,rows}/src
   $ cp "$TOP/tape" small/
   $ cp "$TOP/bench/processor" small/bench/
+  $ cp "$TOP/docs/COMMANDS.md" small/docs/
   $ printf '%s\n' first: 'second: first' kept: 'tape: first second kept' 'rows: tape' > small/crates.txt
   $ echo 'Handles allowed: none.' > small/HANDLES
   $ seq 5 > small/crates/first/src/lib.rt
@@ -24,7 +25,7 @@ What it keeps goes into a folder of the page's. `tools` has what the script call
 Help
 ----
 
-Each of three words is answered by the commands, a line each, and where they are described.
+Each of three words is answered by the commands, as the table of COMMANDS.md has them, and where they are described.
 
   $ PATH=$PWD/tools small/tape --help > help
   $ PATH=$PWD/tools small/tape -h > short
@@ -40,7 +41,7 @@ Each of three words is answered by the commands, a line each, and where they are
 The commands are those of the manual page, in its order, with their words.
 
   $ sed -n '/^\.Sh SYNOPSIS/,/^\.Sh DESCRIPTION/ s/^\.Cm \([a-z]*\).*/\1/p' "$TOP/man/tape.1" > manual
-  $ sed -n 's/^    \([a-z]*\) .*/\1/p' help | diff - manual
+  $ sed -n 's/^    \([a-z][a-z]*\) .*/\1/p' help | diff - manual
 
 No file was made, and nothing was built or kept.
 
