@@ -1,5 +1,5 @@
 -- A look that failed over a disk in which nothing was pending, and what was looked at before and behind it.
-use Rattle.std.proofs.Common.{◌≡◌, ℕ, ◌≤◌, inl, inr, true, false, List, length, refl, sym, ◌∙◌, ap, arith, Option, Some, None, IfSome, is_some, subst}
+use Rattle.std.proofs.Common.{◌≡◌, ℕ, ◌≤◌, inl, inr, true, false, List, length, refl, sym, ◌∙◌, ap, Option, Some, None, IfSome, is_some, subst}
 use Rattle.qic_base.specs.declared.tape.SectorRead.{SectorRead}
 use Rattle.qic_base.specs.declared.tape.SectorView.{SectorView}
 use Rattle.qic_base.specs.Disk.{Meaning, Look, IsSettled, Failed}
@@ -11,7 +11,7 @@ use Rattle.cart_image.specs.Layout.{end_of}
 use Rattle.cart_image.specs.Run.{Looks}
 use Rattle.cart_image.specs.State.{state_of}
 use Rattle.cart_image.proofs.Known.{told-same}
-use Rattle.cart_image.proofs.Runs.{Passes-Passes, Failed-Passes, Looks-Passes, Looks-Looks, Looks-settled}
+use Rattle.cart_image.proofs.Runs.{Failed-Passes, Looks-Looks, Looks-settled}
 use Rattle.cart_image.proofs.States.{whole-other}
 
 -- it tells what was told
@@ -50,29 +50,6 @@ Looks-failed {m = m} {a = a} {b = b} settled failed =
 -- looks of which the last one failed
 pub Looks-broken : {D : Type 0} {m : Meaning D} {a b : D} → IsSettled m a → ((mid : D) × Looks m a mid × Failed m mid b Look) → Looks m a b
 Looks-broken settled looked = Looks-Looks looked.1 (Looks-failed (Looks-settled looked.1 settled) looked.2)
-
--- a look that failed, and looks behind it: together one that failed
-pub Failed-Looks : {D : Type 0} {m : Meaning D} {a b c : D} → Failed m a b Look → Looks m b c → Failed m a c Look
-Failed-Looks {m = m} {a = a} {b = b} {c = c} failed looks =
-    let both = Passes-Passes (Failed-Passes failed) (Looks-Passes looks) in
-    record {
-      cause = let f = failed.cause in let l = looks.later in omega arith;
-      later = both.later;
-      tells = both.tells;
-      torn = λ left now. failed.torn left (sym looks.told ∙ now);
-      leaves = λ left is. failed.leaves left (looks.leaves left is);
-      settled = Looks-settled looks failed.settled;
-      crashes = record {
-        telling = both.telling;
-        clock = both.clock;
-        kept = both.kept;
-        parted = both.parted;
-        since = λ t left early is. elim (looks.since t left (let e = failed.crashes.clock in omega arith) is) [
-          | inl earlier ↦ failed.crashes.since t left early earlier
-          | inr was ↦ inr (failed.leaves left was)
-        ];
-      };
-    }
 
 -- a sector that holds no readable bytes is answered by its state bytes, read behind a look that changed nothing
 pub state-behind : (told t1 : Option (List ℕ)) (l : Layout) (q : ℕ) (old new : List ℕ) (s t : SectorState) (answer : SectorRead) → t1 ≡ told → new ≡ old → IfSome t1 (λ b. end_of l ≤ length b → s ≡ state_of (view_in l b q)) → s ≡ t

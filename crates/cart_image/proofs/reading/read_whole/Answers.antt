@@ -1,7 +1,7 @@
 use Rattle.std.proofs.Common.{⊎_elim}
 use Rattle.std.proofs.lemmas.Result.{err_from_is_err_and}
 use Rattle.cart_image.proofs.Exits.{Looked-err}
-use Rattle.cart_image.proofs.FailedLooks.{Looks-broken, Failed-Looks, state-behind}
+use Rattle.cart_image.proofs.FailedLooks.{Looks-broken, state-behind}
 use Rattle.cart_image.proofs.Runs.{Looks-Looks}
 use Rattle.cart_image.proofs.States.{read-blank, read-defect, read-lost}
 use Rattle.cart_image.proofs.reading.read_whole.Goals as goal
@@ -30,6 +30,3 @@ returns-in-Defect-clause-view g c =
     (λ is. state-behind (g.D.Disk.means.told c.args.disk.now) _ c.args.layout c.args.sector _ _ _ _ _ first.told kept c.in_ok-read_state-in-Err.ensures.state is (λ v. read-defect v _))
     (λ is. state-behind (g.D.Disk.means.told c.args.disk.now) _ c.args.layout c.args.sector _ _ _ _ _ first.told kept c.in_ok-read_state-in-Err.ensures.state is (λ v. read-lost v _))
     c.in-Defect.is
-
-pub returns-in-Readable-clause-looked : goal.returns-in-Readable-clause-looked
-returns-in-Readable-clause-looked g c = let l = c.in-Err.ensures.looked in (l.0, l.1, Failed-Looks l.2 c.in_ok-read_state-in-Err.ensures.looked)
