@@ -3,6 +3,7 @@ mod Carries
 mod Changes
 mod Copies
 mod Exits
+mod FailedLooks
 mod Fills
 mod Formats
 mod Heads

@@ -1,6 +1,7 @@
 //! What an image file tells: its head, and what it holds of its sectors.
 ghost use Rattle.std.specs.Prelude.{◌≡◌, ◌≢◌, ℕ, ◌+◌, ◌*◌, ◌<◌, ◌≤◌, List, length, slice_index, slice_index_or, slice_range, IfOk, IfSome, OnErr, false};
 ghost use Rattle.qic_base.specs.Cartridge.{place_of};
+ghost use Rattle.qic_base.specs.Disk.{IsSettled};
 ghost use Rattle.qic_base.specs.Tape.{Reads};
 ghost use Rattle.cart_image.specs.Image.{cells_by, kind_by, layout_by, head_by as head_told, head_of, view_by, view_in, sector_bytes};
 ghost use Rattle.cart_image.specs.Layout.{sectors, end_of, touches};
@@ -343,7 +344,7 @@ pub fn read_sector<D: Disk>(
 }
 
 /// Reads a sector in a cell, its state bytes and its bytes at once. `into` is unchanged unless the answer is `Good`.
-pub fn read_whole<D: Disk>(
+fn read_at_once<D: Disk>(
     disk: &mut D,
     layout: Layout,
     sector: u64,
@@ -366,5 +367,34 @@ pub fn read_whole<D: Disk>(
             into.copy_from_slice(&cell[3..]);
             Ok(SectorRead::Good)
         }
+    }
+}
+
+/// Reads a sector in a cell: all of it at once, and where the disk fails in that its state bytes alone. So it fails only
+/// where the disk fails in these, or in the bytes of a sector that they say is readable. `into` is unchanged unless the
+/// answer is `Good`.
+pub fn read_whole<D: Disk>(
+    disk: &mut D,
+    layout: Layout,
+    sector: u64,
+    into: &mut [u8; 1024],
+) -> Result<SectorRead, DiskFailed>
+    requires place { sector < sectors layout.segments_per_track }
+    requires cells { touches layout.kind ≡ false }
+    requires settled { IsSettled D.means disk.old }
+    ensures looked { Looked D.means disk.old disk.new result }
+    ensures view { IfOk result (λ answer. IfSome (D.means.told disk.old) (λ bytes.
+        end_of layout ≤ length bytes →
+        Reads (view_in layout bytes sector) into.old into.new answer)) }
+    ensures unchanged { result ≢ Ok SectorRead.Good → into.new ≡ into.old }
+    ensures seen { D.means.seen_len disk.new ≡ D.means.seen_len disk.old }
+{
+    match read_at_once(disk, layout, sector, into) {
+        Ok(read) => Ok(read),
+        Err(failed) => match read_state(disk, layout, sector)? {
+            SectorState::Blank => Ok(SectorRead::Blank),
+            SectorState::Defect | SectorState::Lost => Ok(SectorRead::Lost),
+            SectorState::Readable => Err(failed),
+        },
     }
 }

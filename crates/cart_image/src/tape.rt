@@ -159,7 +159,7 @@ impl<D: Disk> ImageTape<D> {
         }
     }
 
-    /// Reads a sector: in a cell all of it at once.
+    /// Reads a sector: in a cell all of it at once, and its state bytes alone where the disk fails in that.
     fn read_at(
         &mut self,
         layout: Layout,

@@ -40,6 +40,10 @@ fn a_read_made_ahead_that_fails_is_made_for_the_asked_bytes_alone(
     // A byte of piece 5 can't be read, and lies in what is read ahead for each of the five pieces before it.
     let mut expected = [true; 40];
     expected[5] = false;
-    assert_eq!(rt; read_in_order(Scratched::new(5 * 1024 + 7)), expected);
+    let disk = file(rt.alloc(), LENGTH, HEAD, Vec::new(rt.alloc()))?;
+    assert_eq!(rt;
+        read_in_order(Scratched::new(disk, 5 * 1024 + 7, 1)),
+        expected
+    );
     Ok(())
 }

@@ -76,7 +76,7 @@ pub fn image(alloc: Global, fails: Vec<u64>) -> Result<MemDisk, Fail>
 }
 
 /// Sees that a tape has a cartridge of three segments per track. Two calls of the disk tell of it.
-pub fn sees_three(tape: &mut ImageTape<MemDisk>) -> Result<(), Fail>
+pub fn sees_three<D: Disk>(tape: &mut ImageTape<D>) -> Result<(), Fail>
     ensures { OnOk result (image_means.size tape.new ≡ Some 3) }
 {
     match tape.info()? {

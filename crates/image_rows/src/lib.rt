@@ -7,6 +7,8 @@ mod ahead;
 #[cfg(test)]
 mod calls;
 #[cfg(test)]
+mod damaged;
+#[cfg(test)]
 mod files;
 #[cfg(test)]
 mod heads;

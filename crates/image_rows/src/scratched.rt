@@ -1,15 +1,19 @@
-//! A disk of which one byte can't be read.
+//! A disk of which some bytes can't be read.
 
 ghost use Rattle.std.specs.Prelude.{◌≡◌, ◌≤◌, false};
 ghost use Rattle.qic_base.specs.Cause.{Rose};
 
 use qic_base::{Disk, DiskFailed};
+use qic_mem::MemDisk;
 use std::marker::Model;
 
-/// A disk of zero bytes without an end, which can't be written. A read of its bad byte fails.
+/// A disk in memory that can't be written any more. A read fails in which one of its bad bytes is.
 #[derive(Drop)]
 pub struct Scratched {
+    disk: MemDisk,
+    /// The first of them.
     bad: u64,
+    count: u64,
     seen: u64,
     faults: u64,
 }
@@ -24,11 +28,13 @@ impl Model for Scratched {
 }
 
 impl Scratched {
-    pub fn new(bad: u64) -> Scratched
+    pub fn new(disk: MemDisk, bad: u64, count: u64) -> Scratched
         ensures { result ≡ record { file = bad; resized = false; seen = 0; faults = 0 } }
     {
         Scratched {
+            disk,
             bad,
+            count,
             seen: 0,
             faults: 0,
         }
@@ -57,17 +63,31 @@ impl Disk for Scratched {
     ghost left_now = { file_left_now };
 
     fn len(&mut self) -> Result<u64, DiskFailed> {
-        self.seen = u64::MAX;
-        Ok(u64::MAX)
+        match self.disk.len() {
+            Ok(len) => {
+                self.seen = len;
+                Ok(len)
+            }
+            Err(failed) => {
+                self.count_fault();
+                Err(failed)
+            }
+        }
     }
 
     fn read_at(&mut self, place: u64, into: &mut [u8]) -> Result<usize, DiskFailed> {
-        if place <= self.bad && self.bad - place < into.len() as u64 {
+        let end = place.saturating_add(into.len() as u64);
+        if self.bad < end && place < self.bad.saturating_add(self.count) {
             self.count_fault();
             return Err(DiskFailed);
         }
-        into.fill(0);
-        Ok(into.len())
+        match self.disk.read_at(place, into) {
+            Ok(count) => Ok(count),
+            Err(failed) => {
+                self.count_fault();
+                Err(failed)
+            }
+        }
     }
 
     fn write_at(&mut self, _place: u64, _from: &[u8]) -> Result<(), DiskFailed> {

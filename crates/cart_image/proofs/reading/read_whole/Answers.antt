@@ -1,24 +1,32 @@
-use Rattle.std.proofs.Common.{arith, ⊎_elim, ◌∙◌, drop}
-use Rattle.std.proofs.lemmas.List.{take_all, length-drop}
-use Rattle.cart_image.proofs.States.{cell-state, whole-good, whole-other, read-blank, read-defect, read-lost}
+use Rattle.std.proofs.Common.{⊎_elim}
+use Rattle.std.proofs.lemmas.Result.{err_from_is_err_and}
+use Rattle.cart_image.proofs.Exits.{Looked-err}
+use Rattle.cart_image.proofs.FailedLooks.{Looks-broken, state-behind}
+use Rattle.cart_image.proofs.Runs.{Looks-Looks}
+use Rattle.cart_image.proofs.States.{read-blank, read-defect, read-lost}
 use Rattle.cart_image.proofs.reading.read_whole.Goals as goal
+
+pub returns-in_err-read_state-in-Err-clause-looked : goal.returns-in_err-read_state-in-Err-clause-looked
+returns-in_err-read_state-in-Err-clause-looked g c =
+    let p = err_from_is_err_and c.from_residual.result c.from_residual.ensures.1 in
+    Looked-err g.D.Disk.means _ _ _ _ p.0 p.1 (Looks-broken c.requires.settled c.in-Err.ensures.looked) c.in_err-read_state-in-Err.ensures.looked
+
+pub returns-in-Blank-clause-looked : goal.returns-in-Blank-clause-looked
+returns-in-Blank-clause-looked g c = Looks-Looks (Looks-broken c.requires.settled c.in-Err.ensures.looked) c.in_ok-read_state-in-Err.ensures.looked
 
 pub returns-in-Blank-clause-view : goal.returns-in-Blank-clause-view
 returns-in-Blank-clause-view g c =
-    whole-other (g.D.Disk.means.told c.args.disk.now) c.args.layout c.args.sector _ _ _ _
-    (cell-state (g.D.Disk.means.told c.args.disk.now) c.args.layout c.args.sector c.place.result 1027 c.in_ok-cell.cell _ c.requires.cells c.requires.place c.place.ensures (omega arith) (omega arith) c.in_ok-cell.ensures.bytes c.state_by.ensures)
-    c.in-Blank.is (λ v. read-blank v _)
+    let first = Looks-broken c.requires.settled c.in-Err.ensures.looked in
+    state-behind (g.D.Disk.means.told c.args.disk.now) _ c.args.layout c.args.sector _ _ _ _ _ first.told (c.in-Err.ensures.unchanged (λ same. cc)) c.in_ok-read_state-in-Err.ensures.state c.in-Blank.is (λ v. read-blank v _)
+
+pub returns-in-Defect-clause-looked : goal.returns-in-Defect-clause-looked
+returns-in-Defect-clause-looked g c = Looks-Looks (Looks-broken c.requires.settled c.in-Err.ensures.looked) c.in_ok-read_state-in-Err.ensures.looked
 
 pub returns-in-Defect-clause-view : goal.returns-in-Defect-clause-view
 returns-in-Defect-clause-view g c =
-    let seen = cell-state (g.D.Disk.means.told c.args.disk.now) c.args.layout c.args.sector c.place.result 1027 c.in_ok-cell.cell _ c.requires.cells c.requires.place c.place.ensures (omega arith) (omega arith) c.in_ok-cell.ensures.bytes c.state_by.ensures in
+    let first = Looks-broken c.requires.settled c.in-Err.ensures.looked in
+    let kept = c.in-Err.ensures.unchanged (λ same. cc) in
     ⊎_elim
-    (λ is. whole-other (g.D.Disk.means.told c.args.disk.now) c.args.layout c.args.sector _ _ _ _ seen is (λ v. read-defect v _))
-    (λ is. whole-other (g.D.Disk.means.told c.args.disk.now) c.args.layout c.args.sector _ _ _ _ seen is (λ v. read-lost v _))
+    (λ is. state-behind (g.D.Disk.means.told c.args.disk.now) _ c.args.layout c.args.sector _ _ _ _ _ first.told kept c.in_ok-read_state-in-Err.ensures.state is (λ v. read-defect v _))
+    (λ is. state-behind (g.D.Disk.means.told c.args.disk.now) _ c.args.layout c.args.sector _ _ _ _ _ first.told kept c.in_ok-read_state-in-Err.ensures.state is (λ v. read-lost v _))
     c.in-Defect.is
-
-pub returns-in-Readable-clause-view : goal.returns-in-Readable-clause-view
-returns-in-Readable-clause-view g c =
-    whole-good (g.D.Disk.means.told c.args.disk.now) c.args.layout c.args.sector c.place.result c.in_ok-cell.cell c.args.into.now c.copy_from_slice.new.self _ c.requires.cells c.requires.place c.place.ensures c.in_ok-cell.ensures.bytes
-    (cell-state (g.D.Disk.means.told c.args.disk.now) c.args.layout c.args.sector c.place.result 1027 c.in_ok-cell.cell _ c.requires.cells c.requires.place c.place.ensures (omega arith) (omega arith) c.in_ok-cell.ensures.bytes c.state_by.ensures)
-    c.in-Readable.is (c.copy_from_slice.ensures.after ∙ take_all 1024 (drop 3 c.in_ok-cell.cell) (let d = length-drop 3 c.in_ok-cell.cell in omega arith))

@@ -1,0 +1,59 @@
+-- A look that failed over a disk in which nothing was pending, and what was looked at before and behind it.
+use Rattle.std.proofs.Common.{◌≡◌, ℕ, ◌≤◌, inl, inr, true, false, List, length, refl, sym, ◌∙◌, ap, Option, Some, None, IfSome, is_some, subst}
+use Rattle.qic_base.specs.declared.tape.SectorRead.{SectorRead}
+use Rattle.qic_base.specs.declared.tape.SectorView.{SectorView}
+use Rattle.qic_base.specs.Disk.{Meaning, Look, IsSettled, Failed}
+use Rattle.qic_base.specs.Tape.{Reads}
+use Rattle.cart_image.specs.declared.layout.Layout.{Layout}
+use Rattle.cart_image.specs.declared.reading.SectorState.{SectorState}
+use Rattle.cart_image.specs.Image.{view_in}
+use Rattle.cart_image.specs.Layout.{end_of}
+use Rattle.cart_image.specs.Run.{Looks}
+use Rattle.cart_image.specs.State.{state_of}
+use Rattle.cart_image.proofs.Known.{told-same}
+use Rattle.cart_image.proofs.Runs.{Failed-Passes, Looks-Looks, Looks-settled}
+use Rattle.cart_image.proofs.States.{whole-other}
+
+-- it tells what was told
+failed-told : {D : Type 0} {m : Meaning D} {a b : D} → IsSettled m a → Failed m a b Look → (was now : Option (List ℕ)) → m.told a ≡ was → m.told b ≡ now → m.told b ≡ m.told a
+failed-told {m = m} {a = a} {b = b} settled failed None None before after = after ∙ sym before
+failed-told {m = m} {a = a} {b = b} settled failed None (Some bytes) before after =
+    let same : is_some (m.told b) ≡ is_some (m.told a) = failed.tells in
+    let none : is_some (m.told a) ≡ false = ap is_some before in
+    let some : is_some (m.told b) ≡ true = ap is_some after in cc
+failed-told {m = m} {a = a} {b = b} settled failed (Some bytes) None before after =
+    let same : is_some (m.told b) ≡ is_some (m.told a) = failed.tells in
+    let some : is_some (m.told a) ≡ true = ap is_some before in
+    let none : is_some (m.told b) ≡ false = ap is_some after in cc
+failed-told {m = m} {a = a} {b = b} settled failed (Some bytes) (Some left) before after =
+    let torn = failed.torn left after in
+    after ∙ ap Some (torn.2 ∙ settled.only bytes torn.0 before torn.1) ∙ sym before
+
+-- .. and leaves what one that was done leaves
+Looks-failed : {D : Type 0} {m : Meaning D} {a b : D} → IsSettled m a → Failed m a b Look → Looks m a b
+Looks-failed {m = m} {a = a} {b = b} settled failed =
+    let both = Failed-Passes failed in
+    record {
+      told = failed-told settled failed (m.told a) (m.told b) refl refl;
+      later = both.later;
+      leaves = λ left is. let was = failed.leaves left is in subst (m.may_leave a) (sym was.2) was.1;
+      telling = both.telling;
+      clock = both.clock;
+      kept = both.kept;
+      parted = both.parted;
+      since = λ t left early is. elim (failed.crashes.since t left early is) [
+        | inl earlier ↦ inl earlier
+        | inr was ↦ inr (subst (m.may_leave a) (sym was.2) was.1)
+      ];
+    }
+
+-- looks of which the last one failed
+pub Looks-broken : {D : Type 0} {m : Meaning D} {a b : D} → IsSettled m a → ((mid : D) × Looks m a mid × Failed m mid b Look) → Looks m a b
+Looks-broken settled looked = Looks-Looks looked.1 (Looks-failed (Looks-settled looked.1 settled) looked.2)
+
+-- a sector that holds no readable bytes is answered by its state bytes, read behind a look that changed nothing
+pub state-behind : (told t1 : Option (List ℕ)) (l : Layout) (q : ℕ) (old new : List ℕ) (s t : SectorState) (answer : SectorRead) → t1 ≡ told → new ≡ old → IfSome t1 (λ b. end_of l ≤ length b → s ≡ state_of (view_in l b q)) → s ≡ t
+    → ((v : SectorView) → t ≡ state_of v → Reads v old old answer) → IfSome told (λ b. end_of l ≤ length b → Reads (view_in l b q) old new answer)
+state-behind told t1 l q old new s t answer same kept seen is reads =
+    let P : List ℕ → Type 0 = λ into. IfSome told (λ b. end_of l ≤ length b → Reads (view_in l b q) old into answer) in
+    subst P (sym kept) (whole-other told l q old s t answer (told-same (λ b. end_of l ≤ length b → s ≡ state_of (view_in l b q)) same seen) is reads)
