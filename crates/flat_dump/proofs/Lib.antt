@@ -7,3 +7,4 @@ pub mod Importing
 pub mod Maps
 pub mod Seeing
 pub mod Standing
+pub mod Stops
