@@ -8,3 +8,4 @@ pub mod Maps
 pub mod Seeing
 pub mod Standing
 pub mod Stops
+pub mod Celling

@@ -1,6 +1,7 @@
 //! Laws of flat dumps. Each is the contract of a function that does nothing.
 
 ghost use Rattle.flat_dump.specs.Laws.{DumpIsWhole, EachMapTells, ImportsOne, ImportIsWhole, MaskImports, BringsBack, StandsAgain};
+ghost use Rattle.flat_dump.specs.Cells.{CellShows};
 ghost use Rattle.flat_dump.specs.Stops.{UnsignedIsNone};
 
 /// A dump has 917,504 bytes for each segment per track.
@@ -34,4 +35,9 @@ pub fn comes_back_standing()
 /// A file whose first byte is zero is no image.
 pub fn unsigned_is_no_image()
     ensures { UnsignedIsNone }
+{}
+
+/// The cell of a sector is read as the sector.
+pub fn cells_show_their_sectors()
+    ensures { CellShows }
 {}
