@@ -7,3 +7,5 @@ pub mod Importing
 pub mod Maps
 pub mod Seeing
 pub mod Standing
+pub mod Stops
+pub mod Celling

@@ -1,6 +1,8 @@
 //! Laws of flat dumps. Each is the contract of a function that does nothing.
 
 ghost use Rattle.flat_dump.specs.Laws.{DumpIsWhole, EachMapTells, ImportsOne, ImportIsWhole, MaskImports, BringsBack, StandsAgain};
+ghost use Rattle.flat_dump.specs.Cells.{CellShows};
+ghost use Rattle.flat_dump.specs.Stops.{UnsignedIsNone};
 
 /// A dump has 917,504 bytes for each segment per track.
 pub fn dumps_are_whole()
@@ -28,4 +30,14 @@ pub fn exports_come_back()
 /// It stands for what the cartridge stood for.
 pub fn comes_back_standing()
     ensures { StandsAgain }
+{}
+
+/// A file whose first byte is zero is no image.
+pub fn unsigned_is_no_image()
+    ensures { UnsignedIsNone }
+{}
+
+/// The cell of a sector is read as the sector.
+pub fn cells_show_their_sectors()
+    ensures { CellShows }
 {}

@@ -2,8 +2,10 @@
 //! memory.
 #![tactic(auto)]
 
+mod cells;
 mod exporting;
 pub mod laws;
 mod segment;
 
+pub use cells::{append_sector, begin};
 pub use exporting::{ExportError, export};

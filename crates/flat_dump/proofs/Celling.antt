@@ -1,0 +1,11 @@
+-- What the cell of a sector is read as.
+use Rattle.std.proofs.Common.{◌≡◌, ℕ, ◌≤◌, Bool, true, false, List, length, refl, ap, arith}
+use Rattle.std.proofs.lemmas.List.{take_all}
+use Rattle.qic_base.specs.declared.tape.SectorView.{SectorView}
+use Rattle.qic_base.specs.declared.tape.SectorView.TheVariants.{Lost, Holds}
+use Rattle.flat_dump.specs.Cells.{cell_bytes, CellShows}
+
+pub cell_shows : CellShows
+unfolding cell_bytes
+cell_shows true bytes size = ap Holds (take_all 1024 bytes (omega arith))
+cell_shows false bytes size = refl
