@@ -78,8 +78,9 @@ lines_of() {
     find "$@" -path '*/out' -prune -o -type f -exec cat {} + | wc -l
 }
 
-# The crates, a line each with the lines of its sources and what it stands on. The first has the longest way to the program, in
-# lines: that of each crate is its own and the longest of those that stand on it.
+# The crates, a line each with what it costs and what it stands on. The first has the longest way to the program: that of each is
+# its own cost and the longest way of those that stand on it. The costs are the seconds in docs/GATE.md, or where that has
+# none for a crate its lines.
 by_longest_way() {
     local crate
     for crate in $(cut -d : -f 1 "$room/crates.txt"); do
@@ -89,17 +90,21 @@ by_longest_way() {
             if (crate in known) return known[crate]
             for (i = 1; i <= count; i++)
                 if ((crates[i], crate) in stands_on && way(crates[i]) > most) most = way(crates[i])
-            return known[crate] = most + lines[crate]
+            return known[crate] = most + cost[crate]
         }
-        NR == FNR { lines[$1] = $2; next }
+        FILENAME ~ /GATE.md$/ {
+            if (split($0, cells, "|") == 6 && gsub(/[ `]/, "", cells[2]) && cells[3] ~ /[0-9]/) cost[cells[2]] = int(60 * cells[3])
+            next
+        }
+        FILENAME == "-" { crate = $1; if (!(crate in cost)) cost[crate] = $2; is_needed[crate] = 1; next }
         {
             sub(":", "", $1)
             crates[++count] = $1
             below[$1] = ""
-            for (i = 2; i <= NF; i++) if ($i in lines) { stands_on[$1, $i]; below[$1] = below[$1] " " $i }
+            for (i = 2; i <= NF; i++) if ($i in is_needed) { stands_on[$1, $i]; below[$1] = below[$1] " " $i }
         }
-        END { for (i = 1; i <= count; i++) print way(crates[i]), crates[i], lines[crates[i]] below[crates[i]] }
-    ' - "$room/crates.txt" | sort -k 1,1nr -k 2,2 | cut -d ' ' -f 2-
+        END { for (i = 1; i <= count; i++) print way(crates[i]), crates[i], cost[crates[i]] below[crates[i]] }
+    ' "$([ -r "$top/docs/GATE.md" ] && echo "$top/docs/GATE.md" || echo /dev/null)" - "$room/crates.txt" | sort -k 1,1nr -k 2,2
 }
 
 # Proves one crate in a folder, by so many processors. A library is built as well: the crates above it are proved over it.
@@ -122,14 +127,16 @@ share() {
     done
 }
 
-# Proves all crates: as many side by side as there are processors, those with the longest way to the program first. Where fewer
-# are left to begin with than there are processors, the first of them gets those that are over. A check holds the libraries below
-# its crate, so each works in a folder of its own. Prints a line when a crate is done.
+# Proves all crates: as many side by side as there are processors, those with the longest way to the program first. One whose way is
+# longer than what is left for each processor gets two, and where fewer are left to begin with than there are processors, the
+# first of them gets those that are over. A check holds the libraries below its crate, so each works in a folder of its own.
+# Prints a line when a crate is done.
 prove_all() {
-    local -A lines=() below=() is_begun=() is_done=() crate_of=() place_of=() jobs_of=()
-    local order=() places=() free=$at_once crate low ready jobs pid status
-    while read -r crate low; do
-        order+=("$crate") lines[$crate]=${low%% *} below[$crate]=${low#"${low%% *}"}
+    local -A way=() cost=() below=() is_begun=() is_done=() crate_of=() place_of=() jobs_of=()
+    local order=() places=() free=$at_once left=0 crate low long ready jobs pid status
+    while read -r long crate low; do
+        order+=("$crate") way[$crate]=$long cost[$crate]=${low%% *} below[$crate]=${low#"${low%% *}"}
+        left=$((left + cost[$crate]))
     done < <(by_longest_way)
     for ((pid = at_once; pid >= 1; pid--)); do places+=("$pid"); done
     while [ ${#is_done[@]} -lt ${#order[@]} ]; do
@@ -144,6 +151,7 @@ prove_all() {
         for crate in "${ready[@]}"; do
             [ $free -gt 0 ] || break
             jobs=$((free > ${#ready[@]} ? free - ${#ready[@]} + 1 : 1))
+            [ $jobs -gt 1 ] || [ $free -lt 2 ] || [ $((way[$crate] * at_once)) -lt "$left" ] || jobs=2
             prove "${places[-1]}" "$crate" $jobs &
             crate_of[$!]=$crate place_of[$!]=${places[-1]} jobs_of[$!]=$jobs is_begun[$crate]=1
             unset 'places[-1]'
@@ -160,28 +168,27 @@ prove_all() {
         fi
         share "${place_of[$pid]}" "$crate"
         is_done[$crate]=1
-        places+=("${place_of[$pid]}") free=$((free + jobs_of[$pid]))
-        echo "$crate ${lines[$crate]} $(grep -c '^logic=proved' "$room/log.$crate")"
+        places+=("${place_of[$pid]}") free=$((free + jobs_of[$pid])) left=$((left - cost[$crate]))
+        echo "$crate ${cost[$crate]} $left $(grep -c '^logic=proved' "$room/log.$crate")"
         rm -f "$room/log.$crate"
         unset "crate_of[$pid]"
     done
 }
 
 # Reads which crates are done, and tells how far it is. Nothing was said of one that was proved before. The time to go is that of
-# the lines that are left, by the lines that were proved since it began; it is told once these are a tenth of both.
+# what is left, by the costs of what was proved since it began; it is told once that is a tenth of both.
 tell() {
-    local of left count=0 proved=0 crate lines is_new text shown='' ends='\n'
+    local of count=0 proved=0 crate cost left is_new text shown='' ends='\n'
     of=$(wc -l < "$room/crates.txt")
-    left=$(lines_of "$room/1/crates")
     [ ! -t 2 ] || ends='\r'
     SECONDS=0
     text="tape: proved 0 of $of crates"
     while true; do
         [ "$text" = "$shown" ] || printf "%-70s$ends" "${text/about 0 minutes/less than a minute}" >&2
         shown=$text
-        read -r crate lines is_new || break
-        count=$((count + 1)) left=$((left - lines))
-        [ "$is_new" = 0 ] || proved=$((proved + lines))
+        read -r crate cost left is_new || break
+        count=$((count + 1))
+        [ "$is_new" = 0 ] || proved=$((proved + cost))
         text="tape: proved $count of $of crates"
         [ $proved = 0 ] || [ $((proved * 10)) -lt $((proved + left)) ] ||
             text="$text, about $((SECONDS * left / proved / 60)) minutes to go"
