@@ -28,6 +28,7 @@ impl Model for Scratched {
 }
 
 impl Scratched {
+    /// The disk, of which `count` bytes from place `bad` on cannot be read.
     pub fn new(disk: MemDisk, bad: u64, count: u64) -> Scratched
         ensures { result ≡ record { file = bad; resized = false; seen = 0; faults = 0 } }
     {
