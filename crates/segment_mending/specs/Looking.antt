@@ -4,50 +4,50 @@ use Rattle.qic_base.specs.Sink as sinks
 use Rattle.qic_base.specs.Tape as tapes
 use Rattle.qic_base.specs.Acts.{Act, steps_of, text_of, Outside, Failing, TapeFails, SinkFails, Went, Cut}
 use Rattle.qic_base.specs.Acts.{no_source}
-use Rattle.cartridge_spec.specs.Says.{Saying}
-use Rattle.command_spec.specs.Scrub.{Looked, Counts, SayInTurn, looking_acts, unread_count}
+use Rattle.command_spec.specs.Scrub.{Looked, Counts, unread_count}
+use Rattle.command_spec.specs.ScrubForms.{Finding, FindInTurn, MayBeFound, finding_acts, lines_for, sayings_of}
+use Rattle.command_spec.specs.declared.depth.Depth.{Depth}
 use Rattle.segment_mending.specs.declared.fault.ScrubFault.{ScrubFault}
 use Rattle.segment_mending.specs.declared.fault.ScrubFault.TheVariants as fault
-use Rattle.command_spec.specs.Scrub.{lines_of}
 
--- These segments say this, on the cartridge that the tape tells, and these are their acts; over any tape the acts print
--- what belongs to these sayings.
-pub record AreActs {T : Type 0} (t : tapes.Meaning T) (tape : T) (looked : List Looked) (sayings : List Saying) (acts : List Act) : Type 0 where
-  pub told : tapes.Tells t tape (λ c. SayInTurn c looked sayings × (acts ≡ looking_acts c looked sayings))
-  pub each : length sayings ≡ length looked
-  pub text : text_of acts ≡ lines_of looked sayings
+-- This is found of these segments, on the cartridge that the tape tells, and these are their acts; over any tape the acts
+-- print what belongs to these findings.
+pub record AreActs {T : Type 0} (t : tapes.Meaning T) (tape : T) (depth : Depth) (looked : List Looked) (findings : List Finding) (acts : List Act) : Type 0 where
+  pub told : tapes.Tells t tape (λ c. FindInTurn depth c looked findings × (acts ≡ finding_acts c looked findings))
+  pub may : MayBeFound depth looked findings
+  pub text : text_of acts ≡ lines_for looked findings
 
 -- The counts rose by these segments.
-pub record Counted (looked : List Looked) (sayings : List Saying) (acts : List Act) (old new : Counts) : Type 0 where
+pub record Counted (looked : List Looked) (findings : List Finding) (acts : List Act) (old new : Counts) : Type 0 where
   pub segments : new.segments ≡ old.segments + length looked
   pub mended : new.mended ≡ old.mended + length (steps_of acts)
-  pub unreadable : new.unreadable ≡ old.unreadable + unread_count looked sayings
+  pub unreadable : new.unreadable ≡ old.unreadable + unread_count looked (sayings_of findings)
   -- a segment has 32 sectors
   pub few : length (steps_of acts) ≤ 32 * length looked
 
 -- All segments were looked at: their acts went, and were counted.
-pub record HasLooked {T K : Type 0} (t : tapes.Meaning T) (k : sinks.Meaning K) (looked : List Looked) (old new : Outside T (Unit {0}) K) (before after : Counts) : Type 0 where
-  pub sayings : List Saying
+pub record HasLooked {T K : Type 0} (t : tapes.Meaning T) (k : sinks.Meaning K) (depth : Depth) (looked : List Looked) (old new : Outside T (Unit {0}) K) (before after : Counts) : Type 0 where
+  pub findings : List Finding
   pub acts : List Act
-  pub are : AreActs t old.tape looked sayings acts
+  pub are : AreActs t old.tape depth looked findings acts
   pub went : Went t no_source k old new acts
-  pub counted : Counted looked sayings acts before after
+  pub counted : Counted looked findings acts before after
 
 -- A fault of the tape or of the sink cut the acts off.
-pub record LookingCut {T K : Type 0} (t : tapes.Meaning T) (k : sinks.Meaning K) (looked : List Looked) (old new : Outside T (Unit {0}) K) (failing : Failing) : Type 0 where
-  pub told : tapes.Tells t old.tape (λ c. (sayings : List Saying) → SayInTurn c looked sayings →
-      Cut t no_source k old new (looking_acts c looked sayings) failing)
+pub record LookingCut {T K : Type 0} (t : tapes.Meaning T) (k : sinks.Meaning K) (depth : Depth) (looked : List Looked) (old new : Outside T (Unit {0}) K) (failing : Failing) : Type 0 where
+  pub told : tapes.Tells t old.tape (λ c. (findings : List Finding) → FindInTurn depth c looked findings →
+      Cut t no_source k old new (finding_acts c looked findings) failing)
   -- and over any tape
-  pub sayings : List Saying
+  pub findings : List Finding
   pub acts : List Act
-  pub each : length sayings ≡ length looked
-  pub text : text_of acts ≡ lines_of looked sayings
+  pub may : MayBeFound depth looked findings
+  pub text : text_of acts ≡ lines_for looked findings
   pub cut : Cut t no_source k old new acts failing
 
-abbrev pub Looks : {T K : Type 0} (t : tapes.Meaning T) (k : sinks.Meaning K) (looked : List Looked) (old new : Outside T (Unit {0}) K) (before after : Counts) → Result (Unit {0}) ScrubFault → Type 0
-Looks t k looked old new before after (Ok done) = HasLooked t k looked old new before after
-Looks t k looked old new before after (Err fault.Sink) = LookingCut t k looked old new SinkFails
-Looks t k looked old new before after (Err fault.Tape) = LookingCut t k looked old new TapeFails
+abbrev pub Looks : {T K : Type 0} (t : tapes.Meaning T) (k : sinks.Meaning K) (depth : Depth) (looked : List Looked) (old new : Outside T (Unit {0}) K) (before after : Counts) → Result (Unit {0}) ScrubFault → Type 0
+Looks t k depth looked old new before after (Ok done) = HasLooked t k depth looked old new before after
+Looks t k depth looked old new before after (Err fault.Sink) = LookingCut t k depth looked old new SinkFails
+Looks t k depth looked old new before after (Err fault.Tape) = LookingCut t k depth looked old new TapeFails
 
 -- no more segments than this were counted, of each at most 32 sectors
 pub record HasFew (most : ℕ) (counts : Counts) : Type 0 where

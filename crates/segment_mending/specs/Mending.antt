@@ -1,7 +1,9 @@
 -- How a cartridge was scrubbed, by the answer of the call (this project's own).
 use Rattle.std.specs.Prelude.{◌≡◌, ℕ, List, ◌++◌, Result, Ok, Err}
 use Rattle.cartridge_spec.specs.Table.{Entry}
-use Rattle.command_spec.specs.Scrub.{Counts, counts_of, looked_at, Scrubs, IsScrubText}
+use Rattle.command_spec.specs.Scrub.{Counts, looked_at}
+use Rattle.command_spec.specs.ScrubForms.{ScrubsAs, IsTextFor, counts_for}
+use Rattle.command_spec.specs.declared.depth.Depth.{Depth}
 use Rattle.qic_base.specs.Acts.{Act, text_of, Outside, Went, no_source, Failing, Cut, TapeFails, SinkFails}
 use Rattle.segment_mending.specs.declared.fault.ScrubFault.{ScrubFault}
 use Rattle.segment_mending.specs.declared.report.ScrubReport.{ScrubReport}
@@ -14,24 +16,24 @@ abbrev pub reported : ScrubReport → Counts
 reported report = record { segments = report.segments; mended = report.mended; unreadable = report.unreadable }
 
 -- All acts went, and the report tells what was counted.
-pub record HasScrubbed {T K : Type 0} (t : tapes.Meaning T) (k : sinks.Meaning K) (words : List ℕ) (entries : List Entry) (old new : Outside T (Unit {0}) K) (report : ScrubReport) : Type 0 where
+pub record HasScrubbed {T K : Type 0} (t : tapes.Meaning T) (k : sinks.Meaning K) (depth : Depth) (words : List ℕ) (entries : List Entry) (old new : Outside T (Unit {0}) K) (report : ScrubReport) : Type 0 where
   pub acts : List Act
   pub went : Went t no_source k old new acts
-  pub told : tapes.Tells t old.tape (λ c. (scrubs : Scrubs c words entries acts)
-      × (reported report ≡ counts_of c (looked_at words entries) scrubs.sayings))
+  pub told : tapes.Tells t old.tape (λ c. (scrubs : ScrubsAs depth c words entries acts)
+      × (reported report ≡ counts_for c (looked_at words entries) scrubs.findings))
   -- and over any tape
-  pub text : IsScrubText (looked_at words entries) (reported report) (text_of acts)
+  pub text : IsTextFor depth (looked_at words entries) (reported report) (text_of acts)
 
 -- A fault of the tape or of the sink cut them off.
-pub record ScrubCut {T K : Type 0} (t : tapes.Meaning T) (k : sinks.Meaning K) (words : List ℕ) (entries : List Entry) (old new : Outside T (Unit {0}) K) (failing : Failing) : Type 0 where
-  pub told : tapes.Tells t old.tape (λ c. (acts : List Act) → Scrubs c words entries acts → Cut t no_source k old new acts failing)
+pub record ScrubCut {T K : Type 0} (t : tapes.Meaning T) (k : sinks.Meaning K) (depth : Depth) (words : List ℕ) (entries : List Entry) (old new : Outside T (Unit {0}) K) (failing : Failing) : Type 0 where
+  pub told : tapes.Tells t old.tape (λ c. (acts : List Act) → ScrubsAs depth c words entries acts → Cut t no_source k old new acts failing)
   -- and over any tape
   pub acts : List Act
   pub counts : Counts
   pub cut : Cut t no_source k old new acts failing
-  pub front : (rest : List ℕ) × IsScrubText (looked_at words entries) counts (text_of acts ++ rest)
+  pub front : (rest : List ℕ) × IsTextFor depth (looked_at words entries) counts (text_of acts ++ rest)
 
-abbrev pub ScrubEnds : {T K : Type 0} (t : tapes.Meaning T) (k : sinks.Meaning K) (words : List ℕ) (entries : List Entry) (old new : Outside T (Unit {0}) K) → Result ScrubReport ScrubFault → Type 0
-ScrubEnds t k words entries old new (Ok report) = HasScrubbed t k words entries old new report
-ScrubEnds t k words entries old new (Err fault.Sink) = ScrubCut t k words entries old new SinkFails
-ScrubEnds t k words entries old new (Err fault.Tape) = ScrubCut t k words entries old new TapeFails
+abbrev pub ScrubEnds : {T K : Type 0} (t : tapes.Meaning T) (k : sinks.Meaning K) (depth : Depth) (words : List ℕ) (entries : List Entry) (old new : Outside T (Unit {0}) K) → Result ScrubReport ScrubFault → Type 0
+ScrubEnds t k depth words entries old new (Ok report) = HasScrubbed t k depth words entries old new report
+ScrubEnds t k depth words entries old new (Err fault.Sink) = ScrubCut t k depth words entries old new SinkFails
+ScrubEnds t k depth words entries old new (Err fault.Tape) = ScrubCut t k depth words entries old new TapeFails
