@@ -3,6 +3,7 @@ use Rattle.std.specs.Prelude.{ℕ, List}
 use Rattle.command_spec.specs.AppendCommand.{append_command}
 use Rattle.command_spec.specs.Command.{Command}
 use Rattle.command_spec.specs.CommandWords.{Part, HasForm}
+use Rattle.command_spec.specs.DeepScrubCommand.{deep_scrub_command}
 use Rattle.command_spec.specs.Defect.{defect_command}
 use Rattle.command_spec.specs.Format.{format_command}
 use Rattle.command_spec.specs.Info.{info_command}
@@ -31,6 +32,7 @@ command_of (words.Append name date) = append_command name date
 command_of words.List = list_command
 command_of (words.Restore number) = restore_command number
 command_of words.Scrub = scrub_command
+command_of words.ScrubDeep = deep_scrub_command
 command_of words.Pulses = pulses_command
 command_of words.Script = script_command
 command_of (words.Make seed count) = make_command seed count

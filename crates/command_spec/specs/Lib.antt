@@ -4,6 +4,7 @@ pub mod Command
 pub mod CommandWords
 pub mod Commands
 pub mod Complete
+pub mod DeepScrubCommand
 pub mod Defect
 pub mod Format
 pub mod Generator

@@ -31,7 +31,7 @@ pub record Promises {T S K : Type 0} (t : tapes.Meaning T) (s : sources.Meaning 
   pub stops : EachLeft t old.tape new.tape (WordsLeave (s.left old.source) words)
   -- The volumes: each cartridge so left stands for what the old one stood for, but for `new` and `script`, for `format`, `append`
   -- and `make` of a cartridge that is not protected, and a `lose` that doesn't spare header and table; and likewise it has the old
-  -- one's list.
+  -- one's list, but also for a `scrub deep` where a sector of the first header copy is wrong.
   pub volumes : VolumesStay t words old.tape new.tape
   pub lists : ListStays t words old.tape new.tape
   -- Where each sector of the table's segment takes a write, each does so in each cartridge so left, but for `new`: what the clauses

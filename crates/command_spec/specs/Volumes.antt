@@ -47,7 +47,8 @@ VolumesStay t words old new = EachLeft t old new (StillStands words)
 
 -- ---- commands that keep the list
 
--- The command keeps what a cartridge is mounted as, whether it stands for a plain one or not.
+-- The command keeps what a cartridge is mounted as, whether it stands for a plain one or not. A wrong sector of the first header
+-- copy that a deep scrub mends may put that copy's header in force.
 abbrev pub KeepsList : Words → Cartridge → Type 0
 KeepsList command c = (command_of command).keeps_list c
 

@@ -17,6 +17,8 @@ pub enum Words {
     List,
     Restore { number: u32 },
     Scrub,
+    /// A scrub that also looks for sectors that can be read and hold wrong bytes.
+    ScrubDeep,
     Pulses,
     Script,
     /// A generated run of 1 to 200 volumes.
