@@ -4,6 +4,8 @@ pub mod Command
 pub mod CommandWords
 pub mod Commands
 pub mod Complete
+pub mod Copied
+pub mod Copying
 pub mod Defect
 pub mod Format
 pub mod Generator
