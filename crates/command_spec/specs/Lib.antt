@@ -5,6 +5,7 @@ pub mod CommandWords
 pub mod Commands
 pub mod Complete
 pub mod Copied
+pub mod CopyPromises
 pub mod Copying
 pub mod Defect
 pub mod Format
