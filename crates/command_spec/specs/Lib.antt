@@ -5,6 +5,9 @@ pub mod CommandWords
 pub mod Commands
 pub mod Complete
 pub mod DeepScrubCommand
+pub mod Copied
+pub mod CopyPromises
+pub mod Copying
 pub mod Defect
 pub mod Format
 pub mod Generator
