@@ -349,12 +349,15 @@ module _ (area : List (List ℕ)) (is_area : IsArea area) where
 
   -- ---- over a mounted cartridge
 
+  pub settling_leaves : (table : List (List ℕ)) (c : Cartridge) → Clean c → Leaves Clean c (settling_steps table c)
+  settling_leaves table c clean = behind_leaves c (settling_steps table c) (settling_behind table c) clean
+
   -- the settling, and acts behind it
   settled_leaves : (c : Cartridge) (header : Header) (ws : List ℕ) (table : List (List ℕ)) (entries : List Entry) (acts : List Act) →
       Mounts c (mounting.Mounted header ws table entries) → Clean c → (Clean (settled table c) → Leaves Clean (settled table c) (steps_of acts)) →
       Leaves Clean c (steps_of (settling_act table c ∷ acts))
   settled_leaves c header ws table entries acts mounts clean next =
-      let first : Leaves Clean c (settling_steps table c) = behind_leaves c (settling_steps table c) (settling_behind table c) clean in
+      let first : Leaves Clean c (settling_steps table c) = settling_leaves table c clean in
       both_leave Clean c (settling_steps table c) (steps_of acts) first
       (subst (λ (d : Cartridge). Clean d → Leaves Clean d (steps_of acts)) (sym (settling_settles c table mounts.reads)) next
       (leaves_done Clean c (settling_steps table c) first))

@@ -37,18 +37,18 @@ use Rattle.command_spec.specs.Script as scripts
 -- ---- a cartridge that is mounted
 
 -- it is mounted as the plain one, and the command goes on
-record GoesOn (goes : Going) (c : Cartridge) (plain : Plain) (outcome : CommandOutcome) : Type 0 where
-  mounts : Mounts c (mounted_as plain)
-  did : goes c plain.header plain.words plain.table_area (entries_of plain) outcome
+pub record GoesOn (goes : Going) (c : Cartridge) (plain : Plain) (outcome : CommandOutcome) : Type 0 where
+  pub mounts : Mounts c (mounted_as plain)
+  pub did : goes c plain.header plain.words plain.table_area (entries_of plain) outcome
 
-goes_on : (goes : Going) (c : Cartridge) (plain : Plain) (outcome : CommandOutcome) → ReadsAs c plain → OpenOutcome goes (Some c) outcome → GoesOn goes c plain outcome
+pub goes_on : (goes : Going) (c : Cartridge) (plain : Plain) (outcome : CommandOutcome) → ReadsAs c plain → OpenOutcome goes (Some c) outcome → GoesOn goes c plain outcome
 goes_on goes c plain outcome there (m, mounts, opened) =
     let mounted : Mounts c (mounted_as plain) = standing_mounts c plain there.stands there.reads in
     let same : m ≡ mounted_as plain = mounts_is_function c m (mounted_as plain) mounts mounted in
     record { mounts = mounted; did = subst (λ (a : Mounting). Opened goes c a outcome) same opened }
 
 -- one that takes writes is opened
-is_opened : (goes : Going) (c : Cartridge) (outcome : CommandOutcome) → IsUnprotected c → WritableOutcome goes (Some c) outcome → OpenOutcome goes (Some c) outcome
+pub is_opened : (goes : Going) (c : Cartridge) (outcome : CommandOutcome) → IsUnprotected c → WritableOutcome goes (Some c) outcome → OpenOutcome goes (Some c) outcome
 is_opened goes c outcome free (inl (locked, is)) = absurd (cc)
 is_opened goes c outcome free (inr (unlocked, opened)) = opened
 

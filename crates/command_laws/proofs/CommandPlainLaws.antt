@@ -124,7 +124,7 @@ opening_leaves prints (Some c) left outcome (mounting.Mounted header words table
     inr (header, (words, (table, (entries, mounts, one_act (settling_steps table c) (Some c) left outcome _ is refl torn))))
 
 -- the steps of an act, and those of others behind it
-behind_leaves : (steps : List TapeStep) (acts : List Act) (held left : Option Cartridge) (a b : CommandOutcome) → a ≡ b → steps_of b.acts ≡ steps ++ steps_of acts →
+pub behind_leaves : (steps : List TapeStep) (acts : List Act) (held left : Option Cartridge) (a b : CommandOutcome) → a ≡ b → steps_of b.acts ≡ steps ++ steps_of acts →
     Torn (steps_of a.acts) held left → Torn steps held left ⊎ Torn (steps_of acts) (effects steps held) left
 behind_leaves steps acts held left a b same one torn =
     Torn-append steps (steps_of acts) held left

@@ -47,7 +47,7 @@ use Rattle.command_spec.specs.declared.line.Line.TheVariants as line
 
 -- ---- lists of steps
 
-none_both : (xs ys : List Step) → HasNoRenew xs → HasNoRenew ys → HasNoRenew (xs ++ ys)
+pub none_both : (xs ys : List Step) → HasNoRenew xs → HasNoRenew ys → HasNoRenew (xs ++ ys)
 none_both [] ys first next = next
 none_both (x ∷ xs) ys first next = (first.0, none_both xs ys first.1 next)
 
@@ -161,7 +161,7 @@ pub shows_none : (prints : Printing) → GoesWithNone (Shows prints)
 shows_none prints c header ws table entries outcome is = by_outcome outcome _ is (none_alone (settling_steps table c) (none_in_settling table c))
 
 -- the settling, and such acts behind it
-settled_none : (table : List (List ℕ)) (c : Cartridge) (acts : List Act) → AreNoRenew acts → AreNoRenew (settling_act table c ∷ acts)
+pub settled_none : (table : List (List ℕ)) (c : Cartridge) (acts : List Act) → AreNoRenew acts → AreNoRenew (settling_act table c ∷ acts)
 settled_none table c acts none = none_both (settling_steps table c) (steps_of acts) (none_in_settling table c) none
 
 -- ---- restoring and scrubbing
@@ -180,7 +180,7 @@ none_in_mending c segment (place ∷ places) (bytes ∷ sectors) =
     let none : HasNoRenew rest = none_in_mending c segment places sectors in
     none_where (is_unreadable (view_at c segment place)) (WriteSector segment place bytes ∷ rest) rest (tt, none) none
 
-none_in_look : (c : Cartridge) (l : Looked) (s : Saying) → HasNoRenew (steps_in c l s)
+pub none_in_look : (c : Cartridge) (l : Looked) (s : Saying) → HasNoRenew (steps_in c l s)
 none_in_look c l (Data sectors) =
     none_where (reads l (Data sectors)) (mending_writes c l.segment (usable_places l.mask) (with_parity sectors)) []
     (none_in_mending c l.segment (usable_places l.mask) (with_parity sectors)) tt

@@ -1,6 +1,7 @@
 -- The laws of each command, and what follows for all of them.
 use Rattle.std.proofs.Common.{◌≤◌, length, ◌≡◌, ℕ, List, Option, IfSome}
 use Rattle.command_laws.proofs.AppendCommand.{append_laws, append_read}
+use Rattle.command_laws.proofs.DeepScrubCommand.{deep_scrub_laws, deep_scrub_read}
 use Rattle.command_laws.proofs.DefectCommand.{defect_laws, defect_read}
 use Rattle.command_laws.proofs.FormatCommand.{format_laws, format_read}
 use Rattle.command_laws.proofs.InfoCommand.{info_laws, info_read}
@@ -40,6 +41,7 @@ described (words.Append name date) = record { laws = append_laws name date; read
 described words.List = record { laws = list_laws; read = list_read }
 described (words.Restore number) = record { laws = restore_laws number; read = restore_read number }
 described words.Scrub = record { laws = scrub_laws; read = scrub_read }
+described words.ScrubDeep = record { laws = deep_scrub_laws; read = deep_scrub_read }
 described words.Pulses = record { laws = pulses_laws; read = pulses_read }
 described words.Script = record { laws = script_laws; read = script_read }
 described (words.Make seed count) = record { laws = make_laws seed count; read = make_read seed count }

@@ -24,6 +24,9 @@ pub mod CommandTold
 pub mod CommandTotals
 pub mod CommandValues
 pub mod CommandVolumes
+pub mod DeepScrubCommand
+pub mod DeepScrubEnds
+pub mod DeepScrubKept
 pub mod DefectCommand
 pub mod FormatCommand
 pub mod InfoCommand

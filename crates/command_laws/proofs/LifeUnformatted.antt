@@ -28,6 +28,7 @@ use Rattle.command_spec.specs.Outcome.{CommandOutcome, Going, HasPlace, OpenOutc
 use Rattle.command_spec.specs.Restore.{Gives}
 use Rattle.command_spec.specs.Script.{Scripting}
 use Rattle.command_spec.specs.Scrub.{Mends}
+use Rattle.command_spec.specs.ScrubForms.{MendsDeep}
 use Rattle.command_spec.specs.declared.words.Words.{Words}
 use Rattle.qic_base.specs.Acts.{steps_of}
 use Rattle.qic_base.specs.Cartridge.{Cartridge, view_at}
@@ -177,6 +178,8 @@ stays_neither (words.Restore number) c input outcome left other others spares no
     by_none c (steps_of outcome.acts) left none torn (turned_away (Gives number) c outcome none plain)
 stays_neither words.Scrub c input outcome left other others spares none plain torn =
     by_none c (steps_of outcome.acts) left none torn (turned_off Mends c outcome none plain)
+stays_neither words.ScrubDeep c input outcome left other others spares none plain torn =
+    by_none c (steps_of outcome.acts) left none torn (turned_off MendsDeep c outcome none plain)
 stays_neither words.Script c input outcome left other others spares none plain torn =
     by_none c (steps_of outcome.acts) left none torn (turned_away (Scripting input) c outcome none plain)
 stays_neither (words.Make seed count) c input outcome left other others spares none plain torn =

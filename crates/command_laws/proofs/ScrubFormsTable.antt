@@ -24,7 +24,7 @@ use Rattle.qic_base.specs.declared.tape.SectorView.{SectorView}
 
 -- ---- the same views of the table's segment
 
-table_same : (c d : Cartridge) (area : List (List ℕ)) → SameIn c d 2 → TableIs c area → TableIs d area
+pub table_same : (c d : Cartridge) (area : List (List ℕ)) → SameIn c d 2 → TableIs c area → TableIs d area
 table_same c d area same reads =
     subst (λ (cells : List SectorView). TableSays cells (AsRead area) ⊎ TableSays cells (ByCode (Data area)))
     (sym (same_cells c d 2 (whole_segment 2).mask same)) reads
@@ -35,14 +35,14 @@ settled_same c d area same known = record {
   live = λ i h live. same i h ∙ known.live i h (subst IsLive (same i h) live);
 }
 
-seen_table : (depth : Depth) (c e : Cartridge) (looked : List Looked) (fs : List Finding) → IsSeen depth c e looked fs → SameIn c e 2
+pub seen_table : (depth : Depth) (c e : Cartridge) (looked : List Looked) (fs : List Finding) → IsSeen depth c e looked fs → SameIn c e 2
 seen_table depth c e looked fs seen i h =
     elim (seen.each 2 i h) [
       | inl same ↦ same
       | inr lost ↦ absurd (not_the_table depth lost.found.at lost.found.searched lost.found.here)
     ]
 
-left_table : (looked : List Looked) (c e d : Cartridge) → SameIn c e 2 → (left : IsLeft looked c e d) → SameIn left.other d 2
+pub left_table : (looked : List Looked) (c e d : Cartridge) → SameIn c e 2 → (left : IsLeft looked c e d) → SameIn left.other d 2
 left_table looked c e d same left i h =
     elim (left.behind.each 2 i h) [
       | inl is ↦ is

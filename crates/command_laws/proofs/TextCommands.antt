@@ -114,7 +114,7 @@ guess (a ∷ []) =
 guess (a ∷ b ∷ []) =
     if bytes_eq a (codes "new") then words.New (number_value b) else if bytes_eq a (codes "protect") then words.Protect (bytes_eq b (codes "on"))
     else if bytes_eq a (codes "format") then words.Format (filled b) 0 else if bytes_eq a (codes "append") then words.Append (filled b) 0
-    else words.Restore (number_value b)
+    else if bytes_eq a (codes "scrub") then words.ScrubDeep else words.Restore (number_value b)
 guess (a ∷ b ∷ c ∷ []) =
     if bytes_eq a (codes "defect") then words.Defect (number_value b) (number_value c) else if bytes_eq a (codes "lose") then words.Lose (number_value b) (number_value c)
     else if bytes_eq a (codes "format") then words.Format (filled b) (date_value c) else if bytes_eq a (codes "append") then words.Append (filled b) (date_value c)

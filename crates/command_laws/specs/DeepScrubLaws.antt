@@ -1,10 +1,11 @@
 -- What scrubbing does in either form, and what a deep scrub leaves, done or stopped, as facts.
-use Rattle.std.specs.Prelude.{◌≡◌, ℕ, false, List, [], ◌↔◌, Option, Some, IsSomeAnd}
+use Rattle.std.specs.Prelude.{◌≡◌, ◌⊎◌, ℕ, false, List, [], ◌↔◌, Option, Some, IsSomeAnd}
 use Rattle.cartridge_laws.specs.AppendSettled.{IsSettledFor}
 use Rattle.cartridge_laws.specs.Table.{IsSoundList}
+use Rattle.cartridge_spec.specs.Header.{Header}
 use Rattle.cartridge_spec.specs.HeaderAndTable.{TableIs}
-use Rattle.cartridge_spec.specs.Mounting.{Mounts, mounted_as}
-use Rattle.cartridge_spec.specs.Settling.{changed_by}
+use Rattle.cartridge_spec.specs.Mounting.{Mounted, Mounts, mounted_as, settled}
+use Rattle.cartridge_spec.specs.Settling.{changed_by, settling_steps}
 use Rattle.cartridge_spec.specs.Table.{Entry}
 use Rattle.cartridge_spec.specs.Formatting.{StandsCleanly}
 use Rattle.cartridge_spec.specs.Volumes.{Plain, Stands, entries_of}
@@ -12,6 +13,7 @@ use Rattle.command_laws.specs.ScrubFound.{FindAtOnce, finds_at_once, without_all
 use Rattle.command_laws.specs.ScrubLaws.{AreAllLive}
 use Rattle.command_laws.specs.ScrubMended.{IsScrubbed}
 use Rattle.command_laws.specs.SilentSectors.{DiffersSilently}
+use Rattle.command_spec.specs.Machine.{Yields}
 use Rattle.command_spec.specs.Outcome.{CommandOutcome}
 use Rattle.command_spec.specs.Scrub.{Scrubs, Looked, looked_at}
 use Rattle.command_spec.specs.ScrubForms.{Finding, FindInTurn, MayBeFound, ScrubsAs, ScrubsDeepOn, finding_acts}
@@ -20,6 +22,8 @@ use Rattle.command_spec.specs.declared.depth.Depth.TheVariants.{Shallow, Deep}
 use Rattle.qic_base.specs.Acts.{Act, steps_of}
 use Rattle.qic_base.specs.Cartridge.{Cartridge, IsCartridge}
 use Rattle.qic_base.specs.Stop.{Torn}
+use Rattle.command_spec.specs.declared.status.Status.TheVariants as status
+use Rattle.command_spec.specs.declared.words.Words.TheVariants as commands
 
 -- ---- what it does
 
@@ -116,6 +120,13 @@ SilentSectorsEnd =
     c.info.protected ≡ false → DiffersSilently k c plain →
     ScrubsDeepOn c plain.words plain.table_area (entries_of plain) outcome → Stands (changed_by (steps_of outcome.acts) c) plain
 
+-- The command `scrub deep` is carried out on each such cartridge that isn't protected, and what it leaves stands.
+abbrev pub DeepScrubMends : Type 0
+DeepScrubMends =
+    (k c : Cartridge) (plain : Plain) (input : List ℕ) (outcome : CommandOutcome) → Stands k plain → IsSettledFor k plain.table_area →
+    DiffersSilently k c plain → c.info.protected ≡ false → Yields commands.ScrubDeep (Some c) input outcome →
+    (outcome.status ≡ status.Done) × Stands (changed_by (steps_of outcome.acts) c) plain
+
 -- ---- a second scrub
 
 -- where each usable sector of the segments that are looked at takes what is written to it, a second scrub in the same form
@@ -166,3 +177,24 @@ StoppedFormIsSettled =
     (depth : Depth) (c : Cartridge) (words : List ℕ) (entries : List Entry) (last : ℕ) (acts : List Act) (area : List (List ℕ))
     (left : Option Cartridge) → IsSoundList last entries → ScrubsAs depth c words entries acts → IsSettledFor c area →
     Torn (steps_of acts) (Some c) left → IsSomeAnd left (λ d. IsSettledFor d area)
+
+-- a cartridge while the sectors that were found on it are written
+pub record IsBeingScrubbedDeep (c : Cartridge) (words : List ℕ) (entries : List Entry) (d : Cartridge) : Type 0 where
+  pub findings : List Finding
+  pub found : FindAtOnce Deep c (looked_at words entries) findings
+  pub scrubbed : IsBeingScrubbed (looked_at words entries) (without_all c (looked_at words entries) findings) c d
+
+-- the settling was stopped, or the scrubbing behind it
+pub record IsStoppedDeep (c : Cartridge) (left : Option Cartridge) : Type 0 where
+  pub header : Header
+  pub words : List ℕ
+  pub table : List (List ℕ)
+  pub entries : List Entry
+  pub mounts : Mounts c (Mounted header words table entries)
+  pub stopped : Torn (settling_steps table c) (Some c) left ⊎ IsSomeAnd left (IsBeingScrubbedDeep (settled table c) words entries)
+
+-- so is what a stop in the command `scrub deep` leaves of any cartridge, or nothing was done
+abbrev pub DeepScrubStopped : Type 0
+DeepScrubStopped =
+    (c : Cartridge) (input : List ℕ) (outcome : CommandOutcome) (left : Option Cartridge) → Yields commands.ScrubDeep (Some c) input outcome →
+    Torn (steps_of outcome.acts) (Some c) left → (left ≡ Some c) ⊎ IsStoppedDeep c left

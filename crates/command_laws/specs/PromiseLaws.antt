@@ -1,15 +1,31 @@
 -- What follows of the promises of a run and is no clause of them, as a fact (this project's own).
-use Rattle.std.specs.Prelude.{List, ℕ}
-use Rattle.command_spec.specs.Headline.{Answers, NoneRose}
+use Rattle.std.specs.Prelude.{◌≡◌, IsSomeAnd, List, Some, ℕ}
+use Rattle.cartridge_laws.specs.AppendSettled.{IsSettledFor}
+use Rattle.cartridge_spec.specs.Volumes.{Plain, Stands}
+use Rattle.command_laws.specs.SilentSectors.{DiffersSilently}
+use Rattle.command_spec.specs.Headline.{Answers, NoneRose, ToldNow}
+use Rattle.command_spec.specs.Machine.{Spells}
 use Rattle.command_spec.specs.Promises.{Promises}
 use Rattle.command_spec.specs.declared.status.Status.{Status}
 use Rattle.qic_base.specs.Acts.{Outside}
+use Rattle.qic_base.specs.Cartridge.{Cartridge}
 use Rattle.qic_base.specs.Sink as sinks
 use Rattle.qic_base.specs.Source as sources
 use Rattle.qic_base.specs.Tape as tapes
+use Rattle.command_spec.specs.declared.status.Status.TheVariants as status
+use Rattle.command_spec.specs.declared.words.Words.TheVariants as commands
 
 -- where no count of faults rose, over what is told the plain machine's step was made, or there was no memory
 abbrev pub AnswersWhereNoneRose : {T S K : Type 0} (t : tapes.Meaning T) (s : sources.Meaning S) (k : sinks.Meaning K) → Type 0
 AnswersWhereNoneRose {T} {S} {K} t s k =
     (words : List (List ℕ)) (old new : Outside T S K) (answer : Status) → Promises t s k words old new answer → NoneRose t s k old new →
     Answers t s k words old new answer
+
+-- A run of `scrub deep` over a cartridge that differs in sectors that silently hold other bytes from one that stands, and whose
+-- table was settled: where it is Done, what stands then stands for the same.
+abbrev pub DeepScrubRunMends : {T S K : Type 0} (t : tapes.Meaning T) (s : sources.Meaning S) (k : sinks.Meaning K) → Type 0
+DeepScrubRunMends {T} {S} {K} t s k =
+    (words : List (List ℕ)) (old new : Outside T S K) (answer : Status) (whole c : Cartridge) (plain : Plain) →
+    Promises t s k words old new answer → Spells words commands.ScrubDeep → answer ≡ status.Done → t.told old.tape ≡ Some (Some c) →
+    Stands whole plain → IsSettledFor whole plain.table_area → DiffersSilently whole c plain →
+    ToldNow t new.tape (λ left. IsSomeAnd left (λ d. Stands d plain))

@@ -18,6 +18,7 @@ use Rattle.command_spec.specs.Pulses.{after_trains, train_acts}
 use Rattle.command_spec.specs.Restore.{pieces, framed, Restored}
 use Rattle.command_spec.specs.Script.{refusal_line, given_as}
 use Rattle.command_spec.specs.Scrub.{counts_line, header_line, fault_line, looked_at}
+use Rattle.command_spec.specs.ScrubForms.{wrong_line}
 use Rattle.drive_spec.specs.Deck.{status_word, power_on_deck}
 use Rattle.drive_spec.specs.Record.{Record, power_on}
 use Rattle.qic_base.specs.Acts.{text_of}
@@ -93,6 +94,10 @@ LostSegmentLine = fault_line 4 (LostSectors 4) ≡ codes "lost 4 4\n"
 abbrev pub MismatchLine : Type 0
 MismatchLine = fault_line 4 Mismatch ≡ codes "mismatch 4\n"
 
+-- the wrong sector 0 of segment 3
+abbrev pub WrongLine : Type 0
+WrongLine = wrong_line 3 (Some 0) ≡ codes "wrong 3 0\n"
+
 -- the last date
 abbrev pub LastDateText : Type 0
 LastDateText = date_text 0xFFEA6DFF ≡ codes "2097-12-31T23:59:59"
@@ -110,6 +115,18 @@ NameText = name_text (codes "a" ++ 0x80 ∷ 0x20 ∷ codes "b" ++ 0x00 ∷ 0x20 
 -- `list`
 abbrev pub ListWord : Type 0
 ListWord = IsCommand (codes "list" ∷ []) words.List
+
+-- `scrub deep`
+abbrev pub DeepWords : Type 0
+DeepWords = IsCommand (codes "scrub" ∷ codes "deep" ∷ []) words.ScrubDeep
+
+-- `scrub deep` is not `scrub`, ..
+abbrev pub DeepIsNotScrub : Type 0
+DeepIsNotScrub = ¬ (IsCommand (codes "scrub" ∷ codes "deep" ∷ []) words.Scrub)
+
+-- .. nor `scrub` it
+abbrev pub ScrubIsNotDeep : Type 0
+ScrubIsNotDeep = ¬ (IsCommand (codes "scrub" ∷ []) words.ScrubDeep)
 
 -- `new 151`
 abbrev pub NewWords : Type 0

@@ -1,6 +1,6 @@
 //! Worked values of the commands' definitions; the functions do nothing, and evaluation proves their contracts.
 
-ghost use Rattle.command_laws.specs.WorkedValues.{BlankLine, DefectLine, LostLine, ProtectedLine, UpgradedLine, FormattedLine, InfoText, EmptyList, OneVolumeListed, AppendedLine, ScrubLine, HeaderLine, LostSegmentLine, MismatchLine, LastDateText, NoDateText, NameText, ListWord, NewWords, AppendWords, AppendWithoutDate, ListNow, New247, LeadingZero, TenDigits, ThreeWords, ThreePieces, PromisedTooMuch, PromisedTakesNone, FourForThree, FewerThanPromised, ScriptIsRead, AppendReplies, ListReplies, RestoreReplies, FullRefused, NoVolumeRefused, LostRefused, MismatchRefused, ProtectedRefused, PlaceRefused, FirstMade, ThirdMade, FirstByte, MadeName, FirstMadeSegments, SecondMadeSegments, ThirdMadeSegments, Worn, Looked, SumLine, StatusLevels, StatusIs, IllegalTrackLevels, ReportBrokenOff, SeekGoesOn, ErrorWords, ProtectedError, NoCartridgeError, SoughtTrack, SkippedBack};
+ghost use Rattle.command_laws.specs.WorkedValues.{BlankLine, DefectLine, LostLine, ProtectedLine, UpgradedLine, FormattedLine, InfoText, EmptyList, OneVolumeListed, AppendedLine, ScrubLine, HeaderLine, LostSegmentLine, MismatchLine, WrongLine, LastDateText, NoDateText, NameText, ListWord, DeepWords, DeepIsNotScrub, ScrubIsNotDeep, NewWords, AppendWords, AppendWithoutDate, ListNow, New247, LeadingZero, TenDigits, ThreeWords, ThreePieces, PromisedTooMuch, PromisedTakesNone, FourForThree, FewerThanPromised, ScriptIsRead, AppendReplies, ListReplies, RestoreReplies, FullRefused, NoVolumeRefused, LostRefused, MismatchRefused, ProtectedRefused, PlaceRefused, FirstMade, ThirdMade, FirstByte, MadeName, FirstMadeSegments, SecondMadeSegments, ThirdMadeSegments, Worn, Looked, SumLine, StatusLevels, StatusIs, IllegalTrackLevels, ReportBrokenOff, SeekGoesOn, ErrorWords, ProtectedError, NoCartridgeError, SoughtTrack, SkippedBack};
 
 /// Lines that commands print.
 pub fn lines()
@@ -18,6 +18,7 @@ pub fn lines()
     ensures header { HeaderLine }
     ensures lost_segment { LostSegmentLine }
     ensures mismatch { MismatchLine }
+    ensures wrong { WrongLine }
     ensures last_date { LastDateText }
     ensures no_date { NoDateText }
     ensures name { NameText }
@@ -26,6 +27,9 @@ pub fn lines()
 /// Words of commands.
 pub fn words()
     ensures list { ListWord }
+    ensures deep { DeepWords }
+    ensures deep_only { DeepIsNotScrub }
+    ensures scrub_only { ScrubIsNotDeep }
     ensures new { NewWords }
     ensures append { AppendWords }
     ensures without_date { AppendWithoutDate }

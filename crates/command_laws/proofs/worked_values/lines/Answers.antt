@@ -61,6 +61,10 @@ pub returns-clause-mismatch : goal.returns-clause-mismatch
 unfolding digits number_line place_line date_form date_text trimmed name_text appended_line volume_line volume_lines list_text label_lines count_lines filled lost_places
 returns-clause-mismatch c = refl
 
+pub returns-clause-wrong : goal.returns-clause-wrong
+unfolding digits number_line place_line date_form date_text trimmed name_text appended_line volume_line volume_lines list_text label_lines count_lines filled lost_places
+returns-clause-wrong c = refl
+
 pub returns-clause-last_date : goal.returns-clause-last_date
 unfolding digits number_line place_line date_form date_text trimmed name_text appended_line volume_line volume_lines list_text label_lines count_lines filled lost_places
 returns-clause-last_date c = refl

@@ -8,6 +8,15 @@ use Rattle.command_laws.proofs.worked_values.words.Goals as goal
 pub returns-clause-list : goal.returns-clause-list
 returns-clause-list c = inl (refl, tt)
 
+pub returns-clause-deep : goal.returns-clause-deep
+returns-clause-deep c = inl (refl, (refl, tt))
+
+pub returns-clause-deep_only : goal.returns-clause-deep_only
+returns-clause-deep_only c = λ h. elim h [ inl form ↦ absurd form.1 | inr none ↦ absurd none ]
+
+pub returns-clause-scrub_only : goal.returns-clause-scrub_only
+returns-clause-scrub_only c = λ h. elim h [ inl form ↦ absurd form.1 | inr none ↦ absurd none ]
+
 pub returns-clause-new : goal.returns-clause-new
 unfolding digits
 returns-clause-new c = inl (refl, ((record { digits = refl; nine = omega arith }, omega arith, omega arith), tt))
