@@ -24,6 +24,7 @@ pub mod CommandTold
 pub mod CommandTotals
 pub mod CommandValues
 pub mod CommandVolumes
+pub mod CopyOnce
 pub mod DefectCommand
 pub mod FormatCommand
 pub mod InfoCommand
