@@ -27,6 +27,7 @@ pub mod CommandVolumes
 pub mod DeepScrubCommand
 pub mod DeepScrubEnds
 pub mod DeepScrubKept
+pub mod CopyOnce
 pub mod DefectCommand
 pub mod FormatCommand
 pub mod InfoCommand

@@ -1,6 +1,7 @@
 pub mod ActStops
 pub mod CommandLaws
 pub mod CommandRecord
+pub mod CopyLaws
 pub mod DeepScrubLaws
 pub mod InputLaws
 pub mod Life

@@ -4,6 +4,7 @@
 #![tactic(auto)]
 
 pub mod commands;
+pub mod copying;
 pub mod deep_scrubbing;
 pub mod generated;
 pub mod lives;
