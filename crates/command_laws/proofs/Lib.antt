@@ -1,4 +1,3 @@
-pub mod AppendCommand
 pub mod CommandAdded
 pub mod CommandAppends
 pub mod CommandClean
@@ -22,15 +21,12 @@ pub mod CommandTable
 pub mod CommandTexts
 pub mod CommandTold
 pub mod CommandTotals
+pub mod CommandUnread
 pub mod CommandValues
 pub mod CommandVolumes
-pub mod DeepScrubCommand
 pub mod DeepScrubEnds
 pub mod DeepScrubKept
 pub mod CopyOnce
-pub mod DefectCommand
-pub mod FormatCommand
-pub mod InfoCommand
 pub mod InputActLaws
 pub mod LifeFormats
 pub mod LifeGrowing
@@ -38,8 +34,6 @@ pub mod LifeLaws
 pub mod LifeRuns
 pub mod LifeUnformatted
 pub mod LineListings
-pub mod ListCommand
-pub mod LoseCommand
 pub mod MadeAnswered
 pub mod MadeComplete
 pub mod MadeCounting
@@ -52,7 +46,6 @@ pub mod MadeOutcomes
 pub mod MadeRefused
 pub mod MadeStops
 pub mod MadeTelling
-pub mod MakeCommand
 pub mod MountedFronts
 pub mod MountedHeld
 pub mod MountedKeeping
@@ -61,17 +54,13 @@ pub mod MountedListing
 pub mod MountedSaying
 pub mod MountedStanding
 pub mod MountedSurviving
-pub mod NewCommand
 pub mod OutputActsOfPieces
 pub mod OutputJoining
 pub mod PromiseFollowing
-pub mod ProtectCommand
 pub mod PulseMachineLaws
 pub mod PulseStopping
 pub mod PulseTrains
-pub mod PulsesCommand
 pub mod RestoreAppended
-pub mod RestoreCommand
 pub mod RestoreCounts
 pub mod RestoreEndings
 pub mod RestoreGiven
@@ -80,7 +69,6 @@ pub mod RestorePieces
 pub mod RestoreStanding
 pub mod ScriptActs
 pub mod ScriptAnswered
-pub mod ScriptCommand
 pub mod ScriptCounted
 pub mod ScriptEarly
 pub mod ScriptGiven
@@ -100,7 +88,6 @@ pub mod ScrubAgain
 pub mod ScrubApart
 pub mod ScrubAtOnce
 pub mod ScrubBeside
-pub mod ScrubCommand
 pub mod ScrubDone
 pub mod ScrubForms
 pub mod ScrubFormsAgain
@@ -135,7 +122,6 @@ pub mod TextPrinting
 pub mod TextReadings
 pub mod TextTrimmed
 pub mod TextWords
-pub mod UpgradeCommand
 pub mod WholeSteps
 pub mod CommandWhole
 pub mod CommandLeft

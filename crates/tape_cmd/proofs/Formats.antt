@@ -27,7 +27,7 @@ use Rattle.command_spec.specs.declared.status.Status.TheVariants as status
 use Rattle.command_spec.specs.Lines.{formatted_line}
 use Rattle.command_spec.specs.Outcome.{CommandOutcome, refused}
 use Rattle.tape_cmd.specs.Outcome.{first_steps}
-use Rattle.command_spec.specs.Format.{cleared, formatted, FormatOutcome}
+use Rattle.command_spec.specs.Commands.Format.{cleared, formatted, FormatOutcome}
 use Rattle.tape_cmd.specs.Format.{format_status}
 use Rattle.tape_cmd.specs.Opening.{HasStarted, StartFails}
 use Rattle.tape_cmd.specs.Writing.{printed_status}

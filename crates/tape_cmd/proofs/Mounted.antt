@@ -36,8 +36,8 @@ use Rattle.command_spec.specs.Outcome.{CommandOutcome, refused, acted}
 use Rattle.tape_cmd.specs.Outcome.{first_steps}
 use Rattle.command_spec.specs.Outcome.{Going, Opened, OpenOutcome, WritableOutcome, Printing, Shows, is_refused}
 use Rattle.tape_cmd.specs.Opening.{IsRefusal, RefusesOpening, store_status, is_opening, StartFails, IsOpened, HasOpened, OpeningEnds, IsUnlocked, WritableEnds}
-use Rattle.command_spec.specs.Info.{telling}
-use Rattle.command_spec.specs.List.{listing}
+use Rattle.command_spec.specs.Commands.Info.{telling}
+use Rattle.command_spec.specs.Commands.ListCommand.{listing}
 use Rattle.command_spec.specs.Machine.{CommandPrints}
 use Rattle.tape_cmd.specs.Writing.{printed_status}
 use Rattle.command_spec.specs.Runs.{EndsBlind, may_come_from}

@@ -1,5 +1,5 @@
 -- The laws of the command `scrub`.
-use Rattle.std.proofs.Common.{[], ◌≡◌, ◌∷◌, Some, refl, ℕ, List, arith}
+use Rattle.std.proofs.Common.{[], ◌≡◌, ◌∷◌, Some, refl, ℕ, List, arith, codes}
 use Rattle.cartridge_spec.specs.Mounting.{Mounted}
 use Rattle.cartridge_spec.specs.Says.{Mismatch}
 use Rattle.command_laws.proofs.CommandClean.{bare_writable, Clean, writable_leaves, mends_leave}
@@ -9,21 +9,31 @@ use Rattle.command_laws.proofs.CommandPlainLaws.{writable_unformatted, scrubbing
 use Rattle.command_laws.proofs.CommandSteps.{writable_none, mends_none}
 use Rattle.command_laws.proofs.CommandTexts.{plain_texts}
 use Rattle.command_laws.proofs.CommandTotals.{writable_answers, mends_answers}
+use Rattle.command_laws.proofs.CommandUnread.{writable_unread}
 use Rattle.command_laws.proofs.CommandWhole.{mends_whole, some_whole}
-use Rattle.command_laws.proofs.TextCommands.{only, one_word, spelled_length, guess}
+use Rattle.command_laws.proofs.TextCommands.{only, one_word, spelled_length, IsRead, Reading, named}
 use Rattle.command_laws.specs.CommandRecord.{CommandLaws}
 use Rattle.command_spec.specs.CommandWords.{HasForm}
 use Rattle.command_spec.specs.Complete.{IsUnprotected, CanBeMounted}
 use Rattle.command_spec.specs.Scrub.{Mends, ScrubOutcome}
-use Rattle.command_spec.specs.ScrubCommand.{scrub_command}
+use Rattle.command_spec.specs.Commands.ScrubCommand.{scrub_command}
 use Rattle.qic_base.specs.Cartridge.{IsCartridge}
+use Rattle.command_spec.specs.declared.words.Words.{Words}
 use Rattle.command_spec.specs.declared.status.Status.TheVariants as status
 use Rattle.command_spec.specs.declared.words.Words.TheVariants as words
 
+-- The words of both forms begin with one word.
+abbrev pub read_form : (behind : List (List ℕ)) → Words
+read_form [] = words.Scrub
+read_form (word ∷ behind) = words.ScrubDeep
+
+abbrev pub scrub_reading : Reading
+scrub_reading = record { name = codes "scrub"; reads = read_form }
+
 -- its words are read as it
-pub scrub_read : (ws : List (List ℕ)) → HasForm ws scrub_command.forms → guess ws ≡ words.Scrub
-unfolding guess
-scrub_read ws h = let s = one_word ws _ (only ws _ h) in rw (s.are, s.one) refl
+
+pub scrub_read : (ws : List (List ℕ)) → HasForm ws scrub_command.forms → IsRead scrub_reading ws words.Scrub
+scrub_read ws h = let s = one_word ws _ (only ws _ h) in record { behind = []; are = named s.are s.one; is = refl }
 
 pub scrub_laws : CommandLaws scrub_command
 scrub_laws = record {
@@ -65,6 +75,7 @@ scrub_laws = record {
   clean = λ c area keeps is_area clean input outcome left does torn.
       writable_leaves (Clean area is_area) Mends (mends_leave area is_area) c outcome does clean left torn;
   bare = λ c keeps bare input outcome left does torn. bare_writable Mends c outcome does bare left torn;
+  unread = λ c copies keeps none input outcome left does torn. writable_unread Mends c outcome left none does torn;
   whole = λ c input outcome left values content whole does torn.
       some_whole left (writable_leaves IsCartridge Mends mends_whole c outcome does whole left torn);
   live = λ held input outcome keeps does. writable_none Mends mends_none held outcome does;

@@ -1,5 +1,5 @@
 -- The laws of the command `upgrade`: it changes the version that the cartridge is kept in, and nothing else of it.
-use Rattle.std.proofs.Common.{◌≡◌, List, ℕ, ap, arith, refl}
+use Rattle.std.proofs.Common.{◌≡◌, List, ℕ, ap, arith, refl, codes, []}
 use Rattle.std.proofs.lemmas.List.Elements.{All-weaker}
 use Rattle.cartridge_laws.proofs.ChangeStanding.{marks_read_no_more, same_views}
 use Rattle.cartridge_spec.specs.Header.{Header}
@@ -7,15 +7,16 @@ use Rattle.cartridge_spec.specs.Mounting.{Mounted, Mounts}
 use Rattle.cartridge_spec.specs.Table.{Entry}
 use Rattle.cartridge_spec.specs.Volumes.{Plain, Stands, VolumeStands}
 use Rattle.command_laws.proofs.CommandComplete.{status_of, where_some}
-use Rattle.command_laws.proofs.CommandStep.{KeepsAll, step_answers, step_is_one, step_no_renew, step_stands, step_mounts, step_clean, step_bare}
+use Rattle.command_laws.proofs.CommandStep.{KeepsAll, step_leaves, step_answers, step_is_one, step_no_renew, step_stands, step_mounts, step_clean, step_bare}
 use Rattle.command_laws.proofs.CommandTexts.{plain_texts}
+use Rattle.command_laws.proofs.CommandUnread.{marked_neither}
 use Rattle.command_laws.proofs.CommandWhole.{some_whole, step_whole}
 use Rattle.command_laws.proofs.WholeSteps.{upgraded_whole}
-use Rattle.command_laws.proofs.TextCommands.{guess, one_word, only, spelled_length}
-use Rattle.command_laws.specs.CommandRecord.{CommandLaws}
+use Rattle.command_laws.proofs.TextCommands.{one_word, only, spelled_length, IsRead, Reading, named}
+use Rattle.command_laws.specs.CommandRecord.{CommandLaws, NeitherReads}
 use Rattle.command_spec.specs.CommandWords.{HasForm}
 use Rattle.command_spec.specs.Lines.{upgraded_line}
-use Rattle.command_spec.specs.Upgrade.{UpgradeOutcome, upgrade_command}
+use Rattle.command_spec.specs.Commands.Upgrade.{UpgradeOutcome, upgrade_command}
 use Rattle.qic_base.specs.Cartridge.{Cartridge}
 use Rattle.qic_base.specs.Step.{Upgrade, changed}
 use Rattle.command_spec.specs.declared.status.Status.TheVariants as status
@@ -62,9 +63,11 @@ upgraded_mounts c header map_words table entries mounted = record {
 -- ---- the command
 
 -- its words are read as it
-pub upgrade_read : (ws : List (List ℕ)) → HasForm ws upgrade_command.forms → guess ws ≡ words.Upgrade
-unfolding guess
-upgrade_read ws h = let s = one_word ws _ (only ws _ h) in rw (s.are, s.one) refl
+abbrev pub upgrade_reading : Reading
+upgrade_reading = record { name = codes "upgrade"; reads = λ behind. words.Upgrade }
+
+pub upgrade_read : (ws : List (List ℕ)) → HasForm ws upgrade_command.forms → IsRead upgrade_reading ws words.Upgrade
+upgrade_read ws h = let s = one_word ws _ (only ws _ h) in record { behind = []; are = named s.are s.one; is = refl }
 
 pub version_keeps : KeepsAll Upgrade
 version_keeps = record {
@@ -103,6 +106,8 @@ upgrade_laws = record {
   clean = λ c area keeps is_area clean input outcome left does torn.
       step_clean Upgrade line version_keeps c area is_area clean outcome left does torn;
   bare = λ c keeps bare input outcome left does torn. step_bare Upgrade line version_keeps c bare outcome left does torn;
+  unread = λ c copies keeps none input outcome left does torn.
+      step_leaves Upgrade line NeitherReads version_keeps c outcome left none (marked_neither c (upgraded c) refl none) does torn;
   whole = λ c input outcome left values content whole does torn.
       some_whole left (step_whole Upgrade line c outcome does whole (upgraded_whole c whole) (λ left half. half) left torn);
   live = λ held input outcome keeps does. step_no_renew Upgrade line version_keeps held outcome does;

@@ -1,5 +1,6 @@
 -- The plain machine of `lose` (this project's own).
 use Rattle.std.specs.Prelude.{◌≡◌, ◌⊎◌, ℕ, Option, Some, None, IsSomeAnd, codes, true, [], ◌∷◌, ◌≤◌}
+use Rattle.cartridge_spec.specs.Formatting.{HasNoHeader}
 use Rattle.cartridge_spec.specs.Wear.{WearSpares}
 use Rattle.command_spec.specs.Command.{Command, plain_command}
 use Rattle.command_spec.specs.CommandWords.{Word, AnyNumber}
@@ -16,7 +17,7 @@ LoseOutcome segment sector (Some c) outcome =
     (¬ (HasPlace c segment sector) × (outcome ≡ refused status.BadPlace))
     ⊎ (HasPlace c segment sector × (outcome ≡ carried_out (Wear segment sector) (lost_line segment sector)))
 
--- a sector that is worn has to spare the header and the table
+-- A sector that is worn has to spare the header and the table, and header copies that can't be read, unless both are bare.
 abbrev pub lose_command : (segment sector : ℕ) → Command
 lose_command segment sector =
     record (plain_command ((Word (codes "lose") ∷ AnyNumber segment ∷ AnyNumber sector ∷ []) ∷ [])
@@ -25,4 +26,5 @@ lose_command segment sector =
       needs = λ held input. IsSomeAnd held (λ c. HasPlace c segment sector);
       keeps_volumes = λ c plain. HasPlace c segment sector → WearSpares c plain segment sector;
       keeps_list = λ c. HasPlace c segment sector → 3 ≤ segment;
+      keeps_unread = λ c. HasPlace c segment sector → (2 ≤ segment) ⊎ HasNoHeader c;
     }

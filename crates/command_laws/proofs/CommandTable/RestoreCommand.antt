@@ -1,5 +1,5 @@
 -- The laws of the command `restore`.
-use Rattle.std.proofs.Common.{[], ◌≡◌, ℕ, Some, refl, List, ap, arith}
+use Rattle.std.proofs.Common.{[], ◌≡◌, ℕ, Some, refl, List, ap, arith, codes, ◌∷◌}
 use Rattle.cartridge_spec.specs.Mounting.{Mounted}
 use Rattle.command_laws.proofs.CommandClean.{bare_open, Clean, open_leaves, gives_leave}
 use Rattle.command_laws.proofs.CommandComplete.{where_some, restore_goes}
@@ -8,12 +8,13 @@ use Rattle.command_laws.proofs.CommandPlainLaws.{open_unformatted, restoring_lea
 use Rattle.command_laws.proofs.CommandSteps.{open_none, gives_none}
 use Rattle.command_laws.proofs.CommandTexts.{fronted}
 use Rattle.command_laws.proofs.CommandTotals.{open_answers, gives_answers}
+use Rattle.command_laws.proofs.CommandUnread.{open_unread}
 use Rattle.command_laws.proofs.CommandWhole.{gives_whole, some_whole}
-use Rattle.command_laws.proofs.TextCommands.{only, two_words, spelled_length, IsNumber-value, guess}
+use Rattle.command_laws.proofs.TextCommands.{only, two_words, spelled_length, IsNumber-value, IsRead, Reading, word_at, number_value, named}
 use Rattle.command_laws.specs.CommandRecord.{CommandLaws}
 use Rattle.command_spec.specs.CommandWords.{HasForm}
 use Rattle.command_spec.specs.Restore.{Gives, RestoreOutcome}
-use Rattle.command_spec.specs.RestoreCommand.{CanGive, restore_command, restore_refused}
+use Rattle.command_spec.specs.Commands.RestoreCommand.{CanGive, restore_command, restore_refused}
 use Rattle.command_spec.specs.declared.status.Status.{Status}
 use Rattle.qic_base.specs.Cartridge.{IsCartridge}
 use Rattle.command_spec.specs.declared.status.Status.TheVariants as status
@@ -25,9 +26,13 @@ may_print_nothing (status.Mismatch segment) = tt
 may_print_nothing answer = refl
 
 -- its words are read as it
-pub restore_read : (number : ℕ) (ws : List (List ℕ)) → HasForm ws (restore_command number).forms → guess ws ≡ words.Restore number
-unfolding guess
-restore_read number ws h = let s = two_words ws _ _ (only ws _ h) in rw (s.are, s.one) (ap words.Restore (IsNumber-value s.second number s.two.0))
+abbrev pub restore_reading : Reading
+restore_reading = record { name = codes "restore"; reads = λ behind. words.Restore (number_value (word_at behind 0)) }
+
+pub restore_read : (number : ℕ) (ws : List (List ℕ)) → HasForm ws (restore_command number).forms → IsRead restore_reading ws (words.Restore number)
+restore_read number ws h =
+    let s = two_words ws _ _ (only ws _ h) in
+    record { behind = s.second ∷ []; are = named s.are s.one; is = ap words.Restore (IsNumber-value s.second number s.two.0) }
 
 pub restore_laws : (number : ℕ) → CommandLaws (restore_command number)
 restore_laws number = record {
@@ -53,6 +58,7 @@ restore_laws number = record {
   clean = λ c area keeps is_area clean input outcome left does torn.
       open_leaves (Clean area is_area) (Gives number) (gives_leave area is_area number) c outcome does clean left torn;
   bare = λ c keeps bare input outcome left does torn. bare_open (Gives number) c outcome does bare left torn;
+  unread = λ c copies keeps none input outcome left does torn. open_unread (Gives number) c outcome left none does torn;
   whole = λ c input outcome left values content whole does torn.
       some_whole left (open_leaves IsCartridge (Gives number) (gives_whole number) c outcome does whole left torn);
   live = λ held input outcome keeps does. open_none (Gives number) (gives_none number) held outcome does;

@@ -1,5 +1,5 @@
 -- The laws of the command `pulses`.
-use Rattle.std.proofs.Common.{[], Some, None, refl, sym, subst, append-nil, ◌≡◌, ℕ, List, arith}
+use Rattle.std.proofs.Common.{[], Some, None, refl, sym, subst, append-nil, ◌≡◌, ℕ, List, arith, codes}
 use Rattle.cartridge_laws.proofs.ChangeStanding.{marks_read_no_more}
 use Rattle.cartridge_spec.specs.Formatting.{HasNoHeader}
 use Rattle.command_laws.proofs.CommandClean.{bare_from_less, clean_from_less, Clean, sent_leaving}
@@ -9,21 +9,24 @@ use Rattle.command_laws.proofs.CommandPlainLaws.{sent_leaves, sent_is_function}
 use Rattle.command_laws.proofs.CommandSteps.{sent_none}
 use Rattle.command_laws.proofs.CommandTexts.{fronted}
 use Rattle.command_laws.proofs.CommandTotals.{sent_answers}
+use Rattle.command_laws.proofs.CommandUnread.{marked_neither}
 use Rattle.command_laws.proofs.CommandWhole.{some_whole}
 use Rattle.command_laws.proofs.WholeSteps.{referenced_whole}
-use Rattle.command_laws.proofs.TextCommands.{only, one_word, spelled_length, guess}
-use Rattle.command_laws.specs.CommandRecord.{CommandLaws}
+use Rattle.command_laws.proofs.TextCommands.{only, one_word, spelled_length, IsRead, Reading, named}
+use Rattle.command_laws.specs.CommandRecord.{CommandLaws, NeitherReads}
 use Rattle.command_spec.specs.CommandWords.{HasForm}
 use Rattle.command_spec.specs.Pulses.{AreLevels}
-use Rattle.command_spec.specs.PulsesCommand.{pulses_command}
+use Rattle.command_spec.specs.Commands.PulsesCommand.{pulses_command}
 use Rattle.qic_base.specs.Step.{changed, SetReferenced}
 use Rattle.qic_base.specs.Cartridge.{IsCartridge}
 use Rattle.command_spec.specs.declared.words.Words.TheVariants as words
 
 -- its words are read as it
-pub pulses_read : (ws : List (List ℕ)) → HasForm ws pulses_command.forms → guess ws ≡ words.Pulses
-unfolding guess
-pulses_read ws h = let s = one_word ws _ (only ws _ h) in rw (s.are, s.one) refl
+abbrev pub pulses_reading : Reading
+pulses_reading = record { name = codes "pulses"; reads = λ behind. words.Pulses }
+
+pub pulses_read : (ws : List (List ℕ)) → HasForm ws pulses_command.forms → IsRead pulses_reading ws words.Pulses
+pulses_read ws h = let s = one_word ws _ (only ws _ h) in record { behind = []; are = named s.are s.one; is = refl }
 
 pub pulses_laws : CommandLaws pulses_command
 pulses_laws = record {
@@ -48,6 +51,8 @@ pulses_laws = record {
       (clean_from_less area is_area c (changed SetReferenced c) (marks_read_no_more c (changed (SetReferenced) c) refl) clean) left torn;
   bare = λ c keeps bare input outcome left does torn.
       sent_leaving HasNoHeader c input outcome does bare (bare_from_less c (changed SetReferenced c) (marks_read_no_more c (changed (SetReferenced) c) refl) bare) left torn;
+  unread = λ c copies keeps none input outcome left does torn.
+      sent_leaving NeitherReads c input outcome does none (marked_neither c (changed SetReferenced c) refl none) left torn;
   whole = λ c input outcome left values content whole does torn.
       some_whole left (sent_leaving IsCartridge c input outcome does whole (referenced_whole c whole) left torn);
   live = λ held input outcome keeps does. sent_none held input outcome does;

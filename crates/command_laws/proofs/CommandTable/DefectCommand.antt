@@ -1,7 +1,7 @@
 -- The laws of the command `defect`.
-use Rattle.std.proofs.Common.{◌≡◌, ℕ, true, Some, refl, List, arith}
+use Rattle.std.proofs.Common.{◌≡◌, ℕ, true, Some, refl, List, arith, codes, [], ◌∷◌, ap, ◌∙◌}
 use Rattle.cartridge_laws.proofs.ChangeMounted.{spoiled_mounts}
-use Rattle.cartridge_laws.proofs.ChangeStanding.{spoiled_stands}
+use Rattle.cartridge_laws.proofs.ChangeStanding.{spoiled_cells, spoiled_stands}
 use Rattle.cartridge_laws.proofs.ChangeViews.{spoiled_alike}
 use Rattle.cartridge_spec.specs.Formatting.{HasNoHeader}
 use Rattle.cartridge_spec.specs.Mounting.{Mounted, Mounts}
@@ -13,12 +13,13 @@ use Rattle.command_laws.proofs.CommandPlainLaws.{defect_is_function, defect_leav
 use Rattle.command_laws.proofs.CommandSteps.{defect_none}
 use Rattle.command_laws.proofs.CommandTexts.{plain_texts}
 use Rattle.command_laws.proofs.CommandTotals.{defect_answers}
+use Rattle.command_laws.proofs.CommandUnread.{neither_alike}
 use Rattle.command_laws.proofs.CommandWhole.{some_whole}
 use Rattle.command_laws.proofs.WholeSteps.{spoiled_whole}
-use Rattle.command_laws.proofs.TextCommands.{only, three_words, spelled_length, IsNumber-value, guess}
-use Rattle.command_laws.specs.CommandRecord.{CommandLaws}
+use Rattle.command_laws.proofs.TextCommands.{only, three_words, spelled_length, IsNumber-value, IsRead, Reading, word_at, number_value, named}
+use Rattle.command_laws.specs.CommandRecord.{CommandLaws, NeitherReads}
 use Rattle.command_spec.specs.CommandWords.{HasForm}
-use Rattle.command_spec.specs.Defect.{DefectOutcome, defect_command}
+use Rattle.command_spec.specs.Commands.Defect.{DefectOutcome, defect_command}
 use Rattle.command_spec.specs.Outcome.{HasPlace}
 use Rattle.qic_base.specs.Cartridge.{view_at, IsCartridge}
 use Rattle.qic_base.specs.Step.{changed, Spoil}
@@ -27,10 +28,17 @@ use Rattle.command_spec.specs.declared.status.Status.TheVariants as status
 use Rattle.command_spec.specs.declared.words.Words.TheVariants as words
 
 -- its words are read as it
-pub defect_read : (segment sector : ℕ) (ws : List (List ℕ)) → HasForm ws (defect_command segment sector).forms → guess ws ≡ words.Defect segment sector
-unfolding guess
+abbrev pub defect_reading : Reading
+defect_reading = record { name = codes "defect"; reads = λ behind. words.Defect (number_value (word_at behind 0)) (number_value (word_at behind 1)) }
+
+pub defect_read : (segment sector : ℕ) (ws : List (List ℕ)) → HasForm ws (defect_command segment sector).forms → IsRead defect_reading ws (words.Defect segment sector)
 defect_read segment sector ws h =
-    let s = three_words ws _ _ _ (only ws _ h) in rw (s.are, s.one, IsNumber-value s.second segment s.two.0, IsNumber-value s.third sector s.three.0) refl
+    let s = three_words ws _ _ _ (only ws _ h) in
+    record {
+      behind = s.second ∷ s.third ∷ [];
+      are = named s.are s.one;
+      is = ap (λ n. words.Defect n (number_value s.third)) (IsNumber-value s.second segment s.two.0) ∙ ap (words.Defect segment) (IsNumber-value s.third sector s.three.0);
+    }
 
 pub defect_laws : (segment sector : ℕ) → CommandLaws (defect_command segment sector)
 defect_laws segment sector = record {
@@ -62,6 +70,10 @@ defect_laws segment sector = record {
   bare = λ c keeps bare input outcome left does torn.
       defect_leaving HasNoHeader segment sector c outcome does bare
       (bare_from_less c (changed (Spoil segment sector) c) (spoiled_alike c segment sector).no_more bare) left torn;
+  unread = λ c copies keeps none input outcome left does torn.
+      sector_left NeitherReads (Spoil segment sector) segment sector c left none
+      (λ place. neither_alike c (changed (Spoil segment sector) c) (λ copy h. spoiled_cells c segment sector copy) none)
+      (defect_leaves segment sector (Some c) left outcome does torn);
   whole = λ c input outcome left values content whole does torn.
       some_whole left (defect_leaving IsCartridge segment sector c outcome does whole (spoiled_whole c segment sector whole) left torn);
   live = λ held input outcome keeps does. defect_none segment sector held outcome does;

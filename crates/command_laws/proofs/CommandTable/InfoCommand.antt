@@ -1,5 +1,5 @@
 -- The laws of the command `info`.
-use Rattle.std.proofs.Common.{[], ◌≡◌, Some, refl, ℕ, List, arith}
+use Rattle.std.proofs.Common.{[], ◌≡◌, Some, refl, ℕ, List, arith, codes}
 use Rattle.cartridge_spec.specs.Mounting.{Mounted}
 use Rattle.command_laws.proofs.CommandClean.{bare_open, Clean, open_leaves, shows_leave}
 use Rattle.command_laws.proofs.CommandComplete.{where_some, shows_done}
@@ -8,21 +8,24 @@ use Rattle.command_laws.proofs.CommandPlainLaws.{open_unformatted, opening_leave
 use Rattle.command_laws.proofs.CommandSteps.{open_none, shows_none}
 use Rattle.command_laws.proofs.CommandTexts.{plain_texts}
 use Rattle.command_laws.proofs.CommandTotals.{open_answers, shows_answers}
+use Rattle.command_laws.proofs.CommandUnread.{open_unread}
 use Rattle.command_laws.proofs.CommandWhole.{shows_whole, some_whole}
-use Rattle.command_laws.proofs.TextCommands.{only, one_word, spelled_length, guess}
+use Rattle.command_laws.proofs.TextCommands.{only, one_word, spelled_length, IsRead, Reading, named}
 use Rattle.command_laws.specs.CommandRecord.{CommandLaws}
 use Rattle.command_spec.specs.CommandWords.{HasForm}
 use Rattle.command_spec.specs.Complete.{CanBeMounted}
-use Rattle.command_spec.specs.Info.{InfoOutcome, telling, info_command}
+use Rattle.command_spec.specs.Commands.Info.{InfoOutcome, telling, info_command}
 use Rattle.command_spec.specs.Outcome.{Shows}
 use Rattle.qic_base.specs.Cartridge.{IsCartridge}
 use Rattle.command_spec.specs.declared.status.Status.TheVariants as status
 use Rattle.command_spec.specs.declared.words.Words.TheVariants as words
 
 -- its words are read as it
-pub info_read : (ws : List (List ℕ)) → HasForm ws info_command.forms → guess ws ≡ words.Info
-unfolding guess
-info_read ws h = let s = one_word ws _ (only ws _ h) in rw (s.are, s.one) refl
+abbrev pub info_reading : Reading
+info_reading = record { name = codes "info"; reads = λ behind. words.Info }
+
+pub info_read : (ws : List (List ℕ)) → HasForm ws info_command.forms → IsRead info_reading ws words.Info
+info_read ws h = let s = one_word ws _ (only ws _ h) in record { behind = []; are = named s.are s.one; is = refl }
 
 pub info_laws : CommandLaws info_command
 info_laws = record {
@@ -48,6 +51,7 @@ info_laws = record {
   clean = λ c area keeps is_area clean input outcome left does torn.
       open_leaves (Clean area is_area) (Shows telling) (shows_leave area is_area telling) c outcome does clean left torn;
   bare = λ c keeps bare input outcome left does torn. bare_open (Shows telling) c outcome does bare left torn;
+  unread = λ c copies keeps none input outcome left does torn. open_unread (Shows telling) c outcome left none does torn;
   whole = λ c input outcome left values content whole does torn.
       some_whole left (open_leaves IsCartridge (Shows telling) (shows_whole telling) c outcome does whole left torn);
   live = λ held input outcome keeps does. open_none (Shows telling) (shows_none telling) held outcome does;

@@ -1,5 +1,5 @@
 -- The laws of the command `make`.
-use Rattle.std.proofs.Common.{[], ◌≡◌, ℕ, List, ◌∷◌, Some, IfSome, refl, inl, inr, arith}
+use Rattle.std.proofs.Common.{[], ◌≡◌, ℕ, List, ◌∷◌, Some, IfSome, refl, inl, inr, arith, codes, ap, ◌∙◌}
 use Rattle.cartridge_laws.proofs.FormatWriting.{some_and}
 use Rattle.cartridge_spec.specs.Mounting.{Mounted, Mounts}
 use Rattle.command_laws.proofs.CommandClean.{bare_writable, Clean, writable_leaves, making_leaves}
@@ -8,13 +8,14 @@ use Rattle.command_laws.proofs.CommandKeeping.{same_stands}
 use Rattle.command_laws.proofs.CommandPlainLaws.{writable_unformatted, appending_leaves, writable_is_function, making_one, writable_locked}
 use Rattle.command_laws.proofs.CommandSteps.{writable_none, making_none}
 use Rattle.command_laws.proofs.CommandTotals.{writable_answers, making_answers}
+use Rattle.command_laws.proofs.CommandUnread.{writable_unread}
 use Rattle.command_laws.proofs.CommandWhole.{making_whole, some_whole}
-use Rattle.command_laws.proofs.TextCommands.{only, three_words, spelled_length, IsNumber-value, guess}
+use Rattle.command_laws.proofs.TextCommands.{only, three_words, spelled_length, IsNumber-value, IsRead, Reading, word_at, number_value, named}
 use Rattle.command_laws.specs.CommandRecord.{CommandLaws}
 use Rattle.command_spec.specs.CommandWords.{HasForm}
 use Rattle.command_spec.specs.Complete.{IsUnprotected}
 use Rattle.command_spec.specs.Make.{Making, MakeOutcome}
-use Rattle.command_spec.specs.MakeCommand.{CanMake, make_command}
+use Rattle.command_spec.specs.Commands.MakeCommand.{CanMake, make_command}
 use Rattle.qic_base.specs.Cartridge.{IsCartridge}
 use Rattle.command_spec.specs.declared.status.Status.TheVariants as status
 use Rattle.command_spec.specs.declared.words.Words.TheVariants as words
@@ -30,10 +31,17 @@ values_are (word ∷ number ∷ volumes ∷ rest) seed count (inl spelled) = spe
 values_are (word ∷ number ∷ volumes ∷ rest) seed count (inr spelled) = absurd spelled
 
 -- its words are read as it
-pub make_read : (seed count : ℕ) (ws : List (List ℕ)) → HasForm ws (make_command seed count).forms → guess ws ≡ words.Make seed count
-unfolding guess
+abbrev pub make_reading : Reading
+make_reading = record { name = codes "make"; reads = λ behind. words.Make (number_value (word_at behind 0)) (number_value (word_at behind 1)) }
+
+pub make_read : (seed count : ℕ) (ws : List (List ℕ)) → HasForm ws (make_command seed count).forms → IsRead make_reading ws (words.Make seed count)
 make_read seed count ws h =
-    let s = three_words ws _ _ _ (only ws _ h) in rw (s.are, s.one, IsNumber-value s.second seed s.two.0, IsNumber-value s.third count s.three.0) refl
+    let s = three_words ws _ _ _ (only ws _ h) in
+    record {
+      behind = s.second ∷ s.third ∷ [];
+      are = named s.are s.one;
+      is = ap (λ n. words.Make n (number_value s.third)) (IsNumber-value s.second seed s.two.0) ∙ ap (words.Make seed) (IsNumber-value s.third count s.three.0);
+    }
 
 pub make_laws : (seed count : ℕ) → CommandLaws (make_command seed count)
 make_laws seed count = record {
@@ -67,6 +75,7 @@ make_laws seed count = record {
   clean = λ c area keeps is_area clean input outcome left does torn.
       writable_leaves (Clean area is_area) (Making seed count) (making_leaves area is_area seed count) c outcome does clean left torn;
   bare = λ c keeps bare input outcome left does torn. bare_writable (Making seed count) c outcome does bare left torn;
+  unread = λ c copies keeps none input outcome left does torn. writable_unread (Making seed count) c outcome left none does torn;
   whole = λ c input outcome left values content whole does torn.
       some_whole left (writable_leaves IsCartridge (Making seed count) (making_whole seed count values) c outcome does whole left torn);
   live = λ held input outcome keeps does. writable_none (Making seed count) (making_none seed count) held outcome does;

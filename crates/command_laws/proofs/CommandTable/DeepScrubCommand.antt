@@ -17,12 +17,14 @@ use Rattle.command_laws.proofs.CommandWhole.{some_whole}
 use Rattle.command_laws.proofs.DeepScrubKept.{deep_clean, deep_mounts, deep_stands}
 use Rattle.command_laws.proofs.ScrubForms.{form_steps, stopped_form_is_cartridge}
 use Rattle.command_laws.proofs.ScrubOneWrong.{form_always, form_is_function}
-use Rattle.command_laws.proofs.TextCommands.{guess, only, spelled_length, two_words}
+use Rattle.command_laws.proofs.CommandTable.ScrubCommand.{scrub_reading}
+use Rattle.command_laws.proofs.CommandUnread.{writable_unread}
+use Rattle.command_laws.proofs.TextCommands.{IsRead, named, only, spelled_length, two_words}
 use Rattle.command_laws.proofs.WholeSteps.{behind_leave}
 use Rattle.command_laws.specs.CommandRecord.{CommandLaws}
 use Rattle.command_spec.specs.CommandWords.{HasForm}
 use Rattle.command_spec.specs.Complete.{CanBeMounted, IsUnprotected, ReadsAs}
-use Rattle.command_spec.specs.DeepScrubCommand.{deep_scrub_command}
+use Rattle.command_spec.specs.Commands.DeepScrubCommand.{deep_scrub_command}
 use Rattle.command_spec.specs.Outcome.{CommandOutcome, settling_act}
 use Rattle.command_spec.specs.Scrub.{Looked, looked_at}
 use Rattle.command_spec.specs.ScrubForms.{DeepScrubOutcome, Finding, MendsDeep, finding_acts, steps_for, without}
@@ -33,9 +35,8 @@ use Rattle.command_spec.specs.declared.status.Status.TheVariants as status
 use Rattle.command_spec.specs.declared.words.Words.TheVariants as words
 
 -- its words are read as it
-pub deep_scrub_read : (ws : List (List ℕ)) → HasForm ws deep_scrub_command.forms → guess ws ≡ words.ScrubDeep
-unfolding guess
-deep_scrub_read ws h = let s = two_words ws _ _ (only ws _ h) in rw (s.are, s.one) refl
+pub deep_scrub_read : (ws : List (List ℕ)) → HasForm ws deep_scrub_command.forms → IsRead scrub_reading ws words.ScrubDeep
+deep_scrub_read ws h = let s = two_words ws _ _ (only ws _ h) in record { behind = s.second ∷ []; are = named s.are s.one; is = refl }
 
 -- ---- what it does on a mounted cartridge
 
@@ -121,6 +122,7 @@ deep_scrub_laws = record {
   clean = λ c area keeps is_area clean input outcome left does torn.
       writable_leaves (λ d. HasCleanCopies d area) MendsDeep (deep_clean area is_area) c outcome does clean left torn;
   bare = λ c keeps bare input outcome left does torn. bare_writable MendsDeep c outcome does bare left torn;
+  unread = λ c copies keeps none input outcome left does torn. writable_unread MendsDeep c outcome left none does torn;
   whole = λ c input outcome left values content whole does torn.
       some_whole left (writable_leaves IsCartridge MendsDeep deep_whole c outcome does whole left torn);
   live = λ held input outcome keeps does. writable_none MendsDeep deep_none held outcome does;

@@ -1,5 +1,5 @@
 -- The laws of the command `append`.
-use Rattle.std.proofs.Common.{◌≡◌, ℕ, List, Some, refl, codes, inl, inr, arith}
+use Rattle.std.proofs.Common.{◌≡◌, ℕ, List, Some, refl, codes, inl, inr, arith, [], ◌∷◌, ap, ◌∙◌, sym}
 use Rattle.cartridge_laws.proofs.FormatWriting.{some_and}
 use Rattle.cartridge_spec.specs.Mounting.{Mounted, Mounts}
 use Rattle.command_laws.proofs.CommandClean.{bare_writable, Clean, writable_leaves, appends_leave}
@@ -10,22 +10,32 @@ use Rattle.command_laws.proofs.CommandSteps.{writable_none, appends_none}
 use Rattle.command_laws.proofs.CommandTexts.{plain_texts}
 use Rattle.command_laws.proofs.CommandTotals.{writable_answers, appends_answers}
 use Rattle.command_laws.proofs.CommandValues.{dated_values}
+use Rattle.command_laws.proofs.CommandUnread.{writable_unread}
 use Rattle.command_laws.proofs.CommandWhole.{append_whole, some_whole}
-use Rattle.command_laws.proofs.TextCommands.{dated_cases, two_words, three_words, dated_length, IsDateWord-value, guess}
+use Rattle.command_laws.proofs.TextCommands.{dated_cases, two_words, three_words, dated_length, IsDateWord-value, IsRead, Reading, word_at, date_behind, named, date_value}
 use Rattle.command_laws.specs.CommandRecord.{CommandLaws}
 use Rattle.command_spec.specs.Append.{Appends, AppendOutcome}
-use Rattle.command_spec.specs.AppendCommand.{CanTake, append_command}
+use Rattle.command_spec.specs.Commands.AppendCommand.{CanTake, append_command}
 use Rattle.command_spec.specs.CommandWords.{HasForm}
 use Rattle.command_spec.specs.Complete.{IsUnprotected}
+use Rattle.qic_base.specs.Name.{filled}
 use Rattle.command_spec.specs.declared.status.Status.TheVariants as status
 use Rattle.command_spec.specs.declared.words.Words.TheVariants as words
 
 -- its words are read as it
-pub append_read : (name : List ℕ) (date : ℕ) (ws : List (List ℕ)) → HasForm ws (append_command name date).forms → guess ws ≡ words.Append name date
-unfolding guess
+abbrev pub append_reading : Reading
+append_reading = record { name = codes "append"; reads = λ behind. words.Append (filled (word_at behind 0)) (date_behind behind) }
+
+pub append_read : (name : List ℕ) (date : ℕ) (ws : List (List ℕ)) → HasForm ws (append_command name date).forms → IsRead append_reading ws (words.Append name date)
 append_read name date ws h = elim (dated_cases ws _ date h) [
-  | inl full ↦ let s = three_words ws _ _ _ full in rw (s.are, s.one, ← s.two.1, IsDateWord-value s.third date s.three) refl
-  | inr bare ↦ let s = two_words ws _ _ bare.0 in rw (s.are, s.one, ← s.two.1, bare.1) refl
+  | inl full ↦
+      let s = three_words ws _ _ _ full in
+      record {
+        behind = s.second ∷ s.third ∷ [];
+        are = named s.are s.one;
+        is = ap (λ n. words.Append n (date_value s.third)) (sym s.two.1) ∙ ap (words.Append name) (IsDateWord-value s.third date s.three);
+      }
+  | inr bare ↦ let s = two_words ws _ _ bare.0 in record { behind = s.second ∷ []; are = named s.are s.one; is = ap (λ n. words.Append n 0) (sym s.two.1) ∙ ap (words.Append name) (sym bare.1) }
 ]
 
 pub append_laws : (name : List ℕ) (date : ℕ) → CommandLaws (append_command name date)
@@ -48,6 +58,7 @@ append_laws name date = record {
   clean = λ c area keeps is_area clean input outcome left does torn.
       writable_leaves (Clean area is_area) (Appends name date input) (appends_leave area is_area name date input) c outcome does clean left torn;
   bare = λ c keeps bare input outcome left does torn. bare_writable (Appends name date input) c outcome does bare left torn;
+  unread = λ c copies keeps none input outcome left does torn. writable_unread (Appends name date input) c outcome left none does torn;
   whole = λ c input outcome left values content whole does torn.
       some_whole left (append_whole name date input values.0 values.1 content c outcome does whole left torn);
   live = λ held input outcome keeps does. writable_none (Appends name date input) (appends_none name date input) held outcome does;

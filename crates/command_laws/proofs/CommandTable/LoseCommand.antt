@@ -1,5 +1,5 @@
 -- The laws of the command `lose`.
-use Rattle.std.proofs.Common.{◌≡◌, ℕ, Some, refl, List, arith}
+use Rattle.std.proofs.Common.{◌≡◌, ℕ, Some, refl, List, arith, codes, [], ◌∷◌, ap, ◌∙◌}
 use Rattle.cartridge_laws.proofs.ChangeMounted.{worn_mounts}
 use Rattle.cartridge_laws.proofs.ChangeStanding.{worn_stands}
 use Rattle.cartridge_laws.proofs.ChangeViews.{worn_reads_no_more}
@@ -13,12 +13,13 @@ use Rattle.command_laws.proofs.CommandPlainLaws.{lose_is_function, lose_leaves}
 use Rattle.command_laws.proofs.CommandSteps.{lose_none}
 use Rattle.command_laws.proofs.CommandTexts.{plain_texts}
 use Rattle.command_laws.proofs.CommandTotals.{lose_answers}
+use Rattle.command_laws.proofs.CommandUnread.{worn_neither}
 use Rattle.command_laws.proofs.CommandWhole.{some_whole}
 use Rattle.command_laws.proofs.WholeSteps.{worn_whole}
-use Rattle.command_laws.proofs.TextCommands.{only, three_words, spelled_length, IsNumber-value, guess}
-use Rattle.command_laws.specs.CommandRecord.{CommandLaws}
+use Rattle.command_laws.proofs.TextCommands.{only, three_words, spelled_length, IsNumber-value, IsRead, Reading, word_at, number_value, named}
+use Rattle.command_laws.specs.CommandRecord.{CommandLaws, NeitherReads}
 use Rattle.command_spec.specs.CommandWords.{HasForm}
-use Rattle.command_spec.specs.Lose.{LoseOutcome, lose_command}
+use Rattle.command_spec.specs.Commands.Lose.{LoseOutcome, lose_command}
 use Rattle.command_spec.specs.Outcome.{HasPlace}
 use Rattle.qic_base.specs.Step.{changed, Wear}
 use Rattle.qic_base.specs.Cartridge.{IsCartridge}
@@ -26,10 +27,17 @@ use Rattle.command_spec.specs.declared.status.Status.TheVariants as status
 use Rattle.command_spec.specs.declared.words.Words.TheVariants as words
 
 -- its words are read as it
-pub lose_read : (segment sector : ℕ) (ws : List (List ℕ)) → HasForm ws (lose_command segment sector).forms → guess ws ≡ words.Lose segment sector
-unfolding guess
+abbrev pub lose_reading : Reading
+lose_reading = record { name = codes "lose"; reads = λ behind. words.Lose (number_value (word_at behind 0)) (number_value (word_at behind 1)) }
+
+pub lose_read : (segment sector : ℕ) (ws : List (List ℕ)) → HasForm ws (lose_command segment sector).forms → IsRead lose_reading ws (words.Lose segment sector)
 lose_read segment sector ws h =
-    let s = three_words ws _ _ _ (only ws _ h) in rw (s.are, s.one, IsNumber-value s.second segment s.two.0, IsNumber-value s.third sector s.three.0) refl
+    let s = three_words ws _ _ _ (only ws _ h) in
+    record {
+      behind = s.second ∷ s.third ∷ [];
+      are = named s.are s.one;
+      is = ap (λ n. words.Lose n (number_value s.third)) (IsNumber-value s.second segment s.two.0) ∙ ap (words.Lose segment) (IsNumber-value s.third sector s.three.0);
+    }
 
 pub lose_laws : (segment sector : ℕ) → CommandLaws (lose_command segment sector)
 lose_laws segment sector = record {
@@ -61,6 +69,9 @@ lose_laws segment sector = record {
       (clean_from_less area is_area c (changed (Wear segment sector) c) (worn_reads_no_more c segment sector) clean) left torn;
   bare = λ c keeps bare input outcome left does torn.
       lose_leaving HasNoHeader segment sector c outcome does bare (bare_from_less c (changed (Wear segment sector) c) (worn_reads_no_more c segment sector) bare) left torn;
+  unread = λ c copies keeps none input outcome left does torn.
+      sector_left NeitherReads (Wear segment sector) segment sector c left none
+      (λ place. worn_neither c segment sector place.in_segment (keeps place) none) (lose_leaves segment sector (Some c) left outcome does torn);
   whole = λ c input outcome left values content whole does torn.
       some_whole left (lose_leaving IsCartridge segment sector c outcome does whole (worn_whole c segment sector whole) left torn);
   live = λ held input outcome keeps does. lose_none segment sector held outcome does;
