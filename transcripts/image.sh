@@ -57,6 +57,12 @@ put() {
     alter $(($(place bytes "$1" "$2") + $3)) "$4"
 }
 
+# flip SEGMENT SECTOR BYTE: flips the lowest bit of that byte of a sector.
+flip() {
+    local at=$(($(place bytes "$1" "$2") + $3))
+    alter "$at" "\\x$(printf %02x $((0x$(look_at "$at" 1 | tr -d ' ') ^ 1)))"
+}
+
 # fill SEGMENT DIGITS: writes this byte all over the data sectors of a segment.
 fill() {
     local sector bytes

@@ -83,7 +83,10 @@ Each command has its words, no fewer and no more.
   $ no restore 1 1
   $ no restore a
   $ no restore 1 volume
-  $ for word in deep 1 scrub ''; do no scrub "$word"; done
+  $ for word in Deep deeper 1 scrub ''; do no scrub "$word"; done
+  $ no scrub deep 3
+  $ no deep
+  $ no 'scrub deep'
   $ no info now
   $ no pulses -
   $ no pulses 6

@@ -75,8 +75,9 @@ fn make(seed: u32, count: u32) -> Words {
 
 #[test]
 fn words_have_their_values(rt: HostRuntime) -> Result<(), Fail> {
-    let table: [(&[&str], Words); 15] = [
+    let table: [(&[&str], Words); 16] = [
         (&["scrub"], Words::Scrub),
+        (&["scrub", "deep"], Words::ScrubDeep),
         (&["script"], Words::Script),
         (&["upgrade"], Words::Upgrade),
         (&["restore", "0"], restore(0)),
@@ -98,8 +99,10 @@ fn words_have_their_values(rt: HostRuntime) -> Result<(), Fail> {
 
 #[test]
 fn other_words_are_no_command(rt: HostRuntime) -> Result<(), Fail> {
-    let table: [&[&str]; 29] = [
+    let table: [&[&str]; 31] = [
         &["scrub", "1"],
+        &["scrub", "deep", "3"],
+        &["deep"],
         &["script", "end"],
         &["upgrade", "2"],
         &["upgraded"],

@@ -14,11 +14,12 @@ use Rattle.cartridge_spec.specs.Table.{Entry}
 use Rattle.cartridge_spec.specs.Volumes.{Plain, Stands, entries_of}
 use Rattle.command_laws.proofs.CommandPlainLaws.{behind_leaves, stays, writable_locked}
 use Rattle.command_laws.proofs.CommandTable.{guess_is}
+use Rattle.command_laws.proofs.ScrubBeside.{first_not_wrong}
 use Rattle.command_laws.proofs.ScrubForms.{finds_at_once_is, stopped_in_form}
 use Rattle.command_laws.proofs.ScrubMounted.{mounted_order}
 use Rattle.command_laws.proofs.SilentMended.{silent_sectors_are_mounted}
 use Rattle.command_laws.proofs.SilentSettled.{silent_sectors_end}
-use Rattle.command_laws.specs.DeepScrubLaws.{DeepScrubMends, DeepScrubStopped, IsBeingScrubbedDeep}
+use Rattle.command_laws.specs.DeepScrubLaws.{DeepScrubMends, DeepScrubStopped, FirstCopyIsRight, IsBeingScrubbedDeep}
 use Rattle.command_laws.specs.PromiseLaws.{DeepScrubRunMends}
 use Rattle.command_laws.specs.SilentSectors.{DiffersSilently}
 use Rattle.command_spec.specs.Headline.{Stepped, ToldNow}
@@ -38,6 +39,11 @@ use Rattle.command_spec.specs.declared.words.Words.TheVariants as words
 use Rattle.qic_base.specs.Sink as sinks
 use Rattle.qic_base.specs.Source as sources
 use Rattle.qic_base.specs.Tape as tapes
+
+-- ---- a cartridge that stands
+
+pub first_copy_is_right : FirstCopyIsRight
+first_copy_is_right c plain stood sector sectors wrong = first_not_wrong c plain sector sectors stood.whole.header_area stood.copies wrong
 
 -- ---- done
 

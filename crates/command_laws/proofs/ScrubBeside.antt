@@ -103,7 +103,7 @@ pub not_the_table : (depth : Depth) (l : Looked) → IsSearched depth l → l.se
 not_the_table Shallow l searched is = searched
 not_the_table Deep l searched is = searched is
 
-first_not_wrong : (c : Cartridge) (plain : Plain) (sector : ℕ) (ds : List (List ℕ)) → IsArea plain.header_area → CopiesAre c plain.header_area →
+pub first_not_wrong : (c : Cartridge) (plain : Plain) (sector : ℕ) (ds : List (List ℕ)) → IsArea plain.header_area → CopiesAre c plain.header_area →
     IsWrong c (whole_segment 0) sector ds → ⊥
 first_not_wrong c plain sector ds is_area (inl written) wrong =
     written_not_wrong c (whole_segment 0) plain.header_area sector ds is_area.sectors written wrong

@@ -13,6 +13,7 @@ use Rattle.command_laws.specs.ScrubFound.{FindAtOnce, finds_at_once, without_all
 use Rattle.command_laws.specs.ScrubLaws.{AreAllLive}
 use Rattle.command_laws.specs.ScrubMended.{IsScrubbed}
 use Rattle.command_laws.specs.SilentSectors.{DiffersSilently}
+use Rattle.command_spec.specs.DeepScrubCommand.{IsFirstCopyRight}
 use Rattle.command_spec.specs.Machine.{Yields}
 use Rattle.command_spec.specs.Outcome.{CommandOutcome}
 use Rattle.command_spec.specs.Scrub.{Scrubs, Looked, looked_at}
@@ -99,6 +100,10 @@ DoneFormIsSettled =
     (depth : Depth) (c : Cartridge) (words : List ℕ) (entries : List Entry) (last : ℕ) (acts : List Act) (area : List (List ℕ)) →
     IsSoundList last entries → ScrubsAs depth c words entries acts → IsSettledFor c area →
     IsSettledFor (changed_by (steps_of acts) c) area
+
+-- no sector of the first header copy of such a cartridge is wrong, so `scrub deep` also keeps what it is mounted as
+abbrev pub FirstCopyIsRight : Type 0
+FirstCopyIsRight = (c : Cartridge) (plain : Plain) → Stands c plain → IsFirstCopyRight c
 
 -- ---- silent sectors
 

@@ -2,7 +2,7 @@
 //! hold wrong bytes. Each law is the contract of a function that does nothing, so that other crates can rest on it; their
 //! proofs import the lemmas of this crate's `proofs`.
 
-ghost use Rattle.command_laws.specs.DeepScrubLaws.{ShallowIsScrub, FoundMayBe, FormIsFunction, FormAlways, FindsAtOnce, DoneInForm, DoneFormIsCartridge, DoneFormStands, DoneFormIsClean, DoneFormTable, DoneFormIsSettled, SecondFormWritesNothing, SilentSectorsAreMounted, SilentSectorsAreMended, SilentSectorsEnd, DeepScrubMends, StoppedInForm, StoppedFormIsCartridge, StoppedFormStands, StoppedFormIsClean, StoppedFormTable, StoppedFormIsSettled, DeepScrubStopped};
+ghost use Rattle.command_laws.specs.DeepScrubLaws.{ShallowIsScrub, FoundMayBe, FormIsFunction, FormAlways, FindsAtOnce, DoneInForm, DoneFormIsCartridge, DoneFormStands, DoneFormIsClean, DoneFormTable, DoneFormIsSettled, SecondFormWritesNothing, SilentSectorsAreMounted, SilentSectorsAreMended, SilentSectorsEnd, FirstCopyIsRight, DeepScrubMends, StoppedInForm, StoppedFormIsCartridge, StoppedFormStands, StoppedFormIsClean, StoppedFormTable, StoppedFormIsSettled, DeepScrubStopped};
 
 /// Without a search for wrong sectors it is a scrub. Scrubbing in a form does one thing, and it does something: two code
 /// blocks differ in four sectors (QIC-80-MC), so at most one sector of a segment is found to be wrong. What is found of each segment follows from the cartridge before the
@@ -51,10 +51,11 @@ pub fn stopped_in_form()
     ensures whole { StoppedFormIsCartridge }
 {}
 
-/// The command `scrub deep` is carried out on each unprotected cartridge that differs so from one that stands, and whose
-/// table was settled; what it leaves stands. A stop in it leaves what a stop in the settling leaves, or each sector as it
+/// Of a cartridge that stands no sector of the first header copy is wrong. The command `scrub deep` is carried out on each
+/// unprotected cartridge that differs so from one that stands, and whose table was settled; what it leaves stands. A stop in it leaves what a stop in the settling leaves, or each sector as it
 /// was, lost, or with its sector of the block.
 pub fn a_deep_scrub()
+    ensures right { FirstCopyIsRight }
     ensures mends { DeepScrubMends }
     ensures stopped { DeepScrubStopped }
 {}

@@ -95,6 +95,18 @@ fn read_restore(number: &[u8]) -> Option<Words>
     }
 }
 
+fn read_scrub(form: &[u8]) -> Option<Words>
+    ensures { MatchOption result
+        (IsNoCommand (codes "scrub" ∷ form.now ∷ []))
+        (IsCommand (codes "scrub" ∷ form.now ∷ [])) }
+{
+    if is_word(form, "deep") {
+        Some(Words::ScrubDeep)
+    } else {
+        None
+    }
+}
+
 fn read_two(first: &[u8], second: &[u8]) -> Option<Words>
     ensures { MatchOption result
         (IsNoCommand (first.now ∷ second.now ∷ []))
@@ -110,6 +122,8 @@ fn read_two(first: &[u8], second: &[u8]) -> Option<Words>
         read_append(second)
     } else if is_word(first, "restore") {
         read_restore(second)
+    } else if is_word(first, "scrub") {
+        read_scrub(second)
     } else {
         None
     }
