@@ -24,7 +24,10 @@ pub mod CommandTold
 pub mod CommandTotals
 pub mod CommandValues
 pub mod CommandVolumes
+pub mod CopyLeaving
 pub mod CopyOnce
+pub mod CopyStanding
+pub mod CopyValues
 pub mod DefectCommand
 pub mod FormatCommand
 pub mod InfoCommand
