@@ -1,9 +1,18 @@
 //! What a copy onto another cartridge comes to. Each law is the contract of a function that does nothing, so that other
 //! crates can rest on it; their proofs import the lemmas of this crate's `proofs`.
 
-ghost use Rattle.command_laws.specs.CopyLaws.{CopiesOneThing};
+ghost use Rattle.command_laws.specs.CopyLaws.{CopiesOneThing, DoneCopyStands, StoppedCopyStands, StoppedSourceStands};
 
 /// A copy has one status and prints one text.
 pub fn a_copy_is_one()
     ensures { CopiesOneThing }
+{}
+
+/// On cartridges that stand for plain ones, alike in the volumes that both have, a copy leaves the target with all missing
+/// volumes at Done, also where sectors of its volume table take no write; and where each of these takes one, a stop in it
+/// with some of them, in their order. The source stands for what it stood for, done or stopped.
+pub fn a_copy_adds_the_missing_volumes()
+    ensures done { DoneCopyStands }
+    ensures stopped { StoppedCopyStands }
+    ensures source { StoppedSourceStands }
 {}
