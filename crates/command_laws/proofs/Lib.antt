@@ -28,12 +28,8 @@ pub mod DeepScrubEnds
 pub mod DeepScrubKept
 pub mod CopyOnce
 pub mod CopyLeaving
-pub mod CopyOnce
 pub mod CopyStanding
 pub mod CopyValues
-pub mod DefectCommand
-pub mod FormatCommand
-pub mod InfoCommand
 pub mod InputActLaws
 pub mod LifeFormats
 pub mod LifeGrowing
