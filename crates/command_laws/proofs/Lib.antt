@@ -25,6 +25,8 @@ pub mod CommandUnread
 pub mod CommandValues
 pub mod CommandVolumes
 pub mod InputActLaws
+pub mod IntactKeeping
+pub mod IntactMade
 pub mod LifeFormats
 pub mod LifeGrowing
 pub mod LifeLaws

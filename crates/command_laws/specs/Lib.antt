@@ -3,6 +3,7 @@ pub mod CommandLaws
 pub mod CommandRecord
 pub mod DeepScrubLaws
 pub mod InputLaws
+pub mod Intact
 pub mod Life
 pub mod LifeLaws
 pub mod MadeLaws
