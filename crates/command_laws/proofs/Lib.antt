@@ -31,6 +31,8 @@ pub mod CopyLeaving
 pub mod CopyStanding
 pub mod CopyValues
 pub mod InputActLaws
+pub mod IntactKeeping
+pub mod IntactMade
 pub mod LifeFormats
 pub mod LifeGrowing
 pub mod LifeLaws

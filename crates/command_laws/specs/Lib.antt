@@ -4,6 +4,7 @@ pub mod CommandRecord
 pub mod CopyLaws
 pub mod DeepScrubLaws
 pub mod InputLaws
+pub mod Intact
 pub mod Life
 pub mod LifeLaws
 pub mod MadeLaws
