@@ -6,7 +6,7 @@ ghost use Rattle.drive_spec.specs.Deck.{is_protected, segments_per_track};
 ghost use Rattle.drive_states.specs.Hand.{Wears};
 ghost use Rattle.qic_base.specs.Cartridge.{IsPlace};
 ghost use Rattle.host_driver.specs.Calls.{IsReady};
-ghost use Rattle.host_driver.specs.Fits.{AgreesWithTape, segments_of};
+ghost use Rattle.host_driver.specs.Fits.{AgreesWithTape, deck_of, segments_of};
 ghost use Rattle.cartridge_spec.specs.Shape.{mask_at, marked_sectors};
 ghost use Rattle.cartridge_spec.specs.Volumes.{capacity_between, volume_length};
 ghost use Rattle.header_segments.specs.Header.{header_of};
@@ -336,6 +336,13 @@ impl Store {
         ensures size { T.means.size unit.new.tape ≡ T.means.size unit.old.tape }
     {
         self.host.wear(unit, segment, sector)
+    }
+
+    /// Whether the cartridge is write protected.
+    pub fn protected(&self) -> bool
+        ensures { result ≡ is_protected (deck_of self.now.host) }
+    {
+        self.host.protected()
     }
 
     /// The number of volumes, 0 to 232.
