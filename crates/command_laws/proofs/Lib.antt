@@ -27,6 +27,7 @@ pub mod CommandVolumes
 pub mod CopyGoing
 pub mod CopyLeaving
 pub mod CopyOnce
+pub mod CopyOutcomes
 pub mod CopyStanding
 pub mod CopyValues
 pub mod DefectCommand
