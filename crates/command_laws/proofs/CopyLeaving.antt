@@ -14,7 +14,8 @@ use Rattle.cartridge_spec.specs.Mounting.{IsTableLive, Mounting, Mounts, TableLo
 use Rattle.cartridge_spec.specs.Settling.{changed_by, settling_steps}
 use Rattle.cartridge_spec.specs.Table.{Entry}
 use Rattle.cartridge_spec.specs.Volumes.{Plain, Stands, Volume, entries_of}
-use Rattle.command_laws.proofs.CopyStanding.{StandsWith, copies_done, copies_stopped, side_for}
+use Rattle.command_laws.proofs.CopyGoing.{behind, like_within}
+use Rattle.command_laws.proofs.CopyStanding.{StandsWith, copies_done, copies_stopped, side_for, stands_none}
 use Rattle.command_laws.proofs.CopyValues.{IsOriginal, originals}
 use Rattle.command_laws.proofs.MadeMachineLaws.{never_unlocked}
 use Rattle.command_laws.proofs.MountedHeld.{mounted_open, settled_live}
@@ -33,22 +34,7 @@ use Rattle.qic_base.specs.Stop.{Torn}
 use Rattle.command_spec.specs.declared.copy_fault.CopyFault.TheVariants as fault
 use Rattle.command_spec.specs.declared.copy_status.CopyStatus.TheVariants as status
 
--- ---- the volumes that both have
-
--- those of the first list that begins like the second are no fewer
-pub like_within : (words : List ℕ) (es : List Entry) (words' : List ℕ) (fs : List Entry) (number : ℕ) → difference words es words' fs number ≡ None → length fs ≤ length es
-like_within words es words' [] number like = omega arith
-like_within words [] words' (f ∷ fs) number like = absurd (cc)
-like_within words (e ∷ es) words' (f ∷ fs) number like =
-    by_first (is_alike words e words' f) (λ rest. like_within words es words' fs (number + 1) rest) like
-  where
-    by_first : (b : Bool) → (difference words es words' fs (number + 1) ≡ None → length fs ≤ length es) →
-        cond b (difference words es words' fs (number + 1)) (Some number) ≡ None → length (f ∷ fs) ≤ length (e ∷ es)
-    by_first true more rest = (let few = more rest in omega arith)
-    by_first false more rest = absurd (cc)
-
-abbrev pub behind : (one other : Plain) → List Volume
-behind one other = drop (length other.volumes) one.volumes
+-- ---- the missing volumes
 
 module _ (one other : Plain) (like : BeginsLike one other) where
   pub within : length other.volumes ≤ length one.volumes
@@ -83,12 +69,13 @@ up_to one other left like with =
       least = omega arith;
       most = omega arith;
       stands = subst (λ (p : Plain). IsSomeAnd left (λ d. Stands d p)) (sym (copied_some one other with.count)) with.stands;
+      like = subst (λ (p : Plain). BeginsLike one p) (sym (copied_some one other with.count)) with.like;
     }
 
 -- nothing was done
 pub none_copied : (one other : Plain) (d : Cartridge) (left : Option Cartridge) → BeginsLike one other → Stands d other → left ≡ Some d → StandsUpTo one other left
 none_copied one other d left like stands is =
-    up_to one other left like (record { count = 0; within = omega arith; stands = some_and (λ f. Stands f other) d left stands is })
+    up_to one other left like (stands_none one (behind one other) other left like (some_and (λ f. Stands f other) d left stands is))
 
 -- ---- the source
 
@@ -192,9 +179,9 @@ module _ (c : Cartridge) (one : Plain) (d : Cartridge) (other : Plain) (outcome 
       let now : Torn (settling_steps other.table_area d ++ steps_of to.rest) (Some d) left =
       subst (λ (zs : List Act). Torn (steps_of zs) (Some d) left) to.acts torn in
       elim (Torn-append (settling_steps other.table_area d) (steps_of to.rest) (Some d) left now) [
-        | inl front ↦ up_to one other left like (record { count = 0; within = omega arith; stands = stopped_stands d other other.table_area left standing to.reads.reads front })
+        | inl front ↦ up_to one other left like (stands_none one (behind one other) other left like (stopped_stands d other other.table_area left standing to.reads.reads front))
         | inr later ↦ up_to one other left like
-            (copies_stopped (settled one.table_area c) one (behind one other) behind_are still other (kept live) to.rest outcome.status left to.copies
+            (copies_stopped (settled one.table_area c) one (behind one other) behind_are still other (kept live) like refl to.rest outcome.status left to.copies
             (subst (λ (o : Option Cartridge). Torn (steps_of to.rest) o left) (settling_effects d other.table_area to.reads.reads) later))
       ]
 

@@ -16,6 +16,7 @@ use Rattle.cartridge_spec.specs.Mounting.{settled}
 use Rattle.cartridge_spec.specs.Settling.{changed_by, settling_steps}
 use Rattle.cartridge_spec.specs.Table.{Entry}
 use Rattle.cartridge_spec.specs.Volumes.{Plain, Stands, Volume, entries_of, volume_length}
+use Rattle.command_laws.proofs.CopyGoing.{behind, next_behind, next_like}
 use Rattle.command_laws.proofs.CopyValues.{IsOriginal, given_whole}
 use Rattle.command_laws.proofs.InputActLaws.{input_is_free}
 use Rattle.command_laws.proofs.MadeMachineLaws.{never_lost}
@@ -25,7 +26,7 @@ use Rattle.command_laws.proofs.RestoreStanding.{volume_is_long}
 use Rattle.command_laws.proofs.ScriptActs.{full_acts, replied_steps}
 use Rattle.command_laws.specs.MountedKept.{IsKept, IsOpen, settle_and_append}
 use Rattle.command_spec.specs.Append.{Fits, Kept, TooLong, TooShort, append_acts, free_in, has_promised_room, input_acts, input_writes, kept_over, room_in, taking}
-use Rattle.command_spec.specs.Copied.{content_of, contents_of}
+use Rattle.command_spec.specs.Copied.{BeginsLike, contents_of}
 use Rattle.command_spec.specs.Copying.{Copies, CopiesVolume, DoneOf, IsBegun, IsFull, IsGiven, Side, behind_copy, copied_behind, copied_entry, copy_acts, giving_status, has_room_for, length_on}
 use Rattle.command_spec.specs.Restore.{GivingEnd, LostIn, MismatchIn, Restored, Restores, pieces_in}
 use Rattle.command_spec.specs.declared.copy_status.CopyStatus.{CopyStatus}
@@ -175,6 +176,21 @@ module _ (c : Cartridge) (one : Plain) (volume : Volume) (original : IsOriginal 
       ap steps_of (full.does ∙ alone) ∙ append-nil (settling_steps table d) ∙ ap (λ (t : List (List ℕ)). settling_steps t d) area in
       stopped_stands d p p.table_area left held.stands held.table (subst (λ (ss : List Step). Torn ss (Some d) left) steps torn)
 
+-- a stop in the append of a volume left what stood; or there was room, and what stood with the volume is left
+pub data StoppedIn (p : Plain) (size : ℕ) (next : Plain) (left : Option Cartridge) : Type 0 where
+  Before : IsSomeAnd left (λ f. Stands f p) → StoppedIn p size next left
+  After : has_room p size ≡ true → IsSomeAnd left (λ f. Stands f next) → StoppedIn p size next left
+
+some_split : (P Q : Cartridge → Type 0) (left : Option Cartridge) → IsSomeAnd left (λ d. P d ⊎ Q d) → IsSomeAnd left P ⊎ IsSomeAnd left Q
+some_split P Q None fact = absurd fact
+some_split P Q (Some d) fact = fact
+
+stopped_in : (p : Plain) (size : ℕ) (next : Plain) (left : Option Cartridge) → has_room p size ≡ true → IsSomeAnd left (λ f. Stands f p ⊎ Stands f next) → StoppedIn p size next left
+stopped_in p size next left room stands = elim (some_split (λ f. Stands f p) (λ f. Stands f next) left stands) [
+  | inl before ↦ Before before
+  | inr after ↦ After room after
+]
+
 -- where each sector of the table's segment takes a write
 module _ (c : Cartridge) (one : Plain) (volume : Volume) (original : IsOriginal c one volume) (d : Cartridge) (p : Plain) (held : IsKept d p) where
   abbrev opened : IsOpen d p
@@ -195,86 +211,100 @@ module _ (c : Cartridge) (one : Plain) (volume : Volume) (original : IsOriginal 
   stopped_given : (table : List (List ℕ)) (acts : List Act) (given : List ℕ) (ending : GivingEnd) (left : Option Cartridge) →
       table ≡ p.table_area → has_room_for (side_for c one) volume.entry (side_for d p) ≡ true → (ending ≡ Restored → given ≡ content) →
       DoneOf (side_for c one) volume.entry (side_for d p) table given ending acts → Torn (steps_of acts) (Some d) left →
-      IsSomeAnd left (λ f. Stands f p ⊎ Stands f next)
+      StoppedIn p (length content) next left
   stopped_given table acts given Restored left area room same does torn =
       let did = done_given c one volume original d p opened table acts Restored given [] area room refl same does in
-      stopped_appended volume.entry.name volume.entry.date content original.may.label original.may.word original.may.content d p held left did.0
-      (subst (λ (steps : List Step). Torn steps (Some d) left) did.1 torn)
+      stopped_in p (length content) next left did.0
+      (stopped_appended volume.entry.name volume.entry.date content original.may.label original.may.word original.may.content d p held left did.0
+      (subst (λ (steps : List Step). Torn steps (Some d) left) did.1 torn))
   stopped_given table acts given (LostIn segment lost) left area room same does torn =
-      some_weaker left (λ f stands. inl stands) (begun_stands c one volume original d p opened table given acts left area does torn)
+      Before (begun_stands c one volume original d p opened table given acts left area does torn)
   stopped_given table acts given (MismatchIn segment) left area room same does torn =
-      some_weaker left (λ f stands. inl stands) (begun_stands c one volume original d p opened table given acts left area does torn)
+      Before (begun_stands c one volume original d p opened table given acts left area does torn)
 
   pub stopped_volume : (acts : List Act) (answer : CopyStatus) (left : Option Cartridge) → CopiesVolume (side_for c one) volume.entry (side_for d p) acts answer →
-      Torn (steps_of acts) (Some d) left → IsSomeAnd left (λ f. Stands f p ⊎ Stands f next)
+      Torn (steps_of acts) (Some d) left → StoppedIn p (length content) next left
   stopped_volume acts answer left (inl lost) torn = absurd (never_lost d p.table_area lost.lost held.table lost.says)
   stopped_volume acts answer left (inr (table, reads, inl full)) torn =
-      some_weaker left (λ f stands. inl stands)
-      (full_stands c one volume original d p opened table acts answer left (standing_data d p table held.stands reads) full torn)
+      Before (full_stands c one volume original d p opened table acts answer left (standing_data d p table held.stands reads) full torn)
   stopped_volume acts answer left (inr (table, reads, inr is)) torn =
       stopped_given table acts is.bytes is.ending left (standing_data d p table held.stands reads) is.room (given_is c one volume original d p opened acts answer table is) is.does torn
 
 -- ---- volumes one after the other
 
--- how many of some volumes stand behind those of a plain cartridge
+-- how many of some volumes stand behind those of a plain cartridge, which are then like those of the source
 pub record StandsWith (one : Plain) (volumes : List Volume) (p : Plain) (left : Option Cartridge) : Type 0 where
   pub count : ℕ
   pub within : count ≤ length volumes
   pub stands : IsSomeAnd left (λ d. Stands d (with_all p (contents_of one.words (take count volumes))))
+  pub like : BeginsLike one (with_all p (contents_of one.words (take count volumes)))
 
-some_split : (P Q : Cartridge → Type 0) (left : Option Cartridge) → IsSomeAnd left (λ d. P d ⊎ Q d) → IsSomeAnd left P ⊎ IsSomeAnd left Q
-some_split P Q None fact = absurd fact
-some_split P Q (Some d) fact = fact
+abbrev pub entries_in : List Volume → List Entry
+entries_in volumes = map (λ volume. volume.entry) volumes
+
+pub stands_none : (one : Plain) (volumes : List Volume) (p : Plain) (left : Option Cartridge) → BeginsLike one p → IsSomeAnd left (λ d. Stands d p) → StandsWith one volumes p left
+stands_none one volumes p left like stands = record { count = 0; within = omega arith; stands = stands; like = like }
+
+abbrev pub with_volume : (one : Plain) → Plain → Volume → Plain
+with_volume one p volume = with_bytes p volume.entry.name volume.entry.date (volume_bytes one.words volume)
+
+pub stands_more : (one : Plain) (volume : Volume) (volumes : List Volume) (p : Plain) (left : Option Cartridge) →
+    StandsWith one volumes (with_volume one p volume) left → StandsWith one (volume ∷ volumes) p left
+stands_more one volume volumes p left behind =
+    record { count = suc behind.count; within = (let few = behind.within in omega arith); stands = behind.stands; like = behind.like }
 
 module _ (c : Cartridge) (one : Plain) where
-  entries : List Volume → List Entry
-  entries volumes = map (λ volume. volume.entry) volumes
+  -- the next volume, where these are missing
+  module _ (volume : Volume) (volumes : List Volume) (are : All (IsOriginal c one) (volume ∷ volumes)) (d : Cartridge) (p : Plain) (held : IsOpen d p) (like : BeginsLike one p) (is : behind one p ≡ volume ∷ volumes) where
+    abbrev pub first_is : IsOriginal c one volume
+    first_is = All-head (IsOriginal c one) volume volumes are
 
-  stands_none : (volumes : List Volume) (p : Plain) (left : Option Cartridge) → IsSomeAnd left (λ d. Stands d p) → StandsWith one volumes p left
-  stands_none volumes p left stands = record { count = 0; within = omega arith; stands = stands }
+    pub like_next : has_room p (length (volume_bytes one.words volume)) ≡ true → BeginsLike one (with_volume one p volume)
+    like_next room = next_like c one volume first_is p d volumes held.cartridge held.stands room like is
 
-  stands_more : (volume : Volume) (volumes : List Volume) (p : Plain) (left : Option Cartridge) →
-      StandsWith one volumes (with_bytes p volume.entry.name volume.entry.date (volume_bytes one.words volume)) left → StandsWith one (volume ∷ volumes) p left
-  stands_more volume volumes p left behind = record { count = suc behind.count; within = (let few = behind.within in omega arith); stands = behind.stands }
+    pub is_next : behind one (with_volume one p volume) ≡ volumes
+    is_next = next_behind c one volume first_is p volumes is
 
-  stands_either : (volume : Volume) (volumes : List Volume) (p : Plain) (left : Option Cartridge) →
-      IsSomeAnd left (λ d. Stands d p ⊎ Stands d (with_bytes p volume.entry.name volume.entry.date (volume_bytes one.words volume))) →
-      StandsWith one (volume ∷ volumes) p left
-  stands_either volume volumes p left stands =
-      let next : Plain = with_bytes p volume.entry.name volume.entry.date (volume_bytes one.words volume) in
-      elim (some_split (λ d. Stands d p) (λ d. Stands d next) left stands) [
-        | inl before ↦ stands_none (volume ∷ volumes) p left before
-        | inr behind ↦ stands_more volume volumes p left (stands_none volumes next left behind)
-      ]
+    pub stands_either : (left : Option Cartridge) → StoppedIn p (length (volume_bytes one.words volume)) (with_volume one p volume) left → StandsWith one (volume ∷ volumes) p left
+    stands_either left (Before stands) = stands_none one (volume ∷ volumes) p left like stands
+    stands_either left (After room stands) = stands_more one volume volumes p left (stands_none one volumes (with_volume one p volume) left (like_next room) stands)
 
-  pub copies_stopped : (volumes : List Volume) → All (IsOriginal c one) volumes → (d : Cartridge) (p : Plain) → IsKept d p → (acts : List Act) (answer : CopyStatus) (left : Option Cartridge) →
-      Copies (side_for c one) (map (λ volume. volume.entry) volumes) (side_for d p) acts answer → Torn (steps_of acts) (Some d) left → StandsWith one volumes p left
-  copies_stopped [] are d p held acts answer left (is, done) torn =
-      stands_none [] p left (some_and (λ f. Stands f p) d left held.stands (subst (λ (zs : List Act). Torn (steps_of zs) (Some d) left) is torn))
-  copies_stopped (volume ∷ volumes) are d p held acts answer left (inl (other, does)) torn =
-      stands_either volume volumes p left
+    -- what is copied behind it
+    pub copies_next : (first rest : List Act) (answer : CopyStatus) → Copies (side_for c one) (entries_in volumes) (behind_copy (side_for c one) volume.entry (side_for d p) first) rest answer →
+        Copies (side_for c one) (entries_in volumes) (side_for (changed_by (steps_of first) d) (with_volume one p volume)) rest answer
+    copies_next first rest answer behind =
+        subst (λ (side : Side). Copies (side_for c one) (entries_in volumes) side rest answer) (side_behind c one volume first_is d p held first) behind
+
+  pub copies_stopped : (volumes : List Volume) → All (IsOriginal c one) volumes → (d : Cartridge) (p : Plain) → IsKept d p → BeginsLike one p → behind one p ≡ volumes →
+      (acts : List Act) (answer : CopyStatus) (left : Option Cartridge) → Copies (side_for c one) (entries_in volumes) (side_for d p) acts answer →
+      Torn (steps_of acts) (Some d) left → StandsWith one volumes p left
+  copies_stopped [] are d p held like is acts answer left (does, done) torn =
+      stands_none one [] p left like (some_and (λ f. Stands f p) d left held.stands (subst (λ (zs : List Act). Torn (steps_of zs) (Some d) left) does torn))
+  copies_stopped (volume ∷ volumes) are d p held like is acts answer left (inl (other, does)) torn =
+      stands_either volume volumes are d p (kept_open d p held) like is left
       (stopped_volume c one volume (All-head (IsOriginal c one) volume volumes are) d p held acts answer left does torn)
-  copies_stopped (volume ∷ volumes) are d p held acts answer left (inr (first, rest, parts, does, behind)) torn =
+  copies_stopped (volume ∷ volumes) are d p held like is acts answer left (inr (first, rest, parts, does, behind)) torn =
       let original : IsOriginal c one volume = All-head (IsOriginal c one) volume volumes are in
-      let next : Plain = with_bytes p volume.entry.name volume.entry.date (volume_bytes one.words volume) in
+      let opened : IsOpen d p = kept_open d p held in
       elim (acts_stopped first rest acts d left parts torn) [
-        | inl here ↦ stands_either volume volumes p left (stopped_volume c one volume original d p held first status.Done left does here)
-        | inr later ↦ stands_more volume volumes p left
-            (copies_stopped volumes (All-tail (IsOriginal c one) volume volumes are) (changed_by (steps_of first) d) next (kept_behind c one volume original d p held first does) rest answer left
-            (subst (λ (side : Side). Copies (side_for c one) (map (λ volume. volume.entry) volumes) side rest answer)
-            (side_behind c one volume original d p (kept_open d p held) first) behind) later)
+        | inl here ↦ stands_either volume volumes are d p opened like is left (stopped_volume c one volume original d p held first status.Done left does here)
+        | inr later ↦ stands_more one volume volumes p left
+            (copies_stopped volumes (All-tail (IsOriginal c one) volume volumes are) (changed_by (steps_of first) d) (with_volume one p volume)
+            (kept_behind c one volume original d p held first does)
+            (like_next volume volumes are d p opened like is (done_volume c one volume original d p opened first does).0) (is_next volume volumes are d p opened like is)
+            rest answer left (copies_next volume volumes are d p opened like is first rest answer behind) later)
       ]
 
   pub copies_done : (volumes : List Volume) → All (IsOriginal c one) volumes → (d : Cartridge) (p : Plain) → IsOpen d p → (acts : List Act) →
-      Copies (side_for c one) (map (λ volume. volume.entry) volumes) (side_for d p) acts status.Done → IsOpen (changed_by (steps_of acts) d) (with_all p (contents_of one.words volumes))
+      Copies (side_for c one) (entries_in volumes) (side_for d p) acts status.Done → IsOpen (changed_by (steps_of acts) d) (with_all p (contents_of one.words volumes))
   copies_done [] are d p held acts (is, done) = subst (λ (zs : List Act). IsOpen (changed_by (steps_of zs) d) p) (sym is) held
   copies_done (volume ∷ volumes) are d p held acts (inl (other, does)) = absurd (other refl)
   copies_done (volume ∷ volumes) are d p held acts (inr (first, rest, parts, does, behind)) =
       let original : IsOriginal c one volume = All-head (IsOriginal c one) volume volumes are in
-      let next : Plain = with_bytes p volume.entry.name volume.entry.date (volume_bytes one.words volume) in
+      let next : Plain = with_volume one p volume in
       let f : Cartridge = changed_by (steps_of first) d in
       let now : IsOpen (changed_by (steps_of rest) f) (with_all next (contents_of one.words volumes)) =
       copies_done volumes (All-tail (IsOriginal c one) volume volumes are) f next (open_behind c one volume original d p held first does) rest
-      (subst (λ (side : Side). Copies (side_for c one) (map (λ volume. volume.entry) volumes) side rest status.Done) (side_behind c one volume original d p held first) behind) in
+      (subst (λ (side : Side). Copies (side_for c one) (entries_in volumes) side rest status.Done) (side_behind c one volume original d p held first) behind) in
       subst (λ (g : Cartridge). IsOpen g (with_all next (contents_of one.words volumes)))
       (sym (ap (λ (zs : List Act). changed_by (steps_of zs) d) (sym parts) ∙ changed_by_acts first rest d)) now

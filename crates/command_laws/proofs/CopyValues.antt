@@ -4,12 +4,12 @@ use Rattle.std.specs.Option.{option_map}
 use Rattle.std.proofs.Math.Nat.{pow-suc}
 use Rattle.std.proofs.lemmas.List.{append-nil, length-drop, length-map, length-take-le}
 use Rattle.std.proofs.lemmas.List.Elements.{All-append, All-contains_itself, All-drop, All-from_get_or, All-get_or, All-head, All-tail, All-take, All-contains}
-use Rattle.std.proofs.lemmas.Option.{slice_get-get_or, slice_get-map, same_Some, unwrap_or-slice_get}
+use Rattle.std.proofs.lemmas.Option.{slice_get-get_or, slice_get-map, get_or_from_slice_get, same_Some, unwrap_or-slice_get}
 use Rattle.cartridge_spec.specs.Appending.{bytes_in, volume_bytes}
 use Rattle.cartridge_spec.specs.Formatting.{IsLabel}
 use Rattle.cartridge_spec.specs.HeaderAndTable.{IsArea}
 use Rattle.cartridge_spec.specs.Shape.{sector_at}
-use Rattle.cartridge_spec.specs.Table.{Entry, entry_in, slot}
+use Rattle.cartridge_spec.specs.Table.{Entry, Shows, entry_in, slot}
 use Rattle.cartridge_spec.specs.Volumes.{Plain, Stands, Volume, entries_of, volume_length}
 use Rattle.command_laws.proofs.RestoreGiven.{given_begins_restored}
 use Rattle.command_laws.proofs.RestoreStanding.{few_or_first_lost, restores_byte_for_byte, restores_front}
@@ -67,6 +67,20 @@ module _ (area : List (List ℕ)) (is : IsArea area) (i : ℕ) (within : i < 232
   date_is : (entry_in (slot area i)).date < 2 ^ 32
   date_is = date_below (slot area i) slot_bytes
 
+-- an entry that can be appended to a list
+pub record HasValues (e : Entry) : Type 0 where
+  pub label : IsLabel e.name
+  pub word : e.date < 2 ^ 32
+
+slot_has : (area : List (List ℕ)) (i : ℕ) → IsArea area → i < 232 → HasValues (entry_in (slot area i))
+slot_has area i is within = record { label = name_is area is i within; word = date_is area is i within }
+
+-- so is each that a table shows
+pub shown_values : (area : List (List ℕ)) (entries : List Entry) → IsArea area → Shows area entries → All HasValues entries
+shown_values area entries is shown = λ i d within.
+    let few : length entries ≤ 232 = shown.room in
+    subst HasValues (sym (get_or_from_slice_get entries i (entry_in (slot area i)) d (shown.shown i within))) (slot_has area i is (omega arith))
+
 -- ---- a volume's bytes
 
 sectors_bytes : (sectors : List (List ℕ)) → All IsSector sectors → All (λ b. b < 256) (bytes_in sectors)
@@ -83,28 +97,24 @@ pub record IsOriginal (c : Cartridge) (one : Plain) (volume : Volume) : Type 0 w
   pub may : IsAppendable volume.entry.name volume.entry.date (volume_bytes one.words volume)
 
 module _ (c : Cartridge) (one : Plain) (stands : Stands c one) where
-  -- its entry is that of its slot
-  entry_is : (i : ℕ) (d : Volume) → i < length one.volumes → (get_or one.volumes i d).entry ≡ entry_in (slot one.table_area i)
-  entry_is i d within =
+  values : (i : ℕ) (d : Volume) → i < length one.volumes → HasValues (get_or one.volumes i d).entry
+  values i d within =
       let long : length (entries_of one) ≡ length one.volumes = length-map one.volumes (λ (v : Volume). v.entry) in
-      same_Some (get_or one.volumes i d).entry (entry_in (slot one.table_area i))
-      (sym (slice_get-map (λ (v : Volume). v.entry) one.volumes i
-      ∙ ap (option_map (λ (v : Volume). v.entry)) (slice_get-get_or one.volumes i d within))
-      ∙ stands.shown.shown i (omega arith))
+      let here : slice_get (entries_of one) i ≡ Some (get_or one.volumes i d).entry =
+      slice_get-map (λ (v : Volume). v.entry) one.volumes i ∙ ap (option_map (λ (v : Volume). v.entry)) (slice_get-get_or one.volumes i d within) in
+      subst HasValues (get_or_from_slice_get (entries_of one) i (get_or one.volumes i d).entry d.entry here)
+      (All-get_or HasValues (entries_of one) i d.entry (omega arith) (shown_values one.table_area (entries_of one) stands.whole.table_area stands.shown))
 
   original : (i : ℕ) (d : Volume) → i < length one.volumes → IsOriginal c one (get_or one.volumes i d)
   original i d within =
       let volume : Volume = get_or one.volumes i d in
-      let long : length (entries_of one) ≡ length one.volumes = length-map one.volumes (λ (v : Volume). v.entry) in
-      let few : length (entries_of one) ≤ 232 = stands.shown.room in
-      let small : i < 232 = omega arith in
-      let is : volume.entry ≡ entry_in (slot one.table_area i) = entry_is i d within in
       let among : Contains one.volumes volume = All-get_or (Contains one.volumes) one.volumes i d within (All-contains_itself one.volumes) in
+      let has : HasValues volume.entry = values i d within in
       record {
         has = record { stands = stands; among = among };
         may = record {
-          label = subst (λ (e : Entry). IsLabel e.name) (sym is) (name_is one.table_area stands.whole.table_area i small);
-          word = subst (λ (e : Entry). e.date < 2 ^ 32) (sym is) (date_is one.table_area stands.whole.table_area i small);
+          label = has.label;
+          word = has.word;
           content = All-take (λ b. b < 256) (volume_length one.words volume.entry) (bytes_in volume.area)
               (sectors_bytes volume.area (All-contains (λ (v : Volume). All IsSector v.area) one.volumes volume stands.whole.areas among));
         };

@@ -28,6 +28,10 @@ pub mod DeepScrubEnds
 pub mod DeepScrubKept
 pub mod CopyOnce
 pub mod CopyLeaving
+pub mod CopyGoing
+pub mod CopyLeaving
+pub mod CopyOnce
+pub mod CopyOutcomes
 pub mod CopyStanding
 pub mod CopyValues
 pub mod InputActLaws

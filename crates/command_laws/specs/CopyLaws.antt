@@ -71,14 +71,8 @@ CopyWithRoomIsDone =
 
 -- ---- a copy that goes on
 
--- what some of the missing volumes were added to is like the source, too; and with the rest of them it is what it would have been
--- without a stop
-pub record GoesOn (one other : Plain) (upto : ℕ) : Type 0 where
-  pub like : BeginsLike one (copied one other upto)
-  pub count : length (copied one other upto).volumes ≡ upto
-  pub further : (n : ℕ) → upto ≤ n → copied one (copied one other upto) n ≡ copied one other n
-
+-- behind some of the missing volumes the rest of them makes what all of them would have made
 abbrev pub CopyGoesOn : Type 0
 CopyGoesOn =
-    (c : Cartridge) (one other : Plain) (upto : ℕ) → Stands c one → BeginsLike one other →
-    length other.volumes ≤ upto → upto ≤ length one.volumes → GoesOn one other upto
+    (one other : Plain) (upto n : ℕ) → length other.volumes ≤ upto → upto ≤ n → upto ≤ length one.volumes →
+    copied one (copied one other upto) n ≡ copied one other n

@@ -39,12 +39,14 @@ pub record StandAlike (c : Cartridge) (from : Plain) (d : Cartridge) (to : Plain
   pub like : BeginsLike from to
   pub live : IsTableLive d
 
--- what is left of the target stands for it with the volumes of the source up to this one
+-- What is left of the target stands for it with the volumes of the source up to this one, and is like the source in all of these: so
+-- a next copy goes on behind them.
 pub record StandsUpTo (from to : Plain) (left : Option Cartridge) : Type 0 where
   pub upto : ℕ
   pub least : length to.volumes ≤ upto
   pub most : upto ≤ length from.volumes
   pub stands : IsSomeAnd left (λ d. Stands d (copied from to upto))
+  pub like : BeginsLike from (copied from to upto)
 
 -- the lines of copied volumes of these lengths, from this number on
 abbrev pub copied_lines : (number : ℕ) → (lengths : List ℕ) → List ℕ
