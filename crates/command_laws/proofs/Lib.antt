@@ -29,8 +29,6 @@ pub mod DeepScrubKept
 pub mod CopyOnce
 pub mod CopyLeaving
 pub mod CopyGoing
-pub mod CopyLeaving
-pub mod CopyOnce
 pub mod CopyOutcomes
 pub mod CopyStanding
 pub mod CopyValues
