@@ -55,7 +55,8 @@ fn look_at_front<T: Tape, K: Sink>(
 
 /// Looks at both header copies, the table's segment and the carrying segments of all volumes, ascending. In each that
 /// reads, the usable sectors that can't be read are written again, ascending, and nothing else; a line is printed for
-/// each that doesn't. The last line has the counts.
+/// each that doesn't. A sector that is found to hold wrong bytes, which `Depth::Deep` looks for in all of them but the
+/// table's, counts as one that can't be read, and has a line. The last line has the counts.
 pub fn scrub_segments<T: Tape, K: Sink>(
     host: &mut Host,
     unit: &mut Unit<T>,
