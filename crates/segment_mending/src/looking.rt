@@ -14,6 +14,7 @@ use crate::fault::ScrubFault;
 use crate::lines::{header_text, lost_text, mismatch_text};
 use crate::mending::{is_header, mend, pass_over};
 use crate::report::ScrubReport;
+use command_spec::Depth;
 use drive_states::Unit;
 use host_driver::Host;
 use qic_base::{Sink, Tape};
@@ -23,6 +24,7 @@ use segment_io::{SegFault, Workspace, read_segment};
 pub(crate) fn look_at_copy<T: Tape, K: Sink>(
     host: &mut Host,
     unit: &mut Unit<T>,
+    depth: Depth,
     copy: u32,
     work: &mut Workspace,
     sink: &mut K,
@@ -33,7 +35,7 @@ pub(crate) fn look_at_copy<T: Tape, K: Sink>(
     requires writable { MayWrite unit.old.drive.deck }
     requires copy { copy < 2 }
     requires few { HasFew (2 ^ 26) (reported report.old) }
-    ensures looks { Looks T.means K.means (whole_segment copy ∷ [])
+    ensures looks { Looks T.means K.means depth (whole_segment copy ∷ [])
         (around unit.old.tape sink.old) (around unit.new.tape sink.new)
         (reported report.old) (reported report.new) result }
     ensures keeps { Keeps T.means host.new unit.old unit.new }
@@ -55,6 +57,7 @@ pub(crate) fn look_at_copy<T: Tape, K: Sink>(
 pub(crate) fn look_at_segment<T: Tape, K: Sink>(
     host: &mut Host,
     unit: &mut Unit<T>,
+    depth: Depth,
     segment: u32,
     usable: u32,
     work: &mut Workspace,
@@ -66,7 +69,7 @@ pub(crate) fn look_at_segment<T: Tape, K: Sink>(
     requires writable { MayWrite unit.old.drive.deck }
     requires behind { 2 ≤ segment }
     requires few { HasFew (2 ^ 26) (reported report.old) }
-    ensures looks { Looks T.means K.means (record { segment = segment; mask = usable } ∷ [])
+    ensures looks { Looks T.means K.means depth (record { segment = segment; mask = usable } ∷ [])
         (around unit.old.tape sink.old) (around unit.new.tape sink.new)
         (reported report.old) (reported report.new) result }
     ensures keeps { Keeps T.means host.new unit.old unit.new }
