@@ -182,25 +182,3 @@ names_with_wrong c l place lost places within names here others i =
             λ u. (others i apart).1 ((names i).1 (subst (λ (o : Option SectorView). IsSomeAnd o IsUnreadable) as_it_was u)),
           )
     ]
-
--- ---- where no wrong sector is looked for
-
-pub unsearched : (depth : Depth) (c : Cartridge) (l : Looked) (found : Found) (sectors : List (List ℕ)) → (IsSearched depth l → ⊥) →
-    IsFound depths.Shallow c l found sectors → IsFound depth c l found sectors
-unsearched depth c l (Reads places None) sectors not is = record { finds = (is.finds.0, λ searched. absurd (not searched)); places = is.places }
-unsearched depth c l (Reads places (Some sector)) sectors not is = absurd (is.finds.0)
-unsearched depth c l (Fails why) sectors not is = record { finds = (is.finds.0, λ searched. absurd (not searched)); places = tt }
-
-pub may_unsearched : (depth : Depth) (l : Looked) (found : Found) (sectors : List (List ℕ)) → MayBe depths.Shallow l found sectors →
-    MayBe depth l found sectors
-may_unsearched depth l (Reads places wrong) sectors may = record {
-  within = may.within;
-  code = may.code;
-  can_be_read = may.can_be_read;
-  may = by_wrong wrong may.may;
-}
-  where
-    by_wrong : (wrong : Option ℕ) → MayFind depths.Shallow l (data_in l sectors) wrong → MayFind depth l (data_in l sectors) wrong
-    by_wrong None fact = tt
-    by_wrong (Some sector) fact = absurd (fact.0)
-may_unsearched depth l (Fails why) sectors may = may

@@ -114,6 +114,9 @@ counted_unread l why sectors before after not_read is =
       few = omega arith;
     }
 
+abbrev fails : ScrubFault → Result (Unit {0}) ScrubFault
+fails why = Err why
+
 -- ---- runs
 
 module _ {T K : Type 0} (t : tapes.Meaning T) (k : sinks.Meaning K) where
@@ -141,6 +144,12 @@ module _ {T K : Type 0} (t : tapes.Meaning T) (k : sinks.Meaning K) where
     source_later = omega arith;
   }
 
+  pub goes_failed : ((x : K) → k.took x [] x) → (a b : T) (s : K) (act : Act) (result : Result (Unit {0}) ScrubFault) (why : ScrubFault) → result ≡ Err why →
+      IsOkUnless (fails why) fault.Tape → tapes.Broke t a b act.steps → GoesAs t k act (around a s) (around b s) result
+  goes_failed nothing a b s act result fault.Tape is sound broke =
+      subst (λ (r : Result (Unit {0}) ScrubFault). GoesAs t k act (around a s) (around b s) r) (sym is) (goes_broken nothing a b s act broke)
+  goes_failed nothing a b s act result fault.Sink is sound broke = cc
+
   -- behind a reading
   pub goes_behind : ((x : K) → k.took x [] x) → TakesBoth k → (a m : T) (s : K) (c : Outside T (Unit {0}) K) (act : Act)
       (result : Result (Unit {0}) ScrubFault) →
@@ -156,7 +165,7 @@ module _ {T K : Type 0} (t : tapes.Meaning T) (k : sinks.Meaning K) where
       by_answer (Err fault.Tape) cut = went_then_cut t no_source k both (around a s) (around m s) c [] (act ∷ []) TapeFails first cut
 
   -- the reading failed
-  pub read_cut : ((x : K) → k.took x [] x) → (depth : Depth) (l : Looked) (a b : T) (s : K) → tapes.Broke t a b [] →
+  read_cut : ((x : K) → k.took x [] x) → (depth : Depth) (l : Looked) (a b : T) (s : K) → tapes.Broke t a b [] →
       LookingCut t k depth (l ∷ []) (around a s) (around b s) TapeFails
   read_cut nothing depth l a b s broke =
       let none : Cut t no_source k (around a s) (around b s) [] TapeFails = record {
@@ -217,3 +226,8 @@ module _ {T K : Type 0} (t : tapes.Meaning T) (k : sinks.Meaning K) where
   }
   looks_once depth l a b f act before after (Err fault.Sink) are cut counted = act_cut depth l a b SinkFails f act are cut
   looks_once depth l a b f act before after (Err fault.Tape) are cut counted = act_cut depth l a b TapeFails f act are cut
+
+  pub looks_failed : ((x : K) → k.took x [] x) → (depth : Depth) (l : Looked) (a b : T) (s : K) (before after : Counts) (why : ScrubFault) →
+      IsOkUnless (fails why) fault.Tape → tapes.Broke t a b [] → Looks t k depth (l ∷ []) (around a s) (around b s) before after (Err why)
+  looks_failed nothing depth l a b s before after fault.Tape sound broke = read_cut nothing depth l a b s broke
+  looks_failed nothing depth l a b s before after fault.Sink sound broke = cc

@@ -33,7 +33,7 @@ const SECTORS: u8 = 32;
 const SIGNATURE: u32 = 0xAA55_AA55;
 
 /// What is found of a segment.
-#[derive(Drop)]
+#[derive(Clone, Copy)]
 pub(crate) enum Found {
     /// It reads: the places to be written, and among them the sector with this index, which can be read and is wrong.
     Reads {
@@ -45,7 +45,7 @@ pub(crate) enum Found {
 }
 
 /// Why a segment does not read.
-#[derive(Clone, Copy, Drop)]
+#[derive(Clone, Copy)]
 pub(crate) enum Unread {
     /// A header copy's data begin with no header's signature.
     NoHeader,

@@ -90,11 +90,11 @@ fn look_at<T: Tape, K: Sink>(
         (reported report.old) (reported report.new) result }
     ensures keeps { Keeps T.means host.new unit.old unit.new }
 {
-    match find_in_segment(host, unit, depth, segment, usable, work) {
-        Ok(Found::Reads { places, wrong }) => mend(
+    let found = find_in_segment(host, unit, depth, segment, usable, work)?;
+    match found {
+        Found::Reads { places, wrong } => mend(
             host, unit, segment, usable, places, wrong, work, sink, report,
         ),
-        Ok(Found::Fails(why)) => pass_over(&unread_text(segment, why), sink, report),
-        Err(fault) => Err(fault),
+        Found::Fails(why) => pass_over(&unread_text(segment, why), sink, report),
     }
 }
