@@ -113,7 +113,17 @@ pub(crate) fn look_at_volumes<T: Tape, K: Sink>(
 {
     for index in 0..table.len() {
         let entry = table.entry(index);
-        look_at_volume(host, unit, depth, map, entry.start, entry.end, work, sink, report)?;
+        look_at_volume(
+            host,
+            unit,
+            depth,
+            map,
+            entry.start,
+            entry.end,
+            work,
+            sink,
+            report,
+        )?;
     }
     Ok(())
 }
