@@ -52,18 +52,21 @@ wrong_of_deep c l place block within deep can =
       index = refl;
       mismatch = (omega arith, deep.none_agrees);
       few = few;
-      says = (omega arith, record {
-        block = block;
-        code = deep.code;
-        agrees = record {
-          size = deep.agrees.size ∙ size_of_worn c d l;
-          each = λ i bytes at. elim (cases_eq i place) [
-            | inl same ↦ absurd (cell_worn c l place sector bytes here (subst (λ (p : ℕ). slice_get (cells_at d l) p ≡ Some (Holds bytes)) same at))
-            | inr apart ↦ deep.agrees.each i bytes apart (held_before c d l.segment l.mask i bytes (worn_reads_no_more c l.segment sector) at)
-          ];
-        };
-        shown = refl;
-      });
+      says = (
+        omega arith,
+        record {
+          block = block;
+          code = deep.code;
+          agrees = record {
+            size = deep.agrees.size ∙ size_of_worn c d l;
+            each = λ i bytes at. elim (cases_eq i place) [
+              | inl same ↦ absurd (cell_worn c l place sector bytes here (subst (λ (p : ℕ). slice_get (cells_at d l) p ≡ Some (Holds bytes)) same at))
+              | inr apart ↦ deep.agrees.each i bytes apart (held_before c d l.segment l.mask i bytes (worn_reads_no_more c l.segment sector) at)
+            ];
+          };
+          shown = refl;
+        },
+      );
       can_be_read = can;
     }
 

@@ -36,10 +36,7 @@ const SIGNATURE: u32 = 0xAA55_AA55;
 #[derive(Clone, Copy)]
 pub(crate) enum Found {
     /// It reads: the places to be written, and among them the sector with this index, which can be read and is wrong.
-    Reads {
-        places: LostSet,
-        wrong: Option<u8>,
-    },
+    Reads { places: LostSet, wrong: Option<u8> },
     /// It does not.
     Fails(Unread),
 }
@@ -241,7 +238,7 @@ fn can_be_read(segment: u32, work: &Workspace) -> bool
     requires room { length work.now ≡ 32 }
     ensures { (usable : ℕ) → (segment < 2 → usable ≡ whole_mask) →
         reads (record { segment = segment; mask = usable })
-            (data_in (record { segment = segment; mask = usable }) work.now) ≡ result }
+        (data_in (record { segment = segment; mask = usable }) work.now) ≡ result }
 {
     segment >= HEADER_COPIES || is_header(work)
 }
