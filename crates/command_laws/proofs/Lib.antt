@@ -24,6 +24,7 @@ pub mod CommandTold
 pub mod CommandTotals
 pub mod CommandValues
 pub mod CommandVolumes
+pub mod CopyComplete
 pub mod CopyGoing
 pub mod CopyLeaving
 pub mod CopyOnce
