@@ -26,6 +26,9 @@ pub mod CommandValues
 pub mod CommandVolumes
 pub mod DeepScrubEnds
 pub mod DeepScrubKept
+pub mod CopyComplete
+pub mod CopyGoing
+pub mod CopyLeaving
 pub mod CopyOnce
 pub mod CopyLeaving
 pub mod CopyGoing
