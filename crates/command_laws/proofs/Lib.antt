@@ -30,8 +30,6 @@ pub mod CopyComplete
 pub mod CopyGoing
 pub mod CopyLeaving
 pub mod CopyOnce
-pub mod CopyLeaving
-pub mod CopyGoing
 pub mod CopyOutcomes
 pub mod CopyStanding
 pub mod CopyValues
