@@ -1,5 +1,5 @@
-//! The segments of a cartridge are looked at, and sectors that can't be read or hold wrong bytes written again where they
-//! can be found. No call takes memory.
+//! The segments of a cartridge are looked at, and sectors that can't be read, or that hold wrong bytes, written again where
+//! they can be found. No call takes memory.
 #![tactic(auto)]
 
 mod fault;

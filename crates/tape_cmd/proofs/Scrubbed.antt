@@ -13,7 +13,7 @@ use Rattle.drive_spec.specs.Deck.{is_protected}
 use Rattle.drive_states.specs.Unit.{UnitView}
 use Rattle.cartridge_laws.proofs.MountOnce.{mounts_is_function}
 use Rattle.command_spec.specs.Scrub.{Scrubs, counts_of, looked_at}
-use Rattle.segment_mending.specs.Mending.{HasScrubbed, ScrubCut, reported}
+use Rattle.segment_mending.specs.Mending.{reported}
 use Rattle.segment_mending.specs.declared.report.ScrubReport.{ScrubReport}
 use Rattle.command_spec.specs.declared.words.Words.TheVariants as words
 use Rattle.volume_store.proofs.Copies.{tells_two}
@@ -21,7 +21,7 @@ use Rattle.std.specs.Prelude.{◌↔◌}
 use Rattle.volume_store.specs.declared.fault.StoreFault.{StoreFault}
 use Rattle.volume_store.specs.declared.fault.StoreFault.TheVariants as fault
 use Rattle.volume_store.specs.Mounting.{StoreView}
-use Rattle.volume_store.specs.Scrubbing.{MendEnds}
+use Rattle.volume_store.specs.Scrubbing.{HasMended, MendCut, MendEnds}
 use Rattle.command_spec.specs.declared.status.Status.{Status}
 use Rattle.command_spec.specs.declared.status.Status.TheVariants as status
 use Rattle.command_spec.specs.Outcome.{Opened}
@@ -82,7 +82,7 @@ module _ {T K : Type 0} (t : tapes.Meaning T) (k : sinks.Meaning K) (a : T) (b :
 
   -- it was scrubbed
   pub scrubbed : (c : T) (x y : K) (report : ScrubReport) → TakesBoth k → ((z : K) → k.took z [] z) → is_protected b.drive.deck ≡ false →
-      HasScrubbed t k store.words store.entries (around b.tape x) (around c y) report → EndsBlind t k words.Scrub a c x y status.Done
+      HasMended t k store.words store.entries (around b.tape x) (around c y) report → EndsBlind t k words.Scrub a c x y status.Done
   scrubbed c x y report both nothing free did =
       let P : Cartridge → Type 0 = λ d. (scrubs : Scrubs d store.words store.entries did.acts) × (reported report ≡ counts_of d (looked_at store.words store.entries) scrubs.sayings) in
       inl (record {
@@ -137,7 +137,7 @@ module _ {T K : Type 0} (t : tapes.Meaning T) (k : sinks.Meaning K) (a : T) (b :
 
   -- a fault cut that off
   pub scrub_cut : (c : T) (x y : K) (failing : Failing) → failing ≢ SourceFails → TakesBoth k → ((z : K) → k.took z [] z) → is_protected b.drive.deck ≡ false →
-      ScrubCut t k store.words store.entries (around b.tape x) (around c y) failing → EndsBlind t k words.Scrub a c x y (fault_of failing)
+      MendCut t k store.words store.entries (around b.tape x) (around c y) failing → EndsBlind t k words.Scrub a c x y (fault_of failing)
   scrub_cut c x y failing other both nothing free cut =
       let P : Cartridge → Type 0 = λ d. (acts : List Act) → Scrubs d store.words store.entries acts → Cut t no_source k (around b.tape x) (around c y) acts failing in
       inr (
