@@ -14,20 +14,16 @@ use Rattle.command_laws.proofs.ScrubOneWrong.{IsPlace, wrong_place, cell_unworn,
 use Rattle.command_laws.proofs.ScrubSeen.{worn_here, worn_elsewhere}
 use Rattle.command_laws.proofs.ScrubStanding.{cell_at, same_place}
 use Rattle.command_spec.specs.Scrub.{Looked, cells_at, reads}
-use Rattle.command_spec.specs.ScrubForms.{IsSearched, IsWrong, HasFound, MayFind}
+use Rattle.command_spec.specs.ScrubForms.{IsSearched, IsWrong, HasFound}
 use Rattle.command_spec.specs.declared.depth.Depth.{Depth}
-use Rattle.command_spec.specs.declared.depth.Depth.TheVariants as depths
 use Rattle.qic_base.specs.Cartridge.{Cartridge, view_at}
 use Rattle.qic_base.specs.LostSet.{IsLost}
 use Rattle.qic_base.specs.Step.{worn_view}
 use Rattle.qic_base.specs.declared.tape.SectorView.{SectorView}
 use Rattle.qic_base.specs.declared.tape.SectorView.TheVariants.{Blank, Defect, Lost, Holds}
 use Rattle.segment_io.specs.Gathered.{IsUnreadableAt, NamesUnreadable}
-use Rattle.segment_mending.specs.Locating.{data_in, IsFound, MayMend, MayBe}
-use Rattle.segment_mending.specs.declared.locating.Found.{Found}
-use Rattle.segment_mending.specs.declared.locating.Found.TheVariants.{Reads, Fails}
 use Rattle.silent_locate.proofs.Readings.{one_deep_reading}
-use Rattle.silent_locate.specs.Deep.{IsWrongAt, Deep, HasNoReading}
+use Rattle.silent_locate.specs.Deep.{Deep, HasNoReading}
 
 -- the index of the usable sector at a place
 abbrev pub index_at : Looked → ℕ → ℕ

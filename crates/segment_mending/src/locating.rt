@@ -194,10 +194,12 @@ fn found_block(segment: u32, usable: u32, lost: LostSet, work: &Workspace) -> Fo
     requires whole { segment < 2 → usable ≡ whole_mask }
     requires within { lost < 2 ^ usable_count usable }
     requires code { IsCodeBlock (take (usable_count usable) work.now) }
-    ensures found { (depth : Depth) (c : Cartridge) → NamesUnreadable (cells_of c segment usable) lost →
+    ensures found { (depth : Depth) (c : Cartridge) →
+        NamesUnreadable (cells_of c segment usable) lost →
         deep.Deep (cells_of c segment usable) (take (usable_count usable) work.now) None →
         IsFound depth c (record { segment = segment; mask = usable }) result work.now }
-    ensures may { (depth : Depth) → MayBe depth (record { segment = segment; mask = usable }) result work.now }
+    ensures may { (depth : Depth) →
+        MayBe depth (record { segment = segment; mask = usable }) result work.now }
 {
     if can_be_read(segment, work) {
         Found::Reads {

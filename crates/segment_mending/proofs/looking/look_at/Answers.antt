@@ -1,4 +1,4 @@
-use Rattle.std.proofs.Common.{◌≡◌, ◌≤◌, ℕ, List, [], ◌∷◌, Option, Err, OnOk, arith, false, length, subst}
+use Rattle.std.proofs.Common.{◌≡◌, ◌≤◌, ℕ, List, [], ◌∷◌, Option, Err, arith, false, length, subst}
 use Rattle.qic_base.proofs.Steps.{Done-nothing}
 use Rattle.qic_base.specs.Acts.{around}
 use Rattle.qic_base.specs.Sink.{Writes}
@@ -10,7 +10,7 @@ use Rattle.segment_io.proofs.Going.{OnOk-then}
 use Rattle.segment_mending.specs.declared.fault.ScrubFault.{ScrubFault}
 use Rattle.segment_mending.specs.declared.locating.Found.TheVariants.{Reads, Fails}
 use Rattle.segment_mending.specs.declared.locating.Unread.{Unread}
-use Rattle.segment_mending.specs.Locating.{IsFound, MayMend, finding_of, mending, unread_saying, GoesAs}
+use Rattle.segment_mending.specs.Locating.{IsFound, MayMend, finding_of, mending, unread_saying}
 use Rattle.segment_mending.specs.Looking.{Counted, with_mended, with_unread}
 use Rattle.segment_mending.specs.Mending.{reported}
 use Rattle.segment_mending.proofs.Passing.{passed}
