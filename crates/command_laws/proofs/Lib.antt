@@ -27,6 +27,7 @@ pub mod CommandVolumes
 pub mod InputActLaws
 pub mod IntactKeeping
 pub mod IntactMade
+pub mod IntactScript
 pub mod LifeFormats
 pub mod LifeGrowing
 pub mod LifeLaws

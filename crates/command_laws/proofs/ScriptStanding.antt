@@ -404,7 +404,7 @@ no_entry : (kept : Kept) (name : List ℕ) (date n : ℕ) (reply : Entry → Lis
 no_entry kept name date n reply bytes true = refl
 no_entry kept name date n reply bytes false = refl
 
-early_entry : (kept : Kept) (name : List ℕ) (date n : ℕ) (reply : Entry → List ℕ) (bytes : List ℕ) → length bytes < n →
+pub early_entry : (kept : Kept) (name : List ℕ) (date n : ℕ) (reply : Entry → List ℕ) (bytes : List ℕ) → length bytes < n →
     steps_of (entry_acts kept name date reply (taking (room_in kept) (Some n) bytes)) ≡ []
 early_entry kept name date n reply bytes short =
     ap (λ (b : Bool). steps_of (entry_acts kept name date reply
@@ -412,7 +412,7 @@ early_entry kept name date n reply bytes short =
     ∙ no_entry kept name date n reply bytes (has_promised_room (room_in kept) (Some n))
 
 -- all that it writes behind the settling lies behind the volumes
-early_writes : (kept : Kept) (n : ℕ) (bytes : List ℕ) → AreWrites (IsFree (last_end kept.entries)) (steps_of (input_writes kept (Some n) bytes))
+pub early_writes : (kept : Kept) (n : ℕ) (bytes : List ℕ) → AreWrites (IsFree (last_end kept.entries)) (steps_of (input_writes kept (Some n) bytes))
 early_writes kept n bytes =
     writes_if (last_end kept.entries) (has_promised_room (room_in kept) (Some n)) (input_acts kept.words (free_in kept) n true bytes)
     (input_is_free (last_end kept.entries) kept.words (free_in kept) n true bytes

@@ -2,7 +2,7 @@
 //! lost. Each law is the contract of a function that does nothing; their proofs import the lemmas of this crate's `proofs`.
 
 ghost use Rattle.command_laws.specs.Intact.{SettledIsIntact, IntactComesBack, AppendsLeaveIntact, WearsLeaveIntact, ScrubsLeaveIntact};
-ghost use Rattle.command_laws.specs.Intact.{StoppedMakeComesBack, DoneMakeIsIntact};
+ghost use Rattle.command_laws.specs.Intact.{StoppedMakeComesBack, DoneMakeIsIntact, StoppedScriptComesBack};
 
 /// A cartridge is intact once its table was settled, where each sector of the table's segment takes a write; and then it
 /// comes back where one of these sectors is lost.
@@ -23,4 +23,9 @@ pub fn appends_wears_and_scrubs_leave_it_intact()
 pub fn a_run_comes_back()
     ensures stopped { StoppedMakeComesBack }
     ensures done { DoneMakeIsIntact }
+{}
+
+/// So does a script whose lines lose no sector of the segments 0 to 2, as far as it came.
+pub fn a_script_comes_back()
+    ensures { StoppedScriptComesBack }
 {}
