@@ -1,6 +1,8 @@
+pub mod BetweenCarrying
 pub mod CommandAdded
 pub mod CommandAppends
 pub mod CommandClean
+pub mod CommandComesBack
 pub mod CommandComplete
 pub mod CommandCompleting
 pub mod CommandEndings
