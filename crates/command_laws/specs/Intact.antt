@@ -9,9 +9,12 @@ use Rattle.cartridge_spec.specs.Settling.{changed_by}
 use Rattle.cartridge_spec.specs.Volumes.{Plain, entries_of}
 use Rattle.cartridge_spec.specs.Wear.{worn}
 use Rattle.command_laws.specs.MountedKept.{IsAppendable, IsKept, settle_and_append}
+use Rattle.command_laws.specs.ScriptStanding.{plain_behind}
 use Rattle.command_spec.specs.MadeVolumes.{made_contents}
 use Rattle.command_spec.specs.Make.{Answer, Done, Makes}
 use Rattle.command_spec.specs.OneLoss.{ComesBackAsOneOf, SomeComeBack}
+use Rattle.command_spec.specs.Script.{ScriptDoes, ScriptRun}
+use Rattle.command_spec.specs.ScriptLists.{CameFurther, ItemsWearBehind}
 use Rattle.command_spec.specs.Scrub.{Scrubs}
 use Rattle.qic_base.specs.Acts.{Act, steps_of}
 use Rattle.qic_base.specs.Cartridge.{Cartridge}
@@ -67,3 +70,13 @@ DoneMakeIsIntact =
     (seed count : ℕ) (c : Cartridge) (plain : Plain) (acts : List Act) → count ≤ 200 → IsIntact c plain →
     Makes seed count c plain.words (entries_of plain) acts Done →
     IsIntact (changed_by (steps_of acts) c) (with_all plain (made_contents seed 1 count))
+
+-- A script whose first lines wear no sector of the segments 0 to 2 leaves what comes back behind some of these, or the stop came
+-- further.
+abbrev pub StoppedScriptComesBack : Type 0
+StoppedScriptComesBack =
+    (c : Cartridge) (plain : Plain) (input : List ℕ) (outcome : ScriptRun) (left : Option Cartridge) → IsIntact c plain →
+    (does : ScriptDoes c plain.words (entries_of plain) input outcome) → All (λ b. b < 256) input →
+    (count : ℕ) → count ≤ length does.items → ItemsWearBehind (take count does.items) → Torn (steps_of outcome.acts) (Some c) left →
+    CameFurther c does.items does.dids does.last count left
+    ⊎ SomeComeBack (λ n. plain_behind plain (take n does.items) (take n does.dids)) count left

@@ -1,4 +1,5 @@
 pub mod ActStops
+pub mod Between
 pub mod CommandLaws
 pub mod CommandRecord
 pub mod CopyLaws
