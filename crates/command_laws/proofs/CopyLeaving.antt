@@ -59,7 +59,7 @@ pub copied_all : (one other : Plain) → copied one other (length one.volumes) �
 copied_all one other =
     ap (λ (vs : List Volume). with_all other (contents_of one.words (drop (length other.volumes) vs))) (take_all (length one.volumes) one.volumes (omega arith))
 
-pub up_to : (one other : Plain) (left : Option Cartridge) → BeginsLike one other → StandsWith one (behind one other) other left → StandsUpTo one other left
+abbrev pub up_to : (one other : Plain) (left : Option Cartridge) → BeginsLike one other → StandsWith one (behind one other) other left → StandsUpTo one other left
 up_to one other left like with =
     let few : length (behind one other) ≡ length one.volumes - length other.volumes = length-drop (length other.volumes) one.volumes in
     let some : with.count ≤ length (behind one other) = with.within in
