@@ -1,6 +1,6 @@
 -- The volumes whose lines a stopped copy has printed stand on its target.
-use Rattle.std.proofs.Common.{◌⊎◌, ◌≡◌, ◌≢◌, ℕ, zero, suc, ◌+◌, ◌-◌, ◌<◌, ◌≤◌, arith, List, [], ◌∷◌, ◌++◌, map, length, take, drop, All, Option, Some, None, IsSomeAnd, inl, inr, refl, sym, ap, ◌∙◌, subst, append-nil, append_assoc, length-append, codes, decimal}
-use Rattle.std.proofs.lemmas.List.{drop-map, drop-take, length-drop, length-map}
+use Rattle.std.proofs.Common.{◌⊎◌, ◌≡◌, ◌≢◌, ℕ, zero, suc, ◌+◌, ◌-◌, ◌<◌, ◌≤◌, arith, List, [], ◌∷◌, ◌++◌, length, take, drop, All, Option, Some, inl, inr, refl, sym, ap, ◌∙◌, subst, append-nil, append_assoc, length-append, codes, decimal}
+use Rattle.std.proofs.lemmas.List.{drop-map, drop-take, length-drop}
 use Rattle.std.proofs.lemmas.List.Elements.{All-head, All-tail}
 use Rattle.cartridge_laws.proofs.FormatWriting.{effects-some, some_and}
 use Rattle.cartridge_laws.proofs.MountKeeping.{stopped_stands}
@@ -15,15 +15,15 @@ use Rattle.command_laws.proofs.CopyOnce.{begun_text}
 use Rattle.command_laws.proofs.CopyStanding.{StandsWith, copies_next, copies_stopped, done_parts, done_text, done_volume, entries_in, is_next, kept_behind, last_acts, like_next, quiet_acts, quiet_text, side_for, stands_either, stands_more, stands_none, stopped_volume, with_volume}
 use Rattle.command_laws.proofs.CopyValues.{IsOriginal}
 use Rattle.command_laws.proofs.MadeAnswered.{quiet_front}
-use Rattle.command_laws.proofs.MountedFronts.{Past, Within, ends_in, front_within, no_nil}
-use Rattle.command_laws.proofs.MountedKeeping.{changed_by_acts, kept_open}
+use Rattle.command_laws.proofs.MountedFronts.{ends_in, front_within, no_nil}
+use Rattle.command_laws.proofs.MountedKeeping.{kept_open}
 use Rattle.command_laws.proofs.ScriptActs.{full_acts}
 use Rattle.command_laws.proofs.ScriptAnswered.{next_torn}
-use Rattle.command_laws.specs.ActStops.{Behind, Between, IsLeftBy}
+use Rattle.command_laws.specs.ActStops.{IsLeftBy}
 use Rattle.command_laws.specs.CopyLaws.{PrintedCopiesStand}
 use Rattle.command_laws.specs.MountedKept.{IsKept, IsOpen}
 use Rattle.command_spec.specs.Copied.{BeginsLike, StandAlike, StandsPrinted, copied_lines, lengths_of, lines_upto}
-use Rattle.command_spec.specs.Copying.{Copies, CopiesVolume, CopyOutcome, DoneOf, IsGiven, Side, copied_behind, copied_line, giving_status, kept_on, length_on}
+use Rattle.command_spec.specs.Copying.{Copies, CopiesVolume, CopyOutcome, DoneOf, Side, copied_behind, copied_line, giving_status, kept_on, length_on}
 use Rattle.command_spec.specs.Lines.{place_line}
 use Rattle.command_spec.specs.Outcome.{settling_act}
 use Rattle.command_spec.specs.Restore.{GivingEnd, LostIn, MismatchIn, Restored}
