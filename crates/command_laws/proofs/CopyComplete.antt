@@ -1,16 +1,16 @@
 -- A copy is Done where all is there that it needs.
-use Rattle.std.proofs.Common.{◌⊎◌, ◌≡◌, ℕ, zero, suc, ◌+◌, ◌-◌, ◌<◌, ◌≤◌, arith, Bool, true, false, List, [], ◌∷◌, ◌++◌, map, length, take, drop, All, Option, Some, None, inl, inr, refl, sym, ap, ◌∙◌, subst, get_or, get_or-drop, slice_get}
+use Rattle.std.proofs.Common.{◌≡◌, ℕ, zero, suc, ◌+◌, ◌-◌, arith, true, false, List, [], ◌∷◌, length, take, drop, All, Option, Some, inl, inr, refl, sym, ap, ◌∙◌, subst, get_or, get_or-drop, slice_get}
 use Rattle.std.proofs.lemmas.List.{length-drop}
 use Rattle.std.proofs.lemmas.List.Elements.{All-drop, All-get_or, All-head, All-tail}
 use Rattle.std.proofs.lemmas.Option.{slice_get-get_or}
 use Rattle.cartridge_laws.proofs.MountOnce.{mounts_is_function}
 use Rattle.cartridge_laws.proofs.MountSettled.{settled_stands}
 use Rattle.cartridge_laws.proofs.MountStanding.{standing_mounts}
-use Rattle.cartridge_spec.specs.Appending.{has_room, volume_bytes, with_all}
+use Rattle.cartridge_spec.specs.Appending.{has_room, with_all}
 use Rattle.cartridge_spec.specs.Mounting.{Mounting, Mounts, mounted_as, settled}
 use Rattle.cartridge_spec.specs.Settling.{changed_by}
 use Rattle.cartridge_spec.specs.Table.{Entry}
-use Rattle.cartridge_spec.specs.Volumes.{Plain, Stands, Volume, entries_of, volume_length}
+use Rattle.cartridge_spec.specs.Volumes.{Plain, Stands, Volume, volume_length}
 use Rattle.command_laws.proofs.CopyGoing.{behind}
 use Rattle.command_laws.proofs.CopyLeaving.{copied_some, missing_is}
 use Rattle.command_laws.proofs.CopyStanding.{entries_in, open_behind, room_is, side_behind, side_for, with_volume}
@@ -22,14 +22,14 @@ use Rattle.command_laws.proofs.RestoreStanding.{volume_is_long}
 use Rattle.command_laws.specs.CopyLaws.{CopyWithRoomIsDone}
 use Rattle.command_laws.specs.MountedKept.{IsOpen}
 use Rattle.command_spec.specs.Complete.{ReadsAs}
-use Rattle.command_spec.specs.Copied.{CanBeCopied, contents_of, copied}
-use Rattle.command_spec.specs.Copying.{Compares, Copies, CopiesVolume, CopyOutcome, CopyYields, FromMounted, Side, ToDoes, ToMounted, behind_copy, giving_status, has_room_for, missing}
+use Rattle.command_spec.specs.Copied.{contents_of}
+use Rattle.command_spec.specs.Copying.{Compares, Copies, CopiesVolume, FromMounted, Side, ToMounted, giving_status, has_room_for, missing}
 use Rattle.command_spec.specs.Outcome.{settling_act}
 use Rattle.command_spec.specs.Restore.{GivingEnd, LosesFew, LostIn, MismatchIn, Restored, Restores, ending_status, pieces_in}
 use Rattle.command_spec.specs.Commands.RestoreCommand.{HasNumber}
 use Rattle.command_spec.specs.declared.copy_status.CopyStatus.{CopyStatus}
 use Rattle.qic_base.specs.Acts.{Act, steps_of}
-use Rattle.qic_base.specs.Cartridge.{Cartridge, IsCartridge}
+use Rattle.qic_base.specs.Cartridge.{Cartridge}
 use Rattle.command_spec.specs.declared.copy_status.CopyStatus.TheVariants as status
 use Rattle.command_spec.specs.declared.status.Status.TheVariants as answers
 

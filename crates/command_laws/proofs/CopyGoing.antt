@@ -1,7 +1,7 @@
 -- A copy that goes on behind some of the missing volumes.
-use Rattle.std.proofs.Common.{◌≡◌, ℕ, zero, suc, ◌+◌, ◌-◌, ◌<◌, ◌≤◌, ◌==◌, ◌&&◌, arith, Bool, true, false, cond, List, [], ◌∷◌, ◌++◌, map, length, take, drop, Option, Some, None, refl, sym, ap, ◌∙◌, subst, eq-eqb, length-append, length-drop}
+use Rattle.std.proofs.Common.{◌≡◌, ℕ, zero, suc, ◌+◌, ◌-◌, ◌≤◌, ◌==◌, ◌&&◌, arith, Bool, true, false, cond, List, [], ◌∷◌, ◌++◌, map, length, take, drop, Some, None, refl, sym, ap, ◌∙◌, subst, eq-eqb, length-append, length-drop}
 use Rattle.std.specs.Str.{bytes_eq}
-use Rattle.std.proofs.lemmas.List.{drop-map, drop-take, length-map, length-take-le, map-append, take-append-drop}
+use Rattle.std.proofs.lemmas.List.{drop-map, length-map, length-take-le, map-append}
 use Rattle.std.proofs.lemmas.Slice.Eq.{bytes_eq-Decides}
 use Rattle.cartridge_laws.proofs.AppendBytes.{done_bytes}
 use Rattle.cartridge_laws.specs.AppendSettled.{MayAppendTo}

@@ -1,6 +1,5 @@
 -- What a copy leaves of both cartridges where these stand for plain ones, done or stopped.
-use Rattle.std.proofs.Common.{◌⊎◌, ◌≡◌, ℕ, zero, suc, ◌+◌, ◌-◌, ◌<◌, ◌≤◌, arith, Bool, true, false, cond, List, [], ◌∷◌, ◌++◌, map, length, take, drop, All, Option, Some, None, IsSomeAnd, inl, inr, refl, sym, ap, ◌∙◌, subst}
-use Rattle.std.proofs.lemmas.Bool.{cases_Bool}
+use Rattle.std.proofs.Common.{◌⊎◌, ◌≡◌, ℕ, ◌+◌, ◌-◌, ◌≤◌, arith, false, List, [], ◌∷◌, ◌++◌, map, length, take, drop, All, Option, Some, IsSomeAnd, inl, inr, refl, sym, ap, ◌∙◌, subst}
 use Rattle.std.proofs.lemmas.List.{drop-map, drop-take, length-drop, length-map, take_all}
 use Rattle.std.proofs.lemmas.List.Elements.{All-drop}
 use Rattle.cartridge_laws.proofs.FormatWriting.{changed_by-append, some_and}
@@ -17,13 +16,12 @@ use Rattle.cartridge_spec.specs.Volumes.{Plain, Stands, Volume, entries_of}
 use Rattle.command_laws.proofs.CopyGoing.{behind, like_within}
 use Rattle.command_laws.proofs.CopyStanding.{StandsWith, copies_done, copies_stopped, side_for, stands_none}
 use Rattle.command_laws.proofs.CopyValues.{IsOriginal, originals}
-use Rattle.command_laws.proofs.MadeMachineLaws.{never_unlocked}
 use Rattle.command_laws.proofs.MountedHeld.{mounted_open, settled_live}
 use Rattle.command_laws.proofs.MountedKeeping.{live_kept}
 use Rattle.command_laws.specs.CopyLaws.{DoneCopyStands, StoppedCopyStands, StoppedSourceStands}
 use Rattle.command_laws.specs.MountedKept.{IsKept, IsOpen}
-use Rattle.command_spec.specs.Copied.{BeginsLike, StandAlike, StandsUpTo, contents_of, copied, missing_contents}
-use Rattle.command_spec.specs.Copying.{Compares, Copies, CopyOutcome, CopyYields, FromMounted, Side, ToDoes, ToMounted, difference, first_difference, is_alike, missing, side_of}
+use Rattle.command_spec.specs.Copied.{BeginsLike, StandsUpTo, contents_of, copied}
+use Rattle.command_spec.specs.Copying.{Compares, Copies, CopyOutcome, CopyYields, FromMounted, Side, ToMounted, missing}
 use Rattle.command_spec.specs.Outcome.{settling_act}
 use Rattle.command_spec.specs.declared.copy_status.CopyStatus.{CopyStatus}
 use Rattle.qic_base.proofs.Steps.{Torn-append}
@@ -59,7 +57,7 @@ pub copied_all : (one other : Plain) → copied one other (length one.volumes) �
 copied_all one other =
     ap (λ (vs : List Volume). with_all other (contents_of one.words (drop (length other.volumes) vs))) (take_all (length one.volumes) one.volumes (omega arith))
 
-pub up_to : (one other : Plain) (left : Option Cartridge) → BeginsLike one other → StandsWith one (behind one other) other left → StandsUpTo one other left
+abbrev pub up_to : (one other : Plain) (left : Option Cartridge) → BeginsLike one other → StandsWith one (behind one other) other left → StandsUpTo one other left
 up_to one other left like with =
     let few : length (behind one other) ≡ length one.volumes - length other.volumes = length-drop (length other.volumes) one.volumes in
     let some : with.count ≤ length (behind one other) = with.within in

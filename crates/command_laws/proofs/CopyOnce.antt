@@ -1,11 +1,10 @@
 -- A copy comes to one status and one text.
-use Rattle.std.proofs.Common.{◌⊎◌, ◌≡◌, ◌≢◌, ℕ, Bool, true, false, List, [], ◌∷◌, ◌++◌, Option, Some, None, inl, inr, refl, sym, ap, ◌∙◌, subst, length, codes}
+use Rattle.std.proofs.Common.{◌⊎◌, ◌≡◌, ◌≢◌, ℕ, true, false, List, [], ◌∷◌, ◌++◌, Option, Some, None, inl, inr, refl, sym, ap, ◌∙◌, subst}
 use Rattle.cartridge_laws.proofs.MountOnce.{mounts_is_function, one_table}
 use Rattle.cartridge_laws.proofs.TableSayings.{table_says_is_function}
-use Rattle.cartridge_spec.specs.HeaderAndTable.{TableIs, table_cells}
-use Rattle.cartridge_spec.specs.Mounting.{Mounting, Mounts}
-use Rattle.cartridge_spec.specs.Says.{ByCode, LostSectors, TableSays}
-use Rattle.cartridge_spec.specs.Settling.{changed_by, settling_steps}
+use Rattle.cartridge_spec.specs.HeaderAndTable.{table_cells}
+use Rattle.cartridge_spec.specs.Mounting.{Mounting}
+use Rattle.cartridge_spec.specs.Says.{ByCode, LostSectors}
 use Rattle.cartridge_spec.specs.Table.{Entry}
 use Rattle.command_laws.proofs.MadeAnswered.{quiet_front}
 use Rattle.command_laws.proofs.MadeMachineLaws.{never_lost, never_unlocked}
@@ -13,13 +12,12 @@ use Rattle.command_laws.proofs.RestoreEndings.{restores_is_function}
 use Rattle.command_laws.proofs.RestoreGiven.{given_is_function}
 use Rattle.command_laws.proofs.ScriptActs.{input_texts}
 use Rattle.command_laws.specs.CopyLaws.{CopiesAlike, CopiesOneThing}
-use Rattle.command_spec.specs.Append.{room_in}
-use Rattle.command_spec.specs.Copying.{Compares, Copies, CopiesVolume, CopyOutcome, DoneOf, FromMounted, IsBegun, IsFull, IsGiven, IsTableLost, Side, ToDoes, ToMounted, behind_copy, copy_acts, first_difference, foreign_fault, giving_status, has_room_for, kept_on, length_on, missing, side_of}
+use Rattle.command_spec.specs.Copying.{Compares, Copies, CopiesVolume, CopyOutcome, DoneOf, FromMounted, IsBegun, IsFull, IsGiven, Side, ToDoes, ToMounted, behind_copy, first_difference, giving_status, has_room_for, kept_on, length_on, missing, side_of}
 use Rattle.command_spec.specs.Outcome.{settling_act}
-use Rattle.command_spec.specs.Restore.{GivenBytes, GivingEnd, LostIn, MismatchIn, Restored, Restores, pieces}
+use Rattle.command_spec.specs.Restore.{GivingEnd, LostIn, MismatchIn, Restored, pieces}
 use Rattle.command_spec.specs.declared.copy_status.CopyStatus.{CopyStatus}
 use Rattle.qic_base.proofs.Joins.{text_of-append}
-use Rattle.qic_base.specs.Acts.{Act, steps_of, text_of}
+use Rattle.qic_base.specs.Acts.{Act, text_of}
 use Rattle.qic_base.specs.Cartridge.{Cartridge}
 use Rattle.cartridge_spec.specs.Mounting as mounting
 use Rattle.command_spec.specs.declared.copy_fault.CopyFault.TheVariants as fault

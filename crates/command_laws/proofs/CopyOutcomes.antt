@@ -1,5 +1,5 @@
 -- A copy comes to something, whatever the sectors of the cartridges hold.
-use Rattle.std.proofs.Common.{◌≡◌, ℕ, ◌+◌, ◌<◌, ◌≤◌, ◌^◌, nat_lt, arith, Bool, true, false, cond, List, [], ◌∷◌, ◌++◌, length, take, All, Option, Some, None, IfSome, inl, inr, refl, sym, ap, ◌∙◌, subst}
+use Rattle.std.proofs.Common.{◌≡◌, ℕ, ◌+◌, nat_lt, arith, Bool, true, false, cond, List, [], ◌∷◌, ◌++◌, length, take, All, Option, Some, None, IfSome, inl, inr, refl, ap, ◌∙◌, subst}
 use Rattle.std.proofs.lemmas.Bool.{cases_Bool, le-ltb}
 use Rattle.std.proofs.lemmas.List.{take_all}
 use Rattle.std.proofs.lemmas.List.Elements.{All-drop, All-head, All-tail}
@@ -8,7 +8,7 @@ use Rattle.cartridge_laws.proofs.MountSettled.{settled_keeps_table}
 use Rattle.cartridge_laws.proofs.MountWhole.{table_is_area}
 use Rattle.cartridge_spec.specs.Appending.{free_segments, new_entry, taken_by}
 use Rattle.cartridge_spec.specs.HeaderAndTable.{TableIs}
-use Rattle.cartridge_spec.specs.Mounting.{Mounting, Mounts, settled}
+use Rattle.cartridge_spec.specs.Mounting.{Mounting, Mounts}
 use Rattle.cartridge_spec.specs.Settling.{changed_by, settling_steps}
 use Rattle.cartridge_spec.specs.Table.{Entry}
 use Rattle.command_laws.proofs.CopyOnce.{done_or_not}
@@ -18,8 +18,8 @@ use Rattle.command_laws.proofs.MountedSaying.{restores_anyway}
 use Rattle.command_laws.proofs.RestoreGiven.{given_always, given_is_long}
 use Rattle.command_laws.specs.CopyLaws.{CopiesSomething}
 use Rattle.command_laws.specs.MountedListed.{IsListed, listed_behind}
-use Rattle.command_spec.specs.Append.{Fits, Kept, Taking, TooLong, TooShort, has_promised_room, room_in, taking}
-use Rattle.command_spec.specs.Copying.{Compares, Copies, CopiesVolume, CopyOutcome, CopyYields, FromMounted, Side, ToDoes, ToMounted, behind_copy, copied_behind, copied_entry, copy_acts, copy_refused, first_difference, foreign_fault, giving_status, has_room_for, kept_on, length_on, missing, side_of}
+use Rattle.command_spec.specs.Append.{Fits, Kept, Taking, TooLong, TooShort, room_in, taking}
+use Rattle.command_spec.specs.Copying.{Compares, Copies, CopiesVolume, CopyOutcome, FromMounted, Side, ToDoes, ToMounted, behind_copy, copied_behind, copied_entry, copy_acts, copy_refused, first_difference, foreign_fault, giving_status, has_room_for, kept_on, length_on, missing, side_of}
 use Rattle.command_spec.specs.Lines.{count_line}
 use Rattle.command_spec.specs.Outcome.{settling_act}
 use Rattle.command_spec.specs.Restore.{GivenBytes, GivingEnd, LostIn, MismatchIn, Restored, Restores, pieces}

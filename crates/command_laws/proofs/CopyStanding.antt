@@ -1,7 +1,7 @@
 -- What a copy leaves of a target that stands for a plain cartridge, done or stopped.
-use Rattle.std.proofs.Common.{◌⊎◌, ◌≡◌, ◌≢◌, ℕ, zero, suc, ◌+◌, ◌-◌, ◌<◌, ◌≤◌, nat_lt, arith, Bool, true, false, cond, List, [], ◌∷◌, ◌++◌, map, length, take, drop, All, Option, Some, None, IsSomeAnd, inl, inr, refl, sym, ap, ◌∙◌, subst, append-nil}
-use Rattle.std.proofs.lemmas.Bool.{cases_Bool, le-ltb}
-use Rattle.std.proofs.lemmas.List.{map-append, take_all}
+use Rattle.std.proofs.Common.{◌⊎◌, ◌≡◌, ℕ, suc, ◌+◌, ◌-◌, ◌<◌, ◌≤◌, nat_lt, arith, Bool, true, false, cond, List, [], ◌∷◌, ◌++◌, map, length, take, All, Option, Some, None, IsSomeAnd, inl, inr, refl, sym, ap, ◌∙◌, subst, append-nil}
+use Rattle.std.proofs.lemmas.Bool.{le-ltb}
+use Rattle.std.proofs.lemmas.List.{length-map, map-append, take_all}
 use Rattle.std.proofs.lemmas.List.Elements.{All-head, All-tail, All-weaker}
 use Rattle.cartridge_laws.proofs.AppendSegments.{carrying_from}
 use Rattle.cartridge_laws.proofs.AppendVolume.{free_writes_stand}
@@ -23,20 +23,19 @@ use Rattle.command_laws.proofs.MadeMachineLaws.{never_lost}
 use Rattle.command_laws.proofs.MountedKeeping.{acts_stopped, changed_by_acts, kept_open}
 use Rattle.command_laws.proofs.MountedStanding.{all_writes, kept_appended, open_appended, stopped_appended}
 use Rattle.command_laws.proofs.RestoreStanding.{volume_is_long}
-use Rattle.command_laws.proofs.ScriptActs.{full_acts, replied_steps}
+use Rattle.command_laws.proofs.ScriptActs.{fits_acts, front_acts, full_acts, input_texts, last_act, replied_steps, replied_text}
 use Rattle.command_laws.specs.MountedKept.{IsKept, IsOpen, settle_and_append}
 use Rattle.command_spec.specs.Append.{Fits, Kept, TooLong, TooShort, append_acts, free_in, has_promised_room, input_acts, input_writes, kept_over, room_in, taking}
 use Rattle.command_spec.specs.Copied.{BeginsLike, contents_of}
-use Rattle.command_spec.specs.Copying.{Copies, CopiesVolume, DoneOf, IsBegun, IsFull, IsGiven, Side, behind_copy, copied_behind, copied_entry, copy_acts, giving_status, has_room_for, length_on}
+use Rattle.command_spec.specs.Copying.{Copies, CopiesVolume, DoneOf, IsBegun, IsFull, IsGiven, Side, behind_copy, copied_behind, copied_entry, copied_line, copy_acts, giving_status, has_room_for, length_on}
 use Rattle.command_spec.specs.Restore.{GivingEnd, LostIn, MismatchIn, Restored, Restores, pieces_in}
 use Rattle.command_spec.specs.declared.copy_status.CopyStatus.{CopyStatus}
 use Rattle.qic_base.proofs.Joins.{steps_of-append}
 use Rattle.qic_base.proofs.Steps.{Torn-append, Torn-front}
-use Rattle.qic_base.specs.Acts.{Act, steps_of}
+use Rattle.qic_base.specs.Acts.{Act, steps_of, text_of}
 use Rattle.qic_base.specs.Cartridge.{Cartridge}
 use Rattle.qic_base.specs.Step.{Step}
 use Rattle.qic_base.specs.Stop.{Torn}
-use Rattle.command_spec.specs.declared.copy_fault.CopyFault.TheVariants as fault
 use Rattle.command_spec.specs.declared.copy_status.CopyStatus.TheVariants as status
 
 -- a cartridge that stands for a plain one, as a side of a copy
@@ -103,22 +102,24 @@ module _ (c : Cartridge) (one : Plain) (volume : Volume) (original : IsOriginal 
       ∙ ap (λ (b : Bool). cond b (TooShort n n) (Fits (take n bytes))) (same_less n)
       ∙ ap (λ (xs : List ℕ). Fits xs) (take_all n bytes (omega arith))
 
+  abbrev its_acts : List Act
+  its_acts = append_acts kept e.name e.date (Some (length bytes)) replies bytes
+
   abbrev all_steps : List Step
   all_steps = settle_and_append d p e.name e.date bytes
 
-  steps_are : has_room p (length bytes) ≡ true → steps_of (append_acts kept e.name e.date (Some (length bytes)) replies bytes) ≡ all_steps
+  steps_are : has_room p (length bytes) ≡ true → steps_of its_acts ≡ all_steps
   steps_are enough =
       sym (replied_steps kept e.name e.date (length bytes) bytes bytes (fits enough) replies)
       ∙ ap (λ (rest : List Step). settling_steps p.table_area d ++ rest) (all_writes p e.name e.date bytes (settling_steps p.table_area d) enough)
 
-  -- where it was carried out there was room, and all its steps were done
+  -- where it was carried out there was room, and all its acts were done
   done_given : (table : List (List ℕ)) (acts : List Act) (ending : GivingEnd) (given : List ℕ) (read : List Act) →
       table ≡ p.table_area → has_room_for from e to ≡ true → status.Done ≡ giving_status ending →
       (ending ≡ Restored → given ≡ bytes) → DoneOf from e to table given ending acts →
-      (has_room p (length bytes) ≡ true) × (steps_of acts ≡ all_steps)
+      (has_room p (length bytes) ≡ true) × (acts ≡ its_acts)
   done_given table acts Restored given read area room answered same does =
-      let enough : has_room p (length bytes) ≡ true = sym room_is ∙ room in
-      (enough, ap steps_of (does ∙ ap (copy_acts from e to table) (same refl) ∙ acts_are table area) ∙ steps_are enough)
+      (sym room_is ∙ room, does ∙ ap (copy_acts from e to table) (same refl) ∙ acts_are table area)
   done_given table acts (LostIn segment lost) given read area room answered same does = absurd (cc)
   done_given table acts (MismatchIn segment) given read area room answered same does = absurd (cc)
 
@@ -127,11 +128,38 @@ module _ (c : Cartridge) (one : Plain) (volume : Volume) (original : IsOriginal 
       given_whole c one volume is.read is.bytes original.has is.given
       (subst (λ (end : GivingEnd). Restores c one.words (pieces_in one volume) is.read end) ended is.restores)
 
-  pub done_volume : (acts : List Act) → CopiesVolume from e to acts status.Done → (has_room p (length bytes) ≡ true) × (steps_of acts ≡ all_steps)
-  done_volume acts (inl lost) = absurd (let is = lost.answered in cc)
-  done_volume acts (inr (table, reads, inl full)) = absurd (let is = full.answered in cc)
-  done_volume acts (inr (table, reads, inr is)) =
+  pub done_acts : (acts : List Act) → CopiesVolume from e to acts status.Done → (has_room p (length bytes) ≡ true) × (acts ≡ its_acts)
+  done_acts acts (inl lost) = absurd (let is = lost.answered in cc)
+  done_acts acts (inr (table, reads, inl full)) = absurd (let is = full.answered in cc)
+  done_acts acts (inr (table, reads, inr is)) =
       done_given table acts is.ending is.bytes is.read (standing_data d p table held.stands reads) is.room is.answered (given_is acts status.Done table is) is.does
+
+  pub done_volume : (acts : List Act) → CopiesVolume from e to acts status.Done → (has_room p (length bytes) ≡ true) × (steps_of acts ≡ all_steps)
+  done_volume acts does =
+      let did = done_acts acts does in
+      (did.0, ap steps_of did.1 ∙ steps_are did.0)
+
+  -- all but the last of them print nothing, and that prints the line
+  abbrev pub quiet_acts : List Act
+  quiet_acts = front_acts kept (length bytes) bytes
+
+  abbrev pub last_acts : List Act
+  last_acts = last_act kept e.name e.date replies bytes
+
+  pub done_parts : (acts : List Act) → CopiesVolume from e to acts status.Done → acts ≡ quiet_acts ++ last_acts
+  done_parts acts does =
+      let did = done_acts acts does in
+      did.1 ∙ fits_acts kept e.name e.date (length bytes) bytes bytes (fits did.0) replies
+
+  pub quiet_text : text_of quiet_acts ≡ []
+  quiet_text = input_texts kept (Some (length bytes)) bytes
+
+  pub done_text : (acts : List Act) → CopiesVolume from e to acts status.Done → text_of acts ≡ copied_line (length p.volumes + 1) (volume_length one.words e)
+  done_text acts does =
+      let did = done_acts acts does in
+      ap text_of did.1 ∙ replied_text kept e.name e.date (length bytes) bytes bytes (fits did.0) replies
+      ∙ ap (λ (n : ℕ). copied_line (length (entries_of p) + 1) n) long
+      ∙ ap (λ (n : ℕ). copied_line (n + 1) (volume_length one.words e)) (length-map p.volumes (λ (v : Volume). v.entry))
 
   pub open_behind : (acts : List Act) → CopiesVolume from e to acts status.Done → IsOpen (changed_by (steps_of acts) d) more
   open_behind acts does =
@@ -216,7 +244,7 @@ module _ (c : Cartridge) (one : Plain) (volume : Volume) (original : IsOriginal 
       let did = done_given c one volume original d p opened table acts Restored given [] area room refl same does in
       stopped_in p (length content) next left did.0
       (stopped_appended volume.entry.name volume.entry.date content original.may.label original.may.word original.may.content d p held left did.0
-      (subst (λ (steps : List Step). Torn steps (Some d) left) did.1 torn))
+      (subst (λ (steps : List Step). Torn steps (Some d) left) (ap steps_of did.1 ∙ steps_are c one volume original d p opened did.0) torn))
   stopped_given table acts given (LostIn segment lost) left area room same does torn =
       Before (begun_stands c one volume original d p opened table given acts left area does torn)
   stopped_given table acts given (MismatchIn segment) left area room same does torn =
@@ -248,7 +276,7 @@ stands_none one volumes p left like stands = record { count = 0; within = omega 
 abbrev pub with_volume : (one : Plain) → Plain → Volume → Plain
 with_volume one p volume = with_bytes p volume.entry.name volume.entry.date (volume_bytes one.words volume)
 
-pub stands_more : (one : Plain) (volume : Volume) (volumes : List Volume) (p : Plain) (left : Option Cartridge) →
+abbrev pub stands_more : (one : Plain) (volume : Volume) (volumes : List Volume) (p : Plain) (left : Option Cartridge) →
     StandsWith one volumes (with_volume one p volume) left → StandsWith one (volume ∷ volumes) p left
 stands_more one volume volumes p left behind =
     record { count = suc behind.count; within = (let few = behind.within in omega arith); stands = behind.stands; like = behind.like }

@@ -1,10 +1,10 @@
 -- The volumes of a cartridge that stands for a plain one can be appended to another one: their names, dates and bytes.
-use Rattle.std.proofs.Common.{◌≡◌, ℕ, zero, suc, ◌+◌, ◌-◌, ◌*◌, ◌/◌, ◌%◌, ◌^◌, ◌<◌, ◌≤◌, List, [], ◌∷◌, ◌++◌, All, Contains, Option, Some, None, IsSomeAnd, refl, sym, ap, ◌∙◌, subst, arith, get_or, slice_get, length, take, drop, inl, inr}
+use Rattle.std.proofs.Common.{◌≡◌, ℕ, zero, suc, ◌+◌, ◌-◌, ◌*◌, ◌/◌, ◌%◌, ◌^◌, ◌<◌, ◌≤◌, List, [], ◌∷◌, ◌++◌, All, Contains, Some, refl, sym, ap, ◌∙◌, subst, arith, get_or, slice_get, length, take, drop, inl, inr}
 use Rattle.std.specs.Option.{option_map}
 use Rattle.std.proofs.Math.Nat.{pow-suc}
 use Rattle.std.proofs.lemmas.List.{append-nil, length-drop, length-map, length-take-le}
 use Rattle.std.proofs.lemmas.List.Elements.{All-append, All-contains_itself, All-drop, All-from_get_or, All-get_or, All-head, All-tail, All-take, All-contains}
-use Rattle.std.proofs.lemmas.Option.{slice_get-get_or, slice_get-map, get_or_from_slice_get, same_Some, unwrap_or-slice_get}
+use Rattle.std.proofs.lemmas.Option.{slice_get-get_or, slice_get-map, get_or_from_slice_get, unwrap_or-slice_get}
 use Rattle.cartridge_spec.specs.Appending.{bytes_in, volume_bytes}
 use Rattle.cartridge_spec.specs.Formatting.{IsLabel}
 use Rattle.cartridge_spec.specs.HeaderAndTable.{IsArea}
@@ -15,7 +15,7 @@ use Rattle.command_laws.proofs.RestoreGiven.{given_begins_restored}
 use Rattle.command_laws.proofs.RestoreStanding.{few_or_first_lost, restores_byte_for_byte, restores_front}
 use Rattle.command_laws.specs.MountedKept.{IsAppendable}
 use Rattle.command_laws.specs.RestoreLaws.{HasVolume}
-use Rattle.command_spec.specs.Restore.{GivenBytes, LostIn, Restored, Restores, pieces_in}
+use Rattle.command_spec.specs.Restore.{GivenBytes, Restored, Restores, pieces_in}
 use Rattle.qic_base.specs.Acts.{Act, text_of}
 use Rattle.qic_base.specs.Cartridge.{Cartridge, IsSector}
 use Rattle.qic_base.specs.Field.{little_endian, number_at}

@@ -33,6 +33,7 @@ pub mod CopyGoing
 pub mod CopyLeaving
 pub mod CopyOnce
 pub mod CopyOutcomes
+pub mod CopyPrinted
 pub mod CopyStanding
 pub mod CopyValues
 pub mod InputActLaws

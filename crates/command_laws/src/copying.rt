@@ -1,7 +1,7 @@
 //! What a copy onto another cartridge comes to. Each law is the contract of a function that does nothing, so that other
 //! crates can rest on it; their proofs import the lemmas of this crate's `proofs`.
 
-ghost use Rattle.command_laws.specs.CopyLaws.{CopiesOneThing, CopiesSomething, CopyGoesOn, CopyWithRoomIsDone, DoneCopyStands, StoppedCopyStands, StoppedSourceStands};
+ghost use Rattle.command_laws.specs.CopyLaws.{CopiesOneThing, CopiesSomething, CopyGoesOn, CopyWithRoomIsDone, DoneCopyStands, PrintedCopiesStand, StoppedCopyStands, StoppedSourceStands};
 
 /// A copy has one status and prints one text.
 pub fn a_copy_is_one()
@@ -32,4 +32,10 @@ pub fn a_copy_goes_on()
 /// unreadable sectors, both volume tables can be read, and the target takes writes.
 pub fn a_copy_with_room_is_done()
     ensures { CopyWithRoomIsDone }
+{}
+
+/// A stop in a copy, once some of its text was written, leaves the target with at least those volumes whose lines were
+/// written whole.
+pub fn printed_copies_stand()
+    ensures { PrintedCopiesStand }
 {}
