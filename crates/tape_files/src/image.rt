@@ -65,6 +65,22 @@ pub fn open_image<R: Files<File = File> + Alloc>(files: &R, path: &str) -> Resul
     FileDisk::open(file).map_err(|_| NoImage::NotSynced)
 }
 
+/// Opens the file at a path to read it alone; it is not created. It is refused where an image would be, and until it is
+/// dropped no other run can write it as an image, where the system knows locks for it.
+pub fn open_to_read<R: Files<File = File>>(files: &R, path: &str) -> Result<FileDisk, NoImage>
+    ensures settled { IfOk result (λ disk. disk.resized ≡ false) }
+    ensures seen { IfOk result (λ disk. disk.seen ≡ 0) }
+    ensures faults { IfOk result (λ disk. disk.faults ≡ 0) }
+{
+    require_regular_path(files, path)?;
+    let Ok(file) = File::open(files, path) else {
+        return Err(NoImage::NotOpened);
+    };
+    let image = as_image(file, true)?;
+    require_image(files, &image)?;
+    FileDisk::open(image).map_err(|_| NoImage::NotSynced)
+}
+
 /// A device may act where it is only opened, so the kind of what a path names is asked before that.
 fn require_regular_path(files: &impl Files, path: &str) -> Result<(), NoImage> {
     match fs::metadata(files, path) {

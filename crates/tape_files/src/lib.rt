@@ -11,6 +11,6 @@ mod streams;
 
 pub use disk::FileDisk;
 pub use file::{DiskFile, ImageFile};
-pub use image::{NoImage, open_image};
+pub use image::{NoImage, open_image, open_to_read};
 pub use null::NullStreams;
 pub use streams::{StderrSink, StdinSource, StdoutSink};

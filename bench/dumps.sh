@@ -1,0 +1,125 @@
+#!/usr/bin/env bash
+# Times tape_import and tape_export of a cartridge of 100 segments per track, 91,750,400 bytes of sectors, with a map and
+# without, in a file on a disk and in one in memory: beside cp of the dump with one sync at its end.
+#
+#     bench/dumps.sh [RUNS [FOLDER ..]]
+#
+# RUNS is how often each is timed, in turn (5); the FOLDERs are where the files lie (the top of this repository, and
+# /dev/shm). It prints the medians of the seconds on the wall and of those of a processor, the most resident memory that a
+# run took, and how many times the seconds on the wall of cp the first is.
+set -euo pipefail
+runs=${1:-5}
+folders=("${@:2}")
+top=$(cd "$(dirname "$0")/.." && pwd)
+[ ${#folders[@]} -gt 0 ] || folders=("$top" /dev/shm)
+
+# The bytes of the dump, and every how many of its sectors the map has a lost one.
+bytes=91750400
+each=512
+
+missing=''
+for tool in gcc awk sed sort cp cmp cut head nproc seq sync mktemp; do
+    command -v "$tool" >/dev/null || missing="$missing $tool"
+done
+for folder in "${folders[@]}"; do
+    [ -w "$folder" ] || missing="$missing $folder"
+done
+[ -z "$missing" ] || { echo "dumps.sh: not to be had here:$missing" >&2; exit 1; }
+
+rooms=()
+trap 'rm -rf "${rooms[@]}"' EXIT
+make_room() {
+    made=$(mktemp -d "$1/dumps.XXXXXX")
+    rooms+=("$made")
+}
+
+# What is only made once lies in memory, where there is such a folder.
+if [ -w /dev/shm ]; then make_room /dev/shm; else make_room "${TMPDIR:-/tmp}"; fi
+base=$made
+
+for name in tape_import tape_export; do
+    (cd "$top/crates/$name" && rt run "--cpu=$("$top/bench/processor")" < /dev/null) > /dev/null 2>&1 || true
+    ln -s "$top/crates/$name/out/$name" "$base/$name"
+    [ -x "$base/$name" ] || { echo "dumps.sh: $name could not be built" >&2; exit 1; }
+done
+gcc -O2 -o "$base/volumes" "$top/bench/volumes.c"
+
+# Zeros where the map has a lost sector, as an export has them.
+echo 'making the dump' >&2
+head -c $bytes /dev/urandom > "$base/dump"
+awk -v bytes=$bytes -v each=$each 'BEGIN {
+    print "0x0 +"
+    for (at = 0; at < bytes; at += 1024 * each) print at, 1024 * (each - 1), "+\n" at + 1024 * (each - 1), 1024, "-"
+}' > "$base/map"
+"$base/tape_import" --map "$base/map" "$base/image" < "$base/dump"
+"$base/tape_export" --map "$base/again" "$base/image" > "$base/dump"
+"$base/tape_import" --map "$base/again" "$base/image.again" < "$base/dump"
+cmp "$base/image" "$base/image.again"
+
+# Runs a command, and puts down its seconds and its memory under a name.
+timed() {
+    "$base/volumes" run "${@:2}" 3>> "$room/figures.$1" >/dev/null
+}
+
+import() {
+    rm -f "$room/image"
+    # shellcheck disable=SC2016
+    timed "$1" sh -c 'exec "$0" "$@" < dump' "$base/tape_import" "${@:2}" image
+}
+
+# The same sync behind it as behind cp.
+export_to() {
+    rm -f "$room/out" "$room/out.map"
+    # shellcheck disable=SC2016
+    timed "$1" sh -c '"$0" "$@" > out && sync out' "$base/tape_export" "${@:2}" image
+    cmp "$room/out" "$room/dump"
+}
+
+round() {
+    rm -f "$room/copy"
+    # shellcheck disable=SC2016
+    timed cp sh -c 'cp dump copy && sync copy'
+    import import --segments 100
+    import import_map --map map
+    export_to export
+    export_to export_map --map out.map
+    cmp "$room/out.map" "$base/again"
+}
+
+# The median of the seconds on the wall (1) or of a processor (2).
+median() {
+    sort -n -k "$2" "$room/figures.$1" |
+        awk -v part="$2" '{ at[NR] = $part } END { printf "%.6f", at[int((NR + 1) / 2)] }'
+}
+
+memory() {
+    awk '$3 > most { most = $3 } END { print most }' "$room/figures.$1"
+}
+
+of_cp() {
+    awk -v ours="$(median "$1" 1)" -v used="$(median "$1" 2)" -v cp="$(median cp 1)" -v memory="$(memory "$1")" \
+        -v name="$2" 'BEGIN {
+            printf "%-28s %9.3f s %9.3f s %6d kB   %.2f times cp\n", name, ours, used, memory, ours / cp
+        }'
+}
+
+echo "$(sed -n 's/^model name[^:]*: //p' /proc/cpuinfo | head -n 1), $(nproc) processors, load $(cut -d ' ' -f 1-3 /proc/loadavg); a dump of $bytes bytes; medians of $runs"
+for folder in "${folders[@]}"; do
+    make_room "$folder"
+    room=$made
+    cp "$base/dump" "$room/dump"
+    cp "$base/again" "$room/map"
+    sync "$room/dump" "$room/map"
+    for ((run = 1; run <= runs; run++)); do
+        echo "$folder, run $run of $runs" >&2
+        (cd "$room" && round)
+    done
+    echo
+    echo "$folder:"
+    of_cp cp 'cp and one sync'
+    of_cp import 'import'
+    of_cp import_map 'import, with a map'
+    of_cp export 'export and one sync'
+    of_cp export_map 'export, with a map'
+    rm -rf "$room"
+done

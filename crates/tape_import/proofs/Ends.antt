@@ -1,0 +1,58 @@
+-- The parts of a run.
+use Rattle.std.proofs.Common.{◌≡◌, ◌≢◌, ℕ, true, false, Bool, List, [], ◌∷◌, length, refl, sym, ◌∙◌, ap, arith, Option, Some, None, IfSome, Result, Ok, Err, inl, inr}
+use Rattle.qic_base.specs.Disk as disks
+use Rattle.qic_base.specs.Disk.{IsSettled, Look, stored}
+use Rattle.std.specs.Option.{option_map}
+use Rattle.cart_image.specs.Layout.{resize}
+use Rattle.cart_image.specs.Run as steps
+use Rattle.tape_import.specs.Runs.{Emptied, FoundEmpty, FoundMore}
+
+-- a disk of which this holds where it tells its crashes is settled
+pub settled-by : {D : Type 0} (d : disks.Meaning D) (disk : D) → disks.IsToldRight d disk → (d.tells_stops disk ≡ true → IsSettled d disk) → IsSettled d disk
+settled-by d disk right tells = by (d.tells_stops disk) refl
+  where
+    by : (b : Bool) → d.tells_stops disk ≡ b → IsSettled d disk
+    by true is = tells is
+    by false is = right.untold is
+
+-- a look leaves the told bytes as they were
+told-look : {D : Type 0} {d : disks.Meaning D} {a b : D} → disks.Stored d a b Look → d.told b ≡ d.told a
+told-look {d = d} {a = a} s = s.told ∙ same (d.told a)
+  where
+    same : (told : Option (List ℕ)) → option_map (stored Look) told ≡ told
+    same None = refl
+    same (Some bytes) = refl
+
+-- it is settled behind a look
+pub settled-behind : {D : Type 0} (d : disks.Meaning D) (old new : D) → disks.Stored d old new Look → IsSettled d old → IsSettled d new
+settled-behind d old new looked settled = record {
+  only = λ bytes left told may.
+      let was = looked.leaves left may in
+      was.2 ∙ settled.only bytes was.0 (sym (told-look looked) ∙ told) was.1;
+}
+
+no_bytes : (bytes : List ℕ) → 0 ≡ length bytes → bytes ≡ []
+no_bytes [] none = refl
+no_bytes (x ∷ xs) none = absurd (omega arith)
+
+pub found-empty : {D : Type 0} (d : disks.Meaning D) (old new : D) → disks.Stored d old new Look → IsSettled d old → IfSome (d.told old) (λ bytes. 0 ≡ length bytes) → FoundEmpty d old new
+found-empty d old new looked settled none = record {
+  looked = looked;
+  empty = record { told = by (d.told old) (d.told new) (told-look looked) none; settled = settled-behind d old new looked settled };
+}
+  where
+    by : (was now : Option (List ℕ)) → now ≡ was → IfSome was (λ bytes. 0 ≡ length bytes) → IfSome now (λ bytes. bytes ≡ [])
+    by None now is none = rw is tt
+    by (Some bytes) now is none = rw is (no_bytes bytes none)
+
+pub found-more : {D : Type 0} (d : disks.Meaning D) (old new : D) (n : ℕ) → disks.Stored d old new Look → n ≢ 0 → IfSome (d.told old) (λ bytes. n ≡ length bytes) → FoundMore d old new
+found-more d old new n looked some is = record { looked = looked; more = by (d.told old) is }
+  where
+    by : (told : Option (List ℕ)) → IfSome told (λ bytes. n ≡ length bytes) → IfSome told (λ bytes. bytes ≢ [])
+    by None is = tt
+    by (Some bytes) is = λ none. some (is ∙ ap length none)
+
+-- a file that was to be emptied
+pub emptied-by : {D T E : Type 0} (d : disks.Meaning D) (old new : D) (result : Result T E) → steps.Runs d old new (resize 0) result → Emptied d old new
+emptied-by d old new (Ok x) ran = inl ran
+emptied-by d old new (Err e) halted = inr halted
