@@ -30,7 +30,7 @@ use Rattle.command_spec.specs.declared.status.Status.TheVariants as status
 
 -- ---- a table whose sectors are all there
 
-kept_whole : (c d : Cartridge) (area : List (List ℕ)) (last : ℕ) → 2 ≤ last → KeepsTo last c d → IsWhole c area → IsWhole d area
+pub kept_whole : (c d : Cartridge) (area : List (List ℕ)) (last : ℕ) → 2 ≤ last → KeepsTo last c d → IsWhole c area → IsWhole d area
 kept_whole c d area last h kept whole i low = kept.sectors 2 i h low ∙ whole i low
 
 -- ---- a stop

@@ -271,6 +271,7 @@ ends_ran t s k command old new answer laws values (inr (failing, is, stopped)) c
 module _ (seed count : ℕ) (few : count ≤ 200) (c : Cartridge) (plain : Plain) (whole : IsCartridge c) (stood : Stands c plain) where
   -- its steps were carried out on a settled cartridge that may be written
   pub record MakeRan (outcome : CommandOutcome) : Type 0 where
+    pub free : c.info.protected ≡ false
     pub mounts : Mounts c (mounted_as plain)
     pub held : IsOpen (settled plain.table_area c) plain
     pub acts : List Act
@@ -282,13 +283,14 @@ module _ (seed count : ℕ) (few : count ≤ 200) (c : Cartridge) (plain : Plain
   never_protected (inl done) = cc
   never_protected (inr (line, place, is)) = cc
 
-  make_course : (outcome : CommandOutcome) → MakeOutcome seed count (Some c) outcome → WasTurned outcome ⊎ MakeRan outcome
+  pub make_course : (outcome : CommandOutcome) → MakeOutcome seed count (Some c) outcome → WasTurned outcome ⊎ MakeRan outcome
   make_course outcome (inl (locked, is)) = inl (record { why = status.Protected; is = is; unheard = never_protected; none_made = λ seed count words es. tt })
   make_course outcome (inr (free, opened)) =
       elim (mounted_or_turned (Making seed count) c plain outcome stood opened) [
         | inl turned ↦ inl turned
         | inr was ↦
             let did = was.did in inr (record {
+              free = free;
               mounts = was.mounts;
               held = mounted_open c plain whole stood was.mounts free;
               acts = did.acts;
@@ -465,7 +467,7 @@ makes_volumes t s k words command old new answer laws spelled values ends leaves
 
 -- ---- a script
 
-same_input : (told : Option (List ℕ)) (input other : List ℕ) → told ≡ Some input → IfSome told (λ bytes. other ≡ bytes) → other ≡ input
+pub same_input : (told : Option (List ℕ)) (input other : List ℕ) → told ≡ Some input → IfSome told (λ bytes. other ≡ bytes) → other ≡ input
 same_input told input other is known = subst (λ (o : Option (List ℕ)). IfSome o (λ bytes. other ≡ bytes)) is known
 
 module _ (told : Option (List ℕ)) (words : List (List ℕ)) (c : Cartridge) (plain : Plain) (whole : IsCartridge c) (script : Scripted told words c plain) where
@@ -481,7 +483,7 @@ module _ (told : Option (List ℕ)) (words : List (List ℕ)) (c : Cartridge) (p
     pub held : IsHeld (settled plain.table_area c) plain
     pub acts : outcome.acts ≡ quiet (settling_steps plain.table_area c) ∷ script.outcome.acts
 
-  script_course : (input : List ℕ) (outcome : CommandOutcome) → input ≡ script.input → ScriptOutcome (Some c) input outcome → WasTurned outcome ⊎ ScriptRan outcome
+  pub script_course : (input : List ℕ) (outcome : CommandOutcome) → input ≡ script.input → ScriptOutcome (Some c) input outcome → WasTurned outcome ⊎ ScriptRan outcome
   script_course input outcome same opened =
       elim (mounted_or_turned (Scripting input) c plain outcome script.stands opened) [
         | inl turned ↦ inl turned

@@ -1,16 +1,19 @@
 -- What a run of appending leaves comes back where one sector more of its table's segment is lost.
-use Rattle.std.proofs.Common.{◌≡◌, ℕ, List, Option, Some, IfSome, refl, ◌∙◌, subst, inl, inr, IsSomeAnd, sym, ap, false}
+use Rattle.std.proofs.Common.{◌≤◌, ◌≡◌, ℕ, List, Option, Some, IfSome, refl, ◌∙◌, subst, inl, inr, IsSomeAnd, sym, ap, false}
 use Rattle.cartridge_laws.proofs.FormatWriting.{some_weaker}
-use Rattle.cartridge_spec.specs.Appending.{with_bytes}
+use Rattle.cartridge_spec.specs.Appending.{with_all, with_bytes}
 use Rattle.cartridge_spec.specs.OneLoss.{ComesBackAs, LosesOneAlone}
 use Rattle.cartridge_spec.specs.Settling.{settling_steps}
+use Rattle.command_laws.proofs.CommandComesBack.{make_comes_with_all, words_make_comes_back, words_script_comes_back}
 use Rattle.command_laws.proofs.CommandEnds.{Laws, told_whole}
 use Rattle.command_laws.proofs.CommandOneLoss.{append_comes_back, nothing_torn, done_comes_back}
+use Rattle.command_laws.proofs.CommandSeveral.{ends_ran}
 use Rattle.command_laws.proofs.CommandVolumes.{whole_of, of_bytes, each_weaker, done_now, now_weaker, Did, carried_out_did, may_change}
 use Rattle.command_laws.proofs.TextWords.{one_command}
 use Rattle.command_spec.specs.Headline.{StopLeaves, WordsLeave, EachLeft}
 use Rattle.command_spec.specs.Machine.{HasValues, Spells}
-use Rattle.command_spec.specs.OneLoss.{StoppedComesBack, ComesBackNew, SurvivesOneLoss}
+use Rattle.command_spec.specs.MadeVolumes.{made_contents}
+use Rattle.command_spec.specs.OneLoss.{StoppedComesBack, ComesBackNew, ComesBackOnly, SurvivesOneLoss}
 use Rattle.command_spec.specs.Runs.{CommandEnds, is_fault}
 use Rattle.command_spec.specs.Volumes.{IsCarriedOut}
 use Rattle.command_spec.specs.declared.status.Status.{Status}
@@ -66,6 +69,19 @@ survives_one_loss t s k words command old new answer laws spelled values all end
       (λ l is. subst (λ (o : Option Cartridge). IsSomeAnd o (ComesBackNew (s.left old.source) name date c plain)) (sym is)
       (some_weaker (effects (steps_of d.outcome.acts) (Some c)) (λ e comes. record { input = d.input; is_told = d.is_told; comes = comes }) back))
       (done_now t old.tape new.tape (steps_of d.outcome.acts) (Some c) d.did told);
+  makes = each_weaker t old.tape new.tape laws.right (λ held left whole is. words_make_comes_back (s.left old.source) words held left all whole is) leaves;
+  made = λ seed count c plain is_done told run live.
+      let other : Words = commands.Make seed count in
+      let same : command ≡ other = one_command words command other spelled run.spelled in
+      let few : count ≤ 200 = all other run.spelled in
+      let whole : IsCartridge c = told_whole (Some c) (t.told old.tape) (t.size old.tape) laws.right told in
+      let ran = ends_ran t s k other old new answer laws few (subst (λ (w : Words). CommandEnds t s k w old new answer) same ends) c told in
+      let went = ran.sound (ap is_fault is_done) in
+      now_weaker t old.tape new.tape
+      (λ left is. subst (λ (o : Option Cartridge). IsSomeAnd o (ComesBackOnly (with_all plain (made_contents seed 1 count)))) (sym is)
+      (make_comes_with_all seed count few c plain whole run.stands live ran.outcome ran.plain (went.0 ∙ is_done)))
+      (done_now t old.tape new.tape (steps_of ran.outcome.acts) (Some c) went.1 told);
+  scripts = each_weaker t old.tape new.tape laws.right (λ held left whole is. words_script_comes_back (s.left old.source) words held left whole is) leaves;
 }
 
 -- words of no command leave all as it was, and want of memory
@@ -75,6 +91,9 @@ pub none_survives : {T : Type 0} (t : tapes.Meaning T) (told : Option (List ℕ)
 none_survives t told words a answer right no_fault none values leaves = record {
   stopped = all_come_back t told words a a right values leaves;
   done = λ name date c plain which spells holds bytes stood live. absurd (never which);
+  makes = each_weaker t a a right (λ held left whole is. words_make_comes_back told words held left values whole is) leaves;
+  made = λ seed count c plain is_done holds run live. absurd (never (inl is_done));
+  scripts = each_weaker t a a right (λ held left whole is. words_script_comes_back told words held left whole is) leaves;
 } where
   never : IsCarriedOut answer → ⊥
   never (inl done) = let no = ap may_change done in cc

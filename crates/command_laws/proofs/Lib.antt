@@ -1,6 +1,8 @@
+pub mod BetweenCarrying
 pub mod CommandAdded
 pub mod CommandAppends
 pub mod CommandClean
+pub mod CommandComesBack
 pub mod CommandComplete
 pub mod CommandCompleting
 pub mod CommandEndings
@@ -25,6 +27,9 @@ pub mod CommandUnread
 pub mod CommandValues
 pub mod CommandVolumes
 pub mod InputActLaws
+pub mod IntactKeeping
+pub mod IntactMade
+pub mod IntactScript
 pub mod LifeFormats
 pub mod LifeGrowing
 pub mod LifeLaws

@@ -316,7 +316,7 @@ module _ (c : Cartridge) (plain : Plain) (input : List ℕ) (outcome : ScriptRun
       let reached : StandsAnswered plain items dids (length (text_of s.front)) left = between_all s.front s.rest left spares s.parts s.torn in
       (reached.count, reached.within, reached.stands)
 
-  parted_stop : (n : ℕ) (left : Option Cartridge) → Torn (steps_of outcome.acts) (Some c) left →
+  pub parted_stop : (n : ℕ) (left : Option Cartridge) → Torn (steps_of outcome.acts) (Some c) left →
       Torn (steps_of (acts_of (take n dids))) (Some c) left ⊎ Torn (steps_of (acts_of (drop n dids) ++ does.last)) (Some (cartridge_behind c (take n dids))) left
   parted_stop n left torn =
       elim (Torn-append (steps_of (acts_of (take n dids))) (steps_of (acts_of (drop n dids) ++ does.last)) (Some c) left

@@ -18,6 +18,7 @@ use Rattle.cartridge_spec.specs.Table.{Entry}
 use Rattle.cartridge_spec.specs.Volumes.{Plain, Stands, entries_of, Volume}
 use Rattle.cartridge_spec.specs.Wear.{worn, WearSpares}
 use Rattle.command_laws.proofs.InputActLaws.{input_is_free}
+use Rattle.command_laws.proofs.IntactKeeping.{appends_leave_intact, intact_is_one, scrubs_leave_intact, wears_leave_intact, whole_needs_no_steps}
 use Rattle.command_laws.proofs.MountedHeld.{held_open, open_held, settled_held, settling_live, scrubbed_held, scrubbed_live, worn_held, worn_is_live}
 use Rattle.command_laws.proofs.MountedKeeping.{live_kept}
 use Rattle.command_laws.proofs.MountedStanding.{all_writes, kept_appended, open_appended, stopped_appended}
@@ -25,6 +26,7 @@ use Rattle.command_laws.proofs.RestoreCounts.{framed_in_no_step}
 use Rattle.command_laws.proofs.ScriptActs.{full_acts, full_taking, replied_steps}
 use Rattle.command_laws.proofs.ScriptValues.{append_values}
 use Rattle.command_laws.proofs.ScrubMounted.{stopped_scrub_stands}
+use Rattle.command_laws.specs.Intact.{IsIntact}
 use Rattle.command_laws.specs.MountedHeld.{IsHeld}
 use Rattle.command_laws.specs.MountedKept.{IsAppendable, IsKept, IsOpen}
 use Rattle.command_laws.specs.ScriptStanding.{LineHasBytes, HaveBytes, ItemsHaveBytes, HasBytes, StoppedItemStands, ItemsStand, FaultStands, plain_after, plain_behind}
@@ -33,7 +35,8 @@ use Rattle.command_spec.specs.Input.{IsLine, IsLined, promised, Item, IsItem, En
 use Rattle.command_spec.specs.Lines.{reply_behind, lost_line}
 use Rattle.command_spec.specs.Restore.{Restored, LostIn, MismatchIn, framed, pieces}
 use Rattle.command_spec.specs.Script.{Did, Meeting, Finds, Meets, Refuses, append_did, line_refused, taken_as, given_as, RestoreDoes, LineDoes, ItemDoes, ItemsDo, entries_behind, acts_on, cartridge_behind}
-use Rattle.command_spec.specs.ScriptLists.{LineSpares, item_added, all_added, line_contents}
+use Rattle.command_spec.specs.ScriptLists.{LineSpares, WearsBehind, item_added, all_added, line_contents}
+use Rattle.command_spec.specs.OneLoss.{ComesBackAsOneOf}
 use Rattle.command_spec.specs.Scrub.{Scrubs}
 use Rattle.command_spec.specs.declared.line.Line.{Line}
 use Rattle.gf256_qic.proofs.Parities.{all_left, all_right}
@@ -74,6 +77,11 @@ items_have_bytes input items ending read content = have_bytes 1 0 input items en
 
 -- ---- one item
 
+-- what was whole is so still, and comes back where it was stopped
+pub record LeavesIntact (c : Cartridge) (plain other : Plain) (did : Did) : Type 0 where
+  pub done : IsIntact (changed_by (steps_of did.acts) c) other
+  pub stopped : (left : Option Cartridge) → Torn (steps_of did.acts) (Some c) left → IsSomeAnd left (ComesBackAsOneOf plain other)
+
 -- what an item leaves, done or stopped; stopped where each sector of the table's segment takes what is written to it
 pub record ItemLeaves (c : Cartridge) (plain : Plain) (item : Item) (did : Did) : Type 0 where
   pub done : IsHeld (changed_by (steps_of did.acts) c) (plain_after plain item did)
@@ -81,20 +89,22 @@ pub record ItemLeaves (c : Cartridge) (plain : Plain) (item : Item) (did : Did) 
   pub entries : entries_of (plain_after plain item did) ≡ did.entries
   pub words : (plain_after plain item did).words ≡ plain.words
   pub stopped : IsTableLive c → (left : Option Cartridge) → Torn (steps_of did.acts) (Some c) left → IsSomeAnd left (λ d. Stands d plain ⊎ Stands d (plain_after plain item did))
+  pub intact : WearsBehind item.line → IsIntact c plain → LeavesIntact c plain (plain_after plain item did) did
 
--- one that adds no volume
-record Stills (c : Cartridge) (plain : Plain) (did : Did) : Type 0 where
+-- one that adds no volume, and wears a sector behind the table's segment if any
+record Stills (behind : Type 0) (c : Cartridge) (plain : Plain) (did : Did) : Type 0 where
   done : IsHeld (changed_by (steps_of did.acts) c) plain
   live : IsTableLive c → IsTableLive (changed_by (steps_of did.acts) c)
   entries : did.entries ≡ entries_of plain
   stopped : (left : Option Cartridge) → Torn (steps_of did.acts) (Some c) left → IsSomeAnd left (λ d. Stands d plain)
+  intact : behind → IsIntact c plain → LeavesIntact c plain plain did
 
 same_after : (plain : Plain) (item : Item) (did : Did) → did.entries ≡ entries_of plain → plain_after plain item did ≡ plain
 same_after plain item did same =
     ap (λ (b : Bool). with_all plain (cond b [] (line_contents item.line item.bytes)))
     (eq-eqb (length did.entries) (length (entries_of plain)) (ap (λ (es : List Entry). length es) same))
 
-leaves_still : (c : Cartridge) (plain : Plain) (item : Item) (did : Did) → Stills c plain did → ItemLeaves c plain item did
+leaves_still : (c : Cartridge) (plain : Plain) (item : Item) (did : Did) → Stills (WearsBehind item.line) c plain did → ItemLeaves c plain item did
 leaves_still c plain item did still =
     let same : plain_after plain item did ≡ plain = same_after plain item did still.entries in
     record {
@@ -103,15 +113,20 @@ leaves_still c plain item did still =
       entries = ap (λ (p : Plain). entries_of p) same ∙ sym still.entries;
       words = ap (λ (p : Plain). p.words) same;
       stopped = λ live left torn. some_weaker left (λ d stands. inl stands) (still.stopped left torn);
+      intact = λ behind intact. subst (λ (p : Plain). LeavesIntact c plain p did) (sym same) (still.intact behind intact);
     }
 
 -- .. and takes no step
-no_steps : (c : Cartridge) (plain : Plain) (did : Did) → IsHeld c plain → steps_of did.acts ≡ [] → did.entries ≡ entries_of plain → Stills c plain did
+no_steps : {behind : Type 0} (c : Cartridge) (plain : Plain) (did : Did) → IsHeld c plain → steps_of did.acts ≡ [] → did.entries ≡ entries_of plain → Stills behind c plain did
 no_steps c plain did held none same = record {
   done = subst (λ (ss : List Step). IsHeld (changed_by ss c) plain) (sym none) held;
   live = λ live. subst (λ (ss : List Step). IsTableLive (changed_by ss c)) (sym none) live;
   entries = same;
   stopped = λ left torn. some_and (λ d. Stands d plain) c left held.stands (subst (λ (ss : List Step). Torn ss (Some c) left) none torn);
+  intact = λ is_behind intact. record {
+    done = subst (λ (ss : List Step). IsIntact (changed_by ss c) plain) (sym none) intact;
+    stopped = λ left torn. intact_is_one c plain plain left intact (subst (λ (ss : List Step). Torn ss (Some c) left) none torn);
+  };
 }
 
 -- ---- an append
@@ -199,6 +214,12 @@ module _ (c : Cartridge) (plain : Plain) (name : List ℕ) (date : ℕ) (bytes :
           stopped = λ live left torn. subst (λ (p : Plain). IsSomeAnd left (λ d. Stands d plain ⊎ Stands d p)) (sym more)
               (stopped_appended name date bytes may.label may.word may.content c plain (kept live) left enough
               (subst (λ (ss : List Step). Torn ss (Some c) left) steps torn));
+          intact = λ behind intact.
+              let now = appends_leave_intact c plain name date bytes intact may enough in
+              subst (λ (p : Plain). LeavesIntact c plain p did) (sym more) (record {
+                done = subst (λ (ss : List Step). IsIntact (changed_by ss c) (with_bytes plain name date bytes)) (sym steps) now.done;
+                stopped = λ left torn. now.stopped left (subst (λ (ss : List Step). Torn ss (Some c) left) steps torn);
+              });
         }
 
   -- where there is none, the table is settled alone
@@ -206,7 +227,7 @@ module _ (c : Cartridge) (plain : Plain) (name : List ℕ) (date : ℕ) (bytes :
     full_doing : does_by plain.table_area size ≡ line_refused its_acts (entries_of plain) (why.Full size (room_in kept_now))
     full_doing = ap (λ (became : Taking). taken_as kept_now name date its_acts became) (full_taking kept_now name date size small bytes)
 
-    full_stills : (did : Did) → IsOpen c plain → did ≡ line_refused its_acts (entries_of plain) (why.Full size (room_in kept_now)) → Stills c plain did
+    full_stills : (did : Did) → IsOpen c plain → did ≡ line_refused its_acts (entries_of plain) (why.Full size (room_in kept_now)) → Stills (Unit {0}) c plain did
     full_stills did ready is =
         let steps : steps_of did.acts ≡ settling_steps plain.table_area c =
         ap (λ (d : Did). steps_of d.acts) is
@@ -217,6 +238,12 @@ module _ (c : Cartridge) (plain : Plain) (name : List ℕ) (date : ℕ) (bytes :
           live = λ live. subst (λ (ss : List Step). IsTableLive (changed_by ss c)) (sym steps) (settling_live c plain ready live);
           entries = ap (λ (d : Did). d.entries) is;
           stopped = λ left torn. stopped_stands c plain plain.table_area left ready.stands ready.table (subst (λ (ss : List Step). Torn ss (Some c) left) steps torn);
+          intact = λ behind intact.
+              let none : steps_of did.acts ≡ [] = steps ∙ whole_needs_no_steps c plain.table_area intact.table intact.kept.unprotected in
+              record {
+                done = subst (λ (ss : List Step). IsIntact (changed_by ss c) plain) (sym none) intact;
+                stopped = λ left torn. intact_is_one c plain plain left intact (subst (λ (ss : List Step). Torn ss (Some c) left) none torn);
+              };
         }
 
   pub append_leaves : (n : ℕ) (did : Did) → IsAppendable name date bytes → size ≡ n → (m : Meeting) → Meets c m → did ≡ append_did c plain.words (entries_of plain) name n date bytes m →
@@ -245,7 +272,7 @@ given_steps words entries number e parts Restored none = steps_of-append parts _
 given_steps words entries number e parts (LostIn segment lost) none = steps_of-append parts _ ∙ append-nil (steps_of parts) ∙ none
 given_steps words entries number e parts (MismatchIn segment) none = steps_of-append parts _ ∙ append-nil (steps_of parts) ∙ none
 
-gives_stills : (c : Cartridge) (plain : Plain) (number : ℕ) (did : Did) → IsHeld c plain → RestoreDoes c plain.words (entries_of plain) number did → Stills c plain did
+gives_stills : (c : Cartridge) (plain : Plain) (number : ℕ) (did : Did) → IsHeld c plain → RestoreDoes c plain.words (entries_of plain) number did → Stills (Unit {0}) c plain did
 gives_stills c plain number did held gives =
     let parts : List Act = framed (pieces plain.words gives.entry) gives.acts in
     no_steps c plain did held
@@ -255,7 +282,7 @@ gives_stills c plain number did held gives =
     (ap (λ (d : Did). d.entries) gives.is ∙ given_entries plain.words (entries_of plain) number gives.entry parts gives.ending)
 
 scrub_stills : (c : Cartridge) (plain : Plain) (acts : List Act) (did : Did) → IsHeld c plain → Scrubs c plain.words (entries_of plain) acts →
-    did ≡ record { acts = acts; entries = entries_of plain } → Stills c plain did
+    did ≡ record { acts = acts; entries = entries_of plain } → Stills (Unit {0}) c plain did
 scrub_stills c plain acts did held scrubs is =
     let steps : steps_of did.acts ≡ steps_of acts = ap (λ (d : Did). steps_of d.acts) is in
     record {
@@ -263,10 +290,16 @@ scrub_stills c plain acts did held scrubs is =
       live = λ live. subst (λ (ss : List Step). IsTableLive (changed_by ss c)) (sym steps) (scrubbed_live c plain acts held scrubs live);
       entries = ap (λ (d : Did). d.entries) is;
       stopped = λ left torn. stopped_scrub_stands c plain acts left held.stands scrubs (subst (λ (ss : List Step). Torn ss (Some c) left) steps torn);
+      intact = λ behind intact.
+          let now = scrubs_leave_intact c plain acts intact scrubs in
+          record {
+            done = subst (λ (ss : List Step). IsIntact (changed_by ss c) plain) (sym steps) now.done;
+            stopped = λ left torn. now.stopped left (subst (λ (ss : List Step). Torn ss (Some c) left) steps torn);
+          };
     }
 
 lose_stills : (c : Cartridge) (plain : Plain) (segment sector : ℕ) (did : Did) → IsHeld c plain → sector < 32 → WearSpares c plain segment sector →
-    did ≡ record { acts = record { steps = Wear segment sector ∷ []; text = lost_line segment sector } ∷ []; entries = entries_of plain } → Stills c plain did
+    did ≡ record { acts = record { steps = Wear segment sector ∷ []; text = lost_line segment sector } ∷ []; entries = entries_of plain } → Stills (sector < 32 → 3 ≤ segment) c plain did
 lose_stills c plain segment sector did held small spares is =
     let steps : steps_of did.acts ≡ Wear segment sector ∷ [] = ap (λ (d : Did). steps_of d.acts) is in
     let worn_is : IsHeld (worn segment sector c) plain = worn_held c plain segment sector held small spares in
@@ -275,12 +308,23 @@ lose_stills c plain segment sector did held small spares is =
       live = λ live. subst (λ (ss : List Step). IsTableLive (changed_by ss c)) (sym steps) (worn_is_live c segment sector live);
       entries = ap (λ (d : Did). d.entries) is;
       stopped = λ left torn. by_torn left worn_is (subst (λ (ss : List Step). Torn ss (Some c) left) steps torn);
+      intact = λ behind intact.
+          let worn_so : IsIntact (worn segment sector c) plain = wears_leave_intact c plain segment sector intact (behind small) small in
+          record {
+            done = subst (λ (ss : List Step). IsIntact (changed_by ss c) plain) (sym steps) worn_so;
+            stopped = λ left torn. comes_by left intact worn_so (subst (λ (ss : List Step). Torn ss (Some c) left) steps torn);
+          };
     }
   where
     by_torn : (left : Option Cartridge) → IsHeld (worn segment sector c) plain → Torn (Wear segment sector ∷ []) (Some c) left → IsSomeAnd left (λ d. Stands d plain)
     by_torn left after (inl is) = some_and (λ d. Stands d plain) c left held.stands is
     by_torn left after (inr (inl half)) = absurd half
     by_torn left after (inr (inr is)) = some_and (λ d. Stands d plain) (worn segment sector c) left after.stands is
+
+    comes_by : (left : Option Cartridge) → IsIntact c plain → IsIntact (worn segment sector c) plain → Torn (Wear segment sector ∷ []) (Some c) left → IsSomeAnd left (ComesBackAsOneOf plain plain)
+    comes_by left before after (inl is) = intact_is_one c plain plain left before is
+    comes_by left before after (inr (inl half)) = absurd half
+    comes_by left before after (inr (inr is)) = intact_is_one (worn segment sector c) plain plain left after is
 
 line_leaves : (c : Cartridge) (plain : Plain) (asked : Line) (bytes : List ℕ) (did : Did) → IsHeld c plain → LineHasBytes asked bytes → LineSpares c plain asked →
     LineDoes c plain.words (entries_of plain) asked bytes did → ItemLeaves c plain (record { line = asked; bytes = bytes }) did
@@ -360,7 +404,7 @@ no_entry : (kept : Kept) (name : List ℕ) (date n : ℕ) (reply : Entry → Lis
 no_entry kept name date n reply bytes true = refl
 no_entry kept name date n reply bytes false = refl
 
-early_entry : (kept : Kept) (name : List ℕ) (date n : ℕ) (reply : Entry → List ℕ) (bytes : List ℕ) → length bytes < n →
+pub early_entry : (kept : Kept) (name : List ℕ) (date n : ℕ) (reply : Entry → List ℕ) (bytes : List ℕ) → length bytes < n →
     steps_of (entry_acts kept name date reply (taking (room_in kept) (Some n) bytes)) ≡ []
 early_entry kept name date n reply bytes short =
     ap (λ (b : Bool). steps_of (entry_acts kept name date reply
@@ -368,7 +412,7 @@ early_entry kept name date n reply bytes short =
     ∙ no_entry kept name date n reply bytes (has_promised_room (room_in kept) (Some n))
 
 -- all that it writes behind the settling lies behind the volumes
-early_writes : (kept : Kept) (n : ℕ) (bytes : List ℕ) → AreWrites (IsFree (last_end kept.entries)) (steps_of (input_writes kept (Some n) bytes))
+pub early_writes : (kept : Kept) (n : ℕ) (bytes : List ℕ) → AreWrites (IsFree (last_end kept.entries)) (steps_of (input_writes kept (Some n) bytes))
 early_writes kept n bytes =
     writes_if (last_end kept.entries) (has_promised_room (room_in kept) (Some n)) (input_acts kept.words (free_in kept) n true bytes)
     (input_is_free (last_end kept.entries) kept.words (free_in kept) n true bytes

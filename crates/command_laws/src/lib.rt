@@ -6,6 +6,7 @@
 pub mod commands;
 pub mod deep_scrubbing;
 pub mod generated;
+pub mod intact;
 pub mod lives;
 pub mod mounted;
 pub mod promises;

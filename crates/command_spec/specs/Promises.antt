@@ -57,7 +57,7 @@ pub record Promises {T S K : Type 0} (t : tapes.Meaning T) (s : sources.Meaning 
   -- the one with the volume of `append` stands; after a defect in front a bare one; after a refused append, or a fault of its input, what stood.
   pub changed : IsChanged t (s.left old.source) words old.tape new.tape answer
   -- Where then one sector more of the table's segment is lost, what appending left comes back as what stood, or as that with the
-  -- volume; and once it was carried out, as that.
+  -- volume; and once it was carried out, as that. So does what a generated run and a script left, with the first ones of their volumes.
   pub survives : SurvivesOneLoss t (s.left old.source) words old.tape new.tape answer
   -- A generated run leaves what stood with the first ones of its volumes, and with all of them once it has printed anything, or
   -- where the sink failed; a script leaves what stood with the appends of its first lines, among them all whose reply was written
