@@ -32,4 +32,5 @@ pub mod TextInput
 pub mod TextLaws
 pub mod TextReading
 pub mod TextWords
+pub mod WorkedCopies
 pub mod WorkedValues
