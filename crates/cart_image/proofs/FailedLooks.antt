@@ -1,5 +1,6 @@
 -- A look that failed over a disk in which nothing was pending, and what was looked at before and behind it.
-use Rattle.std.proofs.Common.{◌≡◌, ℕ, ◌≤◌, inl, inr, true, false, List, length, refl, sym, ◌∙◌, ap, Option, Some, None, IfSome, is_some, subst}
+use Rattle.std.proofs.Common.{◌≡◌, ℕ, ◌≤◌, inl, inr, true, false, List, length, refl, sym, ◌∙◌, ap, Option, Some, None, IfSome, is_some, subst, Result, Ok, Err}
+use Rattle.std.specs.Prelude.{IfOk}
 use Rattle.qic_base.specs.declared.tape.SectorRead.{SectorRead}
 use Rattle.qic_base.specs.declared.tape.SectorView.{SectorView}
 use Rattle.qic_base.specs.Disk.{Meaning, Look, IsSettled, Failed}
@@ -57,3 +58,8 @@ pub state-behind : (told t1 : Option (List ℕ)) (l : Layout) (q : ℕ) (old new
 state-behind told t1 l q old new s t answer same kept seen is reads =
     let P : List ℕ → Type 0 = λ into. IfSome told (λ b. end_of l ≤ length b → Reads (view_in l b q) old into answer) in
     subst P (sym kept) (whole-other told l q old s t answer (told-same (λ b. end_of l ≤ length b → s ≡ state_of (view_in l b q)) same seen) is reads)
+
+-- what a result says of the bytes that were told behind it, it says of those that were told before
+pub ok-behind : {T E : Type 0} (r : Result T E) (told t1 : Option (List ℕ)) (P : T → List ℕ → Type 0) → t1 ≡ told → IfOk r (λ x. IfSome t1 (P x)) → IfOk r (λ x. IfSome told (P x))
+ok-behind (Ok x) told t1 P same fact = told-same (P x) same fact
+ok-behind (Err e) told t1 P same fact = tt

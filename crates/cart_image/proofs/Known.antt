@@ -25,7 +25,7 @@ use Rattle.cart_image.specs.declared.segment.SegmentStates.{SegmentStates}
 use Rattle.cart_image.specs.declared.tape.ImageTape.{ImageTape}
 use Rattle.cart_image.specs.Image.{cartridge_of, head_of, sector_bytes, view_by, view_in, read_as}
 use Rattle.cart_image.specs.ImageTape.{size_by}
-use Rattle.cart_image.specs.Layout.{place, place_in, plane_place, end_of, sectors, touches, open_gate, formed_byte, defect_byte, those, is_open, is_usable, is_unformed, format_segment_steps, format_plan}
+use Rattle.cart_image.specs.Layout.{place, place_in, plane_place, base_of, end_of, sectors, touches, open_gate, formed_byte, defect_byte, those, is_open, is_usable, is_unformed, format_segment_steps, format_plan}
 use Rattle.cart_image.specs.Run.{Looked}
 use Rattle.cart_image.specs.State.{state_of, HoldsStates, AreStates, AreMarks, with_state}
 use Rattle.cart_image.specs.Tape.{disk_means}
@@ -317,6 +317,29 @@ part-told (Some b) t1 l q p j at part same here there few cells on fact = λ lon
     let d = (in-cell l q cells).1 in
     let e = (laid_out l).before DefectByte q on in
     part-index b part p at j 3 (told-fact t1 (λ c. p + 3 ≤ length c → part ≡ slice_range c p (p + 3)) b same fact (omega arith)) few (omega arith)
+
+-- .. where all its bytes were read at once
+cell-at : (l : Layout) (q : ℕ) → touches l.kind ≡ false → place l GateByte q ≡ base_of l.kind l.segments_per_track + 1027 * q
+cell-at l q cells = by_kind l.kind cells
+  where
+    by_kind : (kind : Kind) → touches kind ≡ false → place_in kind l.segments_per_track GateByte q ≡ base_of kind l.segments_per_track + 1027 * q
+    by_kind Planes is = cc
+    by_kind Cells is = refl
+    by_kind CellsBehind is = refl
+
+pub cells-marks : (told : Option (List ℕ)) (l : Layout) (segment p : ℕ) (cells : List ℕ) (m : SegmentMarks) → touches l.kind ≡ false → segment < 28 * l.segments_per_track → p ≡ place l GateByte (32 * segment)
+    → IfSome told (λ b. p + 32864 ≤ length b → cells ≡ slice_range b p (p + 32864))
+    → ((i : ℕ) → i < 32 → slice_index m.gates i ≡ slice_index cells (1027 * i)) → ((i : ℕ) → i < 32 → slice_index m.formed i ≡ slice_index cells (1027 * i + 1)) → ((i : ℕ) → i < 32 → slice_index m.defects i ≡ slice_index cells (1027 * i + 2))
+    → IfSome told (λ b. end_of l ≤ length b → AreMarks l segment b m)
+cells-marks None l segment p cells m in_cells on here fact gates formed defects = tt
+cells-marks (Some b) l segment p cells m in_cells on here fact gates formed defects = λ long.
+    let first = cell-at l (32 * segment) in_cells in
+    let is : cells ≡ slice_range b p (p + 32864) = fact (omega arith) in
+    record {
+      gates = λ i less. let at = cell-at l (place_of segment i) in_cells in gates i less ∙ part-index b cells p (place l GateByte (place_of segment i)) (1027 * i) 32864 is (omega arith) (omega arith);
+      formed = λ i less. let at = cell-at l (place_of segment i) in_cells in let f = (in-cell l (place_of segment i) in_cells).0 in formed i less ∙ part-index b cells p (place l FormedByte (place_of segment i)) (1027 * i + 1) 32864 is (omega arith) (omega arith);
+      defects = λ i less. let at = cell-at l (place_of segment i) in_cells in let d = (in-cell l (place_of segment i) in_cells).1 in defects i less ∙ part-index b cells p (place l DefectByte (place_of segment i)) (1027 * i + 2) 32864 is (omega arith) (omega arith);
+    }
 
 pub read-more : (told t1 : Option (List ℕ)) (l : Layout) (segment count p : ℕ) (gates formed defects part : List ℕ) → t1 ≡ told → touches l.kind ≡ false → segment < 28 * l.segments_per_track → count < 32 → p ≡ place l GateByte (32 * segment + count)
     → IfSome t1 (λ b. p + 3 ≤ length b → part ≡ slice_range b p (p + 3)) → ReadSo told l segment gates formed defects count

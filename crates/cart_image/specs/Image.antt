@@ -41,23 +41,35 @@ kind_by n head =
 abbrev pub layout_in : (len n : ℕ) → Option Kind → Option Layout
 layout_in len n None = None
 layout_in len n (Some kind) =
-    if nat_le (end_of (record { segments_per_track = n; kind = kind })) len then Some (record { segments_per_track = n; kind = kind }) else None
+    if nat_le (end_of (record { segments_per_track = n; kind = kind })) len
+    then Some (record { segments_per_track = n; kind = kind })
+    else None
 
 -- the layout of a file of this length that begins so; None where it is no image
 unfoldable pub layout_by : (len : ℕ) (head : List ℕ) → Option Layout
 layout_by len head =
-    if is_signed head && is_length (number_at head length_place 2) then layout_in len (number_at head length_place 2) (kind_by (number_at head length_place 2) head) else None
+    if is_signed head && is_length (number_at head length_place 2)
+    then layout_in len (number_at head length_place 2) (kind_by (number_at head length_place 2) head)
+    else None
 
 -- its layout and marks
 abbrev pub marks : (head : List ℕ) → Layout → Head
-marks head layout = record { layout = layout; protected = slice_index head protected_place == mark_byte; referenced = slice_index head referenced_place == mark_byte }
+marks head layout = record {
+  layout = layout;
+  protected = slice_index head protected_place == mark_byte;
+  referenced = slice_index head referenced_place == mark_byte;
+}
 
 abbrev pub head_by : (len : ℕ) (head : List ℕ) → Option Head
 head_by len head = option_map (marks head) (layout_by len head)
 
 -- what a drive can tell of it
 abbrev pub info_by : Head → TapeInfo
-info_by h = record { segments_per_track = h.layout.segments_per_track; protected = h.protected; referenced = h.referenced }
+info_by h = record {
+  segments_per_track = h.layout.segments_per_track;
+  protected = h.protected;
+  referenced = h.referenced;
+}
 
 -- a sector's view, by its state bytes and the bytes that it holds
 abbrev pub view_by : (defect formed gate : ℕ) → List ℕ → SectorView
@@ -71,7 +83,9 @@ sector_bytes l bytes sector = slice_range bytes (place l Data sector) (place l D
 
 -- .. and its view
 unfoldable pub view_in : (l : Layout) (bytes : List ℕ) (sector : ℕ) → SectorView
-view_in l bytes sector = view_by (slice_index bytes (place l DefectByte sector)) (slice_index bytes (place l FormedByte sector)) (slice_index bytes (place l GateByte sector)) (sector_bytes l bytes sector)
+view_in l bytes sector =
+    view_by (slice_index bytes (place l DefectByte sector)) (slice_index bytes (place l FormedByte sector))
+    (slice_index bytes (place l GateByte sector)) (sector_bytes l bytes sector)
 
 unfoldable pub views_in : (l : Layout) (bytes : List ℕ) → List SectorView
 views_in l bytes = map (view_in l bytes) (range_with_len 0 (sectors l.segments_per_track))

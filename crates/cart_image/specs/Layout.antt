@@ -12,8 +12,8 @@ use Rattle.cart_image.specs.declared.layout.Layout.{Layout}
 use Rattle.cart_image.specs.declared.layout.Part.{Part}
 use Rattle.cart_image.specs.declared.layout.Part.TheVariants.{GateByte, FormedByte, DefectByte, Data}
 
--- The head: the signature, the version word and the segments per track in two bytes each, the two marks, the layout mark,
--- and the base in eight bytes; all others are written zero and not read.
+-- The head: the signature, the version word and the segments per track in two bytes each, the two marks, the layout
+-- mark, and the base in eight bytes; all others are written zero and not read.
 abbrev pub signature : List ℕ
 signature = codes "QIC80IMG"
 
@@ -126,7 +126,8 @@ touches CellsBehind = false
 -- the head of a new image
 abbrev pub new_head : ℕ → List ℕ
 new_head n =
-    signature ++ (little_endian_bytes 2 2 ++ (little_endian_bytes 2 n ++ (0 ∷ 0 ∷ mark_byte ∷ 0 ∷ [] ++ (little_endian_bytes 8 head_len ++ replicate 40 0))))
+    signature ++ (little_endian_bytes 2 2 ++ (little_endian_bytes 2 n
+    ++ (0 ∷ 0 ∷ mark_byte ∷ 0 ∷ [] ++ (little_endian_bytes 8 head_len ++ replicate 40 0))))
 
 -- bytes written, and then a sync
 abbrev pub put : ℕ → List ℕ → List DiskStep
@@ -139,7 +140,8 @@ resize length = SetLen length ∷ Sync ∷ []
 -- a run of sectors from a first one on whose part gets one value, as one write
 abbrev pub run_write : (l : Layout) (part : Part) (value sector count : ℕ) → List DiskStep
 run_write l part value sector zero = []
-run_write l part value sector (suc count) = WriteAt (place l part sector) (replicate (width part * suc count) value) ∷ []
+run_write l part value sector (suc count) =
+    WriteAt (place l part sector) (replicate (width part * suc count) value) ∷ []
 
 -- what one sector adds to the writes, and to the run under way that ends before it
 abbrev pub step_writes : (l : Layout) (part : Part) (value sector : ℕ) (chosen : Bool) (under : ℕ) → List DiskStep
@@ -150,13 +152,15 @@ abbrev pub step_under : (kind : Kind) (chosen : Bool) (under : ℕ) → ℕ
 step_under kind true under = if touches kind then suc under else under
 step_under kind false under = 0
 
--- A part of the chosen ones of sectors from one on gets a value. Neighbouring parts go as one write; `under` is the length
--- of the run that ends before the sector.
+-- A part of the chosen ones of sectors from one on gets a value. Neighbouring parts go as one write; `under` is the
+-- length of the run that ends before the sector.
 abbrev pub fill_writes : (l : Layout) (part : Part) (value sector : ℕ) (chosen : List Bool) (under : ℕ) → List DiskStep
 fill_writes l part value sector [] under = run_write l part value (sector - under) under
 fill_writes l part value sector (true ∷ chosen) under =
-    if touches l.kind then fill_writes l part value (suc sector) chosen (suc under) else run_write l part value sector 1 ++ fill_writes l part value (suc sector) chosen under
-fill_writes l part value sector (false ∷ chosen) under = run_write l part value (sector - under) under ++ fill_writes l part value (suc sector) chosen zero
+    if touches l.kind then fill_writes l part value (suc sector) chosen (suc under)
+    else run_write l part value sector 1 ++ fill_writes l part value (suc sector) chosen under
+fill_writes l part value sector (false ∷ chosen) under =
+    run_write l part value (sector - under) under ++ fill_writes l part value (suc sector) chosen zero
 
 -- writes, and one sync where there was any
 abbrev pub synced : List DiskStep → List DiskStep
@@ -202,7 +206,8 @@ mark_steps place false byte = if byte == mark_byte then put place (0 ∷ []) els
 -- zeroed, those not formed are formed, and all gates are opened.
 unfoldable pub format_segment_steps : (l : Layout) (segment : ℕ) (readable usable unformed : List Bool) → List DiskStep
 format_segment_steps l segment readable usable unformed =
-    fill l GateByte closed_gate (32 * segment) readable ++ (fill l Data 0 (32 * segment) usable ++ (fill l FormedByte formed_byte (32 * segment) unformed ++ fill l GateByte open_gate (32 * segment) usable))
+    fill l GateByte closed_gate (32 * segment) readable ++ (fill l Data 0 (32 * segment) usable
+    ++ (fill l FormedByte formed_byte (32 * segment) unformed ++ fill l GateByte open_gate (32 * segment) usable))
 
 -- by the state bytes that the file has
 abbrev pub is_usable : (l : Layout) (bytes : List ℕ) (sector : ℕ) → Bool
@@ -212,14 +217,17 @@ abbrev pub is_open : (l : Layout) (bytes : List ℕ) (sector : ℕ) → Bool
 is_open l bytes sector = is_usable l bytes sector && (slice_index bytes (place l GateByte sector) == open_gate)
 
 abbrev pub is_unformed : (l : Layout) (bytes : List ℕ) (sector : ℕ) → Bool
-is_unformed l bytes sector = is_usable l bytes sector && not (slice_index bytes (place l FormedByte sector) == formed_byte)
+is_unformed l bytes sector =
+    is_usable l bytes sector && not (slice_index bytes (place l FormedByte sector) == formed_byte)
 
 -- which of the 32 sectors of a segment
 abbrev pub those : (segment : ℕ) → (ℕ → Bool) → List Bool
 those segment is = map is (range_with_len (32 * segment) 32)
 
 abbrev pub format_plan : (l : Layout) (segment : ℕ) (bytes : List ℕ) → List DiskStep
-format_plan l segment bytes = format_segment_steps l segment (those segment (is_open l bytes)) (those segment (is_usable l bytes)) (those segment (is_unformed l bytes))
+format_plan l segment bytes =
+    format_segment_steps l segment (those segment (is_open l bytes)) (those segment (is_usable l bytes))
+    (those segment (is_unformed l bytes))
 
 -- an image's first byte is cleared
 abbrev pub clear_steps : (first : ℕ) → List DiskStep
@@ -228,21 +236,28 @@ clear_steps first = if first == first_letter then put 0 (0 ∷ []) else []
 -- by the first byte of the file, which is taken for 0 where there is none
 unfoldable pub renew_steps : (n first : ℕ) → List DiskStep
 renew_steps n first =
-    clear_steps first ++ (resize head_len ++ (resize (image_len n) ++ (put 1 (drop 1 (new_head n)) ++ put 0 (first_letter ∷ []))))
+    clear_steps first ++ (resize head_len ++ (resize (image_len n)
+    ++ (put 1 (drop 1 (new_head n)) ++ put 0 (first_letter ∷ []))))
 
 -- The four parts of a sector of a version 1 image, as they stand beside each other in version 2.
 unfoldable pub cell : (n : ℕ) (bytes : List ℕ) (sector : ℕ) → List ℕ
 cell n bytes sector =
-    slice_index bytes (plane_place n GateByte sector) ∷ slice_index bytes (plane_place n FormedByte sector) ∷ slice_index bytes (plane_place n DefectByte sector) ∷ slice_range bytes (plane_place n Data sector) (plane_place n Data sector + 1024)
+    slice_index bytes (plane_place n GateByte sector) ∷ slice_index bytes (plane_place n FormedByte sector)
+    ∷ slice_index bytes (plane_place n DefectByte sector)
+    ∷ slice_range bytes (plane_place n Data sector) (plane_place n Data sector + 1024)
 
 -- .. by the state bytes of a segment and its 32,768 bytes
 unfoldable pub cell_with : (gates formed defects block : List ℕ) (i : ℕ) → List ℕ
-cell_with gates formed defects block i = slice_index gates i ∷ slice_index formed i ∷ slice_index defects i ∷ slice_range block (1024 * i) (1024 * i + 1024)
+cell_with gates formed defects block i =
+    slice_index gates i ∷ slice_index formed i ∷ slice_index defects i
+    ∷ slice_range block (1024 * i) (1024 * i + 1024)
 
 -- the first ones of sectors from one on are written as cells behind the planes
 abbrev pub cells_by : (n sector : ℕ) (parts : ℕ → List ℕ) (count : ℕ) → List DiskStep
 cells_by n sector parts zero = []
-cells_by n sector parts (suc count) = cells_by n sector parts count ++ WriteAt (cell_place (image_len n) GateByte (sector + count)) (parts count) ∷ []
+cells_by n sector parts (suc count) =
+    cells_by n sector parts count
+    ++ WriteAt (cell_place (image_len n) GateByte (sector + count)) (parts count) ∷ []
 
 -- a segment is looked at, and its 32 sectors are written
 abbrev pub copy_segment : (n segment : ℕ) (bytes : List ℕ) → List DiskStep
@@ -253,11 +268,12 @@ abbrev pub copy_steps : (n : ℕ) (bytes : List ℕ) (count : ℕ) → List Disk
 copy_steps n bytes zero = []
 copy_steps n bytes (suc count) = copy_steps n bytes count ++ copy_segment n count bytes
 
--- A version 1 image is brought to version 2: it gets longer, its sectors are written as cells behind the planes, then the
--- base, and at last the layout mark.
+-- A version 1 image is brought to version 2: it gets longer, its sectors are written as cells behind the planes, then
+-- the base, and at last the layout mark.
 unfoldable pub upgrade_steps : (n : ℕ) (bytes : List ℕ) → List DiskStep
 upgrade_steps n bytes =
-    (resize (upgraded_len n) ++ (copy_steps n bytes (28 * n) ++ (Sync ∷ [] ++ put base_place (little_endian_bytes 8 (image_len n))))) ++ put layout_place (mark_byte ∷ [])
+    (resize (upgraded_len n) ++ (copy_steps n bytes (28 * n)
+    ++ (Sync ∷ [] ++ put base_place (little_endian_bytes 8 (image_len n))))) ++ put layout_place (mark_byte ∷ [])
 
 -- .. and one of version 2 stays
 abbrev pub upgrade_plan : (l : Layout) (bytes : List ℕ) → List DiskStep

@@ -213,7 +213,61 @@ pub fn read_planes<D: Disk>(
     })
 }
 
-/// The state bytes of a segment in cells.
+/// The 32 cells of a segment, which stand beside each other.
+fn read_cells<D: Disk>(disk: &mut D, place: u64) -> Result<[u8; 32864], DiskFailed>
+    ensures looked { Looked D.means disk.old disk.new result }
+    ensures bytes { IfOk result (λ part. IfSome (D.means.told disk.old) (λ bytes.
+        place + 32864 ≤ length bytes → part ≡ slice_range bytes place (place + 32864))) }
+    ensures seen { D.means.seen_len disk.new ≡ D.means.seen_len disk.old }
+{
+    let mut part = [0; 32864];
+    disk.read_at(place, &mut part)?;
+    Ok(part)
+}
+
+/// The state bytes among those of the 32 cells of a segment.
+fn marks_in(cells: &[u8; 32864]) -> SegmentMarks
+    ensures gates { (i : ℕ) → i < 32 →
+        slice_index result.gates i ≡ slice_index cells.now (1027 * i) }
+    ensures formed { (i : ℕ) → i < 32 →
+        slice_index result.formed i ≡ slice_index cells.now (1027 * i + 1) }
+    ensures defects { (i : ℕ) → i < 32 →
+        slice_index result.defects i ≡ slice_index cells.now (1027 * i + 2) }
+{
+    let mut gates = [0; 32];
+    let mut formed = [0; 32];
+    let mut defects = [0; 32];
+    for i in 0..32 {
+        gates[i] = cells[1027 * i];
+        formed[i] = cells[1027 * i + 1];
+        defects[i] = cells[1027 * i + 2];
+    }
+    SegmentMarks {
+        gates,
+        formed,
+        defects,
+    }
+}
+
+/// The state bytes of a segment in cells, read with all its bytes at once.
+fn read_marks_at_once<D: Disk>(
+    disk: &mut D,
+    layout: Layout,
+    segment: u32,
+) -> Result<SegmentMarks, DiskFailed>
+    requires place { segment < 28 * layout.segments_per_track }
+    requires cells { touches layout.kind ≡ false }
+    ensures looked { Looked D.means disk.old disk.new result }
+    ensures marks { IfOk result (λ marks. IfSome (D.means.told disk.old) (λ bytes.
+        end_of layout ≤ length bytes → AreMarks layout segment bytes marks)) }
+    ensures seen { D.means.seen_len disk.new ≡ D.means.seen_len disk.old }
+{
+    let place = layout.place(Part::GateByte, 32 * segment as u64);
+    let cells = read_cells(disk, place)?;
+    Ok(marks_in(&cells))
+}
+
+/// The state bytes of a segment in cells, read sector by sector.
 fn read_all_flags<D: Disk>(
     disk: &mut D,
     layout: Layout,
@@ -243,13 +297,35 @@ fn read_all_flags<D: Disk>(
     })
 }
 
+/// The state bytes of a segment in cells: all its bytes are read at once, and its state bytes alone where the disk fails in
+/// that. So it fails only where the disk fails in these.
+fn read_cell_marks<D: Disk>(
+    disk: &mut D,
+    layout: Layout,
+    segment: u32,
+) -> Result<SegmentMarks, DiskFailed>
+    requires place { segment < 28 * layout.segments_per_track }
+    requires cells { touches layout.kind ≡ false }
+    requires settled { IsSettled D.means disk.old }
+    ensures looked { Looked D.means disk.old disk.new result }
+    ensures marks { IfOk result (λ marks. IfSome (D.means.told disk.old) (λ bytes.
+        end_of layout ≤ length bytes → AreMarks layout segment bytes marks)) }
+    ensures seen { D.means.seen_len disk.new ≡ D.means.seen_len disk.old }
+{
+    match read_marks_at_once(disk, layout, segment) {
+        Ok(marks) => Ok(marks),
+        Err(DiskFailed) => read_all_flags(disk, layout, segment),
+    }
+}
+
 /// The state bytes of the sectors of a segment.
 pub fn read_marks<D: Disk>(
     disk: &mut D,
     layout: Layout,
     segment: u32,
 ) -> Result<SegmentMarks, DiskFailed>
-    requires { segment < 28 * layout.segments_per_track }
+    requires place { segment < 28 * layout.segments_per_track }
+    requires settled { IsSettled D.means disk.old }
     ensures looked { Looked D.means disk.old disk.new result }
     ensures marks { IfOk result (λ marks. IfSome (D.means.told disk.old) (λ bytes.
         end_of layout ≤ length bytes → AreMarks layout segment bytes marks)) }
@@ -257,7 +333,7 @@ pub fn read_marks<D: Disk>(
 {
     match layout.kind {
         Kind::Planes => read_planes(disk, layout, segment),
-        Kind::Cells | Kind::CellsBehind => read_all_flags(disk, layout, segment),
+        Kind::Cells | Kind::CellsBehind => read_cell_marks(disk, layout, segment),
     }
 }
 

@@ -10,21 +10,21 @@ use Rattle.command_laws.proofs.MadeComplete.{made_where_there_is_room}
 use Rattle.command_laws.proofs.MountedHeld.{mounted_open}
 use Rattle.command_laws.proofs.RestoreGivenBack.{given, given_whole}
 use Rattle.command_spec.specs.Append.{room_in, Appends, AppendOutcome, kept_in}
-use Rattle.command_spec.specs.AppendCommand.{CanTake}
+use Rattle.command_spec.specs.Commands.AppendCommand.{CanTake}
 use Rattle.command_spec.specs.Complete.{ReadsAs, IsUnprotected}
-use Rattle.command_spec.specs.Defect.{DefectOutcome}
-use Rattle.command_spec.specs.Format.{FormatOutcome}
+use Rattle.command_spec.specs.Commands.Defect.{DefectOutcome}
+use Rattle.command_spec.specs.Commands.Format.{FormatOutcome}
 use Rattle.command_spec.specs.Input.{Ending, AtEnd, AtStop, IsPulse, IsPulses, Item, IsItem, IsScript}
-use Rattle.command_spec.specs.Lose.{LoseOutcome}
+use Rattle.command_spec.specs.Commands.Lose.{LoseOutcome}
 use Rattle.command_spec.specs.Make.{Making, MakeOutcome, make_status}
-use Rattle.command_spec.specs.MakeCommand.{CanMake}
+use Rattle.command_spec.specs.Commands.MakeCommand.{CanMake}
 use Rattle.command_spec.specs.Outcome.{Going, CommandOutcome, Opened, OpenOutcome, WritableOutcome, HasPlace, Printing, Shows}
 use Rattle.command_spec.specs.Pulses.{SentOutcome, sent_status}
-use Rattle.command_spec.specs.PulsesCommand.{IsOfTrains}
+use Rattle.command_spec.specs.Commands.PulsesCommand.{IsOfTrains}
 use Rattle.command_spec.specs.Restore.{RestoreOutcome}
-use Rattle.command_spec.specs.RestoreCommand.{CanGive}
+use Rattle.command_spec.specs.Commands.RestoreCommand.{CanGive}
 use Rattle.command_spec.specs.Script.{Scripting, ScriptOutcome, script_status}
-use Rattle.command_spec.specs.ScriptCommand.{IsOfLines}
+use Rattle.command_spec.specs.Commands.ScriptCommand.{IsOfLines}
 use Rattle.command_spec.specs.Scrub.{Mends, ScrubOutcome}
 use Rattle.command_spec.specs.declared.status.Status.{Status}
 use Rattle.qic_base.specs.Cartridge.{Cartridge, view_at, IsCartridge}

@@ -8,7 +8,7 @@ use Rattle.command_spec.specs.Headline.{Answers, Stepped, IsCut, WasCut}
 use Rattle.command_spec.specs.Machine.{Spells, Step, Yields}
 use Rattle.command_spec.specs.Outcome.{CommandOutcome, output_of}
 use Rattle.command_spec.specs.Restore.{RestoreOutcome}
-use Rattle.command_spec.specs.RestoreCommand.{HasNumber}
+use Rattle.command_spec.specs.Commands.RestoreCommand.{HasNumber}
 use Rattle.command_spec.specs.Runs.{is_fault, fault_of}
 use Rattle.command_spec.specs.Volumes.{CameToEnd, GivesBack}
 use Rattle.command_spec.specs.declared.status.Status.{Status}

@@ -18,9 +18,9 @@ use Rattle.command_laws.proofs.RestoreEndings.{restores_is_function}
 use Rattle.command_laws.proofs.ScriptMachineLaws.{one_outcome as one_script}
 use Rattle.command_laws.proofs.ScrubTurns.{scrubs_is_function}
 use Rattle.command_spec.specs.Append.{Appends}
-use Rattle.command_spec.specs.Defect.{DefectOutcome}
-use Rattle.command_spec.specs.Format.{FormatOutcome, cleared, formatted}
-use Rattle.command_spec.specs.Lose.{LoseOutcome}
+use Rattle.command_spec.specs.Commands.Defect.{DefectOutcome}
+use Rattle.command_spec.specs.Commands.Format.{FormatOutcome, cleared, formatted}
+use Rattle.command_spec.specs.Commands.Lose.{LoseOutcome}
 use Rattle.command_spec.specs.Make.{Making, made_on}
 use Rattle.command_spec.specs.Outcome.{refused, CommandOutcome, Going, Opened, OpenOutcome, WritableOutcome, Printing, Shows, settling_act, HasPlace}
 use Rattle.command_spec.specs.Pulses.{sent, info_of, SentOutcome, train_acts}

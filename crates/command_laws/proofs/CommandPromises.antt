@@ -183,19 +183,21 @@ module _ {T S K : Type 0} (t : tapes.Meaning T) (s : sources.Meaning S) (k : sin
         no_fault = λ done other spells.
             subst (λ (w : Words). IfSome (s.left old.source) (λ input. (line place : ℕ) → ¬ (HasInputFault w input line place))) (same_command spelled other spells)
             (none_at command answer (s.left old.source) done (finished (ap is_fault done)).fault);
-        printed = λ done.
-            let f : Finished t s k command old new answer = finished (ap is_fault done) in
-            record { command = command; spelled = spelled; text = output_of f.outcome; is_text = f.prints.0 done; took = f.went.wrote.took };
-        refused = λ other spells sound unlike.
-            let f : Finished t s k command old new answer = finished sound in
-            subst (λ (w : Words). PrintsRefused k w answer old.sink new.sink) (same_command spelled other spells)
-            (record { text = output_of f.outcome; is_text = f.prints.1 unlike; took = f.went.wrote.took });
-        begun = λ other spells.
-            subst (λ (w : Words). PrintsFront k w old.sink new.sink) (same_command spelled other spells)
-            (ends_begun t s k words command old new answer laws spelled ends);
         silent = λ none done fault. ends_silent t s k words command old new answer ends (none command spelled) done fault;
         source = λ none. source (none command spelled);
         kept = kept;
+        text = record {
+          done = λ done.
+              let f : Finished t s k command old new answer = finished (ap is_fault done) in
+              record { command = command; spelled = spelled; text = output_of f.outcome; is_text = f.prints.0 done; took = f.went.wrote.took };
+          refused = λ other spells sound unlike.
+              let f : Finished t s k command old new answer = finished sound in
+              subst (λ (w : Words). PrintsRefused k w answer old.sink new.sink) (same_command spelled other spells)
+              (record { text = output_of f.outcome; is_text = f.prints.1 unlike; took = f.went.wrote.took });
+          begun = λ other spells.
+              subst (λ (w : Words). PrintsFront k w old.sink new.sink) (same_command spelled other spells)
+              (ends_begun t s k words command old new answer laws spelled ends);
+        };
       }
 
 -- ---- a run that touched nothing
@@ -283,12 +285,14 @@ module _ {T S K : Type 0} (t : tapes.Meaning T) (s : sources.Meaning S) (k : sin
         named = λ outcome. let no = nothing.2 in absurd (cc);
         fault = λ line place same. let no = ap is_idle same in absurd (cc);
         no_fault = λ done. let no = ap is_idle done in absurd (cc);
-        printed = λ done. let no = ap is_idle done in absurd (cc);
-        refused = λ command spells sound unlike. record { text = []; is_text = none_printed command answer; took = laws.nothing old.sink };
-        begun = begun;
         silent = λ none done fault. refl;
         source = λ none. refl;
         kept = kept;
+        text = record {
+          done = λ done. let no = ap is_idle done in absurd (cc);
+          refused = λ command spells sound unlike. record { text = []; is_text = none_printed command answer; took = laws.nothing old.sink };
+          begun = begun;
+        };
       }
 
   usage_step : Laws t s k old old → SpellsNone words → (held : Option Cartridge) (input : List ℕ) → t.told old.tape ≡ Some held → Stepped t s k words held input old old status.Usage

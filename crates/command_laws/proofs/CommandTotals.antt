@@ -17,9 +17,9 @@ use Rattle.command_laws.proofs.ScriptOutcomes.{each_outcome as each_script}
 use Rattle.command_laws.proofs.ScriptPlaces.{place_or_not}
 use Rattle.command_laws.proofs.ScrubTurns.{scrubs_always}
 use Rattle.command_spec.specs.Append.{Appends}
-use Rattle.command_spec.specs.Defect.{DefectOutcome}
-use Rattle.command_spec.specs.Format.{FormatOutcome}
-use Rattle.command_spec.specs.Lose.{LoseOutcome}
+use Rattle.command_spec.specs.Commands.Defect.{DefectOutcome}
+use Rattle.command_spec.specs.Commands.Format.{FormatOutcome}
+use Rattle.command_spec.specs.Commands.Lose.{LoseOutcome}
 use Rattle.command_spec.specs.Make.{Making}
 use Rattle.command_spec.specs.Outcome.{CommandOutcome, HasPlace, Going, Opened, OpenOutcome, WritableOutcome, Printing, Shows}
 use Rattle.command_spec.specs.Pulses.{sent, info_of, SentOutcome}

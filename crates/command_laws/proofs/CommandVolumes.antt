@@ -19,7 +19,7 @@ use Rattle.command_laws.proofs.CommandPlainLaws.{FormatLeaves, format_leaves}
 use Rattle.command_laws.proofs.CommandTable.{laws_of, plain_answers}
 use Rattle.command_laws.proofs.TextWords.{one_command}
 use Rattle.command_spec.specs.Commands.{traits_of}
-use Rattle.command_spec.specs.Format.{FormatOutcome}
+use Rattle.command_spec.specs.Commands.Format.{FormatOutcome}
 use Rattle.command_spec.specs.Headline.{ToldNow, EachLeft, StopLeaves, WordsLeave}
 use Rattle.command_spec.specs.Machine.{Yields, HasValues, Spells}
 use Rattle.command_spec.specs.Outcome.{CommandOutcome}

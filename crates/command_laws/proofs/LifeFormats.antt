@@ -11,14 +11,16 @@ use Rattle.cartridge_spec.specs.Volumes.{Plain}
 use Rattle.command_laws.proofs.CommandPlainLaws.{format_leaves}
 use Rattle.command_laws.proofs.CommandTable.{only_new_renews}
 use Rattle.command_laws.proofs.CommandVolumes.{cleared_is_bare, format_bare, format_standing, formatted_fresh}
-use Rattle.command_laws.proofs.LifeUnformatted.{IsReferenced, NeitherReads, formatting_references, neither_from_bare, neither_from_unformatted}
+use Rattle.command_laws.proofs.CommandUnread.{neither_from_bare, neither_from_unformatted}
+use Rattle.command_laws.proofs.LifeUnformatted.{IsReferenced, formatting_references}
+use Rattle.command_laws.specs.CommandRecord.{NeitherReads}
 use Rattle.command_laws.proofs.ScriptAnswered.{next_torn}
 use Rattle.command_laws.specs.ActStops.{IsLeftBy}
 use Rattle.command_laws.specs.Life.{Ended, Answered, Stopped, Becomes, IsReady, IsSound, IsWithout, Leaves, MayEnd, begun_by}
-use Rattle.command_spec.specs.Format.{FormatOutcome}
+use Rattle.command_spec.specs.Commands.Format.{FormatOutcome}
 use Rattle.command_spec.specs.Outcome.{CommandOutcome}
 use Rattle.command_spec.specs.Volumes.{IsBare, StandsEmpty, StandsFresh}
-use Rattle.command_spec.specs.New.{NewOutcome}
+use Rattle.command_spec.specs.Commands.New.{NewOutcome}
 use Rattle.command_spec.specs.declared.status.Status.{Status}
 use Rattle.command_spec.specs.declared.words.Words.{Words}
 use Rattle.qic_base.proofs.Joins.{steps_of-append}

@@ -23,7 +23,7 @@ use Rattle.command_spec.specs.Machine.{Yields}
 use Rattle.command_spec.specs.MadeVolumes.{made_contents}
 use Rattle.command_spec.specs.Outcome.{CommandOutcome}
 use Rattle.command_spec.specs.ScriptLists.{all_added}
-use Rattle.command_spec.specs.RestoreCommand.{HasNumber}
+use Rattle.command_spec.specs.Commands.RestoreCommand.{HasNumber}
 use Rattle.command_spec.specs.Volumes.{StandsFresh}
 use Rattle.command_spec.specs.declared.words.Words.{Words}
 use Rattle.qic_base.specs.Acts.{steps_of}

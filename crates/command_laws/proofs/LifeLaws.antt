@@ -10,7 +10,8 @@ use Rattle.command_laws.proofs.CommandLeft.{leaves_whole}
 use Rattle.command_laws.proofs.CommandTable.{only_new_renews}
 use Rattle.command_laws.proofs.LifeFormats.{Makes, format_makes, new_makes, torn_by}
 use Rattle.command_laws.proofs.LifeRuns.{append_makes, keeping, make_makes, none_of_none, script_makes, without_stays, others_keep_live}
-use Rattle.command_laws.proofs.LifeUnformatted.{NeitherReads, worn_neither}
+use Rattle.command_laws.proofs.CommandUnread.{worn_neither}
+use Rattle.command_laws.specs.CommandRecord.{NeitherReads}
 use Rattle.command_laws.proofs.WholeSteps.{worn_whole}
 use Rattle.command_laws.specs.Life.{ALife, CommandSpares, Ended, Event, EventBecomes, Happens, IsSound, Leaves, LossSpares, Loses, MayEnd, Runs, begun_behind, begun_by}
 use Rattle.command_spec.specs.Machine.{HasValues, Yields}
@@ -38,7 +39,7 @@ command_makes command input ended begun None left None outcome sound values byte
 command_makes command input ended begun (Some c) left None outcome sound values bytes yields leaves whole spares may = (
   None,
   refl,
-  without_stays command ended c input begun left outcome (λ segments is. cc) (λ label date is. cc) tt spares sound yields (torn_by ended outcome (Some c) left leaves) whole,
+  without_stays command ended c input begun left outcome tt spares sound yields (torn_by ended outcome (Some c) left leaves) whole,
 )
 command_makes (words.Append name date) input ended begun (Some c) left (Some plain) outcome sound values bytes yields leaves whole spares may =
     append_makes name date c input begun plain left outcome values bytes sound yields whole ended leaves
@@ -63,7 +64,7 @@ command_makes command input ended begun (Some c) left (Some plain) outcome sound
 worn_sound : (segment sector : ℕ) (begun : Bool) (c : Cartridge) (before : Option Plain) → sector < 32 → IsCartridge (worn segment sector c) → LossSpares c segment sector →
     IsSound begun (Some c) before → IsSound begun (Some (worn segment sector c)) before
 worn_sound segment sector begun c None small whole spares sound =
-    let none : NeitherReads (worn segment sector c) = worn_neither c segment sector small spares (sound.first, sound.second) in
+    let none : NeitherReads (worn segment sector c) = worn_neither c segment sector small (spares.copies sound.first sound.second) (sound.first, sound.second) in
     record { whole = whole; first = none.0; second = none.1; bare = λ is. worn_is_bare c segment sector (sound.bare is) }
 worn_sound segment sector begun c (Some plain) small whole spares sound = record {
   whole = whole;

@@ -15,13 +15,14 @@ use Rattle.command_laws.proofs.CommandEnds.{done_or_not}
 use Rattle.command_laws.proofs.CommandSeveral.{WasMounted, WasTurned, behind_front, make_done, make_printed, make_stopped, mounted_or_turned, script_answered, script_stopped}
 use Rattle.command_laws.proofs.CommandTable.{copies_stay_bare, copies_stay_clean, laws_of, only_new_renews}
 use Rattle.command_laws.proofs.LifeFormats.{Makes, torn_by}
-use Rattle.command_laws.proofs.LifeUnformatted.{NeitherReads, stays_neither}
+use Rattle.command_laws.specs.CommandRecord.{NeitherReads}
 use Rattle.command_laws.proofs.MountedHeld.{mounted_held}
 use Rattle.command_laws.proofs.ScriptAnswered.{done_script_stands}
 use Rattle.command_laws.proofs.ScriptSpeaking.{as_many}
 use Rattle.command_laws.specs.ActStops.{IsLeftBy}
 use Rattle.command_laws.specs.Life.{Ended, Answered, Stopped, AnsweredAmong, CommandSpares, HasPrinted, IsReady, IsSound, IsWithout, Leaves, WasDone, WasHeard}
 use Rattle.command_laws.specs.MountedHeld.{IsHeld}
+use Rattle.command_spec.specs.Commands.{command_of}
 use Rattle.command_spec.specs.Input.{Item}
 use Rattle.command_spec.specs.Listing.{IsHeard}
 use Rattle.command_spec.specs.Machine.{HasValues, Yields}
@@ -90,13 +91,19 @@ without_now : (begun : Bool) (left : Option Cartridge) → IfSome left IsCartrid
 without_now begun None whole none bare = tt
 without_now begun (Some d) whole none bare = record { whole = whole; first = none.0; second = none.1; bare = bare }
 
+-- a sector that a command loses spares them
+spares_unread : (command : Words) (ended : Ended) (c : Cartridge) (input : List ℕ) (left : Option Cartridge) → CommandSpares command ended input left c → NeitherReads c →
+    (command_of command).keeps_unread c
+spares_unread (words.Lose segment sector) ended c input left spares none = λ place. (spares place).copies none.0 none.1
+spares_unread command ended c input left spares none = tt
+
 pub without_stays : (command : Words) (ended : Ended) (c : Cartridge) (input : List ℕ) (begun : Bool) (left : Option Cartridge) (outcome : CommandOutcome) →
-    ((segments : ℕ) → command ≢ words.New segments) → ((label : List ℕ) (date : ℕ) → command ≢ words.Format label date) → KeepsCopies command c → CommandSpares command ended input left c →
-    IsWithout begun c → Yields command (Some c) input outcome → Torn (steps_of outcome.acts) (Some c) left → IfSome left IsCartridge → IsSound begun left None
-without_stays command ended c input begun left outcome other others keeps spares without yields torn whole =
+    KeepsCopies command c → CommandSpares command ended input left c → IsWithout begun c → Yields command (Some c) input outcome →
+    Torn (steps_of outcome.acts) (Some c) left → IfSome left IsCartridge → IsSound begun left None
+without_stays command ended c input begun left outcome keeps spares without yields torn whole =
+    let none : NeitherReads c = (without.first, without.second) in
     without_now begun left whole
-    (stays_neither command c input outcome left other others
-    (λ segment sector same. subst (λ (w : Words). CommandSpares w ended input left c) same spares) (without.first, without.second) yields torn)
+    ((laws_of command).unread c keeps (spares_unread command ended c input left spares none) none input outcome left yields torn)
     (λ is. copies_stay_bare command c input outcome left keeps yields (without.bare is) torn)
 
 -- where no cartridge is held none is left, but by `new`

@@ -83,7 +83,7 @@ pub made_content : (seed volume : ℕ) → All (λ b. b < 256) (made_bytes seed 
 unfolding made_bytes
 made_content seed volume = All-map (λ b. b < 256) (made_byte seed volume) (range_with_len 0 (made_length seed volume)) (λ k d h. omega arith)
 
-made_named : (seed volume : ℕ) → volume ≤ 200 → IsAppendable (made_name volume) 0 (made_bytes seed volume)
+pub made_named : (seed volume : ℕ) → volume ≤ 200 → IsAppendable (made_name volume) 0 (made_bytes seed volume)
 made_named seed volume few = record { label = made_label volume few; word = omega arith; content = made_content seed volume }
 
 -- ---- an append, as a step
@@ -121,7 +121,7 @@ module _ (seed : ℕ) (c : Cartridge) (plain : Plain) (held : IsOpen c plain) (v
   abbrev all_steps : List Step
   all_steps = settle_and_append c plain (made_name volume) 0 bytes
 
-  steps_are : (table : List (List ℕ)) → TableIs c table → has_room plain (length bytes) ≡ true →
+  pub steps_are : (table : List (List ℕ)) → TableIs c table → has_room plain (length bytes) ≡ true →
       steps_of (made_acts seed c plain.words (entries_of plain) table volume) ≡ all_steps
   steps_are table reads enough =
       ap steps_of (same_acts table reads)
@@ -142,7 +142,7 @@ module _ (seed : ℕ) (c : Cartridge) (plain : Plain) (held : IsOpen c plain) (v
   append_is acts answer (inr (free, inr lost)) = absurd (never_lost c plain.table_area lost.lost held.table lost.says)
 
   -- where it was carried out there was room, and all its steps were done
-  done_append : (acts : List Act) → StepDoes seed c plain.words (entries_of plain) (AppendMade volume) acts Done →
+  pub done_append : (acts : List Act) → StepDoes seed c plain.words (entries_of plain) (AppendMade volume) acts Done →
       (has_room plain (length bytes) ≡ true) × (steps_of acts ≡ all_steps)
   done_append acts does =
       let is = append_is acts Done does in

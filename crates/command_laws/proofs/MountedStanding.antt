@@ -165,14 +165,17 @@ module _ (name : List ℕ) (date : ℕ) (bytes : List ℕ) (label : IsLabel name
   abbrev steps : List Step
   steps = settle_and_append c plain name date bytes
 
+  -- all steps done, the new table is whole
+  pub whole_appended : has_room plain (length bytes) ≡ true → IsWhole (changed_by steps c) (new_table plain name date bytes)
+  whole_appended room =
+      subst (λ (d : Cartridge). IsWhole d (new_table plain name date bytes)) (sym (appended_behind c plain name date bytes held.table))
+      (appended_is_whole still plain name date bytes (settled_is_ready c plain name date bytes (may room)))
+
   pub kept_appended : has_room plain (length bytes) ≡ true → IsKept (changed_by steps c) more
   kept_appended room =
-      let done : Cartridge = changed_by (appends.append_steps_of plain name date bytes) still in
-      let is : IsReadyFor still plain name date bytes = settled_is_ready c plain name date bytes (may room) in
       live_kept (changed_by steps c) more
       (open_appended c plain name date bytes (kept_open c plain held) (record { label = label; word = word; content = content }) room)
-      (subst IsTableLive (sym (appended_behind c plain name date bytes held.table))
-      (whole_lives done (new_table plain name date bytes) (appended_is_whole still plain name date bytes is)))
+      (whole_lives (changed_by steps c) (new_table plain name date bytes) (whole_appended room))
 
   pub stopped_appended : (left : Option Cartridge) → has_room plain (length bytes) ≡ true →
       Torn steps (Some c) left → IsSomeAnd left (λ d. Stands d plain ⊎ Stands d more)

@@ -1,15 +1,12 @@
 -- The forms of commands.
-use Rattle.std.proofs.Common.{length, ◌≤◌, inl, inr, ℕ, List, [], ◌∷◌, ◌≡◌, ◌⊎◌, zero, suc, ◌+◌, ◌==◌, false, ◌++◌, refl, arith, ◌-◌, ap, ◌∙◌, ◌*◌, get_or, ◌/◌, ◌%◌, sym, codes, if◌then◌else◌}
+use Rattle.std.proofs.Common.{length, ◌≤◌, inl, inr, ℕ, List, [], ◌∷◌, ◌≡◌, ◌⊎◌, zero, suc, ◌+◌, ◌==◌, false, ◌++◌, refl, arith, ◌-◌, ap, ◌∙◌, ◌*◌, get_or, ◌/◌, ◌%◌, sym}
 use Rattle.std.proofs.lemmas.Bool.Decides.{nat_tests}
 use Rattle.std.specs.Str.Parse.{digits_value}
 use Rattle.std.proofs.lemmas.Fmt.{decimal_is_IsNumeral}
-use Rattle.std.specs.Str.{bytes_eq}
 use Rattle.command_laws.proofs.TextDates.{HasPair, fields_of}
 use Rattle.command_spec.specs.CommandWords.{Part, SpellsAll, HasForm, Date, dated, SpellsPart, IsNumber, IsDateWord}
 use Rattle.command_spec.specs.declared.words.Words.{Words}
 use Rattle.qic_base.specs.Date.{date_word}
-use Rattle.qic_base.specs.Name.{filled}
-use Rattle.command_spec.specs.declared.words.Words.TheVariants as words
 
 -- the only form
 pub only : (ws : List (List ℕ)) (form : List Part) → HasForm ws (form ∷ []) → SpellsAll ws form
@@ -106,17 +103,26 @@ IsDateWord-value word date d =
 
 -- ---- the only command that words can be
 
-unfoldable pub guess : List (List ℕ) → Words
-guess [] = words.Info
-guess (a ∷ []) =
-    if bytes_eq a (codes "info") then words.Info else if bytes_eq a (codes "list") then words.List else if bytes_eq a (codes "scrub") then words.Scrub
-    else if bytes_eq a (codes "pulses") then words.Pulses else if bytes_eq a (codes "script") then words.Script else words.Upgrade
-guess (a ∷ b ∷ []) =
-    if bytes_eq a (codes "new") then words.New (number_value b) else if bytes_eq a (codes "protect") then words.Protect (bytes_eq b (codes "on"))
-    else if bytes_eq a (codes "format") then words.Format (filled b) 0 else if bytes_eq a (codes "append") then words.Append (filled b) 0
-    else if bytes_eq a (codes "scrub") then words.ScrubDeep else words.Restore (number_value b)
-guess (a ∷ b ∷ c ∷ []) =
-    if bytes_eq a (codes "defect") then words.Defect (number_value b) (number_value c) else if bytes_eq a (codes "lose") then words.Lose (number_value b) (number_value c)
-    else if bytes_eq a (codes "format") then words.Format (filled b) (date_value c) else if bytes_eq a (codes "append") then words.Append (filled b) (date_value c)
-    else words.Make (number_value b) (number_value c)
-guess (a ∷ b ∷ c ∷ d ∷ rest) = words.Info
+-- the commands that begin with one word: which of them the words behind it make, where they make any
+pub record Reading : Type 0 where
+  pub name : List ℕ
+  pub reads : (behind : List (List ℕ)) → Words
+
+-- the words are read so as the command
+pub record IsRead (reading : Reading) (ws : List (List ℕ)) (command : Words) : Type 0 where
+  pub behind : List (List ℕ)
+  pub are : ws ≡ reading.name ∷ behind
+  pub is : reading.reads behind ≡ command
+
+-- words that begin with a name
+pub named : {ws : List (List ℕ)} {name first : List ℕ} {behind : List (List ℕ)} → ws ≡ first ∷ behind → first ≡ name → ws ≡ name ∷ behind
+named {behind = behind} are is = are ∙ ap (λ word. word ∷ behind) is
+
+-- the word at a place
+abbrev pub word_at : List (List ℕ) → ℕ → List ℕ
+word_at ws i = get_or ws i []
+
+-- the date behind the first of them, and 0 where none is given
+abbrev pub date_behind : List (List ℕ) → ℕ
+date_behind (a ∷ b ∷ rest) = date_value b
+date_behind ws = 0

@@ -1,7 +1,7 @@
 -- Words are those of one command, or of none.
 use Rattle.std.proofs.Common.{inl, inr, ℕ, List, [], ◌∷◌, ◌≡◌, ◌⊎◌, ◌∙◌, sym, codes, subst}
-use Rattle.command_laws.proofs.CommandTable.{guess_is}
-use Rattle.command_laws.proofs.TextCommands.{guess, date_value, dated_cases}
+use Rattle.command_laws.proofs.CommandTable.{guess, guess_is}
+use Rattle.command_laws.proofs.TextCommands.{date_value, dated_cases}
 use Rattle.command_laws.proofs.TextDeciding.{has_form}
 use Rattle.command_laws.specs.TextWords.{OneCommand, IsNoCommand}
 use Rattle.command_spec.specs.CommandWords.{IsDateWord, Word, Name}

@@ -3,7 +3,7 @@ use Rattle.std.specs.Prelude.{All, ◌<◌, length, ◌≤◌, true, None, ◌�
 use Rattle.cartridge_laws.specs.ChangeSteps.{HasNoRenew}
 use Rattle.cartridge_spec.specs.Formatting.{IsFirstDefectInFront, HasCleanCopies, HasNoHeader}
 use Rattle.cartridge_spec.specs.Header.{Header}
-use Rattle.cartridge_spec.specs.HeaderAndTable.{IsUnformatted, IsArea}
+use Rattle.cartridge_spec.specs.HeaderAndTable.{CopyDoesNotRead, IsUnformatted, IsArea}
 use Rattle.cartridge_spec.specs.Mounting.{Mounted, Mounts}
 use Rattle.cartridge_spec.specs.Table.{Entry}
 use Rattle.cartridge_spec.specs.Volumes.{Plain, Stands}
@@ -38,6 +38,10 @@ LeavesEach command c P =
     (input : List ℕ) (outcome : CommandOutcome) (left : Option Cartridge) → command.yields (Some c) input outcome →
     Torn (steps_of outcome.acts) (Some c) left → IsSomeAnd left P
 
+-- no header copy of it can be read
+abbrev pub NeitherReads : Cartridge → Type 0
+NeitherReads c = CopyDoesNotRead c 0 × CopyDoesNotRead c 1
+
 pub record CommandLaws (command : Command) : Type 0 where
   -- its words give it its values
   pub values : (words : List (List ℕ)) → HasForm words command.forms → command.values
@@ -62,13 +66,14 @@ pub record CommandLaws (command : Command) : Type 0 where
       command.needs held input → command.yields held input outcome → outcome.status ≡ status.Done
   pub texts : TextLaws command.prints command.fronts command.refused
   pub blind : command.traits.reads ≡ false → IsBlind command
-  -- what it keeps is kept in each cartridge that it leaves: what the cartridge stood for, what it was mounted as, and clean or bare
-  -- header copies
+  -- what it keeps is kept in each cartridge that it leaves: what the cartridge stood for, what it was mounted as, header copies that
+  -- are clean, bare, or such that neither can be read
   pub stands : (c : Cartridge) (plain : Plain) → command.keeps_volumes c plain → Stands c plain → LeavesEach command c (λ d. Stands d plain)
   pub mounts : (c : Cartridge) (header : Header) (map_words : List ℕ) (table : List (List ℕ)) (entries : List Entry) → command.keeps_list c →
       Mounts c (Mounted header map_words table entries) → LeavesEach command c (λ d. Mounts d (Mounted header map_words table entries))
   pub clean : (c : Cartridge) (area : List (List ℕ)) → command.keeps_copies c → IsArea area → HasCleanCopies c area → LeavesEach command c (λ d. HasCleanCopies d area)
   pub bare : (c : Cartridge) → command.keeps_copies c → HasNoHeader c → LeavesEach command c HasNoHeader
+  pub unread : (c : Cartridge) → command.keeps_copies c → command.keeps_unread c → NeitherReads c → LeavesEach command c NeitherReads
   -- each cartridge that it leaves is a whole one, over an input of bytes
   pub whole : (c : Cartridge) (input : List ℕ) (outcome : CommandOutcome) (left : Option Cartridge) → command.values → All (λ b. b < 256) input → IsCartridge c →
       command.yields (Some c) input outcome → Torn (steps_of outcome.acts) (Some c) left → IfSome left IsCartridge

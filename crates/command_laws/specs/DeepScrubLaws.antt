@@ -13,7 +13,7 @@ use Rattle.command_laws.specs.ScrubFound.{FindAtOnce, finds_at_once, without_all
 use Rattle.command_laws.specs.ScrubLaws.{AreAllLive}
 use Rattle.command_laws.specs.ScrubMended.{IsScrubbed}
 use Rattle.command_laws.specs.SilentSectors.{DiffersSilently}
-use Rattle.command_spec.specs.DeepScrubCommand.{IsFirstCopyRight}
+use Rattle.command_spec.specs.Commands.DeepScrubCommand.{IsFirstCopyRight}
 use Rattle.command_spec.specs.Machine.{Yields}
 use Rattle.command_spec.specs.Outcome.{CommandOutcome}
 use Rattle.command_spec.specs.Scrub.{Scrubs, Looked, looked_at}

@@ -1,8 +1,10 @@
 pub mod ActStops
 pub mod CommandLaws
 pub mod CommandRecord
+pub mod CopyLaws
 pub mod DeepScrubLaws
 pub mod InputLaws
+pub mod Intact
 pub mod Life
 pub mod LifeLaws
 pub mod MadeLaws

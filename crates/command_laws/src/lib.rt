@@ -4,8 +4,10 @@
 #![tactic(auto)]
 
 pub mod commands;
+pub mod copying;
 pub mod deep_scrubbing;
 pub mod generated;
+pub mod intact;
 pub mod lives;
 pub mod mounted;
 pub mod promises;

@@ -26,11 +26,12 @@ pub record Command : Type 1 where
   pub fault : (input : List ℕ) → (line place : ℕ) → Type 0
   -- all is there that it needs
   pub needs : (held : Option Cartridge) (input : List ℕ) → Type 0
-  -- it keeps what a cartridge stands for; what it is mounted as, whether it stands for a plain one or not; its header copies; and
-  -- that each sector of the table's segment takes a write
+  -- it keeps what a cartridge stands for; what it is mounted as, whether it stands for a plain one or not; its header copies; where
+  -- it keeps these, that none of them can be read; and that each sector of the table's segment takes a write
   pub keeps_volumes : Cartridge → Plain → Type 0
   pub keeps_list : Cartridge → Type 0
   pub keeps_copies : Cartridge → Type 0
+  pub keeps_unread : Cartridge → Type 0
   pub keeps_live : Type 0
   -- there is no room for so many bytes, with so much room; and of so many volumes none has this number
   pub is_full : (need have : ℕ) → Bool
@@ -52,6 +53,7 @@ plain_command forms yields prints = record {
   keeps_volumes = λ c plain. Unit {0};
   keeps_list = λ c. Unit {0};
   keeps_copies = λ c. Unit {0};
+  keeps_unread = λ c. Unit {0};
   keeps_live = Unit {0};
   is_full = λ need have. false;
   is_no_volume = λ number count. false;

@@ -1,23 +1,38 @@
--- The commands: the record of each, and its words and traits by that (this project's own).
+-- The commands: the record of each, in a file of its own, and its words and traits by that (this project's own).
+pub mod AppendCommand
+pub mod DeepScrubCommand
+pub mod Defect
+pub mod Format
+pub mod Info
+pub mod ListCommand
+pub mod Lose
+pub mod MakeCommand
+pub mod New
+pub mod Protect
+pub mod PulsesCommand
+pub mod RestoreCommand
+pub mod ScriptCommand
+pub mod ScrubCommand
+pub mod Upgrade
 use Rattle.std.specs.Prelude.{ℕ, List}
-use Rattle.command_spec.specs.AppendCommand.{append_command}
+use Rattle.command_spec.specs.Commands.AppendCommand.{append_command}
 use Rattle.command_spec.specs.Command.{Command}
 use Rattle.command_spec.specs.CommandWords.{Part, HasForm}
-use Rattle.command_spec.specs.DeepScrubCommand.{deep_scrub_command}
-use Rattle.command_spec.specs.Defect.{defect_command}
-use Rattle.command_spec.specs.Format.{format_command}
-use Rattle.command_spec.specs.Info.{info_command}
-use Rattle.command_spec.specs.List.{list_command}
-use Rattle.command_spec.specs.Lose.{lose_command}
-use Rattle.command_spec.specs.MakeCommand.{make_command}
-use Rattle.command_spec.specs.New.{new_command}
-use Rattle.command_spec.specs.Protect.{protect_command}
-use Rattle.command_spec.specs.PulsesCommand.{pulses_command}
-use Rattle.command_spec.specs.RestoreCommand.{restore_command}
-use Rattle.command_spec.specs.ScriptCommand.{script_command}
-use Rattle.command_spec.specs.ScrubCommand.{scrub_command}
+use Rattle.command_spec.specs.Commands.DeepScrubCommand.{deep_scrub_command}
+use Rattle.command_spec.specs.Commands.Defect.{defect_command}
+use Rattle.command_spec.specs.Commands.Format.{format_command}
+use Rattle.command_spec.specs.Commands.Info.{info_command}
+use Rattle.command_spec.specs.Commands.ListCommand.{list_command}
+use Rattle.command_spec.specs.Commands.Lose.{lose_command}
+use Rattle.command_spec.specs.Commands.MakeCommand.{make_command}
+use Rattle.command_spec.specs.Commands.New.{new_command}
+use Rattle.command_spec.specs.Commands.Protect.{protect_command}
+use Rattle.command_spec.specs.Commands.PulsesCommand.{pulses_command}
+use Rattle.command_spec.specs.Commands.RestoreCommand.{restore_command}
+use Rattle.command_spec.specs.Commands.ScriptCommand.{script_command}
+use Rattle.command_spec.specs.Commands.ScrubCommand.{scrub_command}
 use Rattle.command_spec.specs.Traits.{Traits}
-use Rattle.command_spec.specs.Upgrade.{upgrade_command}
+use Rattle.command_spec.specs.Commands.Upgrade.{upgrade_command}
 use Rattle.command_spec.specs.declared.words.Words.{Words}
 use Rattle.command_spec.specs.declared.words.Words.TheVariants as words
 

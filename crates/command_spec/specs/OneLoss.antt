@@ -1,6 +1,6 @@
 -- What becomes of a cartridge that an append left, done or stopped, where then one sector more of its table's segment is lost
 -- (this project's own).
-use Rattle.std.specs.Prelude.{◌⊎◌, ℕ, List, Option, ◌≡◌, Some, IsSomeAnd}
+use Rattle.std.specs.Prelude.{◌⊎◌, ℕ, List, Option, ◌≡◌, ◌≤◌, ◌+◌, Some, IsSomeAnd}
 use Rattle.cartridge_spec.specs.Appending.{with_bytes}
 use Rattle.cartridge_spec.specs.Mounting.{IsTableLive}
 use Rattle.cartridge_spec.specs.OneLoss.{ComesBackAs, LosesOneAlone}
@@ -27,6 +27,18 @@ pub record ComesBackNew (told : Option (List ℕ)) (name : List ℕ) (date : ℕ
   pub input : List ℕ
   pub is_told : IsInput told input
   pub comes : (f : Cartridge) (lost : ℕ) → LosesOneAlone d f lost → ComesBackAs f (with_bytes plain name date input)
+
+-- whichever one sector of its table's segment is lost, and nothing else, it comes back as one of these two plain cartridges
+abbrev pub ComesBackAsOneOf : Plain → Plain → Cartridge → Type 0
+ComesBackAsOneOf one other d = (f : Cartridge) (lost : ℕ) → LosesOneAlone d f lost → ComesBackAs f one ⊎ ComesBackAs f other
+
+-- of plain cartridges, each with one volume or none more than the one before it, as one or as the next one, up to so many
+pub record SomeComeBack (standing : ℕ → Plain) (count : ℕ) (left : Option Cartridge) : Type 0 where
+  pub one : ℕ
+  pub other : ℕ
+  pub next : one ≤ other × other ≤ one + 1
+  pub within : other ≤ count
+  pub comes : IsSomeAnd left (ComesBackAsOneOf (standing one) (standing other))
 
 -- What words of appending leave of a cartridge that stood for a plain one, each sector of whose table's segment takes a write:
 -- one whose table was not yet settled, or one that comes back.

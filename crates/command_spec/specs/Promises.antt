@@ -15,6 +15,14 @@ use Rattle.qic_base.specs.Source as sources
 use Rattle.qic_base.specs.Tape as tapes
 use Rattle.command_spec.specs.declared.status.Status.TheVariants as status
 
+-- What is printed over a tape and a source that tell nothing, where no clause says what the plain machine prints: at Done the
+-- command's text, at another answer but a fault what the command prints with that, and a front of the command's text whatever is
+-- answered.
+pub record PrintsItsText {K : Type 0} (k : sinks.Meaning K) (words : List (List ℕ)) (old new : K) (answer : Status) : Type 0 where
+  pub done : answer ≡ status.Done → PrintsText k words old new
+  pub refused : (command : Words) → Spells words command → is_fault answer ≡ false → answer ≢ status.Done → PrintsRefused k command answer old new
+  pub begun : (command : Words) → Spells words command → PrintsFront k command old new
+
 -- What a run of words promises, by the objects of the outside before it and after it, and by its answer.
 pub record Promises {T S K : Type 0} (t : tapes.Meaning T) (s : sources.Meaning S) (k : sinks.Meaning K) (words : List (List ℕ)) (old new : Outside T S K) (answer : Status) : Type 0 where
   -- Where no fault of the outside ended it, over what is told the plain machine's step was made, or there was no memory.
@@ -71,14 +79,10 @@ pub record Promises {T S K : Type 0} (t : tapes.Meaning T) (s : sources.Meaning 
   pub named : is_outcome answer ≡ true → (command : Words) × Spells words command × (may_come_from answer command ≡ true)
   pub fault : (line place : ℕ) → answer ≡ status.ScriptFault line place → HasNamedFault (s.left old.source) words line place
   pub no_fault : answer ≡ status.Done → HasNoFault (s.left old.source) words
-  -- What is printed at Done is the command's text, at another answer but a fault what the command prints with that, and a front of
-  -- the command's text whatever is answered, ..
-  pub printed : answer ≡ status.Done → PrintsText k words old.sink new.sink
-  pub refused : (command : Words) → Spells words command → is_fault answer ≡ false → answer ≢ status.Done →
-      PrintsRefused k command answer old.sink new.sink
-  pub begun : (command : Words) → Spells words command → PrintsFront k command old.sink new.sink
-  -- .. and but for commands that print as they go, an answer other than Done and a fault of the sink leaves the sink alone.
+  -- But for commands that print as they go, an answer other than Done and a fault of the sink leaves the sink alone.
   pub silent : SpellsNoneThat words (λ traits. traits.goes) → answer ≢ status.Done → answer ≢ status.SinkFault → new.sink ≡ old.sink
   -- A command that doesn't read the input leaves the source as it was; the others keep what each call of it keeps.
   pub source : SpellsNoneThat words (λ traits. traits.reads) → new.source ≡ old.source
   pub kept : s.keeps old.source new.source
+  -- Whatever the tape and the source tell, what is printed is a text of the command.
+  pub text : PrintsItsText k words old.sink new.sink answer

@@ -13,7 +13,7 @@ use Rattle.command_spec.specs.Commands.{command_of}
 use Rattle.command_spec.specs.Headline.{EachLeft, ToldNow}
 use Rattle.command_spec.specs.Machine.{Spells}
 use Rattle.command_spec.specs.Restore.{FirstLost, pieces_in, LosesFew, bytes_held, piece_cells}
-use Rattle.command_spec.specs.RestoreCommand.{HasNumber}
+use Rattle.command_spec.specs.Commands.RestoreCommand.{HasNumber}
 use Rattle.command_spec.specs.Runs.{is_fault, fault_of}
 use Rattle.command_spec.specs.declared.status.Status.{Status}
 use Rattle.command_spec.specs.declared.words.Words.{Words}

@@ -2,12 +2,16 @@
 //! promises of a run. Definitions alone, with the public types that they name.
 #![tactic(auto)]
 
+mod copy_fault;
+mod copy_status;
 mod depth;
 mod line;
 mod refusal;
 mod status;
 mod words;
 
+pub use copy_fault::CopyFault;
+pub use copy_status::CopyStatus;
 pub use depth::Depth;
 pub use line::Line;
 pub use refusal::Refusal;

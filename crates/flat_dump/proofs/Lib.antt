@@ -1,11 +1,13 @@
 pub mod Bytes
+pub mod Celling
 pub mod Coming
 pub mod Dumping
 pub mod Ended
 pub mod Held
-pub mod Importing
+pub mod Laying
 pub mod Maps
+pub mod Masked
+pub mod Passing
 pub mod Seeing
 pub mod Standing
 pub mod Stops
-pub mod Celling

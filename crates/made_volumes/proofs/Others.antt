@@ -11,13 +11,13 @@ use Rattle.drive_spec.specs.Deck.{is_protected}
 use Rattle.drive_states.specs.Unit.{UnitView}
 use Rattle.command_spec.specs.Scrub.{Scrubs, counts_of, looked_at}
 use Rattle.segment_io.proofs.Going.{tells_always}
-use Rattle.segment_mending.specs.Mending.{ScrubCut, reported}
+use Rattle.segment_mending.specs.Mending.{reported}
 use Rattle.segment_mending.specs.declared.report.ScrubReport.{ScrubReport}
 use Rattle.volume_store.proofs.Copies.{tells_two}
 use Rattle.volume_store.specs.declared.fault.StoreFault.{StoreFault}
 use Rattle.volume_store.specs.declared.fault.StoreFault.TheVariants as store
 use Rattle.volume_store.specs.Mounting.{StoreView, StoreFits}
-use Rattle.volume_store.specs.Scrubbing.{MendEnds}
+use Rattle.volume_store.specs.Scrubbing.{MendCut, MendEnds}
 use Rattle.made_volumes.specs.declared.fault.MakeFault.TheVariants as fault
 use Rattle.made_volumes.specs.Faults.{is_of_step, fault_of}
 use Rattle.command_spec.specs.Make.{WearSector, ScrubAll}
@@ -96,7 +96,7 @@ module _ {T K : Type 0} (t : tapes.Meaning T) (k : sinks.Meaning K) (seed : ℕ)
         may = may_of seed words entries ScrubAll (text_of ends.acts) Done (reported report, ends.text);
       }
 
-  scrub_cut : (failing : Failing) → is_protected u.drive.deck ≡ false → ScrubCut t k words entries (around a x) (around b y) failing →
+  scrub_cut : (failing : Failing) → is_protected u.drive.deck ≡ false → MendCut t k words entries (around a x) (around b y) failing →
       tapes.Tells t a (λ c. (acts : List Act) (answer : Answer) → Runs seed c words entries (ScrubAll ∷ []) acts answer →
       Cut t no_source k (around a x) (around b y) acts failing)
   scrub_cut failing free cut =

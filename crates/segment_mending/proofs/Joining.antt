@@ -11,17 +11,16 @@ use Rattle.qic_base.proofs.Writing.{TakesBoth}
 use Rattle.qic_base.specs.Acts.{Act, steps_of, text_of, Outside, Failing, TapeFails, SinkFails, Cut}
 use Rattle.qic_base.specs.Acts.{no_source}
 use Rattle.qic_base.proofs.Joins.{steps_of-append, text_of-append, nothing_went, went_both, went_then_cut, cut_is_longer}
-use Rattle.cartridge_spec.specs.Says.{Saying}
 use Rattle.cartridge_spec.specs.Settling.{changed_by}
 use Rattle.cartridge_laws.proofs.FormatWriting.{effects-some}
-use Rattle.command_spec.specs.Scrub.{Looked, Counts, SayInTurn, looking_acts, unread_count}
-use Rattle.command_laws.proofs.ScrubTurns.{one_turn}
+use Rattle.command_spec.specs.Scrub.{Looked, Counts, unread_count}
+use Rattle.command_spec.specs.ScrubForms.{Finding, FindInTurn, finding_acts, lines_for, sayings_of}
+use Rattle.command_spec.specs.declared.depth.Depth.{Depth}
 use Rattle.segment_io.proofs.Going.{tells_then}
 use Rattle.segment_mending.specs.declared.fault.ScrubFault.{ScrubFault}
 use Rattle.segment_mending.specs.declared.fault.ScrubFault.TheVariants as fault
 use Rattle.segment_mending.specs.Looking.{AreActs, Counted, HasLooked, LookingCut, Looks, HasFew}
-use Rattle.command_spec.specs.Scrub.{lines_of}
-use Rattle.segment_mending.proofs.Parts.{behind, turns_join, acts_join, TurnsOf, turns_part, lines_join, unread_join, unread_most, mismatches, length-mismatches, line_acts, text_of_lines}
+use Rattle.segment_mending.proofs.Parts.{behind, one_turn, turns_join, acts_join, TurnsOf, turns_part, as_many, may_join, lines_join, unread_join, unread_most, mismatches, mismatches_may, line_acts, text_of_lines}
 
 -- ---- what is told
 
@@ -43,38 +42,38 @@ tells_both t a P Q R follows one other = tells_then t a Q R (Tells-map t a P (λ
 
 -- ---- the acts
 
-module _ {T : Type 0} (t : tapes.Meaning T) (a b : T) (xs ys : List Looked) (ss ts : List Saying) (front next : List Act) where
-  both_told : tapes.Done t a b (steps_of front) → AreActs t a xs ss front → AreActs t b ys ts next →
-      tapes.Tells t a (λ c. SayInTurn c (xs ++ ys) (ss ++ ts) × (front ++ next ≡ looking_acts c (xs ++ ys) (ss ++ ts)))
+module _ {T : Type 0} (t : tapes.Meaning T) (a b : T) (depth : Depth) (xs ys : List Looked) (fs gs : List Finding) (front next : List Act) where
+  both_told : tapes.Done t a b (steps_of front) → AreActs t a depth xs fs front → AreActs t b depth ys gs next →
+      tapes.Tells t a (λ c. FindInTurn depth c (xs ++ ys) (fs ++ gs) × (front ++ next ≡ finding_acts c (xs ++ ys) (fs ++ gs)))
   both_told did first later =
-      tells_both t a (λ c. SayInTurn c xs ss × (front ≡ looking_acts c xs ss))
-      (λ c. SayInTurn (changed_by (steps_of front) c) ys ts × (next ≡ looking_acts (changed_by (steps_of front) c) ys ts))
-      (λ c. SayInTurn c (xs ++ ys) (ss ++ ts) × (front ++ next ≡ looking_acts c (xs ++ ys) (ss ++ ts)))
+      tells_both t a (λ c. FindInTurn depth c xs fs × (front ≡ finding_acts c xs fs))
+      (λ c. FindInTurn depth (changed_by (steps_of front) c) ys gs × (next ≡ finding_acts (changed_by (steps_of front) c) ys gs))
+      (λ c. FindInTurn depth c (xs ++ ys) (fs ++ gs) × (front ++ next ≡ finding_acts c (xs ++ ys) (fs ++ gs)))
       (λ c here there.
-      let same : changed_by (steps_of front) c ≡ behind c xs ss = ap (λ (acts : List Act). changed_by (steps_of acts) c) here.1 in (
-        turns_join xs ys c ss ts here.0 (subst (λ (d : Cartridge). SayInTurn d ys ts) same there.0),
+      let same : changed_by (steps_of front) c ≡ behind c xs fs = ap (λ (acts : List Act). changed_by (steps_of acts) c) here.1 in (
+        turns_join depth xs ys c fs gs here.0 (subst (λ (d : Cartridge). FindInTurn depth d ys gs) same there.0),
         ap (λ (acts : List Act). acts ++ next) here.1
-            ∙ ap (λ (acts : List Act). looking_acts c xs ss ++ acts)
-            (there.1 ∙ ap (λ (d : Cartridge). looking_acts d ys ts) same)
-            ∙ sym (acts_join xs ys c ss ts here.0),
+            ∙ ap (λ (acts : List Act). finding_acts c xs fs ++ acts)
+            (there.1 ∙ ap (λ (d : Cartridge). finding_acts d ys gs) same)
+            ∙ sym (acts_join depth xs ys c fs gs here.0),
       ))
-      first.told (tells_before t a b (steps_of front) (λ d. SayInTurn d ys ts × (next ≡ looking_acts d ys ts)) did later.told)
+      first.told (tells_before t a b (steps_of front) (λ d. FindInTurn depth d ys gs × (next ≡ finding_acts d ys gs)) did later.told)
 
-  pub acts_both : tapes.Done t a b (steps_of front) → AreActs t a xs ss front → AreActs t b ys ts next → AreActs t a (xs ++ ys) (ss ++ ts) (front ++ next)
+  pub acts_both : tapes.Done t a b (steps_of front) → AreActs t a depth xs fs front → AreActs t b depth ys gs next → AreActs t a depth (xs ++ ys) (fs ++ gs) (front ++ next)
   acts_both did first later = record {
     told = both_told did first later;
-    each = (let e = first.each in let f = later.each in let l = length-append ss ts in let m = length-append xs ys in omega arith);
+    may = may_join depth xs ys fs gs first.may later.may;
     text = text_of-append front next ∙ ap (λ (text : List ℕ). text ++ text_of next) first.text
-        ∙ ap (λ (text : List ℕ). lines_of xs ss ++ text) later.text ∙ sym (lines_join xs ys ss ts first.each);
+        ∙ ap (λ (text : List ℕ). lines_for xs fs ++ text) later.text ∙ sym (lines_join xs ys fs gs (as_many depth xs fs first.may));
   }
 
-counted_both : (xs ys : List Looked) (ss ts : List Saying) (front next : List Act) (a b c : Counts) → length ss ≡ length xs →
-    Counted xs ss front a b → Counted ys ts next b c → Counted (xs ++ ys) (ss ++ ts) (front ++ next) a c
-counted_both xs ys ss ts front next a b c each first later =
+counted_both : (xs ys : List Looked) (fs gs : List Finding) (front next : List Act) (a b c : Counts) → length fs ≡ length xs →
+    Counted xs fs front a b → Counted ys gs next b c → Counted (xs ++ ys) (fs ++ gs) (front ++ next) a c
+counted_both xs ys fs gs front next a b c each first later =
     let looked : length (xs ++ ys) ≡ length xs + length ys = length-append xs ys in
     let steps : length (steps_of (front ++ next)) ≡ length (steps_of front) + length (steps_of next) =
     ap (λ (steps : List Step). length steps) (steps_of-append front next) ∙ length-append (steps_of front) (steps_of next) in
-    let unread : unread_count (xs ++ ys) (ss ++ ts) ≡ unread_count xs ss + unread_count ys ts = unread_join xs ys ss ts each in
+    let unread : unread_count (xs ++ ys) (sayings_of (fs ++ gs)) ≡ unread_count xs (sayings_of fs) + unread_count ys (sayings_of gs) = unread_join xs ys fs gs each in
     record {
       segments = (let e = first.segments in let f = later.segments in omega arith);
       mended = (let e = first.mended in let f = later.mended in omega arith);
@@ -83,10 +82,10 @@ counted_both xs ys ss ts front next a b c each first later =
     }
 
 -- the counts stay few
-pub few_after : (looked : List Looked) (sayings : List Saying) (acts : List Act) (most : ℕ) (a b : Counts) → Counted looked sayings acts a b → HasFew most a →
+pub few_after : (looked : List Looked) (findings : List Finding) (acts : List Act) (most : ℕ) (a b : Counts) → Counted looked findings acts a b → HasFew most a →
     HasFew (most + length looked) b
-few_after looked sayings acts most a b counted few =
-    let unread : unread_count looked sayings ≤ length looked = unread_most looked sayings in
+few_after looked findings acts most a b counted few =
+    let unread : unread_count looked (sayings_of findings) ≤ length looked = unread_most looked (sayings_of findings) in
     record {
       segments = (let e = counted.segments in let f = few.segments in omega arith);
       mended = (let e = counted.segments in let f = counted.mended in let g = counted.few in let h = few.mended in omega arith);
@@ -102,120 +101,120 @@ few_more most more a within few = record {
 
 -- ---- runs
 
-module _ {T K : Type 0} {t : tapes.Meaning T} {k : sinks.Meaning K} where
+module _ {T K : Type 0} {t : tapes.Meaning T} {k : sinks.Meaning K} (depth : Depth) where
   -- no segment yet
-  pub looked_none : ((x : K) → k.took x [] x) → (a : Outside T (Unit {0}) K) (counts : Counts) → HasLooked t k [] a a counts counts
+  pub looked_none : ((x : K) → k.took x [] x) → (a : Outside T (Unit {0}) K) (counts : Counts) → HasLooked t k depth [] a a counts counts
   looked_none nothing a counts = record {
-    sayings = [];
+    findings = [];
     acts = [];
-    are = record { told = none_told (t.told a.tape); each = refl; text = refl };
+    are = record { told = none_told (t.told a.tape); may = tt; text = refl };
     went = nothing_went t no_source k nothing a;
     counted = record { segments = omega arith; mended = omega arith; unreadable = omega arith; few = omega arith };
   }
     where
-      none_told : (o : Option (Option Cartridge)) → IfSome o (λ held. IfSome held (λ c. SayInTurn c [] [] × ([] ≡ looking_acts c [] [])))
+      none_told : (o : Option (Option Cartridge)) → IfSome o (λ held. IfSome held (λ c. FindInTurn depth c [] [] × ([] ≡ finding_acts c [] [])))
       none_told None = tt
       none_told (Some None) = tt
       none_told (Some (Some c)) = (tt, refl)
 
   pub looked_both : TakesBoth k → (xs ys : List Looked) (a b c : Outside T (Unit {0}) K) (before between after : Counts) →
-      HasLooked t k xs a b before between → HasLooked t k ys b c between after → HasLooked t k (xs ++ ys) a c before after
+      HasLooked t k depth xs a b before between → HasLooked t k depth ys b c between after → HasLooked t k depth (xs ++ ys) a c before after
   looked_both both xs ys a b c before between after first next = record {
-    sayings = first.sayings ++ next.sayings;
+    findings = first.findings ++ next.findings;
     acts = first.acts ++ next.acts;
-    are = acts_both t a.tape b.tape xs ys first.sayings next.sayings first.acts next.acts first.went.did first.are next.are;
+    are = acts_both t a.tape b.tape depth xs ys first.findings next.findings first.acts next.acts first.went.did first.are next.are;
     went = went_both t no_source k both a b c first.acts next.acts first.went next.went;
-    counted = counted_both xs ys first.sayings next.sayings first.acts next.acts before between after first.are.each first.counted next.counted;
+    counted = counted_both xs ys first.findings next.findings first.acts next.acts before between after
+        (as_many depth xs first.findings first.are.may) first.counted next.counted;
   }
 
-  -- acts that are those of the sayings are cut off whatever the segments are found to say
-  pub cut_told : (looked : List Looked) (a b : Outside T (Unit {0}) K) (failing : Failing) (sayings : List Saying) (acts : List Act) →
-      AreActs t a.tape looked sayings acts → Cut t no_source k a b acts failing → LookingCut t k looked a b failing
-  cut_told looked a b failing sayings acts are cut = record {
-    told = Tells-map t a.tape (λ c. SayInTurn c looked sayings × (acts ≡ looking_acts c looked sayings))
-        (λ c. (others : List Saying) → SayInTurn c looked others → Cut t no_source k a b (looking_acts c looked others) failing)
-        (λ c here others say.
+  -- acts that are those of the findings are cut off whatever is found of the segments
+  pub cut_told : (looked : List Looked) (a b : Outside T (Unit {0}) K) (failing : Failing) (findings : List Finding) (acts : List Act) →
+      AreActs t a.tape depth looked findings acts → Cut t no_source k a b acts failing → LookingCut t k depth looked a b failing
+  cut_told looked a b failing findings acts are cut = record {
+    told = Tells-map t a.tape (λ c. FindInTurn depth c looked findings × (acts ≡ finding_acts c looked findings))
+        (λ c. (others : List Finding) → FindInTurn depth c looked others → Cut t no_source k a b (finding_acts c looked others) failing)
+        (λ c here others found.
         subst (λ (xs : List Act). Cut t no_source k a b xs failing)
-        (here.1 ∙ ap (looking_acts c looked) (one_turn looked c sayings others here.0 say)) cut)
+        (here.1 ∙ ap (finding_acts c looked) (one_turn depth looked c findings others here.0 found)) cut)
         are.told;
-    sayings = sayings;
+    findings = findings;
     acts = acts;
-    each = are.each;
+    may = are.may;
     text = are.text;
     cut = cut;
   }
 
   -- segments behind those
-  pub cut_longer : (xs ys : List Looked) (a b : Outside T (Unit {0}) K) (failing : Failing) → LookingCut t k xs a b failing → LookingCut t k (xs ++ ys) a b failing
+  pub cut_longer : (xs ys : List Looked) (a b : Outside T (Unit {0}) K) (failing : Failing) → LookingCut t k depth xs a b failing → LookingCut t k depth (xs ++ ys) a b failing
   cut_longer xs ys a b failing cut =
-      let more : List Saying = mismatches ys in
-      let size : length more ≡ length ys = length-mismatches ys in
+      let more : List Finding = mismatches ys in
       record {
         told = Tells-map t a.tape
-            (λ c. (sayings : List Saying) → SayInTurn c xs sayings → Cut t no_source k a b (looking_acts c xs sayings) failing)
-            (λ c. (sayings : List Saying) → SayInTurn c (xs ++ ys) sayings → Cut t no_source k a b (looking_acts c (xs ++ ys) sayings) failing)
-            (λ c here us say.
-            let turns : TurnsOf c xs ys us = turns_part xs ys c us say in
-            let acts : looking_acts c xs turns.front ++ looking_acts (behind c xs turns.front) ys turns.rest ≡ looking_acts c (xs ++ ys) us =
-            sym (ap (looking_acts c (xs ++ ys)) turns.parts ∙ acts_join xs ys c turns.front turns.rest turns.first) in
+            (λ c. (findings : List Finding) → FindInTurn depth c xs findings → Cut t no_source k a b (finding_acts c xs findings) failing)
+            (λ c. (findings : List Finding) → FindInTurn depth c (xs ++ ys) findings → Cut t no_source k a b (finding_acts c (xs ++ ys) findings) failing)
+            (λ c here hs found.
+            let turns : TurnsOf depth c xs ys hs = turns_part depth xs ys c hs found in
+            let acts : finding_acts c xs turns.front ++ finding_acts (behind c xs turns.front) ys turns.rest ≡ finding_acts c (xs ++ ys) hs =
+            sym (ap (finding_acts c (xs ++ ys)) turns.parts ∙ acts_join depth xs ys c turns.front turns.rest turns.first) in
             subst (λ (acts : List Act). Cut t no_source k a b acts failing) acts
-            (cut_is_longer t no_source k a b (looking_acts c xs turns.front) (looking_acts (behind c xs turns.front) ys turns.rest) failing
+            (cut_is_longer t no_source k a b (finding_acts c xs turns.front) (finding_acts (behind c xs turns.front) ys turns.rest) failing
             (here turns.front turns.first)))
             cut.told;
-        sayings = cut.sayings ++ more;
+        findings = cut.findings ++ more;
         acts = cut.acts ++ line_acts ys more;
-        each = (let e = cut.each in let l = length-append cut.sayings more in let m = length-append xs ys in omega arith);
+        may = may_join depth xs ys cut.findings more cut.may (mismatches_may depth ys);
         text = text_of-append cut.acts (line_acts ys more) ∙ ap (λ (text : List ℕ). text ++ text_of (line_acts ys more)) cut.text
-            ∙ ap (λ (text : List ℕ). lines_of xs cut.sayings ++ text) (text_of_lines ys more) ∙ sym (lines_join xs ys cut.sayings more cut.each);
+            ∙ ap (λ (text : List ℕ). lines_for xs cut.findings ++ text) (text_of_lines ys more) ∙ sym (lines_join xs ys cut.findings more (as_many depth xs cut.findings cut.may));
         cut = cut_is_longer t no_source k a b cut.acts (line_acts ys more) failing cut.cut;
       }
 
   -- segments that were looked at before those
   pub looked_then_cut : TakesBoth k → (xs ys : List Looked) (a b c : Outside T (Unit {0}) K) (before between : Counts) (failing : Failing) →
-      HasLooked t k xs a b before between → LookingCut t k ys b c failing → LookingCut t k (xs ++ ys) a c failing
+      HasLooked t k depth xs a b before between → LookingCut t k depth ys b c failing → LookingCut t k depth (xs ++ ys) a c failing
   looked_then_cut both xs ys a b c before between failing first cut =
       let steps : List Step = steps_of first.acts in
       record {
-        told = tells_both t a.tape (λ d. SayInTurn d xs first.sayings × (first.acts ≡ looking_acts d xs first.sayings))
-            (λ d. (sayings : List Saying) → SayInTurn (changed_by steps d) ys sayings →
-            Cut t no_source k b c (looking_acts (changed_by steps d) ys sayings) failing)
-            (λ d. (sayings : List Saying) → SayInTurn d (xs ++ ys) sayings → Cut t no_source k a c (looking_acts d (xs ++ ys) sayings) failing)
-            (λ d here there us say.
-            let turns : TurnsOf d xs ys us = turns_part xs ys d us say in
-            let same : first.sayings ≡ turns.front = one_turn xs d first.sayings turns.front here.0 turns.first in
-            let is : first.acts ≡ looking_acts d xs turns.front = here.1 ∙ ap (looking_acts d xs) same in
+        told = tells_both t a.tape (λ d. FindInTurn depth d xs first.findings × (first.acts ≡ finding_acts d xs first.findings))
+            (λ d. (findings : List Finding) → FindInTurn depth (changed_by steps d) ys findings →
+            Cut t no_source k b c (finding_acts (changed_by steps d) ys findings) failing)
+            (λ d. (findings : List Finding) → FindInTurn depth d (xs ++ ys) findings → Cut t no_source k a c (finding_acts d (xs ++ ys) findings) failing)
+            (λ d here there hs found.
+            let turns : TurnsOf depth d xs ys hs = turns_part depth xs ys d hs found in
+            let same : first.findings ≡ turns.front = one_turn depth xs d first.findings turns.front here.0 turns.first in
+            let is : first.acts ≡ finding_acts d xs turns.front = here.1 ∙ ap (finding_acts d xs) same in
             let now : changed_by steps d ≡ behind d xs turns.front = ap (λ (acts : List Act). changed_by (steps_of acts) d) is in
-            let rest : Cut t no_source k b c (looking_acts (behind d xs turns.front) ys turns.rest) failing =
-            subst (λ (e : Cartridge). Cut t no_source k b c (looking_acts e ys turns.rest) failing) now
-            (there turns.rest (subst (λ (e : Cartridge). SayInTurn e ys turns.rest) (sym now) turns.next)) in
-            let acts : first.acts ++ looking_acts (behind d xs turns.front) ys turns.rest ≡ looking_acts d (xs ++ ys) us =
-            ap (λ (acts : List Act). acts ++ looking_acts (behind d xs turns.front) ys turns.rest) is
-            ∙ sym (ap (looking_acts d (xs ++ ys)) turns.parts ∙ acts_join xs ys d turns.front turns.rest turns.first) in
+            let rest : Cut t no_source k b c (finding_acts (behind d xs turns.front) ys turns.rest) failing =
+            subst (λ (e : Cartridge). Cut t no_source k b c (finding_acts e ys turns.rest) failing) now
+            (there turns.rest (subst (λ (e : Cartridge). FindInTurn depth e ys turns.rest) (sym now) turns.next)) in
+            let acts : first.acts ++ finding_acts (behind d xs turns.front) ys turns.rest ≡ finding_acts d (xs ++ ys) hs =
+            ap (λ (acts : List Act). acts ++ finding_acts (behind d xs turns.front) ys turns.rest) is
+            ∙ sym (ap (finding_acts d (xs ++ ys)) turns.parts ∙ acts_join depth xs ys d turns.front turns.rest turns.first) in
             subst (λ (acts : List Act). Cut t no_source k a c acts failing) acts
-            (went_then_cut t no_source k both a b c first.acts (looking_acts (behind d xs turns.front) ys turns.rest) failing first.went rest))
+            (went_then_cut t no_source k both a b c first.acts (finding_acts (behind d xs turns.front) ys turns.rest) failing first.went rest))
             first.are.told
             (tells_before t a.tape b.tape steps
-            (λ e. (sayings : List Saying) → SayInTurn e ys sayings → Cut t no_source k b c (looking_acts e ys sayings) failing) first.went.did cut.told);
-        sayings = first.sayings ++ cut.sayings;
+            (λ e. (findings : List Finding) → FindInTurn depth e ys findings → Cut t no_source k b c (finding_acts e ys findings) failing) first.went.did cut.told);
+        findings = first.findings ++ cut.findings;
         acts = first.acts ++ cut.acts;
-        each = (let e = first.are.each in let f = cut.each in let l = length-append first.sayings cut.sayings in let m = length-append xs ys in omega arith);
+        may = may_join depth xs ys first.findings cut.findings first.are.may cut.may;
         text = text_of-append first.acts cut.acts ∙ ap (λ (text : List ℕ). text ++ text_of cut.acts) first.are.text
-            ∙ ap (λ (text : List ℕ). lines_of xs first.sayings ++ text) cut.text ∙ sym (lines_join xs ys first.sayings cut.sayings first.are.each);
+            ∙ ap (λ (text : List ℕ). lines_for xs first.findings ++ text) cut.text ∙ sym (lines_join xs ys first.findings cut.findings (as_many depth xs first.findings first.are.may));
         cut = went_then_cut t no_source k both a b c first.acts cut.acts failing first.went cut.cut;
       }
 
 -- ---- by answers
 
-module _ {T K : Type 0} (t : tapes.Meaning T) (k : sinks.Meaning K) where
+module _ {T K : Type 0} (t : tapes.Meaning T) (k : sinks.Meaning K) (depth : Depth) where
   pub looks_then : TakesBoth k → (xs ys : List Looked) (a b c : Outside T (Unit {0}) K) (before between after : Counts) (result : Result (Unit {0}) ScrubFault) →
-      HasLooked t k xs a b before between → Looks t k ys b c between after result → Looks t k (xs ++ ys) a c before after result
-  looks_then both xs ys a b c before between after (Ok done) first next = looked_both both xs ys a b c before between after first next
+      HasLooked t k depth xs a b before between → Looks t k depth ys b c between after result → Looks t k depth (xs ++ ys) a c before after result
+  looks_then both xs ys a b c before between after (Ok done) first next = looked_both depth both xs ys a b c before between after first next
   looks_then both xs ys a b c before between after (Err fault.Sink) first next =
-      looked_then_cut both xs ys a b c before between SinkFails first next
+      looked_then_cut depth both xs ys a b c before between SinkFails first next
   looks_then both xs ys a b c before between after (Err fault.Tape) first next =
-      looked_then_cut both xs ys a b c before between TapeFails first next
+      looked_then_cut depth both xs ys a b c before between TapeFails first next
 
-  pub looks_longer : (xs ys : List Looked) (a b : Outside T (Unit {0}) K) (before after other : Counts) (why : ScrubFault) → Looks t k xs a b before after (Err why) →
-      Looks t k (xs ++ ys) a b before other (Err why)
-  looks_longer xs ys a b before after other fault.Sink cut = cut_longer xs ys a b SinkFails cut
-  looks_longer xs ys a b before after other fault.Tape cut = cut_longer xs ys a b TapeFails cut
+  pub looks_longer : (xs ys : List Looked) (a b : Outside T (Unit {0}) K) (before after other : Counts) (why : ScrubFault) → Looks t k depth xs a b before after (Err why) →
+      Looks t k depth (xs ++ ys) a b before other (Err why)
+  looks_longer xs ys a b before after other fault.Sink cut = cut_longer depth xs ys a b SinkFails cut
+  looks_longer xs ys a b before after other fault.Tape cut = cut_longer depth xs ys a b TapeFails cut

@@ -1,3 +1,5 @@
+pub mod Finding
+pub mod Gathered
 pub mod Joining
 pub mod Looked
 pub mod Parts

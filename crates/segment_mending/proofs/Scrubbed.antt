@@ -8,16 +8,16 @@ use Rattle.qic_base.proofs.Writing.{TakesBoth}
 use Rattle.qic_base.specs.Acts.{Act, steps_of, text_of, Outside, Failing, TapeFails, SinkFails, Went, Cut}
 use Rattle.qic_base.specs.Acts.{no_source, around}
 use Rattle.qic_base.proofs.Joins.{text_of-append, went_both, went_then_cut, cut_is_longer, sink_cut_one}
-use Rattle.cartridge_spec.specs.Says.{Saying}
 use Rattle.cartridge_spec.specs.Table.{Entry}
-use Rattle.command_spec.specs.Scrub.{Looked, Counts, SayInTurn, looking_acts, looked_at, unread_count, counts_line, counts_of, last_act, Scrubs}
-use Rattle.command_laws.proofs.ScrubTurns.{scrubs_is_function}
+use Rattle.command_spec.specs.Scrub.{Looked, Counts, looked_at, unread_count, counts_line, last_act}
+use Rattle.command_spec.specs.ScrubForms.{Finding, FindInTurn, ScrubsAs, IsTextFor, finding_acts, counts_for, sayings_of}
+use Rattle.command_spec.specs.declared.depth.Depth.{Depth}
+use Rattle.command_laws.proofs.ScrubOneWrong.{form_is_function}
 use Rattle.segment_mending.specs.declared.fault.ScrubFault.{ScrubFault}
 use Rattle.segment_mending.specs.declared.fault.ScrubFault.TheVariants as fault
 use Rattle.segment_mending.specs.declared.report.ScrubReport.{ScrubReport}
 use Rattle.segment_mending.specs.Looking.{Counted, HasLooked, LookingCut, Looks}
 use Rattle.segment_mending.specs.Mending.{reported, HasScrubbed, ScrubCut, ScrubEnds}
-use Rattle.command_spec.specs.Scrub.{IsScrubText}
 
 -- nothing is counted yet
 abbrev pub none_counted : Counts
@@ -30,29 +30,29 @@ counts_equal a b segments mended unreadable =
     ∙ ap (λ (n : ℕ). record { segments = b.segments; mended = b.mended; unreadable = n }) unreadable
 
 -- what was counted from nothing on is what is counted of the acts
-counted_all : (c : Cartridge) (looked : List Looked) (sayings : List Saying) (acts : List Act) (counts : Counts) → acts ≡ looking_acts c looked sayings →
-    Counted looked sayings acts none_counted counts → counts ≡ counts_of c looked sayings
-counted_all c looked sayings acts counts are counted =
-    counts_equal counts (counts_of c looked sayings) (let e = counted.segments in omega arith)
+counted_all : (c : Cartridge) (looked : List Looked) (findings : List Finding) (acts : List Act) (counts : Counts) → acts ≡ finding_acts c looked findings →
+    Counted looked findings acts none_counted counts → counts ≡ counts_for c looked findings
+counted_all c looked findings acts counts are counted =
+    counts_equal counts (counts_for c looked findings) (let e = counted.segments in omega arith)
     (let e = counted.mended in
-    let f : length (steps_of acts) ≡ length (steps_of (looking_acts c looked sayings)) = ap (λ (xs : List Act). length (steps_of xs)) are in omega arith)
+    let f : length (steps_of acts) ≡ length (steps_of (finding_acts c looked findings)) = ap (λ (xs : List Act). length (steps_of xs)) are in omega arith)
     (let e = counted.unreadable in omega arith)
 
-module _ {T K : Type 0} (t : tapes.Meaning T) (k : sinks.Meaning K) (words : List ℕ) (entries : List Entry) (a : Outside T (Unit {0}) K) (b : Outside T (Unit {0}) K) (report : ScrubReport) (looked : HasLooked t k (looked_at words entries) a b none_counted (reported report)) where
-  scrubs : (c : Cartridge) → SayInTurn c (looked_at words entries) looked.sayings → looked.acts ≡ looking_acts c (looked_at words entries) looked.sayings →
-      Scrubs c words entries (looked.acts ++ last_act (reported report) ∷ [])
-  scrubs c say are = record {
-    sayings = looked.sayings;
-    said = say;
+module _ {T K : Type 0} (t : tapes.Meaning T) (k : sinks.Meaning K) (depth : Depth) (words : List ℕ) (entries : List Entry) (a : Outside T (Unit {0}) K) (b : Outside T (Unit {0}) K) (report : ScrubReport) (looked : HasLooked t k depth (looked_at words entries) a b none_counted (reported report)) where
+  scrubs : (c : Cartridge) → FindInTurn depth c (looked_at words entries) looked.findings → looked.acts ≡ finding_acts c (looked_at words entries) looked.findings →
+      ScrubsAs depth c words entries (looked.acts ++ last_act (reported report) ∷ [])
+  scrubs c found are = record {
+    findings = looked.findings;
+    found = found;
     are = ap (λ (acts : List Act). acts ++ last_act (reported report) ∷ []) are
-        ∙ ap (λ (counts : Counts). looking_acts c (looked_at words entries) looked.sayings ++ last_act counts ∷ [])
-        (counted_all c (looked_at words entries) looked.sayings looked.acts (reported report) are looked.counted);
+        ∙ ap (λ (counts : Counts). finding_acts c (looked_at words entries) looked.findings ++ last_act counts ∷ [])
+        (counted_all c (looked_at words entries) looked.findings looked.acts (reported report) are looked.counted);
   }
 
-  text : IsScrubText (looked_at words entries) (reported report) (text_of (looked.acts ++ last_act (reported report) ∷ []))
+  text : IsTextFor depth (looked_at words entries) (reported report) (text_of (looked.acts ++ last_act (reported report) ∷ []))
   text = record {
-    sayings = looked.sayings;
-    each = looked.are.each;
+    findings = looked.findings;
+    may = looked.are.may;
     lines = text_of-append looked.acts (last_act (reported report) ∷ [])
         ∙ ap (λ (xs : List ℕ). text_of looked.acts ++ xs) (append-nil (counts_line (reported report)))
         ∙ ap (λ (xs : List ℕ). xs ++ counts_line (reported report)) looked.are.text;
@@ -62,7 +62,7 @@ module _ {T K : Type 0} (t : tapes.Meaning T) (k : sinks.Meaning K) (words : Lis
 
   -- the line was written
   pub line_written : TakesBoth k → (after : K) → sinks.Wrote k b.sink after (counts_line (reported report)) →
-      HasScrubbed t k words entries a (around b.tape after) report
+      HasScrubbed t k depth words entries a (around b.tape after) report
   unfolding scrubs
   line_written both after wrote =
       let last : Act = last_act (reported report) in
@@ -75,11 +75,11 @@ module _ {T K : Type 0} (t : tapes.Meaning T) (k : sinks.Meaning K) (words : Lis
         acts = looked.acts ++ last ∷ [];
         went = went_both t no_source k both a b (around b.tape after) looked.acts (last ∷ []) looked.went went;
         told = Tells-map t a.tape
-            (λ c. SayInTurn c (looked_at words entries) looked.sayings × (looked.acts ≡ looking_acts c (looked_at words entries) looked.sayings))
-            (λ c. (scrubs : Scrubs c words entries (looked.acts ++ last ∷ [])) × (reported report ≡ counts_of c (looked_at words entries) scrubs.sayings))
+            (λ c. FindInTurn depth c (looked_at words entries) looked.findings × (looked.acts ≡ finding_acts c (looked_at words entries) looked.findings))
+            (λ c. (scrubs : ScrubsAs depth c words entries (looked.acts ++ last ∷ [])) × (reported report ≡ counts_for c (looked_at words entries) scrubs.findings))
             (λ c here. (
               scrubs c here.0 here.1,
-              counted_all c (looked_at words entries) looked.sayings looked.acts (reported report) here.1 looked.counted,
+              counted_all c (looked_at words entries) looked.findings looked.acts (reported report) here.1 looked.counted,
             ))
             looked.are.told;
         text = text;
@@ -87,7 +87,7 @@ module _ {T K : Type 0} (t : tapes.Meaning T) (k : sinks.Meaning K) (words : Lis
 
   -- the sink failed in it
   pub line_cut : TakesBoth k → (after : K) → sinks.BrokeOff k b.sink after (counts_line (reported report)) →
-      ScrubCut t k words entries a (around b.tape after) SinkFails
+      ScrubCut t k depth words entries a (around b.tape after) SinkFails
   line_cut both after broke =
       let last : Act = last_act (reported report) in
       let cut : Cut t no_source k b (around b.tape after) (last ∷ []) SinkFails =
@@ -96,42 +96,42 @@ module _ {T K : Type 0} (t : tapes.Meaning T) (k : sinks.Meaning K) (words : Lis
       went_then_cut t no_source k both a b (around b.tape after) looked.acts (last ∷ []) SinkFails looked.went cut in
       record {
         told = Tells-map t a.tape
-            (λ c. SayInTurn c (looked_at words entries) looked.sayings × (looked.acts ≡ looking_acts c (looked_at words entries) looked.sayings))
-            (λ c. (acts : List Act) → Scrubs c words entries acts → Cut t no_source k a (around b.tape after) acts SinkFails)
+            (λ c. FindInTurn depth c (looked_at words entries) looked.findings × (looked.acts ≡ finding_acts c (looked_at words entries) looked.findings))
+            (λ c. (acts : List Act) → ScrubsAs depth c words entries acts → Cut t no_source k a (around b.tape after) acts SinkFails)
             (λ c here acts others.
             subst (λ (xs : List Act). Cut t no_source k a (around b.tape after) xs SinkFails)
-            (scrubs_is_function c words entries (looked.acts ++ last ∷ []) acts (scrubs c here.0 here.1) others) whole)
+            (form_is_function depth c words entries (looked.acts ++ last ∷ []) acts (scrubs c here.0 here.1) others) whole)
             looked.are.told;
         acts = looked.acts ++ last ∷ [];
         counts = reported report;
         cut = whole;
-        front = ([], subst (IsScrubText (looked_at words entries) (reported report)) (sym (append-nil (text_of (looked.acts ++ last ∷ [])))) text);
+        front = ([], subst (IsTextFor depth (looked_at words entries) (reported report)) (sym (append-nil (text_of (looked.acts ++ last ∷ [])))) text);
       }
 
-module _ {T K : Type 0} (t : tapes.Meaning T) (k : sinks.Meaning K) where
+module _ {T K : Type 0} (t : tapes.Meaning T) (k : sinks.Meaning K) (depth : Depth) where
   -- a fault cut the looking off
   all_cut : (words : List ℕ) (entries : List Entry) (a b : Outside T (Unit {0}) K) (failing : Failing) →
-      LookingCut t k (looked_at words entries) a b failing → ScrubCut t k words entries a b failing
+      LookingCut t k depth (looked_at words entries) a b failing → ScrubCut t k depth words entries a b failing
   all_cut words entries a b failing cut = record {
     told = Tells-map t a.tape
-        (λ c. (sayings : List Saying) → SayInTurn c (looked_at words entries) sayings →
-        Cut t no_source k a b (looking_acts c (looked_at words entries) sayings) failing)
-        (λ c. (acts : List Act) → Scrubs c words entries acts → Cut t no_source k a b acts failing)
+        (λ c. (findings : List Finding) → FindInTurn depth c (looked_at words entries) findings →
+        Cut t no_source k a b (finding_acts c (looked_at words entries) findings) failing)
+        (λ c. (acts : List Act) → ScrubsAs depth c words entries acts → Cut t no_source k a b acts failing)
         (λ c here acts scrubs.
         let all : List Looked = looked_at words entries in
         subst (λ (xs : List Act). Cut t no_source k a b xs failing) (sym scrubs.are)
-        (cut_is_longer t no_source k a b (looking_acts c all scrubs.sayings) (last_act (counts_of c all scrubs.sayings) ∷ []) failing
-        (here scrubs.sayings scrubs.said)))
+        (cut_is_longer t no_source k a b (finding_acts c all scrubs.findings) (last_act (counts_for c all scrubs.findings) ∷ []) failing
+        (here scrubs.findings scrubs.found)))
         cut.told;
     acts = cut.acts;
-    counts = record { segments = length (looked_at words entries); mended = 0; unreadable = unread_count (looked_at words entries) cut.sayings };
+    counts = record { segments = length (looked_at words entries); mended = 0; unreadable = unread_count (looked_at words entries) (sayings_of cut.findings) };
     cut = cut.cut;
     front = (
-      counts_line (record { segments = length (looked_at words entries); mended = 0; unreadable = unread_count (looked_at words entries) cut.sayings }),
+      counts_line (record { segments = length (looked_at words entries); mended = 0; unreadable = unread_count (looked_at words entries) (sayings_of cut.findings) }),
       record {
-        sayings = cut.sayings;
-        each = cut.each;
-        lines = ap (λ (xs : List ℕ). xs ++ counts_line (record { segments = length (looked_at words entries); mended = 0; unreadable = unread_count (looked_at words entries) cut.sayings })) cut.text;
+        findings = cut.findings;
+        may = cut.may;
+        lines = ap (λ (xs : List ℕ). xs ++ counts_line (record { segments = length (looked_at words entries); mended = 0; unreadable = unread_count (looked_at words entries) (sayings_of cut.findings) })) cut.text;
         segments = refl;
         unreadable = refl;
       },
@@ -139,6 +139,6 @@ module _ {T K : Type 0} (t : tapes.Meaning T) (k : sinks.Meaning K) where
   }
 
   pub ends_cut : (words : List ℕ) (entries : List Entry) (a b : Outside T (Unit {0}) K) (before after : Counts) (why : ScrubFault) →
-      Looks t k (looked_at words entries) a b before after (Err why) → ScrubEnds t k words entries a b (Err why)
+      Looks t k depth (looked_at words entries) a b before after (Err why) → ScrubEnds t k depth words entries a b (Err why)
   ends_cut words entries a b before after fault.Sink cut = all_cut words entries a b SinkFails cut
   ends_cut words entries a b before after fault.Tape cut = all_cut words entries a b TapeFails cut

@@ -1,2 +1,3 @@
+pub mod Locating
 pub mod Looking
 pub mod Mending

@@ -1,9 +1,10 @@
-//! The segments of a cartridge are looked at, and unreadable sectors written again where they can be found. No call takes
-//! memory.
+//! The segments of a cartridge are looked at, and sectors that can't be read, or that hold wrong bytes, written again where
+//! they can be found. No call takes memory.
 #![tactic(auto)]
 
 mod fault;
 mod lines;
+mod locating;
 mod looking;
 mod mending;
 mod report;
@@ -14,5 +15,9 @@ pub use fault::ScrubFault;
 pub use report::ScrubReport;
 pub use scrubbing::scrub_segments;
 
+/// Segments with a copy of the header, the first of a cartridge.
+const HEADER_COPIES: u32 = 2;
+/// The segment of the volume table.
+const TABLE_SEGMENT: u32 = 2;
 /// The mask of a segment without a bad sector.
 const WHOLE: u32 = 0xFFFF_FFFF;

@@ -2,6 +2,7 @@
 
 ghost use Rattle.std.specs.Prelude.{◌≡◌, ◌<◌, ◌≤◌, ◌^◌, [], ◌∷◌, true};
 ghost use Rattle.qic_base.specs.Acts.{around};
+ghost use Rattle.cartridge_spec.specs.Says.{whole_mask};
 ghost use Rattle.drive_spec.specs.Deck.{is_referenced};
 ghost use Rattle.host_driver.specs.Calls.{IsReady, MayWrite, Keeps};
 ghost use Rattle.command_spec.specs.Scrub.{whole_segment};
@@ -11,18 +12,21 @@ ghost use Rattle.segment_mending.specs.Mending.{reported};
 
 use crate::WHOLE;
 use crate::fault::ScrubFault;
-use crate::lines::{header_text, lost_text, mismatch_text};
-use crate::mending::{is_header, mend, pass_over};
+use crate::lines::unread_text;
+use crate::locating::{Found, find_in_segment};
+use crate::mending::{mend, pass_over};
 use crate::report::ScrubReport;
+use command_spec::Depth;
 use drive_states::Unit;
 use host_driver::Host;
 use qic_base::{Sink, Tape};
-use segment_io::{SegFault, Workspace, read_segment};
+use segment_io::Workspace;
 
 /// Looks at a header copy, 0 or 1.
 pub(crate) fn look_at_copy<T: Tape, K: Sink>(
     host: &mut Host,
     unit: &mut Unit<T>,
+    depth: Depth,
     copy: u32,
     work: &mut Workspace,
     sink: &mut K,
@@ -33,28 +37,19 @@ pub(crate) fn look_at_copy<T: Tape, K: Sink>(
     requires writable { MayWrite unit.old.drive.deck }
     requires copy { copy < 2 }
     requires few { HasFew (2 ^ 26) (reported report.old) }
-    ensures looks { Looks T.means K.means (whole_segment copy ∷ [])
+    ensures looks { Looks T.means K.means depth (whole_segment copy ∷ [])
         (around unit.old.tape sink.old) (around unit.new.tape sink.new)
         (reported report.old) (reported report.new) result }
     ensures keeps { Keeps T.means host.new unit.old unit.new }
 {
-    match read_segment(host, unit, copy, WHOLE, work) {
-        Ok(lost) => {
-            if !is_header(work) {
-                return pass_over(&header_text(copy), sink, report);
-            }
-            mend(host, unit, copy, WHOLE, lost, work, report)
-        }
-        Err(SegFault::Lost { .. }) => pass_over(&header_text(copy), sink, report),
-        Err(SegFault::Mismatch { .. }) => pass_over(&header_text(copy), sink, report),
-        Err(SegFault::Tape) => Err(ScrubFault::Tape),
-    }
+    look_at(host, unit, depth, copy, WHOLE, work, sink, report)
 }
 
 /// Looks at a segment that holds no header copy.
 pub(crate) fn look_at_segment<T: Tape, K: Sink>(
     host: &mut Host,
     unit: &mut Unit<T>,
+    depth: Depth,
     segment: u32,
     usable: u32,
     work: &mut Workspace,
@@ -66,15 +61,40 @@ pub(crate) fn look_at_segment<T: Tape, K: Sink>(
     requires writable { MayWrite unit.old.drive.deck }
     requires behind { 2 ≤ segment }
     requires few { HasFew (2 ^ 26) (reported report.old) }
-    ensures looks { Looks T.means K.means (record { segment = segment; mask = usable } ∷ [])
+    ensures looks { Looks T.means K.means depth (record { segment = segment; mask = usable } ∷ [])
         (around unit.old.tape sink.old) (around unit.new.tape sink.new)
         (reported report.old) (reported report.new) result }
     ensures keeps { Keeps T.means host.new unit.old unit.new }
 {
-    match read_segment(host, unit, segment, usable, work) {
-        Ok(lost) => mend(host, unit, segment, usable, lost, work, report),
-        Err(SegFault::Lost { lost, .. }) => pass_over(&lost_text(segment, lost), sink, report),
-        Err(SegFault::Mismatch { .. }) => pass_over(&mismatch_text(segment), sink, report),
-        Err(SegFault::Tape) => Err(ScrubFault::Tape),
+    look_at(host, unit, depth, segment, usable, work, sink, report)
+}
+
+/// Looks at a segment; a header copy has no bad sector.
+fn look_at<T: Tape, K: Sink>(
+    host: &mut Host,
+    unit: &mut Unit<T>,
+    depth: Depth,
+    segment: u32,
+    usable: u32,
+    work: &mut Workspace,
+    sink: &mut K,
+    report: &mut ScrubReport,
+) -> Result<(), ScrubFault>
+    requires ready { IsReady T.means host.old unit.old }
+    requires segment { HasSegment unit.old.drive.deck segment usable }
+    requires writable { MayWrite unit.old.drive.deck }
+    requires whole { segment < 2 → usable ≡ whole_mask }
+    requires few { HasFew (2 ^ 26) (reported report.old) }
+    ensures looks { Looks T.means K.means depth (record { segment = segment; mask = usable } ∷ [])
+        (around unit.old.tape sink.old) (around unit.new.tape sink.new)
+        (reported report.old) (reported report.new) result }
+    ensures keeps { Keeps T.means host.new unit.old unit.new }
+{
+    let found = find_in_segment(host, unit, depth, segment, usable, work)?;
+    match found {
+        Found::Reads { places, wrong } => mend(
+            host, unit, segment, usable, places, wrong, work, sink, report,
+        ),
+        Found::Fails(why) => pass_over(&unread_text(segment, why), sink, report),
     }
 }

@@ -1,35 +1,26 @@
 //! What is done in one segment that was read.
 
-ghost use Rattle.std.specs.Prelude.{◌≡◌, ◌<◌, ◌^◌, length, take, OnOk, IsOkUnless};
+ghost use Rattle.std.specs.Prelude.{◌≡◌, ◌<◌, ◌^◌, length, OnOk, IsOkUnless};
+ghost use Rattle.qic_base.specs.Acts.{around};
 ghost use Rattle.qic_base.specs.Sink.{Writes};
 ghost use Rattle.qic_base.specs.Tape.{Does};
-ghost use Rattle.cartridge_spec.specs.Header.{has_signature};
-ghost use Rattle.cartridge_spec.specs.Says.{data_of};
 ghost use Rattle.cartridge_spec.specs.Shape.{usable_count, sectors_of};
 ghost use Rattle.cartridge_laws.specs.Writes.{named_writes};
 ghost use Rattle.host_driver.specs.Calls.{IsReady, MayWrite, Keeps};
 ghost use Rattle.segment_io.specs.Calls.{HasSegment};
+ghost use Rattle.command_spec.specs.ScrubForms.{wrong_line};
+ghost use Rattle.segment_mending.specs.Locating.{mending, GoesAs};
 ghost use Rattle.segment_mending.specs.Looking.{HasFew, with_mended, with_unread};
 ghost use Rattle.segment_mending.specs.Mending.{reported};
 
 use crate::fault::ScrubFault;
+use crate::lines::wrong_text;
 use crate::report::ScrubReport;
 use drive_states::Unit;
 use host_driver::Host;
-use qic_base::{LostSet, Sink, SinkFailed, Tape, read_u32};
+use qic_base::{LostSet, Sink, SinkFailed, Tape};
 use segment_io::{Workspace, write_sectors};
 use tape_script::{TextLine, write_text};
-
-/// What a header's data begin with (Linux ftape headers).
-const SIGNATURE: u32 = 0xAA55_AA55;
-
-/// Whether the data of a header copy, which was read and solved, begin with a header's signature.
-pub(crate) fn is_header(work: &Workspace) -> bool
-    requires { length work.now ≡ 32 }
-    ensures { result ≡ has_signature (data_of (take 32 work.now)) }
-{
-    read_u32(&work.sectors()[0], 0) == SIGNATURE
-}
 
 /// Writes the sectors at the lost places again. Where there are none, the tape stays where it is.
 fn write_lost<T: Tape>(
@@ -58,15 +49,36 @@ fn write_lost<T: Tape>(
     }
 }
 
-/// Mends a segment that reads, and counts it.
+/// Prints the line of the sector with this index, where one is wrong.
+fn tell_wrong<K: Sink>(
+    segment: u32,
+    wrong: Option<u8>,
+    sink: &mut K,
+) -> Result<(), ScrubFault>
+    ensures wrote { Writes K.means sink.old sink.new (wrong_line segment wrong) result }
+    ensures fault { IsOkUnless result ScrubFault.Sink }
+{
+    let Some(sector) = wrong else {
+        return Ok(());
+    };
+    match write_text(wrong_text(segment, sector).bytes(), sink) {
+        Ok(()) => Ok(()),
+        Err(SinkFailed) => Err(ScrubFault::Sink),
+    }
+}
+
+/// Mends a segment that reads, and counts it. A wrong sector is one of the lost ones, and its line is printed behind the
+/// writes.
 #[tactic(auto, using(cartridge_laws::proofs::Places::count_below))]
-pub(crate) fn mend<T: Tape>(
+pub(crate) fn mend<T: Tape, K: Sink>(
     host: &mut Host,
     unit: &mut Unit<T>,
     segment: u32,
     usable: u32,
     lost: LostSet,
+    wrong: Option<u8>,
     work: &Workspace,
+    sink: &mut K,
     report: &mut ScrubReport,
 ) -> Result<(), ScrubFault>
     requires ready { IsReady T.means host.old unit.old }
@@ -74,16 +86,16 @@ pub(crate) fn mend<T: Tape>(
     requires writable { MayWrite unit.old.drive.deck }
     requires within { lost < 2 ^ usable_count usable }
     requires few { HasFew (2 ^ 26) (reported report.old) }
-    ensures did { Does T.means unit.old.tape unit.new.tape
-        (named_writes segment usable lost work.now) result }
-    ensures fault { IsOkUnless result ScrubFault.Tape }
+    ensures goes { GoesAs T.means K.means
+        (mending (record { segment = segment; mask = usable }) lost wrong work.now)
+        (around unit.old.tape sink.old) (around unit.new.tape sink.new) result }
     ensures counted { OnOk result (reported report.new
         ≡ with_mended (length (sectors_of lost)) (reported report.old)) }
     ensures keeps { Keeps T.means host.new unit.old unit.new }
 {
     write_lost(host, unit, segment, usable, lost, work)?;
     report.count_mended(lost.count());
-    Ok(())
+    tell_wrong(segment, wrong, sink)
 }
 
 /// Prints the line of a segment that does not read, and counts it.

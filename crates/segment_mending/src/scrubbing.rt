@@ -17,6 +17,7 @@ use crate::looking::{look_at_copy, look_at_segment};
 use crate::report::ScrubReport;
 use crate::volumes::look_at_volumes;
 use bad_sector_map::BadMap;
+use command_spec::Depth;
 use drive_states::Unit;
 use host_driver::Host;
 use qic_base::{Sink, SinkFailed, Tape};
@@ -31,6 +32,7 @@ const TABLE_SEGMENT: u32 = 2;
 fn look_at_front<T: Tape, K: Sink>(
     host: &mut Host,
     unit: &mut Unit<T>,
+    depth: Depth,
     work: &mut Workspace,
     sink: &mut K,
     report: &mut ScrubReport,
@@ -39,24 +41,26 @@ fn look_at_front<T: Tape, K: Sink>(
     requires referenced { is_referenced unit.old.drive.deck ≡ true }
     requires writable { MayWrite unit.old.drive.deck }
     requires few { HasFew 0 (reported report.old) }
-    ensures looks { Looks T.means K.means
+    ensures looks { Looks T.means K.means depth
         (whole_segment 0 ∷ whole_segment 1 ∷ whole_segment 2 ∷ [])
         (around unit.old.tape sink.old) (around unit.new.tape sink.new)
         (reported report.old) (reported report.new) result }
     ensures few { OnOk result (HasFew 3 (reported report.new)) }
     ensures keeps { Keeps T.means host.new unit.old unit.new }
 {
-    look_at_copy(host, unit, 0, work, sink, report)?;
-    look_at_copy(host, unit, 1, work, sink, report)?;
-    look_at_segment(host, unit, TABLE_SEGMENT, WHOLE, work, sink, report)
+    look_at_copy(host, unit, depth, 0, work, sink, report)?;
+    look_at_copy(host, unit, depth, 1, work, sink, report)?;
+    look_at_segment(host, unit, depth, TABLE_SEGMENT, WHOLE, work, sink, report)
 }
 
 /// Looks at both header copies, the table's segment and the carrying segments of all volumes, ascending. In each that
 /// reads, the usable sectors that can't be read are written again, ascending, and nothing else; a line is printed for
-/// each that doesn't. The last line has the counts.
+/// each that doesn't. A sector that is found to hold wrong bytes, which `Depth::Deep` looks for in all of them but the
+/// table's, counts as one that can't be read, and has a line. The last line has the counts.
 pub fn scrub_segments<T: Tape, K: Sink>(
     host: &mut Host,
     unit: &mut Unit<T>,
+    depth: Depth,
     map: &BadMap,
     table: &Table,
     work: &mut Workspace,
@@ -67,7 +71,7 @@ pub fn scrub_segments<T: Tape, K: Sink>(
     requires writable { MayWrite unit.old.drive.deck }
     requires map { length map.now ≡ 28 * segments_of host.old }
     requires list { IsSoundList (length map.now - 1) table.now }
-    ensures ends { ScrubEnds T.means K.means map.now table.now
+    ensures ends { ScrubEnds T.means K.means depth map.now table.now
         (around unit.old.tape sink.old) (around unit.new.tape sink.new) result }
     ensures keeps { Keeps T.means host.new unit.old unit.new }
 {
@@ -76,8 +80,8 @@ pub fn scrub_segments<T: Tape, K: Sink>(
         mended: 0,
         unreadable: 0,
     };
-    look_at_front(host, unit, work, sink, &mut report)?;
-    look_at_volumes(host, unit, map, table, work, sink, &mut report)?;
+    look_at_front(host, unit, depth, work, sink, &mut report)?;
+    look_at_volumes(host, unit, depth, map, table, work, sink, &mut report)?;
     match write_text(counts_text(report).bytes(), sink) {
         Ok(()) => Ok(report),
         Err(SinkFailed) => Err(ScrubFault::Sink),

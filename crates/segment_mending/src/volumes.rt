@@ -15,6 +15,7 @@ use crate::fault::ScrubFault;
 use crate::looking::look_at_segment;
 use crate::report::ScrubReport;
 use bad_sector_map::BadMap;
+use command_spec::Depth;
 use drive_states::Unit;
 use host_driver::Host;
 use qic_base::{LostSet, Sink, Tape};
@@ -28,6 +29,7 @@ const FEWEST: u8 = 4;
 fn look_if_carrying<T: Tape, K: Sink>(
     host: &mut Host,
     unit: &mut Unit<T>,
+    depth: Depth,
     map: &BadMap,
     segment: u32,
     work: &mut Workspace,
@@ -41,7 +43,7 @@ fn look_if_carrying<T: Tape, K: Sink>(
     requires behind { 2 < segment }
     requires on_tape { segment < length map.now }
     requires few { HasFew (2 ^ 26) (reported report.old) }
-    ensures looks { Looks T.means K.means
+    ensures looks { Looks T.means K.means depth
         (looked_segments map.now (carrying map.now segment segment))
         (around unit.old.tape sink.old) (around unit.new.tape sink.new)
         (reported report.old) (reported report.new) result }
@@ -51,13 +53,14 @@ fn look_if_carrying<T: Tape, K: Sink>(
     if LostSet::from_mask(usable).count() < FEWEST {
         return Ok(());
     }
-    look_at_segment(host, unit, segment, usable, work, sink, report)
+    look_at_segment(host, unit, depth, segment, usable, work, sink, report)
 }
 
 /// Looks at the segments of a volume that carry data, ascending.
 fn look_at_volume<T: Tape, K: Sink>(
     host: &mut Host,
     unit: &mut Unit<T>,
+    depth: Depth,
     map: &BadMap,
     start: u16,
     end: u16,
@@ -73,7 +76,7 @@ fn look_at_volume<T: Tape, K: Sink>(
     requires forwards { start ≤ end }
     requires on_tape { end < length map.now }
     requires few { HasFew (2 ^ 25) (reported report.old) }
-    ensures looks { Looks T.means K.means
+    ensures looks { Looks T.means K.means depth
         (looked_segments map.now (carrying map.now start end))
         (around unit.old.tape sink.old) (around unit.new.tape sink.new)
         (reported report.old) (reported report.new) result }
@@ -81,7 +84,7 @@ fn look_at_volume<T: Tape, K: Sink>(
     ensures keeps { Keeps T.means host.new unit.old unit.new }
 {
     for segment in u32::from(start)..u32::from(end) + 1 {
-        look_if_carrying(host, unit, map, segment, work, sink, report)?;
+        look_if_carrying(host, unit, depth, map, segment, work, sink, report)?;
     }
     Ok(())
 }
@@ -90,6 +93,7 @@ fn look_at_volume<T: Tape, K: Sink>(
 pub(crate) fn look_at_volumes<T: Tape, K: Sink>(
     host: &mut Host,
     unit: &mut Unit<T>,
+    depth: Depth,
     map: &BadMap,
     table: &Table,
     work: &mut Workspace,
@@ -102,14 +106,24 @@ pub(crate) fn look_at_volumes<T: Tape, K: Sink>(
     requires map { length map.now ≡ 28 * segments_of host.old }
     requires list { IsSoundList (length map.now - 1) table.now }
     requires few { HasFew 3 (reported report.old) }
-    ensures looks { Looks T.means K.means (looked_volumes map.now table.now)
+    ensures looks { Looks T.means K.means depth (looked_volumes map.now table.now)
         (around unit.old.tape sink.old) (around unit.new.tape sink.new)
         (reported report.old) (reported report.new) result }
     ensures keeps { Keeps T.means host.new unit.old unit.new }
 {
     for index in 0..table.len() {
         let entry = table.entry(index);
-        look_at_volume(host, unit, map, entry.start, entry.end, work, sink, report)?;
+        look_at_volume(
+            host,
+            unit,
+            depth,
+            map,
+            entry.start,
+            entry.end,
+            work,
+            sink,
+            report,
+        )?;
     }
     Ok(())
 }

@@ -114,7 +114,7 @@ one_wrong_is_found cells block place few code agrees differs = record {
 
 -- ---- cells that are read alike
 
-count_alike : (cells others : List SectorView) → ReadAlike cells others → unreadable_count cells ≡ unreadable_count others
+pub count_alike : (cells others : List SectorView) → ReadAlike cells others → unreadable_count cells ≡ unreadable_count others
 count_alike cells others alike =
     let long : length cells ≡ length others = alike.size in
     sym (lost_below-cells cells)
@@ -132,7 +132,7 @@ agrees_alike cells others block alike agrees = record {
   each = λ i bytes at. agrees.each i bytes ((alike.each i bytes).0 at);
 }
 
-alike_back : (cells others : List SectorView) → ReadAlike cells others → ReadAlike others cells
+pub alike_back : (cells others : List SectorView) → ReadAlike cells others → ReadAlike others cells
 alike_back cells others alike = record {
   size = sym alike.size;
   each = λ i bytes. ((alike.each i bytes).1, (alike.each i bytes).0);

@@ -9,6 +9,8 @@ pub mod laws;
 mod places;
 mod tries;
 
+pub use places::with_place;
+
 use erasure_solve::{SolveFault, solve};
 use places::lost_among;
 use qic_base::LostSet;

@@ -1,6 +1,6 @@
 //! Sets of lost places, with fewer places and with one more.
 
-ghost use Rattle.std.specs.Prelude.{◌≢◌, ℕ, ◌<◌, ◌≤◌, ◌↔◌};
+ghost use Rattle.std.specs.Prelude.{◌≢◌, ℕ, ◌<◌, ◌≤◌, ◌↔◌, ◌^◌};
 ghost use Rattle.qic_base.specs.LostSet.{IsLost};
 
 use qic_base::LostSet;
@@ -19,6 +19,7 @@ pub fn with_place(lost: LostSet, place: u8) -> LostSet
     requires { place < 32 }
     ensures more { IsLost result place }
     ensures others { (other : ℕ) → other ≢ place → IsLost result other ↔ IsLost lost other }
+    ensures below { (count : ℕ) → place < count → lost < 2 ^ count → result < 2 ^ count }
 {
     LostSet::from_mask(lost.mask() | 1 << place)
 }

@@ -4,58 +4,37 @@
 ghost use Rattle.std.specs.Prelude.{◌≡◌, ◌≢◌};
 ghost use Rattle.tape_cmd.specs.Lines.{status_code};
 
-use cart_image::ImageTape;
-use drive_states::Unit;
-use read_ahead::{MOST, ReadAhead};
-use std::env::Env;
+use image_units::{Arguments, NO_IMAGE, open_unit, read_arguments};
+use read_ahead::MOST;
 use std::io::ErrorKind;
 use std::process::ExitCode;
-use std::{env, io};
 use tape_cmd::{Status, exit_status, run, write_status};
-use tape_files::{NoImage, NullStreams, StderrSink, StdinSource, StdoutSink, open_image};
+use tape_files::{NoImage, NullStreams, StderrSink, StdinSource, StdoutSink};
 use tape_script::write_text;
 
-/// The exit status where the image can't be opened.
-const NO_IMAGE: u8 = 20;
-
-/// The words that the program was called with: the image's path, where there is one, and those of the command.
-#[derive(Drop)]
-struct Arguments {
-    image: Option<String>,
-    command: Vec<String>,
-}
+/// The program has one image.
+const IMAGES: usize = 1;
 
 fn main(rt: HostRuntime) -> ExitCode {
     // Held to the end, so that no file that is opened becomes a standard stream.
     let _streams = NullStreams::take(&rt);
-    ExitCode::from(match read_arguments(&rt) {
+    ExitCode::from(match read_arguments(&rt, IMAGES) {
         Ok(arguments) => run_over_image(&rt, &arguments),
         Err(error) => refuse_words(error.kind(), &mut StderrSink::new(rt.stderr())),
     })
 }
 
-fn read_arguments<R: Env + AllocGlobal>(rt: &R) -> io::Result<Arguments> {
-    let mut given = env::args(rt)?.skip(1);
-    let image = given.next();
-    let mut command = Vec::new(rt.alloc());
-    for word in given {
-        command.push(word)?;
-    }
-    Ok(Arguments { image, command })
-}
-
 /// Carries out the command on the image, which is created where there is none, and answers the exit status.
 fn run_over_image(rt: &HostRuntime, arguments: &Arguments) -> u8 {
     let mut errors = StderrSink::new(rt.stderr());
-    let Some(image) = &arguments.image else {
+    let [image] = arguments.images.as_slice() else {
         return finish(Status::Usage, &mut errors);
     };
-    let image = match open_image(rt, image) {
-        Ok(image) => image,
+    let mut room = [0; MOST];
+    let mut unit = match open_unit(rt, image, &mut room) {
+        Ok(unit) => unit,
         Err(cause) => return refuse(cause, &mut errors),
     };
-    let mut room = [0; MOST];
-    let mut unit = Unit::new(ImageTape::open(ReadAhead::new(image, &mut room)));
     let mut source = StdinSource::new(rt.stdin());
     let mut sink = StdoutSink::new(rt.stdout());
     let status = run(

@@ -39,8 +39,9 @@ use Rattle.qic_base.specs.Stop.{Torn}
 use Rattle.qic_base.specs.declared.sink.SinkFailed.{SinkFailed}
 use Rattle.tape_cmd.proofs.Endings.{told_map}
 use Rattle.tape_cmd.proofs.Mounted.{Settles, told_both, locked_is, unlocked_refused_is, writable_begins}
-use Rattle.tape_cmd.proofs.Opened.{opening_cut, IsKnown, outside, went_behind, settled_told, opened_known, known_before, found_locked, never_both, unlocked}
-use Rattle.tape_cmd.specs.Opening.{IsOpened, is_opening, HasOpened, IsUnlocked, WritableEnds, store_status}
+use Rattle.store_opening.proofs.Opened.{opening_cut, IsKnown, outside, went_behind, settled_told, opened_known, known_before, found_locked, never_both, unlocked}
+use Rattle.tape_cmd.specs.Opening.{is_opening, IsUnlocked, WritableEnds, store_status}
+use Rattle.store_opening.specs.Opening.{IsOpened, HasOpened}
 use Rattle.tape_cmd.specs.Outcome.{first_steps}
 use Rattle.tape_cmd.specs.Writing.{printed_status}
 use Rattle.volume_store.proofs.Copies.{tells_two}

@@ -27,39 +27,17 @@ use Rattle.command_spec.specs.declared.status.Status.TheVariants as status
 use Rattle.command_spec.specs.Lines.{formatted_line}
 use Rattle.command_spec.specs.Outcome.{CommandOutcome, refused}
 use Rattle.tape_cmd.specs.Outcome.{first_steps}
-use Rattle.command_spec.specs.Format.{cleared, formatted, FormatOutcome}
+use Rattle.command_spec.specs.Commands.Format.{cleared, formatted, FormatOutcome}
 use Rattle.tape_cmd.specs.Format.{format_status}
-use Rattle.tape_cmd.specs.Opening.{HasStarted, StartFails}
+use Rattle.tape_cmd.specs.Opening.{StartFails}
+use Rattle.store_opening.specs.Opening.{HasStarted}
 use Rattle.tape_cmd.specs.Writing.{printed_status}
 use Rattle.command_spec.specs.Runs.{EndsBlind}
 use Rattle.tape_cmd.proofs.Endings.{IsBlind, printed, turned_down, turned_behind, cut_off, cut_off_first}
 use Rattle.command_laws.proofs.CommandEndings.{Rules}
-use Rattle.tape_cmd.proofs.Hands.{Knows, known_before, told_known, told_known_beside, told_at_start}
+use Rattle.store_opening.proofs.Started.{Knows, known_before, told_known, told_known_beside, told_at_start}
 
 -- ---- what is told of the cartridge
-
--- a cartridge that the drive knows
-pub record IsThere (cartridge : Option TapeInfo) : Type 0 where
-  pub info : TapeInfo
-  pub is : cartridge ≡ Some info
-
-pub is_there : (cartridge : Option TapeInfo) (P : TapeInfo → Type 0) → IsSomeAnd cartridge P → IsThere cartridge
-is_there None P there = absurd there
-is_there (Some info) P there = record { info = info; is = refl }
-
--- a host was started on it
-pub record Present {T : Type 0} (t : tapes.Meaning T) (a b : T) (info : TapeInfo) : Type 0 where
-  pub did : tapes.Done t a b []
-  pub known : IfSome (t.told a) (Knows (Some info))
-
-pub there_of : {T : Type 0} {t : tapes.Meaning T} {a b : UnitView T} {host : Host} → HasStarted t a b host → IsThere b.drive.deck.cartridge
-there_of started = is_there _ _ started.ready.fits.cartridge
-
-pub present : {T : Type 0} {t : tapes.Meaning T} {a b : UnitView T} {host : Host} → (started : HasStarted t a b host) → Present t a.tape b.tape (there_of started).info
-present {t = t} {a = a} {b = b} started = record {
-  did = started.did;
-  known = subst (λ (i : Option TapeInfo). IfSome (t.told a.tape) (Knows i)) (there_of started).is (known_before t a.tape b.tape b.drive.deck.cartridge started.did started.known);
-}
 
 pub not_true : (b : Bool) → (b ≡ true → ⊥) → b ≡ false
 not_true true other = absurd (other refl)

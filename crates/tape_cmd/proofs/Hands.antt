@@ -9,34 +9,6 @@ use Rattle.drive_states.specs.declared.fault.HandFault.{HandFault}
 use Rattle.drive_states.specs.declared.fault.HandFault.TheVariants.{NoCartridge, BadPlace}
 use Rattle.command_laws.proofs.ScriptPlaces.{place_or_not}
 
--- what the drive knows since the insertion is what the tape told before it
-pub known_before : {T : Type 0} (t : tapes.Meaning T) (a b : T) (cartridge : Option TapeInfo) → tapes.Done t a b [] →
-    IfSome (t.told b) (λ there. cartridge ≡ option_map (λ c. c.info) there) → IfSome (t.told a) (λ there. cartridge ≡ option_map (λ c. c.info) there)
-known_before t a b cartridge inserted known =
-    let telling : Option (Option Cartridge) → Type 0 = λ held. IfSome held (λ there. cartridge ≡ option_map (λ c. c.info) there) in
-    subst telling (Done-told inserted) known
-
--- the drive knows what is told
-abbrev pub Knows : Option TapeInfo → Option Cartridge → Type 0
-Knows cartridge held = cartridge ≡ option_map (λ c. c.info) held
-
--- a fact of what is told follows from what the drive knows
-pub told_known : (held : Option (Option Cartridge)) (cartridge : Option TapeInfo) (R : Option Cartridge → Type 0) → IfSome held (Knows cartridge) → ((h : Option Cartridge) → Knows cartridge h → R h) → IfSome held R
-told_known None cartridge R known follows = tt
-told_known (Some h) cartridge R known follows = follows h known
-
--- .. and from a fact of the cartridge
-pub told_known_beside : (held : Option (Option Cartridge)) (cartridge : Option TapeInfo) (Q : Cartridge → Type 0) (R : Option Cartridge → Type 0) →
-    IfSome held (Knows cartridge) → IfSome held (λ h. IfSome h Q) → ((h : Option Cartridge) → Knows cartridge h → IfSome h Q → R h) → IfSome held R
-told_known_beside None cartridge Q R known fact follows = tt
-told_known_beside (Some h) cartridge Q R known fact follows = follows h known fact
-
--- a fact of the cartridge that is told after the insertion was told before it
-pub told_at_start : {T : Type 0} (t : tapes.Meaning T) (a b : T) → tapes.Done t a b [] → (P : Cartridge → Type 0) → tapes.Tells t b P → tapes.Tells t a P
-told_at_start t a b inserted P told =
-    let telling : Option (Option Cartridge) → Type 0 = λ held. IfSome held (λ h. IfSome h P) in
-    subst telling (Done-told inserted) told
-
 -- the drive knows a cartridge, and it has the sector
 pub record Reached (cartridge : Option TapeInfo) (segment sector : ℕ) (P : Type 0) : Type 0 where
   pub info : TapeInfo

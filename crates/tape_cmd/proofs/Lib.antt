@@ -4,7 +4,6 @@ pub mod Formats
 pub mod Hands
 pub mod Made
 pub mod Mounted
-pub mod Opened
 pub mod Restored
 pub mod Scripted
 pub mod Scrubbed

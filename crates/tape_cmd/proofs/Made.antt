@@ -31,14 +31,15 @@ use Rattle.command_spec.specs.Make.{Making, make_status}
 use Rattle.tape_cmd.specs.Make.{run_status}
 use Rattle.command_spec.specs.Machine.{RefusedPrints}
 use Rattle.command_spec.specs.Outcome.{Going, Opened, OpenOutcome, WritableOutcome}
-use Rattle.tape_cmd.specs.Opening.{IsOpened, HasOpened, IsUnlocked, WritableEnds, is_opening}
+use Rattle.tape_cmd.specs.Opening.{IsUnlocked, WritableEnds, is_opening}
+use Rattle.store_opening.specs.Opening.{IsOpened, HasOpened}
 use Rattle.command_spec.specs.Outcome.{CommandOutcome}
 use Rattle.tape_cmd.specs.Outcome.{first_steps}
 use Rattle.command_spec.specs.Runs.{EndsBlind, IsCutOff, Prints, fault_of, may_come_from}
 use Rattle.tape_cmd.proofs.Endings.{IsBlind, none_taken, turned_down, cut_off, told_map}
 use Rattle.tape_cmd.proofs.Mounted.{Settles, no_outcome, told_both, locked_is, unlocked_refused_is, writable_begins}
 use Rattle.command_laws.proofs.CommandOpened.{quiet}
-use Rattle.tape_cmd.proofs.Opened.{went_behind, cut_behind, settled_told}
+use Rattle.store_opening.proofs.Opened.{went_behind, cut_behind, settled_told}
 
 -- ---- the answers of a run
 

@@ -35,16 +35,18 @@ use Rattle.command_spec.specs.Lines.{list_text, info_text}
 use Rattle.command_spec.specs.Outcome.{CommandOutcome, refused, acted}
 use Rattle.tape_cmd.specs.Outcome.{first_steps}
 use Rattle.command_spec.specs.Outcome.{Going, Opened, OpenOutcome, WritableOutcome, Printing, Shows, is_refused}
-use Rattle.tape_cmd.specs.Opening.{IsRefusal, RefusesOpening, store_status, is_opening, StartFails, IsOpened, HasOpened, OpeningEnds, IsUnlocked, WritableEnds}
-use Rattle.command_spec.specs.Info.{telling}
-use Rattle.command_spec.specs.List.{listing}
+use Rattle.tape_cmd.specs.Opening.{IsRefusal, RefusesOpening, store_status, open_status, is_opening, StartFails, OpeningRefused, OpeningEnds, IsUnlocked, WritableEnds}
+use Rattle.store_opening.specs.Opening.{IsOpened, HasOpened, IsTurnedDown, OpenFails, StartFails as FailsToStart}
+use Rattle.store_opening.specs.declared.opening.OpenFault.{OpenFault}
+use Rattle.store_opening.specs.declared.opening.OpenFault.TheVariants as open_fault
+use Rattle.command_spec.specs.Commands.Info.{telling}
+use Rattle.command_spec.specs.Commands.ListCommand.{listing}
 use Rattle.command_spec.specs.Machine.{CommandPrints}
 use Rattle.tape_cmd.specs.Writing.{printed_status}
 use Rattle.command_spec.specs.Runs.{EndsBlind, may_come_from}
 use Rattle.tape_cmd.proofs.Endings.{IsBlind, printed, turned_down, cut_off, told_map}
 use Rattle.command_laws.proofs.CommandEndings.{Rules}
-use Rattle.tape_cmd.proofs.Formats.{Present}
-use Rattle.tape_cmd.proofs.Hands.{Knows, told_known_beside, told_at_start}
+use Rattle.store_opening.proofs.Started.{Present, Knows, told_known_beside, told_at_start}
 
 -- ---- outcomes
 
@@ -118,25 +120,14 @@ writable_begins goes first steps (Some c) front outcome (inl (locked, is)) =
 
 -- ---- how a mounting ends
 
-refuses_mounting : (info : TapeInfo) (f : StoreFault) (held : Option Cartridge) → Knows (Some info) held → IfSome held (λ c. MountRefuses c f) → RefusesOpening held (store_status f)
-refuses_mounting info f None known refuses = cc
-refuses_mounting info fault.NotFormatted (Some c) known refuses = (mounting.NotFormatted, refuses, refl)
-refuses_mounting info (fault.Foreign field value) (Some c) known refuses = (mounting.Foreign (fault_as field value), refuses, refl)
-refuses_mounting info (fault.Lost segment lost) (Some c) known refuses =
+refuses_mounting : (f : StoreFault) (held : Option Cartridge) → IsSomeAnd held (λ c. MountRefuses c f) → RefusesOpening held (store_status f)
+refuses_mounting f None refuses = absurd refuses
+refuses_mounting fault.NotFormatted (Some c) refuses = (mounting.NotFormatted, refuses, refl)
+refuses_mounting (fault.Foreign field value) (Some c) refuses = (mounting.Foreign (fault_as field value), refuses, refl)
+refuses_mounting (fault.Lost segment lost) (Some c) refuses =
     (mounting.TableLost lost, refuses.1, ap (λ (s : ℕ). status.Lost s lost) refuses.0)
-refuses_mounting info fault.TableMismatch (Some c) known refuses = (mounting.TableMismatch, refuses, refl)
-refuses_mounting info f (Some c) known refuses = absurd refuses
-
-is_mounted : (info : TapeInfo) (store : StoreView) (steps : List TapeStep) (held : Option Cartridge) → Knows (Some info) held →
-    IfSome held (λ c. stores.Settles c store.header store.words store.entries steps) → IsSomeAnd held (λ c. IsOpened c store steps)
-is_mounted info store steps None known settles = cc
-is_mounted info store steps (Some c) known settles = settles
-
-is_settling : (info : TapeInfo) (steps : List TapeStep) (held : Option Cartridge) → Knows (Some info) held → IfSome held (λ c. (steps ≡ []) ⊎ IsSettling c steps) →
-    (steps ≡ []) ⊎ IsSomeAnd held (λ c. IsSettling c steps)
-is_settling info steps None known settling = cc
-is_settling info steps (Some c) known (inl none) = inl none
-is_settling info steps (Some c) known (inr settling) = inr settling
+refuses_mounting fault.TableMismatch (Some c) refuses = (mounting.TableMismatch, refuses, refl)
+refuses_mounting f (Some c) refuses = absurd refuses
 
 absent_told : (o : Option (Option Cartridge)) → IfSome o (λ held. held ≡ None) → IfSome o (λ held. RefusesOpening held status.NoCartridge)
 absent_told None none = tt
@@ -147,32 +138,23 @@ nothing_begins : (steps : List TapeStep) (told : Option (Option Cartridge)) → 
 nothing_begins steps None none = tt
 nothing_begins steps (Some h) none = inl none
 
--- there was no start
-pub open_unstarted : {T : Type 0} (t : tapes.Meaning T) (a : T) (b : UnitView T) (why : Status) → StartFails t a b.tape why → OpeningEnds t a b (Err why)
-open_unstarted t a b why (inl (is, did, none)) =
-    inl (record { did = did; sound = ap is_opening is; told = rw is (absent_told (t.told a) none) })
-open_unstarted t a b why (inr (is, broke)) = inr (record { answered = is; steps = []; broke = broke; front = nothing_begins [] (t.told a) refl })
+-- the refusals of an opening have an answer each
+pub never_short : {T : Type 0} (t : tapes.Meaning T) (a b : T) (why : OpenFault) → OpenFails t a b why → (promised read : ℕ) → why ≢ open_fault.Refused (fault.Short promised read)
+never_short t a b open_fault.NoCartridge fails promised read is = cc
+never_short t a b (open_fault.Refused (fault.Short p r)) fails promised read is = let kind = fails.kind in absurd (cc)
+never_short t a b (open_fault.Refused f) fails promised read is = cc
 
-pub open_shown : {T : Type 0} (t : tapes.Meaning T) (a b : T) (c : UnitView T) (info : TapeInfo) (store : StoreView) → Present t a b info → MountDoes t b c.tape (Ok store) → StoreFits t store c →
-    OpeningEnds t a c (Ok store)
-open_shown t a b c info store there does fits = record {
-  steps = does.steps;
-  did = Done-Done there.did does.done;
-  told = told_known_beside (t.told a) (Some info) (λ d. stores.Settles d store.header store.words store.entries does.steps)
-      (λ h. IsSomeAnd h (λ d. IsOpened d store does.steps)) there.known
-      (told_at_start t a b there.did (λ d. stores.Settles d store.header store.words store.entries does.steps) does.told)
-      (λ held known settles. is_mounted info store does.steps held known settles);
-  fits = fits;
-}
+pub start_failed : {T : Type 0} (t : tapes.Meaning T) (a b : T) (why : OpenFault) → FailsToStart t a b why → StartFails t a b (open_status why)
+start_failed t a b open_fault.NoCartridge fails = inl (refl, fails.0, fails.1)
+start_failed t a b (open_fault.Refused fault.Tape) fails = inr (refl, fails)
+start_failed t a b (open_fault.Refused f) fails = absurd fails
 
-turned : {T : Type 0} (t : tapes.Meaning T) (a b : T) (c : UnitView T) (info : TapeInfo) (f : StoreFault) → Present t a b info → tapes.Done t b c.tape [] → tapes.Tells t b (λ d. MountRefuses d f) →
-    is_opening (store_status f) ≡ true → OpeningEnds t a c (Err (store_status f))
-turned t a b c info f there did told sound = inl (record {
-  did = Done-Done there.did did;
+turned : {T : Type 0} (t : tapes.Meaning T) (a b : T) (f : StoreFault) → IsTurnedDown t a b f → is_opening (store_status f) ≡ true → OpeningRefused t a b (store_status f)
+turned t a b f refused sound = record {
+  did = refused.did;
   sound = sound;
-  told = told_known_beside (t.told a) (Some info) (λ d. MountRefuses d f) (λ h. RefusesOpening h (store_status f)) there.known
-      (told_at_start t a b there.did (λ d. MountRefuses d f) told) (λ held known refuses. refuses_mounting info f held known refuses);
-})
+  told = told_map (t.told a) _ _ refused.told (λ held refuses. refuses_mounting f held refuses);
+}
 
 foreign_is_refused : (n : ℕ) (field : ForeignField) (value : ℕ) → IsForeign n field value → is_refused field value ≡ true
 foreign_is_refused n foreign_field.FormatCode value is = ap not (ne_eqb value 2 is)
@@ -188,24 +170,18 @@ foreign_is_refused n foreign_field.Map value is = lt-ltb value 3 is
 foreign_is_refused n foreign_field.Slot value is = lt-ltb value 232 is
 foreign_is_refused n foreign_field.Range value is = lt-ltb value 232 is
 
-pub open_failed : {T : Type 0} (A : Type 0) (n : ℕ) (t : tapes.Meaning T) (a b : T) (c : UnitView T) (info : TapeInfo) (f : StoreFault) → Present t a b info → MountDoes t b c.tape (Err f) → is_of_mounting f ≡ true →
-    NamesCause {A = A} n (Err f) → OpeningEnds t a c (Err (store_status f))
-open_failed A n t a b c info fault.NotFormatted there does kind cause = turned t a b c info fault.NotFormatted there does.done does.told refl
-open_failed A n t a b c info (fault.Foreign field value) there does kind cause = turned t a b c info (fault.Foreign field value) there does.done does.told (foreign_is_refused n field value cause)
-open_failed A n t a b c info (fault.Lost segment lost) there does kind cause =
-    turned t a b c info (fault.Lost segment lost) there does.done does.told
-    (both_true (nat_lt 3 lost) (segment == 2) (lt-ltb 3 lost cause.1) (ap (λ (s : ℕ). s == 2) cause.0))
-open_failed A n t a b c info fault.TableMismatch there does kind cause = turned t a b c info fault.TableMismatch there does.done does.told refl
-open_failed A n t a b c info fault.Tape there does kind cause = inr (record {
-  answered = refl;
-  steps = does.steps;
-  broke = Done-Broke there.did does.broke;
-  front = told_known_beside (t.told a) (Some info) (λ d. (does.steps ≡ []) ⊎ IsSettling d does.steps)
-      (λ h. (does.steps ≡ []) ⊎ IsSomeAnd h (λ d. IsSettling d does.steps)) there.known
-      (told_at_start t a b there.did (λ d. (does.steps ≡ []) ⊎ IsSettling d does.steps) does.told)
-      (λ held known settling. is_settling info does.steps held known settling);
-})
-open_failed A n t a b c info f there does kind cause = absurd (cc)
+-- a cartridge can't be opened
+pub open_failed : {T : Type 0} (t : tapes.Meaning T) (a : T) (b : UnitView T) (why : OpenFault) → OpenFails t a b.tape why → OpeningEnds t a b (Err (open_status why))
+open_failed t a b open_fault.NoCartridge fails = inl (record { did = fails.0; sound = refl; told = absent_told (t.told a) fails.1 })
+open_failed t a b (open_fault.Refused fault.NotFormatted) fails = inl (turned t a b.tape fault.NotFormatted fails refl)
+open_failed t a b (open_fault.Refused (fault.Foreign field value)) fails =
+    inl (turned t a b.tape (fault.Foreign field value) fails (foreign_is_refused fails.segments field value fails.cause))
+open_failed t a b (open_fault.Refused (fault.Lost segment lost)) fails =
+    inl (turned t a b.tape (fault.Lost segment lost) fails
+    (both_true (nat_lt 3 lost) (segment == 2) (lt-ltb 3 lost fails.cause.1) (ap (λ (s : ℕ). s == 2) fails.cause.0)))
+open_failed t a b (open_fault.Refused fault.TableMismatch) fails = inl (turned t a b.tape fault.TableMismatch fails refl)
+open_failed t a b (open_fault.Refused fault.Tape) fails = inr (record { answered = refl; steps = fails.steps; broke = fails.broke; front = fails.front })
+open_failed t a b (open_fault.Refused f) fails = let kind = fails.kind in absurd (cc)
 
 -- ---- .. of a cartridge to write on
 

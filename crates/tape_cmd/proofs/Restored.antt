@@ -29,7 +29,8 @@ use Rattle.command_spec.specs.declared.status.Status.{Status}
 use Rattle.command_spec.specs.declared.status.Status.TheVariants as status
 use Rattle.command_spec.specs.Machine.{RefusedPrints}
 use Rattle.command_spec.specs.Outcome.{Opened}
-use Rattle.tape_cmd.specs.Opening.{IsOpened, HasOpened, OpeningEnds, is_opening, store_status}
+use Rattle.tape_cmd.specs.Opening.{OpeningEnds, is_opening, store_status}
+use Rattle.store_opening.specs.Opening.{IsOpened, HasOpened}
 use Rattle.command_spec.specs.Outcome.{CommandOutcome, refused_behind}
 use Rattle.tape_cmd.specs.Outcome.{first_steps}
 use Rattle.command_spec.specs.Restore.{Gives, RestoreOutcome, ending_status}
@@ -37,7 +38,7 @@ use Rattle.command_spec.specs.Runs.{EndsBlind, IsCutOff, fault_of, may_come_from
 use Rattle.tape_cmd.proofs.Endings.{none_taken, turned_behind, told_map}
 use Rattle.tape_cmd.proofs.Mounted.{Follows, Settles, opened_is, refuses}
 use Rattle.command_laws.proofs.CommandOpened.{quiet}
-use Rattle.tape_cmd.proofs.Opened.{went_behind, cut_behind, settled_told}
+use Rattle.store_opening.proofs.Opened.{went_behind, cut_behind, settled_told}
 
 -- a restore begins with the settling
 gives_first : (number : ℕ) → Settles (Gives number)

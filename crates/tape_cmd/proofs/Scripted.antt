@@ -26,7 +26,8 @@ use Rattle.volume_store.specs.Mounting.{StoreView}
 use Rattle.command_spec.specs.declared.status.Status.{Status}
 use Rattle.command_spec.specs.declared.status.Status.TheVariants as status
 use Rattle.command_spec.specs.Outcome.{Opened}
-use Rattle.tape_cmd.specs.Opening.{IsOpened, HasOpened, OpeningEnds, is_opening}
+use Rattle.tape_cmd.specs.Opening.{OpeningEnds, is_opening}
+use Rattle.store_opening.specs.Opening.{IsOpened, HasOpened}
 use Rattle.command_spec.specs.Outcome.{CommandOutcome, refused}
 use Rattle.tape_cmd.specs.Outcome.{first_steps}
 use Rattle.command_spec.specs.Runs.{CommandEnds, InputLeft, IsCutOff, NamesFault, Prints, fault_of, may_come_from}
@@ -34,7 +35,7 @@ use Rattle.command_spec.specs.Script.{Scripting, ScriptOutcome, script_status}
 use Rattle.tape_cmd.specs.Script.{run_status}
 use Rattle.tape_cmd.proofs.Endings.{told_map}
 use Rattle.tape_cmd.proofs.Mounted.{Settles, no_outcome, begins_is, refused_is}
-use Rattle.tape_cmd.proofs.Opened.{opening_cut, outside, went_behind, cut_behind, settled_told}
+use Rattle.store_opening.proofs.Opened.{opening_cut, outside, went_behind, cut_behind, settled_told}
 use Rattle.command_laws.proofs.CommandOpened.{quiet}
 use Rattle.command_laws.proofs.CommandTold.{input_of, input_told}
 

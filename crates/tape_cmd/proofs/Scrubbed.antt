@@ -32,13 +32,14 @@ use Rattle.volume_store.specs.Scrubbing.{HasMended, MendCut, MendEnds, MendEndsA
 use Rattle.command_spec.specs.declared.status.Status.{Status}
 use Rattle.command_spec.specs.declared.status.Status.TheVariants as status
 use Rattle.command_spec.specs.Outcome.{CommandOutcome, Going, Opened, WritableOutcome, settling_act}
-use Rattle.tape_cmd.specs.Opening.{IsOpened, HasOpened, IsUnlocked, WritableEnds, is_opening, store_status}
+use Rattle.tape_cmd.specs.Opening.{IsUnlocked, WritableEnds, is_opening, store_status}
+use Rattle.store_opening.specs.Opening.{IsOpened, HasOpened}
 use Rattle.tape_cmd.specs.Outcome.{first_steps}
 use Rattle.command_spec.specs.Scrub.{Mends}
 use Rattle.command_spec.specs.Runs.{EndsBlind, IsCutOff, fault_of, may_come_from}
 use Rattle.tape_cmd.proofs.Endings.{IsBlind, turned_behind, turned_down, cut_off, told_map}
 use Rattle.tape_cmd.proofs.Mounted.{Settles, no_outcome, told_both, locked_is, unlocked_refused_is, writable_begins}
-use Rattle.tape_cmd.proofs.Opened.{IsKnown, went_behind, cut_behind, settled_told, opened_known, known_before, found_locked, never_both, unlocked}
+use Rattle.store_opening.proofs.Opened.{IsKnown, went_behind, cut_behind, settled_told, opened_known, known_before, found_locked, never_both, unlocked}
 use Rattle.command_laws.proofs.CommandOpened.{quiet}
 
 -- the outcome of these acts

@@ -4,17 +4,17 @@ use Rattle.cartridge_spec.specs.Mounting.{Mounting, Mounts}
 use Rattle.command_spec.specs.Outcome.{foreign, is_refused}
 use Rattle.command_spec.specs.declared.status.Status.{Status}
 use Rattle.drive_states.specs.Unit.{UnitView}
-use Rattle.host_driver.specs.Calls.{IsReady}
-use Rattle.host_driver.specs.Fits.{AgreesWithTape}
-use Rattle.host_driver.specs.Starts.{KnowsTold}
 use Rattle.host_driver.specs.declared.host.Host.{Host}
 use Rattle.qic_base.specs.Cartridge.{Cartridge}
 use Rattle.qic_base.specs.Step.{Step}
 use Rattle.qic_base.specs.Tape.{Meaning, Done, Broke, Tells}
-use Rattle.volume_store.specs.Mounting.{StoreView, StoreFits, IsSettling, Settles}
+use Rattle.store_opening.specs.Opening.{HasStarted, HasOpened}
+use Rattle.store_opening.specs.declared.opening.OpenFault.{OpenFault}
+use Rattle.volume_store.specs.Mounting.{StoreView, IsSettling}
 use Rattle.volume_store.specs.declared.fault.StoreFault.{StoreFault}
 use Rattle.cartridge_spec.specs.Mounting as mounting
 use Rattle.command_spec.specs.declared.status.Status.TheVariants as status
+use Rattle.store_opening.specs.declared.opening.OpenFault.TheVariants as open_fault
 use Rattle.volume_store.specs.declared.fault.StoreFault.TheVariants as fault
 
 -- what the mounting gives is refused so
@@ -48,6 +48,11 @@ store_status fault.Sink = status.SinkFault
 store_status (fault.Short promised read) = status.TapeFault
 store_status fault.Tape = status.TapeFault
 
+-- the answer that a cartridge makes that can't be opened
+abbrev pub open_status : OpenFault → Status
+open_status open_fault.NoCartridge = status.NoCartridge
+open_status (open_fault.Refused fault) = store_status fault
+
 -- an answer to what an opening finds
 abbrev pub is_opening : Status → Bool
 is_opening status.NoCartridge = true
@@ -56,13 +61,6 @@ is_opening (status.Foreign field value) = is_refused field value
 is_opening (status.Lost segment lost) = nat_lt 3 lost && segment == 2
 is_opening status.TableMismatch = true
 is_opening answer = false
-
--- a host was started on the cartridge, which the drive knows
-pub record HasStarted {T : Type 0} (m : Meaning T) (old new : UnitView T) (host : Host) : Type 0 where
-  pub did : Done m old.tape new.tape []
-  pub ready : IsReady m host new
-  pub known : KnowsTold m new
-  pub agrees : AgreesWithTape m new
 
 -- there is no cartridge, or a fault of the tape broke the insertion off
 abbrev pub StartFails : {T : Type 0} (m : Meaning T) (old new : T) → Status → Type 0
@@ -74,17 +72,6 @@ StartFails m old new why =
 abbrev pub StartEnds : {T : Type 0} (m : Meaning T) (old new : UnitView T) → Result Host Status → Type 0
 StartEnds m old new (Ok host) = HasStarted m old new host
 StartEnds m old new (Err why) = StartFails m old.tape new.tape why
-
--- the cartridge is mounted as the store shows it, and these steps settle it
-abbrev pub IsOpened : Cartridge → StoreView → (steps : List Step) → Type 0
-IsOpened c store steps = Settles c store.header store.words store.entries steps
-
--- The cartridge was opened, by these steps.
-pub record HasOpened {T : Type 0} (m : Meaning T) (old : T) (new : UnitView T) (store : StoreView) : Type 0 where
-  pub steps : List Step
-  pub did : Done m old new.tape steps
-  pub told : IfSome (m.told old) (λ held. IsSomeAnd held (λ c. IsOpened c store steps))
-  pub fits : StoreFits m store new
 
 -- It was refused, before anything was written.
 pub record OpeningRefused {T : Type 0} (m : Meaning T) (old new : T) (why : Status) : Type 0 where

@@ -8,7 +8,7 @@ ghost use Rattle.command_spec.specs.Runs.{CommandEnds};
 use crate::Status;
 use crate::lines::printed;
 use crate::opening::{open_writable, store_status};
-use crate::room::Room;
+use store_opening::Room;
 use drive_states::Unit;
 use qic_base::{Name, Sink, Source, Tape};
 use tape_script::write_text;

@@ -8,7 +8,7 @@ ghost use Rattle.command_spec.specs.Runs.{EndsBlind};
 use crate::Status;
 use crate::lines::printed;
 use crate::opening::start;
-use crate::room::Room;
+use store_opening::Room;
 use drive_states::Unit;
 use formatter::{FormatFault, format};
 use qic_base::{Name, Sink, Tape};

@@ -10,7 +10,7 @@ ghost use Rattle.command_spec.specs.Runs.{EndsBlind};
 use crate::Status;
 use crate::lines::printed;
 use crate::opening::open;
-use crate::room::Room;
+use store_opening::Room;
 use drive_states::Unit;
 use header_segments::Header;
 use qic_base::{Sink, SinkFailed, Tape};

@@ -7,7 +7,7 @@ ghost use Rattle.command_spec.specs.Runs.{EndsBlind};
 
 use crate::Status;
 use crate::opening::open_writable;
-use crate::room::Room;
+use store_opening::Room;
 use drive_states::Unit;
 use made_volumes::{MakeFault, make_volumes};
 use qic_base::{Sink, Tape};

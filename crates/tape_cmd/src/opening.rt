@@ -1,25 +1,24 @@
 //! The cartridge that the drive holds, opened: put in and mounted.
 
 ghost use Rattle.std.specs.Prelude.{◌≡◌, ◌≢◌, ℕ};
-ghost use Rattle.tape_cmd.specs.Opening.{OpeningEnds, StartEnds, WritableEnds, store_status as status_of};
+ghost use Rattle.store_opening.specs.declared.opening.OpenFault.TheVariants.{Refused};
+ghost use Rattle.tape_cmd.specs.Opening.{OpeningEnds, StartEnds, WritableEnds, open_status as status_of_opening, store_status as status_of};
 ghost use Rattle.volume_store.specs.declared.fault.StoreFault.TheVariants.{Short};
 
 use crate::Status;
-use crate::room::Room;
 use drive_states::Unit;
-use host_driver::{Host, HostFault};
+use host_driver::Host;
 use qic_base::Tape;
+use store_opening::{OpenFault, Room};
 use volume_store::{Store, StoreFault};
 
 /// Puts the cartridge in and starts a host on it.
 pub fn start<T: Tape>(unit: &mut Unit<T>) -> Result<Host, Status>
     ensures { StartEnds T.means unit.old unit.new result }
 {
-    match Host::start(unit) {
+    match store_opening::start(unit) {
         Ok(host) => Ok(host),
-        Err(HostFault::NoCartridge) => Err(Status::NoCartridge),
-        Err(HostFault::Tape) => Err(Status::TapeFault),
-        Err(HostFault::Protected) => unreachable!("a start asks for no mode"),
+        Err(fault) => Err(open_status(fault)),
     }
 }
 
@@ -27,13 +26,9 @@ pub fn start<T: Tape>(unit: &mut Unit<T>) -> Result<Host, Status>
 pub fn open<T: Tape>(unit: &mut Unit<T>, room: Room) -> Result<Store, Status>
     ensures { OpeningEnds T.means unit.old.tape unit.new result }
 {
-    let host = match start(unit) {
-        Ok(host) => host,
-        Err(status) => return Err(status),
-    };
-    match Store::mount(unit, host, room.work, room.map, room.table) {
+    match store_opening::open(unit, room) {
         Ok(store) => Ok(store),
-        Err(fault) => Err(store_status(fault)),
+        Err(fault) => Err(open_status(fault)),
     }
 }
 
@@ -51,6 +46,17 @@ pub fn open_writable<T: Tape>(unit: &mut Unit<T>, room: Room) -> Result<Store, S
     match Store::mount(unit, host, room.work, room.map, room.table) {
         Ok(store) => Ok(store),
         Err(fault) => Err(store_status(fault)),
+    }
+}
+
+/// The answer that a cartridge makes that can't be opened.
+fn open_status(fault: OpenFault) -> Status
+    requires { (promised read : ℕ) → fault ≢ Refused (Short promised read) }
+    ensures { result ≡ status_of_opening fault }
+{
+    match fault {
+        OpenFault::NoCartridge => Status::NoCartridge,
+        OpenFault::Refused(fault) => store_status(fault),
     }
 }
 

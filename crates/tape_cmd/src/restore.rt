@@ -5,7 +5,7 @@ ghost use Rattle.command_spec.specs.Runs.{EndsBlind};
 
 use crate::Status;
 use crate::opening::{open, store_status};
-use crate::room::Room;
+use store_opening::Room;
 use drive_states::Unit;
 use qic_base::{Sink, Tape};
 

@@ -7,7 +7,7 @@ ghost use Rattle.tape_cmd.specs.Script.{run_status};
 
 use crate::Status;
 use crate::opening::open;
-use crate::room::Room;
+use store_opening::Room;
 use drive_states::Unit;
 use qic_base::{Sink, Source, Tape};
 use volume_script::{ScriptFault, run_script};

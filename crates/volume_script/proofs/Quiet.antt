@@ -26,7 +26,7 @@ use Rattle.command_spec.specs.Restore.{Restored, LostIn, MismatchIn, Restores, f
 use Rattle.command_spec.specs.Restore as restoring
 use Rattle.command_spec.specs.Scrub.{Scrubs, counts_of, looked_at}
 use Rattle.segment_io.proofs.Going.{tells_always}
-use Rattle.segment_mending.specs.Mending.{HasScrubbed, ScrubCut, reported}
+use Rattle.segment_mending.specs.Mending.{reported}
 use Rattle.segment_mending.specs.declared.report.ScrubReport.{ScrubReport}
 use Rattle.command_spec.specs.declared.line.Line.{Line}
 use Rattle.command_spec.specs.declared.line.Line.TheVariants as line
@@ -35,6 +35,7 @@ use Rattle.qic_base.proofs.Giving.{Gave-nothing}
 use Rattle.tape_script.proofs.Rests.{any_rest}
 use Rattle.command_spec.specs.Lines.{list_text, lost_line}
 use Rattle.volume_output.specs.Output.{GaveVolume, VolumeCut}
+use Rattle.volume_store.specs.Scrubbing.{HasMended, MendCut}
 use Rattle.volume_store.specs.declared.fault.StoreFault.TheVariants as store_fault
 use Rattle.volume_store.specs.Mounting.{StoreView, StoreFits}
 use Rattle.volume_store.specs.Restoring.{RestoreEnds}
@@ -204,7 +205,7 @@ module _ {T S K : Type 0} (t : tapes.Meaning T) (s : sources.Meaning S) (k : sin
       (Tells-map t a (λ c. c.info.protected ≡ true)
       (λ c. LineDoes c store.words store.entries line.Scrub [] (record { acts = [] ++ reply (refusal_line why.Protected) ∷ []; entries = store.entries })) (λ c is. inl (is, refl)) mark))
 
-  pub scrub_done : (report : ScrubReport) → tapes.Tells t a (λ c. c.info.protected ≡ false) → HasScrubbed t k store.words store.entries (around a x) (around b y) report →
+  pub scrub_done : (report : ScrubReport) → tapes.Tells t a (λ c. c.info.protected ≡ false) → HasMended t k store.words store.entries (around a x) (around b y) report →
       ItemDone t s k store after (out a i x) (out b i y) line.Scrub
   scrub_done report free did =
       quiet_done t s k store after line.Scrub refl a b i x y did.acts (printed_went t s k a b i i x y did.acts (omega arith) did.went)
@@ -214,7 +215,7 @@ module _ {T S K : Type 0} (t : tapes.Meaning T) (s : sources.Meaning S) (k : sin
       (λ c. LineDoes c store.words store.entries line.Scrub [] (record { acts = did.acts; entries = store.entries }))
       (λ c off is. inr (off, (did.acts, is.0, refl))) free did.told))
 
-  pub scrub_cut : (failing : Failing) → failing ≢ SourceFails → tapes.Tells t a (λ c. c.info.protected ≡ false) → ScrubCut t k store.words store.entries (around a x) (around b y) failing →
+  pub scrub_cut : (failing : Failing) → failing ≢ SourceFails → tapes.Tells t a (λ c. c.info.protected ≡ false) → MendCut t k store.words store.entries (around a x) (around b y) failing →
       ItemCut t s k store (out a i x) (out b i y) line.Scrub failing
   scrub_cut failing other free cut =
       quiet_cut t s k store after line.Scrub refl a b i x y failing cut.acts (printed_cut t s k a b i i x y cut.acts failing other (omega arith) cut.cut)

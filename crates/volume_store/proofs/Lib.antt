@@ -5,6 +5,7 @@ pub mod Collected
 pub mod Copies
 pub mod Ending
 pub mod Fitting
+pub mod Forms
 pub mod Mending
 pub mod Mounts
 pub mod Parts

@@ -1,5 +1,5 @@
--- What a scrub leaves of the volume table's list, done or cut off by the sink.
-use Rattle.std.proofs.Common.{◌≡◌, ℕ, ◌-◌, ◌++◌, false, List, length, Contains, Option, Some, None, IfSome, IsSomeAnd, Result, Ok, Err, refl, sym, ap, ◌∙◌, subst}
+-- What scrubbing in either form leaves of the volume table's list, done or cut off by the sink.
+use Rattle.std.proofs.Common.{◌≡◌, ℕ, ◌-◌, ◌++◌, false, List, length, Contains, Option, Some, None, inl, inr, IfSome, IsSomeAnd, Result, Ok, Err, refl, sym, ap, ◌∙◌, subst}
 use Rattle.std.specs.Option.{option_map}
 use Rattle.std.proofs.lemmas.List.Elements.{All-take}
 use Rattle.cartridge_spec.specs.Mounting.{HasList}
@@ -8,26 +8,32 @@ use Rattle.qic_base.specs.Sink as sinks
 use Rattle.qic_base.specs.Step.{effects}
 use Rattle.qic_base.specs.Stop.{Torn}
 use Rattle.qic_base.specs.Tape.{Meaning, Tells, IsToldRight}
+use Rattle.qic_base.specs.declared.tape.SectorView.{SectorView}
 use Rattle.qic_base.specs.declared.tape.TapeInfo.{TapeInfo}
 use Rattle.qic_base.proofs.Steps.{Torn-all}
 use Rattle.qic_base.specs.Acts.{Act, Outside, SinkFails, Cut, steps_of, no_source}
 use Rattle.qic_base.proofs.Outcomes.{cut_is_torn}
 use Rattle.cartridge_spec.specs.Code.{IsSector}
 use Rattle.cartridge_spec.specs.HeaderAndTable.{table_cells}
-use Rattle.cartridge_spec.specs.Says.{Agrees, data_of}
+use Rattle.cartridge_spec.specs.Says.{Agrees, data_of, whole_mask}
 use Rattle.cartridge_spec.specs.Table.{Entry}
 use Rattle.cartridge_laws.specs.Table.{IsSoundList}
+use Rattle.cartridge_laws.proofs.FormatStanding.{same_cells}
 use Rattle.cartridge_laws.proofs.Sayings.{block_from_data, cartridge_sectors}
 use Rattle.drive_states.specs.Unit.{UnitView}
 use Rattle.host_driver.specs.declared.host.Host.{Host}
 use Rattle.host_driver.specs.Fits.{Fits, AgreesWithTape, segments_of}
+use Rattle.command_laws.specs.ScrubFound.{without_all}
 use Rattle.command_laws.specs.ScrubMended.{IsBeingMended}
 use Rattle.command_laws.specs.ScrubSayings.{Rise}
-use Rattle.command_spec.specs.Scrub.{Looked, whole_segment, looked_at, Scrubs, counts_of}
-use Rattle.command_laws.proofs.ScrubApart.{looked_rise}
-use Rattle.command_laws.proofs.ScrubMending.{stopped_scrub}
+use Rattle.command_spec.specs.Scrub.{Looked, whole_segment, looked_at}
+use Rattle.command_spec.specs.ScrubForms.{Finding, ScrubsAs, counts_for}
+use Rattle.command_spec.specs.declared.depth.Depth.{Depth}
+use Rattle.command_laws.proofs.ScrubBeside.{not_the_table}
+use Rattle.command_laws.proofs.ScrubForms.{AsSeen, as_seen, IsLeft, stopped_left}
+use Rattle.command_laws.proofs.ScrubOneWrong.{form_always}
+use Rattle.command_laws.proofs.ScrubSeen.{SameIn, IsSeen}
 use Rattle.command_laws.proofs.ScrubStanding.{written_kept, looks_in_front}
-use Rattle.command_laws.proofs.ScrubTurns.{scrubs_always}
 use Rattle.segment_mending.specs.declared.fault.ScrubFault.{ScrubFault}
 use Rattle.segment_mending.specs.declared.fault.ScrubFault.TheVariants as fault
 use Rattle.segment_mending.specs.declared.report.ScrubReport.{ScrubReport}
@@ -50,27 +56,58 @@ mended_list looked c d entries rise among way has =
       shown = has.shown;
     }
 
+-- the same views of the table's segment have the same list
+list_same : (c d : Cartridge) (entries : List Entry) → SameIn c d 2 → HasList c entries → HasList d entries
+list_same c d entries same has = record {
+  block = has.block;
+  code = has.code;
+  agrees = subst (λ (cells : List SectorView). Agrees cells has.block) (sym (same_cells c d 2 whole_mask same)) has.agrees;
+  shown = has.shown;
+}
+
+-- ---- the table's segment, in which no wrong sector is looked for
+
+seen_same : (depth : Depth) (c e : Cartridge) (looked : List Looked) (fs : List Finding) → IsSeen depth c e looked fs → SameIn c e 2
+seen_same depth c e looked fs seen i h =
+    elim (seen.each 2 i h) [
+      | inl same ↦ same
+      | inr lost ↦ absurd (not_the_table depth lost.found.at lost.found.searched lost.found.here)
+    ]
+
+left_same : (looked : List Looked) (c e d : Cartridge) → SameIn c e 2 → (left : IsLeft looked c e d) → SameIn left.other d 2
+left_same looked c e d same left i h =
+    elim (left.behind.each 2 i h) [
+      | inl is ↦ is
+      | inr kept ↦ kept.0 ∙ sym (same i h) ∙ sym kept.1
+    ]
+
 -- its list stands where it may be written
 abbrev Lists : List Entry → Cartridge → Type 0
 Lists entries c = c.info.protected ≡ false → HasList c entries
 
-mended_lists : (looked : List Looked) (c d : Cartridge) (entries : List Entry) → Rise looked → Contains looked (whole_segment 2) → IsBeingMended looked c d →
-    Lists entries c → Lists entries d
-mended_lists looked c d entries rise among way lists = λ mark.
-    mended_list looked c d entries rise among way (lists (ap (λ (info : TapeInfo). info.protected) (sym way.info) ∙ mark))
-
 -- ---- a stop among the acts
 
-module _ (words : List ℕ) (entries : List Entry) (last : ℕ) (order : IsSoundList last entries) where
-  left_lists : (c : Cartridge) (left : Option Cartridge) → IsSomeAnd left (IsBeingMended (looked_at words entries) c) → Lists entries c → IfSome left (Lists entries)
-  left_lists c None way lists = tt
-  left_lists c (Some d) way lists =
-      let rise = looked_rise words last entries order in
-      mended_lists (looked_at words entries) c d entries rise (looks_in_front words entries rise).table way lists
+module _ (depth : Depth) (words : List ℕ) (entries : List Entry) (last : ℕ) (order : IsSoundList last entries) where
+  one_left : (c d : Cartridge) (acts : List Act) (fs : List Finding) → AsSeen depth c words entries acts fs →
+      IsLeft (looked_at words entries) c (without_all c (looked_at words entries) fs) d → Lists entries c → Lists entries d
+  one_left c d acts fs run left lists = λ mark.
+      let looked : List Looked = looked_at words entries in
+      let e : Cartridge = without_all c looked fs in
+      let same : SameIn c e 2 = seen_same depth c e looked fs run.seen in
+      let known : HasList c entries = lists (ap (λ (info : TapeInfo). info.protected) (sym left.behind.info.0) ∙ mark) in
+      list_same left.other d entries (left_same looked c e d same left)
+      (mended_list looked e left.other entries run.rise (looks_in_front words entries run.rise).table left.way (list_same c e entries same known))
 
-  torn_lists : (c : Cartridge) (acts : List Act) (left : Option Cartridge) → Scrubs c words entries acts → Torn (steps_of acts) (Some c) left →
+  left_lists : (c : Cartridge) (acts : List Act) (fs : List Finding) (left : Option Cartridge) → AsSeen depth c words entries acts fs →
+      IsSomeAnd left (IsLeft (looked_at words entries) c (without_all c (looked_at words entries) fs)) → Lists entries c → IfSome left (Lists entries)
+  left_lists c acts fs None run way lists = tt
+  left_lists c acts fs (Some d) run way lists = one_left c d acts fs run way lists
+
+  torn_lists : (c : Cartridge) (acts : List Act) (left : Option Cartridge) → ScrubsAs depth c words entries acts → Torn (steps_of acts) (Some c) left →
       Lists entries c → IfSome left (Lists entries)
-  torn_lists c acts left scrubs torn lists = left_lists c left (stopped_scrub c words entries last acts left order scrubs torn) lists
+  torn_lists c acts left scrubs torn lists =
+      let run : AsSeen depth c words entries acts scrubs.findings = as_seen depth c words entries last acts order scrubs in
+      left_lists c acts scrubs.findings left run (stopped_left depth c words entries acts scrubs.findings left run torn) lists
 
 -- a host that fits has learnt a cartridge that is there
 pub told_there : {T : Type 0} (m : Meaning T) (host : Host) (u : UnitView T) → Fits m host u → AgreesWithTape m u → m.told u.tape ≡ Some None → ⊥
@@ -83,40 +120,40 @@ told_there m host u fits agrees = by_cases u.drive.deck.cartridge (m.told u.tape
     by_cases (Some info) (Some None) long known is = absurd known
     by_cases (Some info) (Some (Some c)) long known is = cc
 
-module _ {T K : Type 0} (t : Meaning T) (k : sinks.Meaning K) (words : List ℕ) (entries : List Entry) (last : ℕ) (order : IsSoundList last entries) (old new : Outside T (Unit {0}) K) where
+module _ {T K : Type 0} (t : Meaning T) (k : sinks.Meaning K) (depth : Depth) (words : List ℕ) (entries : List Entry) (last : ℕ) (order : IsSoundList last entries) (old new : Outside T (Unit {0}) K) where
   went_held : (acts : List Act) (report : ScrubReport) (held : Option (Option Cartridge)) → (held ≡ Some None → ⊥) →
-      IfSome held (λ h. IfSome h (λ c. (scrubs : Scrubs c words entries acts) × (reported report ≡ counts_of c (looked_at words entries) scrubs.sayings))) →
+      IfSome held (λ h. IfSome h (λ c. (scrubs : ScrubsAs depth c words entries acts) × (reported report ≡ counts_for c (looked_at words entries) scrubs.findings))) →
       IfSome held (λ h. IfSome h (Lists entries)) → IfSome (option_map (effects (steps_of acts)) held) (λ h. IfSome h (Lists entries))
   went_held acts report None there told lists = tt
   went_held acts report (Some None) there told lists = absurd (there refl)
   went_held acts report (Some (Some c)) there told lists =
-      torn_lists words entries last order c acts (effects (steps_of acts) (Some c)) told.0 (Torn-all (steps_of acts) (Some c)) lists
+      torn_lists depth words entries last order c acts (effects (steps_of acts) (Some c)) told.0 (Torn-all (steps_of acts) (Some c)) lists
 
-  went_lists : (report : ScrubReport) → HasScrubbed t k words entries old new report → (t.told old.tape ≡ Some None → ⊥) →
+  went_lists : (report : ScrubReport) → HasScrubbed t k depth words entries old new report → (t.told old.tape ≡ Some None → ⊥) →
       Tells t old.tape (Lists entries) → Tells t new.tape (Lists entries)
   went_lists report has there lists =
       subst (λ (held : Option (Option Cartridge)). IfSome held (λ h. IfSome h (Lists entries))) (sym has.went.did.told)
       (went_held has.acts report (t.told old.tape) there has.told lists)
 
-  torn_held : (c : Cartridge) (acts : List Act) (held : Option (Option Cartridge)) → Scrubs c words entries acts →
+  torn_held : (c : Cartridge) (acts : List Act) (held : Option (Option Cartridge)) → ScrubsAs depth c words entries acts →
       IsSomeAnd held (λ left. Torn (steps_of acts) (Some c) left) → Lists entries c → IfSome held (λ h. IfSome h (Lists entries))
   torn_held c acts None scrubs torn lists = absurd torn
-  torn_held c acts (Some left) scrubs torn lists = torn_lists words entries last order c acts left scrubs torn lists
+  torn_held c acts (Some left) scrubs torn lists = torn_lists depth words entries last order c acts left scrubs torn lists
 
-  cut_held : (held : Option (Option Cartridge)) (size : Option ℕ) → t.told old.tape ≡ held → IsToldRight held size → ScrubCut t k words entries old new SinkFails →
+  cut_held : (held : Option (Option Cartridge)) (size : Option ℕ) → t.told old.tape ≡ held → IsToldRight held size → ScrubCut t k depth words entries old new SinkFails →
       (held ≡ Some None → ⊥) →
-      IfSome held (λ h. IfSome h (λ c. (acts : List Act) → Scrubs c words entries acts → Cut t no_source k old new acts SinkFails)) →
+      IfSome held (λ h. IfSome h (λ c. (acts : List Act) → ScrubsAs depth c words entries acts → Cut t no_source k old new acts SinkFails)) →
       IfSome held (λ h. IfSome h (Lists entries)) → Tells t new.tape (Lists entries)
   cut_held None size is right cut there told lists =
       subst (λ (held : Option (Option Cartridge)). IfSome held (λ h. IfSome h (Lists entries)))
       (sym (cut.cut.did.told ∙ ap (option_map (effects (steps_of cut.cut.at.front ++ cut.cut.at.act.steps))) is)) tt
   cut_held (Some None) size is right cut there told lists = absurd (there refl)
   cut_held (Some (Some c)) size is right cut there told lists =
-      let scrub = scrubs_always c words entries right.0 in
+      let scrub = form_always depth c words entries right.0 in
       torn_held c scrub.0 (t.told new.tape) scrub.1 (cut_is_torn t no_source k old new scrub.0 SinkFails (Some c) (told scrub.0 scrub.1) is) lists
 
   -- the list stands where it stood
-  pub scrub_lists : (answer : Result ScrubReport ScrubFault) → ScrubEnds t k words entries old new answer → (answer ≡ Err fault.Tape → ⊥) →
+  pub scrub_lists : (answer : Result ScrubReport ScrubFault) → ScrubEnds t k depth words entries old new answer → (answer ≡ Err fault.Tape → ⊥) →
       IsToldRight (t.told old.tape) (t.size old.tape) → (t.told old.tape ≡ Some None → ⊥) →
       Tells t old.tape (Lists entries) → Tells t new.tape (Lists entries)
   scrub_lists (Ok report) ends other right there lists = went_lists report ends there lists

@@ -6,7 +6,7 @@ ghost use Rattle.drive_spec.specs.Deck.{is_protected, segments_per_track};
 ghost use Rattle.drive_states.specs.Hand.{Wears};
 ghost use Rattle.qic_base.specs.Cartridge.{IsPlace};
 ghost use Rattle.host_driver.specs.Calls.{IsReady};
-ghost use Rattle.host_driver.specs.Fits.{AgreesWithTape, segments_of};
+ghost use Rattle.host_driver.specs.Fits.{AgreesWithTape, deck_of, segments_of};
 ghost use Rattle.cartridge_spec.specs.Shape.{mask_at, marked_sectors};
 ghost use Rattle.cartridge_spec.specs.Volumes.{capacity_between, volume_length};
 ghost use Rattle.header_segments.specs.Header.{header_of};
@@ -14,7 +14,7 @@ ghost use Rattle.volume_store.specs.Appending.{AppendEnds, FaultsUnread, KeepsFo
 ghost use Rattle.volume_store.specs.Finding.{NamesCause, RefusesMounting};
 ghost use Rattle.volume_store.specs.Mounting.{MountDoes, StoreFits, KeepsStore};
 ghost use Rattle.volume_store.specs.Restoring.{RestoreEnds, ReadsPart, fault_of_output};
-ghost use Rattle.volume_store.specs.Scrubbing.{MendEnds};
+ghost use Rattle.volume_store.specs.Scrubbing.{MendEnds, MendEndsAs};
 ghost use Rattle.volume_table.specs.Entry.{entry_of};
 
 use crate::appended::Appended;
@@ -24,6 +24,7 @@ use crate::learning::learn;
 use crate::refreshing::{add_entry, settle_again};
 use crate::settling::settle;
 use bad_sector_map::BadMap;
+use command_spec::Depth;
 use drive_states::{HandFault, Unit};
 use header_segments::Header;
 use host_driver::Host;
@@ -282,6 +283,40 @@ impl Store {
         &sectors[..(self.shown as usize).min(sectors.len())]
     }
 
+    /// Scrubs the cartridge in a form, with the refusals of `scrub`.
+    fn mend<T: Tape, K: Sink>(
+        &mut self,
+        unit: &mut Unit<T>,
+        depth: Depth,
+        sink: &mut K,
+    ) -> Result<ScrubReport, StoreFault>
+        requires fits { StoreFits T.means self.old unit.old }
+        ensures ends { MendEndsAs T.means K.means depth self.old
+            (around unit.old.tape sink.old) (around unit.new.tape sink.new) result }
+        ensures protected { (result ≡ Err StoreFault.Protected) ↔
+            (is_protected unit.old.drive.deck ≡ true) }
+        ensures store { KeepsStore self.old self.new }
+        ensures fits { result ≢ Err StoreFault.Tape → StoreFits T.means self.new unit.new }
+        ensures size { T.means.size unit.new.tape ≡ T.means.size unit.old.tape }
+    {
+        if self.host.protected() {
+            return Err(StoreFault::Protected);
+        }
+        match scrub_segments(
+            &mut self.host,
+            unit,
+            depth,
+            &self.map,
+            &self.table,
+            &mut self.work,
+            sink,
+        ) {
+            Ok(report) => Ok(report),
+            Err(ScrubFault::Sink) => Err(StoreFault::Sink),
+            Err(ScrubFault::Tape) => Err(StoreFault::Tape),
+        }
+    }
+
     /// Looks at both header copies, the volume table and the segments of all volumes, and writes the sectors again that
     /// can't be read, where they can be found; prints a line for each segment that doesn't read, and last the counts.
     /// `Protected` before anything.
@@ -299,21 +334,26 @@ impl Store {
         ensures fits { result ≢ Err StoreFault.Tape → StoreFits T.means self.new unit.new }
         ensures size { T.means.size unit.new.tape ≡ T.means.size unit.old.tape }
     {
-        if self.host.protected() {
-            return Err(StoreFault::Protected);
-        }
-        match scrub_segments(
-            &mut self.host,
-            unit,
-            &self.map,
-            &self.table,
-            &mut self.work,
-            sink,
-        ) {
-            Ok(report) => Ok(report),
-            Err(ScrubFault::Sink) => Err(StoreFault::Sink),
-            Err(ScrubFault::Tape) => Err(StoreFault::Tape),
-        }
+        self.mend(unit, Depth::Shallow, sink)
+    }
+
+    /// Scrubs as `scrub` does, and also finds, in each segment but the volume table's, one sector that can be read and
+    /// holds wrong bytes, where at most one other can't be read: it is written as well, and a line names it.
+    pub fn scrub_deep<T: Tape, K: Sink>(
+        &mut self,
+        unit: &mut Unit<T>,
+        sink: &mut K,
+    ) -> Result<ScrubReport, StoreFault>
+        requires fits { StoreFits T.means self.old unit.old }
+        ensures ends { MendEndsAs T.means K.means Depth.Deep self.old
+            (around unit.old.tape sink.old) (around unit.new.tape sink.new) result }
+        ensures protected { (result ≡ Err StoreFault.Protected) ↔
+            (is_protected unit.old.drive.deck ≡ true) }
+        ensures store { KeepsStore self.old self.new }
+        ensures fits { result ≢ Err StoreFault.Tape → StoreFits T.means self.new unit.new }
+        ensures size { T.means.size unit.new.tape ≡ T.means.size unit.old.tape }
+    {
+        self.mend(unit, Depth::Deep, sink)
     }
 
     /// Makes a readable sector unreadable until it is written again, by a person's hand; the segment counts from 0, the
@@ -336,6 +376,13 @@ impl Store {
         ensures size { T.means.size unit.new.tape ≡ T.means.size unit.old.tape }
     {
         self.host.wear(unit, segment, sector)
+    }
+
+    /// Whether the cartridge is write protected.
+    pub fn protected(&self) -> bool
+        ensures { result ≡ is_protected (deck_of self.now.host) }
+    {
+        self.host.protected()
     }
 
     /// The number of volumes, 0 to 232.

@@ -1,5 +1,5 @@
 use Rattle.flat_dump.proofs.Coming.{imports_one}
-use Rattle.flat_dump.proofs.Importing.{import_is_whole, mask_imports}
+use Rattle.flat_dump.proofs.Masked.{import_is_whole, mask_imports}
 use Rattle.flat_dump.proofs.laws.imports_are_one.Goals as goal
 
 pub returns : goal.returns

@@ -26,7 +26,7 @@ returns-in_err-look_at_copy-clause-looks g c =
     let after = reported c.look_at_copy.new.report in
     let fault : ScrubFault = c.in_err-look_at_copy.field-0.0 in
     let is : c.from_residual.result ≡ Err fault = passed c.from_residual.result fault c.from_residual.ensures.1 in
-    rw is (looks_longer g.T.Tape.means g.K.Sink.means (whole_segment 0 ∷ []) (whole_segment 1 ∷ whole_segment 2 ∷ []) a b (reported c.args.report.now) after after fault
+    rw is (looks_longer g.T.Tape.means g.K.Sink.means c.args.depth (whole_segment 0 ∷ []) (whole_segment 1 ∷ whole_segment 2 ∷ []) a b (reported c.args.report.now) after after fault
     c.in_err-look_at_copy.ensures.looks)
 
 pub returns-in_err-look_at_copy-2-clause-looks : goal.returns-in_err-look_at_copy-2-clause-looks
@@ -37,10 +37,10 @@ returns-in_err-look_at_copy-2-clause-looks g c =
     let after = reported c.look_at_copy-2.new.report in
     let fault : ScrubFault = c.in_err-look_at_copy-2.field-0.0 in
     let is : c.from_residual-in_err-look_at_copy-2.result ≡ Err fault = passed c.from_residual-in_err-look_at_copy-2.result fault c.from_residual-in_err-look_at_copy-2.ensures.1 in
-    let front : Looks g.T.Tape.means g.K.Sink.means (whole_segment 0 ∷ whole_segment 1 ∷ []) a d (reported c.args.report.now) after (Err fault) =
-    looks_then g.T.Tape.means g.K.Sink.means g.met.K.Sink.took_both (whole_segment 0 ∷ []) (whole_segment 1 ∷ []) a b d (reported c.args.report.now)
+    let front : Looks g.T.Tape.means g.K.Sink.means c.args.depth (whole_segment 0 ∷ whole_segment 1 ∷ []) a d (reported c.args.report.now) after (Err fault) =
+    looks_then g.T.Tape.means g.K.Sink.means c.args.depth g.met.K.Sink.took_both (whole_segment 0 ∷ []) (whole_segment 1 ∷ []) a b d (reported c.args.report.now)
     (reported c.look_at_copy.new.report) after (Err fault) c.in_ok-look_at_copy.ensures.looks c.in_err-look_at_copy-2.ensures.looks in
-    rw is (looks_longer g.T.Tape.means g.K.Sink.means (whole_segment 0 ∷ whole_segment 1 ∷ []) (whole_segment 2 ∷ []) a d (reported c.args.report.now) after after fault front)
+    rw is (looks_longer g.T.Tape.means g.K.Sink.means c.args.depth (whole_segment 0 ∷ whole_segment 1 ∷ []) (whole_segment 2 ∷ []) a d (reported c.args.report.now) after after fault front)
 
 pub returns-clause-looks : goal.returns-clause-looks
 returns-clause-looks g c =
@@ -49,8 +49,8 @@ returns-clause-looks g c =
     let d = around c.look_at_copy-2.new.unit.tape c.look_at_copy-2.new.sink in
     let e = around c.look_at_segment.new.unit.tape c.look_at_segment.new.sink in
     let between = reported c.look_at_copy-2.new.report in
-    let front : HasLooked g.T.Tape.means g.K.Sink.means (whole_segment 0 ∷ whole_segment 1 ∷ []) a d (reported c.args.report.now) between =
-    looked_both g.met.K.Sink.took_both (whole_segment 0 ∷ []) (whole_segment 1 ∷ []) a b d (reported c.args.report.now) (reported c.look_at_copy.new.report) between
+    let front : HasLooked g.T.Tape.means g.K.Sink.means c.args.depth (whole_segment 0 ∷ whole_segment 1 ∷ []) a d (reported c.args.report.now) between =
+    looked_both c.args.depth g.met.K.Sink.took_both (whole_segment 0 ∷ []) (whole_segment 1 ∷ []) a b d (reported c.args.report.now) (reported c.look_at_copy.new.report) between
     c.in_ok-look_at_copy.ensures.looks c.in_ok-look_at_copy-2.ensures.looks in
-    looks_then g.T.Tape.means g.K.Sink.means g.met.K.Sink.took_both (whole_segment 0 ∷ whole_segment 1 ∷ []) (whole_segment 2 ∷ []) a d e (reported c.args.report.now)
+    looks_then g.T.Tape.means g.K.Sink.means c.args.depth g.met.K.Sink.took_both (whole_segment 0 ∷ whole_segment 1 ∷ []) (whole_segment 2 ∷ []) a d e (reported c.args.report.now)
     between (reported c.look_at_segment.new.report) c.look_at_segment.result front c.look_at_segment.ensures.looks

@@ -21,8 +21,8 @@ returns-in_err-look_at_front-clause-ends g c =
     let after = reported c.look_at_front.new.report in
     let fault : ScrubFault = c.in_err-look_at_front.field-0.0 in
     let is : c.from_residual.result ≡ Err fault = passed c.from_residual.result fault c.from_residual.ensures.1 in
-    rw is (ends_cut g.T.Tape.means g.K.Sink.means words entries a b none_counted after fault
-    (looks_longer g.T.Tape.means g.K.Sink.means (whole_segment 0 ∷ whole_segment 1 ∷ whole_segment 2 ∷ []) (looked_volumes words entries) a b none_counted after
+    rw is (ends_cut g.T.Tape.means g.K.Sink.means c.args.depth words entries a b none_counted after fault
+    (looks_longer g.T.Tape.means g.K.Sink.means c.args.depth (whole_segment 0 ∷ whole_segment 1 ∷ whole_segment 2 ∷ []) (looked_volumes words entries) a b none_counted after
     after fault c.in_err-look_at_front.ensures.looks))
 
 pub returns-in_err-look_at_volumes-clause-ends : goal.returns-in_err-look_at_volumes-clause-ends
@@ -35,8 +35,8 @@ returns-in_err-look_at_volumes-clause-ends g c =
     let after = reported c.look_at_volumes.new.report in
     let fault : ScrubFault = c.in_err-look_at_volumes.field-0.0 in
     let is : c.from_residual-in_err-look_at_volumes.result ≡ Err fault = passed c.from_residual-in_err-look_at_volumes.result fault c.from_residual-in_err-look_at_volumes.ensures.1 in
-    rw is (ends_cut g.T.Tape.means g.K.Sink.means words entries a d none_counted after fault
-    (looks_then g.T.Tape.means g.K.Sink.means g.met.K.Sink.took_both (whole_segment 0 ∷ whole_segment 1 ∷ whole_segment 2 ∷ []) (looked_volumes words entries) a b d
+    rw is (ends_cut g.T.Tape.means g.K.Sink.means c.args.depth words entries a d none_counted after fault
+    (looks_then g.T.Tape.means g.K.Sink.means c.args.depth g.met.K.Sink.took_both (whole_segment 0 ∷ whole_segment 1 ∷ whole_segment 2 ∷ []) (looked_volumes words entries) a b d
     none_counted (reported c.look_at_front.new.report) after (Err fault) c.in_ok-look_at_front.ensures.looks c.in_err-look_at_volumes.ensures.looks))
 
 pub returns-in-Ok-clause-ends : goal.returns-in-Ok-clause-ends
@@ -47,10 +47,10 @@ returns-in-Ok-clause-ends g c =
     let b = around c.look_at_front.new.unit.tape c.look_at_front.new.sink in
     let d = around c.look_at_volumes.new.unit.tape c.look_at_volumes.new.sink in
     let report : ScrubReport = c.look_at_volumes.new.report in
-    let looked : HasLooked g.T.Tape.means g.K.Sink.means (looked_at words entries) a d none_counted (reported report) =
-    looked_both g.met.K.Sink.took_both (whole_segment 0 ∷ whole_segment 1 ∷ whole_segment 2 ∷ []) (looked_volumes words entries) a b d none_counted
+    let looked : HasLooked g.T.Tape.means g.K.Sink.means c.args.depth (looked_at words entries) a d none_counted (reported report) =
+    looked_both c.args.depth g.met.K.Sink.took_both (whole_segment 0 ∷ whole_segment 1 ∷ whole_segment 2 ∷ []) (looked_volumes words entries) a b d none_counted
     (reported c.look_at_front.new.report) (reported report) c.in_ok-look_at_front.ensures.looks c.in_ok-look_at_volumes.ensures.looks in
-    line_written g.T.Tape.means g.K.Sink.means words entries a d report looked g.met.K.Sink.took_both c.write_text.new.sink
+    line_written g.T.Tape.means g.K.Sink.means c.args.depth words entries a d report looked g.met.K.Sink.took_both c.write_text.new.sink
     (subst (sinks.Wrote g.K.Sink.means c.look_at_volumes.new.sink c.write_text.new.sink) (c.bytes.ensures ∙ c.counts_text.ensures) c.in-Ok.ensures)
 
 pub returns-in-Err-clause-ends : goal.returns-in-Err-clause-ends
@@ -61,8 +61,8 @@ returns-in-Err-clause-ends g c =
     let b = around c.look_at_front.new.unit.tape c.look_at_front.new.sink in
     let d = around c.look_at_volumes.new.unit.tape c.look_at_volumes.new.sink in
     let report : ScrubReport = c.look_at_volumes.new.report in
-    let looked : HasLooked g.T.Tape.means g.K.Sink.means (looked_at words entries) a d none_counted (reported report) =
-    looked_both g.met.K.Sink.took_both (whole_segment 0 ∷ whole_segment 1 ∷ whole_segment 2 ∷ []) (looked_volumes words entries) a b d none_counted
+    let looked : HasLooked g.T.Tape.means g.K.Sink.means c.args.depth (looked_at words entries) a d none_counted (reported report) =
+    looked_both c.args.depth g.met.K.Sink.took_both (whole_segment 0 ∷ whole_segment 1 ∷ whole_segment 2 ∷ []) (looked_volumes words entries) a b d none_counted
     (reported c.look_at_front.new.report) (reported report) c.in_ok-look_at_front.ensures.looks c.in_ok-look_at_volumes.ensures.looks in
-    line_cut g.T.Tape.means g.K.Sink.means words entries a d report looked g.met.K.Sink.took_both c.write_text.new.sink
+    line_cut g.T.Tape.means g.K.Sink.means c.args.depth words entries a d report looked g.met.K.Sink.took_both c.write_text.new.sink
     (subst (sinks.BrokeOff g.K.Sink.means c.look_at_volumes.new.sink c.write_text.new.sink) (c.bytes.ensures ∙ c.counts_text.ensures) c.in-Err.ensures)

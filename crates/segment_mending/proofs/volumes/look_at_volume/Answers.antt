@@ -18,9 +18,9 @@ loop-segment-init g c =
     ap (looked_segments words) (sym (below_none words c.args.start) ∙ ap (carrying_below words c.args.start) (sym c.from-segment.ensures)) in
     record {
       from = omega arith;
-      looked = subst (λ (ls : List Looked). HasLooked g.T.Tape.means g.K.Sink.means ls (around c.args.unit.now.tape c.args.sink.now)
+      looked = subst (λ (ls : List Looked). HasLooked g.T.Tape.means g.K.Sink.means c.args.depth ls (around c.args.unit.now.tape c.args.sink.now)
           (around c.args.unit.now.tape c.args.sink.now) (reported c.args.report.now) (reported c.args.report.now)) none
-          (looked_none g.met.K.Sink.took_nothing (around c.args.unit.now.tape c.args.sink.now) (reported c.args.report.now));
+          (looked_none c.args.depth g.met.K.Sink.took_nothing (around c.args.unit.now.tape c.args.sink.now) (reported c.args.report.now));
       keeps = keeps_none c.requires.ready;
     }
 
@@ -31,7 +31,7 @@ look_if_carrying-requires-clause-few g c =
     let looked : List Looked = looked_segments words (carrying_below words c.args.start c.loop-segment.segment) in
     let most : length looked ≤ c.loop-segment.segment - c.args.start = length-below words c.args.start c.loop-segment.segment in
     few_more (33554432 + length looked) 67108864 (reported c.loop-segment.report) (omega arith)
-    (few_after looked before.sayings before.acts 33554432 (reported c.args.report.now) (reported c.loop-segment.report) before.counted c.requires.few)
+    (few_after looked before.findings before.acts 33554432 (reported c.args.report.now) (reported c.loop-segment.report) before.counted c.requires.few)
 
 -- a fault in one of the segments
 pub returns-in_err-look_if_carrying-clause-looks : goal.returns-in_err-look_if_carrying-clause-looks
@@ -52,12 +52,12 @@ returns-in_err-look_if_carrying-clause-looks g c =
     let whole : (xs ++ ys) ++ zs ≡ looked_segments words (carrying words start c.args.end) =
     ap (λ (ls : List Looked). ls ++ zs) (segments_next words start segment c.loop-segment.invariant.from)
     ∙ segments_whole words start (segment + 1) last (omega arith) (omega arith) in
-    let front : Looks g.T.Tape.means g.K.Sink.means (xs ++ ys) a d (reported c.args.report.now) after (Err fault) =
-    looks_then g.T.Tape.means g.K.Sink.means g.met.K.Sink.took_both xs ys a b d (reported c.args.report.now) (reported c.loop-segment.report) after (Err fault)
+    let front : Looks g.T.Tape.means g.K.Sink.means c.args.depth (xs ++ ys) a d (reported c.args.report.now) after (Err fault) =
+    looks_then g.T.Tape.means g.K.Sink.means c.args.depth g.met.K.Sink.took_both xs ys a b d (reported c.args.report.now) (reported c.loop-segment.report) after (Err fault)
     c.loop-segment.invariant.looked c.in_err-look_if_carrying.ensures.looks in
-    let all : Looks g.T.Tape.means g.K.Sink.means ((xs ++ ys) ++ zs) a d (reported c.args.report.now) after (Err fault) =
-    looks_longer g.T.Tape.means g.K.Sink.means (xs ++ ys) zs a d (reported c.args.report.now) after after fault front in
-    rw is (subst (λ (ls : List Looked). Looks g.T.Tape.means g.K.Sink.means ls a d (reported c.args.report.now) after (Err fault)) whole all)
+    let all : Looks g.T.Tape.means g.K.Sink.means c.args.depth ((xs ++ ys) ++ zs) a d (reported c.args.report.now) after (Err fault) =
+    looks_longer g.T.Tape.means g.K.Sink.means c.args.depth (xs ++ ys) zs a d (reported c.args.report.now) after after fault front in
+    rw is (subst (λ (ls : List Looked). Looks g.T.Tape.means g.K.Sink.means c.args.depth ls a d (reported c.args.report.now) after (Err fault)) whole all)
 
 pub loop-segment-preserved : goal.loop-segment-preserved
 loop-segment-preserved g c =
@@ -70,12 +70,12 @@ loop-segment-preserved g c =
     let after = reported c.look_if_carrying.new.report in
     let xs : List Looked = looked_segments words (carrying_below words start segment) in
     let ys : List Looked = looked_segments words (carrying words segment segment) in
-    let all : HasLooked g.T.Tape.means g.K.Sink.means (xs ++ ys) a d (reported c.args.report.now) after =
-    looked_both g.met.K.Sink.took_both xs ys a b d (reported c.args.report.now) (reported c.loop-segment.report) after c.loop-segment.invariant.looked
+    let all : HasLooked g.T.Tape.means g.K.Sink.means c.args.depth (xs ++ ys) a d (reported c.args.report.now) after =
+    looked_both c.args.depth g.met.K.Sink.took_both xs ys a b d (reported c.args.report.now) (reported c.loop-segment.report) after c.loop-segment.invariant.looked
     c.in_ok-look_if_carrying.ensures.looks in
     record {
       from = (let low = c.loop-segment.invariant.from in omega arith);
-      looked = subst (λ (ls : List Looked). HasLooked g.T.Tape.means g.K.Sink.means ls a d (reported c.args.report.now) after)
+      looked = subst (λ (ls : List Looked). HasLooked g.T.Tape.means g.K.Sink.means c.args.depth ls a d (reported c.args.report.now) after)
           (segments_next words start segment c.loop-segment.invariant.from) all;
       keeps = keeps_both c.loop-segment.invariant.keeps c.in_ok-look_if_carrying.ensures.keeps;
     }

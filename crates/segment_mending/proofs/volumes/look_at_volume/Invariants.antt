@@ -11,7 +11,7 @@ use Rattle.segment_mending.proofs.volumes.look_at_volume.Given as goal
 abbrev pub invariant-loop-segment : goal.invariant-loop-segment
 invariant-loop-segment g l = record {
   from : l.start ≤ l.segment;
-  looked : HasLooked g.T.Tape.means g.K.Sink.means (looked_segments l.map (carrying_below l.map l.start l.segment))
+  looked : HasLooked g.T.Tape.means g.K.Sink.means l.depth (looked_segments l.map (carrying_below l.map l.start l.segment))
       (around l.fn.unit.tape l.fn.sink) (around l.unit.tape l.sink) (reported l.fn.report) (reported l.report);
   keeps : Keeps g.T.Tape.means l.host l.fn.unit l.unit;
 }

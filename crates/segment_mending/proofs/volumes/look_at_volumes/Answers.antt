@@ -15,7 +15,7 @@ use Rattle.segment_mending.proofs.volumes.look_at_volumes.Goals as goal
 
 pub loop-index-init : goal.loop-index-init
 loop-index-init g c = record {
-  looked = looked_none g.met.K.Sink.took_nothing (around c.args.unit.now.tape c.args.sink.now) (reported c.args.report.now);
+  looked = looked_none c.args.depth g.met.K.Sink.took_nothing (around c.args.unit.now.tape c.args.sink.now) (reported c.args.report.now);
   few = c.requires.few.segments;
   keeps = keeps_none c.requires.ready;
 }
@@ -39,7 +39,7 @@ look_at_volume-requires-clause-few g c =
     let before = c.loop-index.invariant.looked in
     let looked : List Looked = looked_volumes c.args.map.now (take c.loop-index.index c.args.table.now) in
     let few : HasFew (3 + length looked) (reported c.loop-index.report) =
-    few_after looked before.sayings before.acts 3 (reported c.args.report.now) (reported c.loop-index.report) before.counted c.requires.few in
+    few_after looked before.findings before.acts 3 (reported c.args.report.now) (reported c.loop-index.report) before.counted c.requires.few in
     record {
       segments = (let most = c.loop-index.invariant.few in omega arith);
       mended = few.mended;
@@ -64,12 +64,12 @@ returns-in_err-look_at_volume-clause-looks g c =
     let zs : List Looked = looked_volumes words (drop (i + 1) entries) in
     let whole : (xs ++ ys) ++ zs ≡ looked_volumes words entries =
     ap (λ (ls : List Looked). ls ++ zs) (sym (volumes_more words entries i e c.entry-entry.ensures)) ∙ volumes_part words entries (i + 1) in
-    let front : Looks g.T.Tape.means g.K.Sink.means (xs ++ ys) a d (reported c.args.report.now) after (Err fault) =
-    looks_then g.T.Tape.means g.K.Sink.means g.met.K.Sink.took_both xs ys a b d (reported c.args.report.now) (reported c.loop-index.report) after (Err fault)
+    let front : Looks g.T.Tape.means g.K.Sink.means c.args.depth (xs ++ ys) a d (reported c.args.report.now) after (Err fault) =
+    looks_then g.T.Tape.means g.K.Sink.means c.args.depth g.met.K.Sink.took_both xs ys a b d (reported c.args.report.now) (reported c.loop-index.report) after (Err fault)
     c.loop-index.invariant.looked c.in_err-look_at_volume.ensures.looks in
-    let all : Looks g.T.Tape.means g.K.Sink.means ((xs ++ ys) ++ zs) a d (reported c.args.report.now) after (Err fault) =
-    looks_longer g.T.Tape.means g.K.Sink.means (xs ++ ys) zs a d (reported c.args.report.now) after after fault front in
-    rw is (subst (λ (ls : List Looked). Looks g.T.Tape.means g.K.Sink.means ls a d (reported c.args.report.now) after (Err fault)) whole all)
+    let all : Looks g.T.Tape.means g.K.Sink.means c.args.depth ((xs ++ ys) ++ zs) a d (reported c.args.report.now) after (Err fault) =
+    looks_longer g.T.Tape.means g.K.Sink.means c.args.depth (xs ++ ys) zs a d (reported c.args.report.now) after after fault front in
+    rw is (subst (λ (ls : List Looked). Looks g.T.Tape.means g.K.Sink.means c.args.depth ls a d (reported c.args.report.now) after (Err fault)) whole all)
 
 pub loop-index-preserved : goal.loop-index-preserved
 loop-index-preserved g c =
@@ -83,11 +83,11 @@ loop-index-preserved g c =
     let after = reported c.look_at_volume.new.report in
     let xs : List Looked = looked_volumes words (take i entries) in
     let ys : List Looked = looked_segments words (carrying_segments words e) in
-    let all : HasLooked g.T.Tape.means g.K.Sink.means (xs ++ ys) a d (reported c.args.report.now) after =
-    looked_both g.met.K.Sink.took_both xs ys a b d (reported c.args.report.now) (reported c.loop-index.report) after c.loop-index.invariant.looked
+    let all : HasLooked g.T.Tape.means g.K.Sink.means c.args.depth (xs ++ ys) a d (reported c.args.report.now) after =
+    looked_both c.args.depth g.met.K.Sink.took_both xs ys a b d (reported c.args.report.now) (reported c.loop-index.report) after c.loop-index.invariant.looked
     c.in_ok-look_at_volume.ensures.looks in
     record {
-      looked = subst (λ (ls : List Looked). HasLooked g.T.Tape.means g.K.Sink.means ls a d (reported c.args.report.now) after)
+      looked = subst (λ (ls : List Looked). HasLooked g.T.Tape.means g.K.Sink.means c.args.depth ls a d (reported c.args.report.now) after)
           (sym (volumes_more words entries i e c.entry-entry.ensures)) all;
       few = (let most = c.loop-index.invariant.few in let more = c.in_ok-look_at_volume.ensures.few in omega arith);
       keeps = keeps_both c.loop-index.invariant.keeps c.in_ok-look_at_volume.ensures.keeps;

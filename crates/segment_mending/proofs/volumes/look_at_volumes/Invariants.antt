@@ -9,7 +9,7 @@ use Rattle.segment_mending.proofs.volumes.look_at_volumes.Given as goal
 
 abbrev pub invariant-loop-index : goal.invariant-loop-index
 invariant-loop-index g l = record {
-  looked : HasLooked g.T.Tape.means g.K.Sink.means (looked_volumes l.map (take l.index l.table))
+  looked : HasLooked g.T.Tape.means g.K.Sink.means l.depth (looked_volumes l.map (take l.index l.table))
       (around l.fn.unit.tape l.fn.sink) (around l.unit.tape l.sink) (reported l.fn.report) (reported l.report);
   few : l.report.segments ≤ 3 + 65536 * l.index;
   keeps : Keeps g.T.Tape.means l.host l.fn.unit l.unit;

@@ -4,7 +4,7 @@ use Rattle.qic_base.specs.Sink.{Writes}
 use Rattle.volume_store.specs.declared.fault.StoreFault.{StoreFault}
 use Rattle.volume_store.specs.Appending.{AppendEnds}
 use Rattle.command_spec.specs.Lines.{appended_line}
-use Rattle.tape_cmd.proofs.Opened.{unlocked_where}
+use Rattle.store_opening.proofs.Opened.{unlocked_where}
 use Rattle.tape_cmd.proofs.Added.{append_unopened, append_replied, append_failed, never_short_told}
 use Rattle.tape_cmd.proofs.append.append.Goals as goal
 

@@ -14,7 +14,8 @@ use Rattle.command_spec.specs.Outcome.{CommandOutcome, carried_out, refused, ref
 use Rattle.tape_cmd.specs.Outcome.{first_steps}
 use Rattle.tape_cmd.proofs.Endings.{IsBlind, printed, turned_down, turned_behind, cut_off, cut_off_first, defect_absent, defect_misplaced, defect_placed, defect_front, defect_formatted}
 use Rattle.command_laws.proofs.CommandEndings.{Rules}
-use Rattle.tape_cmd.proofs.Hands.{told_at_start, known_before, told_known, told_known_beside, reached, unknown, no_place}
+use Rattle.tape_cmd.proofs.Hands.{reached, unknown, no_place}
+use Rattle.store_opening.proofs.Started.{told_at_start, known_before, told_known, told_known_beside}
 use Rattle.tape_cmd.proofs.defect.spoil.Goals as goal
 
 is_blind : {segment sector : _} → IsBlind (Defect segment sector)

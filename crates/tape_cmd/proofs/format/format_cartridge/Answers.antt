@@ -3,7 +3,8 @@ use Rattle.std.specs.Option.{option_map_or}
 use Rattle.drive_spec.specs.Deck.{segments_per_track, is_protected}
 use Rattle.formatter.specs.Formats.{Formats, HasFormatted}
 use Rattle.formatter.specs.declared.fault.FormatFault.TheVariants as fault
-use Rattle.tape_cmd.proofs.Formats.{there_of, present, not_true, format_unstarted, format_faulted, format_printed}
+use Rattle.tape_cmd.proofs.Formats.{not_true, format_unstarted, format_faulted, format_printed}
+use Rattle.store_opening.proofs.Started.{there_of, present}
 use Rattle.tape_cmd.proofs.format.format_cartridge.Goals as goal
 
 pub returns-in-Err : goal.returns-in-Err

@@ -12,7 +12,8 @@ use Rattle.command_spec.specs.Outcome.{CommandOutcome, carried_out, refused}
 use Rattle.tape_cmd.specs.Outcome.{first_steps}
 use Rattle.tape_cmd.proofs.Endings.{IsBlind, printed, turned_down, cut_off, cut_off_first, lose_absent, lose_misplaced, lose_placed, lose_front}
 use Rattle.command_laws.proofs.CommandEndings.{Rules}
-use Rattle.tape_cmd.proofs.Hands.{known_before, told_known, reached, unknown, no_place}
+use Rattle.tape_cmd.proofs.Hands.{reached, unknown, no_place}
+use Rattle.store_opening.proofs.Started.{known_before, told_known}
 use Rattle.tape_cmd.proofs.lose.lose.Goals as goal
 
 is_blind : {segment sector : _} → IsBlind (Lose segment sector)

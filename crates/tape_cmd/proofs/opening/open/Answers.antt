@@ -1,17 +1,8 @@
-use Rattle.std.specs.Prelude.{ℕ}
-use Rattle.tape_cmd.proofs.Formats.{there_of, present}
-use Rattle.tape_cmd.proofs.Mounted.{open_unstarted, open_shown, open_failed}
+use Rattle.tape_cmd.proofs.Mounted.{never_short, open_failed}
 use Rattle.tape_cmd.proofs.opening.open.Goals as goal
 
+pub open_status-requires : goal.open_status-requires
+open_status-requires g c = never_short g.T.Tape.means c.args.unit.now.tape c.open.new.unit.tape c.in-Err.fault c.in-Err.ensures
+
 pub returns-in-Err : goal.returns-in-Err
-returns-in-Err g c = open_unstarted g.T.Tape.means c.args.unit.now.tape c.start.new.unit c.in-Err.status c.in-Err.ensures
-
-pub returns-in-Ok-mount : goal.returns-in-Ok-mount
-returns-in-Ok-mount g c =
-    open_shown g.T.Tape.means c.args.unit.now.tape c.start.new.unit.tape c.mount.new.unit (there_of c.in-Ok.ensures).info c.in-Ok-mount.store
-    (present c.in-Ok.ensures) c.in-Ok-mount.ensures.did c.in-Ok-mount.ensures.fits
-
-pub returns-in-Err-mount : goal.returns-in-Err-mount
-returns-in-Err-mount g c =
-    rw c.store_status.ensures (open_failed ℕ _ g.T.Tape.means c.args.unit.now.tape c.start.new.unit.tape c.mount.new.unit (there_of c.in-Ok.ensures).info c.in-Err-mount.fault
-    (present c.in-Ok.ensures) c.in-Err-mount.ensures.did c.in-Err-mount.ensures.kind c.in-Err-mount.ensures.cause)
+returns-in-Err g c = rw c.open_status.ensures (open_failed g.T.Tape.means c.args.unit.now.tape c.open.new.unit c.in-Err.fault c.in-Err.ensures)

@@ -12,7 +12,8 @@ use Rattle.command_spec.specs.Outcome.{CommandOutcome, carried_out, refused}
 use Rattle.tape_cmd.specs.Outcome.{first_steps}
 use Rattle.tape_cmd.proofs.Endings.{IsBlind, printed, turned_down, cut_off, cut_off_first, protect_absent, protect_present, protect_front}
 use Rattle.command_laws.proofs.CommandEndings.{Rules}
-use Rattle.tape_cmd.proofs.Hands.{known_before, told_known, switched, no_switch}
+use Rattle.tape_cmd.proofs.Hands.{switched, no_switch}
+use Rattle.store_opening.proofs.Started.{known_before, told_known}
 use Rattle.tape_cmd.proofs.protect.protect.Goals as goal
 
 is_blind : {on : _} → IsBlind (Protect on)

@@ -2,7 +2,7 @@ use Rattle.std.proofs.Common.{Err, ap, subst}
 use Rattle.qic_base.specs.Acts.{around}
 use Rattle.volume_store.specs.declared.fault.StoreFault.{StoreFault}
 use Rattle.volume_store.specs.Scrubbing.{MendEnds}
-use Rattle.tape_cmd.proofs.Opened.{unlocked_where}
+use Rattle.store_opening.proofs.Opened.{unlocked_where}
 use Rattle.tape_cmd.proofs.Scrubbed.{scrub_refused, scrubbed, scrub_failed}
 use Rattle.tape_cmd.proofs.scrub.scrub.Goals as goal
 

@@ -3,7 +3,7 @@ use Rattle.command_spec.specs.declared.depth.Depth.TheVariants.{Deep}
 use Rattle.qic_base.specs.Acts.{around}
 use Rattle.volume_store.specs.declared.fault.StoreFault.{StoreFault}
 use Rattle.volume_store.specs.Scrubbing.{MendEndsAs}
-use Rattle.tape_cmd.proofs.Opened.{unlocked_where}
+use Rattle.store_opening.proofs.Opened.{unlocked_where}
 use Rattle.tape_cmd.proofs.Scrubbed.{deep_failed, deep_refused, deep_scrubbed}
 use Rattle.tape_cmd.proofs.scrub.scrub_deep.Goals as goal
 

@@ -12,7 +12,8 @@ use Rattle.command_spec.specs.Outcome.{CommandOutcome, carried_out, refused}
 use Rattle.tape_cmd.specs.Outcome.{first_steps}
 use Rattle.tape_cmd.proofs.Endings.{IsBlind, printed, turned_down, cut_off, cut_off_first, upgrade_absent, upgrade_present, upgrade_front}
 use Rattle.command_laws.proofs.CommandEndings.{Rules}
-use Rattle.tape_cmd.proofs.Hands.{known_before, told_known, told_known_beside, told_at_start, switched, no_switch}
+use Rattle.tape_cmd.proofs.Hands.{switched, no_switch}
+use Rattle.store_opening.proofs.Started.{known_before, told_known, told_known_beside, told_at_start}
 use Rattle.tape_cmd.proofs.upgrade.upgrade.Goals as goal
 
 is_blind : IsBlind Upgrade

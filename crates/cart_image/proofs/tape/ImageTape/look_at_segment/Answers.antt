@@ -1,11 +1,14 @@
 use Rattle.std.proofs.Common.{[], refl}
 use Rattle.cart_image.proofs.Exits.{Carried-looked}
 use Rattle.cart_image.proofs.Known.{on-segment, same-right, read-right}
-use Rattle.cart_image.proofs.Tapes.{looked-settled, no-plans, known-tape, unknown-tape}
+use Rattle.cart_image.proofs.Tapes.{looked-settled, no-plans, known-tape, tape-settled, unknown-tape}
 use Rattle.cart_image.proofs.tape.ImageTape.look_at_segment.Goals as goal
 
-pub read_marks-requires : goal.read_marks-requires
-read_marks-requires g c = on-segment c.args.self.now c.args.layout c.args.segment 0 c.requires.layout c.requires.place
+pub read_marks-requires-clause-place : goal.read_marks-requires-clause-place
+read_marks-requires-clause-place g c = on-segment c.args.self.now c.args.layout c.args.segment 0 c.requires.layout c.requires.place
+
+pub read_marks-requires-clause-settled : goal.read_marks-requires-clause-settled
+read_marks-requires-clause-settled g c = tape-settled c.args.self.now
 
 pub invariant_of-self : goal.invariant_of-self
 invariant_of-self g c =

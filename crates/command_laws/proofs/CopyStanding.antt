@@ -1,0 +1,310 @@
+-- What a copy leaves of a target that stands for a plain cartridge, done or stopped.
+use Rattle.std.proofs.Common.{◌⊎◌, ◌≡◌, ◌≢◌, ℕ, zero, suc, ◌+◌, ◌-◌, ◌<◌, ◌≤◌, nat_lt, arith, Bool, true, false, cond, List, [], ◌∷◌, ◌++◌, map, length, take, drop, All, Option, Some, None, IsSomeAnd, inl, inr, refl, sym, ap, ◌∙◌, subst, append-nil}
+use Rattle.std.proofs.lemmas.Bool.{cases_Bool, le-ltb}
+use Rattle.std.proofs.lemmas.List.{map-append, take_all}
+use Rattle.std.proofs.lemmas.List.Elements.{All-head, All-tail, All-weaker}
+use Rattle.cartridge_laws.proofs.AppendSegments.{carrying_from}
+use Rattle.cartridge_laws.proofs.AppendVolume.{free_writes_stand}
+use Rattle.cartridge_laws.proofs.FormatWriting.{some_weaker, some_and}
+use Rattle.cartridge_laws.proofs.MountKeeping.{stopped_stands}
+use Rattle.cartridge_laws.proofs.MountSettled.{settled_stands}
+use Rattle.cartridge_laws.proofs.MountStanding.{standing_data}
+use Rattle.cartridge_laws.proofs.MountWhole.{settling_effects}
+use Rattle.cartridge_laws.specs.AppendWrites.{AreWrites, IsFree}
+use Rattle.cartridge_spec.specs.Appending.{appended_volume, free_segments, has_room, last_end, new_entry, taken_by, volume_bytes, with_all, with_bytes}
+use Rattle.cartridge_spec.specs.Mounting.{settled}
+use Rattle.cartridge_spec.specs.Settling.{changed_by, settling_steps}
+use Rattle.cartridge_spec.specs.Table.{Entry}
+use Rattle.cartridge_spec.specs.Volumes.{Plain, Stands, Volume, entries_of, volume_length}
+use Rattle.command_laws.proofs.CopyGoing.{behind, next_behind, next_like}
+use Rattle.command_laws.proofs.CopyValues.{IsOriginal, given_whole}
+use Rattle.command_laws.proofs.InputActLaws.{input_is_free}
+use Rattle.command_laws.proofs.MadeMachineLaws.{never_lost}
+use Rattle.command_laws.proofs.MountedKeeping.{acts_stopped, changed_by_acts, kept_open}
+use Rattle.command_laws.proofs.MountedStanding.{all_writes, kept_appended, open_appended, stopped_appended}
+use Rattle.command_laws.proofs.RestoreStanding.{volume_is_long}
+use Rattle.command_laws.proofs.ScriptActs.{full_acts, replied_steps}
+use Rattle.command_laws.specs.MountedKept.{IsKept, IsOpen, settle_and_append}
+use Rattle.command_spec.specs.Append.{Fits, Kept, TooLong, TooShort, append_acts, free_in, has_promised_room, input_acts, input_writes, kept_over, room_in, taking}
+use Rattle.command_spec.specs.Copied.{BeginsLike, contents_of}
+use Rattle.command_spec.specs.Copying.{Copies, CopiesVolume, DoneOf, IsBegun, IsFull, IsGiven, Side, behind_copy, copied_behind, copied_entry, copy_acts, giving_status, has_room_for, length_on}
+use Rattle.command_spec.specs.Restore.{GivingEnd, LostIn, MismatchIn, Restored, Restores, pieces_in}
+use Rattle.command_spec.specs.declared.copy_status.CopyStatus.{CopyStatus}
+use Rattle.qic_base.proofs.Joins.{steps_of-append}
+use Rattle.qic_base.proofs.Steps.{Torn-append, Torn-front}
+use Rattle.qic_base.specs.Acts.{Act, steps_of}
+use Rattle.qic_base.specs.Cartridge.{Cartridge}
+use Rattle.qic_base.specs.Step.{Step}
+use Rattle.qic_base.specs.Stop.{Torn}
+use Rattle.command_spec.specs.declared.copy_fault.CopyFault.TheVariants as fault
+use Rattle.command_spec.specs.declared.copy_status.CopyStatus.TheVariants as status
+
+-- a cartridge that stands for a plain one, as a side of a copy
+abbrev pub side_for : Cartridge → Plain → Side
+side_for c plain = record { cartridge = c; words = plain.words; entries = entries_of plain }
+
+-- ---- segments written behind the volumes
+
+writes_if : (before : ℕ) (some : Bool) (acts : List Act) → AreWrites (IsFree before) (steps_of acts) → AreWrites (IsFree before) (steps_of (cond some acts []))
+writes_if before true acts free = free
+writes_if before false acts free = tt
+
+behind_last : (kept : Kept) (n : ℕ) (bytes : List ℕ) → AreWrites (IsFree (last_end kept.entries)) (steps_of (input_writes kept (Some n) bytes))
+behind_last kept n bytes =
+    writes_if (last_end kept.entries) (has_promised_room (room_in kept) (Some n)) (input_acts kept.words (free_in kept) n true bytes)
+    (input_is_free (last_end kept.entries) kept.words (free_in kept) n true bytes
+    (All-weaker (λ (s : ℕ). last_end kept.entries + 1 ≤ s) (λ (s : ℕ). last_end kept.entries < s) (λ s (h : last_end kept.entries + 1 ≤ s). omega arith) (free_in kept)
+    (carrying_from kept.words (last_end kept.entries + 1) (length kept.words - 1))))
+
+-- ---- one volume
+
+same_less : (n : ℕ) → nat_lt n n ≡ false
+same_less n = le-ltb n n (omega arith)
+
+module _ (c : Cartridge) (one : Plain) (volume : Volume) (original : IsOriginal c one volume) (d : Cartridge) (p : Plain) (held : IsOpen d p) where
+  abbrev e : Entry
+  e = volume.entry
+
+  abbrev bytes : List ℕ
+  bytes = volume_bytes one.words volume
+
+  abbrev from : Side
+  from = side_for c one
+
+  abbrev to : Side
+  to = side_for d p
+
+  -- the plain cartridge with the volume
+  abbrev pub more : Plain
+  more = with_bytes p e.name e.date bytes
+
+  abbrev kept : Kept
+  kept = kept_over d p.words (entries_of p) p.table_area
+
+  abbrev replies : Entry → List ℕ
+  replies = copied_behind (length (entries_of p))
+
+  long : length bytes ≡ volume_length one.words e
+  long = volume_is_long c one volume original.has
+
+  pub room_is : has_room_for from e to ≡ has_room p (length bytes)
+  room_is = ap (λ (n : ℕ). has_promised_room (room_in kept) (Some n)) (sym long)
+
+  -- its acts, where so many bytes are promised
+  acts_are : (table : List (List ℕ)) → table ≡ p.table_area → copy_acts from e to table bytes ≡ append_acts kept e.name e.date (Some (length bytes)) replies bytes
+  acts_are table area =
+      ap (λ (t : List (List ℕ)). copy_acts from e to t bytes) area
+      ∙ ap (λ (n : ℕ). append_acts kept e.name e.date (Some n) replies bytes) (sym long)
+
+  fits : has_room p (length bytes) ≡ true → taking (room_in kept) (Some (length bytes)) bytes ≡ Fits bytes
+  fits enough =
+      let n : ℕ = length bytes in
+      ap (λ (b : Bool). cond b (cond (nat_lt n n) (TooShort n n) (Fits (take n bytes))) (TooLong n (room_in kept))) enough
+      ∙ ap (λ (b : Bool). cond b (TooShort n n) (Fits (take n bytes))) (same_less n)
+      ∙ ap (λ (xs : List ℕ). Fits xs) (take_all n bytes (omega arith))
+
+  abbrev all_steps : List Step
+  all_steps = settle_and_append d p e.name e.date bytes
+
+  steps_are : has_room p (length bytes) ≡ true → steps_of (append_acts kept e.name e.date (Some (length bytes)) replies bytes) ≡ all_steps
+  steps_are enough =
+      sym (replied_steps kept e.name e.date (length bytes) bytes bytes (fits enough) replies)
+      ∙ ap (λ (rest : List Step). settling_steps p.table_area d ++ rest) (all_writes p e.name e.date bytes (settling_steps p.table_area d) enough)
+
+  -- where it was carried out there was room, and all its steps were done
+  done_given : (table : List (List ℕ)) (acts : List Act) (ending : GivingEnd) (given : List ℕ) (read : List Act) →
+      table ≡ p.table_area → has_room_for from e to ≡ true → status.Done ≡ giving_status ending →
+      (ending ≡ Restored → given ≡ bytes) → DoneOf from e to table given ending acts →
+      (has_room p (length bytes) ≡ true) × (steps_of acts ≡ all_steps)
+  done_given table acts Restored given read area room answered same does =
+      let enough : has_room p (length bytes) ≡ true = sym room_is ∙ room in
+      (enough, ap steps_of (does ∙ ap (copy_acts from e to table) (same refl) ∙ acts_are table area) ∙ steps_are enough)
+  done_given table acts (LostIn segment lost) given read area room answered same does = absurd (cc)
+  done_given table acts (MismatchIn segment) given read area room answered same does = absurd (cc)
+
+  given_is : (acts : List Act) (answer : CopyStatus) (table : List (List ℕ)) → (is : IsGiven from e to table acts answer) → is.ending ≡ Restored → is.bytes ≡ bytes
+  given_is acts answer table is ended =
+      given_whole c one volume is.read is.bytes original.has is.given
+      (subst (λ (end : GivingEnd). Restores c one.words (pieces_in one volume) is.read end) ended is.restores)
+
+  pub done_volume : (acts : List Act) → CopiesVolume from e to acts status.Done → (has_room p (length bytes) ≡ true) × (steps_of acts ≡ all_steps)
+  done_volume acts (inl lost) = absurd (let is = lost.answered in cc)
+  done_volume acts (inr (table, reads, inl full)) = absurd (let is = full.answered in cc)
+  done_volume acts (inr (table, reads, inr is)) =
+      done_given table acts is.ending is.bytes is.read (standing_data d p table held.stands reads) is.room is.answered (given_is acts status.Done table is) is.does
+
+  pub open_behind : (acts : List Act) → CopiesVolume from e to acts status.Done → IsOpen (changed_by (steps_of acts) d) more
+  open_behind acts does =
+      let did = done_volume acts does in
+      subst (λ (steps : List Step). IsOpen (changed_by steps d) more) (sym did.1) (open_appended d p e.name e.date bytes held original.may did.0)
+
+  -- the target as the next volume finds it
+  pub side_behind : (acts : List Act) → behind_copy from e to acts ≡ side_for (changed_by (steps_of acts) d) more
+  side_behind acts =
+      let entry : copied_entry from e to ≡ (appended_volume p e.name e.date bytes).entry =
+      ap (λ (n : ℕ). new_entry (taken_by p.words n (free_segments p.words (entries_of p))) e.name e.date n) (sym long) in
+      let list : entries_of p ++ copied_entry from e to ∷ [] ≡ entries_of more =
+      ap (λ (x : Entry). entries_of p ++ x ∷ []) entry
+      ∙ sym (map-append (λ (v : Volume). v.entry) p.volumes (appended_volume p e.name e.date bytes ∷ [])) in
+      ap (λ (es : List Entry). record { cartridge = changed_by (steps_of acts) d; words = p.words; entries = es }) list
+
+  -- ---- stopped
+
+  begun_stands : (table : List (List ℕ)) (given : List ℕ) (acts : List Act) (left : Option Cartridge) →
+      (table ≡ p.table_area) → IsBegun from e to table given acts → Torn (steps_of acts) (Some d) left → IsSomeAnd left (λ f. Stands f p)
+  begun_stands table given acts left area begun torn =
+      let writes : List Act = input_writes (kept_over d p.words (entries_of p) table) (Some (volume_length one.words e)) given in
+      let all : Torn (settling_steps table d ++ steps_of writes) (Some d) left =
+      subst (λ (steps : List Step). Torn steps (Some d) left) (sym (steps_of-append acts begun.rest) ∙ ap steps_of begun.parts)
+      (Torn-front (steps_of acts) (steps_of begun.rest) (Some d) left torn) in
+      let now : Torn (settling_steps p.table_area d ++ steps_of writes) (Some d) left =
+      subst (λ (t : List (List ℕ)). Torn (settling_steps t d ++ steps_of writes) (Some d) left) area all in
+      elim (Torn-append (settling_steps p.table_area d) (steps_of writes) (Some d) left now) [
+        | inl front ↦ stopped_stands d p p.table_area left held.stands held.table front
+        | inr behind ↦ some_weaker left (λ f known. known.0)
+            (free_writes_stand (settled p.table_area d) p (steps_of writes) left (settled_stands d p p.table_area held.stands held.table)
+            (behind_last (kept_over d p.words (entries_of p) table) (volume_length one.words e) given)
+            (subst (λ (o : Option Cartridge). Torn (steps_of writes) o left) (settling_effects d p.table_area held.table) behind))
+      ]
+
+  full_stands : (table : List (List ℕ)) (acts : List Act) (answer : CopyStatus) (left : Option Cartridge) →
+      table ≡ p.table_area → IsFull from e to table acts answer → Torn (steps_of acts) (Some d) left → IsSomeAnd left (λ f. Stands f p)
+  full_stands table acts answer left area full torn =
+      let alone : copy_acts from e to table [] ≡ record { steps = settling_steps table d; text = [] } ∷ [] =
+      full_acts (kept_over d p.words (entries_of p) table) e.name e.date (length_on from e) full.none replies [] in
+      let steps : steps_of acts ≡ settling_steps p.table_area d =
+      ap steps_of (full.does ∙ alone) ∙ append-nil (settling_steps table d) ∙ ap (λ (t : List (List ℕ)). settling_steps t d) area in
+      stopped_stands d p p.table_area left held.stands held.table (subst (λ (ss : List Step). Torn ss (Some d) left) steps torn)
+
+-- a stop in the append of a volume left what stood; or there was room, and what stood with the volume is left
+pub data StoppedIn (p : Plain) (size : ℕ) (next : Plain) (left : Option Cartridge) : Type 0 where
+  Before : IsSomeAnd left (λ f. Stands f p) → StoppedIn p size next left
+  After : has_room p size ≡ true → IsSomeAnd left (λ f. Stands f next) → StoppedIn p size next left
+
+some_split : (P Q : Cartridge → Type 0) (left : Option Cartridge) → IsSomeAnd left (λ d. P d ⊎ Q d) → IsSomeAnd left P ⊎ IsSomeAnd left Q
+some_split P Q None fact = absurd fact
+some_split P Q (Some d) fact = fact
+
+stopped_in : (p : Plain) (size : ℕ) (next : Plain) (left : Option Cartridge) → has_room p size ≡ true → IsSomeAnd left (λ f. Stands f p ⊎ Stands f next) → StoppedIn p size next left
+stopped_in p size next left room stands = elim (some_split (λ f. Stands f p) (λ f. Stands f next) left stands) [
+  | inl before ↦ Before before
+  | inr after ↦ After room after
+]
+
+-- where each sector of the table's segment takes a write
+module _ (c : Cartridge) (one : Plain) (volume : Volume) (original : IsOriginal c one volume) (d : Cartridge) (p : Plain) (held : IsKept d p) where
+  abbrev opened : IsOpen d p
+  opened = kept_open d p held
+
+  abbrev next : Plain
+  next = more c one volume original d p opened
+
+  abbrev content : List ℕ
+  content = volume_bytes one.words volume
+
+  pub kept_behind : (acts : List Act) → CopiesVolume (side_for c one) volume.entry (side_for d p) acts status.Done → IsKept (changed_by (steps_of acts) d) next
+  kept_behind acts does =
+      let did = done_volume c one volume original d p opened acts does in
+      subst (λ (steps : List Step). IsKept (changed_by steps d) next) (sym did.1)
+      (kept_appended volume.entry.name volume.entry.date content original.may.label original.may.word original.may.content d p held did.0)
+
+  stopped_given : (table : List (List ℕ)) (acts : List Act) (given : List ℕ) (ending : GivingEnd) (left : Option Cartridge) →
+      table ≡ p.table_area → has_room_for (side_for c one) volume.entry (side_for d p) ≡ true → (ending ≡ Restored → given ≡ content) →
+      DoneOf (side_for c one) volume.entry (side_for d p) table given ending acts → Torn (steps_of acts) (Some d) left →
+      StoppedIn p (length content) next left
+  stopped_given table acts given Restored left area room same does torn =
+      let did = done_given c one volume original d p opened table acts Restored given [] area room refl same does in
+      stopped_in p (length content) next left did.0
+      (stopped_appended volume.entry.name volume.entry.date content original.may.label original.may.word original.may.content d p held left did.0
+      (subst (λ (steps : List Step). Torn steps (Some d) left) did.1 torn))
+  stopped_given table acts given (LostIn segment lost) left area room same does torn =
+      Before (begun_stands c one volume original d p opened table given acts left area does torn)
+  stopped_given table acts given (MismatchIn segment) left area room same does torn =
+      Before (begun_stands c one volume original d p opened table given acts left area does torn)
+
+  pub stopped_volume : (acts : List Act) (answer : CopyStatus) (left : Option Cartridge) → CopiesVolume (side_for c one) volume.entry (side_for d p) acts answer →
+      Torn (steps_of acts) (Some d) left → StoppedIn p (length content) next left
+  stopped_volume acts answer left (inl lost) torn = absurd (never_lost d p.table_area lost.lost held.table lost.says)
+  stopped_volume acts answer left (inr (table, reads, inl full)) torn =
+      Before (full_stands c one volume original d p opened table acts answer left (standing_data d p table held.stands reads) full torn)
+  stopped_volume acts answer left (inr (table, reads, inr is)) torn =
+      stopped_given table acts is.bytes is.ending left (standing_data d p table held.stands reads) is.room (given_is c one volume original d p opened acts answer table is) is.does torn
+
+-- ---- volumes one after the other
+
+-- how many of some volumes stand behind those of a plain cartridge, which are then like those of the source
+pub record StandsWith (one : Plain) (volumes : List Volume) (p : Plain) (left : Option Cartridge) : Type 0 where
+  pub count : ℕ
+  pub within : count ≤ length volumes
+  pub stands : IsSomeAnd left (λ d. Stands d (with_all p (contents_of one.words (take count volumes))))
+  pub like : BeginsLike one (with_all p (contents_of one.words (take count volumes)))
+
+abbrev pub entries_in : List Volume → List Entry
+entries_in volumes = map (λ volume. volume.entry) volumes
+
+pub stands_none : (one : Plain) (volumes : List Volume) (p : Plain) (left : Option Cartridge) → BeginsLike one p → IsSomeAnd left (λ d. Stands d p) → StandsWith one volumes p left
+stands_none one volumes p left like stands = record { count = 0; within = omega arith; stands = stands; like = like }
+
+abbrev pub with_volume : (one : Plain) → Plain → Volume → Plain
+with_volume one p volume = with_bytes p volume.entry.name volume.entry.date (volume_bytes one.words volume)
+
+pub stands_more : (one : Plain) (volume : Volume) (volumes : List Volume) (p : Plain) (left : Option Cartridge) →
+    StandsWith one volumes (with_volume one p volume) left → StandsWith one (volume ∷ volumes) p left
+stands_more one volume volumes p left behind =
+    record { count = suc behind.count; within = (let few = behind.within in omega arith); stands = behind.stands; like = behind.like }
+
+module _ (c : Cartridge) (one : Plain) where
+  -- the next volume, where these are missing
+  module _ (volume : Volume) (volumes : List Volume) (are : All (IsOriginal c one) (volume ∷ volumes)) (d : Cartridge) (p : Plain) (held : IsOpen d p) (like : BeginsLike one p) (is : behind one p ≡ volume ∷ volumes) where
+    abbrev pub first_is : IsOriginal c one volume
+    first_is = All-head (IsOriginal c one) volume volumes are
+
+    pub like_next : has_room p (length (volume_bytes one.words volume)) ≡ true → BeginsLike one (with_volume one p volume)
+    like_next room = next_like c one volume first_is p d volumes held.cartridge held.stands room like is
+
+    pub is_next : behind one (with_volume one p volume) ≡ volumes
+    is_next = next_behind c one volume first_is p volumes is
+
+    pub stands_either : (left : Option Cartridge) → StoppedIn p (length (volume_bytes one.words volume)) (with_volume one p volume) left → StandsWith one (volume ∷ volumes) p left
+    stands_either left (Before stands) = stands_none one (volume ∷ volumes) p left like stands
+    stands_either left (After room stands) = stands_more one volume volumes p left (stands_none one volumes (with_volume one p volume) left (like_next room) stands)
+
+    -- what is copied behind it
+    pub copies_next : (first rest : List Act) (answer : CopyStatus) → Copies (side_for c one) (entries_in volumes) (behind_copy (side_for c one) volume.entry (side_for d p) first) rest answer →
+        Copies (side_for c one) (entries_in volumes) (side_for (changed_by (steps_of first) d) (with_volume one p volume)) rest answer
+    copies_next first rest answer behind =
+        subst (λ (side : Side). Copies (side_for c one) (entries_in volumes) side rest answer) (side_behind c one volume first_is d p held first) behind
+
+  pub copies_stopped : (volumes : List Volume) → All (IsOriginal c one) volumes → (d : Cartridge) (p : Plain) → IsKept d p → BeginsLike one p → behind one p ≡ volumes →
+      (acts : List Act) (answer : CopyStatus) (left : Option Cartridge) → Copies (side_for c one) (entries_in volumes) (side_for d p) acts answer →
+      Torn (steps_of acts) (Some d) left → StandsWith one volumes p left
+  copies_stopped [] are d p held like is acts answer left (does, done) torn =
+      stands_none one [] p left like (some_and (λ f. Stands f p) d left held.stands (subst (λ (zs : List Act). Torn (steps_of zs) (Some d) left) does torn))
+  copies_stopped (volume ∷ volumes) are d p held like is acts answer left (inl (other, does)) torn =
+      stands_either volume volumes are d p (kept_open d p held) like is left
+      (stopped_volume c one volume (All-head (IsOriginal c one) volume volumes are) d p held acts answer left does torn)
+  copies_stopped (volume ∷ volumes) are d p held like is acts answer left (inr (first, rest, parts, does, behind)) torn =
+      let original : IsOriginal c one volume = All-head (IsOriginal c one) volume volumes are in
+      let opened : IsOpen d p = kept_open d p held in
+      elim (acts_stopped first rest acts d left parts torn) [
+        | inl here ↦ stands_either volume volumes are d p opened like is left (stopped_volume c one volume original d p held first status.Done left does here)
+        | inr later ↦ stands_more one volume volumes p left
+            (copies_stopped volumes (All-tail (IsOriginal c one) volume volumes are) (changed_by (steps_of first) d) (with_volume one p volume)
+            (kept_behind c one volume original d p held first does)
+            (like_next volume volumes are d p opened like is (done_volume c one volume original d p opened first does).0) (is_next volume volumes are d p opened like is)
+            rest answer left (copies_next volume volumes are d p opened like is first rest answer behind) later)
+      ]
+
+  pub copies_done : (volumes : List Volume) → All (IsOriginal c one) volumes → (d : Cartridge) (p : Plain) → IsOpen d p → (acts : List Act) →
+      Copies (side_for c one) (entries_in volumes) (side_for d p) acts status.Done → IsOpen (changed_by (steps_of acts) d) (with_all p (contents_of one.words volumes))
+  copies_done [] are d p held acts (is, done) = subst (λ (zs : List Act). IsOpen (changed_by (steps_of zs) d) p) (sym is) held
+  copies_done (volume ∷ volumes) are d p held acts (inl (other, does)) = absurd (other refl)
+  copies_done (volume ∷ volumes) are d p held acts (inr (first, rest, parts, does, behind)) =
+      let original : IsOriginal c one volume = All-head (IsOriginal c one) volume volumes are in
+      let next : Plain = with_volume one p volume in
+      let f : Cartridge = changed_by (steps_of first) d in
+      let now : IsOpen (changed_by (steps_of rest) f) (with_all next (contents_of one.words volumes)) =
+      copies_done volumes (All-tail (IsOriginal c one) volume volumes are) f next (open_behind c one volume original d p held first does) rest
+      (subst (λ (side : Side). Copies (side_for c one) (entries_in volumes) side rest status.Done) (side_behind c one volume original d p held first) behind) in
+      subst (λ (g : Cartridge). IsOpen g (with_all next (contents_of one.words volumes)))
+      (sym (ap (λ (zs : List Act). changed_by (steps_of zs) d) (sym parts) ∙ changed_by_acts first rest d)) now

@@ -1,0 +1,69 @@
+-- A mounted cartridge whose whole table holds what it should, so that one sector more of the table's segment may be lost; and what
+-- generated runs and scripts leave of it, as facts (this project's own).
+use Rattle.std.specs.Prelude.{◌≡◌, ◌⊎◌, ◌+◌, ◌<◌, ◌≤◌, ℕ, List, All, Option, Some, IsSomeAnd, length, take, true}
+use Rattle.cartridge_laws.specs.AppendBetween.{IsWhole}
+use Rattle.cartridge_spec.specs.Appending.{has_room, with_all, with_bytes}
+use Rattle.cartridge_spec.specs.Mounting.{settled}
+use Rattle.cartridge_spec.specs.OneLoss.{ComesBackAs, LosesOneAlone}
+use Rattle.cartridge_spec.specs.Settling.{changed_by}
+use Rattle.cartridge_spec.specs.Volumes.{Plain, entries_of}
+use Rattle.cartridge_spec.specs.Wear.{worn}
+use Rattle.command_laws.specs.MountedKept.{IsAppendable, IsKept, settle_and_append}
+use Rattle.command_spec.specs.MadeVolumes.{made_contents}
+use Rattle.command_spec.specs.Make.{Answer, Done, Makes}
+use Rattle.command_spec.specs.OneLoss.{ComesBackAsOneOf, SomeComeBack}
+use Rattle.command_spec.specs.Scrub.{Scrubs}
+use Rattle.qic_base.specs.Acts.{Act, steps_of}
+use Rattle.qic_base.specs.Cartridge.{Cartridge}
+use Rattle.qic_base.specs.Stop.{Torn}
+
+-- all 32 sectors of its table's segment hold their parts of the table
+pub record IsIntact (c : Cartridge) (plain : Plain) : Type 0 where
+  pub kept : IsKept c plain
+  pub table : IsWhole c plain.table_area
+
+-- so it is once its table was settled, ..
+abbrev pub SettledIsIntact : Type 0
+SettledIsIntact = (c : Cartridge) (plain : Plain) → IsKept c plain → IsIntact (settled plain.table_area c) plain
+
+-- .. and then it comes back where one of these sectors is lost
+abbrev pub IntactComesBack : Type 0
+IntactComesBack =
+    (c : Cartridge) (plain : Plain) (f : Cartridge) (lost : ℕ) → IsIntact c plain → LosesOneAlone c f lost → ComesBackAs f plain
+
+-- an append leaves it so with the volume; where it is stopped, it comes back as one of the two
+pub record AppendLeavesIntact (c : Cartridge) (plain : Plain) (name : List ℕ) (date : ℕ) (bytes : List ℕ) : Type 0 where
+  pub done : IsIntact (changed_by (settle_and_append c plain name date bytes) c) (with_bytes plain name date bytes)
+  pub stopped : (left : Option Cartridge) → Torn (settle_and_append c plain name date bytes) (Some c) left →
+      IsSomeAnd left (ComesBackAsOneOf plain (with_bytes plain name date bytes))
+
+abbrev pub AppendsLeaveIntact : Type 0
+AppendsLeaveIntact =
+    (c : Cartridge) (plain : Plain) (name : List ℕ) (date : ℕ) (bytes : List ℕ) → IsIntact c plain → IsAppendable name date bytes →
+    has_room plain (length bytes) ≡ true → AppendLeavesIntact c plain name date bytes
+
+-- so does a sector that is worn behind the table's segment, and a scrub, stopped or not
+abbrev pub WearsLeaveIntact : Type 0
+WearsLeaveIntact =
+    (c : Cartridge) (plain : Plain) (segment sector : ℕ) → IsIntact c plain → 3 ≤ segment → sector < 32 → IsIntact (worn segment sector c) plain
+
+pub record ScrubLeavesIntact (c : Cartridge) (plain : Plain) (acts : List Act) : Type 0 where
+  pub done : IsIntact (changed_by (steps_of acts) c) plain
+  pub stopped : (left : Option Cartridge) → Torn (steps_of acts) (Some c) left → IsSomeAnd left (ComesBackAsOneOf plain plain)
+
+abbrev pub ScrubsLeaveIntact : Type 0
+ScrubsLeaveIntact =
+    (c : Cartridge) (plain : Plain) (acts : List Act) → IsIntact c plain → Scrubs c plain.words (entries_of plain) acts → ScrubLeavesIntact c plain acts
+
+-- a generated run that is stopped leaves what comes back with some of its volumes, and one that was carried out with all
+abbrev pub StoppedMakeComesBack : Type 0
+StoppedMakeComesBack =
+    (seed count : ℕ) (c : Cartridge) (plain : Plain) (acts : List Act) (answer : Answer) (left : Option Cartridge) → count ≤ 200 →
+    IsIntact c plain → Makes seed count c plain.words (entries_of plain) acts answer → Torn (steps_of acts) (Some c) left →
+    SomeComeBack (λ n. with_all plain (made_contents seed 1 n)) count left
+
+abbrev pub DoneMakeIsIntact : Type 0
+DoneMakeIsIntact =
+    (seed count : ℕ) (c : Cartridge) (plain : Plain) (acts : List Act) → count ≤ 200 → IsIntact c plain →
+    Makes seed count c plain.words (entries_of plain) acts Done →
+    IsIntact (changed_by (steps_of acts) c) (with_all plain (made_contents seed 1 count))

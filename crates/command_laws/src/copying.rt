@@ -1,0 +1,29 @@
+//! What a copy onto another cartridge comes to. Each law is the contract of a function that does nothing, so that other
+//! crates can rest on it; their proofs import the lemmas of this crate's `proofs`.
+
+ghost use Rattle.command_laws.specs.CopyLaws.{CopiesOneThing, CopiesSomething, CopyGoesOn, DoneCopyStands, StoppedCopyStands, StoppedSourceStands};
+
+/// A copy has one status and prints one text.
+pub fn a_copy_is_one()
+    ensures { CopiesOneThing }
+{}
+
+/// A copy comes to something, whatever the sectors of the cartridges hold.
+pub fn a_copy_has_an_outcome()
+    ensures { CopiesSomething }
+{}
+
+/// On cartridges that stand for plain ones, alike in the volumes that both have, a copy leaves the target with all missing
+/// volumes at Done, also where sectors of its volume table take no write; and where each of these takes one, a stop in it
+/// with some of them, in their order. The source stands for what it stood for, done or stopped.
+pub fn a_copy_adds_the_missing_volumes()
+    ensures done { DoneCopyStands }
+    ensures stopped { StoppedCopyStands }
+    ensures source { StoppedSourceStands }
+{}
+
+/// A copy that goes on behind some of the missing volumes adds the rest of them, and makes what it would have made without a
+/// stop.
+pub fn a_copy_goes_on()
+    ensures { CopyGoesOn }
+{}

@@ -1,0 +1,272 @@
+-- What the program that copies one cartridge's volumes to another promises (this project's own).
+use Rattle.std.specs.Prelude.{ℕ, ◌+◌, ◌<◌, List, [], ◌++◌, ◌≡◌, ◌≢◌, ◌⊎◌, ◌↔◌, ◌≤◌, ◌==◌, ◌&&◌, ◌||◌, Bool, true, false, nat_lt, length, Option, None, Some, Contains, IfSome, IsSomeAnd, is_some}
+use Rattle.cartridge_spec.specs.Header.{Header}
+use Rattle.cartridge_spec.specs.Mounting.{Mounting, Mounts, settled}
+use Rattle.cartridge_spec.specs.Settling.{settling_steps}
+use Rattle.cartridge_spec.specs.Table.{Entry}
+use Rattle.cartridge_spec.specs.Volumes.{Plain, Stands}
+use Rattle.command_spec.specs.Copied.{CanBeCopied, StandAlike, StandsPrinted, StandsUpTo, copied, copied_lines}
+use Rattle.command_spec.specs.Copying.{CopyOutcome, CopyYields, foreign_fault, giving_status}
+use Rattle.command_spec.specs.Headline.{EachLeft, StopsGoOn, ToldNow}
+use Rattle.command_spec.specs.Lines.{count_line}
+use Rattle.command_spec.specs.Outcome.{is_refused}
+use Rattle.command_spec.specs.Restore.{GivingEnd, Restores, pieces}
+use Rattle.command_spec.specs.declared.copy_fault.CopyFault.{CopyFault}
+use Rattle.command_spec.specs.declared.copy_status.CopyStatus.{CopyStatus}
+use Rattle.qic_base.specs.Acts.{Act, SinkCut, TapeCut, Went, around, no_source, steps_of}
+use Rattle.qic_base.specs.Cartridge.{Cartridge}
+use Rattle.qic_base.specs.Cause.{Rose}
+use Rattle.qic_base.specs.Stop.{Torn}
+use Rattle.cartridge_spec.specs.Mounting as mounting
+use Rattle.command_spec.specs.declared.copy_fault.CopyFault.TheVariants as fault
+use Rattle.command_spec.specs.declared.copy_status.CopyStatus.TheVariants as status
+use Rattle.qic_base.specs.Sink as sinks
+use Rattle.qic_base.specs.Tape as tapes
+
+-- the two tapes and the sink, before a copy or after it
+pub record Decks (A B K : Type 0) : Type 0 where
+  pub from : A
+  pub to : B
+  pub sink : K
+
+-- ---- how it ended
+
+-- a fault of the outside ended it
+abbrev pub is_copy_fault : CopyStatus → Bool
+is_copy_fault (status.From fault.Tape) = true
+is_copy_fault (status.To fault.Tape) = true
+is_copy_fault status.SinkFault = true
+is_copy_fault answer = false
+
+-- it ended before any drive was asked
+abbrev pub IsUnasked : CopyStatus → Type 0
+IsUnasked answer = (answer ≡ status.Usage) ⊎ (answer ≡ status.NoMemory)
+
+-- a fact of what both drives hold, where both tapes tell
+abbrev pub OverBoth : {A B K : Type 0} (a : tapes.Meaning A) (b : tapes.Meaning B) (old : Decks A B K) (P : (from to : Option Cartridge) → Type 0) → Type 0
+OverBoth a b old P = IfSome (a.told old.from) (λ from. IfSome (b.told old.to) (λ to. P from to))
+
+-- The plain machine's outcome: it was carried out, all of it.
+pub record CopyWent {A B K : Type 0} (a : tapes.Meaning A) (b : tapes.Meaning B) (k : sinks.Meaning K) (old new : Decks A B K) (answer : CopyStatus) (from to : Option Cartridge) : Type 0 where
+  pub outcome : CopyOutcome
+  pub plain : CopyYields from to outcome
+  pub answered : answer ≡ outcome.status
+  pub settling : tapes.Done a old.from new.from outcome.settling
+  pub went : Went b no_source k (around old.to old.sink) (around new.to new.sink) outcome.acts
+
+-- A fault of the source's tape broke it off, in the settling of that or later: first ones of its acts went.
+pub record FromCut {A B K : Type 0} (a : tapes.Meaning A) (b : tapes.Meaning B) (k : sinks.Meaning K) (old new : Decks A B K) (from to : Option Cartridge) : Type 0 where
+  pub outcome : CopyOutcome
+  pub plain : CopyYields from to outcome
+  pub broke : tapes.Broke a old.from new.from outcome.settling
+  pub front : List Act
+  pub rest : List Act
+  pub parts : front ++ rest ≡ outcome.acts
+  pub went : Went b no_source k (around old.to old.sink) (around new.to new.sink) front
+
+-- A fault of the target's tape cut its acts off, or one of the sink.
+pub record ToCut {A B K : Type 0} (a : tapes.Meaning A) (b : tapes.Meaning B) (k : sinks.Meaning K) (old new : Decks A B K) (from to : Option Cartridge) : Type 0 where
+  pub outcome : CopyOutcome
+  pub plain : CopyYields from to outcome
+  pub settling : tapes.Done a old.from new.from outcome.settling
+  pub cut : TapeCut b no_source k (around old.to old.sink) (around new.to new.sink) outcome.acts
+
+pub record PrintingCut {A B K : Type 0} (a : tapes.Meaning A) (b : tapes.Meaning B) (k : sinks.Meaning K) (old new : Decks A B K) (from to : Option Cartridge) : Type 0 where
+  pub outcome : CopyOutcome
+  pub plain : CopyYields from to outcome
+  pub settling : tapes.Done a old.from new.from outcome.settling
+  pub cut : SinkCut b no_source k (around old.to old.sink) (around new.to new.sink) outcome.acts
+
+abbrev pub CopyEnds : {A B K : Type 0} (a : tapes.Meaning A) (b : tapes.Meaning B) (k : sinks.Meaning K) (old new : Decks A B K) → CopyStatus → (from to : Option Cartridge) → Type 0
+CopyEnds a b k old new (status.From fault.Tape) from to = FromCut a b k old new from to
+CopyEnds a b k old new (status.To fault.Tape) from to = ToCut a b k old new from to
+CopyEnds a b k old new status.SinkFault from to = PrintingCut a b k old new from to
+CopyEnds a b k old new answer from to = CopyWent a b k old new answer from to
+
+-- ---- over any tapes
+
+-- the refusals that a mounting may give, and its fault
+abbrev pub is_mount_fault : CopyFault → Bool
+is_mount_fault fault.NotFormatted = true
+is_mount_fault (fault.Foreign field value) = is_refused field value
+is_mount_fault fault.TableMismatch = true
+is_mount_fault (fault.Lost segment lost) = segment == 2 && nat_lt 3 lost
+is_mount_fault fault.Tape = true
+is_mount_fault other = false
+
+-- the source is mounted, and volumes of it are read
+abbrev pub is_from_fault : CopyFault → Bool
+is_from_fault (fault.Lost segment lost) = nat_lt 3 lost
+is_from_fault (fault.Mismatch segment) = true
+is_from_fault other = is_mount_fault other
+
+-- the target is mounted, and volumes are appended
+abbrev pub is_to_fault : CopyFault → Bool
+is_to_fault fault.Protected = true
+is_to_fault (fault.Full need have) = have == 0 || nat_lt have need
+is_to_fault (fault.Short promised read) = nat_lt read promised
+is_to_fault other = is_mount_fault other
+
+-- there is no room for a volume, but where no room at all is left
+abbrev pub HasKind : CopyStatus → Type 0
+HasKind (status.From found) = is_from_fault found ≡ true
+HasKind (status.To found) = is_to_fault found ≡ true
+HasKind (status.Differs number) = 0 < number
+HasKind answer = Unit {0}
+
+-- the object whose fault the answer is counted one
+abbrev pub HasRisen : {A B K : Type 0} (a : tapes.Meaning A) (b : tapes.Meaning B) (k : sinks.Meaning K) (old new : Decks A B K) → CopyStatus → Type 0
+HasRisen a b k old new (status.From fault.Tape) = Rose (a.faults old.from) (a.faults new.from)
+HasRisen a b k old new (status.To fault.Tape) = Rose (b.faults old.to) (b.faults new.to)
+HasRisen a b k old new status.SinkFault = Rose (k.faults old.sink) (k.faults new.sink)
+HasRisen a b k old new answer = Unit {0}
+
+-- what a mounting gives is this refusal; where it gives a list the refusal is one of these
+abbrev pub MountingRefuses : Mounting → CopyFault → (OnceMounted : Header → (words : List ℕ) → (table : List (List ℕ)) → List Entry → Type 0) → Type 0
+MountingRefuses mounting.NotFormatted found OnceMounted = found ≡ fault.NotFormatted
+MountingRefuses (mounting.Foreign why) found OnceMounted = found ≡ foreign_fault why
+MountingRefuses (mounting.TableLost lost) found OnceMounted = found ≡ fault.Lost 2 lost
+MountingRefuses mounting.TableMismatch found OnceMounted = found ≡ fault.TableMismatch
+MountingRefuses (mounting.Mounted header words table entries) found OnceMounted = OnceMounted header words table entries
+
+-- a volume of the settled source ends so
+abbrev pub EndsVolume : Cartridge → CopyFault → Header → (words : List ℕ) → (table : List (List ℕ)) → List Entry → Type 0
+EndsVolume c found header words table entries =
+    (e : Entry) × Contains entries e × ((read : List Act) × ((ending : GivingEnd) × Restores (settled table c) words (pieces words e) read ending
+    × (giving_status ending ≡ status.From found)))
+
+-- .. of the target: it is protected, or an append to it is refused
+abbrev pub EndsAppend : Cartridge → CopyFault → Header → (words : List ℕ) → (table : List (List ℕ)) → List Entry → Type 0
+EndsAppend c fault.Protected header words table entries = c.info.protected ≡ true
+EndsAppend c (fault.Full need have) header words table entries = c.info.protected ≡ false
+EndsAppend c (fault.Lost segment lost) header words table entries = c.info.protected ≡ false
+EndsAppend c (fault.Short promised read) header words table entries = c.info.protected ≡ false
+EndsAppend c found header words table entries = ⊥
+
+-- it is mounted, and lists volumes
+abbrev pub MountsSome : Option Cartridge → Type 0
+MountsSome held =
+    IsSomeAnd held (λ c. (header : Header) × ((words : List ℕ) × ((table : List (List ℕ)) × ((entries : List Entry) × Mounts c (mounting.Mounted header words table entries)))))
+
+-- what an answer says of the source's cartridge alone
+abbrev pub FromAnswers : Option Cartridge → CopyStatus → Type 0
+FromAnswers held status.Usage = Unit {0}
+FromAnswers held status.NoMemory = Unit {0}
+FromAnswers held (status.From fault.Tape) = Unit {0}
+FromAnswers held status.FromAbsent = held ≡ None
+FromAnswers held (status.From found) = IsSomeAnd held (λ c. (m : Mounting) × Mounts c m × MountingRefuses m found (EndsVolume c found))
+FromAnswers held answer = MountsSome held
+
+-- .. and of the target's
+abbrev pub ToAnswers : Option Cartridge → CopyStatus → Type 0
+ToAnswers held status.Usage = Unit {0}
+ToAnswers held status.NoMemory = Unit {0}
+ToAnswers held status.FromAbsent = Unit {0}
+ToAnswers held (status.From found) = Unit {0}
+ToAnswers held (status.To fault.Tape) = Unit {0}
+ToAnswers held status.ToAbsent = held ≡ None
+ToAnswers held (status.To found) = IsSomeAnd held (λ c. (m : Mounting) × Mounts c m × MountingRefuses m found (EndsAppend c found))
+ToAnswers held answer = MountsSome held
+
+-- ---- what is printed
+
+-- the lines of the volumes that were copied behind so many, with these lengths, and the count
+abbrev pub copy_text : (count : ℕ) → (lengths : List ℕ) → List ℕ
+copy_text count lengths = copied_lines (count + 1) lengths ++ count_line (count + length lengths)
+
+-- whole lines at an answer but a fault of the sink, all of them at Done; and behind that a front
+abbrev pub IsCopyText : CopyStatus → List ℕ → Type 0
+IsCopyText status.Done text = (count : ℕ) × ((lengths : List ℕ) × (text ≡ copy_text count lengths))
+IsCopyText status.SinkFault text = (count : ℕ) × ((lengths : List ℕ) × ((rest : List ℕ) × (text ++ rest ≡ copy_text count lengths)))
+IsCopyText answer text = (count : ℕ) × ((lengths : List ℕ) × (text ≡ copied_lines (count + 1) lengths))
+
+pub record PrintsCopies {K : Type 0} (k : sinks.Meaning K) (answer : CopyStatus) (old new : K) : Type 0 where
+  pub text : List ℕ
+  pub is_text : IsCopyText answer text
+  pub took : k.took old text new
+
+-- ---- stops
+
+-- a stop in the settling of the source leaves this
+pub record TornSettling (held left : Option Cartridge) : Type 0 where
+  pub cartridge : Cartridge
+  pub is : held ≡ Some cartridge
+  pub header : Header
+  pub words : List ℕ
+  pub table : List (List ℕ)
+  pub entries : List Entry
+  pub mounts : Mounts cartridge (mounting.Mounted header words table entries)
+  pub torn : Torn (settling_steps table cartridge) held left
+
+abbrev pub FromLeaves : (held left : Option Cartridge) → Type 0
+FromLeaves held left = (left ≡ held) ⊎ TornSettling held left
+
+-- a stop in what the copy does to the target, where the source holds this
+abbrev pub ToLeaves : (from held left : Option Cartridge) → Type 0
+ToLeaves from held left = (left ≡ held) ⊎ ((outcome : CopyOutcome) × CopyYields from held outcome × Torn (steps_of outcome.acts) held left)
+
+-- each cartridge that is left of the source stands for what it stood for
+abbrev pub SourceStays : (held left : Option Cartridge) → Type 0
+SourceStays held left = (c : Cartridge) (plain : Plain) → held ≡ Some c → Stands c plain → IsSomeAnd left (λ d. Stands d plain)
+
+-- and of the target for its volumes and some of the missing ones, in their order
+abbrev pub TargetGrows : (from : Option Cartridge) → (held left : Option Cartridge) → Type 0
+TargetGrows from held left =
+    (c : Cartridge) (one : Plain) (d : Cartridge) (other : Plain) → from ≡ Some c → held ≡ Some d → StandAlike c one d other → StandsUpTo one other left
+
+-- When it is over this was printed, and the target has at least the volumes whose lines were written whole, and all at Done.
+pub record CopyIsOver {A B K : Type 0} (b : tapes.Meaning B) (k : sinks.Meaning K) (old new : Decks A B K) (answer : CopyStatus) (from to : Plain) : Type 0 where
+  pub text : List ℕ
+  pub took : k.took old.sink text new.sink
+  pub printed : ToldNow b new.to (StandsPrinted from to (length text))
+  pub done : answer ≡ status.Done → ToldNow b new.to (λ left. IsSomeAnd left (λ d. Stands d (copied from to (length from.volumes))))
+
+-- no count of faults rose
+pub record NoDeckRose {A B K : Type 0} (a : tapes.Meaning A) (b : tapes.Meaning B) (k : sinks.Meaning K) (old new : Decks A B K) : Type 0 where
+  pub from : ¬ (Rose (a.faults old.from) (a.faults new.from))
+  pub to : ¬ (Rose (b.faults old.to) (b.faults new.to))
+  pub sink : ¬ (Rose (k.faults old.sink) (k.faults new.sink))
+
+-- two copies over the same objects can be put together: no count has fallen, each tape tells as before, and of stops as before
+pub record CopiesJoin {A B K : Type 0} (a : tapes.Meaning A) (b : tapes.Meaning B) (k : sinks.Meaning K) (old new : Decks A B K) : Type 0 where
+  pub from_later : a.faults old.from ≤ a.faults new.from
+  pub to_later : b.faults old.to ≤ b.faults new.to
+  pub sink_later : k.faults old.sink ≤ k.faults new.sink
+  pub from_tells : is_some (a.told new.from) ≡ is_some (a.told old.from)
+  pub to_tells : is_some (b.told new.to) ≡ is_some (b.told old.to)
+  pub from_stops : StopsGoOn a old.from new.from
+  pub to_stops : StopsGoOn b old.to new.to
+
+-- What a copy promises, by the tapes and the sink before it and after it, and by its answer.
+pub record CopyPromises {A B K : Type 0} (a : tapes.Meaning A) (b : tapes.Meaning B) (k : sinks.Meaning K) (words : List (List ℕ)) (old new : Decks A B K) (answer : CopyStatus) : Type 0 where
+  -- Words are refused just where there are any; then, and for want of memory, nothing was touched.
+  pub usage : (answer ≡ status.Usage) ↔ (words ≢ [])
+  pub untouched : IsUnasked answer → new ≡ old
+  -- Over what both tapes tell the plain machine's outcome was carried out, or a fault of the outside cut it off.
+  pub ends : ¬ (IsUnasked answer) → OverBoth a b old (CopyEnds a b k old new answer)
+  -- Where no count rose, and all is there that it needs, it is Done, or there was no memory.
+  pub complete : words ≡ [] → NoDeckRose a b k old new → (c : Cartridge) (one : Plain) (d : Cartridge) (other : Plain) →
+      a.told old.from ≡ Some (Some c) → b.told old.to ≡ Some (Some d) → CanBeCopied c one d other →
+      (answer ≡ status.NoMemory) ⊎ (answer ≡ status.Done)
+  -- A fault of a tape or of the sink comes only where its count rose; the refusals are of these kinds over any tapes, and a
+  -- volume ends early only where the source's tape doesn't tell.
+  pub cause : HasRisen a b k old new answer
+  pub kind : HasKind answer
+  pub short : (promised read : ℕ) → answer ≡ status.To (fault.Short promised read) → a.told old.from ≡ None
+  -- What one tape tells decides, whatever the other is.
+  pub source : IfSome (a.told old.from) (λ held. FromAnswers held answer)
+  pub target : IfSome (b.told old.to) (λ held. ToAnswers held answer)
+  -- The lines of the copied volumes are printed, and last the count.
+  pub printed : PrintsCopies k answer old.sink new.sink
+  -- When it is over, and behind a stop at any moment since it began, the source is as it was but for the settling of its volume
+  -- table, and stands for what it stood for.
+  pub from_left : EachLeft a old.from new.from FromLeaves
+  pub from_stays : EachLeft a old.from new.from SourceStays
+  -- The target stands for its volumes with some of the missing ones, in their order; those whose lines were written whole are
+  -- among them when it is over, and at Done all are.
+  pub to_left : IfSome (a.told old.from) (λ from. EachLeft b old.to new.to (ToLeaves from))
+  pub to_grows : IfSome (a.told old.from) (λ from. EachLeft b old.to new.to (TargetGrows from))
+  pub over : (c : Cartridge) (one : Plain) (d : Cartridge) (other : Plain) → a.told old.from ≡ Some (Some c) → b.told old.to ≡ Some (Some d) →
+      StandAlike c one d other → CopyIsOver b k old new answer one other
+  -- Two copies can be joined.
+  pub joins : CopiesJoin a b k old new

@@ -1,0 +1,8 @@
+//! What the programs over cartridges in image files share: the words of their command lines, and a unit over an image.
+#![tactic(auto)]
+
+mod arguments;
+mod unit;
+
+pub use arguments::{Arguments, read_arguments};
+pub use unit::{ImageUnit, NO_IMAGE, open_unit};

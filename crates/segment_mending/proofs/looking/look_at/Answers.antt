@@ -1,0 +1,1 @@
+use Rattle.segment_mending.proofs.looking.look_at.Goals as goal

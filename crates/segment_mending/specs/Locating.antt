@@ -1,0 +1,90 @@
+-- What is found of a segment, and what may be found of it (this project's own).
+use Rattle.std.specs.Prelude.{◌≡◌, ℕ, ◌<◌, ◌≤◌, ◌^◌, List, [], ◌∷◌, take, Option, Some, None, Result, Ok, Err, true, false}
+use Rattle.cartridge_spec.specs.Code.{IsCodeBlock}
+use Rattle.cartridge_spec.specs.Says.{Saying, Data, LostSectors, data_of, unreadable_count}
+use Rattle.cartridge_spec.specs.Says as saying
+use Rattle.cartridge_spec.specs.Shape.{usable_count}
+use Rattle.command_spec.specs.Scrub.{Looked, cells_at, reads}
+use Rattle.command_spec.specs.ScrubForms.{Finding, Finds, MayFind, without, wrong_line}
+use Rattle.command_spec.specs.declared.depth.Depth.{Depth}
+use Rattle.cartridge_laws.specs.Writes.{named_writes}
+use Rattle.qic_base.specs.Acts.{Act, Outside, TapeFails, SinkFails, Went, Cut}
+use Rattle.qic_base.specs.Acts.{no_source}
+use Rattle.qic_base.specs.Cartridge.{Cartridge}
+use Rattle.qic_base.specs.Sink as sinks
+use Rattle.qic_base.specs.Tape as tapes
+use Rattle.qic_base.specs.declared.tape.SectorView.{SectorView}
+use Rattle.segment_io.specs.Gathered.{NamesUnreadable}
+use Rattle.segment_mending.specs.declared.fault.ScrubFault.{ScrubFault}
+use Rattle.segment_mending.specs.declared.fault.ScrubFault.TheVariants as cuts
+use Rattle.segment_mending.specs.declared.locating.Found.{Found}
+use Rattle.segment_mending.specs.declared.locating.Found.TheVariants.{Reads, Fails}
+use Rattle.segment_mending.specs.declared.locating.Unread.{Unread}
+use Rattle.segment_mending.specs.declared.locating.Unread.TheVariants.{NoHeader, Lost, Mismatch}
+use Rattle.silent_locate.specs.Deep as deep
+use Rattle.silent_locate.specs.declared.Located.{Located}
+use Rattle.silent_locate.specs.declared.Located.TheVariants.{Agrees, Wrong}
+use Rattle.silent_locate.specs.declared.LocateFault.{LocateFault}
+use Rattle.silent_locate.specs.declared.LocateFault.TheVariants as fault
+
+-- ---- the cells alone
+
+-- The answer is what the cells are found to be: a block is left, and perhaps a place where another sector was read, or
+-- there is no such block.
+abbrev pub Locates : (cells : List SectorView) (block : List (List ℕ)) → Result Located LocateFault → Type 0
+Locates cells block (Ok Agrees) = deep.Deep cells block None
+Locates cells block (Ok (Wrong place)) = deep.Deep cells block (Some place)
+Locates cells block (Err (fault.TooMany n)) = (unreadable_count cells ≡ n) × (3 < n)
+Locates cells block (Err fault.Mismatch) = (unreadable_count cells ≤ 3) × deep.HasNoReading cells
+
+-- ---- a segment, of which the block stands at the first places of a workspace
+
+-- it says the block's data
+abbrev pub data_in : Looked → (sectors : List (List ℕ)) → Saying
+data_in l sectors = Data (data_of (take (usable_count l.mask) sectors))
+
+-- what one says that does not read
+abbrev pub unread_saying : Looked → Unread → (sectors : List (List ℕ)) → Saying
+unread_saying l NoHeader sectors = data_in l sectors
+unread_saying l (Lost n) sectors = LostSectors n
+unread_saying l Mismatch sectors = saying.Mismatch
+
+abbrev pub finding_of : Looked → Found → (sectors : List (List ℕ)) → Finding
+finding_of l (Reads places wrong) sectors = record { saying = data_in l sectors; wrong = wrong }
+finding_of l (Fails why) sectors = record { saying = unread_saying l why sectors; wrong = None }
+
+-- the places to be written are those of the sectors that can't be read, with the wrong one among them
+abbrev pub NamesPlaces : Cartridge → Looked → Found → Type 0
+NamesPlaces c l (Reads places wrong) = NamesUnreadable (cells_at (without wrong l c) l) places
+NamesPlaces c l (Fails why) = Unit {0}
+
+-- this is found of a segment of a cartridge
+pub record IsFound (depth : Depth) (c : Cartridge) (l : Looked) (found : Found) (sectors : List (List ℕ)) : Type 0 where
+  pub finds : Finds depth c l (finding_of l found sectors)
+  pub places : NamesPlaces c l found
+
+-- ---- whatever the tape holds
+
+-- the sectors at these places may be written
+pub record MayMend (depth : Depth) (l : Looked) (places : ℕ) (wrong : Option ℕ) (sectors : List (List ℕ)) : Type 0 where
+  pub within : places < 2 ^ usable_count l.mask
+  pub code : IsCodeBlock (take (usable_count l.mask) sectors)
+  pub can_be_read : reads l (data_in l sectors) ≡ true
+  pub may : MayFind depth l (data_in l sectors) wrong
+
+-- this may be found of a segment
+abbrev pub MayBe : Depth → Looked → Found → (sectors : List (List ℕ)) → Type 0
+MayBe depth l (Reads places wrong) sectors = MayMend depth l places wrong sectors
+MayBe depth l (Fails why) sectors = reads l (unread_saying l why sectors) ≡ false
+
+-- ---- what is done
+
+-- the writes to these places, and behind them the line of a wrong sector
+abbrev pub mending : Looked → (places : ℕ) → (wrong : Option ℕ) → (sectors : List (List ℕ)) → Act
+mending l places wrong sectors = record { steps = named_writes l.segment l.mask places sectors; text = wrong_line l.segment wrong }
+
+-- an act went, or a fault cut it off
+abbrev pub GoesAs : {T K : Type 0} (t : tapes.Meaning T) (k : sinks.Meaning K) (act : Act) (old new : Outside T (Unit {0}) K) → Result (Unit {0}) ScrubFault → Type 0
+GoesAs t k act old new (Ok done) = Went t no_source k old new (act ∷ [])
+GoesAs t k act old new (Err cuts.Sink) = Cut t no_source k old new (act ∷ []) SinkFails
+GoesAs t k act old new (Err cuts.Tape) = Cut t no_source k old new (act ∷ []) TapeFails

@@ -1,0 +1,272 @@
+//! One segment read, and what is found of it.
+
+ghost use Rattle.std.specs.Prelude.{◌≡◌, ◌≢◌, ◌<◌, ◌≤◌, ◌^◌, ℕ, [], length, take, slice_index, Some, None, IfOk, IsOkUnless};
+ghost use Rattle.qic_base.specs.Cartridge.{Cartridge};
+ghost use Rattle.qic_base.specs.Tape.{Does, Tells};
+ghost use Rattle.cartridge_laws.specs.Shape.{Carries};
+ghost use Rattle.cartridge_spec.specs.Code.{IsCodeBlock};
+ghost use Rattle.cartridge_spec.specs.Header.{has_signature};
+ghost use Rattle.cartridge_spec.specs.Says.{cells_of, data_of, whole_mask};
+ghost use Rattle.cartridge_spec.specs.Shape.{usable_count, usable_places};
+ghost use Rattle.command_spec.specs.Scrub.{reads};
+ghost use Rattle.command_spec.specs.declared.depth.Depth.{Depth};
+ghost use Rattle.command_spec.specs.declared.depth.Depth.TheVariants as depths;
+ghost use Rattle.host_driver.specs.Calls.{IsReady, MayWrite, Keeps};
+ghost use Rattle.segment_io.specs.Calls.{HasSegment};
+ghost use Rattle.segment_io.specs.Gathered.{Gathered, NamesUnreadable};
+ghost use Rattle.silent_locate.specs.Deep as deep;
+ghost use Rattle.segment_mending.specs.Locating.{Locates, data_in, IsFound, MayBe};
+
+use crate::fault::ScrubFault;
+use crate::{HEADER_COPIES, TABLE_SEGMENT};
+use command_spec::Depth;
+use drive_states::Unit;
+use host_driver::Host;
+use qic_base::{LostSet, Tape, read_u32};
+use segment_io::{SegFault, Workspace, collect, read_segment};
+use silent_locate::{LocateFault, Located, locate, with_place};
+
+const SECTOR: usize = 1024;
+/// Sectors a segment.
+const SECTORS: u8 = 32;
+/// What a header's data begin with (Linux ftape headers).
+const SIGNATURE: u32 = 0xAA55_AA55;
+
+/// What is found of a segment.
+#[derive(Clone, Copy)]
+pub(crate) enum Found {
+    /// It reads: the places to be written, and among them the sector with this index, which can be read and is wrong.
+    Reads {
+        places: LostSet,
+        wrong: Option<u8>,
+    },
+    /// It does not.
+    Fails(Unread),
+}
+
+/// Why a segment does not read.
+#[derive(Clone, Copy)]
+pub(crate) enum Unread {
+    /// A header copy's data begin with no header's signature.
+    NoHeader,
+    /// So many usable sectors can't be read, more than three.
+    Lost(u8),
+    /// No code block agrees with those that can.
+    Mismatch,
+}
+
+/// Reads a segment, and makes the first sectors of the workspace its block where it has one. A wrong sector is looked for
+/// where the form is deep and the segment isn't that of the volume table.
+pub(crate) fn find_in_segment<T: Tape>(
+    host: &mut Host,
+    unit: &mut Unit<T>,
+    depth: Depth,
+    segment: u32,
+    usable: u32,
+    work: &mut Workspace,
+) -> Result<Found, ScrubFault>
+    requires ready { IsReady T.means host.old unit.old }
+    requires segment { HasSegment unit.old.drive.deck segment usable }
+    requires writable { MayWrite unit.old.drive.deck }
+    requires whole { segment < 2 → usable ≡ whole_mask }
+    ensures did { Does T.means unit.old.tape unit.new.tape [] result }
+    ensures fault { IsOkUnless result ScrubFault.Tape }
+    ensures found { IfOk result (λ found. Tells T.means unit.old.tape (λ c.
+        IsFound depth c (record { segment = segment; mask = usable }) found work.new)) }
+    // And where the tape tells nothing:
+    ensures may { IfOk result (λ found.
+        MayBe depth (record { segment = segment; mask = usable }) found work.new) }
+    ensures room { length work.new ≡ 32 }
+    ensures keeps { Keeps T.means host.new unit.old unit.new }
+{
+    match depth {
+        Depth::Deep if segment != TABLE_SEGMENT => find_deep(host, unit, segment, usable, work),
+        Depth::Deep | Depth::Shallow => find_shallow(host, unit, segment, usable, work),
+    }
+}
+
+/// As `find_in_segment`, without looking for a wrong sector.
+fn find_shallow<T: Tape>(
+    host: &mut Host,
+    unit: &mut Unit<T>,
+    segment: u32,
+    usable: u32,
+    work: &mut Workspace,
+) -> Result<Found, ScrubFault>
+    requires ready { IsReady T.means host.old unit.old }
+    requires segment { HasSegment unit.old.drive.deck segment usable }
+    requires writable { MayWrite unit.old.drive.deck }
+    requires whole { segment < 2 → usable ≡ whole_mask }
+    ensures did { Does T.means unit.old.tape unit.new.tape [] result }
+    ensures fault { IsOkUnless result ScrubFault.Tape }
+    ensures found { IfOk result (λ found. Tells T.means unit.old.tape (λ c.
+        IsFound depths.Shallow c (record { segment = segment; mask = usable }) found work.new)) }
+    ensures may { IfOk result (λ found.
+        MayBe depths.Shallow (record { segment = segment; mask = usable }) found work.new) }
+    ensures room { length work.new ≡ 32 }
+    ensures keeps { Keeps T.means host.new unit.old unit.new }
+{
+    match read_segment(host, unit, segment, usable, work) {
+        Ok(lost) => Ok(found_block(segment, usable, lost, work)),
+        Err(SegFault::Lost { lost, .. }) => Ok(Found::Fails(Unread::Lost(lost))),
+        Err(SegFault::Mismatch { .. }) => Ok(Found::Fails(Unread::Mismatch)),
+        Err(SegFault::Tape) => Err(ScrubFault::Tape),
+    }
+}
+
+/// As `find_in_segment`, with a look for a wrong sector.
+fn find_deep<T: Tape>(
+    host: &mut Host,
+    unit: &mut Unit<T>,
+    segment: u32,
+    usable: u32,
+    work: &mut Workspace,
+) -> Result<Found, ScrubFault>
+    requires ready { IsReady T.means host.old unit.old }
+    requires segment { HasSegment unit.old.drive.deck segment usable }
+    requires writable { MayWrite unit.old.drive.deck }
+    requires whole { segment < 2 → usable ≡ whole_mask }
+    requires searched { segment ≢ 2 }
+    ensures did { Does T.means unit.old.tape unit.new.tape [] result }
+    ensures fault { IsOkUnless result ScrubFault.Tape }
+    ensures found { IfOk result (λ found. Tells T.means unit.old.tape (λ c.
+        IsFound depths.Deep c (record { segment = segment; mask = usable }) found work.new)) }
+    ensures may { IfOk result (λ found.
+        MayBe depths.Deep (record { segment = segment; mask = usable }) found work.new) }
+    ensures room { length work.new ≡ 32 }
+    ensures keeps { Keeps T.means host.new unit.old unit.new }
+{
+    match collect(host, unit, segment, usable, work) {
+        Ok(lost) => Ok(locate_collected(segment, usable, lost, work)),
+        Err(_) => Err(ScrubFault::Tape),
+    }
+}
+
+/// Finds the block and the wrong sector of a collected segment.
+fn locate_collected(segment: u32, usable: u32, lost: LostSet, work: &mut Workspace) -> Found
+    requires carries { Carries usable }
+    requires within { lost < 2 ^ usable_count usable }
+    requires whole { segment < 2 → usable ≡ whole_mask }
+    requires searched { segment ≢ 2 }
+    // What the segment's cells say, of which these sectors were gathered.
+    ensures found { (c : Cartridge) → Gathered (cells_of c segment usable) lost work.old →
+        IsFound depths.Deep c (record { segment = segment; mask = usable }) result work.new }
+    // And where nothing is known of the cells:
+    ensures may { MayBe depths.Deep (record { segment = segment; mask = usable }) result work.new }
+    ensures room { length work.new ≡ 32 }
+{
+    match locate_in(usable, lost, work) {
+        Ok(Located::Agrees) => found_block(segment, usable, lost, work),
+        Ok(Located::Wrong { place }) => found_wrong(segment, usable, lost, place, work),
+        Err(LocateFault::TooMany { lost }) => Found::Fails(Unread::Lost(lost)),
+        Err(LocateFault::Mismatch) => Found::Fails(Unread::Mismatch),
+    }
+}
+
+/// Locates among the first sectors of a workspace, as many as are usable.
+fn locate_in(usable: u32, lost: LostSet, work: &mut Workspace) -> Result<Located, LocateFault>
+    requires carries { Carries usable }
+    ensures locates { Locates (deep.cells_without lost (take (usable_count usable) work.old))
+        (take (usable_count usable) work.new) result }
+    ensures old { length work.old ≡ 32 }
+    ensures room { length work.new ≡ 32 }
+{
+    let count = LostSet::from_mask(usable).count();
+    locate_first(work.sectors_mut(), count, lost)
+}
+
+/// Locates among the first 4 to 32 sectors.
+fn locate_first(
+    sectors: &mut [[u8; SECTOR]],
+    count: u8,
+    lost: LostSet,
+) -> Result<Located, LocateFault>
+    requires least { 4 ≤ count }
+    requires most { count ≤ 32 }
+    requires room { count ≤ length sectors.old }
+    ensures locates { Locates (deep.cells_without lost (take count sectors.old))
+        (take count sectors.new) result }
+    ensures size { length sectors.new ≡ length sectors.old }
+{
+    locate(&mut sectors[..count as usize], lost)
+}
+
+/// What is found of a segment whose block stands in the workspace, where all sectors that could be read agree with it.
+fn found_block(segment: u32, usable: u32, lost: LostSet, work: &Workspace) -> Found
+    requires room { length work.now ≡ 32 }
+    requires whole { segment < 2 → usable ≡ whole_mask }
+    requires within { lost < 2 ^ usable_count usable }
+    requires code { IsCodeBlock (take (usable_count usable) work.now) }
+    ensures found { (depth : Depth) (c : Cartridge) → NamesUnreadable (cells_of c segment usable) lost →
+        deep.Deep (cells_of c segment usable) (take (usable_count usable) work.now) None →
+        IsFound depth c (record { segment = segment; mask = usable }) result work.now }
+    ensures may { (depth : Depth) → MayBe depth (record { segment = segment; mask = usable }) result work.now }
+{
+    if can_be_read(segment, work) {
+        Found::Reads {
+            places: lost,
+            wrong: None,
+        }
+    } else {
+        Found::Fails(Unread::NoHeader)
+    }
+}
+
+/// What is found of a segment whose block stands in the workspace, where the sector at one place could be read and does
+/// not agree with it. A header copy is no such segment where the block begins with no header's signature.
+fn found_wrong(segment: u32, usable: u32, lost: LostSet, place: u8, work: &Workspace) -> Found
+    requires room { length work.now ≡ 32 }
+    requires whole { segment < 2 → usable ≡ whole_mask }
+    requires searched { segment ≢ 2 }
+    requires within { lost < 2 ^ usable_count usable }
+    requires place { place < usable_count usable }
+    requires code { IsCodeBlock (take (usable_count usable) work.now) }
+    ensures found { (c : Cartridge) → NamesUnreadable (cells_of c segment usable) lost →
+        deep.Deep (cells_of c segment usable) (take (usable_count usable) work.now) (Some place) →
+        IsFound depths.Deep c (record { segment = segment; mask = usable }) result work.now }
+    ensures may { MayBe depths.Deep (record { segment = segment; mask = usable }) result work.now }
+{
+    if !can_be_read(segment, work) {
+        return Found::Fails(Unread::Mismatch);
+    }
+    Found::Reads {
+        places: with_place(lost, place),
+        wrong: Some(index_at(usable, place)),
+    }
+}
+
+/// Whether a segment whose block stands in the workspace reads: a header copy does where the block begins with a header's
+/// signature.
+fn can_be_read(segment: u32, work: &Workspace) -> bool
+    requires room { length work.now ≡ 32 }
+    ensures { (usable : ℕ) → (segment < 2 → usable ≡ whole_mask) →
+        reads (record { segment = segment; mask = usable })
+            (data_in (record { segment = segment; mask = usable }) work.now) ≡ result }
+{
+    segment >= HEADER_COPIES || is_header(work)
+}
+
+/// Whether the data of a header copy, which was read and solved, begin with a header's signature.
+fn is_header(work: &Workspace) -> bool
+    requires { length work.now ≡ 32 }
+    ensures { result ≡ has_signature (data_of (take 32 work.now)) }
+{
+    read_u32(&work.sectors()[0], 0) == SIGNATURE
+}
+
+/// The index in its segment of the usable sector at a place.
+fn index_at(usable: u32, place: u8) -> u8
+    requires { place < usable_count usable }
+    ensures { result ≡ slice_index (usable_places usable) place }
+{
+    let mut before = 0;
+    for index in 0..SECTORS {
+        if LostSet::from_mask(usable).contains(index) {
+            if before == place {
+                return index;
+            }
+            before += 1;
+        }
+    }
+    unreachable!("the segment has that many usable sectors")
+}

@@ -1,0 +1,3 @@
+pub mod Mounted
+pub mod Opened
+pub mod Started

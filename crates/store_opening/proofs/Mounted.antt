@@ -1,0 +1,81 @@
+-- How the opening of a cartridge ends, by how its mounting did.
+use Rattle.std.proofs.Common.{◌≡◌, ◌⊎◌, ℕ, List, [], true, Option, Some, None, IfSome, IsSomeAnd, Ok, Err, refl, inl, inr}
+use Rattle.drive_states.specs.Unit.{UnitView}
+use Rattle.qic_base.proofs.Steps.{Done-Done, Done-Broke}
+use Rattle.qic_base.specs.Cartridge.{Cartridge}
+use Rattle.qic_base.specs.Step.{Step as TapeStep}
+use Rattle.qic_base.specs.declared.tape.TapeInfo.{TapeInfo}
+use Rattle.store_opening.proofs.Started.{Knows, Present, told_known_beside, told_at_start}
+use Rattle.store_opening.specs.Opening.{IsOpened, IsTurnedDown, HasOpened, OpenFails, StartFails}
+use Rattle.store_opening.specs.declared.opening.OpenFault.{OpenFault}
+use Rattle.volume_store.specs.Finding.{is_of_mounting, NamesCause}
+use Rattle.volume_store.specs.Mounting.{StoreView, StoreFits, IsSettling, MountRefuses, MountDoes}
+use Rattle.volume_store.specs.declared.fault.StoreFault.{StoreFault}
+use Rattle.qic_base.specs.Tape as tapes
+use Rattle.store_opening.specs.declared.opening.OpenFault.TheVariants as open_fault
+use Rattle.volume_store.specs.Mounting as stores
+use Rattle.volume_store.specs.declared.fault.StoreFault.TheVariants as fault
+
+is_mounted : (info : TapeInfo) (store : StoreView) (steps : List TapeStep) (held : Option Cartridge) → Knows (Some info) held →
+    IfSome held (λ c. stores.Settles c store.header store.words store.entries steps) → IsSomeAnd held (λ c. IsOpened c store steps)
+is_mounted info store steps None known settles = cc
+is_mounted info store steps (Some c) known settles = settles
+
+is_settling : (info : TapeInfo) (steps : List TapeStep) (held : Option Cartridge) → Knows (Some info) held → IfSome held (λ c. (steps ≡ []) ⊎ IsSettling c steps) →
+    (steps ≡ []) ⊎ IsSomeAnd held (λ c. IsSettling c steps)
+is_settling info steps None known settling = cc
+is_settling info steps (Some c) known (inl none) = inl none
+is_settling info steps (Some c) known (inr settling) = inr settling
+
+is_refused : (info : TapeInfo) (f : StoreFault) (held : Option Cartridge) → Knows (Some info) held → IfSome held (λ c. MountRefuses c f) → IsSomeAnd held (λ c. MountRefuses c f)
+is_refused info f None known refuses = cc
+is_refused info f (Some c) known refuses = refuses
+
+nothing_begins : (told : Option (Option Cartridge)) → IfSome told (λ held. ([] ≡ []) ⊎ IsSomeAnd held (λ c. IsSettling c []))
+nothing_begins None = tt
+nothing_begins (Some h) = inl refl
+
+-- there was no start
+pub open_unstarted : {T : Type 0} (t : tapes.Meaning T) (a b : T) (why : OpenFault) → StartFails t a b why → OpenFails t a b why
+open_unstarted t a b open_fault.NoCartridge fails = fails
+open_unstarted t a b (open_fault.Refused fault.Tape) fails = record { steps = []; broke = fails; front = nothing_begins (t.told a) }
+open_unstarted t a b (open_fault.Refused f) fails = absurd fails
+
+pub open_shown : {T : Type 0} (t : tapes.Meaning T) (a b : T) (c : UnitView T) (info : TapeInfo) (store : StoreView) → Present t a b info → MountDoes t b c.tape (Ok store) → StoreFits t store c →
+    HasOpened t a c store
+open_shown t a b c info store there does fits = record {
+  steps = does.steps;
+  did = Done-Done there.did does.done;
+  told = told_known_beside (t.told a) (Some info) (λ d. stores.Settles d store.header store.words store.entries does.steps)
+      (λ h. IsSomeAnd h (λ d. IsOpened d store does.steps)) there.known
+      (told_at_start t a b there.did (λ d. stores.Settles d store.header store.words store.entries does.steps) does.told)
+      (λ held known settles. is_mounted info store does.steps held known settles);
+  fits = fits;
+}
+
+turned : {T : Type 0} (n : ℕ) (t : tapes.Meaning T) (a b : T) (c : UnitView T) (info : TapeInfo) (f : StoreFault) → Present t a b info → tapes.Done t b c.tape [] → tapes.Tells t b (λ d. MountRefuses d f) →
+    is_of_mounting f ≡ true → NamesCause {A = StoreView} n (Err f) → IsTurnedDown t a c.tape f
+turned n t a b c info f there did told kind cause = record {
+  did = Done-Done there.did did;
+  kind = kind;
+  segments = n;
+  cause = cause;
+  told = told_known_beside (t.told a) (Some info) (λ d. MountRefuses d f) (λ h. IsSomeAnd h (λ d. MountRefuses d f)) there.known
+      (told_at_start t a b there.did (λ d. MountRefuses d f) told) (λ held known refuses. is_refused info f held known refuses);
+}
+
+pub open_failed : {T : Type 0} (n : ℕ) (t : tapes.Meaning T) (a b : T) (c : UnitView T) (info : TapeInfo) (f : StoreFault) → Present t a b info → MountDoes t b c.tape (Err f) → is_of_mounting f ≡ true →
+    NamesCause {A = StoreView} n (Err f) → OpenFails t a c.tape (open_fault.Refused f)
+open_failed n t a b c info fault.NotFormatted there does kind cause = turned n t a b c info fault.NotFormatted there does.done does.told kind cause
+open_failed n t a b c info (fault.Foreign field value) there does kind cause = turned n t a b c info (fault.Foreign field value) there does.done does.told kind cause
+open_failed n t a b c info (fault.Lost segment lost) there does kind cause = turned n t a b c info (fault.Lost segment lost) there does.done does.told kind cause
+open_failed n t a b c info fault.TableMismatch there does kind cause = turned n t a b c info fault.TableMismatch there does.done does.told kind cause
+open_failed n t a b c info fault.Tape there does kind cause = record {
+  steps = does.steps;
+  broke = Done-Broke there.did does.broke;
+  front = told_known_beside (t.told a) (Some info) (λ d. (does.steps ≡ []) ⊎ IsSettling d does.steps)
+      (λ h. (does.steps ≡ []) ⊎ IsSomeAnd h (λ d. IsSettling d does.steps)) there.known
+      (told_at_start t a b there.did (λ d. (does.steps ≡ []) ⊎ IsSettling d does.steps) does.told)
+      (λ held known settling. is_settling info does.steps held known settling);
+}
+open_failed n t a b c info f there does kind cause = absurd (cc)

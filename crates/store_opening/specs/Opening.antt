@@ -1,0 +1,78 @@
+-- How the opening of a cartridge ends: refused, or with its table settled and what was found (this project's own).
+use Rattle.std.specs.Prelude.{◌≡◌, ℕ, List, [], ◌⊎◌, Option, None, IfSome, IsSomeAnd, Result, Ok, Err, true}
+use Rattle.drive_states.specs.Unit.{UnitView}
+use Rattle.host_driver.specs.Calls.{IsReady}
+use Rattle.host_driver.specs.Fits.{AgreesWithTape}
+use Rattle.host_driver.specs.Starts.{KnowsTold}
+use Rattle.host_driver.specs.declared.host.Host.{Host}
+use Rattle.qic_base.specs.Cartridge.{Cartridge}
+use Rattle.qic_base.specs.Step.{Step}
+use Rattle.qic_base.specs.Tape.{Meaning, Done, Broke}
+use Rattle.store_opening.specs.declared.opening.OpenFault.{OpenFault}
+use Rattle.store_opening.specs.declared.opening.OpenFault.TheVariants.{NoCartridge, Refused}
+use Rattle.volume_store.specs.Finding.{is_of_mounting, NamesCause}
+use Rattle.volume_store.specs.Mounting.{StoreView, StoreFits, IsSettling, MountRefuses, Settles}
+use Rattle.volume_store.specs.declared.fault.StoreFault.{StoreFault}
+use Rattle.volume_store.specs.declared.fault.StoreFault.TheVariants.{Tape}
+
+-- ---- the start
+
+-- a host was started on the cartridge, which the drive knows
+pub record HasStarted {T : Type 0} (m : Meaning T) (old new : UnitView T) (host : Host) : Type 0 where
+  pub did : Done m old.tape new.tape []
+  pub ready : IsReady m host new
+  pub known : KnowsTold m new
+  pub agrees : AgreesWithTape m new
+
+-- there is no cartridge
+abbrev pub IsAbsent : {T : Type 0} (m : Meaning T) (old new : T) → Type 0
+IsAbsent m old new = Done m old new [] × IfSome (m.told old) (λ held. held ≡ None)
+
+-- there is none, or a fault of the tape broke the insertion off
+abbrev pub StartFails : {T : Type 0} (m : Meaning T) (old new : T) → OpenFault → Type 0
+StartFails m old new NoCartridge = IsAbsent m old new
+StartFails m old new (Refused Tape) = Broke m old new []
+StartFails m old new (Refused other) = ⊥
+
+-- how the start of a host on what a drive holds ended
+abbrev pub StartEnds : {T : Type 0} (m : Meaning T) (old new : UnitView T) → Result Host OpenFault → Type 0
+StartEnds m old new (Ok host) = HasStarted m old new host
+StartEnds m old new (Err fault) = StartFails m old.tape new.tape fault
+
+-- ---- the opening
+
+-- the cartridge is mounted as the store shows it, and these steps settle it
+abbrev pub IsOpened : Cartridge → StoreView → (steps : List Step) → Type 0
+IsOpened c store steps = Settles c store.header store.words store.entries steps
+
+-- The cartridge was opened, by these steps.
+pub record HasOpened {T : Type 0} (m : Meaning T) (old : T) (new : UnitView T) (store : StoreView) : Type 0 where
+  pub steps : List Step
+  pub did : Done m old new.tape steps
+  pub told : IfSome (m.told old) (λ held. IsSomeAnd held (λ c. IsOpened c store steps))
+  pub fits : StoreFits m store new
+
+-- There is one whose mounting is refused so, and nothing was written. The cause is named by a drive with so many segments
+-- per track.
+pub record IsTurnedDown {T : Type 0} (m : Meaning T) (old new : T) (fault : StoreFault) : Type 0 where
+  pub did : Done m old new []
+  pub kind : is_of_mounting fault ≡ true
+  pub segments : ℕ
+  pub cause : NamesCause {A = StoreView} segments (Err fault)
+  pub told : IfSome (m.told old) (λ held. IsSomeAnd held (λ c. MountRefuses c fault))
+
+-- A fault of the tape broke a front of its steps off.
+pub record IsCutOff {T : Type 0} (m : Meaning T) (old new : T) : Type 0 where
+  pub steps : List Step
+  pub broke : Broke m old new steps
+  pub front : IfSome (m.told old) (λ held. (steps ≡ []) ⊎ IsSomeAnd held (λ c. IsSettling c steps))
+
+abbrev pub OpenFails : {T : Type 0} (m : Meaning T) (old new : T) → OpenFault → Type 0
+OpenFails m old new NoCartridge = IsAbsent m old new
+OpenFails m old new (Refused Tape) = IsCutOff m old new
+OpenFails m old new (Refused fault) = IsTurnedDown m old new fault
+
+-- how the opening of what a drive holds ended
+abbrev pub OpenEnds : {T : Type 0} (m : Meaning T) (old : T) (new : UnitView T) → Result StoreView OpenFault → Type 0
+OpenEnds m old new (Ok store) = HasOpened m old new store
+OpenEnds m old new (Err fault) = OpenFails m old new.tape fault
