@@ -26,9 +26,10 @@ pub mod CommandValues
 pub mod CommandVolumes
 pub mod DeepScrubEnds
 pub mod DeepScrubKept
-pub mod CopyOnce
-pub mod CopyLeaving
+pub mod CopyComplete
 pub mod CopyGoing
+pub mod CopyLeaving
+pub mod CopyOnce
 pub mod CopyOutcomes
 pub mod CopyStanding
 pub mod CopyValues

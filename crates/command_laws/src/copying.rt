@@ -1,7 +1,7 @@
 //! What a copy onto another cartridge comes to. Each law is the contract of a function that does nothing, so that other
 //! crates can rest on it; their proofs import the lemmas of this crate's `proofs`.
 
-ghost use Rattle.command_laws.specs.CopyLaws.{CopiesOneThing, CopiesSomething, CopyGoesOn, DoneCopyStands, StoppedCopyStands, StoppedSourceStands};
+ghost use Rattle.command_laws.specs.CopyLaws.{CopiesOneThing, CopiesSomething, CopyGoesOn, CopyWithRoomIsDone, DoneCopyStands, StoppedCopyStands, StoppedSourceStands};
 
 /// A copy has one status and prints one text.
 pub fn a_copy_is_one()
@@ -26,4 +26,10 @@ pub fn a_copy_adds_the_missing_volumes()
 /// stop.
 pub fn a_copy_goes_on()
     ensures { CopyGoesOn }
+{}
+
+/// A copy is Done where each missing volume has room, each of its segments that holds some of its bytes has at most three
+/// unreadable sectors, both volume tables can be read, and the target takes writes.
+pub fn a_copy_with_room_is_done()
+    ensures { CopyWithRoomIsDone }
 {}

@@ -14,20 +14,16 @@ use Rattle.command_laws.proofs.ScrubOneWrong.{IsPlace, wrong_place, cell_unworn,
 use Rattle.command_laws.proofs.ScrubSeen.{worn_here, worn_elsewhere}
 use Rattle.command_laws.proofs.ScrubStanding.{cell_at, same_place}
 use Rattle.command_spec.specs.Scrub.{Looked, cells_at, reads}
-use Rattle.command_spec.specs.ScrubForms.{IsSearched, IsWrong, HasFound, MayFind}
+use Rattle.command_spec.specs.ScrubForms.{IsSearched, IsWrong, HasFound}
 use Rattle.command_spec.specs.declared.depth.Depth.{Depth}
-use Rattle.command_spec.specs.declared.depth.Depth.TheVariants as depths
 use Rattle.qic_base.specs.Cartridge.{Cartridge, view_at}
 use Rattle.qic_base.specs.LostSet.{IsLost}
 use Rattle.qic_base.specs.Step.{worn_view}
 use Rattle.qic_base.specs.declared.tape.SectorView.{SectorView}
 use Rattle.qic_base.specs.declared.tape.SectorView.TheVariants.{Blank, Defect, Lost, Holds}
 use Rattle.segment_io.specs.Gathered.{IsUnreadableAt, NamesUnreadable}
-use Rattle.segment_mending.specs.Locating.{data_in, IsFound, MayMend, MayBe}
-use Rattle.segment_mending.specs.declared.locating.Found.{Found}
-use Rattle.segment_mending.specs.declared.locating.Found.TheVariants.{Reads, Fails}
 use Rattle.silent_locate.proofs.Readings.{one_deep_reading}
-use Rattle.silent_locate.specs.Deep.{IsWrongAt, Deep, HasNoReading}
+use Rattle.silent_locate.specs.Deep.{Deep, HasNoReading}
 
 -- the index of the usable sector at a place
 abbrev pub index_at : Looked → ℕ → ℕ
@@ -52,18 +48,21 @@ wrong_of_deep c l place block within deep can =
       index = refl;
       mismatch = (omega arith, deep.none_agrees);
       few = few;
-      says = (omega arith, record {
-        block = block;
-        code = deep.code;
-        agrees = record {
-          size = deep.agrees.size ∙ size_of_worn c d l;
-          each = λ i bytes at. elim (cases_eq i place) [
-            | inl same ↦ absurd (cell_worn c l place sector bytes here (subst (λ (p : ℕ). slice_get (cells_at d l) p ≡ Some (Holds bytes)) same at))
-            | inr apart ↦ deep.agrees.each i bytes apart (held_before c d l.segment l.mask i bytes (worn_reads_no_more c l.segment sector) at)
-          ];
-        };
-        shown = refl;
-      });
+      says = (
+        omega arith,
+        record {
+          block = block;
+          code = deep.code;
+          agrees = record {
+            size = deep.agrees.size ∙ size_of_worn c d l;
+            each = λ i bytes at. elim (cases_eq i place) [
+              | inl same ↦ absurd (cell_worn c l place sector bytes here (subst (λ (p : ℕ). slice_get (cells_at d l) p ≡ Some (Holds bytes)) same at))
+              | inr apart ↦ deep.agrees.each i bytes apart (held_before c d l.segment l.mask i bytes (worn_reads_no_more c l.segment sector) at)
+            ];
+          };
+          shown = refl;
+        },
+      );
       can_be_read = can;
     }
 

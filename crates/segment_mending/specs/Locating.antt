@@ -29,8 +29,8 @@ use Rattle.silent_locate.specs.declared.LocateFault.TheVariants as fault
 
 -- ---- the cells alone
 
--- The answer is what the cells are found to be: a block is left, and perhaps a place where another sector was read, or
--- there is no such block.
+-- The answer is what the cells are found to be: a block is left, and perhaps the place of a cell that does not agree with
+-- it, or there is no such block.
 abbrev pub Locates : (cells : List SectorView) (block : List (List ℕ)) → Result Located LocateFault → Type 0
 Locates cells block (Ok Agrees) = deep.Deep cells block None
 Locates cells block (Ok (Wrong place)) = deep.Deep cells block (Some place)

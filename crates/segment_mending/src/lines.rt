@@ -16,9 +16,9 @@ use tape_script::TextLine;
 pub(crate) fn unread_text(segment: u32, why: Unread) -> TextLine
     ensures { (usable : ℕ) (sectors : List (List ℕ)) →
         reads (record { segment = segment; mask = usable })
-            (unread_saying (record { segment = segment; mask = usable }) why sectors) ≡ false →
+        (unread_saying (record { segment = segment; mask = usable }) why sectors) ≡ false →
         result ≡ line_in (record { segment = segment; mask = usable })
-            (unread_saying (record { segment = segment; mask = usable }) why sectors) }
+        (unread_saying (record { segment = segment; mask = usable }) why sectors) }
 {
     match why {
         _ if segment < HEADER_COPIES => header_text(segment),

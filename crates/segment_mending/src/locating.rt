@@ -36,10 +36,7 @@ const SIGNATURE: u32 = 0xAA55_AA55;
 #[derive(Clone, Copy)]
 pub(crate) enum Found {
     /// It reads: the places to be written, and among them the sector with this index, which can be read and is wrong.
-    Reads {
-        places: LostSet,
-        wrong: Option<u8>,
-    },
+    Reads { places: LostSet, wrong: Option<u8> },
     /// It does not.
     Fails(Unread),
 }
@@ -197,10 +194,12 @@ fn found_block(segment: u32, usable: u32, lost: LostSet, work: &Workspace) -> Fo
     requires whole { segment < 2 → usable ≡ whole_mask }
     requires within { lost < 2 ^ usable_count usable }
     requires code { IsCodeBlock (take (usable_count usable) work.now) }
-    ensures found { (depth : Depth) (c : Cartridge) → NamesUnreadable (cells_of c segment usable) lost →
+    ensures found { (depth : Depth) (c : Cartridge) →
+        NamesUnreadable (cells_of c segment usable) lost →
         deep.Deep (cells_of c segment usable) (take (usable_count usable) work.now) None →
         IsFound depth c (record { segment = segment; mask = usable }) result work.now }
-    ensures may { (depth : Depth) → MayBe depth (record { segment = segment; mask = usable }) result work.now }
+    ensures may { (depth : Depth) →
+        MayBe depth (record { segment = segment; mask = usable }) result work.now }
 {
     if can_be_read(segment, work) {
         Found::Reads {
@@ -241,7 +240,7 @@ fn can_be_read(segment: u32, work: &Workspace) -> bool
     requires room { length work.now ≡ 32 }
     ensures { (usable : ℕ) → (segment < 2 → usable ≡ whole_mask) →
         reads (record { segment = segment; mask = usable })
-            (data_in (record { segment = segment; mask = usable }) work.now) ≡ result }
+        (data_in (record { segment = segment; mask = usable }) work.now) ≡ result }
 {
     segment >= HEADER_COPIES || is_header(work)
 }

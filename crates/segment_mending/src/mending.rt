@@ -50,11 +50,7 @@ fn write_lost<T: Tape>(
 }
 
 /// Prints the line of the sector with this index, where one is wrong.
-fn tell_wrong<K: Sink>(
-    segment: u32,
-    wrong: Option<u8>,
-    sink: &mut K,
-) -> Result<(), ScrubFault>
+fn tell_wrong<K: Sink>(segment: u32, wrong: Option<u8>, sink: &mut K) -> Result<(), ScrubFault>
     ensures wrote { Writes K.means sink.old sink.new (wrong_line segment wrong) result }
     ensures fault { IsOkUnless result ScrubFault.Sink }
 {

@@ -10,12 +10,12 @@ ghost use Rattle.command_spec.specs.Scrub.{whole_segment};
 ghost use Rattle.segment_mending.specs.Looking.{HasFew, Looks};
 ghost use Rattle.segment_mending.specs.Mending.{ScrubEnds, reported};
 
-use crate::WHOLE;
 use crate::fault::ScrubFault;
 use crate::lines::counts_text;
 use crate::looking::{look_at_copy, look_at_segment};
 use crate::report::ScrubReport;
 use crate::volumes::look_at_volumes;
+use crate::{TABLE_SEGMENT, WHOLE};
 use bad_sector_map::BadMap;
 use command_spec::Depth;
 use drive_states::Unit;
@@ -24,9 +24,6 @@ use qic_base::{Sink, SinkFailed, Tape};
 use segment_io::Workspace;
 use tape_script::write_text;
 use volume_table::Table;
-
-/// The segment of the volume table.
-const TABLE_SEGMENT: u32 = 2;
 
 /// Looks at both header copies and the table's segment.
 fn look_at_front<T: Tape, K: Sink>(

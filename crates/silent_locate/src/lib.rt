@@ -9,10 +9,9 @@ pub mod laws;
 mod places;
 mod tries;
 
-pub use places::with_place;
-
 use erasure_solve::{SolveFault, solve};
 use places::lost_among;
+pub use places::with_place;
 use qic_base::LostSet;
 use thiserror::Error;
 use tries::mend_one;

@@ -1,4 +1,4 @@
-use Rattle.std.proofs.Common.{◌≡◌, ℕ, ◌<◌, Bool, true, cond, List, ap, arith, sym, take, ◌∙◌}
+use Rattle.std.proofs.Common.{ℕ, ◌<◌, Bool, true, cond, List, ap, arith, sym, take, ◌∙◌}
 use Rattle.std.proofs.lemmas.Bool.{lt-ltb}
 use Rattle.cartridge_laws.proofs.Segments.{count_of_whole}
 use Rattle.cartridge_spec.specs.Header.{has_signature}

@@ -1,4 +1,3 @@
-use Rattle.std.proofs.Common.{ℕ}
 use Rattle.cartridge_spec.specs.Says.{cells_of}
 use Rattle.command_spec.specs.Scrub.{Looked}
 use Rattle.command_spec.specs.declared.depth.Depth.TheVariants as depths

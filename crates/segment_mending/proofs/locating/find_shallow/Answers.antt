@@ -1,4 +1,4 @@
-use Rattle.std.proofs.Common.{◌≡◌, ℕ, List, subst, take}
+use Rattle.std.proofs.Common.{ℕ, List, subst, take}
 use Rattle.cartridge_laws.proofs.Segments.{count_of_cells}
 use Rattle.cartridge_spec.specs.Says.{Agrees, cells_of}
 use Rattle.cartridge_spec.specs.Shape.{usable_count}

@@ -1,7 +1,6 @@
-use Rattle.std.proofs.Common.{◌≡◌, ℕ, List, take, true, false}
+use Rattle.std.proofs.Common.{take}
 use Rattle.cartridge_spec.specs.Shape.{usable_count}
-use Rattle.command_spec.specs.Scrub.{Looked, reads}
-use Rattle.segment_mending.specs.Locating.{data_in}
+use Rattle.command_spec.specs.Scrub.{Looked}
 use Rattle.segment_mending.proofs.Finding.{found_right}
 use Rattle.segment_mending.proofs.locating.found_block.Goals as goal
 

@@ -1,4 +1,4 @@
-use Rattle.std.proofs.Common.{◌≡◌, ℕ, ◌++◌, ◌≤◌, List, ap, arith, drop, length, subst, sym, take, ◌∙◌}
+use Rattle.std.proofs.Common.{◌≡◌, ℕ, List, ap, arith, length, subst, sym, take, ◌∙◌}
 use Rattle.cartridge_laws.proofs.Places.{count_below}
 use Rattle.cartridge_spec.specs.Shape.{usable_count}
 use Rattle.segment_mending.specs.Locating.{Locates}
