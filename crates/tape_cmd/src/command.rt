@@ -21,7 +21,7 @@ use crate::restore::restore;
 use crate::room::Memory;
 use store_opening::Room;
 use crate::script::script;
-use crate::scrub::scrub;
+use crate::scrub::{scrub, scrub_deep};
 use crate::upgrade::upgrade;
 use bad_sector_map::BadMap;
 use drive_states::Unit;
@@ -71,6 +71,7 @@ fn carry_out<M: Memory + Drop, T: Tape, S: Source, K: Sink>(
         Words::List => Ok(list(unit, memory.room()?, sink)),
         Words::Restore { number } => Ok(restore(unit, memory.room()?, number, sink)),
         Words::Scrub => Ok(scrub(unit, memory.room()?, sink)),
+        Words::ScrubDeep => Ok(scrub_deep(unit, memory.room()?, sink)),
         Words::Pulses => Ok(pulses(unit, source, sink)),
         Words::Script => Ok(script(unit, memory.room()?, source, sink)),
         Words::Make { seed, count } => Ok(make(unit, memory.room()?, seed, count, sink)),

@@ -1,7 +1,7 @@
 use Rattle.std.proofs.Common.{◌≡◌, false, refl, rules}
 use Rattle.command_spec.specs.Commands.{traits_of}
 use Rattle.command_spec.specs.Runs.{EndsBlind}
-use Rattle.command_spec.specs.declared.words.Words.TheVariants.{New, Defect, Lose, Protect, Format, Info, List, Restore, Scrub, Make, Upgrade}
+use Rattle.command_spec.specs.declared.words.Words.TheVariants.{New, Defect, Lose, Protect, Format, Info, List, Restore, Scrub, ScrubDeep, Make, Upgrade}
 use Rattle.command_laws.proofs.CommandPromises.{ends_over}
 use Rattle.tape_cmd.proofs.command.carry_out.Goals as goal
 
@@ -51,6 +51,11 @@ pub returns-in_ok-room-in-Scrub-clause-ends : goal.returns-in_ok-room-in-Scrub-c
 returns-in_ok-room-in-Scrub-clause-ends g c =
     rw c.in-Scrub.is (ends_over g.T.Tape.means g.S.Source.means g.K.Sink.means Scrub
     c.args.unit.now.tape c.scrub.new.unit.tape c.args.source.now c.args.sink.now c.scrub.new.sink c.scrub.result refl c.scrub.ensures)
+
+pub returns-in_ok-room-in-ScrubDeep-clause-ends : goal.returns-in_ok-room-in-ScrubDeep-clause-ends
+returns-in_ok-room-in-ScrubDeep-clause-ends g c =
+    rw c.in-ScrubDeep.is (ends_over g.T.Tape.means g.S.Source.means g.K.Sink.means ScrubDeep
+    c.args.unit.now.tape c.scrub_deep.new.unit.tape c.args.source.now c.args.sink.now c.scrub_deep.new.sink c.scrub_deep.result refl c.scrub_deep.ensures)
 
 pub returns-in_ok-room-in-Make-clause-ends : goal.returns-in_ok-room-in-Make-clause-ends
 returns-in_ok-room-in-Make-clause-ends g c =
