@@ -6,28 +6,29 @@ ghost use Rattle.command_spec.specs.Promises.{Promises};
 ghost use Rattle.command_spec.specs.Commands.{traits_of};
 ghost use Rattle.command_spec.specs.Runs.{CommandEnds};
 
+mod append;
+mod defect;
+mod format;
+mod info;
+mod list;
+mod lose;
+mod make;
+mod new;
+mod protect;
+mod pulses;
+mod restore;
+mod script;
+mod scrub;
+mod upgrade;
+
 use crate::Status;
-use crate::append::append;
-use crate::defect::spoil;
-use crate::format::format_cartridge;
-use crate::info::info;
-use crate::list::list;
-use crate::lose::lose;
-use crate::make::make;
-use crate::new::put_in_new;
-use crate::protect::protect;
-use crate::pulses::pulses;
-use crate::restore::restore;
 use crate::room::Memory;
-use store_opening::Room;
-use crate::script::script;
-use crate::scrub::{scrub, scrub_deep};
-use crate::upgrade::upgrade;
 use bad_sector_map::BadMap;
 use drive_states::Unit;
 use qic_base::{NoMemory, Sink, Source, Tape};
 use segment_io::Workspace;
 use std::alloc::Global;
+use store_opening::Room;
 use tape_script::{BadWords, Words, read_words};
 use volume_table::Table;
 
@@ -51,16 +52,16 @@ fn carry_out<M: Memory + Drop, T: Tape, S: Source, K: Sink>(
     ensures kept { S.means.keeps source.old source.new }
 {
     match *command {
-        Words::New { segments } => Ok(put_in_new(unit, segments, sink)),
-        Words::Defect { segment, sector } => Ok(spoil(unit, segment, sector, sink)),
-        Words::Lose { segment, sector } => Ok(lose(unit, segment, sector, sink)),
-        Words::Protect { on } => Ok(protect(unit, on, sink)),
+        Words::New { segments } => Ok(new::put_in_new(unit, segments, sink)),
+        Words::Defect { segment, sector } => Ok(defect::spoil(unit, segment, sector, sink)),
+        Words::Lose { segment, sector } => Ok(lose::lose(unit, segment, sector, sink)),
+        Words::Protect { on } => Ok(protect::protect(unit, on, sink)),
         Words::Format { ref label, date } => {
             let mut room = memory.room()?;
-            Ok(format_cartridge(unit, &mut room, label, date, sink))
+            Ok(format::format_cartridge(unit, &mut room, label, date, sink))
         }
-        Words::Info => Ok(info(unit, memory.room()?, sink)),
-        Words::Append { ref name, date } => Ok(append(
+        Words::Info => Ok(info::info(unit, memory.room()?, sink)),
+        Words::Append { ref name, date } => Ok(append::append(
             unit,
             memory.room()?,
             name,
@@ -68,14 +69,14 @@ fn carry_out<M: Memory + Drop, T: Tape, S: Source, K: Sink>(
             source,
             sink,
         )),
-        Words::List => Ok(list(unit, memory.room()?, sink)),
-        Words::Restore { number } => Ok(restore(unit, memory.room()?, number, sink)),
-        Words::Scrub => Ok(scrub(unit, memory.room()?, sink)),
-        Words::ScrubDeep => Ok(scrub_deep(unit, memory.room()?, sink)),
-        Words::Pulses => Ok(pulses(unit, source, sink)),
-        Words::Script => Ok(script(unit, memory.room()?, source, sink)),
-        Words::Make { seed, count } => Ok(make(unit, memory.room()?, seed, count, sink)),
-        Words::Upgrade => Ok(upgrade(unit, sink)),
+        Words::List => Ok(list::list(unit, memory.room()?, sink)),
+        Words::Restore { number } => Ok(restore::restore(unit, memory.room()?, number, sink)),
+        Words::Scrub => Ok(scrub::scrub(unit, memory.room()?, sink)),
+        Words::ScrubDeep => Ok(scrub::scrub_deep(unit, memory.room()?, sink)),
+        Words::Pulses => Ok(pulses::pulses(unit, source, sink)),
+        Words::Script => Ok(script::script(unit, memory.room()?, source, sink)),
+        Words::Make { seed, count } => Ok(make::make(unit, memory.room()?, seed, count, sink)),
+        Words::Upgrade => Ok(upgrade::upgrade(unit, sink)),
     }
 }
 

@@ -2,25 +2,11 @@
 //! of `run` is the headline, over the plain machine of specs/Machine.
 #![tactic(auto)]
 
-mod append;
 mod command;
-mod defect;
-mod format;
-mod info;
 mod lines;
-mod list;
-mod lose;
-mod make;
-mod new;
 mod opening;
-mod protect;
-mod pulses;
-mod restore;
 mod room;
-mod script;
-mod scrub;
 mod status;
-mod upgrade;
 
 pub use command::{run, run_ready};
 pub use command_spec::Status;

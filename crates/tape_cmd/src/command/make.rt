@@ -1,0 +1,49 @@
+//! Generated volumes appended, worn, scrubbed and summed.
+
+ghost use Rattle.std.specs.Prelude.{◌≡◌, ◌≤◌};
+ghost use Rattle.command_spec.specs.declared.words.Words.TheVariants.{Make};
+ghost use Rattle.tape_cmd.specs.Make.{run_status};
+ghost use Rattle.command_spec.specs.Runs.{EndsBlind};
+
+use crate::Status;
+use crate::opening::open_writable;
+use drive_states::Unit;
+use made_volumes::{MakeFault, make_volumes};
+use qic_base::{Sink, Tape};
+use store_opening::Room;
+
+/// Opens the cartridge, where it isn't protected, appends so many volumes that are made from the seed, wears some of
+/// their sectors, scrubs the cartridge, and prints the sum of each volume's bytes.
+pub fn make<T: Tape, K: Sink>(
+    unit: &mut Unit<T>,
+    room: Room,
+    seed: u32,
+    count: u32,
+    sink: &mut K,
+) -> Status
+    requires few { count ≤ 200 }
+    ensures { EndsBlind T.means K.means (Make seed count)
+        unit.old.tape unit.new.tape sink.old sink.new result }
+{
+    let mut store = match open_writable(unit, room) {
+        Ok(store) => store,
+        Err(status) => return status,
+    };
+    answered(make_volumes(&mut store, unit, seed, count, sink))
+}
+
+/// The answer that the end of a run makes.
+fn answered(ended: Result<(), MakeFault>) -> Status
+    ensures { result ≡ run_status ended }
+{
+    match ended {
+        Ok(()) => Status::Done,
+        Err(MakeFault::Protected) => Status::Protected,
+        Err(MakeFault::TableMismatch) => Status::TableMismatch,
+        Err(MakeFault::Full { need, have }) => Status::Full { need, have },
+        Err(MakeFault::Lost { segment, lost }) => Status::Lost { segment, lost },
+        Err(MakeFault::Mismatch { segment }) => Status::Mismatch { segment },
+        Err(MakeFault::Sink) => Status::SinkFault,
+        Err(MakeFault::Tape) => Status::TapeFault,
+    }
+}
