@@ -1,11 +1,19 @@
 //! The import of a flat dump.
 
+<<<<<<< HEAD
 ghost use Rattle.std.specs.Prelude.{◌≡◌, ℕ, ◌+◌, ◌*◌, ◌≤◌, ◌++◌, List, length, IfSome, OnOk};
+=======
+ghost use Rattle.std.specs.Prelude.{◌≡◌, ℕ, ◌+◌, ◌*◌, ◌≤◌, ◌++◌, List, length, IfOk, IfSome, OnOk};
+>>>>>>> 888694fb25bca0ba188de72b97e829309d44aecf
 ghost use Rattle.qic_base.specs.Cartridge.{IsLength};
 ghost use Rattle.qic_base.specs.Cause.{HasCause};
 ghost use Rattle.rescue_map.specs.Laws.{most_words};
 ghost use Rattle.cart_image.specs.Layout.{head_len};
+<<<<<<< HEAD
 ghost use Rattle.flat_dump.specs.Import.{IsEmpty, Imports};
+=======
+ghost use Rattle.flat_dump.specs.Import.{IsDumpOf, IsEmpty, Imports};
+>>>>>>> 888694fb25bca0ba188de72b97e829309d44aecf
 ghost use Rattle.flat_dump.specs.Importing.{Unfinished, Ends, Counts, Copies, Fits, Fills, begun, lost_cells, image_with};
 
 use crate::cells::{append_lost, begin, clear, sign, write_segment};
@@ -73,6 +81,10 @@ fn copy_segments<S: Source, D: Disk>(
     requires few { most ≤ most_words }
     requires seen { head_len ≤ D.means.seen_len disk.old }
     ensures copies { Copies S.means D.means source.old source.new disk.old disk.new mask.now most result }
+<<<<<<< HEAD
+=======
+    ensures few { IfOk result (λ copied. copied.lost ≤ 32 * copied.segments) }
+>>>>>>> 888694fb25bca0ba188de72b97e829309d44aecf
     ensures seen { OnOk result (head_len ≤ D.means.seen_len disk.new) }
     ensures kept { S.means.keeps source.old source.new }
     ensures later { S.means.faults source.old ≤ S.means.faults source.new }
@@ -109,6 +121,21 @@ fn copy_segments<S: Source, D: Disk>(
     }
 }
 
+<<<<<<< HEAD
+=======
+/// The most segments of the cartridge.
+fn most_segments(asked: Option<u16>) -> u32
+    requires { IfSome asked IsLength }
+    ensures few { result ≤ most_words }
+    ensures enough { (bytes n : ℕ) → IsLength n → IsDumpOf asked bytes n → 28 * n ≤ result }
+{
+    match asked {
+        Some(n) => 28 * u32::from(n),
+        None => 28 * u32::from(LONGEST),
+    }
+}
+
+>>>>>>> 888694fb25bca0ba188de72b97e829309d44aecf
 /// The segments per track of a dump of so many bytes: those that were asked for, where it isn't longer; or else exactly
 /// those that it has. None where that is no cartridge.
 fn length_of(bytes: u64, asked: Option<u16>) -> Option<u16>
@@ -142,6 +169,25 @@ fn finish<D: Disk>(disk: &mut D, copied: u32, segments_per_track: u16) -> Result
     sign(disk, segments_per_track)
 }
 
+<<<<<<< HEAD
+=======
+/// What a dump was imported as, whose first segments were copied.
+fn imported_as(copied: Copied, segments_per_track: u16) -> Imported
+    requires length { IsLength segments_per_track }
+    requires order { copied.segments ≤ 28 * segments_per_track }
+    requires few { copied.lost ≤ 32 * copied.segments }
+    ensures segments { result.segments ≡ 28 * segments_per_track }
+    ensures lost { (more : ℕ) → copied.segments + more ≡ 28 * segments_per_track →
+        result.lost ≡ copied.lost + 32 * more }
+{
+    let segments = 28 * u32::from(segments_per_track);
+    Imported {
+        segments,
+        lost: copied.lost + 32 * (segments - copied.segments),
+    }
+}
+
+>>>>>>> 888694fb25bca0ba188de72b97e829309d44aecf
 /// Copies a dump into a file with the room of a head alone, and makes that its image.
 fn fill_image<S: Source, D: Disk>(
     source: &mut S,
@@ -157,6 +203,7 @@ fn fill_image<S: Source, D: Disk>(
     ensures kept { S.means.keeps source.old source.new }
     ensures later { S.means.faults source.old ≤ S.means.faults source.new }
 {
+<<<<<<< HEAD
     let most = 28 * u32::from(segments_per_track.unwrap_or(LONGEST));
     let copied = copy_segments(source, mask, most, disk)?;
     let bytes = copied.bytes;
@@ -170,6 +217,20 @@ fn fill_image<S: Source, D: Disk>(
             lost: copied.lost + 32 * (segments - copied.segments),
         }),
         Err(DiskFailed) => Err(ImportError::Disk),
+=======
+    let most = most_segments(segments_per_track);
+    let copied = match copy_segments(source, mask, most, disk) {
+        Ok(copied) => copied,
+        Err(error) => return Err(error),
+    };
+    let bytes = copied.bytes;
+    match length_of(bytes, segments_per_track) {
+        Some(n) => match finish(disk, copied.segments, n) {
+            Ok(()) => Ok(imported_as(copied, n)),
+            Err(DiskFailed) => Err(ImportError::Disk),
+        },
+        None => Err(ImportError::Length { bytes }),
+>>>>>>> 888694fb25bca0ba188de72b97e829309d44aecf
     }
 }
 
@@ -211,10 +272,21 @@ pub fn import<S: Source, D: Disk>(
     ensures kept { S.means.keeps source.old source.new }
     ensures later { S.means.faults source.old ≤ S.means.faults source.new }
 {
+<<<<<<< HEAD
     let imported = write_image(source, mask, segments_per_track, disk);
     if imported.is_err() {
         // The error tells it, too.
         let _cleared = clear(disk);
     }
     imported
+=======
+    match write_image(source, mask, segments_per_track, disk) {
+        Ok(imported) => Ok(imported),
+        Err(error) => {
+            // The error tells it, too.
+            let _cleared = clear(disk);
+            Err(error)
+        }
+    }
+>>>>>>> 888694fb25bca0ba188de72b97e829309d44aecf
 }
