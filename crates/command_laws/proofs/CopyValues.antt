@@ -22,7 +22,6 @@ use Rattle.qic_base.specs.Field.{little_endian, number_at}
 
 -- ---- a slot of the table's data
 
-
 little_below : (n : ℕ) (xs : List ℕ) → All (λ b. b < 256) xs → little_endian (take n xs) < 256 ^ n
 little_below zero xs small = omega arith
 little_below (suc n) [] small = let more = little_below n [] small in omega (arith, pow-suc 256 n)
