@@ -92,7 +92,8 @@ pub fn write_segment<D: Disk>(
 ) -> Result<u32, DiskFailed>
     requires sectors { length sectors.now ≡ 32 }
     requires whole { AreWhole sectors.now }
-    ensures ran { Runs D.means disk.old disk.new (append_steps segment (joined (cells_of word len sectors.now))) result }
+    ensures ran { Runs D.means disk.old disk.new
+        (append_steps segment (joined (cells_of word len sectors.now))) result }
     ensures seen { OnOk result (head_len ≤ D.means.seen_len disk.new) }
     ensures lost { IfOk result (λ lost. lost ≡ lost_count (views_of word len sectors.now)) }
     ensures few { IfOk result (λ lost. lost ≤ 32) }
@@ -116,8 +117,10 @@ pub fn append_lost<D: Disk>(disk: &mut D, from: u32, to: u32) -> Result<(), Disk
     requires order { from ≤ to }
     requires few { to ≤ most_words }
     requires seen { head_len ≤ D.means.seen_len disk.old }
-    ensures goes { (first : D) (file : List ℕ) (more : ℕ) → length file ≡ head_len + 32864 * from → from + more ≡ to →
-        Unfinished D.means first disk.old file → Goes D.means first disk.new (file ++ lost_cells more) result }
+    ensures goes { (first : D) (file : List ℕ) (more : ℕ) →
+        length file ≡ head_len + 32864 * from → from + more ≡ to →
+        Unfinished D.means first disk.old file →
+        Goes D.means first disk.new (file ++ lost_cells more) result }
     ensures seen { OnOk result (head_len ≤ D.means.seen_len disk.new) }
 {
     let cells = lost_segment();

@@ -72,7 +72,8 @@ fn copy_segments<S: Source, D: Disk>(
     requires words { most ≤ length mask.now }
     requires few { most ≤ most_words }
     requires seen { head_len ≤ D.means.seen_len disk.old }
-    ensures copies { Copies S.means D.means source.old source.new disk.old disk.new mask.now most result }
+    ensures copies { Copies S.means D.means source.old source.new disk.old disk.new
+        mask.now most result }
     ensures few { IfOk result (λ copied. copied.lost ≤ 32 * copied.segments) }
     ensures seen { OnOk result (head_len ≤ D.means.seen_len disk.new) }
     ensures kept { S.means.keeps source.old source.new }
@@ -149,7 +150,8 @@ fn finish<D: Disk>(disk: &mut D, copied: u32, segments_per_track: u16) -> Result
     requires seen { head_len ≤ D.means.seen_len disk.old }
     ensures { (first : D) (file : List ℕ) (more : ℕ) → length file ≡ head_len + 32864 * copied →
         copied + more ≡ 28 * segments_per_track → Unfinished D.means first disk.old file →
-        Ends D.means first disk.new (image_with segments_per_track (file ++ lost_cells more)) result }
+        Ends D.means first disk.new
+        (image_with segments_per_track (file ++ lost_cells more)) result }
 {
     append_lost(disk, copied, 28 * u32::from(segments_per_track))?;
     sign(disk, segments_per_track)
@@ -182,7 +184,8 @@ fn fill_image<S: Source, D: Disk>(
     requires words { most_words ≤ length mask.now }
     requires asked { IfSome segments_per_track IsLength }
     ensures fills { (first : D) → Unfinished D.means first disk.old begun →
-        Fills S.means D.means source.old source.new first disk.new mask.now segments_per_track result }
+        Fills S.means D.means source.old source.new first disk.new
+        mask.now segments_per_track result }
     ensures kept { S.means.keeps source.old source.new }
     ensures later { S.means.faults source.old ≤ S.means.faults source.new }
 {
@@ -211,7 +214,8 @@ fn write_image<S: Source, D: Disk>(
     requires empty { IsEmpty D.means disk.old }
     requires words { most_words ≤ length mask.now }
     requires asked { IfSome segments_per_track IsLength }
-    ensures fills { Fills S.means D.means source.old source.new disk.old disk.new mask.now segments_per_track result }
+    ensures fills { Fills S.means D.means source.old source.new disk.old disk.new
+        mask.now segments_per_track result }
     ensures kept { S.means.keeps source.old source.new }
     ensures later { S.means.faults source.old ≤ S.means.faults source.new }
 {
@@ -221,11 +225,11 @@ fn write_image<S: Source, D: Disk>(
     }
 }
 
-/// Writes the image of a flat dump into an empty file, in one pass over the dump, whose length tells the segments per track
-/// unless they are given: then a shorter one is taken, too. A sector is lost where the dump lacks a byte of it, or the mask,
-/// a word of 32 sectors for each of 6,888 segments, its bit: all are set where each byte was rescued. A stop at any moment
-/// leaves no image or the whole one. After an error the file is empty again; where the clearing fails, too, it is no image,
-/// or the whole one where the write of its first byte or the sync behind that failed.
+/// Writes the image of a flat dump into an empty file, in one pass over the dump. Its length tells the segments per track,
+/// unless they are given: then a shorter one is taken, too. A sector is lost where the dump lacks a byte of it or the mask
+/// its bit (a word of 32 sectors for each of 6,888 segments; without a map all are set). A stop leaves no image or the
+/// whole one. After an error the file is empty; where the clearing fails, too, it is no image, or the whole one where the
+/// write of its first byte or the sync behind it had failed.
 pub fn import<S: Source, D: Disk>(
     source: &mut S,
     mask: &[u32],
@@ -235,7 +239,8 @@ pub fn import<S: Source, D: Disk>(
     requires empty { IsEmpty D.means disk.old }
     requires words { most_words ≤ length mask.now }
     requires asked { IfSome segments_per_track IsLength }
-    ensures imports { Imports S.means D.means source.old source.new disk.old disk.new mask.now segments_per_track result }
+    ensures imports { Imports S.means D.means source.old source.new disk.old disk.new
+        mask.now segments_per_track result }
     ensures kept { S.means.keeps source.old source.new }
     ensures later { S.means.faults source.old ≤ S.means.faults source.new }
 {
