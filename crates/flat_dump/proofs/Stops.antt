@@ -29,19 +29,12 @@ none_by_first bytes other = by_head (head_of bytes) refl
         ∙ ap (λ xs. slice_index xs 0) e in
         let holds : (slice_index bytes 0 == first_letter) ≡ true = eq-eqb (slice_index bytes 0) first_letter q in cc
 
-<<<<<<< HEAD
-=======
 pub unsigned_none : UnsignedIsNone
 unsigned_none bytes zero_first = none_by_first bytes (ap (λ (b : ℕ). b == first_letter) (get_or_from_slice_get bytes 0 0 0 zero_first))
 
->>>>>>> 888694fb25bca0ba188de72b97e829309d44aecf
 pub kept_first : (step : DiskStep) (before left : List ℕ) → KeepsFirst step → IsUnsigned before → Unsynced step before left → IsUnsigned left
 kept_first Look before left keeps first same = ap (λ (b : List ℕ). slice_get b 0) same ∙ first
 kept_first (WriteAt place part) before left keeps first torn = torn.below 0 keeps ∙ first
 kept_first (SetLen n) before left keeps first (inl same) = ap (λ (b : List ℕ). slice_get b 0) same ∙ first
 kept_first (SetLen n) before left keeps first (inr torn) = torn.kept 0 keeps (slice_get_within before 0 0 first) ∙ first
 kept_first Sync before left keeps first same = ap (λ (b : List ℕ). slice_get b 0) same ∙ first
-<<<<<<< HEAD
-
-=======
->>>>>>> 888694fb25bca0ba188de72b97e829309d44aecf

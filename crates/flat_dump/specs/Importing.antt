@@ -6,11 +6,7 @@ use Rattle.qic_base.specs.Cause.{Rose}
 use Rattle.qic_base.specs.Disk as disks
 use Rattle.qic_base.specs.Source as sources
 use Rattle.qic_base.specs.declared.tape.SectorView.{SectorView}
-<<<<<<< HEAD
-use Rattle.qic_base.specs.declared.tape.SectorView.TheVariants.{Blank, Lost}
-=======
 use Rattle.qic_base.specs.declared.tape.SectorView.TheVariants.{Blank}
->>>>>>> 888694fb25bca0ba188de72b97e829309d44aecf
 use Rattle.cart_image.specs.Image.{view_by}
 use Rattle.cart_image.specs.Layout.{head_len}
 use Rattle.flat_dump.specs.Cells.{joined, lost_cell, imported_head}

@@ -1,19 +1,11 @@
 //! The import of a flat dump.
 
-<<<<<<< HEAD
-ghost use Rattle.std.specs.Prelude.{◌≡◌, ℕ, ◌+◌, ◌*◌, ◌≤◌, ◌++◌, List, length, IfSome, OnOk};
-=======
 ghost use Rattle.std.specs.Prelude.{◌≡◌, ℕ, ◌+◌, ◌*◌, ◌≤◌, ◌++◌, List, length, IfOk, IfSome, OnOk};
->>>>>>> 888694fb25bca0ba188de72b97e829309d44aecf
 ghost use Rattle.qic_base.specs.Cartridge.{IsLength};
 ghost use Rattle.qic_base.specs.Cause.{HasCause};
 ghost use Rattle.rescue_map.specs.Laws.{most_words};
 ghost use Rattle.cart_image.specs.Layout.{head_len};
-<<<<<<< HEAD
-ghost use Rattle.flat_dump.specs.Import.{IsEmpty, Imports};
-=======
 ghost use Rattle.flat_dump.specs.Import.{IsDumpOf, IsEmpty, Imports};
->>>>>>> 888694fb25bca0ba188de72b97e829309d44aecf
 ghost use Rattle.flat_dump.specs.Importing.{Unfinished, Ends, Counts, Copies, Fits, Fills, begun, lost_cells, image_with};
 
 use crate::cells::{append_lost, begin, clear, sign, write_segment};
@@ -81,10 +73,7 @@ fn copy_segments<S: Source, D: Disk>(
     requires few { most ≤ most_words }
     requires seen { head_len ≤ D.means.seen_len disk.old }
     ensures copies { Copies S.means D.means source.old source.new disk.old disk.new mask.now most result }
-<<<<<<< HEAD
-=======
     ensures few { IfOk result (λ copied. copied.lost ≤ 32 * copied.segments) }
->>>>>>> 888694fb25bca0ba188de72b97e829309d44aecf
     ensures seen { OnOk result (head_len ≤ D.means.seen_len disk.new) }
     ensures kept { S.means.keeps source.old source.new }
     ensures later { S.means.faults source.old ≤ S.means.faults source.new }
@@ -121,8 +110,6 @@ fn copy_segments<S: Source, D: Disk>(
     }
 }
 
-<<<<<<< HEAD
-=======
 /// The most segments of the cartridge.
 fn most_segments(asked: Option<u16>) -> u32
     requires { IfSome asked IsLength }
@@ -135,7 +122,6 @@ fn most_segments(asked: Option<u16>) -> u32
     }
 }
 
->>>>>>> 888694fb25bca0ba188de72b97e829309d44aecf
 /// The segments per track of a dump of so many bytes: those that were asked for, where it isn't longer; or else exactly
 /// those that it has. None where that is no cartridge.
 fn length_of(bytes: u64, asked: Option<u16>) -> Option<u16>
@@ -169,8 +155,6 @@ fn finish<D: Disk>(disk: &mut D, copied: u32, segments_per_track: u16) -> Result
     sign(disk, segments_per_track)
 }
 
-<<<<<<< HEAD
-=======
 /// What a dump was imported as, whose first segments were copied.
 fn imported_as(copied: Copied, segments_per_track: u16) -> Imported
     requires length { IsLength segments_per_track }
@@ -187,7 +171,6 @@ fn imported_as(copied: Copied, segments_per_track: u16) -> Imported
     }
 }
 
->>>>>>> 888694fb25bca0ba188de72b97e829309d44aecf
 /// Copies a dump into a file with the room of a head alone, and makes that its image.
 fn fill_image<S: Source, D: Disk>(
     source: &mut S,
@@ -203,21 +186,6 @@ fn fill_image<S: Source, D: Disk>(
     ensures kept { S.means.keeps source.old source.new }
     ensures later { S.means.faults source.old ≤ S.means.faults source.new }
 {
-<<<<<<< HEAD
-    let most = 28 * u32::from(segments_per_track.unwrap_or(LONGEST));
-    let copied = copy_segments(source, mask, most, disk)?;
-    let bytes = copied.bytes;
-    let Some(n) = length_of(bytes, segments_per_track) else {
-        return Err(ImportError::Length { bytes });
-    };
-    let segments = 28 * u32::from(n);
-    match finish(disk, copied.segments, n) {
-        Ok(()) => Ok(Imported {
-            segments,
-            lost: copied.lost + 32 * (segments - copied.segments),
-        }),
-        Err(DiskFailed) => Err(ImportError::Disk),
-=======
     let most = most_segments(segments_per_track);
     let copied = match copy_segments(source, mask, most, disk) {
         Ok(copied) => copied,
@@ -230,7 +198,6 @@ fn fill_image<S: Source, D: Disk>(
             Err(DiskFailed) => Err(ImportError::Disk),
         },
         None => Err(ImportError::Length { bytes }),
->>>>>>> 888694fb25bca0ba188de72b97e829309d44aecf
     }
 }
 
@@ -272,14 +239,6 @@ pub fn import<S: Source, D: Disk>(
     ensures kept { S.means.keeps source.old source.new }
     ensures later { S.means.faults source.old ≤ S.means.faults source.new }
 {
-<<<<<<< HEAD
-    let imported = write_image(source, mask, segments_per_track, disk);
-    if imported.is_err() {
-        // The error tells it, too.
-        let _cleared = clear(disk);
-    }
-    imported
-=======
     match write_image(source, mask, segments_per_track, disk) {
         Ok(imported) => Ok(imported),
         Err(error) => {
@@ -288,5 +247,4 @@ pub fn import<S: Source, D: Disk>(
             Err(error)
         }
     }
->>>>>>> 888694fb25bca0ba188de72b97e829309d44aecf
 }
