@@ -9,7 +9,7 @@ use Rattle.qic_base.specs.declared.tape.SectorView.TheVariants.{Blank, Defect, L
 use Rattle.flat_dump.specs.Dump.{sector_bytes, views_bytes}
 use Rattle.flat_dump.specs.Laws.{DumpIsWhole}
 
-length-zero_sector : length zero_sector ≡ 1024
+pub length-zero_sector : length zero_sector ≡ 1024
 unfolding zero_sector
 length-zero_sector = length-replicate {A = ℕ} 1024 0
 

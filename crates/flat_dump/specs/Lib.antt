@@ -2,7 +2,9 @@ pub mod Cells
 pub mod Dump
 pub mod Export
 pub mod Held
+pub mod Import
 pub mod Imported
+pub mod Importing
 pub mod Laws
 pub mod Seen
 pub mod Stops

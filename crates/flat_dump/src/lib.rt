@@ -4,8 +4,9 @@
 
 mod cells;
 mod exporting;
+mod importing;
 pub mod laws;
 mod segment;
 
-pub use cells::{append_sector, begin};
 pub use exporting::{ExportError, export};
+pub use importing::{ImportError, Imported, import};

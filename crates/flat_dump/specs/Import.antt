@@ -1,0 +1,119 @@
+-- How an import ended (this project's own).
+use Rattle.std.specs.Prelude.{◌≡◌, ℕ, ◌-◌, ◌*◌, ◌^◌, ◌≤◌, ◌⊎◌, true, List, [], length, min, sum_by, Option, Some, None, IfSome, Result, Ok, Err}
+use Rattle.qic_base.specs.Cartridge.{IsLength}
+use Rattle.qic_base.specs.Cause.{Rose}
+use Rattle.qic_base.specs.Disk as disks
+use Rattle.qic_base.specs.Source as sources
+use Rattle.qic_base.specs.declared.tape.SectorView.{SectorView}
+use Rattle.qic_base.specs.declared.tape.SectorView.TheVariants.{Blank, Defect, Lost, Holds}
+use Rattle.cart_image.specs.Image.{cartridge_of}
+use Rattle.flat_dump.specs.Imported.{imported_by}
+use Rattle.flat_dump.specs.declared.importing.Imported.{Imported}
+use Rattle.flat_dump.specs.declared.importing.ImportError.{ImportError}
+use Rattle.flat_dump.specs.declared.importing.ImportError.TheVariants as error
+
+-- ---- lengths
+
+-- A dump of this length is one of n segments per track: where those are asked for, it may be shorter.
+abbrev pub IsDumpOf : (asked : Option ℕ) → (bytes n : ℕ) → Type 0
+IsDumpOf None bytes n = bytes ≡ 917504 * n
+IsDumpOf (Some m) bytes n = (n ≡ m) × (bytes ≤ 917504 * m)
+
+-- it is none of any cartridge
+abbrev pub IsNoDump : (asked : Option ℕ) → (bytes : ℕ) → Type 0
+IsNoDump asked bytes = (n : ℕ) → IsLength n → IsDumpOf asked bytes n → ⊥
+
+-- a number of bytes, which goes up to the greatest u64 alone
+abbrev pub counted : ℕ → ℕ
+counted bytes = min bytes (2 ^ 64 - 1)
+
+-- ---- sectors
+
+abbrev pub lost_bit : SectorView → ℕ
+lost_bit Blank = 0
+lost_bit Defect = 0
+lost_bit Lost = 1
+lost_bit (Holds bytes) = 0
+
+-- the number of lost sectors
+abbrev pub lost_count : List SectorView → ℕ
+lost_count views = sum_by lost_bit views
+
+-- ---- the outside
+
+-- the dump: what the source told, or some bytes where it tells none
+abbrev pub IsDump : {S : Type 0} (s : sources.Meaning S) (source : S) (dump : List ℕ) → Type 0
+IsDump s source dump = IfSome (s.left source) (λ bytes. dump ≡ bytes)
+
+-- an empty file, in which nothing is pending
+pub record IsEmpty {D : Type 0} (m : disks.Meaning D) (disk : D) : Type 0 where
+  pub told : IfSome (m.told disk) (λ bytes. bytes ≡ [])
+  pub settled : disks.IsSettled m disk
+
+abbrev pub IsNoImage : (bytes : List ℕ) → Type 0
+IsNoImage bytes = cartridge_of bytes ≡ None
+
+-- the bytes are the image of the dump that the source told
+pub record IsImageOf {S : Type 0} (s : sources.Meaning S) (source : S) (mask : List ℕ) (asked : Option ℕ) (bytes : List ℕ) : Type 0 where
+  pub dump : List ℕ
+  pub told : IsDump s source dump
+  pub n : ℕ
+  pub long : IsLength n
+  pub fits : IsDumpOf asked (length dump) n
+  pub shows : cartridge_of bytes ≡ Some (imported_by dump mask n)
+
+abbrev pub IsNoneOrWhole : {S : Type 0} (s : sources.Meaning S) (source : S) (mask : List ℕ) (asked : Option ℕ) (bytes : List ℕ) → Type 0
+IsNoneOrWhole s source mask asked bytes = IsNoImage bytes ⊎ IsImageOf s source mask asked bytes
+
+-- A crash at any moment from old up to new leaves such bytes, where the disk tells its crashes.
+abbrev pub CrashesLeave : {D : Type 0} (m : disks.Meaning D) (old new : D) → (List ℕ → Type 0) → Type 0
+CrashesLeave m old new P = (left : List ℕ) → m.tells_stops old ≡ true → m.left_since new (m.moment old) left → P left
+
+-- The file was emptied, or the disk failed at that and tells such bytes.
+abbrev pub Cleared : {D : Type 0} (m : disks.Meaning D) (old new : D) → (List ℕ → Type 0) → Type 0
+Cleared m old new P = IsEmpty m new ⊎ (Rose (m.faults old) (m.faults new) × IfSome (m.told new) P)
+
+-- ---- how it ended
+
+-- The file is the image of the dump, with these segments and lost sectors.
+pub record WasImported {S D : Type 0} (s : sources.Meaning S) (m : disks.Meaning D) (source : S) (old new : D) (mask : List ℕ) (asked : Option ℕ) (imported : Imported) : Type 0 where
+  pub dump : List ℕ
+  pub told : IsDump s source dump
+  pub n : ℕ
+  pub long : IsLength n
+  pub fits : IsDumpOf asked (length dump) n
+  pub shows : IfSome (m.told new) (λ bytes. cartridge_of bytes ≡ Some (imported_by dump mask n))
+  pub settled : disks.IsSettled m new
+  pub segments : imported.segments ≡ 28 * n
+  pub lost : imported.lost ≡ lost_count (imported_by dump mask n).views
+  pub crashes : CrashesLeave m old new (IsNoneOrWhole s source mask asked)
+
+-- The dump is none of a cartridge, and has so many bytes.
+pub record WasRefused {S D : Type 0} (s : sources.Meaning S) (m : disks.Meaning D) (source : S) (old new : D) (asked : Option ℕ) (bytes : ℕ) : Type 0 where
+  pub dump : List ℕ
+  pub told : IsDump s source dump
+  pub none : IsNoDump asked (length dump)
+  pub count : bytes ≡ counted (length dump)
+  pub cleared : Cleared m old new IsNoImage
+  pub crashes : CrashesLeave m old new IsNoImage
+
+-- A read of the dump failed.
+pub record SourceBroke {S D : Type 0} (s : sources.Meaning S) (m : disks.Meaning D) (source ended : S) (old new : D) : Type 0 where
+  pub cause : Rose (s.faults source) (s.faults ended)
+  pub cleared : Cleared m old new IsNoImage
+  pub crashes : CrashesLeave m old new IsNoImage
+
+-- A call of the disk failed. Where the clearing failed, too, the file is no image, or the whole one: its first byte may
+-- stand there by a write that failed.
+pub record DiskBroke {S D : Type 0} (s : sources.Meaning S) (m : disks.Meaning D) (source : S) (old new : D) (mask : List ℕ) (asked : Option ℕ) : Type 0 where
+  pub failed : D
+  pub cause : Rose (m.faults old) (m.faults failed)
+  pub later : m.faults failed ≤ m.faults new
+  pub cleared : Cleared m failed new (IsNoneOrWhole s source mask asked)
+  pub crashes : CrashesLeave m old new (IsNoneOrWhole s source mask asked)
+
+abbrev pub Imports : {S D : Type 0} (s : sources.Meaning S) (m : disks.Meaning D) (source ended : S) (old new : D) (mask : List ℕ) (asked : Option ℕ) → Result Imported ImportError → Type 0
+Imports s m source ended old new mask asked (Ok imported) = WasImported s m source old new mask asked imported
+Imports s m source ended old new mask asked (Err (error.Length bytes)) = WasRefused s m source old new asked bytes
+Imports s m source ended old new mask asked (Err error.Source) = SourceBroke s m source ended old new
+Imports s m source ended old new mask asked (Err error.Disk) = DiskBroke s m source old new mask asked
