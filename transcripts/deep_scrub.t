@@ -87,6 +87,29 @@ whatever they hold, and the lost ones are written from it. The volume stays wron
   $ tape cart.img restore 1 | cmp -l - volume | wc -l
   1024
 
+So it is with one bit. Byte 5 of sector 0 is 0 here in place of 1, and three other sectors are lost. `restore` gives the wrong
+byte, which `cmp` counts as the sixth, with status 0.
+
+  $ cp whole.img cart.img
+  $ flip 3 0 5
+  $ each lose 3 7 8 9
+  3 of 3 done
+  $ tape cart.img restore 1 > given
+  $ cmp -l given volume | tr -s ' ' | sed 's/^ //'
+  6 0 1
+
+A `scrub` makes that lasting. It writes the three sectors from the code block that agrees with the others, the wrong one among
+them. Two code blocks differ in four sectors or more, so in this column each of the four is wrong now. Nothing is lost any
+more, all sectors agree, and no command finds it.
+
+  $ tape cart.img scrub
+  scrub 4 3 0
+  $ cmp -l whole.img cart.img | wc -l
+  4
+  $ tape cart.img restore 1 | cmp - given
+  $ tape cart.img scrub deep
+  scrub 4 0 0
+
 The volume table is not looked at so. Its data sectors are taken as they can be read, and its parity is made to fit them as the
 cartridge is mounted. Here the lowest bit of the name `v` is flipped.
 

@@ -1,8 +1,10 @@
 The examples of the manual
 ==========================
 
-Every command of the examples in the manual pages `tape.1` and `pulse_trace.1`, in their order, with exactly what is shown
-there, so that the examples stay true. Who changes a line here changes it there, too.
+Every command of the examples in the manual pages `tape.1`, `pulse_trace.1`, `tape_export.1` and `tape_import.1`, in their
+order, with exactly what is shown there, so that the examples stay true. Who changes a line here changes it there, too.
+
+  $ command -v tape_export > /dev/null && command -v tape_import > /dev/null || exit 80
 
 tape
 ----
@@ -114,3 +116,47 @@ Two trains; a seek, and a drive that does not answer; a report without the train
   >   done) | pulse_trace | grep -v next
   0 6 ReportStatus
   18200 word 0x0075
+
+tape_export
+-----------
+
+The cartridge of the example, whose making is not shown there: a volume of 15 bytes in segment 3, of which the first three
+sectors are lost.
+
+  $ tape page.img new 3
+  blank 3
+  $ tape page.img format evening
+  formatted 84 0
+  $ echo 'a page of text' | tape page.img append page
+  appended 1 15 3 3
+  $ for sector in 0 1 2; do tape page.img lose 3 $sector; done
+  lost 3 0
+  lost 3 1
+  lost 3 2
+
+The lost sectors have the numbers 96, 97 and 98, and 1,024 * 96 is 0x18000, 1,024 * 3 is 0xC00. What lies behind them are the
+2,688 - 99 = 2,589 last sectors, 0x287400 bytes from 0x18C00 on.
+
+  $ tape_export --map page.map page.img > page.dump
+  $ grep -v '^#' page.map
+  0x00000000     +               1
+  0x00000000  0x00018000  +
+  0x00018000  0x00000C00  -
+  0x00018C00  0x00287400  +
+
+tape_import
+-----------
+
+The dump and the map of before stand for those of a medium.
+
+  $ mv page.dump tape.dump
+  $ mv page.map tape.map
+  $ tape_import --map tape.map tape.img < tape.dump
+  imported 84 3
+  $ tape tape.img list
+  1 3 3 15 1970-01-01T00:00:00 page
+  volumes 1
+  $ tape tape.img scrub deep
+  scrub 4 3 0
+  $ tape tape.img restore 1
+  a page of text

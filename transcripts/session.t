@@ -9,9 +9,6 @@ A cartridge is made and formatted, and gets a volume.
   formatted 84 0
   $ echo 'a page of text' | tape cart.img append page
   appended 1 15 3 3
-  $ tape cart.img list
-  1 3 3 15 1970-01-01T00:00:00 page
-  volumes 1
 
 Three lost sectors of a segment are found again by its parity, and a scrub writes them again.
 
@@ -21,19 +18,15 @@ Three lost sectors of a segment are found again by its parity, and a scrub write
   lost 3 2
   $ tape cart.img restore 1
   a page of text
-  $ cp cart.img scrubbed.img
-  $ tape scrubbed.img scrub
+  $ tape cart.img scrub
   scrub 4 3 0
-  $ tape scrubbed.img restore 1
-  a page of text
 
 A fourth is one too many, and that is told.
 
-  $ tape cart.img lose 3 3
-  lost 3 3
-  $ tape cart.img restore 1
+  $ for sector in 0 1 2 3; do tape cart.img lose 3 $sector; done > lost
+  $ tape cart.img restore 1; echo status $?
   tape: segment 3 lost 4 sectors
-  [11]
+  status 11
 
 The recording of a seek to track 3 and of a broken-off report, by the second program:
 

@@ -185,7 +185,7 @@ early_with one volume volumes p printed left with short = record { with = with; 
     no_line zero some lines = omega arith
     no_line (suc n) some lines =
         let more : lines_of one (length p.volumes + 1) (volume ∷ volumes) (suc n)
-            ≡ length (copied_line (length p.volumes + 1) (volume_length one.words volume.entry)) + lines_of one (length p.volumes + 1 + 1) volumes n = lines_more one (length p.volumes + 1) volume volumes n in
+        ≡ length (copied_line (length p.volumes + 1) (volume_length one.words volume.entry)) + lines_of one (length p.volumes + 1 + 1) volumes n = lines_more one (length p.volumes + 1) volume volumes n in
         omega arith
 
 -- behind it
@@ -202,7 +202,7 @@ late_with one volume volumes p printed more left is later = record { with = stan
     by_number (suc zero) some within lines = omega arith
     by_number (suc (suc n)) some within lines =
         let all : lines_of one (length p.volumes + 1) (volume ∷ volumes) (suc (suc n))
-            ≡ length (copied_line (length p.volumes + 1) (volume_length one.words volume.entry)) + lines_of one (length p.volumes + 1 + 1) volumes (suc n) = lines_more one (length p.volumes + 1) volume volumes (suc n) in
+        ≡ length (copied_line (length p.volumes + 1) (volume_length one.words volume.entry)) + lines_of one (length p.volumes + 1 + 1) volumes (suc n) = lines_more one (length p.volumes + 1) volume volumes (suc n) in
         let same : lines_of one (length (with_volume one p volume).volumes + 1) volumes (suc n) ≡ lines_of one (length p.volumes + 1 + 1) volumes (suc n) =
         ap (λ (number : ℕ). lines_of one (number + 1) volumes (suc n)) count in
         let few : suc n ≤ later.with.count = later.whole (suc n) (omega arith) (omega arith) (omega arith) in

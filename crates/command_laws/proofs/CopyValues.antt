@@ -1,5 +1,5 @@
 -- The volumes of a cartridge that stands for a plain one can be appended to another one: their names, dates and bytes.
-use Rattle.std.proofs.Common.{◌≡◌, ℕ, zero, suc, ◌+◌, ◌-◌, ◌*◌, ◌/◌, ◌%◌, ◌^◌, ◌<◌, ◌≤◌, List, [], ◌∷◌, ◌++◌, All, Contains, Some, refl, sym, ap, ◌∙◌, subst, arith, get_or, slice_get, length, take, drop, inl, inr}
+use Rattle.std.proofs.Common.{◌≡◌, ℕ, zero, suc, ◌-◌, ◌*◌, ◌/◌, ◌%◌, ◌^◌, ◌<◌, ◌≤◌, List, [], ◌∷◌, ◌++◌, All, Contains, Some, refl, sym, ap, ◌∙◌, subst, arith, get_or, slice_get, length, take, drop, inl, inr}
 use Rattle.std.specs.Option.{option_map}
 use Rattle.std.proofs.Math.Nat.{pow-suc}
 use Rattle.std.proofs.lemmas.List.{append-nil, length-drop, length-map, length-take-le}
@@ -21,7 +21,6 @@ use Rattle.qic_base.specs.Cartridge.{Cartridge, IsSector}
 use Rattle.qic_base.specs.Field.{little_endian, number_at}
 
 -- ---- a slot of the table's data
-
 
 little_below : (n : ℕ) (xs : List ℕ) → All (λ b. b < 256) xs → little_endian (take n xs) < 256 ^ n
 little_below zero xs small = omega arith

@@ -1,8 +1,7 @@
 -- What the cell of a sector is read as.
-use Rattle.std.proofs.Common.{◌≡◌, ℕ, ◌≤◌, Bool, true, false, List, length, refl, ap, arith}
+use Rattle.std.proofs.Common.{true, false, refl, ap, arith}
 use Rattle.std.proofs.lemmas.List.{take_all}
-use Rattle.qic_base.specs.declared.tape.SectorView.{SectorView}
-use Rattle.qic_base.specs.declared.tape.SectorView.TheVariants.{Lost, Holds}
+use Rattle.qic_base.specs.declared.tape.SectorView.TheVariants.{Holds}
 use Rattle.flat_dump.specs.Cells.{cell_bytes, CellShows}
 
 pub cell_shows : CellShows

@@ -1,32 +1,31 @@
 -- What the bytes of a file with cells behind a head are read as.
-use Rattle.std.proofs.Common.{◌≡◌, ℕ, zero, suc, ◌+◌, ◌-◌, ◌*◌, ◌/◌, ◌%◌, ◌<◌, ◌≤◌, ◌⊎◌, ⊎_elim, Bool, true, false, List, [], ◌∷◌, ◌++◌, length, get_or, take, drop, replicate, Option, Some, refl, sym, ◌∙◌, ap, ap₂, subst, arith}
-use Rattle.std.specs.Prelude.{◌==◌, slice_index, slice_range}
+use Rattle.std.proofs.Common.{◌≡◌, ℕ, zero, suc, ◌+◌, ◌-◌, ◌*◌, ◌/◌, ◌%◌, ◌<◌, ⊎_elim, Bool, true, false, List, [], ◌∷◌, ◌++◌, length, get_or, take, drop, replicate, Some, refl, sym, ◌∙◌, ap, ap₂, subst, arith}
+use Rattle.std.specs.Prelude.{slice_range}
 use Rattle.std.proofs.Math.ListN.{get_or-append}
 use Rattle.std.proofs.Math.Seq.{drop-append-add}
 use Rattle.std.proofs.lemmas.Bool.{cases_lt, le-leb}
-use Rattle.std.proofs.lemmas.List.{take_all, take_at, drop_at, same_lists, get_or_default, get_or-take, get_or-drop, get_or-append_right, length-replicate, length-append, length-drop, replicate-append-replicate}
+use Rattle.std.proofs.lemmas.List.{take_all, take_at, drop_at, same_lists, get_or_default, get_or-take, get_or-drop, get_or-append_right, get_or-replicate, length-replicate, length-append, length-drop, replicate-append-replicate}
 use Rattle.std.proofs.lemmas.List.Concat.{flat_map-append}
 use Rattle.std.proofs.lemmas.List.Edits.{length-between, get_or-between}
 use Rattle.std.proofs.lemmas.List as lists
-use Rattle.qic_base.specs.Cartridge.{Cartridge, IsLength, zero_sector}
+use Rattle.qic_base.specs.Cartridge.{IsLength, zero_sector}
 use Rattle.qic_base.specs.Field.{little_endian_bytes, number_at}
 use Rattle.qic_base.specs.declared.TheConstants.{LONGEST}
 use Rattle.qic_base.specs.declared.tape.SectorView.{SectorView}
-use Rattle.qic_base.specs.declared.tape.SectorView.TheVariants.{Blank, Lost, Holds}
+use Rattle.qic_base.specs.declared.tape.SectorView.TheVariants.{Blank, Lost}
 use Rattle.cart_image.specs.declared.layout.Head.{Head}
 use Rattle.cart_image.specs.declared.layout.Kind.TheVariants.{Cells}
 use Rattle.cart_image.specs.declared.layout.Layout.{Layout}
 use Rattle.cart_image.specs.declared.layout.Part.TheVariants.{GateByte, FormedByte, DefectByte, Data}
-use Rattle.cart_image.specs.Image.{read_len, layout_by, head_by, head_of, view_by, view_in, views_in, sector_bytes, cartridge_of}
-use Rattle.cart_image.specs.Layout.{head_len, image_len, place, sectors}
+use Rattle.cart_image.specs.Image.{read_len, layout_by, head_by, head_of, view_in, views_in, sector_bytes, cartridge_of}
+use Rattle.cart_image.specs.Layout.{image_len, place, sectors}
 use Rattle.cart_image.specs.Whole.{cartridge_of-read, length-views}
-use Rattle.cart_image.proofs.Bytes.{view_in-is, cell-is}
-use Rattle.cart_image.proofs.Changes.{get_or-views}
 use Rattle.flat_dump.specs.Cells.{cell_bytes, joined, imported_head, lost_cell}
 use Rattle.flat_dump.specs.Imported.{imported_info}
 use Rattle.flat_dump.specs.Importing.{IsCell, IsLaid, begun, image_with, lost_cells}
 use Rattle.flat_dump.proofs.Bytes.{length-zero_sector}
 use Rattle.flat_dump.proofs.Celling.{cell_shows}
+use Rattle.flat_dump.proofs.Running.{get_or-views, view_by-is, view_in-is}
 
 -- ---- cells, one behind the other
 
@@ -103,11 +102,11 @@ module _ (n : ℕ) (long : IsLength n) where
   number = let h = long.longest in omega arith
 
   front : (rest : List ℕ) → slice_range (imported_head n ++ rest) 0 read_len ≡ slice_range (imported_head n) 0 read_len
-  unfolding little_endian_bytes
+  unfolding imported_head little_endian_bytes
   front rest = refl
 
   told : head_by (image_len n) (slice_range (imported_head n) 0 read_len) ≡ Some head_told
-  unfolding layout_by little_endian_bytes number_at
+  unfolding imported_head layout_by little_endian_bytes number_at
   told =
       let least = le-leb 3 n long.shortest in
       let most = le-leb n LONGEST long.longest in
@@ -115,7 +114,7 @@ module _ (n : ℕ) (long : IsLength n) where
       rw (number, least, most, fits) refl
 
   length-head : length (imported_head n) ≡ 64
-  unfolding little_endian_bytes
+  unfolding imported_head little_endian_bytes
   length-head = refl
 
   module _ (cells : List (List ℕ)) (views : List SectorView) (count : length cells ≡ 896 * n) (size : length views ≡ 896 * n) (each : (q : ℕ) → q < 896 * n → IsCell (get_or cells q []) (get_or views q Blank)) where
@@ -159,7 +158,7 @@ module _ (n : ℕ) (long : IsLength n) where
     view_of q within =
         let c = each q within in
         view_in-is layout bytes q
-        ∙ cell-is _ _ _ _ _ _ _ _ (byte_of q 2 (place layout DefectByte q) within (omega arith) (omega arith)) (byte_of q 1 (place layout FormedByte q) within (omega arith) (omega arith))
+        ∙ view_by-is _ _ _ _ _ _ _ _ (byte_of q 2 (place layout DefectByte q) within (omega arith) (omega arith)) (byte_of q 1 (place layout FormedByte q) within (omega arith) (omega arith))
         (byte_of q 0 (place layout GateByte q) within (omega arith) (omega arith)) (data_of q within)
         ∙ c.shows
 
@@ -192,3 +191,22 @@ lost_is_cell = record {
   size = let l = length-zero_sector in let c = length-cell false zero_sector in omega arith;
   shows = cell_shows false zero_sector length-zero_sector;
 }
+
+pub length-lost : length (joined (replicate 32 lost_cell)) ≡ 32864
+length-lost =
+    let c = lost_is_cell in
+    let l : length (replicate 32 lost_cell) ≡ 32 = length-replicate {A = List ℕ} 32 lost_cell in
+    length-joined (replicate 32 lost_cell) (λ q within. ap (λ (x : List ℕ). length x) (get_or-replicate 32 q lost_cell [] (omega arith)) ∙ c.size) ∙ (omega arith)
+
+pub lost_more : (k : ℕ) → lost_cells (k + 1) ≡ lost_cells k ++ joined (replicate 32 lost_cell)
+lost_more k =
+    let more : 32 * (k + 1) ≡ 32 * k + 32 = omega arith in
+    ap (λ (n : ℕ). joined (replicate n lost_cell)) more
+    ∙ ap joined (sym (replicate-append-replicate (32 * k) 32 lost_cell))
+    ∙ flat_map-append (λ (c : List ℕ). c) (replicate (32 * k) lost_cell) (replicate 32 lost_cell)
+
+pub length-lost_cells : (k : ℕ) → length (lost_cells k) ≡ 32864 * k
+length-lost_cells k =
+    let c = lost_is_cell in
+    let l : length (replicate (32 * k) lost_cell) ≡ 32 * k = length-replicate {A = List ℕ} (32 * k) lost_cell in
+    length-joined (replicate (32 * k) lost_cell) (λ q within. ap (λ (x : List ℕ). length x) (get_or-replicate (32 * k) q lost_cell [] (omega arith)) ∙ c.size) ∙ (omega arith)

@@ -1,13 +1,16 @@
 pub mod Bytes
 pub mod Celling
 pub mod Coming
+pub mod Copying
 pub mod Dumping
 pub mod Ended
 pub mod Held
+pub mod Imports
 pub mod Laying
 pub mod Maps
 pub mod Masked
 pub mod Passing
+pub mod Running
 pub mod Seeing
 pub mod Standing
 pub mod Stops

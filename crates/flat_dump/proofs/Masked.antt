@@ -1,5 +1,5 @@
 -- The imported cartridge is whole, and a mask of the sectors that were rescued tells it.
-use Rattle.std.proofs.Common.{◌≡◌, inl, inr, ℕ, ◌+◌, ◌-◌, ◌*◌, ◌<◌, ◌≤◌, ◌&&◌, Bool, true, false, List, length, All, get_or, drop, Option, Some, nat_le, if◌then◌else◌, refl, sym, ap, ◌∙◌, subst, arith, length-drop}
+use Rattle.std.proofs.Common.{◌≡◌, inl, inr, ℕ, ◌+◌, ◌-◌, ◌*◌, ◌<◌, ◌≤◌, ◌&&◌, Bool, true, false, List, length, All, get_or, drop, Option, Some, None, nat_le, if◌then◌else◌, refl, sym, ap, ◌∙◌, subst, arith, length-drop}
 use Rattle.std.proofs.lemmas.Bool.{eqb-true, eqb-false, leb-true, leb-false}
 use Rattle.std.proofs.lemmas.List.{get_or_default, length-take-le}
 use Rattle.std.proofs.lemmas.List.Elements.{All-drop, All-take}
@@ -13,7 +13,7 @@ use Rattle.rescue_map.specs.declared.form.Block.{Block}
 use Rattle.rescue_map.specs.Mask.{IsMarked, IsMaskOf}
 use Rattle.rescue_map.specs.Text.{is_marked}
 use Rattle.flat_dump.specs.Imported.{IsImportedView, imported_view}
-use Rattle.flat_dump.specs.Laws.{ImportIsWhole, MaskImports}
+use Rattle.flat_dump.specs.Laws.{ImportIsWhole, MaskImports, FullMaskImports}
 
 sector_of : (dump : List ℕ) (q : ℕ) → All (λ b. b < 256) dump → 1024 * q + 1024 ≤ length dump → IsSector (slice_range dump (1024 * q) (1024 * q + 1024))
 sector_of dump q bytes has = record {
@@ -59,4 +59,28 @@ mask_imports dump mask blocks n long masks = record {
   views = λ q within.
       let P : SectorView → Type 0 = λ view. IsImportedView dump (Some blocks) q view in
       subst P (sym (get_or-map-range_with_len (imported_view dump mask) 0 (896 * n) q q Blank within (omega arith))) (by_mask dump mask blocks q (omega arith) masks);
+}
+
+-- ---- without a map
+
+by_full_mask : (dump mask : List ℕ) (q : ℕ) → IsMarked mask q → IsImportedView dump None q (imported_view dump mask q)
+by_full_mask dump mask q marked = by_marked (is_marked mask q) refl where
+  by_long : (long : Bool) → long ≡ nat_le (1024 * q + 1024) (length dump) →
+      IsImportedView dump None q (if long then Holds (slice_range dump (1024 * q) (1024 * q + 1024)) else Lost)
+  by_long true e = inl ((leb-true (1024 * q + 1024) (length dump) (sym e), tt), refl)
+  by_long false e = inr ((λ t. let has : 1024 * q + 1024 ≤ length dump = t.0 in let short = leb-false (1024 * q + 1024) (length dump) (sym e) in absurd (omega arith)), refl)
+
+  by_marked : (is : Bool) → is ≡ is_marked mask q →
+      IsImportedView dump None q (if is && nat_le (1024 * q + 1024) (length dump) then Holds (slice_range dump (1024 * q) (1024 * q + 1024)) else Lost)
+  by_marked true e = by_long (nat_le (1024 * q + 1024) (length dump)) refl
+  by_marked false e = absurd (eqb-false _ 1 (sym e) marked)
+
+pub full_mask_imports : FullMaskImports
+full_mask_imports dump mask n long marked = record {
+  info = refl;
+  version = refl;
+  size = length-map-range_with_len (imported_view dump mask) 0 (896 * n);
+  views = λ q within.
+      let P : SectorView → Type 0 = λ view. IsImportedView dump None q view in
+      subst P (sym (get_or-map-range_with_len (imported_view dump mask) 0 (896 * n) q q Blank within (omega arith))) (by_full_mask dump mask q (marked q (omega arith)));
 }

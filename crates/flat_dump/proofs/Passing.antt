@@ -1,26 +1,24 @@
 -- What steps leave of a file that is written and is no image yet.
-use Rattle.std.proofs.Common.{◌≡◌, ℕ, zero, suc, ◌+◌, ◌-◌, ◌*◌, ◌<◌, ◌≤◌, ◌⊎◌, inl, inr, Bool, true, false, List, [], ◌∷◌, ◌++◌, length, get_or, take, drop, replicate, Option, Some, None, is_some, IsSome, IfSome, Result, Ok, Err, refl, sym, ◌∙◌, ap, subst, arith, append-nil}
+use Rattle.std.proofs.Common.{◌≡◌, ℕ, zero, suc, ◌+◌, ◌-◌, ◌*◌, ◌≤◌, inl, inr, Bool, true, false, List, [], ◌∷◌, ◌++◌, length, get_or, take, drop, replicate, Option, Some, None, is_some, IsSome, IfSome, Result, Ok, Err, refl, sym, ◌∙◌, ap, subst, arith, append-nil}
 use Rattle.std.specs.Prelude.{◌==◌, slice_index}
 use Rattle.std.specs.Option.{option_map}
 use Rattle.std.proofs.lemmas.Bool.{eqb-true}
 use Rattle.std.proofs.lemmas.List.{take_all, drop_all, take_at, same_lists, get_or_default, length-replicate, length-append, length-take-le, length-drop}
 use Rattle.std.proofs.lemmas.List as lists
-use Rattle.std.proofs.Math.Seq.{drop-append-add}
 use Rattle.qic_base.proofs.Steps.{Rose-after}
-use Rattle.qic_base.specs.Disk.{Meaning, DiskStep, Look, WriteAt, SetLen, Sync, stored, resized, TornRange, Unsynced, Inside, Crashes, Stored, Failed, IsSettled, IsToldRight, IsLeftNow}
+use Rattle.qic_base.specs.Disk.{Meaning, DiskStep, WriteAt, SetLen, Sync, stored, resized, TornRange, Unsynced, Inside, Crashes, Stored, Failed, IsSettled, IsToldRight, IsLeftNow}
 use Rattle.qic_base.specs.Field.{overwritten, little_endian_bytes}
 use Rattle.cart_image.specs.declared.layout.Head.{Head}
 use Rattle.cart_image.specs.Image.{head_of, cartridge_of}
-use Rattle.cart_image.specs.Layout.{first_letter, head_len, put, resize}
-use Rattle.cart_image.specs.Run.{Runs}
+use Rattle.cart_image.specs.Layout.{first_letter, head_len, resize}
+use Rattle.cart_image.specs.Run.{Ran, Halted, Runs}
 use Rattle.cart_image.specs.Whole.{head_of-parts, cartridge_of-none}
-use Rattle.cart_image.proofs.Bytes.{OnlyIn, OnlyIn-torn, OnlyIn-written}
-use Rattle.cart_image.proofs.Renews.{none-by-first, length-resized}
 use Rattle.flat_dump.specs.Cells.{append_steps, imported_head, sign_steps}
 use Rattle.flat_dump.specs.Import.{IsEmpty, IsNoImage, Cleared, CrashesLeave}
 use Rattle.flat_dump.specs.Importing.{Stays, Unfinished, FailedSince, Goes, IsNoneOr, Finished, Ends, begun, image_with}
 use Rattle.flat_dump.specs.Stops.{IsUnsigned, KeepsFirst}
-use Rattle.flat_dump.proofs.Stops.{unsigned_none, kept_first}
+use Rattle.flat_dump.proofs.Running.{OnlyIn, OnlyIn-torn, OnlyIn-written, length-resized}
+use Rattle.flat_dump.proofs.Stops.{none_by_first, unsigned_none, kept_first}
 
 -- ---- what a disk tells
 
@@ -59,6 +57,16 @@ none_short bytes short = by_head (head_of bytes) refl
 
 -- ---- a step more
 
+pub stays_as : {D : Type 0} (m : Meaning D) (first now : D) (P Q R S : List ℕ → Type 0) → ((b : List ℕ) → P b → Q b) → ((b : List ℕ) → R b → S b) → Stays m first now P R → Stays m first now Q S
+stays_as m first now P Q R S one two s = record {
+  tells = s.tells;
+  later = s.later;
+  telling = s.telling;
+  clock = s.clock;
+  leaves = λ some left may. one left (s.leaves some left may);
+  since = λ left stops is. two left (s.since left stops is);
+}
+
 module _ {D : Type 0} (m : Meaning D) (left_now : (d : D) → IsLeftNow m d) (right : (d : D) → IsToldRight m d) where
   stays_on : (first old new : D) (step : DiskStep) (P Q R : List ℕ → Type 0) →
       ((before left : List ℕ) → P before → Unsynced step before left → Q left) → ((left : List ℕ) → Q left → R left) →
@@ -75,12 +83,6 @@ module _ {D : Type 0} (m : Meaning D) (left_now : (d : D) → IsLeftNow m d) (ri
           | inl was ↦ before.since left stops was
           | inr i ↦ gives left (closes i.0 left (before.leaves ((left_now first).telling stops) i.0 i.1) i.2)
         ];
-  }
-
-  stays_as : (first now : D) (P Q R S : List ℕ → Type 0) → ((b : List ℕ) → P b → Q b) → ((b : List ℕ) → R b → S b) → Stays m first now P R → Stays m first now Q S
-  stays_as first now P Q R S one two s = record s {
-    leaves = λ some left may. one left (s.leaves some left may);
-    since = λ left stops is. two left (s.since left stops is);
   }
 
   -- a sync leaves what is told alone
@@ -105,7 +107,12 @@ module _ {D : Type 0} (m : Meaning D) (left_now : (d : D) → IsLeftNow m d) (ri
 
   -- .. where the file is known
   stays_exact : (first now : D) (P Q R : List ℕ → Type 0) (file : List ℕ) → m.told now ≡ option_map (λ b. file) (m.told first) → IsSettled m now → Q file → Stays m first now P R → Stays m first now Q R
-  stays_exact first now P Q R file told settled q s = record s {
+  stays_exact first now P Q R file told settled q s = record {
+    tells = s.tells;
+    later = s.later;
+    telling = s.telling;
+    clock = s.clock;
+    since = s.since;
     leaves = λ some left may. subst Q (sym (settled.only file left (told_exact file (m.told first) (m.told now) told some) may)) q;
   }
 
@@ -114,7 +121,7 @@ module _ {D : Type 0} (m : Meaning D) (left_now : (d : D) → IsLeftNow m d) (ri
       Failed m old new step → Stays m first old P R → FailedSince m first new R
   stays_failed first old new step P Q R closes gives failed before = record {
     cause = Rose-after (m.faults first) (m.faults old) (m.faults new) before.later failed.cause;
-    stays = stays_as first new Q R R R gives (λ b r. r) (stays_on first old new step P Q R closes gives failed.tells failed.later failed.leaves failed.crashes before);
+    stays = stays_as m first new Q R R R gives (λ b r. r) (stays_on first old new step P Q R closes gives failed.tells failed.later failed.leaves failed.crashes before);
   }
 
   -- what is told now
@@ -141,7 +148,7 @@ module _ {D : Type 0} (m : Meaning D) (left_now : (d : D) → IsLeftNow m d) (ri
   -- ---- begun
 
   pub begin_goes : {T E : Type 0} (old new : D) (result : Result T E) → IsEmpty m old → Runs m old new (resize head_len) result → Goes m old new begun result
-  begin_goes old new result empty runs = by_result result runs where
+  begin_goes {T} {E} old new result empty runs = by_result result runs where
     Early : List ℕ → Type 0
     Early b = length b ≤ 64
 
@@ -177,7 +184,7 @@ module _ {D : Type 0} (m : Meaning D) (left_now : (d : D) → IsLeftNow m d) (ri
     by_result : (r : Result T E) → Runs m old new (resize head_len) r → Goes m old new begun r
     by_result (Ok x) (mid, longer, (last, synced, same)) =
         let one = stays_on old old mid (SetLen head_len) (λ b. b ≡ []) Early IsNoImage closes none_short
-            (tells_on (SetLen head_len) (m.told old) (m.told mid) longer.told) longer.later longer.leaves longer.crashes before in
+        (tells_on (SetLen head_len) (m.told old) (m.told mid) longer.told) longer.later longer.leaves longer.crashes before in
         let two = stays_synced old mid last Early IsNoImage none_short synced one in
         let told = told_on Sync begun (m.told old) (m.told mid) (m.told last) synced.told (told_begun (m.told old) (m.told mid) empty.told longer.told) in
         subst (λ (d : D). Unfinished m old d begun) (sym same)
@@ -185,7 +192,7 @@ module _ {D : Type 0} (m : Meaning D) (left_now : (d : D) → IsLeftNow m d) (ri
     by_result (Err e) (inl failed) = stays_failed old old new (SetLen head_len) (λ b. b ≡ []) Early IsNoImage closes none_short failed before
     by_result (Err e) (inr (mid, longer, inl failed)) =
         let one = stays_on old old mid (SetLen head_len) (λ b. b ≡ []) Early IsNoImage closes none_short
-            (tells_on (SetLen head_len) (m.told old) (m.told mid) longer.told) longer.later longer.leaves longer.crashes before in
+        (tells_on (SetLen head_len) (m.told old) (m.told mid) longer.told) longer.later longer.leaves longer.crashes before in
         stays_failed old mid new Sync Early Early IsNoImage (λ b left few same. subst Early (sym same) few) none_short failed one
     by_result (Err e) (inr (mid, longer, inr other)) = absurd other.2
 
@@ -219,11 +226,19 @@ module _ {D : Type 0} (m : Meaning D) (left_now : (d : D) → IsLeftNow m d) (ri
       fails_on first mid new (WriteAt (head_len + 32864 * segment) cells) (stored (SetLen (head_len + 32864 * segment + 32864)) file) (omega arith) failed one
   append_goes first old new segment file cells (Err e) long size before (inr (mid, longer, inr other)) = absurd other.2
 
+  pub append_fails : (first old new : D) (segment : ℕ) (file cells : List ℕ) → length file ≡ head_len + 32864 * segment → length cells ≡ 32864 → Unfinished m first old file →
+      Halted m old new (append_steps segment cells) → FailedSince m first new IsNoImage
+  append_fails first old new segment file cells long size before halted = append_goes {T = Unit {0}} {E = Unit {0}} first old new segment file cells (Err tt) long size before halted
+
+  pub append_ran : (first old new : D) (segment : ℕ) (file cells : List ℕ) → length file ≡ head_len + 32864 * segment → length cells ≡ 32864 → Unfinished m first old file →
+      Ran m old new (append_steps segment cells) → Unfinished m first new (file ++ cells)
+  append_ran first old new segment file cells long size before ran = append_goes {T = Unit {0}} {E = Unit {0}} first old new segment file cells (Ok tt) long size before ran
+
   -- ---- the file made empty
 
   pub clear_leaves : {T E : Type 0} (first old new : D) (P : List ℕ → Type 0) (result : Result T E) → ((b : List ℕ) → IsNoImage b → P b) → Stays m first old P P → Runs m old new (resize 0) result →
       (m.faults old ≤ m.faults new) × CrashesLeave m first new P × Cleared m old new P
-  clear_leaves first old new P result none before runs = by_result result runs where
+  clear_leaves {T} {E} first old new P result none before runs = by_result result runs where
     closes : (b left : List ℕ) → P b → Unsynced (SetLen 0) b left → P left
     closes b left p (inl same) = subst P (sym same) p
     closes b left p (inr torn) = none left (none_short left (let l = torn.size in omega arith))
@@ -258,8 +273,7 @@ module _ {D : Type 0} (m : Meaning D) (left_now : (d : D) → IsLeftNow m d) (ri
         let all = stays_on first old new (SetLen 0) P P P closes (λ b p. p) failed.tells failed.later failed.leaves failed.crashes before in
         (failed.later, all.since, inr (failed.cause, told_is first new P P all))
     by_result (Err e) (inr (mid, cut, inl failed)) =
-        let all = stays_on first mid new Sync P P P same_left (λ b p. p) failed.tells failed.later failed.leaves failed.crashes (shorter mid cut) in
-        (
+        let all = stays_on first mid new Sync P P P same_left (λ b p. p) failed.tells failed.later failed.leaves failed.crashes (shorter mid cut) in (
           (let a = cut.later in let b = failed.later in let c : m.faults old ≤ m.faults new = omega arith in c),
           all.since,
           inr (Rose-after (m.faults old) (m.faults mid) (m.faults new) cut.later failed.cause, told_is first new P P all),
@@ -273,11 +287,11 @@ module _ {D : Type 0} (m : Meaning D) (left_now : (d : D) → IsLeftNow m d) (ri
     rest = drop 1 (imported_head n)
 
     length-rest : length rest ≡ 63
-    unfolding little_endian_bytes
+    unfolding imported_head little_endian_bytes
     length-rest = refl
 
     head_is : first_letter ∷ rest ≡ imported_head n
-    unfolding little_endian_bytes
+    unfolding imported_head little_endian_bytes
     head_is = refl
 
     abbrev unsigned : List ℕ → List ℕ
@@ -299,6 +313,10 @@ module _ {D : Type 0} (m : Meaning D) (left_now : (d : D) → IsLeftNow m d) (ri
         ap (λ (xs : List ℕ). first_letter ∷ xs) behind
         ∙ ap (λ (xs : List ℕ). xs ++ drop 64 file) head_is
 
+    first_is : (file : List ℕ) → slice_index (signed file) 0 ≡ first_letter
+    unfolding overwritten
+    first_is file = refl
+
     torn_first : (file left : List ℕ) → 64 ≤ length file → TornRange 0 1 (unsigned file) left → IsNoneOr (image_with n file) left
     torn_first file left long torn = by_first (slice_index left 0 == first_letter) refl
       where
@@ -311,12 +329,8 @@ module _ {D : Type 0} (m : Meaning D) (left_now : (d : D) → IsLeftNow m d) (ri
         later : OnlyIn 0 1 (unsigned file) (signed file)
         later = let s = size in OnlyIn-written 0 (unsigned file) (first_letter ∷ []) (omega arith)
 
-        first_is : slice_index (signed file) 0 ≡ first_letter
-        unfolding overwritten
-        first_is = refl
-
         at : slice_index left 0 ≡ first_letter → (k : ℕ) → get_or left k 0 ≡ get_or (signed file) k 0
-        at first zero = first ∙ sym first_is
+        at first zero = first ∙ sym (first_is file)
         at first (suc k) = let a = now in let b = later in a.above (suc k) (omega arith) ∙ sym (b.above (suc k) (omega arith))
 
         is : slice_index left 0 ≡ first_letter → left ≡ signed file
@@ -327,7 +341,7 @@ module _ {D : Type 0} (m : Meaning D) (left_now : (d : D) → IsLeftNow m d) (ri
             get_or_default left k d 0 within ∙ at first k ∙ get_or_default (signed file) k 0 d (let s = a.size in let t = b.size in omega arith))
 
         by_first : (holds : Bool) → (slice_index left 0 == first_letter) ≡ holds → IsNoneOr (image_with n file) left
-        by_first false e = inl (none-by-first left e)
+        by_first false e = inl (none_by_first left e)
         by_first true e = inr (is (eqb-true (slice_index left 0) first_letter e) ∙ signed_is file long)
 
     pub sign_ends : {T E : Type 0} (first old new : D) (file : List ℕ) (result : Result T E) → 64 ≤ length file → Unfinished m first old file → Runs m old new (sign_steps n) result →
@@ -346,7 +360,7 @@ module _ {D : Type 0} (m : Meaning D) (left_now : (d : D) → IsLeftNow m d) (ri
       settled mid next wrote synced =
           let u = written mid wrote in
           let s = stays_synced first mid next IsUnsigned IsNoImage unsigned_none synced u.stays in
-          stays_as first next (λ b. b ≡ unsigned file) (λ b. b ≡ unsigned file) IsNoImage (IsNoneOr (image_with n file)) (λ b e. e) none_or
+          stays_as m first next (λ b. b ≡ unsigned file) (λ b. b ≡ unsigned file) IsNoImage (IsNoneOr (image_with n file)) (λ b e. e) none_or
           (stays_exact first next IsUnsigned (λ b. b ≡ unsigned file) IsNoImage (unsigned file) (told_synced mid next wrote synced) synced.leaves refl s)
 
       closes : (b left : List ℕ) → b ≡ unsigned file → Unsynced (WriteAt 0 (first_letter ∷ [])) b left → IsNoneOr (image_with n file) left
@@ -358,10 +372,10 @@ module _ {D : Type 0} (m : Meaning D) (left_now : (d : D) → IsLeftNow m d) (ri
       by_result : (r : Result T E) → Runs m old new (sign_steps n) r → Ends m first new (image_with n file) r
       by_result (Ok x) (mid, wrote, (next, synced, (third, signs, (last, ended, same)))) =
           let three = stays_on first next third (WriteAt 0 (first_letter ∷ [])) (λ b. b ≡ unsigned file) (IsNoneOr (image_with n file)) (IsNoneOr (image_with n file)) closes (λ b p. p)
-              (tells_on (WriteAt 0 (first_letter ∷ [])) (m.told next) (m.told third) signs.told) signs.later signs.leaves signs.crashes (settled mid next wrote synced) in
+          (tells_on (WriteAt 0 (first_letter ∷ [])) (m.told next) (m.told third) signs.told) signs.later signs.leaves signs.crashes (settled mid next wrote synced) in
           let four = stays_synced first third last (IsNoneOr (image_with n file)) (IsNoneOr (image_with n file)) (λ b p. p) ended three in
           let told = told_on Sync (signed file) (m.told first) (m.told third) (m.told last) ended.told
-              (told_on (WriteAt 0 (first_letter ∷ [])) (unsigned file) (m.told first) (m.told next) (m.told third) signs.told (told_synced mid next wrote synced)) in
+          (told_on (WriteAt 0 (first_letter ∷ [])) (unsigned file) (m.told first) (m.told next) (m.told third) signs.told (told_synced mid next wrote synced)) in
           subst (λ (d : D). Finished m first d (image_with n file)) (sym same) (record {
             told = told ∙ ap (λ (f : List ℕ). option_map (λ b. f) (m.told first)) (signed_is file long);
             settled = ended.leaves;
@@ -370,15 +384,27 @@ module _ {D : Type 0} (m : Meaning D) (left_now : (d : D) → IsLeftNow m d) (ri
       by_result (Err e) (inl failed) = weaker (fails_on first old new (WriteAt 1 rest) file (omega arith) failed before)
         where
           weaker : FailedSince m first new IsNoImage → FailedSince m first new (IsNoneOr (image_with n file))
-          weaker f = record { cause = f.cause; stays = stays_as first new IsNoImage (IsNoneOr (image_with n file)) IsNoImage (IsNoneOr (image_with n file)) none_or none_or f.stays }
+          weaker f = record { cause = f.cause; stays = stays_as m first new IsNoImage (IsNoneOr (image_with n file)) IsNoImage (IsNoneOr (image_with n file)) none_or none_or f.stays }
       by_result (Err e) (inr (mid, wrote, inl failed)) = weaker (fails_on first mid new Sync (unsigned file) tt failed (written mid wrote))
         where
           weaker : FailedSince m first new IsNoImage → FailedSince m first new (IsNoneOr (image_with n file))
-          weaker f = record { cause = f.cause; stays = stays_as first new IsNoImage (IsNoneOr (image_with n file)) IsNoImage (IsNoneOr (image_with n file)) none_or none_or f.stays }
+          weaker f = record { cause = f.cause; stays = stays_as m first new IsNoImage (IsNoneOr (image_with n file)) IsNoImage (IsNoneOr (image_with n file)) none_or none_or f.stays }
       by_result (Err e) (inr (mid, wrote, inr (next, synced, inl failed))) =
           stays_failed first next new (WriteAt 0 (first_letter ∷ [])) (λ b. b ≡ unsigned file) (IsNoneOr (image_with n file)) (IsNoneOr (image_with n file)) closes (λ b p. p) failed (settled mid next wrote synced)
       by_result (Err e) (inr (mid, wrote, inr (next, synced, inr (third, signs, inl failed)))) =
           let three = stays_on first next third (WriteAt 0 (first_letter ∷ [])) (λ b. b ≡ unsigned file) (IsNoneOr (image_with n file)) (IsNoneOr (image_with n file)) closes (λ b p. p)
-              (tells_on (WriteAt 0 (first_letter ∷ [])) (m.told next) (m.told third) signs.told) signs.later signs.leaves signs.crashes (settled mid next wrote synced) in
+          (tells_on (WriteAt 0 (first_letter ∷ [])) (m.told next) (m.told third) signs.told) signs.later signs.leaves signs.crashes (settled mid next wrote synced) in
           stays_failed first third new Sync (IsNoneOr (image_with n file)) (IsNoneOr (image_with n file)) (IsNoneOr (image_with n file)) same_left (λ b p. p) failed three
       by_result (Err e) (inr (mid, wrote, inr (next, synced, inr (third, signs, inr (last, ended, other))))) = absurd other
+
+-- a call's answer
+pub goes_err : {D T E : Type 0} (m : Meaning D) (first now : D) (file : List ℕ) (result : Result T E) (e : E) → result ≡ Err e → FailedSince m first now IsNoImage → Goes m first now file result
+goes_err m first now file (Ok x) e same failed = cc
+goes_err m first now file (Err x) e same failed = failed
+
+pub ends_err : {D T E : Type 0} (m : Meaning D) (first now : D) (image : List ℕ) (result : Result T E) (e : E) → result ≡ Err e → FailedSince m first now (IsNoneOr image) → Ends m first now image result
+ends_err m first now image (Ok x) e same failed = cc
+ends_err m first now image (Err x) e same failed = failed
+
+pub none_or : {D : Type 0} (m : Meaning D) (first now : D) (image : List ℕ) → FailedSince m first now IsNoImage → FailedSince m first now (IsNoneOr image)
+none_or m first now image failed = record { cause = failed.cause; stays = stays_as m first now IsNoImage (IsNoneOr image) IsNoImage (IsNoneOr image) (λ b none. inl none) (λ b none. inl none) failed.stays }

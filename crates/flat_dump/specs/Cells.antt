@@ -1,5 +1,5 @@
 -- An image that is written from front to back, one segment behind the other (this project's own).
-use Rattle.std.specs.Prelude.{◌≡◌, ℕ, ◌+◌, ◌*◌, ◌==◌, ◌&&◌, nat_le, Bool, false, List, [], ◌∷◌, ◌++◌, drop, length, map, replicate, slice_index, slice_index_or, slice_range, slice_set, if◌then◌else◌}
+use Rattle.std.specs.Prelude.{◌≡◌, ℕ, ◌+◌, ◌*◌, ◌<◌, ◌==◌, ◌&&◌, nat_le, Bool, false, List, [], ◌∷◌, ◌++◌, drop, length, map, slice_index, slice_index_or, slice_range, slice_set, if◌then◌else◌}
 use Rattle.std.specs.Int.{bit_at}
 use Rattle.std.specs.List.{flat_map, range_with_len}
 use Rattle.qic_base.specs.Cartridge.{zero_sector}
@@ -37,11 +37,15 @@ abbrev pub view_in : (word len : ℕ) (sectors : List (List ℕ)) (index : ℕ) 
 view_in word len sectors index = if is_held word len index then Holds (slice_index_or sectors index []) else Lost
 
 -- the cells of a segment of which so many bytes came, and what they are read as
-abbrev pub cells_of : (word len : ℕ) (sectors : List (List ℕ)) → List (List ℕ)
+unfoldable pub cells_of : (word len : ℕ) (sectors : List (List ℕ)) → List (List ℕ)
 cells_of word len sectors = map (cell_in word len sectors) (range_with_len 0 32)
 
-abbrev pub views_of : (word len : ℕ) (sectors : List (List ℕ)) → List SectorView
+unfoldable pub views_of : (word len : ℕ) (sectors : List (List ℕ)) → List SectorView
 views_of word len sectors = map (view_in word len sectors) (range_with_len 0 32)
+
+-- each sector has its 1,024 bytes
+abbrev pub AreWhole : (sectors : List (List ℕ)) → Type 0
+AreWhole sectors = (index : ℕ) → index < 32 → length (slice_index_or sectors index []) ≡ 1024
 
 -- the cell of a lost sector that the dump doesn't reach
 abbrev pub lost_cell : List ℕ
@@ -55,7 +59,7 @@ append_steps segment cells =
     SetLen (head_len + 32864 * segment + 32864) ∷ WriteAt (head_len + 32864 * segment) cells ∷ []
 
 -- the head of an image that was imported: that of a new one, with the referenced mark
-abbrev pub imported_head : ℕ → List ℕ
+unfoldable pub imported_head : ℕ → List ℕ
 imported_head n = slice_set (new_head n) referenced_place mark_byte
 
 -- the head is written but for its first byte, and then that

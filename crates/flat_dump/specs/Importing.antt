@@ -6,7 +6,7 @@ use Rattle.qic_base.specs.Cause.{Rose}
 use Rattle.qic_base.specs.Disk as disks
 use Rattle.qic_base.specs.Source as sources
 use Rattle.qic_base.specs.declared.tape.SectorView.{SectorView}
-use Rattle.qic_base.specs.declared.tape.SectorView.TheVariants.{Blank, Lost}
+use Rattle.qic_base.specs.declared.tape.SectorView.TheVariants.{Blank}
 use Rattle.cart_image.specs.Image.{view_by}
 use Rattle.cart_image.specs.Layout.{head_len}
 use Rattle.flat_dump.specs.Cells.{joined, lost_cell, imported_head}

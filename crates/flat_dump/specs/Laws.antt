@@ -1,10 +1,10 @@
 -- The laws of flat dumps (this project's own).
-use Rattle.std.specs.Prelude.{◌≡◌, ◌↔◌, ℕ, ◌*◌, ◌/◌, ◌<◌, ◌≤◌, List, length, All, Option, Some}
+use Rattle.std.specs.Prelude.{◌≡◌, ◌↔◌, ℕ, ◌*◌, ◌/◌, ◌<◌, ◌≤◌, List, length, All, Option, Some, None}
 use Rattle.qic_base.specs.Cartridge.{Cartridge, IsCartridge, IsLength}
 use Rattle.cartridge_spec.specs.Volumes.{Plain, Stands}
 use Rattle.rescue_map.specs.declared.form.Block.{Block}
 use Rattle.rescue_map.specs.Map.{Blocks, Rescued, reading_of}
-use Rattle.rescue_map.specs.Mask.{IsMaskOf}
+use Rattle.rescue_map.specs.Mask.{IsMarked, IsMaskOf}
 use Rattle.flat_dump.specs.Dump.{dump_of}
 use Rattle.flat_dump.specs.Held.{IsHeld, map_of}
 use Rattle.flat_dump.specs.Imported.{IsImported, imported_by, brought_back}
@@ -38,6 +38,12 @@ abbrev pub MaskImports : Type 0
 MaskImports =
     (dump mask : List ℕ) (blocks : List Block) (n : ℕ) → 28 * n ≤ length mask → IsMaskOf blocks mask →
     IsImported dump (Some blocks) n (imported_by dump mask n)
+
+-- without a map a mask of all sectors tells it
+abbrev pub FullMaskImports : Type 0
+FullMaskImports =
+    (dump mask : List ℕ) (n : ℕ) → 28 * n ≤ length mask → ((sector : ℕ) → sector < 32 * length mask → IsMarked mask sector) →
+    IsImported dump None n (imported_by dump mask n)
 
 -- the dump and the map of a cartridge bring it back, each sector that held nothing as a lost one
 abbrev pub BringsBack : Type 0

@@ -1,10 +1,10 @@
 //! An image that is written from front to back, one segment behind the other, and becomes one by its first byte.
 
-ghost use Rattle.std.specs.Prelude.{◌≡◌, ◌+◌, ◌*◌, ◌++◌, ◌≤◌, ◌<◌, ℕ, List, length, drop, IfOk, OnOk};
+ghost use Rattle.std.specs.Prelude.{◌≡◌, ◌+◌, ◌*◌, ◌++◌, ◌≤◌, ◌<◌, ℕ, List, length, drop, replicate, IfOk, OnOk};
 ghost use Rattle.rescue_map.specs.Laws.{most_words};
-ghost use Rattle.cart_image.specs.Layout.{head_len, resize};
+ghost use Rattle.cart_image.specs.Layout.{head_len, put as put_steps, resize};
 ghost use Rattle.cart_image.specs.Run.{Runs};
-ghost use Rattle.flat_dump.specs.Cells.{cell_bytes, is_held as held_at, views_of, cells_of, joined, append_steps, imported_head as head_of, sign_steps};
+ghost use Rattle.flat_dump.specs.Cells.{AreWhole, cell_bytes, is_held as held_at, lost_cell, views_of, cells_of, joined, append_steps, imported_head as head_of, sign_steps};
 ghost use Rattle.flat_dump.specs.Import.{lost_count};
 ghost use Rattle.flat_dump.specs.Importing.{Unfinished, Goes, lost_cells};
 
@@ -90,8 +90,10 @@ pub fn write_segment<D: Disk>(
     len: u32,
     word: u32,
 ) -> Result<u32, DiskFailed>
-    requires { length sectors.now ≡ 32 }
-    ensures ran { Runs D.means disk.old disk.new (append_steps segment (joined (cells_of word len sectors.now))) result }
+    requires sectors { length sectors.now ≡ 32 }
+    requires whole { AreWhole sectors.now }
+    ensures ran { Runs D.means disk.old disk.new
+        (append_steps segment (joined (cells_of word len sectors.now))) result }
     ensures seen { OnOk result (head_len ≤ D.means.seen_len disk.new) }
     ensures lost { IfOk result (λ lost. lost ≡ lost_count (views_of word len sectors.now)) }
     ensures few { IfOk result (λ lost. lost ≤ 32) }
@@ -102,16 +104,26 @@ pub fn write_segment<D: Disk>(
     Ok(lost)
 }
 
+/// The cells of a segment that a dump doesn't reach.
+#[tactic(auto, unfolding(qic_base::specs::Cartridge::zero_sector))]
+fn lost_segment() -> [[u8; 1027]; 32]
+    ensures { result ≡ replicate 32 lost_cell }
+{
+    [cell_of(&[0; 1024], false); 32]
+}
+
 /// Writes the cells of lost sectors behind those of the segments before them, up to a segment.
 pub fn append_lost<D: Disk>(disk: &mut D, from: u32, to: u32) -> Result<(), DiskFailed>
     requires order { from ≤ to }
     requires few { to ≤ most_words }
     requires seen { head_len ≤ D.means.seen_len disk.old }
-    ensures goes { (first : D) (file : List ℕ) (more : ℕ) → length file ≡ head_len + 32864 * from → from + more ≡ to →
-        Unfinished D.means first disk.old file → Goes D.means first disk.new (file ++ lost_cells more) result }
+    ensures goes { (first : D) (file : List ℕ) (more : ℕ) →
+        length file ≡ head_len + 32864 * from → from + more ≡ to →
+        Unfinished D.means first disk.old file →
+        Goes D.means first disk.new (file ++ lost_cells more) result }
     ensures seen { OnOk result (head_len ≤ D.means.seen_len disk.new) }
 {
-    let cells = [cell_of(&[0; 1024], false); 32];
+    let cells = lost_segment();
     for segment in from..to {
         append(disk, segment, cells.as_flattened())?;
     }
@@ -119,7 +131,7 @@ pub fn append_lost<D: Disk>(disk: &mut D, from: u32, to: u32) -> Result<(), Disk
 }
 
 /// The head of an image that was imported, behind its first byte.
-#[tactic(auto, unfolding(qic_base::specs::Field::overwritten, qic_base::specs::Field::little_endian_bytes))]
+#[tactic(auto, unfolding(crate::specs::Cells::imported_head, qic_base::specs::Field::overwritten, qic_base::specs::Field::little_endian_bytes))]
 fn head_rest(segments_per_track: u16) -> [u8; 63]
     ensures { result ≡ drop 1 (head_of segments_per_track) }
 {
@@ -134,15 +146,24 @@ fn head_rest(segments_per_track: u16) -> [u8; 63]
     rest
 }
 
+/// Writes bytes, and puts them on the disk.
+fn put<D: Disk>(disk: &mut D, place: u64, bytes: &[u8]) -> Result<(), DiskFailed>
+    requires { place + length bytes.now ≤ D.means.seen_len disk.old }
+    ensures ran { Runs D.means disk.old disk.new (put_steps place bytes.now) result }
+    ensures seen { D.means.seen_len disk.new ≡ D.means.seen_len disk.old }
+{
+    disk.write_at(place, bytes)?;
+    disk.sync()?;
+    Ok(())
+}
+
 /// Makes the file an image of so many segments per track: puts the head on the disk, and then its first byte.
 pub fn sign<D: Disk>(disk: &mut D, segments_per_track: u16) -> Result<(), DiskFailed>
     requires { head_len ≤ D.means.seen_len disk.old }
     ensures { Runs D.means disk.old disk.new (sign_steps segments_per_track) result }
 {
-    disk.write_at(1, &head_rest(segments_per_track))?;
-    disk.sync()?;
-    disk.write_at(0, &[SIGNATURE[0]])?;
-    disk.sync()
+    put(disk, 1, &head_rest(segments_per_track))?;
+    put(disk, 0, &[SIGNATURE[0]])
 }
 
 /// Makes the file empty.

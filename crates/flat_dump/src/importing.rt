@@ -1,11 +1,11 @@
 //! The import of a flat dump.
 
-ghost use Rattle.std.specs.Prelude.{◌≡◌, ℕ, ◌+◌, ◌*◌, ◌≤◌, ◌++◌, List, length, IfSome, OnOk};
+ghost use Rattle.std.specs.Prelude.{◌≡◌, ℕ, ◌+◌, ◌*◌, ◌≤◌, ◌++◌, List, length, IfOk, IfSome, OnOk};
 ghost use Rattle.qic_base.specs.Cartridge.{IsLength};
 ghost use Rattle.qic_base.specs.Cause.{HasCause};
 ghost use Rattle.rescue_map.specs.Laws.{most_words};
 ghost use Rattle.cart_image.specs.Layout.{head_len};
-ghost use Rattle.flat_dump.specs.Import.{IsEmpty, Imports};
+ghost use Rattle.flat_dump.specs.Import.{IsDumpOf, IsEmpty, Imports};
 ghost use Rattle.flat_dump.specs.Importing.{Unfinished, Ends, Counts, Copies, Fits, Fills, begun, lost_cells, image_with};
 
 use crate::cells::{append_lost, begin, clear, sign, write_segment};
@@ -72,7 +72,9 @@ fn copy_segments<S: Source, D: Disk>(
     requires words { most ≤ length mask.now }
     requires few { most ≤ most_words }
     requires seen { head_len ≤ D.means.seen_len disk.old }
-    ensures copies { Copies S.means D.means source.old source.new disk.old disk.new mask.now most result }
+    ensures copies { Copies S.means D.means source.old source.new disk.old disk.new
+        mask.now most result }
+    ensures few { IfOk result (λ copied. copied.lost ≤ 32 * copied.segments) }
     ensures seen { OnOk result (head_len ≤ D.means.seen_len disk.new) }
     ensures kept { S.means.keeps source.old source.new }
     ensures later { S.means.faults source.old ≤ S.means.faults source.new }
@@ -109,6 +111,18 @@ fn copy_segments<S: Source, D: Disk>(
     }
 }
 
+/// The most segments of the cartridge.
+fn most_segments(asked: Option<u16>) -> u32
+    requires { IfSome asked IsLength }
+    ensures few { result ≤ most_words }
+    ensures enough { (bytes n : ℕ) → IsLength n → IsDumpOf asked bytes n → 28 * n ≤ result }
+{
+    match asked {
+        Some(n) => 28 * u32::from(n),
+        None => 28 * u32::from(LONGEST),
+    }
+}
+
 /// The segments per track of a dump of so many bytes: those that were asked for, where it isn't longer; or else exactly
 /// those that it has. None where that is no cartridge.
 fn length_of(bytes: u64, asked: Option<u16>) -> Option<u16>
@@ -136,10 +150,27 @@ fn finish<D: Disk>(disk: &mut D, copied: u32, segments_per_track: u16) -> Result
     requires seen { head_len ≤ D.means.seen_len disk.old }
     ensures { (first : D) (file : List ℕ) (more : ℕ) → length file ≡ head_len + 32864 * copied →
         copied + more ≡ 28 * segments_per_track → Unfinished D.means first disk.old file →
-        Ends D.means first disk.new (image_with segments_per_track (file ++ lost_cells more)) result }
+        Ends D.means first disk.new
+        (image_with segments_per_track (file ++ lost_cells more)) result }
 {
     append_lost(disk, copied, 28 * u32::from(segments_per_track))?;
     sign(disk, segments_per_track)
+}
+
+/// What a dump was imported as, whose first segments were copied.
+fn imported_as(copied: Copied, segments_per_track: u16) -> Imported
+    requires length { IsLength segments_per_track }
+    requires order { copied.segments ≤ 28 * segments_per_track }
+    requires few { copied.lost ≤ 32 * copied.segments }
+    ensures segments { result.segments ≡ 28 * segments_per_track }
+    ensures lost { (more : ℕ) → copied.segments + more ≡ 28 * segments_per_track →
+        result.lost ≡ copied.lost + 32 * more }
+{
+    let segments = 28 * u32::from(segments_per_track);
+    Imported {
+        segments,
+        lost: copied.lost + 32 * (segments - copied.segments),
+    }
 }
 
 /// Copies a dump into a file with the room of a head alone, and makes that its image.
@@ -153,23 +184,23 @@ fn fill_image<S: Source, D: Disk>(
     requires words { most_words ≤ length mask.now }
     requires asked { IfSome segments_per_track IsLength }
     ensures fills { (first : D) → Unfinished D.means first disk.old begun →
-        Fills S.means D.means source.old source.new first disk.new mask.now segments_per_track result }
+        Fills S.means D.means source.old source.new first disk.new
+        mask.now segments_per_track result }
     ensures kept { S.means.keeps source.old source.new }
     ensures later { S.means.faults source.old ≤ S.means.faults source.new }
 {
-    let most = 28 * u32::from(segments_per_track.unwrap_or(LONGEST));
-    let copied = copy_segments(source, mask, most, disk)?;
-    let bytes = copied.bytes;
-    let Some(n) = length_of(bytes, segments_per_track) else {
-        return Err(ImportError::Length { bytes });
+    let most = most_segments(segments_per_track);
+    let copied = match copy_segments(source, mask, most, disk) {
+        Ok(copied) => copied,
+        Err(error) => return Err(error),
     };
-    let segments = 28 * u32::from(n);
-    match finish(disk, copied.segments, n) {
-        Ok(()) => Ok(Imported {
-            segments,
-            lost: copied.lost + 32 * (segments - copied.segments),
-        }),
-        Err(DiskFailed) => Err(ImportError::Disk),
+    let bytes = copied.bytes;
+    match length_of(bytes, segments_per_track) {
+        Some(n) => match finish(disk, copied.segments, n) {
+            Ok(()) => Ok(imported_as(copied, n)),
+            Err(DiskFailed) => Err(ImportError::Disk),
+        },
+        None => Err(ImportError::Length { bytes }),
     }
 }
 
@@ -183,7 +214,8 @@ fn write_image<S: Source, D: Disk>(
     requires empty { IsEmpty D.means disk.old }
     requires words { most_words ≤ length mask.now }
     requires asked { IfSome segments_per_track IsLength }
-    ensures fills { Fills S.means D.means source.old source.new disk.old disk.new mask.now segments_per_track result }
+    ensures fills { Fills S.means D.means source.old source.new disk.old disk.new
+        mask.now segments_per_track result }
     ensures kept { S.means.keeps source.old source.new }
     ensures later { S.means.faults source.old ≤ S.means.faults source.new }
 {
@@ -193,11 +225,11 @@ fn write_image<S: Source, D: Disk>(
     }
 }
 
-/// Writes the image of a flat dump into an empty file, in one pass over the dump, whose length tells the segments per track
-/// unless they are given: then a shorter one is taken, too. A sector is lost where the dump lacks a byte of it, or the mask,
-/// a word of 32 sectors for each of 6,888 segments, its bit: all are set where each byte was rescued. A stop at any moment
-/// leaves no image or the whole one. After an error the file is empty again; where the clearing fails, too, it is no image,
-/// or the whole one where the write of its first byte or the sync behind that failed.
+/// Writes the image of a flat dump into an empty file, in one pass over the dump. Its length tells the segments per track,
+/// unless they are given: then a shorter one is taken, too. A sector is lost where the dump lacks a byte of it or the mask
+/// its bit (a word of 32 sectors for each of 6,888 segments; without a map all are set). A stop leaves no image or the
+/// whole one. After an error the file is empty; where the clearing fails, too, it is no image, or the whole one where the
+/// write of its first byte or the sync behind it had failed.
 pub fn import<S: Source, D: Disk>(
     source: &mut S,
     mask: &[u32],
@@ -207,14 +239,17 @@ pub fn import<S: Source, D: Disk>(
     requires empty { IsEmpty D.means disk.old }
     requires words { most_words ≤ length mask.now }
     requires asked { IfSome segments_per_track IsLength }
-    ensures imports { Imports S.means D.means source.old source.new disk.old disk.new mask.now segments_per_track result }
+    ensures imports { Imports S.means D.means source.old source.new disk.old disk.new
+        mask.now segments_per_track result }
     ensures kept { S.means.keeps source.old source.new }
     ensures later { S.means.faults source.old ≤ S.means.faults source.new }
 {
-    let imported = write_image(source, mask, segments_per_track, disk);
-    if imported.is_err() {
-        // The error tells it, too.
-        let _cleared = clear(disk);
+    match write_image(source, mask, segments_per_track, disk) {
+        Ok(imported) => Ok(imported),
+        Err(error) => {
+            // The error tells it, too.
+            let _cleared = clear(disk);
+            Err(error)
+        }
     }
-    imported
 }

@@ -1,6 +1,6 @@
 //! Laws of flat dumps. Each is the contract of a function that does nothing.
 
-ghost use Rattle.flat_dump.specs.Laws.{DumpIsWhole, EachMapTells, ImportsOne, ImportIsWhole, MaskImports, BringsBack, StandsAgain};
+ghost use Rattle.flat_dump.specs.Laws.{DumpIsWhole, EachMapTells, ImportsOne, ImportIsWhole, MaskImports, FullMaskImports, BringsBack, StandsAgain};
 ghost use Rattle.flat_dump.specs.Cells.{CellShows};
 ghost use Rattle.flat_dump.specs.Stops.{UnsignedIsNone};
 
@@ -14,11 +14,13 @@ pub fn maps_tell_what_is_held()
     ensures { EachMapTells }
 {}
 
-/// A dump and a map are imported as one cartridge, which is whole; each mask of the sectors that were rescued tells it.
+/// A dump and a map are imported as one cartridge, which is whole; each mask of the sectors that were
+/// rescued tells it, without a map that of all sectors.
 pub fn imports_are_one()
     ensures one { ImportsOne }
     ensures whole { ImportIsWhole }
     ensures by_mask { MaskImports }
+    ensures unmasked { FullMaskImports }
 {}
 
 /// A cartridge that is exported and imported again is the same one, each sector that held nothing a lost one, with the

@@ -1,4 +1,4 @@
-use Rattle.std.proofs.Common.{◌++◌, ◌∷◌, [], ℕ, codes, decimal, refl, subst}
+use Rattle.std.proofs.Common.{◌++◌, ℕ, codes, decimal, refl, subst}
 use Rattle.qic_base.specs.Sink.{BrokeOff, Wrote, Writes}
 use Rattle.qic_base.proofs.Writing.{BrokeOff-longer}
 use Rattle.rescue_map.proofs.Texting.{writes_behind}
