@@ -207,7 +207,7 @@ the label B. Copy 0 is in force.
   label A
 
 With a wrong sector copy 0 doesn't read, and copy 1 is in force. `scrub deep` mends that sector, so behind it copy 0 is in force
-again. It is the one command that may so change what a cartridge is mounted as, and it prints which sector it was.
+again: so `scrub deep` may change what a cartridge is mounted as. It prints which sector it was.
 
   $ flip 0 9 100
   $ tape cart.img info | sed -n 1p

@@ -47,6 +47,21 @@ The first 163,840 bytes are five segments. The sectors behind them are lost, and
   $ tape part.img restore 1
   a page of text
 
+A sector of which the dump has only a part is lost: with half of one more as many are, and with all of it one less.
+
+  $ head -c 164352 page.dump | tape_import --segments 3 half.img
+  imported 84 2528
+  $ head -c 164864 page.dump | tape_import --segments 3 more.img
+  imported 84 2527
+
+More segments may be asked for than the dump has. The header tells that it is of another cartridge, whose last segment is 83.
+
+  $ tape_import --segments 4 long.img < page.dump
+  imported 112 896
+  $ tape long.img list
+  tape: foreign last-data 83
+  [7]
+
 Without the map the zero bytes in the place of the lost sectors are taken as read. Those of the sectors 1 and 2 are what was
 written there; those of sector 0 are not.
 
