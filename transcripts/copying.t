@@ -206,19 +206,26 @@ it isn't, and the volumes before it stay.
   $ tape worse.img list
   volumes 0
 
-The name is copied as it stands, also with spaces at its end
-------------------------------------------------------------
+A name is copied as it stands, all its 44 bytes
+-----------------------------------------------
 
-  $ cp short.img spaced.img
-  $ echo one | tape spaced.img append 'a  '
+A name that was written by hand has bytes that no append takes.
+
+  $ . "$TESTDIR/image.sh"
+  $ cp short.img cart.img
+  $ echo one | tape cart.img append a
   appended 1 4 3 3
+  $ put 2 0 8 'b\xFF\0%41s'
+  $ cp cart.img named.img
   $ cp short.img copy.img
-  $ tape_dup spaced.img copy.img
+  $ tape_dup named.img copy.img
   copied 1 4
   volumes 1
-  $ tape copy.img list | cat -A
-  1 3 3 4 1970-01-01T00:00:00 a$
-  volumes 1$
+  $ cp copy.img cart.img
+  $ look 2 0 8 4
+   62 ff 00 20
+  $ tape_dup named.img copy.img
+  volumes 1
 
 A copy that is stopped
 ----------------------

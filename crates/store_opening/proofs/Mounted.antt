@@ -31,14 +31,14 @@ is_refused : (info : TapeInfo) (f : StoreFault) (held : Option Cartridge) → Kn
 is_refused info f None known refuses = cc
 is_refused info f (Some c) known refuses = refuses
 
-nothing_begins : (told : Option (Option Cartridge)) → IfSome told (λ held. ([] ≡ []) ⊎ IsSomeAnd held (λ c. IsSettling c []))
-nothing_begins None = tt
-nothing_begins (Some h) = inl refl
+nothing_begins : (steps : List TapeStep) (told : Option (Option Cartridge)) → steps ≡ [] → IfSome told (λ held. (steps ≡ []) ⊎ IsSomeAnd held (λ c. IsSettling c steps))
+nothing_begins steps None none = tt
+nothing_begins steps (Some h) none = inl none
 
 -- there was no start
 pub open_unstarted : {T : Type 0} (t : tapes.Meaning T) (a b : T) (why : OpenFault) → StartFails t a b why → OpenFails t a b why
 open_unstarted t a b open_fault.NoCartridge fails = fails
-open_unstarted t a b (open_fault.Refused fault.Tape) fails = record { steps = []; broke = fails; front = nothing_begins (t.told a) }
+open_unstarted t a b (open_fault.Refused fault.Tape) fails = record { steps = []; broke = fails; front = nothing_begins [] (t.told a) refl }
 open_unstarted t a b (open_fault.Refused f) fails = absurd fails
 
 pub open_shown : {T : Type 0} (t : tapes.Meaning T) (a b : T) (c : UnitView T) (info : TapeInfo) (store : StoreView) → Present t a b info → MountDoes t b c.tape (Ok store) → StoreFits t store c →
