@@ -1,3 +1,3 @@
-pub mod Comparing
-pub mod Copying
+pub mod Copied
 pub mod Lengths
+pub mod Lists

@@ -1,7 +1,6 @@
 //! The lists of two cartridges, compared.
 
-ghost use Rattle.std.specs.Prelude.{◌≡◌, ◌<◌, IsSomeAnd, IfSome, IsTrue, length, slice_get, true};
-ghost use Rattle.std.specs.Prelude.{◌↔◌, ◌×◌};
+ghost use Rattle.std.specs.Prelude.{◌≡◌, ◌<◌, length};
 ghost use Rattle.volume_copy.specs.Runs.{ArePaired, first_difference};
 
 use volume_store::Store;

@@ -1,7 +1,7 @@
 //! The volumes that the target lacks, copied one after the other.
 
-ghost use Rattle.std.specs.Prelude.{◌≡◌, ◌≢◌, ◌+◌, ◌<◌, ◌≤◌, ◌×◌, Err, IfOk, length};
-ghost use Rattle.volume_copy.specs.Runs.{CopiesOne, CopyView, MissingEnds, SideFits, append_status, is_append_fault};
+ghost use Rattle.std.specs.Prelude.{◌≡◌, ◌<◌, ◌≤◌, length, true};
+ghost use Rattle.volume_copy.specs.Runs.{CopiesOne, MissingEnds, append_status, is_append_fault};
 ghost use Rattle.volume_store.specs.Mounting.{StoreFits};
 
 use crate::fault::copy_fault;
