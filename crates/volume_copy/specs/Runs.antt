@@ -154,8 +154,8 @@ BothRefused a b from from' to to' answer =
 
 -- how the opening of both ended
 pub record AreOpened {A B : Type 0} (a : tapes.Meaning A) (b : tapes.Meaning B) (from : A) (from' : UnitView A) (to : B) (to' : UnitView B) (source target : StoreView) : Type 0 where
-  pub from : HasOpened a from from' source
-  pub to : HasOpened b to to' target
+  pub opened_source : HasOpened a from from' source
+  pub opened_target : HasOpened b to to' target
   pub free : is_protected (deck_of target.host) ≡ false
   pub like : first_difference source target ≡ None
 
@@ -174,7 +174,7 @@ pub record HasRun {A B K : Type 0} (a : tapes.Meaning A) (b : tapes.Meaning B) (
   pub opened : AreOpened a b old.from.tape begun.from.unit old.to.tape begun.to.unit begun.from.store begun.to.store
   pub sink : begun.sink ≡ old.sink
   pub missing : MissingEnds a b k begun ended answer
-  pub new : new ≡ record { from = ended.from.unit; to = ended.to.unit; sink = ended.sink }
+  pub left : new ≡ record { from = ended.from.unit; to = ended.to.unit; sink = ended.sink }
 
 -- how a run in working objects that are there ended
 abbrev pub RunEnds : {A B K : Type 0} (a : tapes.Meaning A) (b : tapes.Meaning B) (k : sinks.Meaning K) (old new : Units A B K) → CopyStatus → Type 0
