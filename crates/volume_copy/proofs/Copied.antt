@@ -107,11 +107,11 @@ pub one_more : {A B : Type 0} (a : tapes.Meaning A) (b : tapes.Meaning B) (numbe
     CopiesOne a b number from after to new (Ok bytes) → OneMore a b from after to new
 one_more {A = A} {B = B} a b number from after to new bytes one = by_answer one.appended refl
   where
-    abbrev ended : Result Appended StoreFault → Type 0
-    ended r = AppendEnds b (source_means a) (reading to.unit.tape (new_source from.store from.unit number)) (reading new.unit.tape one.source)
-        to.store new.store one.entry.name one.entry.date (Some (volume_length from.store.words one.entry)) r
     by_answer : (r : Result Appended StoreFault) → one.appended ≡ r → OneMore a b from after to new
     by_answer (Ok appended) is =
+        let ended : Result Appended StoreFault → Type 0 =
+        λ r. AppendEnds b (source_means a) (reading to.unit.tape (new_source from.store from.unit number)) (reading new.unit.tape one.source)
+            to.store new.store one.entry.name one.entry.date (Some (volume_length from.store.words one.entry)) r in
         let does : ended (Ok appended) = subst ended is one.ends in record {
           source = subst (λ (side : SideView A). SideFits a side) (sym one.back) one.sound.fits;
           target = one.fits (λ bad. cc);
@@ -124,3 +124,9 @@ one_more {A = A} {B = B} a b number from after to new bytes one = by_answer one.
 pub copied_more : {A B K : Type 0} (a : tapes.Meaning A) (b : tapes.Meaning B) (k : sinks.Meaning K) (count : ℕ) (old mid new : CopyView A B K) →
     HaveCopied a b k count old mid → HasCopied a b k mid new → HaveCopied a b k (count + 1) old new
 copied_more a b k count old mid new before one = rw add-one (mid, before, one)
+
+-- the same copy of one volume, under equal numbers and answers
+pub one_as : {A B : Type 0} (a : tapes.Meaning A) (b : tapes.Meaning B) (n m : ℕ) (from after : SideView A) (to new : SideView B) (r s : Result ℕ CopyStatus) → n ≡ m → r ≡ s →
+    CopiesOne a b n from after to new r → CopiesOne a b m from after to new s
+one_as a b n m from after to new r s number same one =
+    subst (λ (q : Result ℕ CopyStatus). CopiesOne a b m from after to new q) same (subst (λ (p : ℕ). CopiesOne a b p from after to new r) number one)
