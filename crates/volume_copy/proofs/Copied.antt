@@ -10,10 +10,10 @@ use Rattle.qic_base.specs.Acts.{reading}
 use Rattle.qic_base.specs.Cause.{Rose}
 use Rattle.store_opening.specs.Opening.{OpenFails}
 use Rattle.store_opening.specs.declared.opening.OpenFault.{OpenFault}
-use Rattle.volume_copy.specs.Faults.{is_of_cartridge, is_of_opening}
-use Rattle.volume_copy.specs.Runs.{CopiesOne, CopyView, HasCopied, HaveCopied, IsCounted, IsRefused, IsUnprinted, MissingEnds, PrintsCount, SideFits, SideView, append_answer, append_status, is_append_fault, is_asked}
+use Rattle.volume_copy.specs.Faults.{from_status, is_of_cartridge, is_of_opening, to_status}
+use Rattle.volume_copy.specs.Runs.{BothRefused, CopiesOne, CopyRuns, CopyView, HasCopied, HaveCopied, IsCounted, IsRefused, IsUnprinted, MissingEnds, PrintsCount, RunEnds, SideFits, SideView, Units, append_answer, append_status, is_append_fault, is_asked}
 use Rattle.volume_source.specs.Source.{IsOfPart, IsSoundSource, SourceView, new_source, source_means}
-use Rattle.volume_store.specs.Appending.{AppendEnds}
+use Rattle.volume_store.specs.Appending.{AppendEnds, FaultsUnread}
 use Rattle.volume_store.specs.Finding.{is_of_mounting}
 use Rattle.volume_store.specs.Mounting.{StoreView}
 use Rattle.volume_store.specs.declared.appended.Appended.{Appended}
@@ -93,6 +93,53 @@ missing_asked a b k old new answer ends = by_end ends.ends
     by_end (inl refused) = answer_asked refused.one.appended refused.one.source.fault answer refused.one.is
     by_end (inr (inl unprinted)) = ap is_asked unprinted.answered
     by_end (inr (inr counted)) = count_asked k _ _ _ answer counted.count
+
+from_asked : (why : OpenFault) → is_asked (from_status why) ≡ true
+from_asked open_fault.NoCartridge = refl
+from_asked (open_fault.Refused f) = refl
+
+to_asked : (why : OpenFault) → is_asked (to_status why) ≡ true
+to_asked open_fault.NoCartridge = refl
+to_asked (open_fault.Refused f) = refl
+
+-- .. nor does an opening
+pub refused_asked : {A B : Type 0} (a : tapes.Meaning A) (b : tapes.Meaning B) (from : A) (from' : UnitView A) (to to' : UnitView B) (answer : CopyStatus) → BothRefused a b from from' to to' answer →
+    is_asked answer ≡ true
+refused_asked a b from from' to to' answer (inl refused) = ap is_asked refused.3 ∙ from_asked refused.0
+refused_asked a b from from' to to' answer (inr (inl refused)) = ap is_asked refused.4 ∙ to_asked refused.1
+refused_asked a b from from' to to' answer (inr (inr (source, target, opened, opened', inl protected))) = ap is_asked protected.1
+refused_asked a b from from' to to' answer (inr (inr (source, target, opened, opened', inr differs))) = ap is_asked differs.1.2
+
+-- so a run that asked one ended as the whole does
+pub runs_asked : {A B K : Type 0} (a : tapes.Meaning A) (b : tapes.Meaning B) (k : sinks.Meaning K) (old new : Units A B K) (answer : CopyStatus) → is_asked answer ≡ true → RunEnds a b k old new answer →
+    CopyRuns a b k old new answer
+runs_asked a b k old new status.Usage asked ends = absurd (cc)
+runs_asked a b k old new status.NoMemory asked ends = absurd (cc)
+runs_asked a b k old new answer asked ends = ends
+
+pub asked_unlike : (answer other : CopyStatus) → is_asked answer ≡ true → is_asked other ≡ false → answer ≡ other → ⊥
+asked_unlike answer other asked unasked same = let is : is_asked answer ≡ is_asked other = ap is_asked same in cc
+
+-- ---- one volume
+
+-- an append of a volume's bytes, from a source that is the same and with a length that is the same
+pub ends_as : {A B : Type 0} (a : tapes.Meaning A) (b : tapes.Meaning B) (x y : B) (made old new : SourceView A) (store after : StoreView) (name : List ℕ) (date n m : ℕ) (r : Result Appended StoreFault) →
+    made ≡ old → n ≡ m → AppendEnds b (source_means a) (reading x made) (reading y new) store after name date (Some n) r →
+    AppendEnds b (source_means a) (reading x old) (reading y new) store after name date (Some m) r
+ends_as {A = A} a b x y made old new store after name date n m r same long ends =
+    subst (λ (s : SourceView A). AppendEnds b (source_means a) (reading x s) (reading y new) store after name date (Some m) r) same
+    (subst (λ (k : ℕ). AppendEnds b (source_means a) (reading x made) (reading y new) store after name date (Some k) r) long ends)
+
+pub unread_as : {A B : Type 0} (a : tapes.Meaning A) (b : tapes.Meaning B) (x y : B) (made old new : SourceView A) (r : Result Appended StoreFault) →
+    made ≡ old → FaultsUnread b (source_means a) (reading x made) (reading y new) r → FaultsUnread b (source_means a) (reading x old) (reading y new) r
+unread_as {A = A} a b x y made old new r same unread =
+    subst (λ (s : SourceView A). FaultsUnread b (source_means a) (reading x s) (reading y new) r) same unread
+
+-- sides of the same parts are the same
+pub same_sides : {T : Type 0} (one other : SideView T) → one.store ≡ other.store → one.unit ≡ other.unit → one ≡ other
+same_sides {T = T} one other store unit =
+    let side : StoreView → UnitView T → SideView T = λ s u. record { store = s; unit = u } in
+    ap (λ (s : StoreView). side s one.unit) store ∙ ap (λ (u : UnitView T). side other.store u) unit
 
 -- ---- one volume more
 
