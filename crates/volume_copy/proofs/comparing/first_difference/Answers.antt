@@ -1,5 +1,4 @@
-use Rattle.std.proofs.Common.{◌≡◌, ◌+◌, Bool, Option, Some, false, true, ◌∙◌, sym, arith, slice_get}
-use Rattle.cartridge_spec.specs.Table.{Entry}
+use Rattle.std.proofs.Common.{◌≡◌, ◌+◌, false, true, ◌∙◌, sym, arith}
 use Rattle.command_spec.specs.Copying.{is_alike}
 use Rattle.volume_copy.proofs.Lists.{alike_at, differs_at, differs_beyond, entry_at}
 use Rattle.volume_copy.proofs.comparing.first_difference.Goals as goal

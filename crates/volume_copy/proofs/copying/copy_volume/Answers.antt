@@ -1,7 +1,6 @@
-use Rattle.std.proofs.Common.{◌≡◌, ◌-◌, ◌<◌, ◌^◌, ℕ, Some, Err, slice_get, arith, sym, subst, ap, ◌∙◌}
+use Rattle.std.proofs.Common.{◌≡◌, ◌-◌, ◌<◌, ◌^◌, ℕ, Err, arith, sym, subst, ap, ◌∙◌}
 use Rattle.cartridge_spec.specs.Table.{Entry}
 use Rattle.cartridge_spec.specs.Volumes.{volume_length}
-use Rattle.qic_base.specs.Acts.{reading}
 use Rattle.volume_copy.proofs.Copied.{ends_as, same_sides, unread_as}
 use Rattle.volume_copy.proofs.Lengths.{length_of_fits}
 use Rattle.volume_copy.proofs.copying.copy_volume.Goals as goal
