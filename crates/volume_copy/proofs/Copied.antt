@@ -117,9 +117,6 @@ runs_asked a b k old new status.Usage asked ends = absurd (cc)
 runs_asked a b k old new status.NoMemory asked ends = absurd (cc)
 runs_asked a b k old new answer asked ends = ends
 
-pub asked_unlike : (answer other : CopyStatus) → is_asked answer ≡ true → is_asked other ≡ false → answer ≡ other → ⊥
-asked_unlike answer other asked unasked same = let is : is_asked answer ≡ is_asked other = ap is_asked same in cc
-
 -- ---- one volume
 
 -- an append of a volume's bytes, from a source that is the same and with a length that is the same
@@ -158,7 +155,7 @@ one_more {A = A} {B = B} a b number from after to new bytes one = by_answer one.
     by_answer (Ok appended) is =
         let ended : Result Appended StoreFault → Type 0 =
         λ r. AppendEnds b (source_means a) (reading to.unit.tape (new_source from.store from.unit number)) (reading new.unit.tape one.source)
-            to.store new.store one.entry.name one.entry.date (Some (volume_length from.store.words one.entry)) r in
+        to.store new.store one.entry.name one.entry.date (Some (volume_length from.store.words one.entry)) r in
         let does : ended (Ok appended) = subst ended is one.ends in record {
           source = subst (λ (side : SideView A). SideFits a side) (sym one.back) one.sound.fits;
           target = one.fits (λ bad. cc);

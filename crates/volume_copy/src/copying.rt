@@ -79,10 +79,16 @@ pub fn copy_missing<A: Tape, B: Tape, K: Sink>(
     requires target { StoreFits B.means store.old unit.old }
     requires few { length store.old.entries ≤ length from.store.entries }
     ensures { MissingEnds A.means B.means K.means
-        record { from = record { store = from.store; unit = from.unit };
-            to = record { store = store.old; unit = unit.old }; sink = sink.old }
-        record { from = record { store = result.1.store; unit = result.1.unit };
-            to = record { store = store.new; unit = unit.new }; sink = sink.new } result.0 }
+        record {
+          from = record { store = from.store; unit = from.unit };
+          to = record { store = store.old; unit = unit.old };
+          sink = sink.old;
+        }
+        record {
+          from = record { store = result.1.store; unit = result.1.unit };
+          to = record { store = store.new; unit = unit.new };
+          sink = sink.new;
+        } result.0 }
 {
     while store.count() < from.store.count() {
         let number = store.count() + 1;

@@ -61,10 +61,10 @@ returns-in-Err-write_text g c =
     record {
       count = c.loop-store.invariant.count;
       mid = record {
-    from = record { store = c.loop-store.from.store; unit = c.loop-store.from.unit };
-    to = record { store = c.loop-store.store; unit = c.loop-store.unit };
-    sink = c.loop-store.sink;
-  };
+        from = record { store = c.loop-store.from.store; unit = c.loop-store.from.unit };
+        to = record { store = c.loop-store.store; unit = c.loop-store.unit };
+        sink = c.loop-store.sink;
+      };
       copied = c.loop-store.invariant.copied;
       ends = inr (inl (record {
         bytes = c.in-Ok.bytes;
