@@ -1,0 +1,58 @@
+//! The program: the volumes of a cartridge copied onto another one, both in image files.
+#![tactic(auto)]
+
+use image_units::{Arguments, NO_IMAGE, open_unit, read_arguments};
+use read_ahead::MOST;
+use std::io::ErrorKind;
+use std::process::ExitCode;
+use tape_files::{NoImage, NullStreams, StderrSink, StdoutSink};
+use volume_copy::{CopyStatus, exit_status, run_copy, write_status};
+
+/// The program has two images.
+const IMAGES: usize = 2;
+
+fn main(rt: HostRuntime) -> ExitCode {
+    // Held to the end, so that no file that is opened becomes a standard stream.
+    let _streams = NullStreams::take(&rt);
+    ExitCode::from(match read_arguments(&rt, IMAGES) {
+        Ok(arguments) => run_over_images(&rt, &arguments),
+        Err(error) => exit_status(&unread(error.kind())),
+    })
+}
+
+/// Copies the first image's volumes onto the second, and answers the exit status. An image is created where there is none.
+fn run_over_images(rt: &HostRuntime, arguments: &Arguments) -> u8 {
+    let [from, to] = arguments.images.as_slice() else {
+        return exit_status(&CopyStatus::Usage);
+    };
+    let (mut from_room, mut to_room) = ([0; MOST], [0; MOST]);
+    let from = match open_unit(rt, from, &mut from_room) {
+        Ok(unit) => unit,
+        Err(cause) => return refuse(cause),
+    };
+    let mut to = match open_unit(rt, to, &mut to_room) {
+        Ok(unit) => unit,
+        Err(cause) => return refuse(cause),
+    };
+    let mut sink = StdoutSink::new(rt.stdout());
+    let (status, _from) = run_copy(rt.alloc(), &arguments.command, from, &mut to, &mut sink);
+    // The exit status tells it, too, where standard error can't.
+    let _printed = write_status(&status, &mut StderrSink::new(rt.stderr()));
+    exit_status(&status)
+}
+
+/// The status where the words can't be had: there is no memory for them, or one is no UTF-8 text.
+fn unread(kind: ErrorKind) -> CopyStatus {
+    match kind {
+        ErrorKind::OutOfMemory => CopyStatus::NoMemory,
+        _ => CopyStatus::Usage,
+    }
+}
+
+/// The exit status where an image can't be opened.
+fn refuse(cause: NoImage) -> u8 {
+    match cause {
+        NoImage::NoMemory => exit_status(&CopyStatus::NoMemory),
+        _ => NO_IMAGE,
+    }
+}

@@ -1,0 +1,176 @@
+-- How a copy ends, by how its calls did.
+use Rattle.std.proofs.Common.{◌≡◌, ◌≢◌, ◌⊎◌, ℕ, ◌+◌, ◌≤◌, Bool, true, false, List, [], ◌∷◌, length, Option, Some, None, Result, Ok, Err, refl, ap, sym, subst, ◌∙◌, arith, inl, inr, add-one, length-append}
+use Rattle.std.specs.Prelude.{if◌then◌else◌}
+use Rattle.cartridge_spec.specs.Table.{Entry}
+use Rattle.cartridge_spec.specs.Volumes.{volume_length}
+use Rattle.command_spec.specs.Copying.{difference, is_alike}
+use Rattle.command_spec.specs.declared.copy_status.CopyStatus.{CopyStatus}
+use Rattle.drive_states.specs.Unit.{UnitView}
+use Rattle.qic_base.specs.Acts.{reading}
+use Rattle.qic_base.specs.Cause.{Rose}
+use Rattle.store_opening.specs.Opening.{OpenFails}
+use Rattle.store_opening.specs.declared.opening.OpenFault.{OpenFault}
+use Rattle.volume_copy.specs.Faults.{from_status, is_of_cartridge, is_of_opening, to_status}
+use Rattle.volume_copy.specs.Runs.{BothRefused, CopiesOne, CopyRuns, CopyView, HasCopied, HaveCopied, IsCounted, IsRefused, IsUnprinted, MissingEnds, PrintsCount, RunEnds, SideFits, SideView, Units, append_answer, append_status, is_append_fault, is_asked}
+use Rattle.volume_source.specs.Source.{IsOfPart, IsSoundSource, SourceView, new_source, source_means}
+use Rattle.volume_store.specs.Appending.{AppendEnds, FaultsUnread}
+use Rattle.volume_store.specs.Finding.{is_of_mounting}
+use Rattle.volume_store.specs.Mounting.{StoreView}
+use Rattle.volume_store.specs.declared.appended.Appended.{Appended}
+use Rattle.volume_store.specs.declared.fault.StoreFault.{StoreFault}
+use Rattle.command_spec.specs.declared.copy_status.CopyStatus.TheVariants as status
+use Rattle.qic_base.specs.Sink as sinks
+use Rattle.qic_base.specs.Tape as tapes
+use Rattle.store_opening.specs.declared.opening.OpenFault.TheVariants as open_fault
+use Rattle.volume_store.specs.declared.fault.StoreFault.TheVariants as fault
+
+-- ---- the lists
+
+by_test : {P : Type 0} (b : Bool) (rest : Option ℕ) (n : ℕ) → (if b then rest else Some n) ≡ None → (rest ≡ None → P) → P
+by_test true rest n none more = more none
+by_test false rest n none more = absurd (cc)
+
+-- a target that doesn't differ has no more volumes
+pub no_more : (words : List ℕ) (es : List Entry) (words' : List ℕ) (es' : List Entry) (n : ℕ) → difference words es words' es' n ≡ None → length es' ≤ length es
+no_more words es words' [] n none = omega arith
+no_more words [] words' (e' ∷ es') n none = absurd (cc)
+no_more words (e ∷ es) words' (e' ∷ es') n none =
+    by_test (is_alike words e words' e') (difference words es words' es' (n + 1)) n none
+    (λ is. let shorter : length es' ≤ length es = no_more words es words' es' (n + 1) is in omega arith)
+
+-- ---- the refusals
+
+mounting_named : (f : StoreFault) → is_of_mounting f ≡ true → is_of_cartridge f ≡ true
+mounting_named (fault.NoVolume number count) kind = absurd (cc)
+mounting_named fault.Source kind = absurd (cc)
+mounting_named fault.Sink kind = absurd (cc)
+mounting_named f kind = refl
+
+-- each refusal of an opening has a name in a copy
+pub opening_named : {T : Type 0} (t : tapes.Meaning T) (a b : T) (why : OpenFault) → OpenFails t a b why → is_of_opening why ≡ true
+opening_named t a b open_fault.NoCartridge fails = refl
+opening_named t a b (open_fault.Refused fault.Tape) fails = refl
+opening_named t a b (open_fault.Refused f) fails = mounting_named f fails.kind
+
+part_named : (refused : Option StoreFault) → IsOfPart refused → refused ≢ None → is_append_fault fault.Source refused ≡ true
+part_named None kind some = absurd (some refl)
+part_named (Some fault.Tape) kind some = refl
+part_named (Some (fault.Lost segment lost)) kind some = refl
+part_named (Some (fault.Mismatch segment)) kind some = refl
+part_named (Some f) kind some = absurd kind
+
+-- and each refusal of an append
+pub append_named : {A B : Type 0} (a : tapes.Meaning A) (b : tapes.Meaning B) (x y : B) (old new : SourceView A) (store after : StoreView) (name : List ℕ) (date : ℕ) (promised : Option ℕ) (f : StoreFault) →
+    AppendEnds b (source_means a) (reading x old) (reading y new) store after name date promised (Err f) → old.faults ≡ 0 → IsSoundSource a new → is_append_fault f new.fault ≡ true
+append_named a b x y old new store after name date promised (fault.NoVolume number count) ends none sound = absurd ends
+append_named a b x y old new store after name date promised fault.Sink ends none sound = absurd ends
+append_named a b x y old new store after name date promised fault.Source ends none sound =
+    part_named new.fault sound.kind (λ is. rose (ends.cut.cause) (sound.counted is))
+  where
+    rose : Rose old.faults new.faults → new.faults ≡ 0 → ⊥
+    rose risen zero = omega (arith, risen)
+append_named a b x y old new store after name date promised f ends none sound = refl
+
+status_asked : (f : StoreFault) (refused : Option StoreFault) → is_asked (append_status f refused) ≡ true
+status_asked fault.Source (Some why) = refl
+status_asked fault.Source None = refl
+status_asked f refused = refl
+
+answer_asked : (appended : Result Appended StoreFault) (refused : Option StoreFault) (answer : CopyStatus) → Err answer ≡ append_answer appended refused → is_asked answer ≡ true
+answer_asked (Ok appended) refused answer is = absurd (cc)
+answer_asked (Err f) refused answer is = let same : answer ≡ append_status f refused = cc in rw same (status_asked f refused)
+
+count_asked : {K : Type 0} (k : sinks.Meaning K) (x y : K) (count : ℕ) (answer : CopyStatus) → PrintsCount k x y count answer → is_asked answer ≡ true
+count_asked k x y count status.Done prints = refl
+count_asked k x y count status.SinkFault prints = refl
+count_asked k x y count answer prints = absurd prints
+
+-- no copy of the missing volumes ends as if no drive was asked
+pub missing_asked : {A B K : Type 0} (a : tapes.Meaning A) (b : tapes.Meaning B) (k : sinks.Meaning K) (old new : CopyView A B K) (answer : CopyStatus) → MissingEnds a b k old new answer → is_asked answer ≡ true
+missing_asked a b k old new answer ends = by_end ends.ends
+  where
+    by_end : IsRefused a b ends.mid new answer ⊎ IsUnprinted a b k ends.mid new answer ⊎ IsCounted k ends.mid new answer → is_asked answer ≡ true
+    by_end (inl refused) = answer_asked refused.one.appended refused.one.source.fault answer refused.one.is
+    by_end (inr (inl unprinted)) = ap is_asked unprinted.answered
+    by_end (inr (inr counted)) = count_asked k _ _ _ answer counted.count
+
+from_asked : (why : OpenFault) → is_asked (from_status why) ≡ true
+from_asked open_fault.NoCartridge = refl
+from_asked (open_fault.Refused f) = refl
+
+to_asked : (why : OpenFault) → is_asked (to_status why) ≡ true
+to_asked open_fault.NoCartridge = refl
+to_asked (open_fault.Refused f) = refl
+
+-- .. nor does an opening
+pub refused_asked : {A B : Type 0} (a : tapes.Meaning A) (b : tapes.Meaning B) (from : A) (from' : UnitView A) (to to' : UnitView B) (answer : CopyStatus) → BothRefused a b from from' to to' answer →
+    is_asked answer ≡ true
+refused_asked a b from from' to to' answer (inl refused) = ap is_asked refused.3 ∙ from_asked refused.0
+refused_asked a b from from' to to' answer (inr (inl refused)) = ap is_asked refused.4 ∙ to_asked refused.1
+refused_asked a b from from' to to' answer (inr (inr (source, target, opened, opened', inl protected))) = ap is_asked protected.1
+refused_asked a b from from' to to' answer (inr (inr (source, target, opened, opened', inr differs))) = ap is_asked differs.1.2
+
+-- so a run that asked one ended as the whole does
+pub runs_asked : {A B K : Type 0} (a : tapes.Meaning A) (b : tapes.Meaning B) (k : sinks.Meaning K) (old new : Units A B K) (answer : CopyStatus) → is_asked answer ≡ true → RunEnds a b k old new answer →
+    CopyRuns a b k old new answer
+runs_asked a b k old new status.Usage asked ends = absurd (cc)
+runs_asked a b k old new status.NoMemory asked ends = absurd (cc)
+runs_asked a b k old new answer asked ends = ends
+
+-- ---- one volume
+
+-- an append of a volume's bytes, from a source that is the same and with a length that is the same
+pub ends_as : {A B : Type 0} (a : tapes.Meaning A) (b : tapes.Meaning B) (x y : B) (made old new : SourceView A) (store after : StoreView) (name : List ℕ) (date n m : ℕ) (r : Result Appended StoreFault) →
+    made ≡ old → n ≡ m → AppendEnds b (source_means a) (reading x made) (reading y new) store after name date (Some n) r →
+    AppendEnds b (source_means a) (reading x old) (reading y new) store after name date (Some m) r
+ends_as {A = A} a b x y made old new store after name date n m r same long ends =
+    subst (λ (s : SourceView A). AppendEnds b (source_means a) (reading x s) (reading y new) store after name date (Some m) r) same
+    (subst (λ (k : ℕ). AppendEnds b (source_means a) (reading x made) (reading y new) store after name date (Some k) r) long ends)
+
+pub unread_as : {A B : Type 0} (a : tapes.Meaning A) (b : tapes.Meaning B) (x y : B) (made old new : SourceView A) (r : Result Appended StoreFault) →
+    made ≡ old → FaultsUnread b (source_means a) (reading x made) (reading y new) r → FaultsUnread b (source_means a) (reading x old) (reading y new) r
+unread_as {A = A} a b x y made old new r same unread =
+    subst (λ (s : SourceView A). FaultsUnread b (source_means a) (reading x s) (reading y new) r) same unread
+
+-- sides of the same parts are the same
+pub same_sides : {T : Type 0} (one other : SideView T) → one.store ≡ other.store → one.unit ≡ other.unit → one ≡ other
+same_sides {T = T} one other store unit =
+    let side : StoreView → UnitView T → SideView T = λ s u. record { store = s; unit = u } in
+    ap (λ (s : StoreView). side s one.unit) store ∙ ap (λ (u : UnitView T). side other.store u) unit
+
+-- ---- one volume more
+
+-- both stores fit their units behind a volume that was copied, and the target has one more
+pub record OneMore {A B : Type 0} (a : tapes.Meaning A) (b : tapes.Meaning B) (from after : SideView A) (to new : SideView B) : Type 0 where
+  pub source : SideFits a after
+  pub target : SideFits b new
+  pub entries : after.store.entries ≡ from.store.entries
+  pub more : length new.store.entries ≡ length to.store.entries + 1
+
+pub one_more : {A B : Type 0} (a : tapes.Meaning A) (b : tapes.Meaning B) (number : ℕ) (from after : SideView A) (to new : SideView B) (bytes : ℕ) →
+    CopiesOne a b number from after to new (Ok bytes) → OneMore a b from after to new
+one_more {A = A} {B = B} a b number from after to new bytes one = by_answer one.appended refl
+  where
+    by_answer : (r : Result Appended StoreFault) → one.appended ≡ r → OneMore a b from after to new
+    by_answer (Ok appended) is =
+        let ended : Result Appended StoreFault → Type 0 =
+        λ r. AppendEnds b (source_means a) (reading to.unit.tape (new_source from.store from.unit number)) (reading new.unit.tape one.source)
+        to.store new.store one.entry.name one.entry.date (Some (volume_length from.store.words one.entry)) r in
+        let does : ended (Ok appended) = subst ended is one.ends in record {
+          source = subst (λ (side : SideView A). SideFits a side) (sym one.back) one.sound.fits;
+          target = one.fits (λ bad. cc);
+          entries = ap (λ (side : SideView A). side.store.entries) one.back ∙ one.kept.store.entries;
+          more = ap length does.added ∙ length-append to.store.entries (does.entry ∷ []);
+        }
+    by_answer (Err f) is =
+        let no : Ok bytes ≡ append_answer (Err f) one.source.fault = one.is ∙ ap (λ (r : Result Appended StoreFault). append_answer r one.source.fault) is in absurd (cc)
+
+pub copied_more : {A B K : Type 0} (a : tapes.Meaning A) (b : tapes.Meaning B) (k : sinks.Meaning K) (count : ℕ) (old mid new : CopyView A B K) →
+    HaveCopied a b k count old mid → HasCopied a b k mid new → HaveCopied a b k (count + 1) old new
+copied_more a b k count old mid new before one = rw add-one (mid, before, one)
+
+-- the same copy of one volume, under equal numbers and answers
+pub one_as : {A B : Type 0} (a : tapes.Meaning A) (b : tapes.Meaning B) (n m : ℕ) (from after : SideView A) (to new : SideView B) (r s : Result ℕ CopyStatus) → n ≡ m → r ≡ s →
+    CopiesOne a b n from after to new r → CopiesOne a b m from after to new s
+one_as a b n m from after to new r s number same one =
+    subst (λ (q : Result ℕ CopyStatus). CopiesOne a b m from after to new q) same (subst (λ (p : ℕ). CopiesOne a b p from after to new r) number one)

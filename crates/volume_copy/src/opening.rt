@@ -1,0 +1,70 @@
+//! Both cartridges of a copy, opened.
+
+ghost use Rattle.std.specs.Prelude.{MatchResult};
+ghost use Rattle.volume_copy.specs.Runs.{AreOpened, BothRefused};
+
+use crate::comparing::first_difference;
+use crate::fault::{from_status, to_status};
+use command_spec::{CopyFault, CopyStatus};
+use drive_states::Unit;
+use qic_base::{NoMemory, Tape};
+use std::alloc::Global;
+use store_opening::{Room, open};
+use volume_store::Store;
+
+/// All working objects of a copy: no later call takes memory.
+#[derive(Drop)]
+pub struct Rooms {
+    from: Room,
+    to: Room,
+}
+
+impl Rooms {
+    /// Takes the memory for both cartridges.
+    pub fn new(alloc: Global) -> Result<Rooms, NoMemory> {
+        Ok(Rooms {
+            from: Room::new(alloc)?,
+            to: Room::new(alloc)?,
+        })
+    }
+}
+
+/// The cartridges of a copy, mounted.
+#[derive(Drop)]
+pub struct Mounted {
+    pub from: Store,
+    pub to: Store,
+}
+
+/// Opens both cartridges, the source first, and compares their lists. A target that is protected is refused once both are
+/// mounted, also where it lacks no volume.
+pub fn open_both<A: Tape, B: Tape>(
+    rooms: Rooms,
+    from: &mut Unit<A>,
+    to: &mut Unit<B>,
+) -> Result<Mounted, CopyStatus>
+    ensures { MatchResult result
+        (λ mounted. AreOpened A.means B.means from.old.tape from.new to.old.tape to.new mounted.from mounted.to)
+        (λ answer. BothRefused A.means B.means from.old.tape from.new to.old to.new answer) }
+{
+    let source = match open(from, rooms.from) {
+        Ok(store) => store,
+        Err(fault) => return Err(from_status(fault)),
+    };
+    let target = match open(to, rooms.to) {
+        Ok(store) => store,
+        Err(fault) => return Err(to_status(fault)),
+    };
+    if target.protected() {
+        return Err(CopyStatus::To {
+            fault: CopyFault::Protected,
+        });
+    }
+    match first_difference(&source, &target) {
+        Some(number) => Err(CopyStatus::Differs { number }),
+        None => Ok(Mounted {
+            from: source,
+            to: target,
+        }),
+    }
+}
