@@ -2,7 +2,6 @@ A dump without its map, scrubbed
 ================================
 
   $ command -v tape_import > /dev/null || exit 80
-  $ tape none.img scrub deep 2>&1 | grep -q '^usage: ' && exit 80
 
 A dump of which nobody knows the bytes that were read: the zero bytes in the place of a lost sector are taken as read. A deep
 scrub finds the sector that its segment's parity says is wrong.
@@ -15,7 +14,8 @@ scrub finds the sector that its segment's parity says is wrong.
   appended 1 15 3 3
   $ tape cart.img lose 3 0
   lost 3 0
-  $ tape_export cart.img | head -c 163840 > part.dump
+  $ tape_export cart.img > cart.dump
+  $ head -c 163840 cart.dump > part.dump
   $ tape_import --segments 3 zeros.img < part.dump
   imported 84 2528
   $ tape zeros.img restore 1
