@@ -54,7 +54,7 @@ awk -v bytes=$bytes -v each=$each 'BEGIN {
 "$base/tape_import" --map "$base/map" "$base/image" < "$base/dump"
 "$base/tape_export" --map "$base/again" "$base/image" > "$base/dump"
 "$base/tape_import" --map "$base/again" "$base/image.again" < "$base/dump"
-cmp "$base/image" "$base/image.again"
+"$base/tape_export" "$base/image.again" | cmp - "$base/dump"
 
 # Runs a command, and puts down its seconds and its memory under a name.
 timed() {
