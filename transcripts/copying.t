@@ -52,7 +52,7 @@ A volume that the first cartridge gets later is copied behind the others, with i
 
 The label of the second cartridge, and its map, are its own.
 
-  $ tape to.img info | head -n 1
+  $ tape to.img info | sed -n 1p
   label M
 
 Refusals
