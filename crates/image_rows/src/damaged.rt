@@ -87,23 +87,3 @@ fn bad_bytes_of_a_readable_sector_fail_it_alone(rt: HostRuntime) -> Result<(), F
     assert_eq!(rt; seen, (expected, Some(SectorRead::Blank)));
     Ok(())
 }
-
-/// Formats segment 3, each sector of which is a defect, so that nothing is written, on a disk with this many bad bytes.
-fn formats_defects(alloc: Global, first: u64, count: u64) -> Result<bool, Fail> {
-    let mut tape = ImageTape::open(MemDisk::new(alloc, LENGTH, Vec::new(alloc))?);
-    tape.renew(3)?;
-    for sector in 0..32 {
-        let _ = tape.spoil(3, sector)?;
-    }
-    let mut tape = ImageTape::open(Scratched::new(tape.into_disk(), first, count));
-    sees_three(&mut tape)?;
-    Ok(tape.format_segment(3).is_ok())
-}
-
-#[test]
-fn formatting_needs_the_states_alone(rt: HostRuntime) -> Result<(), Fail> {
-    // Sector 99 begins at byte 101,737 with its three state bytes.
-    assert!(rt; formats_defects(rt.alloc(), 101_740, 512)?);
-    assert!(rt; !formats_defects(rt.alloc(), 101_739, 1)?);
-    Ok(())
-}
