@@ -13,6 +13,7 @@ ghost use Rattle.formatter.specs.Steps.{track_formats};
 
 use crate::TRACKS;
 use crate::fault::FormatFault;
+use crate::track::go_to_track;
 use drive_states::Unit;
 use host_driver::{Host, HostFault};
 use qic_base::Tape;
@@ -74,8 +75,7 @@ fn clear_track<T: Tape>(host: &mut Host, unit: &mut Unit<T>, track: u32) -> Resu
     ensures stopped { OnOk result (is_stopped unit.new.drive.deck.motion ≡ true) }
     ensures keeps { Keeps T.means host.new unit.old unit.new }
 {
-    let count = u32::from(host.geometry().segments_per_track());
-    host.go_to(unit, track * count)?;
+    let count = go_to_track(host, unit, track)?;
     for _ in 0..count {
         host.format_here(unit)?;
     }

@@ -9,6 +9,7 @@ ghost use Rattle.host_driver.specs.Calls.{IsReady, Keeps};
 ghost use Rattle.host_driver.specs.Fits.{AgreesWithTape};
 ghost use Rattle.formatter.specs.Marking.{MarksBelow, MarksUnreadable, IsFirstMarked, HasNoMarkInFront};
 
+use crate::track::go_to_track;
 use crate::{SECTOR, SECTORS, TRACKS};
 use bad_sector_map::BadMap;
 use drive_states::Unit;
@@ -96,9 +97,8 @@ fn mark_track<T: Tape>(
     ensures stopped { OnOk result (is_stopped unit.new.drive.deck.motion ≡ true) }
     ensures keeps { Keeps T.means host.new unit.old unit.new }
 {
-    let count = u32::from(host.geometry().segments_per_track());
+    let count = go_to_track(host, unit, track)?;
     let first = track * count;
-    host.go_to(unit, first)?;
     for offset in 0..count {
         mark_segment(host, unit, first + offset, map, sectors)?;
         host.next_segment(unit)?;
