@@ -1,5 +1,5 @@
 -- What a restore gave, by its answer, and the fit of a store behind a call that keeps its list.
-use Rattle.std.proofs.Common.{◌≡◌, ℕ, zero, suc, ◌-◌, ◌*◌, ◌<◌, ◌++◌, Bool, true, false, List, [], ◌∷◌, length, Option, Some, None, IfSome, Result, Ok, Err, refl, sym, ap, ◌∙◌, subst, arith, slice_get, append_assoc}
+use Rattle.std.proofs.Common.{◌≡◌, ℕ, zero, suc, ◌-◌, ◌*◌, ◌<◌, ◌×◌, ◌++◌, Bool, true, false, List, [], ◌∷◌, length, Option, Some, None, IfSome, Result, Ok, Err, refl, sym, ap, ◌∙◌, subst, arith, slice_get, append_assoc}
 use Rattle.std.proofs.lemmas.Option.{slice_get_past}
 use Rattle.cartridge_spec.specs.Mounting.{HasList}
 use Rattle.qic_base.specs.Cartridge.{Cartridge}
@@ -41,6 +41,12 @@ length_is words bytes at e is long = subst (λ (o : Option Entry). IfSome o (λ 
 pub length_there : (store : StoreView) (i : ℕ) (e : Entry) (bytes : ℕ) → slice_get store.entries i ≡ Some e →
     IfSome (slice_get store.entries i) (λ entry. bytes ≡ volume_length store.words entry) → bytes ≡ volume_length store.words e
 length_there store i e bytes at long = length_is store.words bytes (slice_get store.entries i) e at long
+
+-- a volume that is there, and its length
+pub volume_told : (store : StoreView) (number : ℕ) (e : Entry) (bytes : ℕ) → 0 < number → slice_get store.entries (number - 1) ≡ Some e →
+    IfSome (slice_get store.entries (number - 1)) (λ entry. bytes ≡ volume_length store.words entry) →
+    (volume_at store.entries number ≡ Some e) × (bytes ≡ volume_length store.words e)
+volume_told store number e bytes some at long = (volume_there store.entries number e some at, length_there store (number - 1) e bytes at long)
 
 -- ---- what it gave
 
