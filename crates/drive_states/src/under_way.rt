@@ -1,7 +1,8 @@
 //! What the drive's end of the cable is in the middle of.
 
 ghost use Rattle.std.specs.Prelude.{◌≡◌, ◌<◌, ◌^◌, ◌==◌, nat_lt};
-ghost use Rattle.drive_spec.specs.Reports.{report_width, report_word, tape_status};
+ghost use Rattle.drive_spec.specs.Reports.{report_width, report_word};
+ghost use Rattle.drive_spec.specs.Terms.{tape_status};
 ghost use Rattle.drive_spec.specs.Parameters.{parameter_trains, parameter_values, parameter_code, longer};
 ghost use Rattle.drive_spec.specs.Row.{begun};
 

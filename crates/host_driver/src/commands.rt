@@ -1,7 +1,7 @@
 //! Single commands and the values of their parameters.
 
 ghost use Rattle.std.specs.Prelude.{◌≡◌, None, true, false, IsOk, IfSome, IsSomeAnd};
-ghost use Rattle.drive_spec.specs.Deck.{refusal_of};
+ghost use Rattle.drive_spec.specs.Terms.{refusal_of};
 ghost use Rattle.drive_spec.specs.Effects.{accepted};
 ghost use Rattle.drive_spec.specs.Parameters.{longer};
 ghost use Rattle.drive_spec.specs.Row.{begun, given_more};

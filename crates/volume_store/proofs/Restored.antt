@@ -5,7 +5,8 @@ use Rattle.cartridge_spec.specs.Mounting.{HasList}
 use Rattle.qic_base.specs.Cartridge.{Cartridge}
 use Rattle.qic_base.specs.Sink as sinks
 use Rattle.qic_base.specs.Step.{Step}
-use Rattle.qic_base.specs.Tape.{Meaning, Done, Tells}
+use Rattle.qic_base.specs.Tape.{Meaning, Done}
+use Rattle.qic_base.specs.TapeCalls.{Tells}
 use Rattle.qic_base.proofs.Steps.{Done-told}
 use Rattle.qic_base.specs.Acts.{Act, Outside, SinkFails, Parted, steps_of}
 use Rattle.qic_base.proofs.Joins.{steps_of-append}
