@@ -15,13 +15,11 @@ segments_per_track d = option_map_or (λ c. c.segments_per_track) d.cartridge 0
 
 abbrev pub is_stopped : Motion → Bool
 is_stopped Stopped = true
-is_stopped (Streaming next) = false
-is_stopped (Seeking left) = false
+is_stopped motion = false
 
 abbrev pub is_streaming : Motion → Bool
-is_streaming Stopped = false
 is_streaming (Streaming next) = true
-is_streaming (Seeking left) = false
+is_streaming motion = false
 
 -- the beginning of the tape: where an even track begins and an odd one ends
 abbrev pub is_at_bot : Deck → Bool

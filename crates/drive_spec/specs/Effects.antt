@@ -8,7 +8,7 @@ use Rattle.qic117_commands.specs.Views.{is_primary, is_format}
 use Rattle.qic117_commands.specs.declared.command.Command.{Command}
 use Rattle.qic117_commands.specs.declared.command.Command.TheVariants.{Reset, ReportError, LogicalForward, SeekTrack, SeekLoadPoint, EnterFormat, WriteReference, EnterVerify, StopTape, SkipReverse, SkipForward, EnterPrimary, SetFormatSegments}
 use Rattle.qic117_commands.specs.declared.error_code.ErrorCode.{ErrorCode}
-use Rattle.qic117_commands.specs.declared.error_code.ErrorCode.TheVariants.{LogicalEot, SoftwareReset}
+use Rattle.qic117_commands.specs.declared.error_code.ErrorCode.TheVariants.{SoftwareReset}
 use Rattle.qic117_commands.specs.declared.view.Mode.TheVariants.{Primary, Format, Verify}
 use Rattle.drive_spec.specs.declared.deck.Deck.{Deck}
 use Rattle.drive_spec.specs.declared.deck.Motion.{Motion}
@@ -68,9 +68,8 @@ reset d = record d {
 
 -- a gap of a seek
 abbrev pub ticked_motion : Motion → Motion
-ticked_motion Stopped = Stopped
-ticked_motion (Streaming next) = Streaming next
 ticked_motion (Seeking left) = if nat_le left 1 then Stopped else Seeking (left - 1)
+ticked_motion motion = motion
 
 abbrev pub ticked : Deck → Deck
 ticked d = record d { motion = ticked_motion d.motion }
@@ -79,11 +78,3 @@ ticked d = record d { motion = ticked_motion d.motion }
 abbrev pub ends_early : Deck → Bool
 ends_early d = is_format d.mode && nat_lt (segments_per_track d) d.format_segments
     && nat_le (limit d) (d.offset + 1)
-
--- the tape that streams has run on by a segment, and stops at the limit
-abbrev pub run_on : Deck → Deck
-run_on d = record d {
-  offset = d.offset + 1;
-  motion = if nat_lt (d.offset + 1) (limit d) then Streaming 0 else Stopped;
-  error = if ends_early d then error_word LogicalEot (number_of LogicalForward) else d.error;
-}

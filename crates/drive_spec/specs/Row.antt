@@ -1,39 +1,37 @@
 -- What a gap does to the record: the state table, for a whole train at once (this project's profile of QIC-117).
-use Rattle.std.specs.Prelude.{ℕ, ◌-◌, ◌==◌, Bool, true, false, List, [], ◌∷◌, ◌++◌, Option, Some, None, if◌then◌else◌, nat_lt}
+use Rattle.std.specs.Prelude.{ℕ, ◌+◌, ◌-◌, ◌*◌, ◌^◌, ◌==◌, Bool, true, false, List, [], ◌∷◌, ◌++◌, Option, Some, None, if◌then◌else◌, nat_lt}
 use Rattle.qic117_commands.specs.Commands.{number_of, command_at}
 use Rattle.qic117_commands.specs.declared.command.Command.{Command}
-use Rattle.qic117_commands.specs.declared.command.Command.TheVariants.{Reset, ReportNextBit}
+use Rattle.qic117_commands.specs.declared.command.Command.TheVariants.{Reset, ReportNextBit, LogicalForward}
 use Rattle.qic117_commands.specs.declared.error_code.ErrorCode.{ErrorCode}
-use Rattle.qic117_commands.specs.declared.error_code.ErrorCode.TheVariants.{UndefinedCommand, IllegalInReport}
+use Rattle.qic117_commands.specs.declared.error_code.ErrorCode.TheVariants.{UndefinedCommand, IllegalInReport, LogicalEot}
 use Rattle.qic117_commands.specs.Refusals.{first_refusal}
 use Rattle.report_bits.specs.Digits.{digits}
-use Rattle.drive_spec.specs.declared.deck.Deck.{Deck}
+use Rattle.drive_spec.specs.declared.deck.Motion.TheVariants.{Stopped, Streaming}
 use Rattle.drive_spec.specs.declared.under_way.Parameter.{Parameter}
 use Rattle.drive_spec.specs.declared.under_way.UnderWay.{UnderWay}
 use Rattle.drive_spec.specs.declared.under_way.UnderWay.TheVariants.{Nothing, Report, Awaited}
-use Rattle.drive_spec.specs.Deck.{is_streaming, view_of}
-use Rattle.drive_spec.specs.Effects.{error_word, accepted, given, reset, ticked, ends_early, run_on}
+use Rattle.drive_spec.specs.Deck.{is_streaming, view_of, limit}
+use Rattle.drive_spec.specs.Effects.{error_word, accepted, given, reset, ticked, ends_early}
 use Rattle.drive_spec.specs.Record.{Record}
 use Rattle.drive_spec.specs.Reports.{report_width, report_word}
-use Rattle.drive_spec.specs.Parameters.{parameter_trains, parameter_values, parameter_code, longer}
+use Rattle.drive_spec.specs.Parameters.{parameter_trains, parameter_values, parameter_code}
 
 -- an error: it replaces an older one, and ends a report under way or the wait for a parameter
 abbrev pub latched : Record → ErrorCode → (command : ℕ) → Record
 latched r code command = record r { deck = record r.deck { error = error_word code command }; under_way = Nothing }
 
--- what an accepted command leaves under way: of a report its word's digits, and the final 1
-abbrev pub begun : Command → Deck → UnderWay
-begun command d =
-    if nat_lt 0 (report_width command) then Report (digits (report_width command) (report_word command d) ++ true ∷ [])
-    else if nat_lt 0 (parameter_trains command) then Awaited record { command = command; taken = 0; value = 0 }
-    else Nothing
-
--- refused with the code of the first row that refuses, or accepted; a report is acknowledged by the level 1
+-- Refused with the code of the first row that refuses, or accepted. A report is acknowledged by the level 1; its word's
+-- digits and the final 1 are left to show.
 abbrev pub by_refusal : Record → Command → Option ErrorCode → Record
 by_refusal r command None = record r {
   deck = accepted command r.deck;
   line = nat_lt 0 (report_width command);
-  under_way = begun command r.deck;
+  under_way =
+    if nat_lt 0 (report_width command)
+    then Report (digits (report_width command) (report_word command r.deck) ++ true ∷ [])
+    else if nat_lt 0 (parameter_trains command) then Awaited record { command = command; taken = 0; value = 0 }
+    else Nothing;
 }
 by_refusal r command (Some code) = latched r code (number_of command)
 
@@ -49,11 +47,11 @@ given_more r a =
     then record r { deck = given a.command a.value r.deck; under_way = Nothing }
     else record r { under_way = Awaited a }
 
--- a value of a parameter, which is sent as the train of two pulses more
+-- a value of a parameter, of which the first is the lowest; it is sent as the train of two pulses more
 abbrev pub taking : Record → Parameter → (value : ℕ) → Record
 taking r a value =
     if nat_lt value (parameter_values a.command)
-    then given_more r (longer a value)
+    then given_more r (record a { taken = a.taken + 1; value = a.value + value * 16 ^ a.taken })
     else latched r (parameter_code a.command) (number_of a.command)
 
 -- a report under way shows its next level, and is over after the last
@@ -69,10 +67,14 @@ heard r train (Report levels) =
     if train == number_of ReportNextBit then showing r levels else latched r IllegalInReport train
 heard r train Nothing = by_command r train (command_at train)
 
--- the tape has run on by a segment; an error that this latches ends what is under way
+-- the tape has run on by a segment, and stops at the limit; an error that this latches ends what is under way
 abbrev pub moved_on : Record → Record
 moved_on r = record r {
-  deck = run_on r.deck;
+  deck = record r.deck {
+    offset = r.deck.offset + 1;
+    motion = if nat_lt (r.deck.offset + 1) (limit r.deck) then Streaming 0 else Stopped;
+    error = if ends_early r.deck then error_word LogicalEot (number_of LogicalForward) else r.deck.error;
+  };
   under_way = if ends_early r.deck then Nothing else r.under_way;
 }
 

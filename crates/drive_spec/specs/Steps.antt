@@ -7,7 +7,7 @@ use Rattle.qic117_commands.specs.declared.command.Command.{Command}
 use Rattle.qic117_commands.specs.declared.command.Command.TheVariants.{WriteReference}
 use Rattle.drive_spec.specs.declared.deck.Deck.{Deck}
 use Rattle.drive_spec.specs.declared.under_way.UnderWay.{UnderWay}
-use Rattle.drive_spec.specs.declared.under_way.UnderWay.TheVariants.{Nothing, Report, Awaited}
+use Rattle.drive_spec.specs.declared.under_way.UnderWay.TheVariants.{Nothing}
 use Rattle.drive_spec.specs.Deck.{view_of}
 use Rattle.drive_spec.specs.Effects.{ticked}
 use Rattle.drive_spec.specs.Record.{Record}
@@ -15,8 +15,7 @@ use Rattle.drive_spec.specs.Record.{Record}
 -- whether nothing is under way
 abbrev pub is_idle : UnderWay → Bool
 is_idle Nothing = true
-is_idle (Report levels) = false
-is_idle (Awaited a) = false
+is_idle under_way = false
 
 -- what an accepted command does to the cartridge
 abbrev pub reference_steps : Command → List Step

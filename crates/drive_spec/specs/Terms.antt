@@ -1,5 +1,5 @@
 -- Words for the state table that contracts and proofs cite, and no definition of the statement.
-use Rattle.std.specs.Prelude.{ℕ, ◌+◌, ◌-◌, ◌%◌, ◌==◌, ◌&&◌, Bool, false, List, [], Option, not, if◌then◌else◌, nat_lt, min}
+use Rattle.std.specs.Prelude.{ℕ, ◌+◌, ◌-◌, ◌*◌, ◌%◌, ◌^◌, ◌==◌, ◌&&◌, Bool, true, false, List, [], ◌∷◌, ◌++◌, Option, not, if◌then◌else◌, nat_lt, min}
 use Rattle.std.specs.Option.{option_map, option_map_or}
 use Rattle.qic_base.specs.Step.{Step}
 use Rattle.qic_base.specs.declared.tape.TapeInfo.{TapeInfo}
@@ -8,17 +8,22 @@ use Rattle.qic117_commands.specs.Refusals.{first_refusal}
 use Rattle.qic117_commands.specs.StatusWord.{status_of}
 use Rattle.qic117_commands.specs.Views.{is_format}
 use Rattle.qic117_commands.specs.declared.command.Command.{Command}
-use Rattle.qic117_commands.specs.declared.command.Command.TheVariants.{Reset}
+use Rattle.qic117_commands.specs.declared.command.Command.TheVariants.{Reset, LogicalForward}
 use Rattle.qic117_commands.specs.declared.error_code.ErrorCode.{ErrorCode}
+use Rattle.qic117_commands.specs.declared.error_code.ErrorCode.TheVariants.{LogicalEot}
 use Rattle.qic117_commands.specs.declared.view.Mode.{Mode}
+use Rattle.report_bits.specs.Digits.{digits}
 use Rattle.drive_spec.specs.declared.deck.Deck.{Deck}
-use Rattle.drive_spec.specs.declared.deck.Motion.TheVariants.{Streaming, Seeking}
-use Rattle.drive_spec.specs.declared.under_way.UnderWay.TheVariants.{Nothing}
+use Rattle.drive_spec.specs.declared.deck.Motion.TheVariants.{Stopped, Streaming, Seeking}
+use Rattle.drive_spec.specs.declared.under_way.Parameter.{Parameter}
+use Rattle.drive_spec.specs.declared.under_way.UnderWay.{UnderWay}
+use Rattle.drive_spec.specs.declared.under_way.UnderWay.TheVariants.{Nothing, Report, Awaited}
 use Rattle.drive_spec.specs.Deck.{segments_per_track, is_stopped, is_streaming, is_at_bot, is_at_eot, view_of, limit}
-use Rattle.drive_spec.specs.Effects.{accepted, reset, ticked}
+use Rattle.drive_spec.specs.Effects.{error_word, accepted, reset, ticked, ends_early}
 use Rattle.drive_spec.specs.Record.{Record, power_on}
-use Rattle.drive_spec.specs.Reports.{report_width}
-use Rattle.drive_spec.specs.Row.{begun, heard, moved_on, after_tick}
+use Rattle.drive_spec.specs.Parameters.{parameter_trains}
+use Rattle.drive_spec.specs.Reports.{report_width, report_word}
+use Rattle.drive_spec.specs.Row.{heard, moved_on, after_tick}
 use Rattle.drive_spec.specs.Steps.{is_idle, command_steps}
 
 -- ---- a deck
@@ -86,6 +91,20 @@ skipped forward count d = record d {
   at_load_point = false;
 }
 
+-- the tape that streams has run on by a segment, and stops at the limit
+abbrev pub run_on : Deck → Deck
+run_on d = record d {
+  offset = d.offset + 1;
+  motion = if nat_lt (d.offset + 1) (limit d) then Streaming 0 else Stopped;
+  error = if ends_early d then error_word LogicalEot (number_of LogicalForward) else d.error;
+}
+
+-- ---- parameters
+
+-- a parameter with one more value, of which the first is the lowest
+abbrev pub longer : Parameter → (value : ℕ) → Parameter
+longer a value = record a { taken = a.taken + 1; value = a.value + value * 16 ^ a.taken }
+
 -- ---- reports
 
 -- QIC-80, by the tape's length: 205 ft has 100 segments per track, 307.5 ft has 150
@@ -96,6 +115,13 @@ abbrev pub is_report : Command → Bool
 is_report command = nat_lt 0 (report_width command)
 
 -- ---- rows
+
+-- what an accepted command leaves under way: of a report its word's digits, and the final 1
+abbrev pub begun : Command → Deck → UnderWay
+begun command d =
+    if nat_lt 0 (report_width command) then Report (digits (report_width command) (report_word command d) ++ true ∷ [])
+    else if nat_lt 0 (parameter_trains command) then Awaited record { command = command; taken = 0; value = 0 }
+    else Nothing
 
 -- an accepted command; a report is acknowledged by the level 1
 abbrev pub obeying : Record → Command → Record

@@ -14,7 +14,7 @@ use Rattle.drive_spec.specs.declared.deck.Deck.{Deck}
 use Rattle.drive_spec.specs.declared.deck.Motion.{Motion}
 use Rattle.drive_spec.specs.declared.deck.Motion.TheVariants.{Stopped, Streaming, Seeking}
 use Rattle.drive_spec.specs.Deck.{segments_per_track, is_streaming}
-use Rattle.drive_spec.specs.Effects.{run_on}
+use Rattle.drive_spec.specs.Terms.{run_on}
 use Rattle.drive_states.specs.declared.fault.FdcFault.{FdcFault}
 use Rattle.drive_states.specs.declared.fault.FdcFault.TheVariants.{NoAddress, Protected, Unreadable, Tape}
 use Rattle.drive_states.specs.Unit.{DeckAndTape}

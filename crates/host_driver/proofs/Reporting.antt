@@ -9,7 +9,8 @@ use Rattle.report_bits.specs.Report.{Collected, IsWidth, levels_of, report_of, w
 use Rattle.report_bits.proofs.DigitFacts.{length-digits}
 use Rattle.report_bits.proofs.ReportFacts.{word_of-levels_of}
 use Rattle.qic117_commands.specs.Commands.{number_of, command_at, commands}
-use Rattle.qic117_commands.specs.StatusWord.{status_of, bit_where}
+use Rattle.qic117_commands.specs.StatusWord.{status_of}
+use Rattle.qic117_commands.specs.Terms.{bit_where}
 use Rattle.qic117_commands.specs.Views.{is_format}
 use Rattle.qic117_commands.specs.declared.command.Command.TheVariants.{ReportNextBit}
 use Rattle.drive_spec.specs.declared.deck.Deck.{Deck}

@@ -1,5 +1,5 @@
 -- Words that contracts and proofs cite, and no definition of the statement: texts, and parts of the table of refusals.
-use Rattle.std.specs.Prelude.{ℕ, Bool, ◌==◌, ◌&&◌, ◌||◌, not, nat_le, List, [], ◌∷◌, codes}
+use Rattle.std.specs.Prelude.{ℕ, Bool, ◌==◌, ◌&&◌, ◌||◌, not, nat_le, if◌then◌else◌, List, [], ◌∷◌, codes}
 use Rattle.std.specs.List.{list_any}
 use Rattle.qic117_commands.specs.declared.command.Command.{Command}
 use Rattle.qic117_commands.specs.declared.command.Command.TheVariants.{Reset, ReportNextBit, Pause, MicroStepPause, AlternateTimeout, ReportStatus, ReportError, ReportConfiguration, ReportRom, LogicalForward, PhysicalReverse, PhysicalForward, SeekTrack, SeekLoadPoint, EnterFormat, WriteReference, EnterVerify, StopTape, MicroStepUp, MicroStepDown, SoftSelect, SoftDeselect, SkipReverse, SkipForward, SelectRate, Diagnostic1, Diagnostic2, EnterPrimary, VendorUnique, ReportVendor, ReportTapeStatus, ExtendedSkipReverse, ExtendedSkipForward, CalibrateLength, ReportFormatSegments, SetFormatSegments, PhantomSelect, PhantomDeselect}
@@ -83,3 +83,7 @@ stands_past_bot view =
 -- a row refuses a command in a drive: it speaks of the command, and holds of the drive
 abbrev pub refuses : DriveView → Command → Row → Bool
 refuses view command row = row.covers command && row.holds view
+
+-- a bit of the status word where its fact holds, else nothing
+abbrev pub bit_where : ℕ → Bool → ℕ
+bit_where bit holds = if holds then bit else 0

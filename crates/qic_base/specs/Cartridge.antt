@@ -27,11 +27,6 @@ pub record IsLength (segments_per_track : ℕ) : Type 0 where
   pub shortest : 3 ≤ segments_per_track
   pub longest : segments_per_track ≤ LONGEST
 
--- the version of a layout: there are two
-pub record IsVersion (version : ℕ) : Type 0 where
-  pub oldest : 1 ≤ version
-  pub newest : version ≤ 2
-
 -- a segment and a sector index of a cartridge with this many segments per track
 pub record IsPlace (segments_per_track segment sector : ℕ) : Type 0 where
   pub on_tape : segment < 28 * segments_per_track

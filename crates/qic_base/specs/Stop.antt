@@ -7,17 +7,14 @@ use Rattle.qic_base.specs.Step.{Step, WriteSector, FormatSegment, Renew, Wear, e
 
 -- a sector of a segment whose formatting has begun: as it was, or lost where it was formatted and is no defect
 abbrev pub ClosingView : SectorView → SectorView → Type 0
-ClosingView Blank new = new ≡ Blank
-ClosingView Defect new = new ≡ Defect
-ClosingView Lost new = new ≡ Lost
 ClosingView (Holds bytes) new = (new ≡ Holds bytes) ⊎ (new ≡ Lost)
+ClosingView old new = new ≡ old
 
 -- a sector of a segment whose formatting is about to end: lost, or of zero bytes, or still not formatted
 abbrev pub OpeningView : SectorView → SectorView → Type 0
 OpeningView Blank new = (new ≡ Blank) ⊎ (new ≡ Lost) ⊎ (new ≡ Holds zero_sector)
 OpeningView Defect new = new ≡ Defect
-OpeningView Lost new = (new ≡ Lost) ⊎ (new ≡ Holds zero_sector)
-OpeningView (Holds bytes) new = (new ≡ Lost) ⊎ (new ≡ Holds zero_sector)
+OpeningView old new = (new ≡ Lost) ⊎ (new ≡ Holds zero_sector)
 
 -- each sector of one segment changed so, and nothing else changed
 pub record SegmentBecame (Became : SectorView → SectorView → Type 0) (segment : ℕ) (old new : Cartridge) : Type 0 where

@@ -3,7 +3,7 @@ use Rattle.std.specs.Prelude.{◌≡◌, ℕ, ◌+◌, ◌*◌, ◌/◌, ◌%◌
 use Rattle.qic_base.specs.declared.tape.SectorView.{SectorView}
 use Rattle.qic_base.specs.declared.tape.SectorView.TheVariants.{Blank, Defect, Lost, Holds}
 use Rattle.qic_base.specs.Acts.{Outside}
-use Rattle.qic_base.specs.Cartridge.{Cartridge, IsSector, IsLength, IsVersion}
+use Rattle.qic_base.specs.Cartridge.{Cartridge, IsSector, IsLength}
 use Rattle.qic_base.specs.Cause.{Rose}
 use Rattle.qic_base.specs.Date.{low_part, IsDate, date_word}
 use Rattle.qic_base.specs.Step.{FormatSegment}
@@ -19,6 +19,11 @@ IsView Blank = Unit {0}
 IsView Defect = Unit {0}
 IsView Lost = Unit {0}
 IsView (Holds bytes) = IsSector bytes
+
+-- the version of a layout: there are two
+pub record IsVersion (version : ℕ) : Type 0 where
+  pub oldest : 1 ≤ version
+  pub newest : version ≤ 2
 
 -- 28 tracks of 32 sectors a segment: 896 sectors for each segment per track (QIC-80-MC)
 pub record IsCartridge (c : Cartridge) : Type 0 where
@@ -37,7 +42,11 @@ place_of segment sector = 32 * segment + sector
 
 -- the cartridge with the 32 views of one segment changed
 abbrev pub with_segment : Cartridge → ℕ → (SectorView → SectorView) → Cartridge
-with_segment c segment change = record c { views = take (32 * segment) c.views ++ map change (take 32 (drop (32 * segment) c.views)) ++ drop (32 * (segment + 1)) c.views }
+with_segment c segment change = record c {
+  views = take (32 * segment) c.views
+      ++ map change (take 32 (drop (32 * segment) c.views))
+      ++ drop (32 * (segment + 1)) c.views;
+}
 
 -- A segment's formatting was stopped.
 abbrev pub HalfFormatted : ℕ → Option Cartridge → Option Cartridge → Type 0
