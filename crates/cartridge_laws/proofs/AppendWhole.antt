@@ -24,7 +24,8 @@ use Rattle.cartridge_spec.specs.Table.{slot_sector}
 use Rattle.cartridge_spec.specs.Volumes.{Part, parts_of, Plain, Volume, sectors_in}
 use Rattle.gf256_qic.proofs.Parities.{parity_sectors-are_sectors}
 use Rattle.qic_base.proofs.Steps.{Torn-all}
-use Rattle.qic_base.specs.Cartridge.{Cartridge, IsCartridge, view_at, IsSector}
+use Rattle.qic_base.specs.Cartridge.{Cartridge, view_at, IsSector}
+use Rattle.qic_base.specs.Terms.{IsCartridge}
 use Rattle.qic_base.specs.Step.{Step, WriteSector, FormatSegment, SetReferenced, SetProtected, Renew, Wear, Spoil, Upgrade, changed, written_view, worn_view, effects}
 use Rattle.qic_base.specs.Stop.{Halfway, Torn}
 

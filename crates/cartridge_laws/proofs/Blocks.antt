@@ -13,7 +13,7 @@ use Rattle.cartridge_laws.specs.SayingLaws.{SaysAlways}
 use Rattle.cartridge_spec.specs.Code.{IsSector, column, IsCodeword, IsCodeBlock}
 use Rattle.cartridge_spec.specs.Says.{Agrees, HasNoBlock, Data, LostSectors, Mismatch, unreadable_count, data_of}
 use Rattle.gf256_qic.proofs.Agreement.{length-column, get_or-column}
-use Rattle.qic_base.specs.Cartridge.{IsView}
+use Rattle.qic_base.specs.Terms.{IsView}
 use Rattle.qic_base.specs.declared.tape.SectorView.{SectorView}
 use Rattle.qic_base.specs.declared.tape.SectorView.TheVariants.{Blank, Defect, Lost, Holds}
 use Rattle.qic_base.specs.Cartridge as cartridges

@@ -16,7 +16,8 @@ use Rattle.cartridge_spec.specs.Says.{cells_of, Written, Zero, whole_mask, unrea
 use Rattle.cartridge_spec.specs.Shape.{mask_at, usable_places}
 use Rattle.cartridge_spec.specs.Volumes.{CopiesAre, Volume, VolumeStands, PartStands, parts_of, carrying_segments, Plain, Stands}
 use Rattle.cartridge_spec.specs.Wear.{worn, WearSpares}
-use Rattle.qic_base.specs.Cartridge.{Cartridge, view_at, place_of}
+use Rattle.qic_base.specs.Cartridge.{Cartridge, view_at}
+use Rattle.qic_base.specs.Terms.{place_of}
 use Rattle.qic_base.specs.Step.{worn_view, Spoil, changed, SetProtected, SetReferenced}
 use Rattle.qic_base.specs.declared.tape.SectorView.{SectorView}
 use Rattle.qic_base.specs.declared.tape.SectorView.TheVariants.{Holds, Blank}

@@ -15,7 +15,8 @@ use Rattle.cartridge_spec.specs.Says.{whole_mask, cells_of, Written}
 use Rattle.cartridge_spec.specs.Shape.{sector_at}
 use Rattle.cartridge_spec.specs.Table.{slot, is_free, slot_fault, HasNoFault}
 use Rattle.cartridge_spec.specs.Volumes.{Volume, IsPlain, VolumeStands, Stands}
-use Rattle.qic_base.specs.Cartridge.{zero_sector, Cartridge, IsSector, IsCartridge}
+use Rattle.qic_base.specs.Cartridge.{zero_sector, Cartridge, IsSector}
+use Rattle.qic_base.specs.Terms.{IsCartridge}
 use Rattle.qic_base.specs.Field.{number_at, little_endian}
 use Rattle.qic_base.specs.declared.tape.TapeInfo.{TapeInfo}
 use Rattle.cartridge_spec.specs.Table as tables

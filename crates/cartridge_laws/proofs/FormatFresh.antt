@@ -11,9 +11,9 @@ use Rattle.std.proofs.lemmas.List.FromFn.{get_or-map-range_with_len}
 use Rattle.cartridge_spec.specs.Formatting.{IsFreshFor}
 use Rattle.cartridge_spec.specs.Header.{Value, Number, Text, number_in, HoldsValue, value_fault, Field, HeaderFault, Holds, field_fault, first_fault, word_in, map_fault, header_fault, has_signature, number, words_in, profile_fields}
 use Rattle.cartridge_spec.specs.Shape.{sector_at}
-use Rattle.qic_base.specs.Cartridge.{IsSector, Cartridge, IsCartridge}
+use Rattle.qic_base.specs.Cartridge.{IsSector, Cartridge}
+use Rattle.qic_base.specs.Terms.{IsCartridge, IsLost}
 use Rattle.qic_base.specs.Field.{little_endian, number_at}
-use Rattle.qic_base.specs.LostSet.{IsLost}
 use Rattle.qic_base.specs.declared.foreign.ForeignField.{ForeignField}
 
 -- ---- the fields

@@ -15,7 +15,8 @@ use Rattle.cartridge_spec.specs.Says.{with_parity}
 use Rattle.cartridge_spec.specs.Shape.{IsLive}
 use Rattle.cartridge_spec.specs.Volumes.{Plain, Stands}
 use Rattle.qic_base.proofs.Steps.{Torn-append}
-use Rattle.qic_base.specs.Cartridge.{Cartridge, IsCartridge, view_at, zero_sector}
+use Rattle.qic_base.specs.Cartridge.{Cartridge, view_at, zero_sector}
+use Rattle.qic_base.specs.Terms.{IsCartridge}
 use Rattle.qic_base.specs.Step.{Step, effects}
 use Rattle.qic_base.specs.Stop.{Torn}
 use Rattle.qic_base.specs.declared.tape.SectorView.TheVariants.{Holds}

@@ -14,7 +14,8 @@ use Rattle.cartridge_spec.specs.HeaderAndTable.{CopyReads, copy_cells, IsInForce
 use Rattle.cartridge_spec.specs.Mounting.{IsSoundlyFormatted, RefusesHeader, RefusesTable, Mounting, NotFormatted, Foreign, TableLost, TableMismatch, Mounted, Mounts, IsMounted}
 use Rattle.cartridge_spec.specs.Says.{Data, AsRead, ByCode, Saying, TableSays, LostSectors, Mismatch, Says, whole_mask, TableSaying}
 use Rattle.cartridge_spec.specs.Table.{TableFault, IsFirstFault, slot_fault, HasNoFault, Entry}
-use Rattle.qic_base.specs.Cartridge.{Cartridge, IsCartridge}
+use Rattle.qic_base.specs.Cartridge.{Cartridge}
+use Rattle.qic_base.specs.Terms.{IsCartridge}
 use Rattle.cartridge_spec.specs.Header as headers
 use Rattle.cartridge_spec.specs.Table as tables
 

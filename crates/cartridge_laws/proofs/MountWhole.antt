@@ -19,7 +19,8 @@ use Rattle.cartridge_spec.specs.Settling.{settling_steps}
 use Rattle.cartridge_spec.specs.Shape.{sector_at}
 use Rattle.gf256_qic.proofs.Parities.{parity_block}
 use Rattle.qic_base.proofs.Steps.{Torn-all}
-use Rattle.qic_base.specs.Cartridge.{Cartridge, IsCartridge, IsSector, view_at}
+use Rattle.qic_base.specs.Cartridge.{Cartridge, IsSector, view_at}
+use Rattle.qic_base.specs.Terms.{IsCartridge}
 use Rattle.qic_base.specs.Step.{written_view, worn_view, Step, effects}
 
 -- ---- the data

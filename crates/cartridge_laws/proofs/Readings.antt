@@ -9,7 +9,7 @@ use Rattle.cartridge_laws.proofs.Sayings.{says_is_function}
 use Rattle.cartridge_laws.proofs.Sets.{IsOneOf, few_outside, unreadable_is_named, views_hidden}
 use Rattle.cartridge_spec.specs.Says.{hidden, unreadable_count, Data, HasBlock, HasNoBlock, HasFirstBlock, HasNoBlocks, Saying, LostSectors, Mismatch, SaysBy, Says}
 use Rattle.cartridge_spec.specs.TableSets.{set_of, with_used, sets_by_one, sets_by_two, sets_by, table_sets, last_used, unreadable_places}
-use Rattle.qic_base.specs.Cartridge.{IsView}
+use Rattle.qic_base.specs.Terms.{IsView}
 use Rattle.qic_base.specs.declared.tape.SectorView.{SectorView}
 
 -- ---- sets that leave enough sectors

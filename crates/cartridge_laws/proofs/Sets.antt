@@ -10,7 +10,7 @@ use Rattle.cartridge_spec.specs.Says.{hidden_from, hidden, unreadable_count}
 use Rattle.cartridge_spec.specs.Shape.{is_unreadable}
 use Rattle.cartridge_spec.specs.TableSets.{set_of, unreadable_from, unreadable_places}
 use Rattle.gf256_qic.specs.Code.{lost_below}
-use Rattle.qic_base.specs.Cartridge.{IsView}
+use Rattle.qic_base.specs.Terms.{IsView}
 use Rattle.qic_base.specs.declared.tape.SectorView.{SectorView}
 use Rattle.qic_base.specs.declared.tape.SectorView.TheVariants.{Lost, Holds}
 

@@ -13,7 +13,8 @@ use Rattle.cartridge_spec.specs.Settling.{changed_by, settling_steps}
 use Rattle.cartridge_spec.specs.Shape.{mask_at, data_count, capacity}
 use Rattle.cartridge_spec.specs.Table.{Shows, slot_sector}
 use Rattle.cartridge_spec.specs.Volumes.{Plain, Stands, entries_of, volume_length}
-use Rattle.qic_base.specs.Cartridge.{Cartridge, IsCartridge, view_at}
+use Rattle.qic_base.specs.Cartridge.{Cartridge, view_at}
+use Rattle.qic_base.specs.Terms.{IsCartridge}
 use Rattle.qic_base.specs.Step.{Step}
 use Rattle.qic_base.specs.Stop.{Torn}
 

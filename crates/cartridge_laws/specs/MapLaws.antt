@@ -2,7 +2,7 @@
 use Rattle.std.specs.Prelude.{ℕ, ◌^◌, ◌<◌, ◌≡◌, ◌*◌, length}
 use Rattle.cartridge_laws.specs.Shape.{data_places}
 use Rattle.cartridge_spec.specs.Shape.{mask_of, capacity}
-use Rattle.qic_base.specs.LostSet.{IsLost}
+use Rattle.qic_base.specs.Terms.{IsLost}
 
 -- the bit of the mask is the turned bit of the map's word
 abbrev pub MarkedAreUnusable : Type 0

@@ -6,7 +6,8 @@ use Rattle.cartridge_spec.specs.Header.{has_signature}
 use Rattle.cartridge_spec.specs.HeaderAndTable.{copy_cells, CopyDoesNotRead}
 use Rattle.cartridge_spec.specs.Says.{Saying, Says, TableSaying, TableSays, Mismatch, unreadable_data, ByCode, ReadsAll, cells_of, whole_mask, Data, Written, unreadable_count, LostSectors, Zero}
 use Rattle.cartridge_spec.specs.Shape.{usable_count, usable_places}
-use Rattle.qic_base.specs.Cartridge.{IsView, Cartridge, IsCartridge, view_at, zero_sector}
+use Rattle.qic_base.specs.Terms.{IsView, IsCartridge}
+use Rattle.qic_base.specs.Cartridge.{Cartridge, view_at, zero_sector}
 use Rattle.qic_base.specs.declared.tape.SectorView.{SectorView}
 use Rattle.qic_base.specs.Cartridge as cartridges
 

@@ -13,7 +13,8 @@ use Rattle.cartridge_spec.specs.Table.{slot_bytes, slot_sector, entry_in, slot_f
 use Rattle.cartridge_spec.specs.TableSets.{table_sets}
 use Rattle.cartridge_spec.specs.Volumes.{volume_length}
 use Rattle.qic_base.specs.Cartridge.{new_cartridge, IsPlace, IsLength}
-use Rattle.qic_base.specs.Date.{date_word, ShowsDate, IsDate}
+use Rattle.qic_base.specs.Date.{date_word, IsDate}
+use Rattle.qic_base.specs.Terms.{ShowsDate}
 use Rattle.qic_base.specs.Name.{filled, IsNameText}
 use Rattle.qic_base.specs.Step.{WriteSector, FormatSegment, SetReferenced}
 use Rattle.qic_base.specs.declared.foreign.ForeignField.TheVariants.{FormatCode}

@@ -1,5 +1,5 @@
 -- A cartridge formatted: its defects, its header, the steps in their order, and header copies that it may begin over (this project's profile).
-use Rattle.std.specs.Prelude.{ℕ, List, slice_index, ◌≡◌, ◌↔◌, ◌*◌, ◌<◌, length, ◌⊎◌, All, map, ◌∷◌, [], ◌++◌, take, drop}
+use Rattle.std.specs.Prelude.{ℕ, List, slice_index, ◌≡◌, ◌↔◌, ◌*◌, ◌/◌, ◌%◌, ◌^◌, ◌<◌, length, ◌⊎◌, All, map, ◌∷◌, [], ◌++◌, take, drop}
 use Rattle.std.specs.List.{range_with_len}
 use Rattle.cartridge_spec.specs.Header.{Header, SpellsHeader}
 use Rattle.cartridge_spec.specs.HeaderAndTable.{copy_cells, IsArea}
@@ -7,7 +7,6 @@ use Rattle.cartridge_spec.specs.Says.{Written, Zero, unreadable_count, with_pari
 use Rattle.cartridge_spec.specs.Settling.{writes_of}
 use Rattle.cartridge_spec.specs.Volumes.{Plain, Stands, empty_plain}
 use Rattle.qic_base.specs.Cartridge.{Cartridge, view_at}
-use Rattle.qic_base.specs.LostSet.{IsLost}
 use Rattle.qic_base.specs.Step.{Step, FormatSegment, SetReferenced}
 use Rattle.qic_base.specs.declared.tape.SectorView.{SectorView}
 use Rattle.qic_base.specs.declared.tape.SectorView.TheVariants.{Blank, Defect, Lost, Holds}
@@ -20,7 +19,7 @@ IsDefect (Holds bytes) = ⊥
 
 -- the map has the sector's bit
 abbrev pub IsMarked : (words : List ℕ) (segment sector : ℕ) → Type 0
-IsMarked words segment sector = IsLost (slice_index words segment) sector
+IsMarked words segment sector = slice_index words segment / 2 ^ sector % 2 ≡ 1
 
 -- the words mark exactly the defects
 pub record MarksDefects (c : Cartridge) (words : List ℕ) : Type 0 where

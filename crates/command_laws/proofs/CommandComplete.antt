@@ -27,7 +27,8 @@ use Rattle.command_spec.specs.Script.{Scripting, ScriptOutcome, script_status}
 use Rattle.command_spec.specs.Commands.ScriptCommand.{IsOfLines}
 use Rattle.command_spec.specs.Scrub.{Mends, ScrubOutcome}
 use Rattle.command_spec.specs.declared.status.Status.{Status}
-use Rattle.qic_base.specs.Cartridge.{Cartridge, view_at, IsCartridge}
+use Rattle.qic_base.specs.Cartridge.{Cartridge, view_at}
+use Rattle.qic_base.specs.Terms.{IsCartridge}
 use Rattle.qic_base.specs.Tape.{spoil_answer}
 use Rattle.command_spec.specs.declared.status.Status.TheVariants as status
 use Rattle.command_spec.specs.Pulses as pulses

@@ -14,10 +14,12 @@ use Rattle.command_spec.specs.declared.words.Words.{Words}
 use Rattle.qic_base.proofs.Outcomes.{cut_is_torn, cut_stops, cut_took_front, cut_fell_none, cut_rose}
 use Rattle.qic_base.proofs.Steps.{Torn-all, Stops-left}
 use Rattle.qic_base.specs.Acts.{Failing, TapeFails, SourceFails, SinkFails, Outside, Act, steps_of, text_of, Cut, FailingRose}
-use Rattle.qic_base.specs.Cartridge.{Cartridge, IsCartridge}
+use Rattle.qic_base.specs.Cartridge.{Cartridge}
+use Rattle.qic_base.specs.Terms.{IsCartridge}
 use Rattle.qic_base.specs.Step.{Step as TapeStep, effects}
 use Rattle.qic_base.specs.Stop.{Torn}
 use Rattle.qic_base.specs.Tape as tapes
+use Rattle.qic_base.specs.TapeCalls as tape_calls
 use Rattle.command_spec.specs.declared.status.Status.TheVariants as status
 use Rattle.qic_base.specs.Sink as sinks
 use Rattle.qic_base.specs.Source as sources
@@ -69,11 +71,11 @@ done_or_not answer = inr (λ is. cc)
 pub record Laws {T S K : Type 0} (t : tapes.Meaning T) (s : sources.Meaning S) (k : sinks.Meaning K) (old new : Outside T S K) : Type 0 where
   pub nothing : (x : K) → k.took x [] x
   pub told : (x y : K) (text : List ℕ) → k.took x text y → k.written y ≡ option_map (λ bytes. bytes ++ text) (k.written x)
-  pub right : tapes.IsToldRight (t.told old.tape) (t.size old.tape)
-  pub before : tapes.IsLeftNow t old.tape
+  pub right : tape_calls.IsToldRight (t.told old.tape) (t.size old.tape)
+  pub before : tape_calls.IsLeftNow t old.tape
 
 -- what is told is a whole cartridge, or none
-pub told_whole : (held : Option Cartridge) (told : Option (Option Cartridge)) (size : Option ℕ) → tapes.IsToldRight told size → told ≡ Some held → IfSome held IsCartridge
+pub told_whole : (held : Option Cartridge) (told : Option (Option Cartridge)) (size : Option ℕ) → tape_calls.IsToldRight told size → told ≡ Some held → IfSome held IsCartridge
 told_whole held None size right told = cc
 told_whole None (Some other) size right told = tt
 told_whole (Some c) (Some None) size right told = cc
@@ -119,7 +121,7 @@ pub record LeftBy {T : Type 0} (t : tapes.Meaning T) (a b : T) (held : Option Ca
   pub torn : IsSomeAnd (t.told b) (λ left. Torn steps held left)
   pub leaves : (left : Option Cartridge) → Torn steps held left → P left
 
-pub each_left : {T : Type 0} (t : tapes.Meaning T) (a b : T) (P : (held left : Option Cartridge) → Type 0) → tapes.IsLeftNow t a →
+pub each_left : {T : Type 0} (t : tapes.Meaning T) (a b : T) (P : (held left : Option Cartridge) → Type 0) → tape_calls.IsLeftNow t a →
     ((held : Option Cartridge) → t.told a ≡ Some held → LeftBy t a b held (P held)) → EachLeft t a b P
 each_left t a b P before by = record {
   told = λ held told. let l = by held told in told_weaker (t.told b) l.leaves l.torn;

@@ -44,13 +44,15 @@ use Rattle.command_spec.specs.declared.words.Words.{Words}
 use Rattle.qic_base.proofs.Joins.{steps_of-append}
 use Rattle.qic_base.proofs.Steps.{effects-append}
 use Rattle.qic_base.specs.Acts.{Act, steps_of, text_of, Outside, TapeFails, SourceFails, SinkFails}
-use Rattle.qic_base.specs.Cartridge.{Cartridge, IsCartridge}
+use Rattle.qic_base.specs.Cartridge.{Cartridge}
+use Rattle.qic_base.specs.Terms.{IsCartridge}
 use Rattle.qic_base.specs.Step.{effects, Step as TapeStep}
 use Rattle.qic_base.specs.declared.tape.TapeInfo.{TapeInfo}
 use Rattle.command_spec.specs.declared.status.Status.TheVariants as status
 use Rattle.qic_base.specs.Sink as sinks
 use Rattle.qic_base.specs.Source as sources
 use Rattle.qic_base.specs.Tape as tapes
+use Rattle.qic_base.specs.TapeCalls as tape_calls
 use Rattle.command_spec.specs.declared.words.Words.TheVariants as commands
 use Rattle.command_spec.specs.Script as scripts
 use Rattle.command_spec.specs.Make as made
@@ -586,7 +588,7 @@ lists_appends t s k words command old new answer laws spelled values ends = reco
 
 -- ---- a run that touched nothing
 
-pub none_listed : {T K : Type 0} (t : tapes.Meaning T) (k : sinks.Meaning K) (told : Option (List ℕ)) (words : List (List ℕ)) (a : T) (x : K) (answer : Status) → tapes.IsToldRight (t.told a) (t.size a) →
+pub none_listed : {T K : Type 0} (t : tapes.Meaning T) (k : sinks.Meaning K) (told : Option (List ℕ)) (words : List (List ℕ)) (a : T) (x : K) (answer : Status) → tape_calls.IsToldRight (t.told a) (t.size a) →
     k.took x [] x → (IsCarriedOut answer → ⊥) → (IsHeard answer → ⊥) → ((seed count : ℕ) (words : List ℕ) (es : List Entry) → AppendedFrom seed 1 count words es answer 0) →
     ListsAppends t k told words a a x x answer
 none_listed t k told words a x answer right nothing never unheard unmade = record {

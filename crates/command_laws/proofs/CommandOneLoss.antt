@@ -22,7 +22,8 @@ use Rattle.command_spec.specs.Append.{AppendOutcome, room_in}
 use Rattle.command_spec.specs.Outcome.{CommandOutcome}
 use Rattle.qic_base.proofs.Steps.{Torn-append}
 use Rattle.qic_base.specs.Acts.{Act, steps_of}
-use Rattle.qic_base.specs.Cartridge.{Cartridge, IsCartridge}
+use Rattle.qic_base.specs.Cartridge.{Cartridge}
+use Rattle.qic_base.specs.Terms.{IsCartridge}
 use Rattle.qic_base.specs.Step.{Step, effects}
 use Rattle.qic_base.specs.Stop.{Torn}
 use Rattle.cartridge_laws.specs.AppendLaws as appends

@@ -43,11 +43,13 @@ use Rattle.command_spec.specs.declared.words.Words.{Words}
 use Rattle.qic_base.proofs.Joins.{text_of-append, steps_of-append}
 use Rattle.qic_base.proofs.Steps.{Torn-append, effects-append}
 use Rattle.qic_base.specs.Acts.{Act, steps_of, text_of, next_steps, Outside, Failing, TapeFails, SourceFails, SinkFails, Went, Cut}
-use Rattle.qic_base.specs.Cartridge.{Cartridge, IsCartridge}
+use Rattle.qic_base.specs.Cartridge.{Cartridge}
+use Rattle.qic_base.specs.Terms.{IsCartridge}
 use Rattle.qic_base.specs.Step.{effects, Step as TapeStep}
 use Rattle.qic_base.specs.Stop.{Torn}
 use Rattle.command_spec.specs.declared.status.Status.TheVariants as status
 use Rattle.qic_base.specs.Tape as tapes
+use Rattle.qic_base.specs.TapeCalls as tape_calls
 use Rattle.qic_base.specs.Sink as sinks
 use Rattle.qic_base.specs.Source as sources
 use Rattle.command_spec.specs.Make as made
@@ -643,7 +645,7 @@ carries_out_lines t s k words command old new answer laws spelled ends leaves = 
 untouched_now : {T : Type 0} (t : tapes.Meaning T) (a : T) (c : Cartridge) (P : Option Cartridge → Type 0) → t.told a ≡ Some (Some c) → P (Some c) → ToldNow t a P
 untouched_now t a c P told holds = subst (λ (o : Option (Option Cartridge)). IsSomeAnd o P) (sym told) holds
 
-pub none_made : {T K : Type 0} (t : tapes.Meaning T) (k : sinks.Meaning K) (told : Option (List ℕ)) (words : List (List ℕ)) (a : T) (x : K) (answer : Status) → tapes.IsToldRight (t.told a) (t.size a) →
+pub none_made : {T K : Type 0} (t : tapes.Meaning T) (k : sinks.Meaning K) (told : Option (List ℕ)) (words : List (List ℕ)) (a : T) (x : K) (answer : Status) → tape_calls.IsToldRight (t.told a) (t.size a) →
     k.took x [] x → (IsCarriedOut answer → ⊥) → ((seed count : ℕ) (words : List ℕ) (es : List Entry) → AppendedFrom seed 1 count words es answer 0) → ((other : Words) → Spells words other → HasValues other) → EachLeft t a a (WordsLeave told words) → MakesVolumes t k words a a x x answer
 none_made t k told words a x answer right nothing never unmade values leaves = record {
   stopped = each_weaker t a a right (λ held left whole is. some_made told words held left values whole is) leaves;
@@ -656,7 +658,7 @@ none_made t k told words a x answer right nothing never unmade values leaves = r
   };
 }
 
-pub none_scripted : {T K : Type 0} (t : tapes.Meaning T) (k : sinks.Meaning K) (told : Option (List ℕ)) (words : List (List ℕ)) (a : T) (x : K) (answer : Status) → tapes.IsToldRight (t.told a) (t.size a) →
+pub none_scripted : {T K : Type 0} (t : tapes.Meaning T) (k : sinks.Meaning K) (told : Option (List ℕ)) (words : List (List ℕ)) (a : T) (x : K) (answer : Status) → tape_calls.IsToldRight (t.told a) (t.size a) →
     k.took x [] x → (IsHeard answer → ⊥) → EachLeft t a a (WordsLeave told words) → CarriesOutLines t k told words a a x x answer
 none_scripted t k told words a x answer right nothing unheard leaves = record {
   stopped = each_weaker t a a right (λ held left whole is. some_scripted told words held left whole is) leaves;

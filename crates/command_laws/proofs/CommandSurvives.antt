@@ -19,10 +19,12 @@ use Rattle.command_spec.specs.Volumes.{IsCarriedOut}
 use Rattle.command_spec.specs.declared.status.Status.{Status}
 use Rattle.command_spec.specs.declared.words.Words.{Words}
 use Rattle.qic_base.specs.Acts.{steps_of, Outside}
-use Rattle.qic_base.specs.Cartridge.{Cartridge, IsCartridge}
+use Rattle.qic_base.specs.Cartridge.{Cartridge}
+use Rattle.qic_base.specs.Terms.{IsCartridge}
 use Rattle.qic_base.specs.Step.{effects}
 use Rattle.command_spec.specs.declared.words.Words.TheVariants as commands
 use Rattle.qic_base.specs.Tape as tapes
+use Rattle.qic_base.specs.TapeCalls as tape_calls
 use Rattle.qic_base.specs.Sink as sinks
 use Rattle.qic_base.specs.Source as sources
 use Rattle.command_spec.specs.declared.status.Status.TheVariants as status
@@ -44,7 +46,7 @@ stopped_comes_back told words held left values whole (inr (command, spelled, lea
       | inr back ↦ inr (some_weaker left (λ d comes. record { input = l.input; is_told = l.is_told; comes = comes }) back)
     ]
 
-all_come_back : {T : Type 0} (t : tapes.Meaning T) (told : Option (List ℕ)) (words : List (List ℕ)) (a b : T) → tapes.IsToldRight (t.told a) (t.size a) →
+all_come_back : {T : Type 0} (t : tapes.Meaning T) (told : Option (List ℕ)) (words : List (List ℕ)) (a b : T) → tape_calls.IsToldRight (t.told a) (t.size a) →
     ((command : Words) → Spells words command → HasValues command) → EachLeft t a b (WordsLeave told words) → EachLeft t a b (StoppedComesBack told words)
 all_come_back t told words a b right values leaves = each_weaker t a b right (λ held left whole is. stopped_comes_back told words held left values whole is) leaves
 
@@ -86,7 +88,7 @@ survives_one_loss t s k words command old new answer laws spelled values all end
 
 -- words of no command leave all as it was, and want of memory
 pub none_survives : {T : Type 0} (t : tapes.Meaning T) (told : Option (List ℕ)) (words : List (List ℕ)) (a : T) (answer : Status) →
-    tapes.IsToldRight (t.told a) (t.size a) → is_fault answer ≡ false → may_change answer ≡ false →
+    tape_calls.IsToldRight (t.told a) (t.size a) → is_fault answer ≡ false → may_change answer ≡ false →
     ((command : Words) → Spells words command → HasValues command) → EachLeft t a a (WordsLeave told words) → SurvivesOneLoss t told words a a answer
 none_survives t told words a answer right no_fault none values leaves = record {
   stopped = all_come_back t told words a a right values leaves;

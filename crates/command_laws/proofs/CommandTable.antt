@@ -38,7 +38,8 @@ use Rattle.command_spec.specs.Commands.{command_of, IsCommand}
 use Rattle.command_spec.specs.Machine.{HasValues, Yields}
 use Rattle.command_spec.specs.Outcome.{CommandOutcome}
 use Rattle.command_spec.specs.declared.words.Words.{Words}
-use Rattle.qic_base.specs.Cartridge.{Cartridge, IsCartridge}
+use Rattle.qic_base.specs.Cartridge.{Cartridge}
+use Rattle.qic_base.specs.Terms.{IsCartridge}
 use Rattle.command_spec.specs.declared.words.Words.TheVariants as words
 
 -- the readings of all commands

@@ -26,7 +26,8 @@ use Rattle.command_spec.specs.Pulses.{sent, info_of, SentOutcome}
 use Rattle.command_spec.specs.Restore.{Gives, volume_at, pieces}
 use Rattle.command_spec.specs.Script.{Scripting}
 use Rattle.command_spec.specs.Scrub.{Mends}
-use Rattle.qic_base.specs.Cartridge.{Cartridge, view_at, IsCartridge}
+use Rattle.qic_base.specs.Cartridge.{Cartridge, view_at}
+use Rattle.qic_base.specs.Terms.{IsCartridge}
 use Rattle.qic_base.specs.Tape.{spoil_answer}
 use Rattle.cartridge_spec.specs.Mounting as mounting
 

@@ -29,10 +29,12 @@ use Rattle.command_spec.specs.declared.status.Status.{Status}
 use Rattle.command_spec.specs.declared.words.Words.{Words}
 use Rattle.qic_base.proofs.Steps.{Done-nothing}
 use Rattle.qic_base.specs.Acts.{steps_of, Outside, Failing, TapeFails, SourceFails, SinkFails}
-use Rattle.qic_base.specs.Cartridge.{Cartridge, IsCartridge, new_cartridge}
+use Rattle.qic_base.specs.Cartridge.{Cartridge, new_cartridge}
+use Rattle.qic_base.specs.Terms.{IsCartridge}
 use Rattle.qic_base.specs.Step.{Step as TapeStep, effects, Renew}
 use Rattle.qic_base.specs.Stop.{Torn}
 use Rattle.qic_base.specs.Tape as tapes
+use Rattle.qic_base.specs.TapeCalls as tape_calls
 use Rattle.qic_base.specs.Sink as sinks
 use Rattle.qic_base.specs.Source as sources
 use Rattle.command_spec.specs.declared.status.Status.TheVariants as status
@@ -47,7 +49,7 @@ may_change answer = false
 -- ---- each that is left
 
 -- a fact of each cartridge that is left follows from another, over a whole cartridge or none
-pub each_weaker : {T : Type 0} {P Q : (held left : Option Cartridge) → Type 0} (t : tapes.Meaning T) (a b : T) → tapes.IsToldRight (t.told a) (t.size a) →
+pub each_weaker : {T : Type 0} {P Q : (held left : Option Cartridge) → Type 0} (t : tapes.Meaning T) (a b : T) → tape_calls.IsToldRight (t.told a) (t.size a) →
     ((held left : Option Cartridge) → IfSome held IsCartridge → P held left → Q held left) → EachLeft t a b P → EachLeft t a b Q
 each_weaker t a b right follows each = record {
   told = λ held told. told_weaker (t.told b) (λ left is. follows held left (told_whole held (t.told a) (t.size a) right told) is) (each.told held told);
@@ -63,7 +65,7 @@ still_stands told words held left (inr (command, spells, leaves)) c plain is sto
     (subst (λ (h : Option Cartridge). Yields command h leaves.input leaves.outcome) is leaves.plain)
     (subst (λ (h : Option Cartridge). Torn (steps_of leaves.outcome.acts) h left) is leaves.torn)
 
-pub volumes_stay : {T : Type 0} (t : tapes.Meaning T) (told : Option (List ℕ)) (words : List (List ℕ)) (a b : T) → tapes.IsToldRight (t.told a) (t.size a) → EachLeft t a b (WordsLeave told words) → VolumesStay t words a b
+pub volumes_stay : {T : Type 0} (t : tapes.Meaning T) (told : Option (List ℕ)) (words : List (List ℕ)) (a b : T) → tape_calls.IsToldRight (t.told a) (t.size a) → EachLeft t a b (WordsLeave told words) → VolumesStay t words a b
 volumes_stay t told words a b right leaves = each_weaker t a b right (λ held left whole is. still_stands told words held left is) leaves
 
 -- ---- commands that keep the list
@@ -76,7 +78,7 @@ still_mounts told words held left (inr (command, spells, leaves)) c header map_w
     (subst (λ (h : Option Cartridge). Yields command h leaves.input leaves.outcome) is leaves.plain)
     (subst (λ (h : Option Cartridge). Torn (steps_of leaves.outcome.acts) h left) is leaves.torn)
 
-pub list_stays : {T : Type 0} (t : tapes.Meaning T) (told : Option (List ℕ)) (words : List (List ℕ)) (a b : T) → tapes.IsToldRight (t.told a) (t.size a) → EachLeft t a b (WordsLeave told words) → ListStays t words a b
+pub list_stays : {T : Type 0} (t : tapes.Meaning T) (told : Option (List ℕ)) (words : List (List ℕ)) (a b : T) → tape_calls.IsToldRight (t.told a) (t.size a) → EachLeft t a b (WordsLeave told words) → ListStays t words a b
 list_stays t told words a b right leaves = each_weaker t a b right (λ held left whole is. still_mounts told words held left is) leaves
 
 -- ---- the table's segment
@@ -88,7 +90,7 @@ still_live told words held left (inr (command, spells, leaves)) c is live none =
     ((laws_of command).live held leaves.input leaves.outcome (none command spells) leaves.plain)
     live (subst (λ (h : Option Cartridge). Torn (steps_of leaves.outcome.acts) h left) is leaves.torn)
 
-pub stays_live : {T : Type 0} (t : tapes.Meaning T) (told : Option (List ℕ)) (words : List (List ℕ)) (a b : T) → tapes.IsToldRight (t.told a) (t.size a) → EachLeft t a b (WordsLeave told words) → EachLeft t a b (StillLive words)
+pub stays_live : {T : Type 0} (t : tapes.Meaning T) (told : Option (List ℕ)) (words : List (List ℕ)) (a b : T) → tape_calls.IsToldRight (t.told a) (t.size a) → EachLeft t a b (WordsLeave told words) → EachLeft t a b (StillLive words)
 stays_live t told words a b right leaves = each_weaker t a b right (λ held left whole is. still_live told words held left is) leaves
 
 -- ---- header copies
@@ -109,7 +111,7 @@ still_clean told words held left (inr (command, spells, leaves)) = record {
       (subst (λ (h : Option Cartridge). Torn (steps_of leaves.outcome.acts) h left) is leaves.torn);
 }
 
-pub stays_clean : {T : Type 0} (t : tapes.Meaning T) (told : Option (List ℕ)) (words : List (List ℕ)) (a b : T) → tapes.IsToldRight (t.told a) (t.size a) → EachLeft t a b (WordsLeave told words) → EachLeft t a b (StillClean words)
+pub stays_clean : {T : Type 0} (t : tapes.Meaning T) (told : Option (List ℕ)) (words : List (List ℕ)) (a b : T) → tape_calls.IsToldRight (t.told a) (t.size a) → EachLeft t a b (WordsLeave told words) → EachLeft t a b (StillClean words)
 stays_clean t told words a b right leaves = each_weaker t a b right (λ held left whole is. still_clean told words held left is) leaves
 
 -- ---- formatting
@@ -178,7 +180,7 @@ formats_or_not told words held left whole leaves = record {
       ];
 }
 
-pub stops_format : {T : Type 0} (t : tapes.Meaning T) (told : Option (List ℕ)) (words : List (List ℕ)) (a b : T) → tapes.IsToldRight (t.told a) (t.size a) → EachLeft t a b (WordsLeave told words) → StopsFormat t words a b
+pub stops_format : {T : Type 0} (t : tapes.Meaning T) (told : Option (List ℕ)) (words : List (List ℕ)) (a b : T) → tape_calls.IsToldRight (t.told a) (t.size a) → EachLeft t a b (WordsLeave told words) → StopsFormat t words a b
 stops_format t told words a b right leaves = each_weaker t a b right (λ held left whole is. formats_or_not told words held left whole is) leaves
 
 -- ---- appending
@@ -203,7 +205,7 @@ appended_or_not told words held left values whole (inr (command, spelled, leaves
     (λ d stands. elim stands [ inl old ↦ inl old | inr new ↦ inr (record { input = l.input; is_told = l.is_told; stands = new }) ])
     (append_stopped name date l.input c plain l.outcome left known.0 known.1 (of_bytes told l.input bytes l.is_told (l.bytes refl)) (whole_of held c whole is) stood live l.plain l.torn)
 
-pub stops_append : {T : Type 0} (t : tapes.Meaning T) (told : Option (List ℕ)) (words : List (List ℕ)) (a b : T) → tapes.IsToldRight (t.told a) (t.size a) →
+pub stops_append : {T : Type 0} (t : tapes.Meaning T) (told : Option (List ℕ)) (words : List (List ℕ)) (a b : T) → tape_calls.IsToldRight (t.told a) (t.size a) →
     ((command : Words) → Spells words command → HasValues command) → EachLeft t a b (WordsLeave told words) → StopsAppend t told words a b
 stops_append t told words a b right values leaves = each_weaker t a b right (λ held left whole is. appended_or_not told words held left values whole is) leaves
 

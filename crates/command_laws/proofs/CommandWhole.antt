@@ -37,7 +37,8 @@ use Rattle.command_spec.specs.declared.line.Line.{Line}
 use Rattle.gf256_qic.proofs.Parities.{all_right}
 use Rattle.qic_base.proofs.Joins.{steps_of-append}
 use Rattle.qic_base.specs.Acts.{Act, steps_of, text_of}
-use Rattle.qic_base.specs.Cartridge.{Cartridge, IsCartridge, IsLength, new_cartridge}
+use Rattle.qic_base.specs.Cartridge.{Cartridge, IsLength, new_cartridge}
+use Rattle.qic_base.specs.Terms.{IsCartridge}
 use Rattle.qic_base.specs.Step.{Renew, Step, Wear, changed}
 use Rattle.qic_base.specs.Stop.{Halfway, Torn}
 use Rattle.qic_base.specs.declared.tape.TapeInfo.{TapeInfo}

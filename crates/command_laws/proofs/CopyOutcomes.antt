@@ -25,7 +25,8 @@ use Rattle.command_spec.specs.Outcome.{settling_act}
 use Rattle.command_spec.specs.Restore.{GivenBytes, GivingEnd, LostIn, MismatchIn, Restored, Restores, pieces}
 use Rattle.command_spec.specs.declared.copy_status.CopyStatus.{CopyStatus}
 use Rattle.qic_base.specs.Acts.{Act, steps_of}
-use Rattle.qic_base.specs.Cartridge.{Cartridge, IsCartridge}
+use Rattle.qic_base.specs.Cartridge.{Cartridge}
+use Rattle.qic_base.specs.Terms.{IsCartridge}
 use Rattle.qic_base.specs.declared.tape.TapeInfo.{TapeInfo}
 use Rattle.cartridge_spec.specs.Mounting as mounting
 use Rattle.command_spec.specs.declared.copy_fault.CopyFault.TheVariants as fault

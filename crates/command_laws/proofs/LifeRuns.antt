@@ -34,7 +34,8 @@ use Rattle.command_spec.specs.Volumes.{KeepsCopies, KeepsLive, KeepsVolumes}
 use Rattle.command_spec.specs.declared.status.Status.{Status}
 use Rattle.command_spec.specs.declared.words.Words.{Words}
 use Rattle.qic_base.specs.Acts.{Act, steps_of, text_of}
-use Rattle.qic_base.specs.Cartridge.{Cartridge, IsCartridge}
+use Rattle.qic_base.specs.Cartridge.{Cartridge}
+use Rattle.qic_base.specs.Terms.{IsCartridge}
 use Rattle.qic_base.specs.Step.{Step, Renew, WriteSector, effect, effects}
 use Rattle.qic_base.specs.Stop.{Halfway, Torn}
 use Rattle.command_spec.specs.Script as scripts

@@ -31,7 +31,8 @@ use Rattle.command_spec.specs.declared.depth.Depth.TheVariants.{Shallow}
 use Rattle.qic_base.proofs.Joins.{steps_of-append}
 use Rattle.qic_base.proofs.Steps.{Torn-all}
 use Rattle.qic_base.specs.Acts.{Act, steps_of}
-use Rattle.qic_base.specs.Cartridge.{Cartridge, view_at, with_view, IsCartridge}
+use Rattle.qic_base.specs.Cartridge.{Cartridge, view_at, with_view}
+use Rattle.qic_base.specs.Terms.{IsCartridge}
 use Rattle.qic_base.specs.Step.{Step, WriteSector, FormatSegment, SetReferenced, SetProtected, Renew, Wear, Spoil, Upgrade, changed, written_view, worn_view, effects}
 use Rattle.qic_base.specs.Stop.{Halfway, Torn}
 use Rattle.qic_base.specs.declared.tape.SectorView.{SectorView}

@@ -18,7 +18,8 @@ use Rattle.command_laws.specs.ScrubLaws.{ScrubsIsFunction, ScrubsAlways, CopyIsL
 use Rattle.command_spec.specs.Scrub.{Looked, cells_at, steps_in, SayInTurn, looked_at, scrub_acts, mending_writes, reads, whole_segment}
 use Rattle.gf256_qic.proofs.Parities.{parity_sectors-are_sectors}
 use Rattle.qic_base.proofs.Steps.{Torn-all}
-use Rattle.qic_base.specs.Cartridge.{Cartridge, IsSector, view_at, IsCartridge}
+use Rattle.qic_base.specs.Cartridge.{Cartridge, IsSector, view_at}
+use Rattle.qic_base.specs.Terms.{IsCartridge}
 use Rattle.qic_base.specs.Step.{Step, WriteSector, effects}
 
 -- ---- one list of acts

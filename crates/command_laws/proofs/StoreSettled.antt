@@ -11,7 +11,8 @@ use Rattle.cartridge_spec.specs.Mounting.{settled, HasList}
 use Rattle.cartridge_spec.specs.Says.{with_parity}
 use Rattle.cartridge_spec.specs.Table.{Entry}
 use Rattle.gf256_qic.proofs.Parities.{length-parity_sectors, parity_block}
-use Rattle.qic_base.specs.Cartridge.{Cartridge, IsCartridge}
+use Rattle.qic_base.specs.Cartridge.{Cartridge}
+use Rattle.qic_base.specs.Terms.{IsCartridge}
 use Rattle.cartridge_spec.specs.Table as tables
 
 -- ---- what the writes leave

@@ -8,7 +8,8 @@ use Rattle.command_laws.proofs.TextDates.{fields_of}
 use Rattle.command_spec.specs.CommandWords.{IsNumber, IsDateWord, Part, Word, Number, Name, Date, SpellsPart, SpellsAll, HasForm}
 use Rattle.command_spec.specs.Lines.{date_form}
 use Rattle.qic_base.specs.Date.{IsDate, date_word}
-use Rattle.qic_base.specs.Name.{IsPrintable, IsNameText, filled}
+use Rattle.qic_base.specs.Terms.{IsPrintable}
+use Rattle.qic_base.specs.Name.{IsNameText, filled}
 
 -- a fact that holds or not
 abbrev pub Decided : Type 0 → Type 0

@@ -7,8 +7,9 @@ use Rattle.command_laws.proofs.TextTrimmed.{trimmed-filler, trimmed-take-kept}
 use Rattle.command_laws.specs.TextLaws.{DateIsPrintedAsRead, NameIsPrintedAsRead}
 use Rattle.command_spec.specs.Lines.{date_text, trimmed, printable, name_text, is_filler}
 use Rattle.qic_base.proofs.DateLaws.{written_date_is_read_back}
-use Rattle.qic_base.specs.Date.{low_part, greatest_low_part, date_word, ShowsDate}
-use Rattle.qic_base.specs.Name.{IsPrintable, filled}
+use Rattle.qic_base.specs.Date.{low_part, date_word}
+use Rattle.qic_base.specs.Terms.{greatest_low_part, ShowsDate, IsPrintable}
+use Rattle.qic_base.specs.Name.{filled}
 
 pub date_is_printed_as_read : DateIsPrintedAsRead
 unfolding date_text

@@ -32,9 +32,10 @@ use Rattle.command_laws.specs.MountedListed.{IsListed}
 use Rattle.command_spec.specs.Append.{Fits, Kept, Taking, TooLong, TooShort, append_acts, entry_acts, entry_for, free_in, has_promised_room, input_acts, input_writes, kept_over, most_written, room_in, taking}
 use Rattle.qic_base.proofs.Joins.{steps_of-append}
 use Rattle.qic_base.specs.Acts.{Act, steps_of}
-use Rattle.qic_base.specs.Cartridge.{Cartridge, IsCartridge, IsLength, IsSector, IsVersion, IsView, new_cartridge, place_of, view_at, with_segment, zero_sector}
+use Rattle.qic_base.specs.Cartridge.{Cartridge, IsLength, IsSector, new_cartridge, view_at, zero_sector}
+use Rattle.qic_base.specs.Terms.{IsVersion, IsCartridge, IsView, place_of, with_segment, HalfFormatted}
 use Rattle.qic_base.specs.Step.{FormatSegment, SetProtected, SetReferenced, Spoil, Step, Upgrade, Wear, changed, formatted_view, spoiled_view, worn_view}
-use Rattle.qic_base.specs.Stop.{ClosingView, HalfFormatted, OpeningView, SegmentBecame, Torn}
+use Rattle.qic_base.specs.Stop.{ClosingView, OpeningView, SegmentBecame, Torn}
 use Rattle.qic_base.specs.declared.tape.TapeInfo.{TapeInfo}
 use Rattle.qic_base.specs.declared.tape.SectorView.{SectorView}
 use Rattle.qic_base.specs.declared.tape.SectorView.TheVariants.{Blank, Defect, Lost, Holds}

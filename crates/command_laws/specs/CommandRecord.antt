@@ -12,7 +12,8 @@ use Rattle.command_spec.specs.CommandWords.{HasForm}
 use Rattle.command_spec.specs.Outcome.{CommandOutcome, refused}
 use Rattle.command_spec.specs.declared.status.Status.{Status}
 use Rattle.qic_base.specs.Acts.{steps_of}
-use Rattle.qic_base.specs.Cartridge.{Cartridge, IsCartridge}
+use Rattle.qic_base.specs.Cartridge.{Cartridge}
+use Rattle.qic_base.specs.Terms.{IsCartridge}
 use Rattle.qic_base.specs.Stop.{Torn}
 use Rattle.command_spec.specs.declared.status.Status.TheVariants as status
 

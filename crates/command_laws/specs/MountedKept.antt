@@ -10,7 +10,8 @@ use Rattle.cartridge_spec.specs.Volumes.{Plain, Stands, entries_of}
 use Rattle.cartridge_spec.specs.Wear.{worn}
 use Rattle.command_spec.specs.Scrub.{Scrubs}
 use Rattle.qic_base.specs.Acts.{Act, steps_of}
-use Rattle.qic_base.specs.Cartridge.{Cartridge, IsCartridge}
+use Rattle.qic_base.specs.Cartridge.{Cartridge}
+use Rattle.qic_base.specs.Terms.{IsCartridge}
 use Rattle.qic_base.specs.Step.{Step}
 use Rattle.qic_base.specs.Stop.{Torn}
 use Rattle.cartridge_laws.specs.AppendLaws as appends

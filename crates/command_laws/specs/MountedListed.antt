@@ -14,7 +14,8 @@ use Rattle.command_spec.specs.Append.{Kept, Taking, Fits, TooLong, TooShort, ent
 use Rattle.command_spec.specs.Restore.{GivingEnd, Piece, Restores}
 use Rattle.command_spec.specs.Scrub.{Scrubs}
 use Rattle.qic_base.specs.Acts.{steps_of, Act}
-use Rattle.qic_base.specs.Cartridge.{Cartridge, IsLength, IsCartridge}
+use Rattle.qic_base.specs.Cartridge.{Cartridge, IsLength}
+use Rattle.qic_base.specs.Terms.{IsCartridge}
 
 -- what a store knows of its cartridge: the list is in order, and where the cartridge may be written the sectors of the table's
 -- segment that can be read are those of a code block that shows the list

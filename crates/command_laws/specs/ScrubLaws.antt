@@ -19,8 +19,8 @@ use Rattle.command_laws.specs.ScrubMended.{IsScrubbed, IsBeingMended}
 use Rattle.command_laws.specs.ScrubSayings.{Rise, SayAtOnce, acts_at_once}
 use Rattle.command_spec.specs.Scrub.{Scrubs, looked_at, whole_segment, reads, looking_acts, Looked, look_act, SayInTurn, unread_count, cells_at, steps_in}
 use Rattle.qic_base.specs.Acts.{Act, steps_of}
-use Rattle.qic_base.specs.Cartridge.{Cartridge, IsCartridge, view_at}
-use Rattle.qic_base.specs.LostSet.{IsLost}
+use Rattle.qic_base.specs.Cartridge.{Cartridge, view_at}
+use Rattle.qic_base.specs.Terms.{IsCartridge, IsLost}
 use Rattle.qic_base.specs.Stop.{Torn}
 use Rattle.qic_base.specs.declared.tape.SectorView.TheVariants.{Holds}
 

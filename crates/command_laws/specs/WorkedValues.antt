@@ -19,7 +19,7 @@ use Rattle.command_spec.specs.Restore.{pieces, framed, Restored}
 use Rattle.command_spec.specs.Script.{refusal_line, given_as}
 use Rattle.command_spec.specs.Scrub.{counts_line, header_line, fault_line, looked_at}
 use Rattle.command_spec.specs.ScrubForms.{wrong_line}
-use Rattle.drive_spec.specs.Deck.{status_word, power_on_deck}
+use Rattle.drive_spec.specs.Terms.{status_word, power_on_deck}
 use Rattle.drive_spec.specs.Record.{Record, power_on}
 use Rattle.qic_base.specs.Acts.{text_of}
 use Rattle.qic_base.specs.Name.{filled}

@@ -13,7 +13,8 @@ use Rattle.command_spec.specs.Outcome.{is_refused}
 use Rattle.command_spec.specs.Restore.{GivingEnd, Restores, pieces}
 use Rattle.command_spec.specs.declared.copy_fault.CopyFault.{CopyFault}
 use Rattle.command_spec.specs.declared.copy_status.CopyStatus.{CopyStatus}
-use Rattle.qic_base.specs.Acts.{Act, SinkCut, TapeCut, Went, around, no_source, steps_of}
+use Rattle.qic_base.specs.Acts.{Act, SinkCut, TapeCut, Went, steps_of}
+use Rattle.qic_base.specs.Terms.{around, no_source}
 use Rattle.qic_base.specs.Cartridge.{Cartridge}
 use Rattle.qic_base.specs.Cause.{Rose}
 use Rattle.qic_base.specs.Stop.{Torn}

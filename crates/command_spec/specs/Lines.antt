@@ -1,10 +1,10 @@
 -- The lines that commands print, and how dates and names are printed (this project's own).
-use Rattle.std.specs.Prelude.{ℕ, ◌+◌, ◌%◌, ◌/◌, List, [], ◌∷◌, ◌++◌, codes, if◌then◌else◌, nat_lt, ◌==◌, ◌||◌, Bool, ◌&&◌, nat_le, map, decimal, length, true, false, ◌*◌}
+use Rattle.std.specs.Prelude.{ℕ, ◌+◌, ◌%◌, ◌/◌, ◌^◌, List, [], ◌∷◌, ◌++◌, codes, if◌then◌else◌, nat_lt, ◌==◌, ◌||◌, Bool, ◌&&◌, nat_le, map, decimal, length, true, false, ◌*◌}
 use Rattle.cartridge_spec.specs.Header.{Header}
 use Rattle.cartridge_spec.specs.Shape.{marked_sectors}
 use Rattle.cartridge_spec.specs.Table.{Entry}
 use Rattle.cartridge_spec.specs.Volumes.{volume_length}
-use Rattle.qic_base.specs.Date.{low_part, greatest_low_part, year_of, month_of, day_of, hour_of, minute_of, second_of}
+use Rattle.qic_base.specs.Date.{low_part}
 
 -- ---- dates
 
@@ -27,8 +27,14 @@ date_form year month day hour minute second =
 -- the date of a date word, or `?` where the month would be above 12
 unfoldable pub date_text : ℕ → List ℕ
 date_text word =
-    if nat_lt greatest_low_part (low_part word) then codes "?"
-    else date_form (year_of word) (month_of word) (day_of word) (hour_of word) (minute_of word) (second_of word)
+    if nat_lt 0x01EA6DFF (low_part word) then codes "?"
+    else date_form
+        (1970 + word / 2 ^ 25)
+        (low_part word / 60 / 60 / 24 / 31 + 1)
+        (low_part word / 60 / 60 / 24 % 31 + 1)
+        (low_part word / 60 / 60 % 24)
+        (low_part word / 60 % 60)
+        (low_part word % 60)
 
 -- ---- names
 

@@ -6,7 +6,8 @@ use Rattle.command_spec.specs.Machine.{CommandPrints, RefusedPrints, HasInputFau
 use Rattle.command_spec.specs.Outcome.{is_refused, CommandOutcome, output_of}
 use Rattle.command_spec.specs.declared.status.Status.{Status}
 use Rattle.command_spec.specs.declared.words.Words.{Words}
-use Rattle.qic_base.specs.Acts.{Outside, Failing, TapeFails, SourceFails, SinkFails, Went, Act, Cut, steps_of, text_of, no_source, around}
+use Rattle.qic_base.specs.Acts.{Outside, Failing, TapeFails, SourceFails, SinkFails, Went, Act, Cut, steps_of, text_of}
+use Rattle.qic_base.specs.Terms.{no_source, around}
 use Rattle.qic_base.specs.Cartridge.{Cartridge}
 use Rattle.qic_base.specs.Source as sources
 use Rattle.qic_base.specs.Tape as tapes

@@ -14,7 +14,7 @@ use Rattle.cartridge_spec.specs.Appending.{filled_up, in_sectors}
 use Rattle.qic_base.proofs.Giving.{Gave-Gave, Gave-end, Gave-nothing, Gave-read}
 use Rattle.qic_base.specs.Disk as disks
 use Rattle.qic_base.specs.Source as sources
-use Rattle.qic_base.specs.Source.{Gave, Gives, HasEnded}
+use Rattle.qic_base.specs.SourceCalls.{Gave, Gives, HasEnded}
 use Rattle.qic_base.specs.declared.tape.SectorView.{SectorView}
 use Rattle.qic_base.specs.declared.tape.SectorView.TheVariants.{Blank, Lost, Holds}
 use Rattle.rescue_map.specs.Text.{is_marked}

@@ -1,7 +1,8 @@
 -- What the pass over a formatted tape finds, and the map that it makes (QIC-80-MC: the bad sector map; the pass is this
 -- project's profile).
 use Rattle.std.specs.Prelude.{◌≡◌, ◌↔◌, ℕ, ◌^◌, ◌<◌, List, length, slice_index}
-use Rattle.qic_base.specs.Cartridge.{Cartridge, place_of, view_at}
+use Rattle.qic_base.specs.Cartridge.{Cartridge, view_at}
+use Rattle.qic_base.specs.Terms.{place_of}
 use Rattle.cartridge_laws.specs.Segment.{IsUnreadable}
 use Rattle.cartridge_spec.specs.Formatting.{IsMarked}
 

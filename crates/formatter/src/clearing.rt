@@ -1,10 +1,10 @@
 //! The reference bursts, and all segments formatted.
 
 ghost use Rattle.std.specs.Prelude.{◌≡◌, ◌≢◌, ◌↔◌, ◌<◌, ◌*◌, true, OnOk, IsOkUnless};
-ghost use Rattle.qic_base.specs.Tape.{Does};
+ghost use Rattle.qic_base.specs.TapeCalls.{Does};
 ghost use Rattle.qic117_commands.specs.Views.{is_format};
-ghost use Rattle.drive_spec.specs.Deck.{segments_per_track, is_stopped, is_protected, is_referenced};
-ghost use Rattle.drive_spec.specs.Effects.{referenced_as};
+ghost use Rattle.drive_spec.specs.Deck.{segments_per_track, is_stopped};
+ghost use Rattle.drive_spec.specs.Terms.{is_protected, is_referenced, referenced_as};
 ghost use Rattle.host_driver.specs.Calls.{IsReady, Keeps};
 ghost use Rattle.host_driver.specs.Fits.{AgreesWithTape, Fits, IsAtRest};
 ghost use Rattle.cartridge_spec.specs.Formatting.{segment_formats};

@@ -1,9 +1,10 @@
 //! The pass over a formatted tape, which marks the sectors that can't be read.
 
 ghost use Rattle.std.specs.Prelude.{◌≡◌, ◌<◌, ◌≤◌, ◌+◌, ◌*◌, [], true, length, OnOk, IsOkUnless, MatchOption};
-ghost use Rattle.qic_base.specs.Cartridge.{place_of};
-ghost use Rattle.qic_base.specs.Tape.{Does, Tells};
-ghost use Rattle.drive_spec.specs.Deck.{segments_per_track, is_stopped, is_referenced};
+ghost use Rattle.qic_base.specs.Terms.{place_of};
+ghost use Rattle.qic_base.specs.TapeCalls.{Does, Tells};
+ghost use Rattle.drive_spec.specs.Deck.{segments_per_track, is_stopped};
+ghost use Rattle.drive_spec.specs.Terms.{is_referenced};
 ghost use Rattle.drive_states.specs.Reach.{reads_in, IsUnder};
 ghost use Rattle.host_driver.specs.Calls.{IsReady, Keeps};
 ghost use Rattle.host_driver.specs.Fits.{AgreesWithTape};

@@ -3,11 +3,12 @@ use Rattle.std.proofs.Common.{◌≡◌, ◌↔◌, inl, inr, ℕ, true, false, 
 use Rattle.qic_base.specs.Step.{Wear}
 use Rattle.qic_base.specs.Sink as sinks
 use Rattle.qic_base.specs.Tape as tapes
+use Rattle.qic_base.specs.TapeCalls as tape_calls
 use Rattle.qic_base.proofs.Steps.{Tells-map, Done-nothing}
 use Rattle.qic_base.specs.Acts.{Act, text_of, Failing, TapeFails, SinkFails, Cut}
-use Rattle.qic_base.specs.Acts.{no_source, no_sink, around}
+use Rattle.qic_base.specs.Terms.{no_source, no_sink, around}
 use Rattle.cartridge_spec.specs.Table.{Entry}
-use Rattle.drive_spec.specs.Deck.{is_protected}
+use Rattle.drive_spec.specs.Terms.{is_protected}
 use Rattle.drive_states.specs.Unit.{UnitView}
 use Rattle.command_spec.specs.Scrub.{Scrubs, counts_of, looked_at}
 use Rattle.segment_io.proofs.Going.{tells_always}
@@ -20,8 +21,7 @@ use Rattle.volume_store.specs.Mounting.{StoreView, StoreFits}
 use Rattle.volume_store.specs.Scrubbing.{MendCut, MendEnds}
 use Rattle.made_volumes.specs.declared.fault.MakeFault.TheVariants as fault
 use Rattle.made_volumes.specs.Faults.{is_of_step, fault_of}
-use Rattle.command_spec.specs.Make.{WearSector, ScrubAll}
-use Rattle.command_spec.specs.Make.{Answer, Done, Protected, Runs}
+use Rattle.command_spec.specs.Make.{WearSector, ScrubAll, Answer, Done, Protected, Runs}
 use Rattle.made_volumes.specs.Runs.{RunEnds, NeverFull}
 use Rattle.command_laws.proofs.MadeMachineLaws.{run_of, done_of}
 use Rattle.command_laws.proofs.MadeMayLaws.{may_of}
@@ -97,7 +97,7 @@ module _ {T K : Type 0} (t : tapes.Meaning T) (k : sinks.Meaning K) (seed : ℕ)
       }
 
   scrub_cut : (failing : Failing) → is_protected u.drive.deck ≡ false → MendCut t k words entries (around a x) (around b y) failing →
-      tapes.Tells t a (λ c. (acts : List Act) (answer : Answer) → Runs seed c words entries (ScrubAll ∷ []) acts answer →
+      tape_calls.Tells t a (λ c. (acts : List Act) (answer : Answer) → Runs seed c words entries (ScrubAll ∷ []) acts answer →
       Cut t no_source k (around a x) (around b y) acts failing)
   scrub_cut failing free cut =
       tells_two t a (λ c. c.info.protected ≡ false)

@@ -1,7 +1,7 @@
 //! Made volumes appended.
 
 ghost use Rattle.std.specs.Prelude.{◌≡◌, ◌≢◌, ◌≤◌, [], ◌∷◌, Err};
-ghost use Rattle.qic_base.specs.Acts.{around, no_sink};
+ghost use Rattle.qic_base.specs.Terms.{around, no_sink};
 ghost use Rattle.command_spec.specs.Generator.{made_length};
 ghost use Rattle.volume_store.specs.Appending.{KeepsFormat};
 ghost use Rattle.volume_store.specs.Mounting.{StoreFits};

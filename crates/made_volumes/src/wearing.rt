@@ -1,7 +1,7 @@
 //! Sectors of the made volumes worn.
 
 ghost use Rattle.std.specs.Prelude.{◌≡◌, ◌≢◌, ◌<◌, ◌≤◌, ℕ, [], ◌∷◌, length, drop, slice_get, Err, IfSome};
-ghost use Rattle.qic_base.specs.Acts.{around, no_sink};
+ghost use Rattle.qic_base.specs.Terms.{around, no_sink};
 ghost use Rattle.cartridge_spec.specs.Volumes.{carrying, carrying_segments};
 ghost use Rattle.volume_store.specs.Mounting.{StoreFits};
 ghost use Rattle.command_spec.specs.Make.{WearSector, first_two, wearing, wearing_in, wearing_volumes};

@@ -8,7 +8,7 @@ use Rattle.std.proofs.lemmas.List.Elements.{All-push}
 use Rattle.qic_base.specs.Source.{Meaning}
 use Rattle.command_spec.specs.CommandWords.{IsNumber}
 use Rattle.command_spec.specs.Input.{IsLined}
-use Rattle.qic_base.specs.Source.{Gave}
+use Rattle.qic_base.specs.SourceCalls.{Gave}
 use Rattle.command_laws.specs.TextReading.{NoNewline}
 use Rattle.tape_script.specs.Reading.{BeginsWithNo}
 use Rattle.command_laws.proofs.TextCommands.{number_value, IsNumber-value}

@@ -6,7 +6,8 @@ use Rattle.qic_base.specs.Cause.{Rose}
 use Rattle.qic_base.specs.Cartridge.{Cartridge}
 use Rattle.qic_base.specs.Step.{Step, effect, effects}
 use Rattle.qic_base.specs.Stop.{Torn}
-use Rattle.qic_base.specs.Tape.{Meaning, Stops, Done, Broke, Tells, IsLeftNow}
+use Rattle.qic_base.specs.Tape.{Meaning, Stops, Done, Broke}
+use Rattle.qic_base.specs.TapeCalls.{Tells, IsLeftNow}
 
 -- a rise in a part of a call is a rise in the call
 pub Rose-after : (a b c : ℕ) → a ≤ b → Rose b c → Rose a c

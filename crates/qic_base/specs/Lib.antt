@@ -8,7 +8,11 @@ pub mod JoinLaws
 pub mod LostSet
 pub mod Name
 pub mod Sink
+pub mod SinkCalls
 pub mod Source
+pub mod SourceCalls
 pub mod Step
 pub mod Stop
 pub mod Tape
+pub mod TapeCalls
+pub mod Terms

@@ -2,15 +2,11 @@
 -- the rest this project's profile).
 use Rattle.std.specs.Prelude.{◌≢◌, ℕ, ◌-◌, ◌≤◌, List, ◌++◌, length, replicate, All, slice_get, Some}
 
--- a byte that a line can show: a space to a tilde
-abbrev pub IsPrintable : ℕ → Type 0
-IsPrintable b = (0x20 ≤ b) × (b ≤ 0x7E)
-
--- 1 to 44 such bytes, with no space at either end
+-- 1 to 44 bytes that a line can show, a space to a tilde, with no space at either end
 pub record IsNameText (text : List ℕ) : Type 0 where
   pub some : 1 ≤ length text
   pub fits : length text ≤ 44
-  pub printable : All IsPrintable text
+  pub printable : All (λ b. (0x20 ≤ b) × (b ≤ 0x7E)) text
   pub begins : slice_get text 0 ≢ Some 0x20
   pub ends : slice_get text (length text - 1) ≢ Some 0x20
 

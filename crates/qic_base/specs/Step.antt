@@ -1,8 +1,8 @@
 -- What one call of a tape does to the cartridge, as data, and what a list of them does (this project's profile).
-use Rattle.std.specs.Prelude.{ℕ, Bool, true, List, [], ◌∷◌, Option, Some, None}
+use Rattle.std.specs.Prelude.{ℕ, ◌+◌, ◌*◌, Bool, true, List, [], ◌∷◌, ◌++◌, take, drop, map, Option, Some, None}
 use Rattle.qic_base.specs.declared.tape.SectorView.{SectorView}
 use Rattle.qic_base.specs.declared.tape.SectorView.TheVariants.{Blank, Defect, Lost, Holds}
-use Rattle.qic_base.specs.Cartridge.{Cartridge, view_at, with_view, with_segment, new_cartridge, zero_sector}
+use Rattle.qic_base.specs.Cartridge.{Cartridge, view_at, with_view, new_cartridge, zero_sector}
 
 -- a change of the cartridge, with its segment, sector index and bytes; or of the version that it is kept in
 pub data Step : Type 0 where
@@ -17,36 +17,33 @@ pub data Step : Type 0 where
 
 -- a write is taken by a formatted sector that is no defect
 abbrev pub written_view : List ℕ → SectorView → SectorView
-written_view bytes Blank = Blank
-written_view bytes Defect = Defect
 written_view bytes Lost = Holds bytes
 written_view bytes (Holds old) = Holds bytes
+written_view bytes view = view
 
 -- formatting makes zero bytes of all but a defect
 abbrev pub formatted_view : SectorView → SectorView
-formatted_view Blank = Holds zero_sector
 formatted_view Defect = Defect
-formatted_view Lost = Holds zero_sector
-formatted_view (Holds old) = Holds zero_sector
+formatted_view view = Holds zero_sector
 
 -- a worn sector can be read no more
 abbrev pub worn_view : SectorView → SectorView
-worn_view Blank = Blank
-worn_view Defect = Defect
-worn_view Lost = Lost
 worn_view (Holds old) = Lost
+worn_view view = view
 
 -- only a sector that was never formatted becomes a defect
 abbrev pub spoiled_view : SectorView → SectorView
 spoiled_view Blank = Defect
-spoiled_view Defect = Defect
-spoiled_view Lost = Lost
-spoiled_view (Holds old) = Holds old
+spoiled_view view = view
 
 -- a change of a cartridge that is there
 abbrev pub changed : Step → Cartridge → Cartridge
 changed (WriteSector segment sector bytes) c = with_view c segment sector (written_view bytes (view_at c segment sector))
-changed (FormatSegment segment) c = with_segment c segment formatted_view
+changed (FormatSegment segment) c = record c {
+  views = take (32 * segment) c.views
+      ++ map formatted_view (take 32 (drop (32 * segment) c.views))
+      ++ drop (32 * (segment + 1)) c.views;
+}
 changed SetReferenced c = record c { info = record c.info { referenced = true } }
 changed (SetProtected on) c = record c { info = record c.info { protected = on } }
 changed (Renew n) c = new_cartridge n

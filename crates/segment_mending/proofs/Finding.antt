@@ -17,7 +17,7 @@ use Rattle.command_spec.specs.Scrub.{Looked, cells_at, reads}
 use Rattle.command_spec.specs.ScrubForms.{IsSearched, IsWrong, HasFound}
 use Rattle.command_spec.specs.declared.depth.Depth.{Depth}
 use Rattle.qic_base.specs.Cartridge.{Cartridge, view_at}
-use Rattle.qic_base.specs.LostSet.{IsLost}
+use Rattle.qic_base.specs.Terms.{IsLost}
 use Rattle.qic_base.specs.Step.{worn_view}
 use Rattle.qic_base.specs.declared.tape.SectorView.{SectorView}
 use Rattle.qic_base.specs.declared.tape.SectorView.TheVariants.{Blank, Defect, Lost, Holds}

@@ -9,7 +9,7 @@ use Rattle.command_spec.specs.ScrubForms.{Finding, Finds, MayFind, without, wron
 use Rattle.command_spec.specs.declared.depth.Depth.{Depth}
 use Rattle.cartridge_laws.specs.Writes.{named_writes}
 use Rattle.qic_base.specs.Acts.{Act, Outside, TapeFails, SinkFails, Went, Cut}
-use Rattle.qic_base.specs.Acts.{no_source}
+use Rattle.qic_base.specs.Terms.{no_source}
 use Rattle.qic_base.specs.Cartridge.{Cartridge}
 use Rattle.qic_base.specs.Sink as sinks
 use Rattle.qic_base.specs.Tape as tapes

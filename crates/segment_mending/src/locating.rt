@@ -2,7 +2,7 @@
 
 ghost use Rattle.std.specs.Prelude.{◌≡◌, ◌≢◌, ◌<◌, ◌≤◌, ◌^◌, ℕ, [], length, take, slice_index, Some, None, IfOk, IsOkUnless};
 ghost use Rattle.qic_base.specs.Cartridge.{Cartridge};
-ghost use Rattle.qic_base.specs.Tape.{Does, Tells};
+ghost use Rattle.qic_base.specs.TapeCalls.{Does, Tells};
 ghost use Rattle.cartridge_laws.specs.Shape.{Carries};
 ghost use Rattle.cartridge_spec.specs.Code.{IsCodeBlock};
 ghost use Rattle.cartridge_spec.specs.Header.{has_signature};

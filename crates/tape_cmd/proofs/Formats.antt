@@ -5,6 +5,7 @@ use Rattle.qic_base.specs.Cartridge.{Cartridge}
 use Rattle.qic_base.specs.declared.tape.TapeInfo.{TapeInfo}
 use Rattle.qic_base.specs.declared.sink.SinkFailed.{SinkFailed}
 use Rattle.qic_base.specs.Sink as sinks
+use Rattle.qic_base.specs.SinkCalls as sink_calls
 use Rattle.qic_base.specs.Step.{Step as TapeStep}
 use Rattle.qic_base.specs.Tape as tapes
 use Rattle.qic_base.proofs.Steps.{Done-Done, Done-Broke}
@@ -171,8 +172,8 @@ line_is t label date n b c words report came =
 
 pub format_printed : {T K : Type 0} (t : tapes.Meaning T) (k : sinks.Meaning K) (label : List ℕ) (date : ℕ) (a b c : T) (x y : K) (info : TapeInfo) (words : List ℕ) (report : FormatReport) (r : Result (Unit {0}) SinkFailed) →
     Present t a b info → info.protected ≡ false → HasFormatted t info.segments_per_track label date b c words report →
-    sinks.Writes k x y (formatted_line report.segments report.bad) r → EndsBlind t k (Format label date) a c x y (printed_status r)
+    sink_calls.Writes k x y (formatted_line report.segments report.bad) r → EndsBlind t k (Format label date) a c x y (printed_status r)
 format_printed t k label date a b c x y info words report r there unlocked came writes =
     printed t k (Format label date) is_blind a c x y (formatted info.segments_per_track words came.area) r refl refl (28 * info.segments_per_track, (marked_sectors words, refl))
     (told_formatted t label date a b c info words report there unlocked came) (Done-Done there.did came.did)
-    (subst (λ (text : List ℕ). sinks.Writes k x y text r) (line_is t label date info.segments_per_track b c words report came) writes)
+    (subst (λ (text : List ℕ). sink_calls.Writes k x y text r) (line_is t label date info.segments_per_track b c words report came) writes)

@@ -6,6 +6,7 @@ use Rattle.qic_base.specs.declared.foreign.ForeignField.{ForeignField}
 use Rattle.qic_base.specs.declared.foreign.ForeignField.TheVariants as foreign_field
 use Rattle.qic_base.specs.declared.sink.SinkFailed.{SinkFailed}
 use Rattle.qic_base.specs.Sink as sinks
+use Rattle.qic_base.specs.SinkCalls as sink_calls
 use Rattle.qic_base.specs.Step.{Step as TapeStep}
 use Rattle.qic_base.specs.Tape as tapes
 use Rattle.qic_base.proofs.Steps.{Done-Done, Done-Broke}
@@ -277,7 +278,7 @@ refuses t k command goes a b x why follows nothing (inr cut) =
     (told_map (t.told a) _ _ cut.front (λ held front outcome rules. begins_is goes follows.first cut.steps held front outcome (follows.plain held outcome rules))) cut.broke)
 
 shows : {T K : Type 0} (t : tapes.Meaning T) (k : sinks.Meaning K) (command : Words) (prints : Printing) (a : T) (b : UnitView T) (x y : K) (store : StoreView) (r : Result (Unit {0}) SinkFailed) → Follows command (Shows prints) →
-    CommandPrints command (prints store.header store.words store.entries) → HasOpened t a b store → sinks.Writes k x y (prints store.header store.words store.entries) r → EndsBlind t k command a b.tape x y (printed_status r)
+    CommandPrints command (prints store.header store.words store.entries) → HasOpened t a b store → sink_calls.Writes k x y (prints store.header store.words store.entries) r → EndsBlind t k command a b.tape x y (printed_status r)
 shows t k command prints a b x y store r follows text opening writes =
     printed t k command follows.blind a b.tape x y (acted opening.steps (prints store.header store.words store.entries)) r refl refl text
     (told_map (t.told a) _ _ opening.told (λ held is. follows.rules held (acted opening.steps (prints store.header store.words store.entries))
@@ -288,13 +289,13 @@ pub list_refused : {T K : Type 0} (t : tapes.Meaning T) (k : sinks.Meaning K) (a
 list_refused t k a b x why nothing ends = refuses t k words.List (Shows listing) a b x why list_follows nothing ends
 
 pub list_printed : {T K : Type 0} (t : tapes.Meaning T) (k : sinks.Meaning K) (a : T) (b : UnitView T) (x y : K) (store : StoreView) (r : Result (Unit {0}) SinkFailed) → HasOpened t a b store →
-    sinks.Writes k x y (list_text store.words store.entries) r → EndsBlind t k words.List a b.tape x y (printed_status r)
+    sink_calls.Writes k x y (list_text store.words store.entries) r → EndsBlind t k words.List a b.tape x y (printed_status r)
 list_printed t k a b x y store r mounted printed = shows t k words.List listing a b x y store r list_follows (store.words, (store.entries, refl)) mounted printed
 
 pub info_refused : {T K : Type 0} (t : tapes.Meaning T) (k : sinks.Meaning K) (a : T) (b : UnitView T) (x : K) (why : Status) → ((z : K) → k.took z [] z) → OpeningEnds t a b (Err why) → EndsBlind t k words.Info a b.tape x x why
 info_refused t k a b x why nothing ends = refuses t k words.Info (Shows telling) a b x why info_follows nothing ends
 
 pub info_printed : {T K : Type 0} (t : tapes.Meaning T) (k : sinks.Meaning K) (a : T) (b : UnitView T) (x y : K) (store : StoreView) (r : Result (Unit {0}) SinkFailed) → HasOpened t a b store →
-    sinks.Writes k x y (info_text store.header store.words (length store.entries)) r → EndsBlind t k words.Info a b.tape x y (printed_status r)
+    sink_calls.Writes k x y (info_text store.header store.words (length store.entries)) r → EndsBlind t k words.Info a b.tape x y (printed_status r)
 info_printed t k a b x y store r mounted printed =
     shows t k words.Info telling a b x y store r info_follows (store.header, (store.words, (length store.entries, refl))) mounted printed

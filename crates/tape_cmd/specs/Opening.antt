@@ -7,7 +7,8 @@ use Rattle.drive_states.specs.Unit.{UnitView}
 use Rattle.host_driver.specs.declared.host.Host.{Host}
 use Rattle.qic_base.specs.Cartridge.{Cartridge}
 use Rattle.qic_base.specs.Step.{Step}
-use Rattle.qic_base.specs.Tape.{Meaning, Done, Broke, Tells}
+use Rattle.qic_base.specs.Tape.{Meaning, Done, Broke}
+use Rattle.qic_base.specs.TapeCalls.{Tells}
 use Rattle.store_opening.specs.Opening.{HasStarted, HasOpened}
 use Rattle.store_opening.specs.declared.opening.OpenFault.{OpenFault}
 use Rattle.volume_store.specs.Mounting.{StoreView, IsSettling}

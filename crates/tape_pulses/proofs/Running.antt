@@ -14,7 +14,7 @@ use Rattle.qic_base.proofs.Joins.{went_both, went_then_cut, cut_is_longer}
 use Rattle.drive_spec.specs.Record.{Record, power_on}
 use Rattle.drive_states.specs.Unit.{UnitView, IsInserted}
 use Rattle.command_spec.specs.Input.{IsPulse, Ending, AtEnd, AtStop, AtFault, ItemsEnd, HasItems, most_items}
-use Rattle.qic_base.specs.Source.{Gave}
+use Rattle.qic_base.specs.SourceCalls.{Gave}
 use Rattle.qic_base.proofs.Giving.{Gave-Gave, Gave-end, Gave-nothing}
 use Rattle.command_laws.proofs.TextReadings.{each_pulses}
 use Rattle.tape_script.proofs.Rests.{any_rest, ended_rest, whole_told, left_behind}

@@ -6,7 +6,7 @@ use Rattle.qic_base.specs.Source as sources
 use Rattle.qic_base.specs.Tape as tapes
 use Rattle.qic_base.proofs.Steps.{Done-nothing}
 use Rattle.qic_base.specs.Acts.{SourceFails, Went, Cut}
-use Rattle.qic_base.specs.Acts.{no_sink, reading}
+use Rattle.qic_base.specs.Terms.{no_sink, reading}
 use Rattle.cartridge_spec.specs.Says.{with_parity}
 use Rattle.cartridge_laws.specs.Shape.{Carries}
 use Rattle.cartridge_spec.specs.Shape.{mask_at, usable_places, data_count, capacity}

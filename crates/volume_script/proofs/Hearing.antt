@@ -14,10 +14,9 @@ use Rattle.qic_base.proofs.Joins.{cut_is_longer}
 use Rattle.segment_io.proofs.Going.{tells_always}
 use Rattle.command_spec.specs.declared.line.Line.{Line}
 use Rattle.command_spec.specs.declared.line.Line.TheVariants as line
-use Rattle.command_spec.specs.Input.{AtEnd, AtStop, AtFault, promised, most_items}
-use Rattle.qic_base.specs.Source.{Gave}
+use Rattle.command_spec.specs.Input.{AtEnd, AtStop, AtFault, promised, most_items, IsLineText}
+use Rattle.qic_base.specs.SourceCalls.{Gave}
 use Rattle.tape_script.specs.Reading.{GaveInLine, BeginsWithNo}
-use Rattle.command_spec.specs.Input.{IsLineText}
 use Rattle.qic_base.proofs.Giving.{Gave-Gave}
 use Rattle.tape_script.proofs.Rests.{any_rest, whole_told}
 use Rattle.volume_store.specs.Mounting.{StoreView}

@@ -5,8 +5,10 @@ use Rattle.std.proofs.lemmas.List.{length-append, length_push}
 use Rattle.std.proofs.Math.Seq.{drop-append_seam}
 use Rattle.qic_base.specs.Cartridge.{Cartridge}
 use Rattle.qic_base.specs.Sink as sinks
+use Rattle.qic_base.specs.SinkCalls as sink_calls
 use Rattle.qic_base.specs.Source as sources
 use Rattle.qic_base.specs.Tape as tapes
+use Rattle.qic_base.specs.TapeCalls as tape_calls
 use Rattle.qic_base.proofs.Steps.{Done-nothing, Tells-map}
 use Rattle.qic_base.proofs.Writing.{TakesBoth}
 use Rattle.qic_base.specs.Acts.{Act, Outside, Failing, TapeFails, SourceFails, SinkFails, Went, Cut, steps_of, text_of}
@@ -16,9 +18,8 @@ use Rattle.cartridge_spec.specs.Settling.{changed_by}
 use Rattle.segment_io.proofs.Going.{tells_always}
 use Rattle.command_spec.specs.declared.line.Line.{Line}
 use Rattle.command_spec.specs.declared.line.Line.TheVariants as line
-use Rattle.command_spec.specs.Input.{Item, IsItem, IsFault, Ending, AtEnd, AtStop, AtFault, ItemsEnd, HasItems, IsScript, most_items, promised}
-use Rattle.qic_base.specs.Source.{Gave}
-use Rattle.command_spec.specs.Input.{IsLineText}
+use Rattle.command_spec.specs.Input.{Item, IsItem, IsFault, Ending, AtEnd, AtStop, AtFault, ItemsEnd, HasItems, IsScript, most_items, promised, IsLineText}
+use Rattle.qic_base.specs.SourceCalls.{Gave}
 use Rattle.qic_base.proofs.Giving.{Gave-Gave, Gave-end, Gave-nothing}
 use Rattle.command_laws.proofs.TextInputs.{one_reading}
 use Rattle.command_laws.proofs.TextInputs as inputs
@@ -32,10 +33,9 @@ use Rattle.volume_script.specs.declared.fault.ScriptFault.TheVariants as fault
 use Rattle.volume_script.specs.Ending.{HearsEnd, RepliesEnd}
 use Rattle.volume_script.specs.Heard.{longest, HeardItem, HeardNone, HeardShort, HeardCut, Hears, NextDoes}
 use Rattle.command_laws.specs.ScriptItems.{EarlyDoes}
-use Rattle.command_spec.specs.Script.{end_line}
+use Rattle.command_spec.specs.Script.{end_line, Answer, AllDone, FaultIn, Did, EndDoes, EndsEarly, FaultDoes, ItemDoes, ItemsDo, ScriptRun, ScriptDoes, acts_of, script_answer, cartridge_behind, entries_behind, place_behind, reply, items_taken}
 use Rattle.volume_script.specs.Runs.{Leaves, Ended, CutOff}
 use Rattle.volume_script.specs.Runs as runs
-use Rattle.command_spec.specs.Script.{Answer, AllDone, FaultIn, Did, EndDoes, EndsEarly, FaultDoes, ItemDoes, ItemsDo, ScriptRun, ScriptDoes, acts_of, script_answer, cartridge_behind, entries_behind, place_behind, reply, items_taken}
 use Rattle.volume_script.proofs.Appended.{flip}
 use Rattle.volume_script.proofs.Hearing.{early_of}
 use Rattle.volume_script.proofs.Input.{no_line_fault, no_line_early, early_fault, none_rest, on_rest, stop_rest}
@@ -64,7 +64,7 @@ pub record SoFar {T S K : Type 0} (t : tapes.Meaning T) (s : sources.Meaning S) 
   pub gave : Gave s start.source now.source texts
   pub acts : List Act
   pub went : Went t s k start now acts
-  pub told : tapes.Tells t start.tape (Ran first store items acts)
+  pub told : tape_calls.Tells t start.tape (Ran first store items acts)
   pub words : store.words ≡ first.words
 
 module _ {T S K : Type 0} {t : tapes.Meaning T} {s : sources.Meaning S} {k : sinks.Meaning K} where
@@ -85,7 +85,7 @@ module _ {T S K : Type 0} {t : tapes.Meaning T} {s : sources.Meaning S} {k : sin
 
   module _ (both : TakesBoth k) (first store after : StoreView) (start now new : Outside T S K) (lines place : ℕ) (far : SoFar t s k first store start now lines place) where
     -- what is told of the cartridge behind the items so far
-    at_start : (P : Cartridge → Type 0) → tapes.Tells t now.tape P → tapes.Tells t start.tape (λ c. Ran first store far.items far.acts c × P (changed_by (steps_of far.acts) c))
+    at_start : (P : Cartridge → Type 0) → tape_calls.Tells t now.tape P → tape_calls.Tells t start.tape (λ c. Ran first store far.items far.acts c × P (changed_by (steps_of far.acts) c))
     at_start P told =
         tells_two t start.tape (Ran first store far.items far.acts) (λ c. P (changed_by (steps_of far.acts) c)) (λ c. Ran first store far.items far.acts c × P (changed_by (steps_of far.acts) c))
         (λ c ran is. (ran, is)) far.told (back t start.tape now.tape (steps_of far.acts) P far.went.did.told told)
@@ -129,7 +129,7 @@ module _ {T S K : Type 0} {t : tapes.Meaning T} {s : sources.Meaning S} {k : sin
 
     -- how the input ends behind the items is how it ends
     ended_so : (rest : List ℕ) (ending : Ending) (answer : Answer) (last : List Act) → lines ≤ most_items → Went t s k now new last → IfSome (s.left now.source) (λ bytes. bytes ≡ rest) →
-        ItemsEnd IsItem (lines + 1) place rest ending → script_answer ending ≡ answer → tapes.Tells t now.tape (λ c. EndDoes c store.words store.entries rest ending last) →
+        ItemsEnd IsItem (lines + 1) place rest ending → script_answer ending ≡ answer → tape_calls.Tells t now.tape (λ c. EndDoes c store.words store.entries rest ending last) →
         (answer ≡ AllDone → last ≡ reply end_line ∷ []) →
         ((read : IsScript (far.texts ++ rest) far.items ending) → Leaves s start.source new.source (items_taken (far.texts ++ rest) far.items ending read) answer) →
         Ended t s k first start new answer
@@ -266,7 +266,7 @@ module _ {T S K : Type 0} {t : tapes.Meaning T} {s : sources.Meaning S} {k : sin
           (replied_went t s k both now tape source sink y [] end_line went wrote) told ends answered
           (tells_always t now.tape (λ c. EndDoes c store.words store.entries rest ending (reply end_line ∷ [])) does) (λ done. refl) left
 
-      unreplied_end : sinks.BrokeOff k sink y end_line → CutOff t s k first start (out tape source y) SinkFails
+      unreplied_end : sink_calls.BrokeOff k sink y end_line → CutOff t s k first start (out tape source y) SinkFails
       unreplied_end broke =
           let cut = replied_cut t s k both none now tape source sink y [] end_line went broke in
           cut_so both first store store start now (out tape source y) lines place far SinkFails few (record {
@@ -320,7 +320,7 @@ module _ {T S K : Type 0} {t : tapes.Meaning T} {s : sources.Meaning S} {k : sin
     )
 
     faulty : (new : Outside T S K) (rest bytes : List ℕ) (number at : ℕ) (last : List Act) → number ≡ lines + 1 → at ≡ place → IfSome (s.left now.source) (λ bytes. bytes ≡ rest) →
-        IsFault IsItem (lines + 1) rest → Went t s k now new last → Gave s now.source new.source bytes → tapes.Tells t now.tape (λ c. FaultDoes c store.words store.entries number rest last) →
+        IsFault IsItem (lines + 1) rest → Went t s k now new last → Gave s now.source new.source bytes → tape_calls.Tells t now.tape (λ c. FaultDoes c store.words store.entries number rest last) →
         Ended t s k first start new (FaultIn number at)
     faulty new rest bytes number at last same equal told is went gave does =
         ended_so both first store store start now new lines place far rest (AtFault number at) (FaultIn number at) last few went told (is, same, equal) refl does (λ done. cc)

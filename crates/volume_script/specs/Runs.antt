@@ -4,6 +4,7 @@ use Rattle.std.specs.Option.{option_map}
 use Rattle.qic_base.specs.Sink as sinks
 use Rattle.qic_base.specs.Source as sources
 use Rattle.qic_base.specs.Tape as tapes
+use Rattle.qic_base.specs.TapeCalls as tape_calls
 use Rattle.qic_base.specs.Acts.{Act, text_of, Outside, Failing, TapeFails, SourceFails, SinkFails, Went, Cut}
 use Rattle.command_spec.specs.Input.{Item, Ending, IsScript}
 use Rattle.volume_store.specs.Mounting.{StoreView}
@@ -24,7 +25,7 @@ pub record Ended {T S K : Type 0} (t : tapes.Meaning T) (s : sources.Meaning S) 
   pub input : List ℕ
   pub is_told : IfSome (s.left old.source) (λ bytes. input ≡ bytes)
   pub outcome : ScriptRun
-  pub told : tapes.Tells t old.tape (λ c. ScriptDoes c store.words store.entries input outcome)
+  pub told : tape_calls.Tells t old.tape (λ c. ScriptDoes c store.words store.entries input outcome)
   pub answered : outcome.answer ≡ answer
   pub went : Went t s k old new outcome.acts
   pub left : Leaves s old.source new.source outcome.taken answer
@@ -40,7 +41,7 @@ pub record Ended {T S K : Type 0} (t : tapes.Meaning T) (s : sources.Meaning S) 
 pub record Mismatched {T S K : Type 0} (t : tapes.Meaning T) (s : sources.Meaning S) (k : sinks.Meaning K) (old new : Outside T S K) : Type 0 where
   pub acts : List Act
   pub went : Went t s k old new acts
-  pub told : tapes.Tells t old.tape (λ c. ⊥)
+  pub told : tape_calls.Tells t old.tape (λ c. ⊥)
   pub taken : ℕ
   pub left : s.left new.source ≡ option_map (drop taken) (s.left old.source)
 
@@ -48,7 +49,7 @@ pub record Mismatched {T S K : Type 0} (t : tapes.Meaning T) (s : sources.Meanin
 pub record CutOff {T S K : Type 0} (t : tapes.Meaning T) (s : sources.Meaning S) (k : sinks.Meaning K) (store : StoreView) (old new : Outside T S K) (failing : Failing) : Type 0 where
   pub input : List ℕ
   pub is_told : IfSome (s.left old.source) (λ bytes. input ≡ bytes)
-  pub told : tapes.Tells t old.tape (λ c. (outcome : ScriptRun) → ScriptDoes c store.words store.entries input outcome →
+  pub told : tape_calls.Tells t old.tape (λ c. (outcome : ScriptRun) → ScriptDoes c store.words store.entries input outcome →
       Cut t s k old new outcome.acts failing)
   -- and over any tape
   pub acts : List Act

@@ -14,8 +14,9 @@ use Rattle.drive_states.specs.Unit.{UnitView}
 use Rattle.qic_base.proofs.Steps.{Done-told, Broke-told, Tells-map}
 use Rattle.qic_base.specs.Cartridge.{Cartridge}
 use Rattle.qic_base.specs.Cause.{Rose}
-use Rattle.qic_base.specs.Source.{HasEnded}
-use Rattle.qic_base.specs.Tape.{Meaning, Done, Broke, Stops, Tells}
+use Rattle.qic_base.specs.SourceCalls.{HasEnded}
+use Rattle.qic_base.specs.Tape.{Meaning, Done, Broke, Stops}
+use Rattle.qic_base.specs.TapeCalls.{Tells}
 use Rattle.segment_io.proofs.Going.{done_moved}
 use Rattle.volume_output.specs.Part.{ReadsPiece}
 use Rattle.volume_store.specs.Mounting.{StoreView, StoreFits, KeepsStore}

@@ -13,7 +13,8 @@ use Rattle.qic_base.proofs.Steps.{Rose-after, Rose-before, Stops-nothing, Stops-
 use Rattle.qic_base.specs.Cartridge.{Cartridge}
 use Rattle.qic_base.specs.Cause.{Rose}
 use Rattle.qic_base.specs.Step.{effects}
-use Rattle.qic_base.specs.Tape.{Meaning, Stops, Tells}
+use Rattle.qic_base.specs.Tape.{Meaning, Stops}
+use Rattle.qic_base.specs.TapeCalls.{Tells}
 use Rattle.volume_source.specs.Given.{given_bytes}
 use Rattle.volume_store.specs.Mounting.{StoreView, StoreFits, KeepsStore}
 use Rattle.volume_store.specs.declared.fault.StoreFault.{StoreFault}

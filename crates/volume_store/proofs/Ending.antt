@@ -29,10 +29,12 @@ use Rattle.qic_base.proofs.Giving.{Gave-nothing}
 use Rattle.qic_base.proofs.Joins.{went_both, went_then_cut, cut_is_longer}
 use Rattle.qic_base.proofs.Steps.{Tells-map, Broke-front, Done-before_reads}
 use Rattle.qic_base.proofs.Writing.{TakesBoth}
-use Rattle.qic_base.specs.Acts.{no_sink, Outside, Act, Failing, TapeFails, SourceFails, Went, Cut, steps_of, reading}
-use Rattle.qic_base.specs.Cartridge.{Cartridge, IsCartridge}
+use Rattle.qic_base.specs.Terms.{no_sink, reading, IsCartridge}
+use Rattle.qic_base.specs.Acts.{Outside, Act, Failing, TapeFails, SourceFails, Went, Cut, steps_of}
+use Rattle.qic_base.specs.Cartridge.{Cartridge}
 use Rattle.qic_base.specs.Step.{Step, effects}
-use Rattle.qic_base.specs.Tape.{Tells, IsToldRight, Done, Broke}
+use Rattle.qic_base.specs.TapeCalls.{Tells, IsToldRight}
+use Rattle.qic_base.specs.Tape.{Done, Broke}
 use Rattle.volume_input.proofs.Inputs.{left_of, whole_told}
 use Rattle.volume_input.specs.declared.written.Written.{Written}
 use Rattle.volume_store.proofs.Copies.{tells_two}

@@ -8,7 +8,8 @@ use Rattle.command_spec.specs.Scrub.{Looked, Counts, SayInTurn, Scrubs, IsScrubT
 use Rattle.command_spec.specs.ScrubForms.{Finding, FindInTurn, MayFind, MayBeFound, ScrubsAs, IsTextFor, finding_acts, lines_for, sayings_of, counts_for}
 use Rattle.command_spec.specs.declared.depth.Depth.TheVariants.{Shallow}
 use Rattle.qic_base.proofs.Steps.{Tells-map}
-use Rattle.qic_base.specs.Acts.{Act, steps_of, text_of, Outside, Failing, TapeFails, SinkFails, Cut, no_source}
+use Rattle.qic_base.specs.Acts.{Act, steps_of, text_of, Outside, Failing, TapeFails, SinkFails, Cut}
+use Rattle.qic_base.specs.Terms.{no_source}
 use Rattle.qic_base.specs.Cartridge.{Cartridge}
 use Rattle.qic_base.specs.Sink as sinks
 use Rattle.qic_base.specs.Tape as tapes

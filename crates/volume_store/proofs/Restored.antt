@@ -3,9 +3,9 @@ use Rattle.std.proofs.Common.{◌≡◌, ℕ, zero, suc, ◌-◌, ◌*◌, ◌<�
 use Rattle.std.proofs.lemmas.Option.{slice_get_past}
 use Rattle.cartridge_spec.specs.Mounting.{HasList}
 use Rattle.qic_base.specs.Cartridge.{Cartridge}
-use Rattle.qic_base.specs.Sink as sinks
 use Rattle.qic_base.specs.Step.{Step}
-use Rattle.qic_base.specs.Tape.{Meaning, Done, Tells}
+use Rattle.qic_base.specs.Tape.{Meaning, Done}
+use Rattle.qic_base.specs.TapeCalls.{Tells}
 use Rattle.qic_base.proofs.Steps.{Done-told}
 use Rattle.qic_base.specs.Acts.{Act, Outside, SinkFails, Parted, steps_of}
 use Rattle.qic_base.proofs.Joins.{steps_of-append}
@@ -18,12 +18,13 @@ use Rattle.host_driver.specs.Calls.{Keeps}
 use Rattle.host_driver.specs.Fits.{segments_of}
 use Rattle.command_spec.specs.Restore.{Piece, GivingEnd, framed, pieces, pieces_of, volume_at}
 use Rattle.volume_output.specs.declared.fault.OutputFault.{OutputFault}
-use Rattle.volume_output.specs.declared.fault.OutputFault.TheVariants as output
 use Rattle.volume_output.specs.Output.{GaveVolume, VolumeCut, OutputEnds}
 use Rattle.command_laws.specs.OutputText.{AreOf, printed}
 use Rattle.volume_store.specs.Mounting.{StoreView, StoreFits, KeepsStore}
 use Rattle.volume_store.specs.Restoring.{RestoreEnds, fault_of_output}
 use Rattle.volume_store.proofs.Storing.{one_length, still_primary, still_referenced}
+use Rattle.qic_base.specs.Sink as sinks
+use Rattle.volume_output.specs.declared.fault.OutputFault.TheVariants as output
 
 -- ---- the volume
 

@@ -7,11 +7,13 @@ use Rattle.qic_base.specs.Cartridge.{Cartridge}
 use Rattle.qic_base.specs.Sink as sinks
 use Rattle.qic_base.specs.Step.{effects}
 use Rattle.qic_base.specs.Stop.{Torn}
-use Rattle.qic_base.specs.Tape.{Meaning, Tells, IsToldRight}
+use Rattle.qic_base.specs.Tape.{Meaning}
+use Rattle.qic_base.specs.TapeCalls.{Tells, IsToldRight}
 use Rattle.qic_base.specs.declared.tape.SectorView.{SectorView}
 use Rattle.qic_base.specs.declared.tape.TapeInfo.{TapeInfo}
 use Rattle.qic_base.proofs.Steps.{Torn-all}
-use Rattle.qic_base.specs.Acts.{Act, Outside, SinkFails, Cut, steps_of, no_source}
+use Rattle.qic_base.specs.Acts.{Act, Outside, SinkFails, Cut, steps_of}
+use Rattle.qic_base.specs.Terms.{no_source}
 use Rattle.qic_base.proofs.Outcomes.{cut_is_torn}
 use Rattle.cartridge_spec.specs.Code.{IsSector}
 use Rattle.cartridge_spec.specs.HeaderAndTable.{table_cells}

@@ -16,7 +16,7 @@ use Rattle.cartridge_spec.specs.Shape.{is_unreadable, sector_at}
 use Rattle.erasure_solve.proofs.Places.{is_lost_from}
 use Rattle.erasure_solve.specs.Lost.{is_lost}
 use Rattle.qic_base.specs.Cartridge.{Cartridge, view_at}
-use Rattle.qic_base.specs.LostSet.{IsLost}
+use Rattle.qic_base.specs.Terms.{IsLost}
 use Rattle.qic_base.specs.Step.{WriteSector, changed}
 use Rattle.qic_base.specs.declared.tape.SectorView.{SectorView}
 use Rattle.qic_base.specs.declared.tape.SectorView.TheVariants.{Blank, Defect, Lost, Holds}

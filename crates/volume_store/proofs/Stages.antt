@@ -1,17 +1,18 @@
 -- An append stage by stage, from a store that fits a unit whose cartridge may be written: the list, the fit, and how it ended.
 use Rattle.std.proofs.Common.{◌≡◌, ◌≢◌, ◌⊎◌, inl, inr, ℕ, ◌-◌, false, List, [], ◌∷◌, ◌++◌, length, Option, Err, sym, ◌∙◌, subst, arith}
 use Rattle.cartridge_spec.specs.Mounting.{HasList}
-use Rattle.qic_base.specs.Cartridge.{IsCartridge}
+use Rattle.qic_base.specs.Terms.{IsCartridge, reading}
 use Rattle.qic_base.specs.Source as sources
 use Rattle.qic_base.specs.Tape as tapes
-use Rattle.qic_base.specs.Tape.{Meaning, Tells, IsToldRight}
+use Rattle.qic_base.specs.Tape.{Meaning}
+use Rattle.qic_base.specs.TapeCalls.{Tells, IsToldRight}
 use Rattle.qic_base.proofs.Steps.{Tells-map}
 use Rattle.cartridge_spec.specs.Formatting.{IsLabel}
-use Rattle.qic_base.specs.Acts.{steps_of, reading}
+use Rattle.qic_base.specs.Acts.{steps_of}
 use Rattle.cartridge_spec.specs.Table.{Entry}
 use Rattle.cartridge_laws.specs.Table.{IsSoundList}
 use Rattle.cartridge_laws.specs.AppendSettled.{IsSettledFor}
-use Rattle.drive_spec.specs.Deck.{is_protected}
+use Rattle.drive_spec.specs.Terms.{is_protected}
 use Rattle.drive_states.specs.Unit.{UnitView}
 use Rattle.host_driver.specs.declared.host.Host.{Host}
 use Rattle.host_driver.specs.Calls.{Keeps}

@@ -14,9 +14,10 @@ use Rattle.command_laws.proofs.StoreTaking.{both_true}
 use Rattle.command_spec.specs.Append.{Fits, TooLong, taking, has_promised_room, TooShort, volume_acts, filled_acts, input_acts, Taking, bytes_taken, kept_in, input_writes}
 use Rattle.qic_base.proofs.Giving.{Gave-nothing, Gave-Gave, Gave-end}
 use Rattle.qic_base.proofs.Steps.{Done-nothing, Rose-after}
-use Rattle.qic_base.specs.Acts.{Act, Outside, Failing, Went, Cut, no_sink, SourceFails, reading}
+use Rattle.qic_base.specs.Acts.{Act, Outside, Failing, Went, Cut, SourceFails}
+use Rattle.qic_base.specs.Terms.{no_sink, reading}
 use Rattle.qic_base.specs.Cause.{Rose}
-use Rattle.qic_base.specs.Source.{Gave, HasEnded}
+use Rattle.qic_base.specs.SourceCalls.{Gave, HasEnded}
 use Rattle.tape_script.specs.Reading.{Skips}
 use Rattle.volume_input.proofs.Inputs.{left_of, whole_told, still_tells, none_left}
 use Rattle.volume_input.specs.Input.{HasWritten, EndedShort, InputCut}

@@ -9,7 +9,8 @@ use Rattle.drive_states.specs.Unit.{UnitView}
 use Rattle.drive_states.specs.declared.fault.HandFault.{HandFault}
 use Rattle.qic_base.specs.Cartridge.{Cartridge}
 use Rattle.qic_base.specs.Step.{Wear, effects}
-use Rattle.qic_base.specs.Tape.{Meaning, Done, Tells}
+use Rattle.qic_base.specs.Tape.{Meaning, Done}
+use Rattle.qic_base.specs.TapeCalls.{Tells}
 use Rattle.drive_states.specs.declared.fault.HandFault.TheVariants as fault
 
 -- the list stands where it may be written

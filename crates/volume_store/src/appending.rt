@@ -1,10 +1,10 @@
 //! A volume appended.
 
 ghost use Rattle.std.specs.Prelude.{◌≡◌, ◌-◌, ◌+◌, ◌*◌, ◌≤◌, Some, None, true, length};
-ghost use Rattle.qic_base.specs.Acts.{reading};
+ghost use Rattle.qic_base.specs.Terms.{reading};
 ghost use Rattle.cartridge_spec.specs.Appending.{last_end, room};
 ghost use Rattle.cartridge_laws.specs.Table.{IsSoundList};
-ghost use Rattle.drive_spec.specs.Deck.{is_referenced};
+ghost use Rattle.drive_spec.specs.Terms.{is_referenced};
 ghost use Rattle.cartridge_spec.specs.Formatting.{IsLabel};
 ghost use Rattle.host_driver.specs.Calls.{IsReady, MayWrite, Keeps};
 ghost use Rattle.host_driver.specs.Fits.{segments_of};

@@ -1,8 +1,9 @@
 //! A mounted cartridge.
 
 ghost use Rattle.std.specs.Prelude.{◌≡◌, ◌≢◌, ◌↔◌, ◌+◌, ◌-◌, ◌*◌, ◌^◌, ◌<◌, ◌≤◌, true, Err, IfOk, IfSome, slice_get, length};
-ghost use Rattle.qic_base.specs.Acts.{around, reading};
-ghost use Rattle.drive_spec.specs.Deck.{is_protected, segments_per_track};
+ghost use Rattle.qic_base.specs.Terms.{around, reading};
+ghost use Rattle.drive_spec.specs.Terms.{is_protected};
+ghost use Rattle.drive_spec.specs.Deck.{segments_per_track};
 ghost use Rattle.drive_states.specs.Hand.{Wears};
 ghost use Rattle.qic_base.specs.Cartridge.{IsPlace};
 ghost use Rattle.host_driver.specs.Calls.{IsReady};

@@ -2,7 +2,7 @@
 use Rattle.std.proofs.Common.{◌≡◌, ◌↔◌, ℕ, zero, suc, ◌+◌, ◌*◌, ◌/◌, ◌%◌, ◌^◌, ◌<◌, inl, inr, refl, sym, ◌∙◌, ap, subst, arith, Bool, true, false, List, [], ◌∷◌, length, take, drop, map, Option, Some, None, slice_get, unwrap_or}
 use Rattle.std.specs.Prelude.{◌||◌, ◌==◌, if◌then◌else◌}
 use Rattle.std.proofs.lemmas.Bool.{cases_eq, cases_lt, cases_Bool, ne_eqb, eq-eqb, false≢true}
-use Rattle.qic_base.specs.LostSet.{IsLost}
+use Rattle.qic_base.specs.Terms.{IsLost}
 use Rattle.qic_base.specs.declared.tape.SectorView.{SectorView}
 use Rattle.qic_base.specs.declared.tape.SectorView.TheVariants.{Lost, Holds}
 use Rattle.cartridge_spec.specs.Shape.{sector_at}

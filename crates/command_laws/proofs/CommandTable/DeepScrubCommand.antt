@@ -30,7 +30,8 @@ use Rattle.command_spec.specs.Scrub.{Looked, looked_at}
 use Rattle.command_spec.specs.ScrubForms.{DeepScrubOutcome, Finding, MendsDeep, finding_acts, steps_for, without}
 use Rattle.command_spec.specs.declared.depth.Depth.TheVariants.{Deep}
 use Rattle.qic_base.specs.Acts.{Act, steps_of}
-use Rattle.qic_base.specs.Cartridge.{Cartridge, IsCartridge}
+use Rattle.qic_base.specs.Cartridge.{Cartridge}
+use Rattle.qic_base.specs.Terms.{IsCartridge}
 use Rattle.command_spec.specs.declared.status.Status.TheVariants as status
 use Rattle.command_spec.specs.declared.words.Words.TheVariants as words
 

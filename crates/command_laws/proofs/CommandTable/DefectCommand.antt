@@ -21,7 +21,8 @@ use Rattle.command_laws.specs.CommandRecord.{CommandLaws, NeitherReads}
 use Rattle.command_spec.specs.CommandWords.{HasForm}
 use Rattle.command_spec.specs.Commands.Defect.{DefectOutcome, defect_command}
 use Rattle.command_spec.specs.Outcome.{HasPlace}
-use Rattle.qic_base.specs.Cartridge.{view_at, IsCartridge}
+use Rattle.qic_base.specs.Cartridge.{view_at}
+use Rattle.qic_base.specs.Terms.{IsCartridge}
 use Rattle.qic_base.specs.Step.{changed, Spoil}
 use Rattle.qic_base.specs.Tape.{spoil_answer}
 use Rattle.command_spec.specs.declared.status.Status.TheVariants as status

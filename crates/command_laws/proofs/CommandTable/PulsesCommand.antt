@@ -18,7 +18,7 @@ use Rattle.command_spec.specs.CommandWords.{HasForm}
 use Rattle.command_spec.specs.Pulses.{AreLevels}
 use Rattle.command_spec.specs.Commands.PulsesCommand.{pulses_command}
 use Rattle.qic_base.specs.Step.{changed, SetReferenced}
-use Rattle.qic_base.specs.Cartridge.{IsCartridge}
+use Rattle.qic_base.specs.Terms.{IsCartridge}
 use Rattle.command_spec.specs.declared.words.Words.TheVariants as words
 
 -- its words are read as it

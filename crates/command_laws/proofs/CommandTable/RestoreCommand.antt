@@ -16,7 +16,7 @@ use Rattle.command_spec.specs.CommandWords.{HasForm}
 use Rattle.command_spec.specs.Restore.{Gives, RestoreOutcome}
 use Rattle.command_spec.specs.Commands.RestoreCommand.{CanGive, restore_command, restore_refused}
 use Rattle.command_spec.specs.declared.status.Status.{Status}
-use Rattle.qic_base.specs.Cartridge.{IsCartridge}
+use Rattle.qic_base.specs.Terms.{IsCartridge}
 use Rattle.command_spec.specs.declared.status.Status.TheVariants as status
 use Rattle.command_spec.specs.declared.words.Words.TheVariants as words
 

@@ -15,7 +15,7 @@ use Rattle.command_spec.specs.Complete.{CanBeMounted}
 use Rattle.command_spec.specs.Script.{Scripting, ScriptOutcome, end_line}
 use Rattle.command_spec.specs.Commands.ScriptCommand.{script_command, script_refused}
 use Rattle.command_spec.specs.declared.status.Status.{Status}
-use Rattle.qic_base.specs.Cartridge.{IsCartridge}
+use Rattle.qic_base.specs.Terms.{IsCartridge}
 use Rattle.command_spec.specs.declared.status.Status.TheVariants as status
 use Rattle.command_spec.specs.declared.words.Words.TheVariants as words
 

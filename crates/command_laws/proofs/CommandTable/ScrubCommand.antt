@@ -17,7 +17,7 @@ use Rattle.command_spec.specs.CommandWords.{HasForm}
 use Rattle.command_spec.specs.Complete.{IsUnprotected, CanBeMounted}
 use Rattle.command_spec.specs.Scrub.{Mends, ScrubOutcome}
 use Rattle.command_spec.specs.Commands.ScrubCommand.{scrub_command}
-use Rattle.qic_base.specs.Cartridge.{IsCartridge}
+use Rattle.qic_base.specs.Terms.{IsCartridge}
 use Rattle.command_spec.specs.declared.words.Words.{Words}
 use Rattle.command_spec.specs.declared.status.Status.TheVariants as status
 use Rattle.command_spec.specs.declared.words.Words.TheVariants as words

@@ -93,7 +93,7 @@ upgrade_laws = record {
   unformatted = λ is c input outcome free bare plain. absurd (cc);
   in_front = λ is c segment input outcome free first plain. absurd (cc);
   done = λ held input outcome whole values. where_some (λ c. Unit {0}) held (λ h. UpgradeOutcome h outcome → outcome.status ≡ status.Done) (λ c can does. ap status_of does);
-  texts = plain_texts _ (upgraded_line 2) (2, record { oldest = omega arith; newest = omega arith }, refl);
+  texts = plain_texts _ (upgraded_line 2) (2, omega arith, omega arith, refl);
   blind = λ is. record {
     any = λ held input other outcome plain. plain;
     no_append = refl;

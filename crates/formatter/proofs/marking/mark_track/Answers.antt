@@ -1,6 +1,7 @@
 use Rattle.std.proofs.Common.{◌≡◌, ℕ, ◌+◌, ◌*◌, ◌<◌, ◌≤◌, true, [], length, subst, sym, ◌∙◌, refl, arith}
 use Rattle.std.proofs.lemmas.Result.{err_from_is_err_and}
-use Rattle.qic_base.specs.Tape.{Done, Tells}
+use Rattle.qic_base.specs.Tape.{Done}
+use Rattle.qic_base.specs.TapeCalls.{Tells}
 use Rattle.qic_base.proofs.Steps.{Done-after_reads, Broke-after_reads, Tells-read}
 use Rattle.drive_spec.specs.Deck.{segments_per_track, is_streaming}
 use Rattle.drive_states.specs.Reach.{reads_in, segment_of}

@@ -1,5 +1,6 @@
 use Rattle.std.proofs.Common.{◌≡◌, ℕ, ◌<◌, ◌∷◌, [], List, length, take, Err, ap, ◌∙◌, subst, arith}
-use Rattle.qic_base.specs.Tape.{Done, Broke, Does}
+use Rattle.qic_base.specs.Tape.{Done, Broke}
+use Rattle.qic_base.specs.TapeCalls.{Does}
 use Rattle.qic_base.specs.Step.{Step}
 use Rattle.cartridge_spec.specs.Appending.{table_writes}
 use Rattle.cartridge_spec.specs.Says.{with_parity}

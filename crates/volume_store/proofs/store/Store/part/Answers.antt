@@ -4,7 +4,7 @@ use Rattle.cartridge_spec.specs.Volumes.{carrying}
 use Rattle.cartridge_spec.specs.Mounting.{HasList}
 use Rattle.command_spec.specs.Restore.{pieces_of}
 use Rattle.header_segments.specs.Header.{header_of}
-use Rattle.qic_base.specs.Tape.{Tells}
+use Rattle.qic_base.specs.TapeCalls.{Tells}
 use Rattle.volume_store.specs.Mounting.{StoreView}
 use Rattle.volume_table.specs.Entry.{entry_of}
 use Rattle.volume_store.proofs.Parts.{piece_of_volume, part_failed, part_tells}

@@ -1,10 +1,10 @@
 use Rattle.std.proofs.Common.{◌≡◌, ◌-◌, ◌<◌, take, Some, Ok, Err, false, ap, ◌∙◌, arith, slice_get}
 use Rattle.cartridge_spec.specs.Mounting.{HasList}
-use Rattle.qic_base.specs.Acts.{around}
+use Rattle.qic_base.specs.Terms.{around}
 use Rattle.cartridge_spec.specs.Table.{Entry}
 use Rattle.cartridge_spec.specs.Volumes.{carrying, volume_length}
 use Rattle.header_segments.specs.Header.{header_of}
-use Rattle.qic_base.specs.Tape.{Tells}
+use Rattle.qic_base.specs.TapeCalls.{Tells}
 use Rattle.command_spec.specs.Restore.{pieces_of}
 use Rattle.volume_output.specs.declared.fault.OutputFault.TheVariants as output
 use Rattle.volume_store.specs.Mounting.{StoreView}
