@@ -9,7 +9,8 @@ use Rattle.std.proofs.lemmas.Option.{unwrap_or-slice_get}
 use Rattle.std.proofs.lemmas.Nat.Bits.{same_from_bits_below, bit_at-zero}
 use Rattle.std.proofs.lemmas.List.FromFn.{get_or-map-range_with_len}
 use Rattle.cartridge_spec.specs.Formatting.{IsFreshFor}
-use Rattle.cartridge_spec.specs.Header.{Value, Number, Text, number_in, HoldsValue, value_fault, Field, HeaderFault, Holds, field_fault, first_fault, word_in, map_fault, header_fault, has_signature, number, words_in, profile_fields}
+use Rattle.cartridge_spec.specs.Header.{Value, Number, Text, number_in, HoldsValue, value_fault, Field, HeaderFault, Holds, first_fault, word_in, header_fault, has_signature, number, profile_fields}
+use Rattle.cartridge_laws.specs.Terms.{field_fault, map_fault, words_in}
 use Rattle.cartridge_spec.specs.Shape.{sector_at}
 use Rattle.qic_base.specs.Cartridge.{IsSector, Cartridge, IsCartridge}
 use Rattle.qic_base.specs.Field.{little_endian, number_at}

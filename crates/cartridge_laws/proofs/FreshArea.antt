@@ -11,7 +11,8 @@ use Rattle.cartridge_laws.proofs.HeaderSpellingLaws.{all_fields, IsEncoded, enco
 use Rattle.cartridge_laws.specs.FreshLaws.{FreshAreaExists}
 use Rattle.cartridge_laws.specs.HeaderWriting.{with_fields, FieldFits, told_fields}
 use Rattle.cartridge_spec.specs.Formatting.{IsDefect, MarksDefects, IsLabel, fresh_header, IsFreshArea}
-use Rattle.cartridge_spec.specs.Header.{Header, word_in, words_in}
+use Rattle.cartridge_spec.specs.Header.{Header, word_in}
+use Rattle.cartridge_laws.specs.Terms.{words_in}
 use Rattle.cartridge_spec.specs.HeaderAndTable.{IsArea}
 use Rattle.qic_base.specs.Cartridge.{Cartridge, view_at, IsCartridge, IsSector}
 use Rattle.qic_base.specs.declared.tape.SectorView.{SectorView}

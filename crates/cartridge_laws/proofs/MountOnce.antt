@@ -9,8 +9,9 @@ use Rattle.cartridge_laws.proofs.TableLists.{volumes_are_determined}
 use Rattle.cartridge_laws.proofs.TableSayings.{table_says_is_function, table_says_always}
 use Rattle.cartridge_laws.proofs.TableTotals.{sound_data_show_volumes, data_are_sound_or_faulty}
 use Rattle.cartridge_laws.specs.MountLaws.{MountsIsFunction, MountsAlways}
-use Rattle.cartridge_spec.specs.Header.{HeaderFault, header_fault, Header, number_in, text_in, words_in, Field, Holds, number, text, has_signature}
-use Rattle.cartridge_spec.specs.HeaderAndTable.{CopyReads, copy_cells, IsInForce, HasHeader, CopyDoesNotRead, IsUnformatted, table_cells, TableIs, last_segment, slot_refusal, IsFormatted}
+use Rattle.cartridge_spec.specs.Header.{HeaderFault, header_fault, Header, number_in, Field, Holds, number, has_signature}
+use Rattle.cartridge_laws.specs.Terms.{text_in, words_in, text, IsInForce}
+use Rattle.cartridge_spec.specs.HeaderAndTable.{CopyReads, copy_cells, HasHeader, CopyDoesNotRead, IsUnformatted, table_cells, TableIs, last_segment, slot_refusal, IsFormatted}
 use Rattle.cartridge_spec.specs.Mounting.{IsSoundlyFormatted, RefusesHeader, RefusesTable, Mounting, NotFormatted, Foreign, TableLost, TableMismatch, Mounted, Mounts, IsMounted}
 use Rattle.cartridge_spec.specs.Says.{Data, AsRead, ByCode, Saying, TableSays, LostSectors, Mismatch, Says, whole_mask, TableSaying}
 use Rattle.cartridge_spec.specs.Table.{TableFault, IsFirstFault, slot_fault, HasNoFault, Entry}

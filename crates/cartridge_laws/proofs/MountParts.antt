@@ -4,7 +4,6 @@ use Rattle.std.proofs.lemmas.List.{get_or_append_left}
 use Rattle.std.proofs.lemmas.Option.{unwrap_or-slice_get, slice_get-get_or}
 use Rattle.cartridge_laws.proofs.Cells.{IsReadable}
 use Rattle.cartridge_laws.proofs.FormatCopies.{view_held}
-use Rattle.cartridge_laws.proofs.Sayings.{code_sectors}
 use Rattle.cartridge_laws.proofs.Sets.{names, named_is_one, few_lost, IsNoneOf, unnamed_is_none}
 use Rattle.cartridge_laws.specs.MountBlocks.{HoldsPart}
 use Rattle.cartridge_spec.specs.Code.{parity_sectors, IsCodeBlock}
@@ -65,7 +64,7 @@ front_sector area is i h =
 pub code_block : (area : List (List ℕ)) → IsArea area → IsCodeBlock (with_parity area)
 code_block area is =
     let size : length area ≡ 29 = is.size in
-    parity_block area (omega arith) (omega arith) (code_sectors area is.sectors)
+    parity_block area (omega arith) (omega arith) is.sectors
 
 -- ---- blocks that differ at few places
 

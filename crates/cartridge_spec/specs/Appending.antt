@@ -12,18 +12,14 @@ abbrev pub end_behind : (before : ℕ) → List Entry → ℕ
 end_behind before [] = before
 end_behind before (e ∷ es) = end_behind e.end es
 
--- the last segment that is taken: the end of the last volume, or the table's segment
-abbrev pub last_end : List Entry → ℕ
-last_end entries = end_behind 2 entries
-
--- the carrying segments behind it, ascending: up to the last one of the map
+-- the carrying segments behind the last volume, or behind the table's segment, ascending: up to the last one of the map
 abbrev pub free_segments : (words : List ℕ) → List Entry → List ℕ
-free_segments words entries = carrying words (last_end entries + 1) (length words - 1)
+free_segments words entries = carrying words (end_behind 2 entries + 1) (length words - 1)
 
 -- the bytes that a new volume may have: those that these segments carry, and none where the table is full
 abbrev pub room : (words : List ℕ) → List Entry → ℕ
 room words entries =
-    if nat_lt (length entries) 232 then capacity_between words (last_end entries + 1) (length words - 1) else 0
+    if nat_lt (length entries) 232 then capacity_between words (end_behind 2 entries + 1) (length words - 1) else 0
 
 -- those of some carrying segments that a volume of so many bytes takes, in their order: it ends with the one that takes its
 -- last byte, and takes one for no byte
@@ -66,13 +62,9 @@ bytes_in (sector ∷ sectors) = sector ++ bytes_in sectors
 abbrev pub volume_bytes : (words : List ℕ) → Volume → List ℕ
 volume_bytes words volume = take (volume_length words volume.entry) (bytes_in volume.area)
 
--- the sectors that an append writes, in their order: the changed sector of data, and those of parity
-abbrev pub table_places : (changed : ℕ) → List ℕ
-table_places changed = changed ∷ 29 ∷ 30 ∷ 31 ∷ []
-
--- the writes of the table's new data
+-- the writes of the table's new data: the changed sector of data, and those of parity
 abbrev pub table_writes : (changed : ℕ) → (new : List (List ℕ)) → List Step
-table_writes changed new = block_writes (with_parity new) (table_places changed)
+table_writes changed new = block_writes (with_parity new) (changed ∷ 29 ∷ 30 ∷ 31 ∷ [])
 
 -- all usable sectors of a segment, ascending: its part of an area, and the parity of it
 abbrev pub part_writes : (words : List ℕ) → Part → List Step
@@ -86,17 +78,13 @@ abbrev pub has_room : Plain → (bytes : ℕ) → Bool
 has_room plain bytes =
     let have : ℕ = room plain.words (entries_of plain) in nat_le 1 have && nat_le bytes have
 
--- the segments that a new volume of these bytes takes
-abbrev pub new_segments : Plain → (bytes : List ℕ) → List ℕ
-new_segments plain bytes =
-    taken_by plain.words (length bytes) (free_segments plain.words (entries_of plain))
-
 -- the new volume: of a name of 44 bytes, a date word, and bytes
 abbrev pub appended_volume : Plain → (name : List ℕ) → (date : ℕ) → (bytes : List ℕ) → Volume
-appended_volume plain name date bytes = record {
-  entry = new_entry (new_segments plain bytes) name date (length bytes);
-  area = in_sectors (sectors_in plain.words (new_segments plain bytes)) bytes;
-}
+appended_volume plain name date bytes =
+    let segments : List ℕ = taken_by plain.words (length bytes) (free_segments plain.words (entries_of plain)) in record {
+      entry = new_entry segments name date (length bytes);
+      area = in_sectors (sectors_in plain.words segments) bytes;
+    }
 
 -- the plain cartridge with it behind the others, and with its entry in the table
 abbrev pub with_bytes : Plain → (name : List ℕ) → (date : ℕ) → (bytes : List ℕ) → Plain

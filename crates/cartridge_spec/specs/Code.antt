@@ -3,6 +3,7 @@
 use Rattle.std.specs.Prelude.{ℕ, List, [], ◌∷◌, length, bit_xor, ◌<◌, ◌≤◌, ◌≡◌, All, map, slice_index, ◌+◌}
 use Rattle.std.specs.List.{range_with_len}
 use Rattle.cartridge_spec.specs.Field.{product, power, inverse}
+use Rattle.qic_base.specs.Cartridge.{IsSector}
 
 -- the sum of c_i * p^(n-1-i) over the bytes c_0 to c_(n-1): the column's value at p
 unfoldable pub value_at : ℕ → List ℕ → ℕ
@@ -18,11 +19,6 @@ pub record IsCodeword (cs : List ℕ) : Type 0 where
   pub at_one : value_at 0x01 cs ≡ 0
   pub at_generator : value_at 0x02 cs ≡ 0
 
--- 1,024 bytes (QIC-80-MC)
-pub record IsSector (s : List ℕ) : Type 0 where
-  pub size : length s ≡ 1024
-  pub bytes : All (λ b. b < 256) s
-
 -- byte j of each sector
 unfoldable pub column : ℕ → List (List ℕ) → List ℕ
 column j sectors = map (λ s. slice_index s j) sectors
@@ -37,11 +33,7 @@ unfoldable pub data_sum : ℕ → List ℕ → ℕ
 data_sum p [] = 0
 data_sum p (d ∷ ds) = bit_xor (product d (power p (length ds + 3))) (data_sum p ds)
 
--- a polynomial times a byte; polynomials are lists of coefficients, the highest degree first
-abbrev pub scaled : ℕ → List ℕ → List ℕ
-scaled a = map (product a)
-
--- the sum of two polynomials with equally many coefficients
+-- the sum of two polynomials with equally many coefficients, the highest degree first
 unfoldable pub added : List ℕ → List ℕ → List ℕ
 added (x ∷ xs) (y ∷ ys) = bit_xor x y ∷ added xs ys
 added xs ys = []
@@ -49,13 +41,13 @@ added xs ys = []
 -- (x + q) / (p + q) times (x + r) / (p + r): the polynomial that is 1 at p, and 0 at q and at r
 unfoldable pub lagrange : ℕ → ℕ → ℕ → List ℕ
 lagrange p q r =
-    scaled (product (inverse (bit_xor p q)) (inverse (bit_xor p r))) (1 ∷ bit_xor q r ∷ product q r ∷ [])
+    map (product (product (inverse (bit_xor p q)) (inverse (bit_xor p r)))) (1 ∷ bit_xor q r ∷ product q r ∷ [])
 
 -- the polynomial of degree below 3 with the values a at r^-1, b at 1 and c at r, in Lagrange's form
 unfoldable pub through : ℕ → ℕ → ℕ → List ℕ
 through a b c =
-    added (scaled a (lagrange 0xC3 0x01 0x02))
-    (added (scaled b (lagrange 0x01 0xC3 0x02)) (scaled c (lagrange 0x02 0xC3 0x01)))
+    added (map (product a) (lagrange 0xC3 0x01 0x02))
+    (added (map (product b) (lagrange 0x01 0xC3 0x02)) (map (product c) (lagrange 0x02 0xC3 0x01)))
 
 -- the three parity bytes of a column's data: the coefficients of that polynomial for the data's sums
 -- at the three roots (QIC-80-MC)

@@ -3,19 +3,15 @@
 use Rattle.std.specs.Prelude.{ℕ, zero, suc, ◌*◌, ◌^◌, bit_xor, ◌+◌}
 use Rattle.std.specs.Int.{bit_at}
 
--- x^8 + x^7 + x^2 + x + 1 (QIC-80-MC)
-abbrev pub modulus : ℕ
-modulus = 0x187
-
 -- the sum of the copies of a shifted by i, one for each bit i below k that b has
 unfoldable pub shifted_copies : ℕ → ℕ → ℕ → ℕ
 shifted_copies zero a b = 0
 shifted_copies (suc k) a b = bit_xor (shifted_copies k a b) (bit_at b k * (a * 2 ^ k))
 
--- the remainder by the modulus of a, of degree below 8 + k: long division, the highest degree first
+-- the remainder by x^8 + x^7 + x^2 + x + 1 (QIC-80-MC) of a, of degree below 8 + k: long division, the highest degree first
 unfoldable pub remainder : ℕ → ℕ → ℕ
 remainder zero a = a
-remainder (suc k) a = remainder k (bit_xor a (bit_at a (8 + k) * (modulus * 2 ^ k)))
+remainder (suc k) a = remainder k (bit_xor a (bit_at a (8 + k) * (0x187 * 2 ^ k)))
 
 -- the product of two bytes (QIC-80-MC)
 unfoldable pub product : ℕ → ℕ → ℕ

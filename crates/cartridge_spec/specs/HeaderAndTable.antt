@@ -28,14 +28,10 @@ pub record CopyReads (c : Cartridge) (copy : ℕ) (area : List (List ℕ)) : Typ
 abbrev pub CopyDoesNotRead : Cartridge → ℕ → Type 0
 CopyDoesNotRead c copy = (area : List (List ℕ)) → CopyReads c copy area → ⊥
 
--- the header in force is that of copy 0 where it reads, and else that of copy 1
-abbrev pub IsInForce : Cartridge → List (List ℕ) → Type 0
-IsInForce c area = CopyReads c 0 area ⊎ (CopyDoesNotRead c 0 × CopyReads c 1 area)
-
--- a cartridge with its reference bursts, and a header in force
+-- a cartridge with its reference bursts, and a header in force: that of copy 0 where it reads, and else that of copy 1
 pub record HasHeader (c : Cartridge) (area : List (List ℕ)) : Type 0 where
   pub referenced : c.info.referenced ≡ true
-  pub in_force : IsInForce c area
+  pub in_force : CopyReads c 0 area ⊎ (CopyDoesNotRead c 0 × CopyReads c 1 area)
 
 -- no header is in force, or the reference bursts are missing
 abbrev pub IsUnformatted : Cartridge → Type 0

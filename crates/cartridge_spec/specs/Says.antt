@@ -1,6 +1,6 @@
 -- What a segment says: the cells of its usable sectors, the code block that agrees with those that can be read, and the
 -- data in it (QIC-80-MC: three sectors of parity behind the data, so three sectors that are lost are found again).
-use Rattle.std.specs.Prelude.{ℕ, ◌-◌, ◌^◌, List, map, count_by, ◌≡◌, length, Some, slice_get, take, ◌<◌, ◌≤◌, ◌++◌, suc, ◌/◌, ◌%◌, ◌==◌, [], ◌∷◌, if◌then◌else◌, ◌⊎◌}
+use Rattle.std.specs.Prelude.{ℕ, ◌-◌, ◌^◌, List, map, count_by, ◌≡◌, All, length, Some, slice_get, take, ◌<◌, ◌≤◌, ◌++◌, suc, ◌/◌, ◌%◌, ◌==◌, [], ◌∷◌, if◌then◌else◌, ◌⊎◌}
 use Rattle.cartridge_spec.specs.Code.{IsCodeBlock, parity_sectors}
 use Rattle.cartridge_spec.specs.Shape.{usable_places, is_unreadable}
 use Rattle.cartridge_spec.specs.TableSets.{table_sets}
@@ -24,16 +24,12 @@ pub record Agrees (cells : List SectorView) (block : List (List ℕ)) : Type 0 w
   pub size : length block ≡ length cells
   pub each : (i : ℕ) (bytes : List ℕ) → slice_get cells i ≡ Some (Holds bytes) → slice_get block i ≡ Some bytes
 
--- the sectors of a block before its three of parity
-abbrev pub data_of : List (List ℕ) → List (List ℕ)
-data_of block = take (length block - 3) block
-
--- a code block that agrees with the cells, with this data
+-- a code block that agrees with the cells, with this data: its sectors before the three of parity
 pub record HasBlock (cells : List SectorView) (data_sectors : List (List ℕ)) : Type 0 where
   pub block : List (List ℕ)
   pub code : IsCodeBlock block
   pub agrees : Agrees cells block
-  pub shown : data_sectors ≡ data_of block
+  pub shown : data_sectors ≡ take (length block - 3) block
 
 -- no code block agrees with the cells
 abbrev pub HasNoBlock : List SectorView → Type 0
@@ -67,10 +63,6 @@ Zero cells = (i : ℕ) (bytes : List ℕ) → slice_get cells i ≡ Some (Holds 
 
 -- ---- the volume table's segment (this project's profile)
 
--- the unreadable ones among its 29 data sectors
-abbrev pub unreadable_data : List SectorView → ℕ
-unreadable_data cells = unreadable_count (take 29 cells)
-
 -- all its data sectors can be read, and hold these
 pub record ReadsAll (cells : List SectorView) (sectors : List (List ℕ)) : Type 0 where
   pub size : length sectors ≡ 29
@@ -78,31 +70,25 @@ pub record ReadsAll (cells : List SectorView) (sectors : List (List ℕ)) : Type
 
 -- ---- readings that leave sectors out of account
 
--- the cells, with those at the places of a set seen as lost
+-- the cells, the first of which is at this place, with those at the places of a set seen as lost
 unfoldable pub hidden_from : (set place : ℕ) → List SectorView → List SectorView
 hidden_from set place [] = []
 hidden_from set place (cell ∷ cells) =
     (if set / 2 ^ place % 2 == 1 then Lost else cell) ∷ hidden_from set (suc place) cells
 
-abbrev pub hidden : ℕ → List SectorView → List SectorView
-hidden set cells = hidden_from set 0 cells
-
--- no code block agrees with the cells, whichever of these sets is left out of account
-abbrev pub HasNoBlocks : List ℕ → List SectorView → Type 0
-HasNoBlocks [] cells = Unit {0}
-HasNoBlocks (set ∷ sets) cells = HasNoBlock (hidden set cells) × HasNoBlocks sets cells
-
 -- the data of the code block that agrees with the cells outside the first of these sets for which there is one
 abbrev pub HasFirstBlock : List ℕ → List SectorView → List (List ℕ) → Type 0
 HasFirstBlock [] cells sectors = ⊥
 HasFirstBlock (set ∷ sets) cells sectors =
-    HasBlock (hidden set cells) sectors ⊎ (HasNoBlock (hidden set cells) × HasFirstBlock sets cells sectors)
+    HasBlock (hidden_from set 0 cells) sectors
+    ⊎ (HasNoBlock (hidden_from set 0 cells) × HasFirstBlock sets cells sectors)
 
 -- what a segment says where these sets are tried, in their order
 abbrev pub SaysBy : List ℕ → List SectorView → Saying → Type 0
 SaysBy sets cells (Data sectors) = (unreadable_count cells ≤ 3) × HasFirstBlock sets cells sectors
 SaysBy sets cells (LostSectors n) = (unreadable_count cells ≡ n) × (3 < n)
-SaysBy sets cells Mismatch = (unreadable_count cells ≤ 3) × HasNoBlocks sets cells
+SaysBy sets cells Mismatch =
+    (unreadable_count cells ≤ 3) × All (λ set. HasNoBlock (hidden_from set 0 cells)) sets
 
 -- ---- what the table's segment says
 
@@ -113,4 +99,4 @@ pub data TableSaying : Type 0 where
 
 abbrev pub TableSays : List SectorView → TableSaying → Type 0
 TableSays cells (AsRead sectors) = ReadsAll cells sectors
-TableSays cells (ByCode saying) = (0 < unreadable_data cells) × SaysBy (table_sets cells) cells saying
+TableSays cells (ByCode saying) = (0 < unreadable_count (take 29 cells)) × SaysBy (table_sets cells) cells saying

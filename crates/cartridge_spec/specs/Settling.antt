@@ -40,17 +40,6 @@ holds_other Defect bytes = false
 holds_other Lost bytes = false
 holds_other (Holds held) bytes = not (bytes_eq held bytes)
 
--- a sector of data of segment 2 can be read and differs from its part of a block: it was left out of account
-abbrev pub is_left_out : Cartridge → (block : List (List ℕ)) (sector : ℕ) → Bool
-is_left_out c block sector = if nat_lt sector 29 then holds_other (view_at c 2 sector) (sector_at block sector) else false
-
--- another sector of segment 2 is to be written: one of data where it is unreadable, one of parity where it is unreadable or
--- differs from the parity of the data
-abbrev pub is_unsettled : Cartridge → (block : List (List ℕ)) (sector : ℕ) → Bool
-is_unsettled c block sector =
-    if nat_lt sector 29 then is_unreadable (view_at c 2 sector)
-    else not (holds (view_at c 2 sector) (sector_at block sector))
-
 -- some sectors of segment 2, with their parts of a block
 abbrev pub block_writes : List (List ℕ) → (places : List ℕ) → List Step
 block_writes block places = writes_of 2 places (map (sector_at block) places)
@@ -58,7 +47,11 @@ block_writes block places = writes_of 2 places (map (sector_at block) places)
 -- the sectors that are written where the table's data are these: first those of data that were left out of account, then those
 -- of data that are unreadable, and then those of parity that are unreadable or differ, each ascending
 abbrev pub settling_places : Cartridge → (area : List (List ℕ)) → List ℕ
-settling_places c area = places_where (is_left_out c (with_parity area)) ++ places_where (is_unsettled c (with_parity area))
+settling_places c area =
+    places_where (λ i. if nat_lt i 29 then holds_other (view_at c 2 i) (sector_at (with_parity area) i) else false)
+    ++ places_where (λ i.
+        if nat_lt i 29 then is_unreadable (view_at c 2 i)
+        else not (holds (view_at c 2 i) (sector_at (with_parity area) i)))
 
 -- the writes that settle the volume table, whose data are these: none on a protected cartridge
 abbrev pub settling_steps : (area : List (List ℕ)) → Cartridge → List Step

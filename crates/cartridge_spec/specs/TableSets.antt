@@ -13,26 +13,18 @@ unfoldable pub some_used_below : List ℕ → ℕ → Bool
 some_used_below bytes zero = false
 some_used_below bytes (suc j) = is_used (slot (bytes ∷ []) j) || some_used_below bytes j
 
--- some of its eight slots is
-abbrev pub has_used_slot : List ℕ → Bool
-has_used_slot bytes = some_used_below bytes 8
-
--- the cell can be read, and has a used slot
+-- the cell can be read, and some of its eight slots is used
 abbrev pub shows_used_slot : SectorView → Bool
 shows_used_slot Blank = false
 shows_used_slot Defect = false
 shows_used_slot Lost = false
-shows_used_slot (Holds bytes) = has_used_slot bytes
+shows_used_slot (Holds bytes) = some_used_below bytes 8
 
 -- the last of the first cells that does
 unfoldable pub last_used_below : List SectorView → ℕ → Option ℕ
 last_used_below cells zero = None
 last_used_below cells (suc i) =
     if shows_used_slot (unwrap_or (slice_get cells i) Lost) then Some i else last_used_below cells i
-
--- the last data sector that can be read and has a used slot
-abbrev pub last_used : List SectorView → Option ℕ
-last_used cells = last_used_below cells 29
 
 -- ---- the sets
 
@@ -41,9 +33,6 @@ unfoldable pub unreadable_from : ℕ → List SectorView → List ℕ
 unreadable_from place [] = []
 unreadable_from place (cell ∷ cells) =
     if is_unreadable cell then place ∷ unreadable_from (suc place) cells else unreadable_from (suc place) cells
-
-abbrev pub unreadable_places : List SectorView → List ℕ
-unreadable_places cells = unreadable_from 0 cells
 
 -- the set of these places
 unfoldable pub set_of : List ℕ → ℕ
@@ -55,28 +44,21 @@ abbrev pub with_used : (used : Option ℕ) → (places : List ℕ) → List ℕ
 with_used None places = []
 with_used (Some k) places = set_of (k ∷ places) ∷ []
 
--- the sets where a sector of data alone is unreadable
-abbrev pub sets_by_one : (used : Option ℕ) → (m : ℕ) → List ℕ
-sets_by_one used m =
-    set_of (m ∷ 31 ∷ [])
-    ∷ set_of (m ∷ 29 ∷ [])
-    ∷ with_used used (m ∷ [])
-    ++ set_of (m ∷ 30 ∷ 31 ∷ []) ∷ []
-
--- those where another one behind it is
-abbrev pub sets_by_two : (used : Option ℕ) → (m other : ℕ) → List ℕ
-sets_by_two used m other =
-    if other == 29 then with_used used (m ∷ 29 ∷ [])
-    else if other == 30 then set_of (m ∷ 30 ∷ 31 ∷ []) ∷ []
-    else []
-
--- the sets behind the empty one, by the unreadable places
+-- the sets behind the empty one, by the unreadable places: one of data, alone or with another one behind it
 abbrev pub sets_by : (used : Option ℕ) → (unreadable : List ℕ) → List ℕ
 sets_by used [] = []
-sets_by used (m ∷ []) = if nat_lt m 29 then sets_by_one used m else []
-sets_by used (m ∷ other ∷ []) = if nat_lt m 29 then sets_by_two used m other else []
+sets_by used (m ∷ []) =
+    if nat_lt m 29 then
+      set_of (m ∷ 31 ∷ []) ∷ set_of (m ∷ 29 ∷ []) ∷ with_used used (m ∷ []) ++ set_of (m ∷ 30 ∷ 31 ∷ []) ∷ []
+    else []
+sets_by used (m ∷ other ∷ []) =
+    if nat_lt m 29 then
+      if other == 29 then with_used used (m ∷ 29 ∷ [])
+      else if other == 30 then set_of (m ∷ 30 ∷ 31 ∷ []) ∷ []
+      else []
+    else []
 sets_by used (m ∷ other ∷ third ∷ more) = []
 
--- the sets that are tried, in their order
+-- the sets that are tried, in their order: the last sector with a used slot is one of data
 abbrev pub table_sets : List SectorView → List ℕ
-table_sets cells = 0 ∷ sets_by (last_used cells) (unreadable_places cells)
+table_sets cells = 0 ∷ sets_by (last_used_below cells 29) (unreadable_from 0 cells)

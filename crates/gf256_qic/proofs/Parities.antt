@@ -6,8 +6,9 @@ use Rattle.std.proofs.lemmas.List.FromFn.{length-map-range_with_len, get_or-map-
 use Rattle.std.proofs.lemmas.List.Elements.{All-get_or, All-from_get_or, All-append, All-nil, All-cons, All-head, All-tail}
 use Rattle.std.proofs.Math.ListN.{length-append}
 use Rattle.cartridge_spec.specs.Field.{shifted_copies, remainder, product, power, inverse}
-use Rattle.cartridge_spec.specs.Code.{value_at, data_sum, scaled, added, lagrange, through, parity, parity_sector, parity_sectors, column, IsSector, IsCodeword, IsCodeBlock}
-use Rattle.gf256_qic.specs.Code.{distance}
+use Rattle.cartridge_spec.specs.Code.{value_at, data_sum, added, lagrange, through, parity, parity_sector, parity_sectors, column, IsCodeword, IsCodeBlock}
+use Rattle.gf256_qic.specs.Code.{scaled, distance}
+use Rattle.qic_base.specs.Cartridge.{IsSector}
 use Rattle.gf256_qic.proofs.Products.{product_one_right, product_zero_right}
 use Rattle.gf256_qic.proofs.Values.{AllBytes, no_bytes, more_bytes, value_at-append, value_at-added, value_at-scaled, length-added, bytes_of_added, bytes_of_scaled, data_sum-value, data_sum-byte}
 use Rattle.gf256_qic.proofs.Agreement.{distance-le, near_columns, length-column, same_from_columns}
@@ -236,7 +237,7 @@ bytes_of_column j (s ∷ ss) h all =
     let first : IsSector s = All-head IsSector s ss all in
     let size : length s ≡ 1024 = first.size in
     more_bytes (slice_index s j) (column j ss)
-    (All-get_or (λ b. b < 256) s j 0 (omega arith) first.bytes)
+    (All-get_or (λ b. b < 256) s j 0 (omega arith) first.each)
     (bytes_of_column j ss h (All-tail IsSector s ss all))
 
 pub get_or-parity_sector : (ss : List (List ℕ)) (k j : ℕ) → j < 1024 →
@@ -254,7 +255,7 @@ parity_sector-is_sector ss k all h =
     let size : length (parity_sector ss k) ≡ 1024 = length-parity_sector ss k in
     record {
       size = size;
-      bytes = All-from_get_or (λ b. b < 256) (parity_sector ss k) 0 (λ j lt.
+      each = All-from_get_or (λ b. b < 256) (parity_sector ss k) 0 (λ j lt.
           let within : j < 1024 = omega arith in
           let three : length (parity (column j ss)) ≡ 3 = length-parity (column j ss) in
           let P : ℕ → Type 0 = λ b. b < 256 in

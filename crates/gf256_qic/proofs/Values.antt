@@ -6,7 +6,8 @@ use Rattle.std.proofs.lemmas.Nat.{xor_comm}
 use Rattle.std.proofs.Math.Nat.{suc_inj}
 use Rattle.std.proofs.lemmas.List.Elements.{All-nil, All-cons, All-head, All-tail, All-push}
 use Rattle.cartridge_spec.specs.Field.{product, power}
-use Rattle.cartridge_spec.specs.Code.{value_at, data_sum, scaled, added}
+use Rattle.cartridge_spec.specs.Code.{value_at, data_sum, added}
+use Rattle.gf256_qic.specs.Code.{scaled}
 use Rattle.gf256_qic.proofs.Sums.{swap4, sum_byte, sum_cancel}
 use Rattle.gf256_qic.proofs.Products.{product_comm, product_byte, product_assoc, product_sum_left, product_sum_right, product_zero_left, product_zero_right, product_one_right}
 use Rattle.gf256_qic.proofs.Powers.{power_none, power_one, power_byte, power_sum}

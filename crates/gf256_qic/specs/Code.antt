@@ -1,7 +1,16 @@
 -- The code of QIC-80 over byte columns (QIC-80-MC). A column has a byte of each usable sector of a segment, in
 -- order of index; as a polynomial its first byte has the highest degree, and its last three bytes are parity.
-use Rattle.std.specs.Prelude.{ℕ, ◌+◌, cond, List, ◌∷◌, ◌==◌, zero, suc, Bool, ◌<◌, ◌≡◌, false, length, slice_get}
+use Rattle.std.specs.Prelude.{ℕ, ◌+◌, cond, List, ◌∷◌, map, ◌==◌, zero, suc, Bool, ◌<◌, ◌≡◌, false, length, slice_get}
 use Rattle.cartridge_spec.specs.Code.{IsCodeBlock}
+use Rattle.cartridge_spec.specs.Field.{product}
+
+-- x^8 + x^7 + x^2 + x + 1 (QIC-80-MC)
+abbrev pub modulus : ℕ
+modulus = 0x187
+
+-- a polynomial times a byte
+abbrev pub scaled : ℕ → List ℕ → List ℕ
+scaled a = map (product a)
 
 -- at how many places two columns of equal length differ
 unfoldable pub distance : List ℕ → List ℕ → ℕ

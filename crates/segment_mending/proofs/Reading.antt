@@ -7,11 +7,11 @@ use Rattle.qic_base.specs.Sink as sinks
 use Rattle.qic_base.specs.Tape as tapes
 use Rattle.qic_base.proofs.Steps.{Tells-map}
 use Rattle.qic_base.proofs.Writing.{TakesBoth}
-use Rattle.qic_base.specs.Acts.{Act, Outside, Failing, TapeFails, SinkFails, Went, Cut}
-use Rattle.qic_base.specs.Acts.{no_source, around}
+use Rattle.qic_base.specs.Acts.{Act, Outside, Failing, TapeFails, SinkFails, Went, Cut, no_source, around}
 use Rattle.qic_base.proofs.Joins.{went_both, went_then_cut, cut_is_longer, sink_cut_one}
 use Rattle.cartridge_spec.specs.Says.{Saying, Data, LostSectors, Mismatch}
-use Rattle.cartridge_spec.specs.Shape.{usable_count, sectors_of}
+use Rattle.cartridge_spec.specs.Shape.{usable_count}
+use Rattle.cartridge_laws.specs.Terms.{sectors_of}
 use Rattle.cartridge_laws.specs.Writes.{named_writes}
 use Rattle.cartridge_laws.proofs.Places.{count_below}
 use Rattle.command_spec.specs.Scrub.{Looked, Counts, reads, steps_in, header_line, fault_line, line_in}

@@ -5,10 +5,10 @@ use Rattle.qic_base.specs.Sink as sinks
 use Rattle.qic_base.specs.Tape as tapes
 use Rattle.qic_base.proofs.Steps.{Tells-map}
 use Rattle.qic_base.proofs.Writing.{TakesBoth, Wrote-Wrote, Wrote-BrokeOff, BrokeOff-longer}
-use Rattle.qic_base.specs.Acts.{Act, text_of, TapeFails, SinkFails, Went, Cut}
-use Rattle.qic_base.specs.Acts.{no_source, around}
+use Rattle.qic_base.specs.Acts.{Act, text_of, TapeFails, SinkFails, Went, Cut, no_source, around}
 use Rattle.qic_base.proofs.Joins.{cut_is_longer, broke_first}
-use Rattle.cartridge_spec.specs.Says.{cells_of, Says, Data, LostSectors, data_of}
+use Rattle.cartridge_spec.specs.Says.{cells_of, Says, Data, LostSectors}
+use Rattle.cartridge_laws.specs.Terms.{data_of}
 use Rattle.cartridge_spec.specs.Says as saying
 use Rattle.cartridge_spec.specs.Shape.{mask_at, usable_count}
 use Rattle.cartridge_laws.proofs.Segments.{count_of_cells}

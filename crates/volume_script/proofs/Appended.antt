@@ -14,7 +14,8 @@ use Rattle.qic_base.proofs.Steps.{Tells-map}
 use Rattle.qic_base.proofs.Writing.{TakesBoth}
 use Rattle.qic_base.specs.Acts.{Act, text_of, Failing, TapeFails, SourceFails, SinkFails, Went, Cut, no_sink, reading}
 use Rattle.cartridge_spec.specs.Appending.{table_writes}
-use Rattle.cartridge_spec.specs.Table.{slot_sector, table_with, Entry}
+use Rattle.cartridge_laws.specs.Terms.{slot_sector}
+use Rattle.cartridge_spec.specs.Table.{table_with, Entry}
 use Rattle.qic_base.proofs.Joins.{cut_is_longer, broke_behind}
 use Rattle.cartridge_spec.specs.HeaderAndTable.{table_cells, TableIs}
 use Rattle.cartridge_spec.specs.Says.{ByCode, LostSectors, TableSays}

@@ -12,9 +12,9 @@ use Rattle.qic_base.specs.declared.tape.SectorView.{SectorView}
 use Rattle.qic_base.specs.declared.tape.SectorView.TheVariants.{Holds}
 use Rattle.cartridge_spec.specs.Code.{IsCodeBlock}
 use Rattle.cartridge_laws.specs.Says.{LosesData}
-use Rattle.cartridge_spec.specs.Says.{hidden}
+use Rattle.cartridge_laws.specs.Terms.{hidden, last_used, sets_by_one}
 use Rattle.cartridge_spec.specs.Shape.{usable_count}
-use Rattle.cartridge_spec.specs.TableSets.{last_used, set_of, sets_by, sets_by_one, with_used}
+use Rattle.cartridge_spec.specs.TableSets.{set_of, sets_by, with_used}
 use Rattle.cartridge_laws.proofs.Segments.{count_of_whole}
 use Rattle.segment_io.specs.Gathered.{Gathered}
 use Rattle.segment_io.specs.Reading.{Solves, HasSolved}

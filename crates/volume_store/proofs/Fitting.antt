@@ -3,7 +3,7 @@ use Rattle.std.proofs.Common.{◌≡◌, ◌≢◌, ℕ, ◌-◌, ◌*◌, ◌/�
 use Rattle.std.specs.Option.{option_map}
 use Rattle.std.proofs.lemmas.List.{length-append}
 use Rattle.cartridge_laws.proofs.MountSettles.{settling_settles}
-use Rattle.cartridge_spec.specs.Mounting.{HasList}
+use Rattle.cartridge_laws.specs.Terms.{HasList, slot_sector, last_end}
 use Rattle.qic_base.specs.Cartridge.{Cartridge, IsCartridge}
 use Rattle.qic_base.specs.Source as sources
 use Rattle.qic_base.specs.Step.{Step, effects}
@@ -15,12 +15,11 @@ use Rattle.cartridge_spec.specs.Formatting.{IsLabel}
 use Rattle.cartridge_laws.proofs.FormatWriting.{effects-some}
 use Rattle.qic_base.specs.Acts.{steps_of, reading}
 use Rattle.cartridge_spec.specs.HeaderAndTable.{IsArea, TableIs}
-use Rattle.cartridge_spec.specs.Table.{slot_bytes, slot_sector, table_with, Entry, Shows}
+use Rattle.cartridge_spec.specs.Table.{slot_bytes, table_with, Entry, Shows}
 use Rattle.cartridge_laws.specs.Table.{IsSoundList}
 use Rattle.cartridge_spec.specs.Settling.{changed_by, settling_steps}
 use Rattle.cartridge_laws.proofs.SlotBytes.{length-slot_bytes, slot_are_bytes}
 use Rattle.cartridge_laws.proofs.Slots.{slot_area}
-use Rattle.cartridge_spec.specs.Appending.{last_end}
 use Rattle.cartridge_laws.specs.AppendSettled.{IsSettledFor}
 use Rattle.cartridge_laws.proofs.AppendDead.{settled_is_settled_for, table_settled}
 use Rattle.cartridge_laws.proofs.AppendKeeping.{AreIn}

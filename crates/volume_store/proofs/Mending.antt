@@ -8,9 +8,9 @@ use Rattle.std.proofs.lemmas.List.Elements.{filter-append}
 use Rattle.std.proofs.lemmas.List.FromFn.{get_or-range_with_len}
 use Rattle.qic_base.specs.LostSet.{lost_places}
 use Rattle.erasure_solve.specs.Lost.{is_lost}
-use Rattle.cartridge_spec.specs.Shape.{sector_at}
+use Rattle.cartridge_spec.specs.Shape.{sector_at, usable_places}
 use Rattle.cartridge_spec.specs.Says.{whole_mask}
-use Rattle.cartridge_spec.specs.Shape.{usable_places, sectors_of}
+use Rattle.cartridge_laws.specs.Terms.{sectors_of}
 use Rattle.cartridge_laws.proofs.Segments.{places_of_whole}
 use Rattle.cartridge_spec.specs.Settling.{places_where, block_writes}
 use Rattle.volume_store.specs.declared.table_reader.Unread.{Unread}

@@ -1,6 +1,6 @@
 -- An append stage by stage, from a store that fits a unit whose cartridge may be written: the list, the fit, and how it ended.
 use Rattle.std.proofs.Common.{◌≡◌, ◌≢◌, ◌⊎◌, inl, inr, ℕ, ◌-◌, false, List, [], ◌∷◌, ◌++◌, length, Option, Err, sym, ◌∙◌, subst, arith}
-use Rattle.cartridge_spec.specs.Mounting.{HasList}
+use Rattle.cartridge_laws.specs.Terms.{HasList}
 use Rattle.qic_base.specs.Cartridge.{IsCartridge}
 use Rattle.qic_base.specs.Source as sources
 use Rattle.qic_base.specs.Tape as tapes

@@ -12,7 +12,8 @@ use Rattle.qic_base.specs.declared.tape.SectorView.{SectorView}
 use Rattle.qic_base.specs.declared.tape.SectorView.TheVariants.{Blank, Defect, Lost, Holds}
 use Rattle.cartridge_laws.specs.Segment.{IsUnreadable}
 use Rattle.cartridge_spec.specs.Shape.{is_unreadable}
-use Rattle.cartridge_spec.specs.Says.{unreadable_count, unreadable_data, ReadsAll, TableSays, ByCode, LostSectors, data_of}
+use Rattle.cartridge_spec.specs.Says.{unreadable_count, ReadsAll, TableSays, ByCode, LostSectors}
+use Rattle.cartridge_laws.specs.Terms.{unreadable_data, data_of}
 use Rattle.cartridge_laws.specs.Says.{LosesData}
 use Rattle.cartridge_spec.specs.HeaderAndTable.{table_cells, TableIs}
 use Rattle.cartridge_laws.proofs.Cells.{unreadable_count-first}

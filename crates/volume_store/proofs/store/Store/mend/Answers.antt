@@ -1,5 +1,5 @@
 use Rattle.std.proofs.Common.{◌≡◌, ◌-◌, List, length, take, Ok, Err, false, sym, ap, subst}
-use Rattle.cartridge_spec.specs.Mounting.{HasList}
+use Rattle.cartridge_laws.specs.Terms.{HasList}
 use Rattle.qic_base.specs.Acts.{around}
 use Rattle.cartridge_spec.specs.Table.{Entry}
 use Rattle.header_segments.specs.Header.{header_of}

@@ -1,5 +1,5 @@
 use Rattle.std.proofs.Common.{◌≡◌, ◌-◌, ◌<◌, take, Some, Ok, Err, false, ap, ◌∙◌, arith, slice_get}
-use Rattle.cartridge_spec.specs.Mounting.{HasList}
+use Rattle.cartridge_laws.specs.Terms.{HasList}
 use Rattle.qic_base.specs.Acts.{around}
 use Rattle.cartridge_spec.specs.Table.{Entry}
 use Rattle.cartridge_spec.specs.Volumes.{carrying, volume_length}
