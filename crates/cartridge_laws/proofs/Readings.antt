@@ -2,6 +2,7 @@
 use Rattle.std.proofs.Common.{ℕ, ◌≤◌, List, [], ◌∷◌, ◌≡◌, true, arith, length, Bool, false, ◌++◌, inr, Option, Some, None, inl, refl, subst, nat_lt, sym, ◌∙◌, ap, ◌⊎◌, All}
 use Rattle.std.specs.Prelude.{if◌then◌else◌, ◌==◌}
 use Rattle.std.proofs.lemmas.Bool.{eqb-true, cases_lt}
+use Rattle.std.proofs.lemmas.List.Elements.{All-nil, All-cons, All-head, All-tail}
 use Rattle.cartridge_laws.proofs.Blocks.{says_always}
 use Rattle.cartridge_laws.proofs.Cells.{unreadable_at}
 use Rattle.cartridge_laws.proofs.Hiding.{nothing_is_hidden}
