@@ -8,9 +8,8 @@ use Rattle.cartridge_laws.proofs.Cells.{unreadable_at}
 use Rattle.cartridge_laws.proofs.Hiding.{nothing_is_hidden}
 use Rattle.cartridge_laws.proofs.Sayings.{says_is_function}
 use Rattle.cartridge_laws.proofs.Sets.{IsOneOf, few_outside, unreadable_is_named, views_hidden}
-use Rattle.cartridge_laws.specs.Terms.{hidden, sets_by_one, sets_by_two, last_used, unreadable_places, HasNoBlocks}
-use Rattle.cartridge_spec.specs.Says.{unreadable_count, Data, HasBlock, HasNoBlock, HasFirstBlock, Saying, LostSectors, Mismatch, SaysBy, Says}
-use Rattle.cartridge_spec.specs.TableSets.{set_of, with_used, sets_by, table_sets}
+use Rattle.cartridge_laws.specs.Terms.{hidden, sets_by_one, sets_by_two, last_used, unreadable_places, HasNoBlocks, table_sets}
+use Rattle.cartridge_spec.specs.Says.{unreadable_count, Data, HasBlock, HasNoBlock, HasFirstBlock, Saying, LostSectors, Mismatch, SaysBy, Says, set_of, with_used, sets_by}
 use Rattle.qic_base.specs.Cartridge.{IsView}
 use Rattle.qic_base.specs.declared.tape.SectorView.{SectorView}
 

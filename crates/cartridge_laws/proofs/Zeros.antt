@@ -6,9 +6,8 @@ use Rattle.std.proofs.lemmas.List.Elements.{All-replicate}
 use Rattle.std.proofs.lemmas.Option.{slice_get-get_or, slice_get_within}
 use Rattle.cartridge_laws.proofs.Sayings.{says_is_function, written_is_said}
 use Rattle.cartridge_laws.specs.SayingLaws.{ZeroIsWritten, ZeroSaysZero, ZeroHasNoSignature}
-use Rattle.cartridge_spec.specs.Code.{value_at, IsCodeword, column, IsCodeBlock, parity_sectors}
+use Rattle.cartridge_spec.specs.Code.{value_at, IsCodeword, column, IsCodeBlock, parity_sectors, power}
 use Rattle.qic_base.specs.Cartridge.{IsSector, zero_sector}
-use Rattle.cartridge_spec.specs.Field.{power}
 use Rattle.cartridge_spec.specs.Header.{has_signature}
 use Rattle.cartridge_spec.specs.Says.{Data, Written}
 use Rattle.gf256_qic.proofs.Parities.{parity_block_only}

@@ -1,22 +1,21 @@
 -- Terms of proofs and of contracts over cartridges: parts of what the specs say, by names of their own.
-use Rattle.std.specs.Prelude.{ℕ, List, ◌∷◌, [], ◌+◌, ◌-◌, ◌*◌, ◌^◌, ◌/◌, ◌%◌, ◌≤◌, ◌<◌, ◌==◌, ◌⊎◌, ◌++◌, ◌&&◌, Bool, false, not, Option, None, Some, slice_index, slice_range, slice_set, map, take, length, All, nat_lt, nat_le, if◌then◌else◌}
+use Rattle.std.specs.Prelude.{ℕ, List, ◌∷◌, [], ◌+◌, ◌-◌, ◌*◌, ◌^◌, ◌/◌, ◌%◌, ◌≤◌, ◌<◌, ◌==◌, ◌⊎◌, ◌++◌, ◌&&◌, Bool, false, not, Option, None, Some, slice_index, slice_range, slice_set, map, filter, replicate, sum_by, take, length, All, nat_lt, nat_le, if◌then◌else◌}
 use Rattle.std.specs.List.{range_with_len}
 use Rattle.cartridge_spec.specs.Appending.{end_behind, taken_by, free_segments}
 use Rattle.cartridge_spec.specs.Code.{IsCodeBlock}
 use Rattle.cartridge_spec.specs.Header.{Field, Text, HeaderFault, value_fault, word_in}
 use Rattle.cartridge_spec.specs.HeaderAndTable.{copy_cells, table_cells, CopyReads, CopyDoesNotRead}
-use Rattle.cartridge_spec.specs.Says.{Agrees, HasNoBlock, Written, Zero, cells_of, hidden_from, unreadable_count}
+use Rattle.cartridge_spec.specs.Says.{Agrees, HasNoBlock, Written, Zero, cells_of, hidden_from, unreadable_count, last_used_below, set_of, sets_by, some_used_below, unreadable_from, with_used}
 use Rattle.cartridge_spec.specs.Settling.{holds, holds_other}
-use Rattle.cartridge_spec.specs.Shape.{sector_at, mask_at, is_unreadable}
+use Rattle.cartridge_spec.specs.Shape.{sector_at, mask_at, data_count, is_unreadable}
 use Rattle.cartridge_spec.specs.Table.{Entry, slot, entry_in}
-use Rattle.cartridge_spec.specs.TableSets.{last_used_below, set_of, some_used_below, unreadable_from, with_used}
 use Rattle.cartridge_spec.specs.Volumes.{Part, Plain, entries_of}
 use Rattle.qic_base.specs.Cartridge.{Cartridge, view_at}
 use Rattle.qic_base.specs.Field.{number_at, overwritten}
 use Rattle.qic_base.specs.LostSet.{IsLost, lost_places}
 use Rattle.qic_base.specs.Step.{Step, FormatSegment}
 use Rattle.qic_base.specs.declared.foreign.ForeignField.{ForeignField}
-use Rattle.qic_base.specs.declared.foreign.ForeignField.TheVariants.{Map}
+use Rattle.qic_base.specs.declared.foreign.ForeignField.TheVariants.{Map, Slot, Range}
 use Rattle.qic_base.specs.declared.tape.SectorView.{SectorView}
 use Rattle.cartridge_spec.specs.Table as tables
 
@@ -111,6 +110,16 @@ segment_formats count = map (λ s. FormatSegment s) (range_with_len 0 count)
 
 -- ---- the volume table
 
+-- a slot that holds no volume behind the others, or one of a bad range, and its number
+abbrev pub TableFault : Type 0
+TableFault = HeaderFault
+
+abbrev pub ForeignSlot : ℕ → TableFault
+ForeignSlot slot = record { field = Slot; value = slot }
+
+abbrev pub BadRange : ℕ → TableFault
+BadRange slot = record { field = Range; value = slot }
+
 -- the sector of the table's data that has slot i
 abbrev pub slot_sector : ℕ → ℕ
 slot_sector i = i / 8
@@ -136,6 +145,10 @@ has_used_slot bytes = some_used_below bytes 8
 abbrev pub last_used : List SectorView → Option ℕ
 last_used cells = last_used_below cells 29
 
+-- the sets that are tried, in their order: the last sector with a used slot is one of data
+abbrev pub table_sets : List SectorView → List ℕ
+table_sets cells = 0 ∷ sets_by (last_used_below cells 29) (unreadable_from 0 cells)
+
 abbrev pub unreadable_places : List SectorView → List ℕ
 unreadable_places cells = unreadable_from 0 cells
 
@@ -153,6 +166,10 @@ sets_by_two used m other =
     if other == 29 then with_used used (m ∷ 29 ∷ [])
     else if other == 30 then set_of (m ∷ 30 ∷ 31 ∷ []) ∷ []
     else []
+
+-- the places 0 to 31 where a test is true, ascending
+abbrev pub places_where : (ℕ → Bool) → List ℕ
+places_where test = filter test (range_with_len 0 32)
 
 -- a sector of data of segment 2 can be read and differs from its part of a block: it was left out of account
 abbrev pub is_left_out : Cartridge → (block : List (List ℕ)) (sector : ℕ) → Bool
@@ -177,6 +194,14 @@ abbrev pub table_places : (changed : ℕ) → List ℕ
 table_places changed = changed ∷ 29 ∷ 30 ∷ 31 ∷ []
 
 -- ---- volumes
+
+-- bytes of one sector, with zero bytes behind them
+abbrev pub filled_up : List ℕ → List ℕ
+filled_up bytes = bytes ++ replicate (1024 - length bytes) 0
+
+-- the sectors of data that these segments carry
+abbrev pub sectors_in : (words segments : List ℕ) → ℕ
+sectors_in words segments = sum_by (λ s. data_count (mask_at words s)) segments
 
 -- the segment was written with its part
 abbrev pub PartStands : Cartridge → (words : List ℕ) → Part → Type 0

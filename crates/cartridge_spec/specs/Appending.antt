@@ -1,10 +1,10 @@
 -- Volumes more: the room for one, its segments, its bytes in sectors, its entry, and the writes (this project's profile).
-use Rattle.std.specs.Prelude.{ℕ, List, [], ◌∷◌, ◌+◌, length, if◌then◌else◌, nat_lt, ◌-◌, nat_le, ◌&&◌, Bool, ◌++◌, replicate, zero, suc, take, drop, slice_index}
+use Rattle.std.specs.Prelude.{ℕ, List, [], ◌∷◌, ◌+◌, length, if◌then◌else◌, nat_lt, ◌-◌, nat_le, ◌&&◌, Bool, ◌++◌, replicate, zero, suc, take, drop, slice_index, sum_by}
 use Rattle.cartridge_spec.specs.Says.{with_parity}
 use Rattle.cartridge_spec.specs.Settling.{block_writes, writes_of}
-use Rattle.cartridge_spec.specs.Shape.{mask_at, capacity, usable_places}
+use Rattle.cartridge_spec.specs.Shape.{mask_at, capacity, data_count, usable_places}
 use Rattle.cartridge_spec.specs.Table.{Entry, table_with}
-use Rattle.cartridge_spec.specs.Volumes.{carrying, capacity_between, Volume, sectors_in, volume_length, Part, Plain, entries_of}
+use Rattle.cartridge_spec.specs.Volumes.{carrying, capacity_between, Volume, volume_length, Part, Plain, entries_of}
 use Rattle.qic_base.specs.Step.{Step}
 
 -- the end of the last of some volumes behind a segment, or that segment where there is none
@@ -28,14 +28,11 @@ taken_by words bytes [] = []
 taken_by words bytes (s ∷ ss) =
     s ∷ (if nat_le bytes (capacity (mask_at words s)) then [] else taken_by words (bytes - capacity (mask_at words s)) ss)
 
--- bytes of one sector, with zero bytes behind them
-abbrev pub filled_up : List ℕ → List ℕ
-filled_up bytes = bytes ++ replicate (1024 - length bytes) 0
-
 -- bytes in so many sectors, one after the other, with zero bytes behind them
 abbrev pub in_sectors : (count : ℕ) → (bytes : List ℕ) → List (List ℕ)
 in_sectors zero bytes = []
-in_sectors (suc count) bytes = filled_up (take 1024 bytes) ∷ in_sectors count (drop 1024 bytes)
+in_sectors (suc count) bytes =
+    (take 1024 bytes ++ replicate (1024 - length (take 1024 bytes)) 0) ∷ in_sectors count (drop 1024 bytes)
 
 -- what a slot says of a volume that was appended: its first and its last segment, its name of 44 bytes, its date word, and
 -- how many bytes it has
@@ -83,7 +80,7 @@ abbrev pub appended_volume : Plain → (name : List ℕ) → (date : ℕ) → (b
 appended_volume plain name date bytes =
     let segments : List ℕ = taken_by plain.words (length bytes) (free_segments plain.words (entries_of plain)) in record {
       entry = new_entry segments name date (length bytes);
-      area = in_sectors (sectors_in plain.words segments) bytes;
+      area = in_sectors (sum_by (λ s. data_count (mask_at plain.words s)) segments) bytes;
     }
 
 -- the plain cartridge with it behind the others, and with its entry in the table

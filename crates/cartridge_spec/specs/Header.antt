@@ -107,7 +107,7 @@ pub record SpellsHeader (h : Header) (words : List ℕ) (area : List (List ℕ))
 abbrev pub has_signature : List (List ℕ) → Bool
 has_signature area = number_in area 0 4 == 0xAA55_AA55
 
--- a test that fails, and the value that stands there
+-- a test that fails, and the value that stands there, or the number of a segment or of a slot
 pub record HeaderFault : Type 0 where
   pub field : ForeignField
   pub value : ℕ

@@ -1,11 +1,9 @@
 -- The header and the volume table of a cartridge: the header copies, the one in force, and the table's data (the places of
 -- header and table are this project's profile).
 use Rattle.std.specs.Prelude.{◌≡◌, ℕ, List, length, All, true, ◌⊎◌, false, None, ◌-◌, ◌*◌}
-use Rattle.cartridge_spec.specs.Header.{has_signature, Header, header_fault, HeaderFault}
+use Rattle.cartridge_spec.specs.Header.{has_signature, Header, header_fault}
 use Rattle.cartridge_spec.specs.Says.{whole_mask, cells_of, Says, Data, TableSays, AsRead, ByCode}
-use Rattle.cartridge_spec.specs.Table.{TableFault, ForeignSlot, BadRange}
 use Rattle.qic_base.specs.Cartridge.{IsSector, Cartridge}
-use Rattle.qic_base.specs.declared.foreign.ForeignField.TheVariants.{Slot, Range}
 use Rattle.qic_base.specs.declared.tape.SectorView.{SectorView}
 use Rattle.cartridge_spec.specs.Header as headers
 
@@ -55,8 +53,3 @@ last_segment c = 28 * c.info.segments_per_track - 1
 -- the table's segment says these data, read as they are or found by the code
 abbrev pub TableIs : Cartridge → List (List ℕ) → Type 0
 TableIs c area = TableSays (table_cells c) (AsRead area) ⊎ TableSays (table_cells c) (ByCode (Data area))
-
--- under which name a slot at fault is refused, and its number
-abbrev pub slot_refusal : TableFault → HeaderFault
-slot_refusal (ForeignSlot slot) = record { field = Slot; value = slot }
-slot_refusal (BadRange slot) = record { field = Range; value = slot }

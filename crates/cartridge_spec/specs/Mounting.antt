@@ -1,11 +1,11 @@
 -- What the mounting of a cartridge gives, and the cartridge as it leaves it (this project's profile).
 use Rattle.std.specs.Prelude.{ℕ, List, ◌≡◌, Some, ◌⊎◌, if◌then◌else◌, take, ◌≤◌, ◌<◌}
 use Rattle.cartridge_spec.specs.Header.{Header, HeaderFault, header_fault}
-use Rattle.cartridge_spec.specs.HeaderAndTable.{IsFormatted, HasHeader, TableIs, last_segment, slot_refusal, IsUnformatted, table_cells}
+use Rattle.cartridge_spec.specs.HeaderAndTable.{IsFormatted, HasHeader, TableIs, last_segment, IsUnformatted, table_cells}
 use Rattle.cartridge_spec.specs.Says.{LostSectors, Mismatch, TableSays, ByCode, whole_mask, with_parity, unreadable_count, Says, Data, ReadsAll}
 use Rattle.cartridge_spec.specs.Settling.{writes_of, changed_by}
 use Rattle.cartridge_spec.specs.Shape.{usable_places, IsLive}
-use Rattle.cartridge_spec.specs.Table.{Entry, TableFault, IsFirstFault, HasNoFault}
+use Rattle.cartridge_spec.specs.Table.{Entry, IsFirstFault, HasNoFault}
 use Rattle.cartridge_spec.specs.Volumes.{Plain, entries_of}
 use Rattle.qic_base.specs.Cartridge.{Cartridge, view_at}
 use Rattle.cartridge_spec.specs.Table as tables
@@ -36,9 +36,7 @@ pub record RefusesTable (c : Cartridge) (fault : HeaderFault) : Type 0 where
   pub formatted : IsSoundlyFormatted c
   pub area : List (List ℕ)
   pub table : TableIs c area
-  pub slot : TableFault
-  pub first : IsFirstFault area (last_segment c) slot
-  pub named : slot_refusal slot ≡ fault
+  pub first : IsFirstFault area (last_segment c) fault
 
 -- the cartridge mounts, and lists these entries
 pub record IsMounted (c : Cartridge) (header : Header) (words : List ℕ) (table : List (List ℕ)) (entries : List Entry) : Type 0 where

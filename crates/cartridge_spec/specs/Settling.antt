@@ -20,10 +20,6 @@ abbrev pub changed_by : List Step → Cartridge → Cartridge
 changed_by [] c = c
 changed_by (s ∷ ss) c = changed_by ss (changed s c)
 
--- the places 0 to 31 where a test is true, ascending
-unfoldable pub places_where : (ℕ → Bool) → List ℕ
-places_where test = filter test (range_with_len 0 32)
-
 -- ---- on a cartridge
 
 -- the sector can be read, and holds these bytes
@@ -48,10 +44,11 @@ block_writes block places = writes_of 2 places (map (sector_at block) places)
 -- of data that are unreadable, and then those of parity that are unreadable or differ, each ascending
 abbrev pub settling_places : Cartridge → (area : List (List ℕ)) → List ℕ
 settling_places c area =
-    places_where (λ i. if nat_lt i 29 then holds_other (view_at c 2 i) (sector_at (with_parity area) i) else false)
-    ++ places_where (λ i.
+    filter (λ i. if nat_lt i 29 then holds_other (view_at c 2 i) (sector_at (with_parity area) i) else false)
+      (range_with_len 0 32)
+    ++ filter (λ i.
         if nat_lt i 29 then is_unreadable (view_at c 2 i)
-        else not (holds (view_at c 2 i) (sector_at (with_parity area) i)))
+        else not (holds (view_at c 2 i) (sector_at (with_parity area) i))) (range_with_len 0 32)
 
 -- the writes that settle the volume table, whose data are these: none on a protected cartridge
 abbrev pub settling_steps : (area : List (List ℕ)) → Cartridge → List Step

@@ -1,7 +1,9 @@
 -- The volume table: its slots and entries, and the first slot at fault (QIC-80-MC, the ftape headers).
 use Rattle.std.specs.Prelude.{ℕ, List, [], ◌∷◌, ◌++◌, codes, replicate, ◌/◌, ◌*◌, ◌%◌, slice_set, take, drop, ◌==◌, Bool, slice_index, slice_range, ◌≡◌, ◌<◌, ◌≤◌, true, length, Some, slice_get, ◌||◌, false, zero, suc, ◌-◌, ◌&&◌, nat_lt, nat_le, not, Option, None, if◌then◌else◌}
+use Rattle.cartridge_spec.specs.Header.{HeaderFault}
 use Rattle.cartridge_spec.specs.Shape.{sector_at}
 use Rattle.qic_base.specs.Field.{little_endian_bytes, overwritten, number_at, little_endian}
+use Rattle.qic_base.specs.declared.foreign.ForeignField.TheVariants.{Slot, Range}
 
 -- what a used slot says of a volume
 pub record Entry : Type 0 where
@@ -68,11 +70,6 @@ pub record Shows (area : List (List ℕ)) (entries : List Entry) : Type 0 where
   pub shown : (i : ℕ) → i < length entries → slice_get entries i ≡ Some (entry_in (slot area i))
   pub free : (i : ℕ) → length entries ≤ i → i < 232 → is_free (slot area i) ≡ true
 
--- the two ways in which a slot is at fault
-pub data TableFault : Type 0 where
-  ForeignSlot : ℕ → TableFault
-  BadRange : ℕ → TableFault
-
 -- some slot below i is free
 unfoldable pub some_free_below : List (List ℕ) → ℕ → Bool
 some_free_below area zero = false
@@ -86,16 +83,16 @@ has_bad_range area last i =
     || nat_lt last (entry_in (slot area i)).end
     || (nat_lt 0 i && nat_le (entry_in (slot area i)).start (entry_in (slot area (i - 1))).end)
 
--- the fault of slot i, on a cartridge whose last segment is this
-unfoldable pub slot_fault : List (List ℕ) → (last i : ℕ) → Option TableFault
+-- the fault of slot i, on a cartridge whose last segment is this: no slot of a volume behind the others, or a bad range
+unfoldable pub slot_fault : List (List ℕ) → (last i : ℕ) → Option HeaderFault
 slot_fault area last i =
     if is_free (slot area i) then None
-    else if not (is_used (slot area i)) || some_free_below area i then Some (ForeignSlot i)
-    else if has_bad_range area last i then Some (BadRange i)
+    else if not (is_used (slot area i)) || some_free_below area i then Some (record { field = Slot; value = i })
+    else if has_bad_range area last i then Some (record { field = Range; value = i })
     else None
 
 -- the first slot at fault
-pub record IsFirstFault (area : List (List ℕ)) (last : ℕ) (fault : TableFault) : Type 0 where
+pub record IsFirstFault (area : List (List ℕ)) (last : ℕ) (fault : HeaderFault) : Type 0 where
   pub place : ℕ
   pub within : place < 232
   pub here : slot_fault area last place ≡ Some fault

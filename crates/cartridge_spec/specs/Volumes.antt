@@ -28,10 +28,6 @@ volume_length words e =
     if e.directory == 0 && nat_le e.size (capacity_between words e.start e.end) then e.size
     else capacity_between words e.start e.end
 
--- the sectors of data that these segments carry
-abbrev pub sectors_in : (words segments : List ℕ) → ℕ
-sectors_in words segments = sum_by (λ s. data_count (mask_at words s)) segments
-
 -- an entry, and the data sectors of its carrying segments, one after the other
 pub record Volume : Type 0 where
   pub entry : Entry
@@ -57,7 +53,7 @@ parts_of words (s ∷ ss) area =
 pub record VolumeStands (c : Cartridge) (words : List ℕ) (volume : Volume) : Type 0 where
   pub parts : All (λ part. Written (cells_of c part.segment (mask_at words part.segment)) part.sectors)
       (parts_of words (carrying_segments words volume.entry) volume.area)
-  pub size : length volume.area ≡ sectors_in words (carrying_segments words volume.entry)
+  pub size : length volume.area ≡ sum_by (λ s. data_count (mask_at words s)) (carrying_segments words volume.entry)
 
 -- ---- the plain cartridge
 

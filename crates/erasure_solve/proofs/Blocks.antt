@@ -9,8 +9,7 @@ use Rattle.std.proofs.lemmas.List.{same_lists, map-set}
 use Rattle.std.proofs.lemmas.List.Elements.{All-get_or, All-from_get_or, All-set}
 use Rattle.std.proofs.lemmas.List.FromFn.{get_or-map-range_with_len}
 use Rattle.std.proofs.lemmas.Option.{slice_get-get_or}
-use Rattle.cartridge_spec.specs.Field.{product, power}
-use Rattle.cartridge_spec.specs.Code.{value_at, column, IsCodeword, IsCodeBlock}
+use Rattle.cartridge_spec.specs.Code.{product, power, value_at, column, IsCodeword, IsCodeBlock}
 use Rattle.qic_base.specs.Cartridge.{IsSector}
 use Rattle.gf256_qic.specs.Code.{AgreesOutside, IsSolvable, lost_below}
 use Rattle.gf256_qic.proofs.Sums.{sum_byte, sum_cancel, equal_from_sum}

@@ -5,8 +5,7 @@ use Rattle.std.proofs.lemmas.List.{length-map, map-append}
 use Rattle.std.proofs.lemmas.List.FromFn.{length-map-range_with_len, get_or-map-range_with_len}
 use Rattle.std.proofs.lemmas.List.Elements.{All-get_or, All-from_get_or, All-append, All-nil, All-cons, All-head, All-tail}
 use Rattle.std.proofs.Math.ListN.{length-append}
-use Rattle.cartridge_spec.specs.Field.{shifted_copies, remainder, product, power, inverse}
-use Rattle.cartridge_spec.specs.Code.{value_at, data_sum, added, lagrange, through, parity, parity_sector, parity_sectors, column, IsCodeword, IsCodeBlock}
+use Rattle.cartridge_spec.specs.Code.{shifted_copies, remainder, product, power, inverse, value_at, data_sum, added, lagrange, through, parity, parity_sector, parity_sectors, column, IsCodeword, IsCodeBlock}
 use Rattle.gf256_qic.specs.Code.{scaled, distance}
 use Rattle.qic_base.specs.Cartridge.{IsSector}
 use Rattle.gf256_qic.proofs.Products.{product_one_right, product_zero_right}

@@ -7,7 +7,7 @@ use Rattle.std.proofs.lemmas.Nat.{xor_block, pow_pos}
 use Rattle.std.proofs.lemmas.Nat.Bits.{bit_at_xor, bit_at-lt}
 use Rattle.std.proofs.lemmas.Bool.{eqb-true, ltb-true}
 use Rattle.gf256_qic.specs.Code.{modulus}
-use Rattle.cartridge_spec.specs.Field.{shifted_copies, remainder, product}
+use Rattle.cartridge_spec.specs.Code.{shifted_copies, remainder, product}
 use Rattle.gf256_qic.proofs.Sums.{swap4, IsAdditive, additive_zero, alike, bytes_from_powers}
 use Rattle.gf256_qic.proofs.Tables.{all_below, all_below_at}
 

@@ -5,8 +5,7 @@ use Rattle.std.proofs.Math.ListN.{length-append, length-set}
 use Rattle.std.proofs.lemmas.Nat.{xor_comm}
 use Rattle.std.proofs.Math.Nat.{suc_inj}
 use Rattle.std.proofs.lemmas.List.Elements.{All-nil, All-cons, All-head, All-tail, All-push}
-use Rattle.cartridge_spec.specs.Field.{product, power}
-use Rattle.cartridge_spec.specs.Code.{value_at, data_sum, added}
+use Rattle.cartridge_spec.specs.Code.{product, power, value_at, data_sum, added}
 use Rattle.gf256_qic.specs.Code.{scaled}
 use Rattle.gf256_qic.proofs.Sums.{swap4, sum_byte, sum_cancel}
 use Rattle.gf256_qic.proofs.Products.{product_comm, product_byte, product_assoc, product_sum_left, product_sum_right, product_zero_left, product_zero_right, product_one_right}

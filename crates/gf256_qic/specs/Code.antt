@@ -1,8 +1,7 @@
 -- The code of QIC-80 over byte columns (QIC-80-MC). A column has a byte of each usable sector of a segment, in
 -- order of index; as a polynomial its first byte has the highest degree, and its last three bytes are parity.
 use Rattle.std.specs.Prelude.{ℕ, ◌+◌, cond, List, ◌∷◌, map, ◌==◌, zero, suc, Bool, ◌<◌, ◌≡◌, false, length, slice_get}
-use Rattle.cartridge_spec.specs.Code.{IsCodeBlock}
-use Rattle.cartridge_spec.specs.Field.{product}
+use Rattle.cartridge_spec.specs.Code.{IsCodeBlock, product}
 
 -- x^8 + x^7 + x^2 + x + 1 (QIC-80-MC)
 abbrev pub modulus : ℕ

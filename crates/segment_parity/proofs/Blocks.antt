@@ -3,8 +3,7 @@ use Rattle.std.proofs.Common.{◌≡◌, ◌≢◌, ℕ, ◌+◌, ◌<◌, ◌�
 use Rattle.std.proofs.lemmas.Bool.{cases_eq, cases_lt}
 use Rattle.std.proofs.lemmas.List.{get_or-set_same, get_or-set_other, length-replicate}
 use Rattle.std.proofs.lemmas.List.Elements.{All-nil, All-cons, All-get_or, All-from_get_or}
-use Rattle.cartridge_spec.specs.Field.{product}
-use Rattle.cartridge_spec.specs.Code.{parity, parity_sectors, column}
+use Rattle.cartridge_spec.specs.Code.{product, parity, parity_sectors, column}
 use Rattle.qic_base.specs.Cartridge.{IsSector}
 use Rattle.gf256_qic.proofs.Values.{AllBytes, first_byte, other_bytes}
 use Rattle.gf256_qic.proofs.Agreement.{same_from_columns}

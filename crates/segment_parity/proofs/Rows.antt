@@ -5,8 +5,7 @@ use Rattle.std.proofs.lemmas.Nat.{xor_comm}
 use Rattle.std.proofs.lemmas.List.Elements.{All-get_or, All-from_get_or, All-push}
 use Rattle.std.proofs.lemmas.List.{same_lists, length-replicate}
 use Rattle.std.proofs.Math.ListN.{length-append}
-use Rattle.cartridge_spec.specs.Field.{shifted_copies, remainder, product, power, inverse}
-use Rattle.cartridge_spec.specs.Code.{value_at, added, lagrange, through, parity, parity_sector, parity_sectors, data_sum, column, IsCodeBlock}
+use Rattle.cartridge_spec.specs.Code.{shifted_copies, remainder, product, power, inverse, value_at, added, lagrange, through, parity, parity_sector, parity_sectors, data_sum, column, IsCodeBlock}
 use Rattle.gf256_qic.specs.Code.{scaled, distance}
 use Rattle.qic_base.specs.Cartridge.{IsSector}
 use Rattle.gf256_qic.proofs.Sums.{sum_byte}

@@ -4,7 +4,7 @@ use Rattle.std.proofs.lemmas.Bool.{cases_eq}
 use Rattle.std.proofs.lemmas.List.{get_or-set_same, get_or-set_other}
 use Rattle.std.proofs.Math.ListN.{length-set}
 use Rattle.std.proofs.lemmas.List.Elements.{All-set, All-get_or}
-use Rattle.cartridge_spec.specs.Field.{product}
+use Rattle.cartridge_spec.specs.Code.{product}
 use Rattle.qic_base.specs.Cartridge.{IsSector}
 use Rattle.gf256_qic.proofs.Sums.{sum_byte}
 use Rattle.segment_parity.specs.Register.{at, feedback, Shifted}

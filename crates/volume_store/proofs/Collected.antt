@@ -14,7 +14,7 @@ use Rattle.cartridge_spec.specs.Code.{IsCodeBlock}
 use Rattle.cartridge_laws.specs.Says.{LosesData}
 use Rattle.cartridge_laws.specs.Terms.{hidden, last_used, sets_by_one}
 use Rattle.cartridge_spec.specs.Shape.{usable_count}
-use Rattle.cartridge_spec.specs.TableSets.{set_of, sets_by, with_used}
+use Rattle.cartridge_spec.specs.Says.{set_of, sets_by, with_used}
 use Rattle.cartridge_laws.proofs.Segments.{count_of_whole}
 use Rattle.segment_io.specs.Gathered.{Gathered}
 use Rattle.segment_io.specs.Reading.{Solves, HasSolved}

@@ -7,10 +7,9 @@ use Rattle.qic_base.specs.LostSet.{IsLost, lost_places}
 use Rattle.qic_base.specs.declared.tape.SectorView.{SectorView}
 use Rattle.qic_base.specs.declared.tape.SectorView.TheVariants.{Holds}
 use Rattle.cartridge_laws.specs.Segment.{IsUnreadable}
-use Rattle.cartridge_spec.specs.Says.{Mismatch, ByCode, TableSays, HasBlock, HasNoBlock, HasFirstBlock, Agrees, unreadable_count}
-use Rattle.cartridge_laws.specs.Terms.{HasNoBlocks, hidden, unreadable_places, last_used}
+use Rattle.cartridge_spec.specs.Says.{Mismatch, ByCode, TableSays, HasBlock, HasNoBlock, HasFirstBlock, Agrees, unreadable_count, set_of, sets_by}
+use Rattle.cartridge_laws.specs.Terms.{HasNoBlocks, hidden, unreadable_places, last_used, table_sets}
 use Rattle.cartridge_laws.specs.Says.{LosesData}
-use Rattle.cartridge_spec.specs.TableSets.{set_of, sets_by, table_sets}
 use Rattle.cartridge_laws.proofs.Hiding.{nothing_is_hidden}
 use Rattle.cartridge_laws.proofs.Readings.{AreSmall, small_sets}
 use Rattle.cartridge_laws.proofs.Sets.{names, IsOneOf, length-hidden, named_is_one, one_is_named, unreadable_is_named}

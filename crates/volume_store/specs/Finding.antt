@@ -10,9 +10,9 @@ use Rattle.cartridge_spec.specs.Header.{HeaderFault, has_signature, header_fault
 use Rattle.cartridge_laws.specs.Terms.{fault_as}
 use Rattle.cartridge_spec.specs.Says.{TableSays}
 use Rattle.cartridge_spec.specs.Says as says
-use Rattle.cartridge_spec.specs.Table.{Entry, TableFault, HasNoFault, IsFirstFault}
+use Rattle.cartridge_spec.specs.Table.{Entry, HasNoFault, IsFirstFault}
 use Rattle.cartridge_spec.specs.Table as tables
-use Rattle.cartridge_spec.specs.HeaderAndTable.{table_cells, TableIs, slot_refusal, CopyReads, CopyDoesNotRead, IsFormatted, IsUnformatted}
+use Rattle.cartridge_spec.specs.HeaderAndTable.{table_cells, TableIs, CopyReads, CopyDoesNotRead, IsFormatted, IsUnformatted}
 use Rattle.cartridge_spec.specs.Mounting.{RefusesHeader}
 use Rattle.header_segments.specs.declared.header.Header.{Header}
 use Rattle.header_segments.specs.Header.{header_of}
@@ -154,9 +154,7 @@ pub record ShowsVolumes (area : List (List ℕ)) (last : ℕ) (entries : List En
 
 -- a slot is at fault
 pub record HasBadSlot (area : List (List ℕ)) (last : ℕ) (fault : HeaderFault) : Type 0 where
-  pub slot : TableFault
-  pub first : IsFirstFault area last slot
-  pub is_named : slot_refusal slot ≡ fault
+  pub first : IsFirstFault area last fault
 
 -- how the decoding of the table's data ended
 abbrev pub DecodesTable : (area : List (List ℕ)) (last : ℕ) (entries : List Entry) → Result (Unit {0}) StoreFault → Type 0

@@ -10,7 +10,7 @@ use Rattle.std.proofs.lemmas.Nat.Bits.{bit_at-zero, bit_at-lt, bit_at_or, bit_at
 use Rattle.qic_base.specs.LostSet.{IsLost, lost_places}
 use Rattle.qic_base.proofs.LostSetLaws.{lost_places-lost, lost_places-kept}
 use Rattle.cartridge_laws.specs.Says.{LosesData}
-use Rattle.cartridge_spec.specs.TableSets.{set_of, with_used, sets_by}
+use Rattle.cartridge_spec.specs.Says.{set_of, with_used, sets_by}
 use Rattle.cartridge_laws.specs.Terms.{sets_by_one, sets_by_two}
 use Rattle.volume_table.specs.Trials.{with_place, with_last_used, tried}
 

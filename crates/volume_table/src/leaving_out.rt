@@ -7,7 +7,7 @@ ghost use Rattle.qic_base.specs.declared.tape.SectorView.TheVariants.{Holds, Los
 ghost use Rattle.cartridge_laws.specs.Terms.{hidden, has_used_slot, last_used};
 ghost use Rattle.cartridge_laws.specs.Says.{LosesData};
 ghost use Rattle.cartridge_spec.specs.Shape.{sector_at};
-ghost use Rattle.cartridge_spec.specs.TableSets.{shows_used_slot};
+ghost use Rattle.cartridge_spec.specs.Says.{shows_used_slot};
 ghost use Rattle.volume_table.specs.Trials.{AreTrials, IsLastUsed, ShowsUsed, tried, with_last_used, with_place};
 
 use crate::reading::DATA_SECTORS;

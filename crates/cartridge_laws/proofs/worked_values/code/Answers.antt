@@ -1,6 +1,5 @@
 use Rattle.std.proofs.Common.{refl}
-use Rattle.cartridge_spec.specs.Code.{added, data_sum, lagrange, parity, through, value_at}
-use Rattle.cartridge_spec.specs.Field.{inverse, power, product, remainder, shifted_copies}
+use Rattle.cartridge_spec.specs.Code.{added, data_sum, lagrange, parity, through, value_at, inverse, power, product, remainder, shifted_copies}
 use Rattle.cartridge_laws.proofs.worked_values.code.Goals as goal
 
 pub returns-clause-square : goal.returns-clause-square
