@@ -4,7 +4,8 @@ use Rattle.std.specs.Prelude.{ℕ, ◌≡◌, List, [], ◌∷◌, ◌++◌, rep
 use Rattle.std.specs.List.{range_with_len}
 use Rattle.cartridge_spec.specs.Appending.{free_segments, room, taken_by, new_entry}
 use Rattle.cartridge_laws.specs.Terms.{table_places, fault_as, mask_of, slot_sector, BadRange, ForeignSlot, table_sets}
-use Rattle.cartridge_spec.specs.Code.{parity, value_at, product, power, inverse}
+use Rattle.cartridge_spec.specs.Code.{parity, value_at, product, power}
+use Rattle.gf256_qic.specs.Code.{inverse}
 use Rattle.cartridge_spec.specs.Header.{Holds, profile_fields, header_fields, header_fault, number}
 use Rattle.cartridge_spec.specs.Formatting.{fresh_header, copy_writes, clearing_steps}
 use Rattle.cartridge_spec.specs.Says.{whole_mask}

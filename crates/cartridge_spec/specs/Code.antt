@@ -2,7 +2,7 @@
 -- degree below 8, bit i its coefficient of x^i; the sum of two bytes is their exclusive or, `bit_xor`. A column has a byte of
 -- each usable sector of a segment, in order of index; as a polynomial its first byte has the highest degree, and its last
 -- three bytes are parity.
-use Rattle.std.specs.Prelude.{ℕ, zero, suc, ◌*◌, ◌^◌, List, [], ◌∷◌, length, bit_xor, ◌<◌, ◌≤◌, ◌≡◌, All, map, slice_index, ◌+◌}
+use Rattle.std.specs.Prelude.{ℕ, zero, suc, ◌*◌, ◌^◌, List, [], ◌∷◌, length, bit_xor, ◌<◌, ◌≤◌, ◌≡◌, All, map, slice_index, ◌++◌}
 use Rattle.std.specs.Int.{bit_at}
 use Rattle.std.specs.List.{range_with_len}
 use Rattle.qic_base.specs.Cartridge.{IsSector}
@@ -25,10 +25,6 @@ product a b = remainder 7 (shifted_copies 8 a b)
 unfoldable pub power : ℕ → ℕ → ℕ
 power a zero = 1
 power a (suc n) = product a (power a n)
-
--- the byte whose product with a, which is not 0, is 1: a to the power 254, since to 255 it is 1
-unfoldable pub inverse : ℕ → ℕ
-inverse a = power a 254
 
 -- ---- the code
 
@@ -55,20 +51,16 @@ pub record IsCodeBlock (ss : List (List ℕ)) : Type 0 where
   pub sectors : All IsSector ss
   pub columns : (j : ℕ) → j < 1024 → IsCodeword (column j ss)
 
--- the sum S(p) of d_i * p^(n-1-i) over the data bytes d_0 to d_(n-4) of a column of n bytes
-unfoldable pub data_sum : ℕ → List ℕ → ℕ
-data_sum p [] = 0
-data_sum p (d ∷ ds) = bit_xor (product d (power p (length ds + 3))) (data_sum p ds)
-
 -- the sum of two polynomials with equally many coefficients, the highest degree first
 unfoldable pub added : List ℕ → List ℕ → List ℕ
 added (x ∷ xs) (y ∷ ys) = bit_xor x y ∷ added xs ys
 added xs ys = []
 
--- (x + q) / (p + q) times (x + r) / (p + r): the polynomial that is 1 at p, and 0 at q and at r
+-- (x + q) / (p + q) times (x + r) / (p + r): the polynomial that is 1 at p, and 0 at q and at r; 1 / a is a to the power 254,
+-- since a to the power 255 is 1
 unfoldable pub lagrange : ℕ → ℕ → ℕ → List ℕ
 lagrange p q r =
-    map (product (product (inverse (bit_xor p q)) (inverse (bit_xor p r)))) (1 ∷ bit_xor q r ∷ product q r ∷ [])
+    map (product (product (power (bit_xor p q) 254) (power (bit_xor p r) 254))) (1 ∷ bit_xor q r ∷ product q r ∷ [])
 
 -- the polynomial of degree below 3 with the values a at r^-1, b at 1 and c at r, in Lagrange's form
 unfoldable pub through : ℕ → ℕ → ℕ → List ℕ
@@ -76,10 +68,12 @@ through a b c =
     added (map (product a) (lagrange 0xC3 0x01 0x02))
     (added (map (product b) (lagrange 0x01 0xC3 0x02)) (map (product c) (lagrange 0x02 0xC3 0x01)))
 
--- the three parity bytes of a column's data: the coefficients of that polynomial for the data's sums
--- at the three roots (QIC-80-MC)
+-- the three parity bytes of a column's data: the coefficients of that polynomial for the values of the data with three zero
+-- bytes behind them (QIC-80-MC)
 unfoldable pub parity : List ℕ → List ℕ
-parity ds = through (data_sum 0xC3 ds) (data_sum 0x01 ds) (data_sum 0x02 ds)
+parity ds =
+    let longer : List ℕ = ds ++ 0 ∷ 0 ∷ 0 ∷ [] in
+    through (value_at 0xC3 longer) (value_at 0x01 longer) (value_at 0x02 longer)
 
 -- the parity sector k of three, 0 to 2: byte j is the parity byte k of column j
 unfoldable pub parity_sector : List (List ℕ) → ℕ → List ℕ

@@ -5,11 +5,11 @@ use Rattle.std.proofs.lemmas.List.{length-map, map-append}
 use Rattle.std.proofs.lemmas.List.FromFn.{length-map-range_with_len, get_or-map-range_with_len}
 use Rattle.std.proofs.lemmas.List.Elements.{All-get_or, All-from_get_or, All-append, All-nil, All-cons, All-head, All-tail}
 use Rattle.std.proofs.Math.ListN.{length-append}
-use Rattle.cartridge_spec.specs.Code.{shifted_copies, remainder, product, power, inverse, value_at, data_sum, added, lagrange, through, parity, parity_sector, parity_sectors, column, IsCodeword, IsCodeBlock}
-use Rattle.gf256_qic.specs.Code.{scaled, distance}
+use Rattle.cartridge_spec.specs.Code.{shifted_copies, remainder, product, power, value_at, added, lagrange, through, parity, parity_sector, parity_sectors, column, IsCodeword, IsCodeBlock}
+use Rattle.gf256_qic.specs.Code.{inverse, data_sum, scaled, distance}
 use Rattle.qic_base.specs.Cartridge.{IsSector}
 use Rattle.gf256_qic.proofs.Products.{product_one_right, product_zero_right}
-use Rattle.gf256_qic.proofs.Values.{AllBytes, no_bytes, more_bytes, value_at-append, value_at-added, value_at-scaled, length-added, bytes_of_added, bytes_of_scaled, data_sum-value, data_sum-byte}
+use Rattle.gf256_qic.proofs.Values.{AllBytes, no_bytes, more_bytes, value_at-append, value_at-added, value_at-scaled, length-added, bytes_of_added, bytes_of_scaled, value_at-zeros, data_sum-value, data_sum-byte}
 use Rattle.gf256_qic.proofs.Agreement.{distance-le, near_columns, length-column, same_from_columns}
 use Rattle.gf256_qic.proofs.Distance.{AtRoots}
 use Rattle.gf256_qic.proofs.Sums.{equal_from_sum}
@@ -27,7 +27,7 @@ three_bytes a b c ha hb hc =
     more_bytes a (b ∷ c ∷ []) ha (more_bytes b (c ∷ []) hb (more_bytes c [] hc no_bytes))
 
 basis_inverse : Basis 0xC3 1 2
-unfolding lagrange value_at product shifted_copies remainder power inverse
+unfolding lagrange value_at product shifted_copies remainder power
 basis_inverse = record {
   size = refl;
   bytes = three_bytes _ _ _ (lit< tt) (lit< tt) (lit< tt);
@@ -37,7 +37,7 @@ basis_inverse = record {
 }
 
 basis_one : Basis 1 0xC3 2
-unfolding lagrange value_at product shifted_copies remainder power inverse
+unfolding lagrange value_at product shifted_copies remainder power
 basis_one = record {
   size = refl;
   bytes = three_bytes _ _ _ (lit< tt) (lit< tt) (lit< tt);
@@ -47,7 +47,7 @@ basis_one = record {
 }
 
 basis_generator : Basis 2 0xC3 1
-unfolding lagrange value_at product shifted_copies remainder power inverse
+unfolding lagrange value_at product shifted_copies remainder power
 basis_generator = record {
   size = refl;
   bytes = three_bytes _ _ _ (lit< tt) (lit< tt) (lit< tt);
@@ -58,7 +58,11 @@ basis_generator = record {
 
 pub parity_through : (ds : List ℕ) → parity ds ≡ through (data_sum 0xC3 ds) (data_sum 1 ds) (data_sum 2 ds)
 unfolding parity
-parity_through ds = refl
+parity_through ds =
+    let longer : List ℕ = ds ++ 0 ∷ 0 ∷ 0 ∷ [] in
+    ap (λ v. through v (value_at 1 longer) (value_at 2 longer)) (value_at-zeros 0xC3 ds)
+    ∙ ap (λ v. through (data_sum 0xC3 ds) v (value_at 2 longer)) (value_at-zeros 1 ds)
+    ∙ ap (through (data_sum 0xC3 ds) (data_sum 1 ds)) (value_at-zeros 2 ds)
 
 length-scaled : (a : ℕ) (xs : List ℕ) → length (scaled a xs) ≡ length xs
 length-scaled a xs = length-map xs _
