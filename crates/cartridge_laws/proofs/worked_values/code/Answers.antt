@@ -1,6 +1,6 @@
 use Rattle.std.proofs.Common.{refl}
 use Rattle.cartridge_spec.specs.Code.{added, lagrange, parity, through, value_at, power, product, remainder, shifted_copies}
-use Rattle.gf256_qic.specs.Code.{data_sum, inverse}
+use Rattle.gf256_qic.specs.Code.{inverse}
 use Rattle.cartridge_laws.proofs.worked_values.code.Goals as goal
 
 pub returns-clause-square : goal.returns-clause-square
