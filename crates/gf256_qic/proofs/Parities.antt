@@ -6,7 +6,7 @@ use Rattle.std.proofs.lemmas.List.FromFn.{length-map-range_with_len, get_or-map-
 use Rattle.std.proofs.lemmas.List.Elements.{All-get_or, All-from_get_or, All-append, All-nil, All-cons, All-head, All-tail}
 use Rattle.std.proofs.Math.ListN.{length-append}
 use Rattle.cartridge_spec.specs.Code.{shifted_copies, remainder, product, power, value_at, added, lagrange, through, parity, parity_sector, parity_sectors, column, IsCodeword, IsCodeBlock}
-use Rattle.gf256_qic.specs.Code.{inverse, data_sum, scaled, distance}
+use Rattle.gf256_qic.specs.Code.{data_sum, scaled, distance}
 use Rattle.qic_base.specs.Cartridge.{IsSector}
 use Rattle.gf256_qic.proofs.Products.{product_one_right, product_zero_right}
 use Rattle.gf256_qic.proofs.Values.{AllBytes, no_bytes, more_bytes, value_at-append, value_at-added, value_at-scaled, length-added, bytes_of_added, bytes_of_scaled, value_at-zeros, data_sum-value, data_sum-byte}

@@ -6,7 +6,7 @@ use Rattle.std.proofs.lemmas.List.Elements.{All-get_or, All-from_get_or, All-pus
 use Rattle.std.proofs.lemmas.List.{same_lists, length-replicate}
 use Rattle.std.proofs.Math.ListN.{length-append}
 use Rattle.cartridge_spec.specs.Code.{shifted_copies, remainder, product, power, value_at, added, lagrange, through, parity, parity_sector, parity_sectors, column, IsCodeBlock}
-use Rattle.gf256_qic.specs.Code.{inverse, data_sum, scaled, distance}
+use Rattle.gf256_qic.specs.Code.{data_sum, scaled, distance}
 use Rattle.qic_base.specs.Cartridge.{IsSector}
 use Rattle.gf256_qic.proofs.Sums.{sum_byte}
 use Rattle.gf256_qic.proofs.Products.{product_byte, product_comm, product_assoc, product_sum_left, product_sum_right, product_zero_left, product_one_right}
