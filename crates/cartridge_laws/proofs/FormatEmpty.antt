@@ -63,8 +63,8 @@ empty_shows = record {
 empty_is_plain : (c : Cartridge) (label : List ℕ) (date : ℕ) (words : List ℕ) (area : List (List ℕ)) → IsFreshFor c label date words area →
     IsPlain (fresh_plain c label date words area)
 empty_is_plain c label date words area for = record {
-  header_area = for.fresh.fresh.size;
-  shown = for.fresh.fresh.spells.shows;
+  header_area = for.fresh.size;
+  shown = for.fresh.spells.shows;
   table_area = record {
     size = length-replicate 29 zero_sector;
     sectors = All-replicate IsSector 29 zero_sector zero_sector-is_sector;

@@ -3,8 +3,9 @@ use Rattle.std.specs.Prelude.{ℕ, List, ◌∷◌, [], ◌+◌, ◌-◌, ◌*�
 use Rattle.std.specs.List.{range_with_len}
 use Rattle.cartridge_spec.specs.Appending.{end_behind, taken_by, free_segments}
 use Rattle.cartridge_spec.specs.Code.{IsCodeBlock}
-use Rattle.cartridge_spec.specs.Header.{Field, Text, HeaderFault, value_fault, word_in}
-use Rattle.cartridge_spec.specs.HeaderAndTable.{copy_cells, table_cells, CopyReads, CopyDoesNotRead}
+use Rattle.cartridge_spec.specs.Formatting.{fresh_header}
+use Rattle.cartridge_spec.specs.Header.{Field, Text, HeaderFault, SpellsHeader, value_fault, word_in}
+use Rattle.cartridge_spec.specs.HeaderAndTable.{IsArea, copy_cells, table_cells, CopyReads, CopyDoesNotRead}
 use Rattle.cartridge_spec.specs.Says.{Agrees, HasNoBlock, Written, Zero, cells_of, hidden_from, unreadable_count, last_used_below, set_of, sets_by, some_used_below, unreadable_from, with_used}
 use Rattle.cartridge_spec.specs.Settling.{holds, holds_other}
 use Rattle.cartridge_spec.specs.Shape.{sector_at, mask_at, data_count, is_unreadable}
@@ -107,6 +108,11 @@ IsMarked words segment sector = IsLost (slice_index words segment) sector
 -- the formats of the first segments, ascending
 abbrev pub segment_formats : (count : ℕ) → List Step
 segment_formats count = map (λ s. FormatSegment s) (range_with_len 0 count)
+
+-- data of a fresh header, with the words of this map
+pub record IsFreshArea (n : ℕ) (label : List ℕ) (date : ℕ) (words : List ℕ) (area : List (List ℕ)) : Type 0 where
+  pub size : IsArea area
+  pub spells : SpellsHeader (fresh_header n label date) words area
 
 -- ---- the volume table
 

@@ -2,7 +2,7 @@
 -- degree below 8, bit i its coefficient of x^i; the sum of two bytes is their exclusive or, `bit_xor`. A column has a byte of
 -- each usable sector of a segment, in order of index; as a polynomial its first byte has the highest degree, and its last
 -- three bytes are parity.
-use Rattle.std.specs.Prelude.{ℕ, zero, suc, ◌*◌, ◌^◌, List, [], ◌∷◌, length, bit_xor, ◌<◌, ◌≤◌, ◌≡◌, All, map, slice_index, ◌++◌}
+use Rattle.std.specs.Prelude.{ℕ, zero, suc, ◌*◌, ◌^◌, List, [], ◌∷◌, length, bit_xor, ◌<◌, ◌≤◌, ◌≡◌, All, map, slice_index, ◌+◌, ◌++◌}
 use Rattle.std.specs.Int.{bit_at}
 use Rattle.std.specs.List.{range_with_len}
 use Rattle.qic_base.specs.Cartridge.{IsSector}

@@ -61,14 +61,10 @@ fresh_header n label date = record {
   label_date = date;
 }
 
--- header data for it, with the words of this map
-pub record IsFreshArea (n : ℕ) (label : List ℕ) (date : ℕ) (words : List ℕ) (area : List (List ℕ)) : Type 0 where
-  pub size : IsArea area
-  pub spells : SpellsHeader (fresh_header n label date) words area
-
--- fresh header data whose map marks the cartridge's defects
+-- header data for it, whose map marks the cartridge's defects
 pub record IsFreshWith (c : Cartridge) (label : List ℕ) (date : ℕ) (words : List ℕ) (area : List (List ℕ)) : Type 0 where
-  pub fresh : IsFreshArea c.info.segments_per_track label date words area
+  pub size : IsArea area
+  pub spells : SpellsHeader (fresh_header c.info.segments_per_track label date) words area
   pub marks : MarksDefects c words
 
 -- the segments of the header copies and of the volume table have none

@@ -9,10 +9,9 @@ use Rattle.qic_base.specs.Step.{Step as TapeStep}
 use Rattle.qic_base.specs.Tape as tapes
 use Rattle.qic_base.proofs.Steps.{Done-Done, Done-Broke}
 use Rattle.cartridge_spec.specs.Shape.{marked_sectors}
-use Rattle.cartridge_spec.specs.Formatting.{MarksDefects}
-use Rattle.cartridge_spec.specs.Formatting.{clearing_steps, copy_writes, format_steps, IsFirstDefectInFront, HasNoDefectInFront}
+use Rattle.cartridge_spec.specs.Formatting.{MarksDefects, clearing_steps, copy_writes, format_steps, IsFirstDefectInFront, HasNoDefectInFront, IsFreshWith}
 use Rattle.cartridge_spec.specs.Says.{with_parity}
-use Rattle.cartridge_spec.specs.Formatting.{IsFreshArea, IsFreshWith}
+use Rattle.cartridge_laws.specs.Terms.{IsFreshArea}
 use Rattle.cartridge_laws.proofs.FreshFront.{first_defect_is_none}
 use Rattle.cartridge_laws.proofs.FreshMarks.{fresh_area_is_one}
 use Rattle.drive_states.specs.Unit.{UnitView}
@@ -64,7 +63,9 @@ AreMarks words c = MarksDefects c words × HasNoDefectInFront c
 fresh_with : (label : List ℕ) (date : ℕ) (info : TapeInfo) (words : List ℕ) (area : List (List ℕ)) (c : Cartridge) → info ≡ c.info → IsFreshArea info.segments_per_track label date words area →
     AreMarks words c → IsFreshWith c label date words area
 fresh_with label date info words area c same fresh marks =
-    record { fresh = subst (λ (i : TapeInfo). IsFreshArea i.segments_per_track label date words area) same fresh; marks = marks.0 }
+    let here : IsFreshArea c.info.segments_per_track label date words area =
+    subst (λ (i : TapeInfo). IsFreshArea i.segments_per_track label date words area) same fresh in
+    record { size = here.size; spells = here.spells; marks = marks.0 }
 
 formatted_is : (label : List ℕ) (date : ℕ) (info : TapeInfo) (words : List ℕ) (area : List (List ℕ)) (held : Option Cartridge) → info.protected ≡ false →
     IsFreshArea info.segments_per_track label date words area → Knows (Some info) held → IfSome held (AreMarks words) → FormatOutcome label date held (formatted info.segments_per_track words area)
