@@ -62,24 +62,16 @@ unfoldable pub lagrange : ℕ → ℕ → ℕ → List ℕ
 lagrange p q r =
     map (product (product (power (bit_xor p q) 254) (power (bit_xor p r) 254))) (1 ∷ bit_xor q r ∷ product q r ∷ [])
 
--- the polynomial of degree below 3 with the values a at r^-1, b at 1 and c at r, in Lagrange's form
-unfoldable pub through : ℕ → ℕ → ℕ → List ℕ
-through a b c =
-    added (map (product a) (lagrange 0xC3 0x01 0x02))
-    (added (map (product b) (lagrange 0x01 0xC3 0x02)) (map (product c) (lagrange 0x02 0xC3 0x01)))
-
--- the three parity bytes of a column's data: the coefficients of that polynomial for the values of the data with three zero
--- bytes behind them (QIC-80-MC)
+-- the three parity bytes of a column's data (QIC-80-MC): the coefficients of the polynomial of degree below 3 that has, at
+-- r^-1, 1 and r, the values of the data with three zero bytes behind them, in Lagrange's form
 unfoldable pub parity : List ℕ → List ℕ
 parity ds =
     let longer : List ℕ = ds ++ 0 ∷ 0 ∷ 0 ∷ [] in
-    through (value_at 0xC3 longer) (value_at 0x01 longer) (value_at 0x02 longer)
+    added (map (product (value_at 0xC3 longer)) (lagrange 0xC3 0x01 0x02))
+    (added (map (product (value_at 0x01 longer)) (lagrange 0x01 0xC3 0x02))
+    (map (product (value_at 0x02 longer)) (lagrange 0x02 0xC3 0x01)))
 
--- the parity sector k of three, 0 to 2: byte j is the parity byte k of column j
-unfoldable pub parity_sector : List (List ℕ) → ℕ → List ℕ
-parity_sector sectors k = map (λ j. slice_index (parity (column j sectors)) k) (range_with_len 0 1024)
-
--- the three parity sectors of data sectors (QIC-80-MC)
+-- the three parity sectors of data sectors (QIC-80-MC): byte j of sector k is the parity byte k of column j
 unfoldable pub parity_sectors : List (List ℕ) → List (List ℕ)
 parity_sectors sectors =
-    parity_sector sectors 0 ∷ parity_sector sectors 1 ∷ parity_sector sectors 2 ∷ []
+    map (λ k. map (λ j. slice_index (parity (column j sectors)) k) (range_with_len 0 1024)) (0 ∷ 1 ∷ 2 ∷ [])

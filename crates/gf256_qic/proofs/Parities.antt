@@ -5,8 +5,8 @@ use Rattle.std.proofs.lemmas.List.{length-map, map-append}
 use Rattle.std.proofs.lemmas.List.FromFn.{length-map-range_with_len, get_or-map-range_with_len}
 use Rattle.std.proofs.lemmas.List.Elements.{All-get_or, All-from_get_or, All-append, All-nil, All-cons, All-head, All-tail}
 use Rattle.std.proofs.Math.ListN.{length-append}
-use Rattle.cartridge_spec.specs.Code.{shifted_copies, remainder, product, power, value_at, added, lagrange, through, parity, parity_sector, parity_sectors, column, IsCodeword, IsCodeBlock}
-use Rattle.gf256_qic.specs.Code.{data_sum, scaled, distance}
+use Rattle.cartridge_spec.specs.Code.{shifted_copies, remainder, product, power, value_at, added, lagrange, parity, parity_sectors, column, IsCodeword, IsCodeBlock}
+use Rattle.gf256_qic.specs.Code.{through, parity_sector, data_sum, scaled, distance}
 use Rattle.qic_base.specs.Cartridge.{IsSector}
 use Rattle.gf256_qic.proofs.Products.{product_one_right, product_zero_right}
 use Rattle.gf256_qic.proofs.Values.{AllBytes, no_bytes, more_bytes, value_at-append, value_at-added, value_at-scaled, length-added, bytes_of_added, bytes_of_scaled, value_at-zeros, data_sum-value, data_sum-byte}
@@ -57,7 +57,7 @@ basis_generator = record {
 }
 
 pub parity_through : (ds : List ℕ) → parity ds ≡ through (data_sum 0xC3 ds) (data_sum 1 ds) (data_sum 2 ds)
-unfolding parity
+unfolding parity through
 parity_through ds =
     let longer : List ℕ = ds ++ 0 ∷ 0 ∷ 0 ∷ [] in
     ap (λ v. through v (value_at 1 longer) (value_at 2 longer)) (value_at-zeros 0xC3 ds)
@@ -275,11 +275,11 @@ three_elements (a ∷ b ∷ c ∷ []) h = refl
 three_elements (a ∷ b ∷ c ∷ d ∷ xs) h = absurd (omega arith)
 
 pub length-parity_sectors : (ss : List (List ℕ)) → length (parity_sectors ss) ≡ 3
-unfolding parity_sectors
+unfolding parity_sectors parity_sector
 length-parity_sectors ss = refl
 
 pub parity_sectors-are_sectors : (ss : List (List ℕ)) → All IsSector ss → All IsSector (parity_sectors ss)
-unfolding parity_sectors
+unfolding parity_sectors parity_sector
 parity_sectors-are_sectors ss all =
     All-cons IsSector (parity_sector ss 0) (parity_sector ss 1 ∷ parity_sector ss 2 ∷ [])
     (parity_sector-is_sector ss 0 all (omega arith))
@@ -291,7 +291,7 @@ parity_sectors-are_sectors ss all =
 -- the parity sectors' columns are the columns' parity
 pub column-parity_sectors : (j : ℕ) (ss : List (List ℕ)) → j < 1024 →
     column j (parity_sectors ss) ≡ parity (column j ss)
-unfolding parity_sectors column
+unfolding parity_sectors parity_sector column
 column-parity_sectors j ss h =
     let p : List ℕ = parity (column j ss) in
     ap (λ (x : ℕ). x ∷ get_or (parity_sector ss 1) j 0 ∷ get_or (parity_sector ss 2) j 0 ∷ []) (get_or-parity_sector ss 0 j h)

@@ -5,8 +5,8 @@ use Rattle.std.proofs.lemmas.Nat.{xor_comm}
 use Rattle.std.proofs.lemmas.List.Elements.{All-get_or, All-from_get_or, All-push}
 use Rattle.std.proofs.lemmas.List.{same_lists, length-replicate}
 use Rattle.std.proofs.Math.ListN.{length-append}
-use Rattle.cartridge_spec.specs.Code.{shifted_copies, remainder, product, power, value_at, added, lagrange, through, parity, parity_sector, parity_sectors, column, IsCodeBlock}
-use Rattle.gf256_qic.specs.Code.{data_sum, scaled, distance}
+use Rattle.cartridge_spec.specs.Code.{shifted_copies, remainder, product, power, value_at, added, lagrange, parity, parity_sectors, column, IsCodeBlock}
+use Rattle.gf256_qic.specs.Code.{parity_sector, data_sum, scaled, distance}
 use Rattle.qic_base.specs.Cartridge.{IsSector}
 use Rattle.gf256_qic.proofs.Sums.{sum_byte}
 use Rattle.gf256_qic.proofs.Products.{product_byte, product_comm, product_assoc, product_sum_left, product_sum_right, product_zero_left, product_one_right}
@@ -185,7 +185,7 @@ column-none j = refl
 
 -- the parity of no data is 0, by computation
 pub parity_none : parity [] ≡ 0 ∷ 0 ∷ 0 ∷ []
-unfolding parity through value_at lagrange added product shifted_copies remainder power
+unfolding parity value_at lagrange added product shifted_copies remainder power
 parity_none = refl
 
 -- a row of zeros is 0 at each index, and past its end
@@ -218,7 +218,7 @@ zeros_are_parity k h =
     zero_of_three (suc (suc (suc i))) lt = absurd (omega arith)
 
 pub zeros_are_register : zeros ∷ zeros ∷ zeros ∷ [] ≡ parity_sectors []
-unfolding parity_sectors
+unfolding parity_sectors parity_sector
 zeros_are_register =
     ap (λ (r : List ℕ). r ∷ zeros ∷ zeros ∷ []) (zeros_are_parity 0 (omega arith))
     ∙ ap (λ (r : List ℕ). parity_sector [] 0 ∷ r ∷ zeros ∷ []) (zeros_are_parity 1 (omega arith))
