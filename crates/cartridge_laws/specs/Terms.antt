@@ -91,12 +91,13 @@ map_fault area =
 abbrev pub IsInForce : Cartridge → List (List ℕ) → Type 0
 IsInForce c area = CopyReads c 0 area ⊎ (CopyDoesNotRead c 0 × CopyReads c 1 area)
 
--- a header copy holds nothing but zero bytes, as one of a new cartridge, or has lost more sectors than the code finds again
+-- a header copy holds nothing but zero bytes, as one of a new cartridge, or has lost more sectors than the code finds
+-- again
 abbrev pub IsBareCopy : Cartridge → (copy : ℕ) → Type 0
 IsBareCopy c copy = Zero (copy_cells c copy) ⊎ 3 < unreadable_count (copy_cells c copy)
 
--- Copy 0 was written with the header data, whatever copy 1 holds; or copy 0 holds zero bytes and copy 1 was written with
--- them.
+-- Copy 0 was written with the header data, whatever copy 1 holds; or copy 0 holds zero bytes and copy 1 was written
+-- with them.
 abbrev pub CopiesAre : Cartridge → List (List ℕ) → Type 0
 CopiesAre c area =
     Written (copy_cells c 0) area ⊎ (Zero (copy_cells c 0) × Written (copy_cells c 1) area)
@@ -179,10 +180,11 @@ places_where test = filter test (range_with_len 0 32)
 
 -- a sector of data of segment 2 can be read and differs from its part of a block: it was left out of account
 abbrev pub is_left_out : Cartridge → (block : List (List ℕ)) (sector : ℕ) → Bool
-is_left_out c block sector = if nat_lt sector 29 then holds_other (view_at c 2 sector) (sector_at block sector) else false
+is_left_out c block sector =
+    if nat_lt sector 29 then holds_other (view_at c 2 sector) (sector_at block sector) else false
 
--- another sector of segment 2 is to be written: one of data where it is unreadable, one of parity where it is unreadable or
--- differs from the parity of the data
+-- another sector of segment 2 is to be written: one of data where it is unreadable, one of parity where it is
+-- unreadable or differs from the parity of the data
 abbrev pub is_unsettled : Cartridge → (block : List (List ℕ)) (sector : ℕ) → Bool
 is_unsettled c block sector =
     if nat_lt sector 29 then is_unreadable (view_at c 2 sector)

@@ -1,4 +1,5 @@
--- Volumes more: the room for one, its segments, its bytes in sectors, its entry, and the writes (this project's profile).
+-- Volumes more: the room for one, its segments, its bytes in sectors, its entry, and the writes (this project's
+-- profile).
 use Rattle.std.specs.Prelude.{ℕ, List, [], ◌∷◌, ◌+◌, length, if◌then◌else◌, nat_lt, ◌-◌, nat_le, ◌&&◌, Bool, ◌++◌, replicate, zero, suc, take, drop, slice_index, sum_by}
 use Rattle.cartridge_spec.specs.Says.{with_parity}
 use Rattle.cartridge_spec.specs.Settling.{block_writes, writes_of}
@@ -21,8 +22,8 @@ abbrev pub room : (words : List ℕ) → List Entry → ℕ
 room words entries =
     if nat_lt (length entries) 232 then capacity_between words (end_behind 2 entries + 1) (length words - 1) else 0
 
--- those of some carrying segments that a volume of so many bytes takes, in their order: it ends with the one that takes its
--- last byte, and takes one for no byte
+-- those of some carrying segments that a volume of so many bytes takes, in their order: it ends with the one that takes
+-- its last byte, and takes one for no byte
 abbrev pub taken_by : (words : List ℕ) (bytes : ℕ) (segments : List ℕ) → List ℕ
 taken_by words bytes [] = []
 taken_by words bytes (s ∷ ss) =
@@ -34,8 +35,8 @@ in_sectors zero bytes = []
 in_sectors (suc count) bytes =
     (take 1024 bytes ++ replicate (1024 - length (take 1024 bytes)) 0) ∷ in_sectors count (drop 1024 bytes)
 
--- what a slot says of a volume that was appended: its first and its last segment, its name of 44 bytes, its date word, and
--- how many bytes it has
+-- what a slot says of a volume that was appended: its first and its last segment, its name of 44 bytes, its date word,
+-- and how many bytes it has
 abbrev pub new_entry : (segments : List ℕ) → (name : List ℕ) → (date bytes : ℕ) → Entry
 new_entry segments name date bytes = record {
   start = slice_index segments 0;
@@ -47,8 +48,6 @@ new_entry segments name date bytes = record {
   directory = 0;
   size = bytes;
 }
-
--- ---- the bytes of a volume
 
 -- the bytes of some sectors, one after the other
 abbrev pub bytes_in : List (List ℕ) → List ℕ
@@ -78,7 +77,8 @@ has_room plain bytes =
 -- the new volume: of a name of 44 bytes, a date word, and bytes
 abbrev pub appended_volume : Plain → (name : List ℕ) → (date : ℕ) → (bytes : List ℕ) → Volume
 appended_volume plain name date bytes =
-    let segments : List ℕ = taken_by plain.words (length bytes) (free_segments plain.words (entries_of plain)) in record {
+    let free : List ℕ = free_segments plain.words (entries_of plain) in
+    let segments : List ℕ = taken_by plain.words (length bytes) free in record {
       entry = new_entry segments name date (length bytes);
       area = in_sectors (sum_by (λ s. data_count (mask_at plain.words s)) segments) bytes;
     }

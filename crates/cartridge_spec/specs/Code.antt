@@ -1,7 +1,7 @@
--- The field of 256 elements and the code of QIC-80 over byte columns (QIC-80-MC). A byte is a polynomial over two elements of
--- degree below 8, bit i its coefficient of x^i; the sum of two bytes is their exclusive or, `bit_xor`. A column has a byte of
--- each usable sector of a segment, in order of index; as a polynomial its first byte has the highest degree, and its last
--- three bytes are parity.
+-- The field of 256 elements and the code of QIC-80 over byte columns (QIC-80-MC). A byte is a polynomial over two
+-- elements of degree below 8, bit i its coefficient of x^i; the sum of two bytes is their exclusive or, `bit_xor`. A
+-- column has a byte of each usable sector of a segment, in order of index; as a polynomial its first byte has the
+-- highest degree, and its last three bytes are parity.
 use Rattle.std.specs.Prelude.{ℕ, zero, suc, ◌*◌, ◌^◌, List, [], ◌∷◌, length, bit_xor, ◌<◌, ◌≤◌, ◌≡◌, All, map, slice_index, ◌+◌, ◌++◌}
 use Rattle.std.specs.Int.{bit_at}
 use Rattle.std.specs.List.{range_with_len}
@@ -12,7 +12,8 @@ unfoldable pub shifted_copies : ℕ → ℕ → ℕ → ℕ
 shifted_copies zero a b = 0
 shifted_copies (suc k) a b = bit_xor (shifted_copies k a b) (bit_at b k * (a * 2 ^ k))
 
--- the remainder by x^8 + x^7 + x^2 + x + 1 (QIC-80-MC) of a, of degree below 8 + k: long division, the highest degree first
+-- the remainder by x^8 + x^7 + x^2 + x + 1 (QIC-80-MC) of a, of degree below 8 + k: long division, the highest degree
+-- first
 unfoldable pub remainder : ℕ → ℕ → ℕ
 remainder zero a = a
 remainder (suc k) a = remainder k (bit_xor a (bit_at a (8 + k) * (0x187 * 2 ^ k)))
@@ -56,14 +57,14 @@ unfoldable pub added : List ℕ → List ℕ → List ℕ
 added (x ∷ xs) (y ∷ ys) = bit_xor x y ∷ added xs ys
 added xs ys = []
 
--- (x + q) / (p + q) times (x + r) / (p + r): the polynomial that is 1 at p, and 0 at q and at r; 1 / a is a to the power 254,
--- since a to the power 255 is 1
+-- (x + q) / (p + q) times (x + r) / (p + r): the polynomial that is 1 at p, and 0 at q and at r; 1 / a is a to the
+-- power 254, since a to the power 255 is 1
 unfoldable pub lagrange : ℕ → ℕ → ℕ → List ℕ
 lagrange p q r =
     map (product (product (power (bit_xor p q) 254) (power (bit_xor p r) 254))) (1 ∷ bit_xor q r ∷ product q r ∷ [])
 
--- the three parity bytes of a column's data (QIC-80-MC): the coefficients of the polynomial of degree below 3 that has, at
--- r^-1, 1 and r, the values of the data with three zero bytes behind them, in Lagrange's form
+-- the three parity bytes of a column's data (QIC-80-MC): the coefficients of the polynomial of degree below 3 that has,
+-- at r^-1, 1 and r, the values of the data with three zero bytes behind them, in Lagrange's form
 unfoldable pub parity : List ℕ → List ℕ
 parity ds =
     let longer : List ℕ = ds ++ 0 ∷ 0 ∷ 0 ∷ [] in

@@ -1,4 +1,5 @@
--- A cartridge formatted: its defects, its header, the steps in their order, and header copies that it may begin over (this project's profile).
+-- A cartridge formatted: its defects, its header, the steps in their order, and header copies that it may begin over
+-- (this project's profile).
 use Rattle.std.specs.Prelude.{ℕ, List, slice_index, ◌≡◌, ◌↔◌, ◌*◌, ◌<◌, length, ◌⊎◌, All, map, ◌∷◌, [], ◌++◌, take, drop, replicate}
 use Rattle.std.specs.List.{range_with_len}
 use Rattle.cartridge_spec.specs.Header.{Header, SpellsHeader}
@@ -24,8 +25,8 @@ pub record MarksDefects (c : Cartridge) (words : List ℕ) : Type 0 where
   pub each : (segment sector : ℕ) → segment < 28 * c.info.segments_per_track → sector < 32 →
       IsLost (slice_index words segment) sector ↔ IsDefect (view_at c segment sector)
 
--- a header copy was written with these data, or holds zero bytes; so does each one of a new cartridge, and of one that was
--- formatted to the end
+-- a header copy was written with these data, or holds zero bytes; so does each one of a new cartridge, and of one that
+-- was formatted to the end
 abbrev pub IsCleanCopy : Cartridge → (copy : ℕ) → (area : List (List ℕ)) → Type 0
 IsCleanCopy c copy area = Written (copy_cells c copy) area ⊎ Zero (copy_cells c copy)
 
@@ -40,8 +41,8 @@ pub record StandsCleanly (c : Cartridge) (plain : Plain) : Type 0 where
   pub first : IsCleanCopy c 0 plain.header_area
   pub second : IsCleanCopy c 1 plain.header_area
 
--- each header copy holds nothing but zero bytes, as one of a new cartridge, or has lost more sectors than the code finds
--- again
+-- each header copy holds nothing but zero bytes, as one of a new cartridge, or has lost more sectors than the code
+-- finds again
 pub record HasNoHeader (c : Cartridge) : Type 0 where
   pub first : Zero (copy_cells c 0) ⊎ 3 < unreadable_count (copy_cells c 0)
   pub second : Zero (copy_cells c 1) ⊎ 3 < unreadable_count (copy_cells c 1)
@@ -100,8 +101,6 @@ copy_writes copy block = writes_of copy (range_with_len 1 31) (drop 1 block) ++ 
 -- all of them, with these data in both header copies
 abbrev pub format_steps : (n : ℕ) → (area : List (List ℕ)) → List Step
 format_steps n area = clearing_steps n ++ copy_writes 0 (with_parity area) ++ copy_writes 1 (with_parity area)
-
--- ---- defects in front
 
 -- this is the first of them that has one
 pub record IsFirstDefectInFront (c : Cartridge) (segment : ℕ) : Type 0 where

@@ -16,8 +16,6 @@ number_in area offset width = number_at (sector_at area (offset / 1024)) (offset
 abbrev pub word_in : List (List ℕ) → ℕ → ℕ
 word_in area segment = number_in area (2048 + 4 * segment) 4
 
--- ---- the table of fields
-
 -- what a header tells
 pub record Header : Type 0 where
   -- date words
@@ -90,8 +88,8 @@ pub record Shows (area : List (List ℕ)) (h : Header) (words : List ℕ) : Type
   pub header : All (Holds area) (header_fields h)
   pub map : words ≡ map (word_in area) (range_with_len 0 (28 * h.segments_per_track))
 
--- the data spell them: all fields hold their values, and those of the 29,696 bytes are 0 that lie in no field and not in
--- the map
+-- the data spell them: all fields hold their values, and those of the 29,696 bytes are 0 that lie in no field and not
+-- in the map
 pub record SpellsHeader (h : Header) (words : List ℕ) (area : List (List ℕ)) : Type 0 where
   pub profile : All (Holds area) (profile_fields h.segments_per_track)
   pub shows : Shows area h words
@@ -125,8 +123,8 @@ first_fault area [] = None
 first_fault area (field ∷ fields) =
     option_or (value_fault area field.offset field.width field.value field.test) (first_fault area fields)
 
--- The first test that fails, for a drive that reports this many segments per track; behind the fields, the header copies
--- and the volume table have no bad sector: the words of segments 0 to 2 are 0.
+-- The first test that fails, for a drive that reports this many segments per track; behind the fields, the header
+-- copies and the volume table have no bad sector: the words of segments 0 to 2 are 0.
 abbrev pub header_fault : List (List ℕ) → ℕ → Option HeaderFault
 header_fault area n = option_or (first_fault area (profile_fields n)) (
     if not (word_in area 0 == 0) then Some (record { field = Map; value = 0 })

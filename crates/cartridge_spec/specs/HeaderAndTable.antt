@@ -1,5 +1,5 @@
--- The header and the volume table of a cartridge: the header copies, the one in force, and the table's data (the places of
--- header and table are this project's profile).
+-- The header and the volume table of a cartridge: the header copies, the one in force, and the table's data (the places
+-- of header and table are this project's profile).
 use Rattle.std.specs.Prelude.{◌≡◌, ℕ, List, length, All, true, ◌⊎◌, false, None, ◌-◌, ◌*◌}
 use Rattle.cartridge_spec.specs.Header.{has_signature, Header, header_fault}
 use Rattle.cartridge_spec.specs.Says.{whole_mask, cells_of, Says, Data, TableSays, AsRead, ByCode}
@@ -11,8 +11,6 @@ use Rattle.cartridge_spec.specs.Header as headers
 pub record IsArea (area : List (List ℕ)) : Type 0 where
   pub size : length area ≡ 29
   pub sectors : All IsSector area
-
--- ---- the header
 
 -- the cells of a header copy, 0 or 1
 abbrev pub copy_cells : Cartridge → ℕ → List SectorView
@@ -40,8 +38,6 @@ pub record IsFormatted (c : Cartridge) (area : List (List ℕ)) (header : Header
   pub has_header : HasHeader c area
   pub sound : header_fault area c.info.segments_per_track ≡ None
   pub shown : headers.Shows area header words
-
--- ---- the volume table
 
 abbrev pub table_cells : Cartridge → List SectorView
 table_cells c = cells_of c 2 whole_mask

@@ -70,8 +70,8 @@ mounted_as plain = Mounted plain.header plain.words plain.table_area (entries_of
 abbrev pub CanBeRead : Cartridge → Type 0
 CanBeRead c = (unreadable_count (take 29 (table_cells c)) ≡ 0) ⊎ (unreadable_count (table_cells c) ≤ 3)
 
--- no readable sector is left out of account: the data are read as they are, or are those of the code block that agrees with all
--- readable sectors
+-- no readable sector is left out of account: the data are read as they are, or are those of the code block that agrees
+-- with all readable sectors
 abbrev pub ReadsPlainly : Cartridge → (area : List (List ℕ)) → Type 0
 ReadsPlainly c area = ReadsAll (table_cells c) area ⊎ Says (table_cells c) (Data area)
 

@@ -68,8 +68,6 @@ pub record ReadsAll (cells : List SectorView) (sectors : List (List ℕ)) : Type
   pub size : length sectors ≡ 29
   pub each : (i : ℕ) → i < 29 → (bytes : List ℕ) × (slice_get cells i ≡ Some (Holds bytes)) × (slice_get sectors i ≡ Some bytes)
 
--- ---- readings that leave sectors out of account
-
 -- the cells, the first of which is at this place, with those at the places of a set seen as lost
 unfoldable pub hidden_from : (set place : ℕ) → List SectorView → List SectorView
 hidden_from set place [] = []
@@ -141,8 +139,8 @@ sets_by used (m ∷ other ∷ []) =
     else []
 sets_by used (m ∷ other ∷ third ∷ more) = []
 
--- its data as they are, where all of them can be read, and else what the code says: without leaving a sector out, and then by
--- the sets of its unreadable sectors and of its last data sector with a used slot
+-- its data as they are, where all of them can be read, and else what the code says: without leaving a sector out, and
+-- then by the sets of its unreadable sectors and of its last data sector with a used slot
 pub data TableSaying : Type 0 where
   AsRead : List (List ℕ) → TableSaying
   ByCode : Saying → TableSaying

@@ -20,8 +20,6 @@ abbrev pub changed_by : List Step → Cartridge → Cartridge
 changed_by [] c = c
 changed_by (s ∷ ss) c = changed_by ss (changed s c)
 
--- ---- on a cartridge
-
 -- the sector can be read, and holds these bytes
 abbrev pub holds : SectorView → List ℕ → Bool
 holds Blank bytes = false
@@ -40,8 +38,8 @@ holds_other (Holds held) bytes = not (bytes_eq held bytes)
 abbrev pub block_writes : List (List ℕ) → (places : List ℕ) → List Step
 block_writes block places = writes_of 2 places (map (sector_at block) places)
 
--- the sectors that are written where the table's data are these: first those of data that were left out of account, then those
--- of data that are unreadable, and then those of parity that are unreadable or differ, each ascending
+-- the sectors that are written where the table's data are these: first those of data that were left out of account,
+-- then those of data that are unreadable, and then those of parity that are unreadable or differ, each ascending
 abbrev pub settling_places : Cartridge → (area : List (List ℕ)) → List ℕ
 settling_places c area =
     filter (λ i. if nat_lt i 29 then holds_other (view_at c 2 i) (sector_at (with_parity area) i) else false)

@@ -11,8 +11,6 @@ use Rattle.qic_base.specs.Cartridge.{Cartridge, IsSector}
 use Rattle.cartridge_spec.specs.Header as headers
 use Rattle.cartridge_spec.specs.Table as tables
 
--- ---- volumes
-
 -- the segments from one to another that carry data
 abbrev pub carrying : List ℕ → (start end : ℕ) → List ℕ
 carrying words start end = filter (λ s. nat_le 4 (usable_count (mask_at words s))) (range_with_len start (end + 1 - start))
@@ -55,8 +53,6 @@ pub record VolumeStands (c : Cartridge) (words : List ℕ) (volume : Volume) : T
       (parts_of words (carrying_segments words volume.entry) volume.area)
   pub size : length volume.area ≡ sum_by (λ s. data_count (mask_at words s)) (carrying_segments words volume.entry)
 
--- ---- the plain cartridge
-
 pub record Plain : Type 0 where
   pub header_area : List (List ℕ)
   pub header : Header
@@ -74,8 +70,8 @@ pub record IsPlain (plain : Plain) : Type 0 where
   pub table_area : IsArea plain.table_area
   pub areas : All (λ volume. All IsSector volume.area) plain.volumes
 
--- A cartridge stands for a plain one. Its header copy 0 was written with the header data, whatever copy 1 holds; or copy 0
--- holds zero bytes and copy 1 was written with them.
+-- A cartridge stands for a plain one. Its header copy 0 was written with the header data, whatever copy 1 holds; or
+-- copy 0 holds zero bytes and copy 1 was written with them.
 pub record Stands (c : Cartridge) (plain : Plain) : Type 0 where
   pub whole : IsPlain plain
   pub header : HasHeader c plain.header_area
