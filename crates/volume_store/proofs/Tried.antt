@@ -12,7 +12,7 @@ use Rattle.erasure_solve.specs.Lost.{is_lost}
 use Rattle.erasure_solve.proofs.Places.{is_lost_from}
 use Rattle.cartridge_laws.specs.Segment.{IsUnreadable}
 use Rattle.cartridge_spec.specs.Shape.{is_unreadable}
-use Rattle.cartridge_laws.specs.Terms.{hidden, sets_by_one, sets_by_two, unreadable_places, last_used, has_used_slot, places_where}
+use Rattle.cartridge_laws.specs.Terms.{hidden, sets_by_one, sets_by_two, unreadable_places, last_used, has_used_slot}
 use Rattle.cartridge_spec.specs.Says.{hidden_from, set_of, with_used, sets_by, unreadable_from, last_used_below, shows_used_slot}
 use Rattle.cartridge_laws.proofs.Cells.{unreadable_at}
 use Rattle.cartridge_laws.proofs.Sets.{names, IsOneOf, named_is_one, one_is_named}
