@@ -5,7 +5,8 @@ use Rattle.cartridge_laws.specs.AppendSteps.{IsNamed}
 use Rattle.cartridge_laws.specs.AppendWrites.{AreWrites, IsFree, IsOfSector}
 use Rattle.cartridge_laws.specs.MountBlocks.{HoldsPart}
 use Rattle.cartridge_laws.specs.Table.{IsSoundList}
-use Rattle.cartridge_spec.specs.Appending.{has_room, last_end, volume_bytes, with_bytes, appended_volume}
+use Rattle.cartridge_spec.specs.Appending.{has_room, volume_bytes, with_bytes, appended_volume}
+use Rattle.cartridge_laws.specs.Terms.{last_end}
 use Rattle.cartridge_spec.specs.Formatting.{IsLabel, StandsCleanly}
 use Rattle.cartridge_spec.specs.HeaderAndTable.{last_segment, TableIs, IsArea}
 use Rattle.cartridge_spec.specs.Mounting.{settled, Mounts, mounted_as}

@@ -14,7 +14,7 @@ use Rattle.cartridge_spec.specs.OneLoss.{LosesOne, ChangesTableAlone, ComesBackA
 use Rattle.cartridge_spec.specs.Says.{with_parity}
 use Rattle.cartridge_spec.specs.Settling.{changed_by}
 use Rattle.cartridge_spec.specs.Shape.{sector_at}
-use Rattle.cartridge_spec.specs.Table.{slot_sector}
+use Rattle.cartridge_laws.specs.Terms.{slot_sector}
 use Rattle.cartridge_spec.specs.Volumes.{Plain, Stands}
 use Rattle.qic_base.specs.Cartridge.{Cartridge}
 use Rattle.qic_base.specs.Terms.{IsCartridge}

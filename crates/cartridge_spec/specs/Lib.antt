@@ -1,6 +1,5 @@
 pub mod Appending
 pub mod Code
-pub mod Field
 pub mod Formatting
 pub mod Header
 pub mod HeaderAndTable
@@ -10,6 +9,5 @@ pub mod Says
 pub mod Settling
 pub mod Shape
 pub mod Table
-pub mod TableSets
 pub mod Volumes
 pub mod Wear

@@ -10,9 +10,9 @@ use Rattle.qic_base.specs.Step.{Wear, changed}
 abbrev pub worn : (segment sector : ℕ) → Cartridge → Cartridge
 worn segment sector c = changed (Wear segment sector) c
 
--- A worn sector takes neither the header nor the table away: it lies behind them; or it is one of a header copy, and the
--- header in force is the same without it; or it is one of the table's segment, whose readable sectors are those that were
--- written with their parity.
+-- A worn sector takes neither the header nor the table away: it lies behind them; or it is one of a header copy, and
+-- the header in force is the same without it; or it is one of the table's segment, whose readable sectors are those
+-- that were written with their parity.
 abbrev pub WearSpares : (c : Cartridge) (plain : Plain) (segment sector : ℕ) → Type 0
 WearSpares c plain segment sector =
     (3 ≤ segment)

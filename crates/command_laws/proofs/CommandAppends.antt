@@ -18,13 +18,14 @@ use Rattle.cartridge_laws.specs.AppendSettled.{MayAppendTo}
 use Rattle.cartridge_laws.specs.AppendSteps.{writes_into}
 use Rattle.cartridge_laws.specs.AppendWrites.{AreWrites, IsFree}
 use Rattle.cartridge_laws.specs.Shape.{Carries}
-use Rattle.cartridge_spec.specs.Appending.{has_room, last_end, table_writes, with_bytes}
+use Rattle.cartridge_spec.specs.Appending.{has_room, table_writes, with_bytes}
+use Rattle.cartridge_laws.specs.Terms.{last_end, slot_sector, with_slot}
 use Rattle.cartridge_spec.specs.Formatting.{IsLabel}
 use Rattle.cartridge_spec.specs.HeaderAndTable.{TableIs}
 use Rattle.cartridge_spec.specs.Mounting.{Mounting, Mounts, settled, IsTableLive}
 use Rattle.cartridge_spec.specs.Settling.{settling_steps, changed_by}
 use Rattle.cartridge_spec.specs.Shape.{mask_at}
-use Rattle.cartridge_spec.specs.Table.{slot_bytes, slot_sector, with_slot, Entry}
+use Rattle.cartridge_spec.specs.Table.{slot_bytes, Entry}
 use Rattle.cartridge_spec.specs.Volumes.{Plain, entries_of, Stands, Volume}
 use Rattle.command_laws.proofs.InputActLaws.{volume_is_free, volume_is_writes}
 use Rattle.command_spec.specs.Append.{appended, Appends, AppendOutcome, Kept, input_writes, entry_acts, room_in, taking, free_in, volume_acts, Fits, TooLong, entry_for, kept_over}

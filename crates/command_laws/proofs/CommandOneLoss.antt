@@ -10,7 +10,8 @@ use Rattle.cartridge_laws.proofs.OneLossComesBack.{stopped_append_comes_back, do
 use Rattle.cartridge_laws.specs.AppendBetween.{IsWhole}
 use Rattle.cartridge_laws.specs.AppendLaws.{IsReadyFor}
 use Rattle.cartridge_laws.specs.AppendWrites.{KeepsTo}
-use Rattle.cartridge_spec.specs.Appending.{last_end, with_bytes}
+use Rattle.cartridge_laws.specs.Terms.{last_end}
+use Rattle.cartridge_spec.specs.Appending.{with_bytes}
 use Rattle.cartridge_spec.specs.Formatting.{IsLabel}
 use Rattle.cartridge_spec.specs.HeaderAndTable.{IsArea, TableIs}
 use Rattle.cartridge_spec.specs.Mounting.{settled, IsTableLive}

@@ -2,14 +2,15 @@
 use Rattle.std.proofs.Common.{[], ◌≡◌, ◌&&◌, ◌*◌, ℕ, Bool, true, false, cond, List, ◌∷◌, ◌++◌, length, drop, take, nat_le, nat_lt, map, sym, ap, ◌∙◌, subst, Option, Some, None, inl, inr, is_some}
 use Rattle.std.specs.List.{range_with_len}
 use Rattle.cartridge_laws.specs.ChangeSteps.{HasNoRenew}
-use Rattle.cartridge_spec.specs.Appending.{table_places, table_writes}
+use Rattle.cartridge_laws.specs.Terms.{table_places, slot_sector}
+use Rattle.cartridge_spec.specs.Appending.{table_writes}
 use Rattle.cartridge_spec.specs.Formatting.{clearing_steps, copy_writes, format_steps}
 use Rattle.cartridge_spec.specs.Header.{Header}
 use Rattle.cartridge_spec.specs.Mounting.{Mounting, settled}
 use Rattle.cartridge_spec.specs.Says.{Saying, Data, LostSectors, Mismatch, with_parity}
 use Rattle.cartridge_spec.specs.Settling.{writes_of, block_writes, settling_places, settling_steps, changed_by}
 use Rattle.cartridge_spec.specs.Shape.{mask_at, capacity, usable_places, is_unreadable, sector_at}
-use Rattle.cartridge_spec.specs.Table.{Entry, slot_sector, table_with}
+use Rattle.cartridge_spec.specs.Table.{Entry, table_with}
 use Rattle.cartridge_spec.specs.Volumes.{volume_length}
 use Rattle.command_laws.proofs.MadeStops.{sum_in_no_step}
 use Rattle.command_laws.proofs.RestoreCounts.{restores_in_no_step, framed_in_no_step}

@@ -289,8 +289,8 @@ formatted_fresh label date c outcome whole (inr (inr (free, none, (words, (area,
       words = words;
       area = area;
       fresh = is_fresh;
-      stands = formatted_stands c (changed_by (format_steps n area) c) label date words area whole is_fresh (formatting_formats c area whole fresh.fresh.size none);
-      live = formatted_is_live c (changed_by (format_steps n area) c) area whole none (formatting_formats c area whole fresh.fresh.size none);
+      stands = formatted_stands c (changed_by (format_steps n area) c) label date words area whole is_fresh (formatting_formats c area whole fresh.size none);
+      live = formatted_is_live c (changed_by (format_steps n area) c) area whole none (formatting_formats c area whole fresh.size none);
     })
     (ap (λ (o : CommandOutcome). effects (steps_of o.acts) (Some c)) is ∙ ap (λ (steps : List TapeStep). effects steps (Some c)) (append-nil (format_steps n area)) ∙ effects-some (format_steps n area) c)
 

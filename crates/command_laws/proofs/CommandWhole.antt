@@ -69,7 +69,7 @@ format_whole label date c outcome (inr (inl (free, (segment, first, is)))) whole
 format_whole label date c outcome (inr (inr (free, none, (words, (area, fresh, is))))) whole =
     whole_outcome c outcome _ is
     (leaves_by IsCartridge c (format_steps c.info.segments_per_track area ++ []) (format_steps c.info.segments_per_track area) (append-nil (format_steps c.info.segments_per_track area))
-    (format_steps_leave c.info.segments_per_track area c whole fresh.fresh.size))
+    (format_steps_leave c.info.segments_per_track area c whole fresh.size))
 
 -- ---- over a mounted cartridge
 

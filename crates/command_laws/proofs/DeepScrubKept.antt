@@ -11,7 +11,8 @@ use Rattle.cartridge_laws.proofs.Sayings.{says_is_function}
 use Rattle.cartridge_laws.specs.Table.{IsSoundList}
 use Rattle.cartridge_spec.specs.Formatting.{HasCleanCopies, IsCleanCopy}
 use Rattle.cartridge_spec.specs.Header.{Header, header_fault}
-use Rattle.cartridge_spec.specs.HeaderAndTable.{CopyDoesNotRead, CopyReads, IsArea, IsInForce, TableIs, copy_cells, last_segment}
+use Rattle.cartridge_spec.specs.HeaderAndTable.{CopyDoesNotRead, CopyReads, IsArea, TableIs, copy_cells, last_segment}
+use Rattle.cartridge_laws.specs.Terms.{IsInForce}
 use Rattle.cartridge_spec.specs.Mounting.{IsMounted, Mounted, Mounting, Mounts, TableLost, mounted_as, settled}
 use Rattle.cartridge_spec.specs.Says.{Data, Mismatch, Says, Written, Zero, whole_mask}
 use Rattle.cartridge_spec.specs.Settling.{settling_steps}

@@ -16,7 +16,8 @@ use Rattle.cartridge_spec.specs.HeaderAndTable.{last_segment}
 use Rattle.cartridge_spec.specs.Mounting.{settled}
 use Rattle.cartridge_spec.specs.OneLoss.{LosesOneAlone}
 use Rattle.cartridge_spec.specs.Says.{with_parity}
-use Rattle.cartridge_spec.specs.Settling.{block_writes, changed_by, is_left_out, is_unsettled, places_where, settling_places, settling_steps}
+use Rattle.cartridge_spec.specs.Settling.{block_writes, changed_by, settling_places, settling_steps}
+use Rattle.cartridge_laws.specs.Terms.{places_where, is_left_out, is_unsettled}
 use Rattle.cartridge_spec.specs.Shape.{sector_at}
 use Rattle.cartridge_spec.specs.Volumes.{Plain, Stands, entries_of}
 use Rattle.command_laws.proofs.MountedHeld.{settled_live}

@@ -6,7 +6,7 @@ use Rattle.cartridge_laws.proofs.AppendVolume.{free_writes_stand, last_end_least
 use Rattle.cartridge_laws.proofs.FormatWriting.{effects-some, some_weaker}
 use Rattle.cartridge_laws.proofs.MountStanding.{standing_data}
 use Rattle.cartridge_laws.proofs.OneLossComesBack.{whole_comes_back}
-use Rattle.cartridge_spec.specs.Appending.{last_end}
+use Rattle.cartridge_laws.specs.Terms.{last_end}
 use Rattle.cartridge_spec.specs.Settling.{changed_by, settling_steps}
 use Rattle.cartridge_spec.specs.Table.{Entry}
 use Rattle.cartridge_spec.specs.Volumes.{Plain, entries_of}

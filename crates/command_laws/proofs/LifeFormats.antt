@@ -3,7 +3,8 @@ use Rattle.std.proofs.Common.{append_assoc, ◌≡◌, ◌⊎◌, ℕ, inl, inr,
 use Rattle.cartridge_laws.proofs.ChangeLive.{steps_keep_live}
 use Rattle.cartridge_laws.proofs.FormatCopies.{new_has_no_header}
 use Rattle.cartridge_laws.specs.ChangeSteps.{HasNoRenew}
-use Rattle.cartridge_spec.specs.Formatting.{HasNoHeader, StandsCleanly, copy_writes, fresh_plain, segment_formats}
+use Rattle.cartridge_spec.specs.Formatting.{HasNoHeader, StandsCleanly, copy_writes, fresh_plain}
+use Rattle.cartridge_laws.specs.Terms.{segment_formats}
 use Rattle.cartridge_spec.specs.HeaderAndTable.{IsUnformatted}
 use Rattle.cartridge_spec.specs.Mounting.{IsTableLive}
 use Rattle.cartridge_spec.specs.Says.{with_parity}

@@ -4,7 +4,6 @@ use Rattle.std.proofs.lemmas.Bool.{cases_lt, cases_eq}
 use Rattle.std.proofs.lemmas.List.Elements.{All-nil, All-cons, All-head, All-tail, All-get_or}
 use Rattle.std.proofs.lemmas.Option.{slice_get_within, get_or_from_slice_get}
 use Rattle.cartridge_laws.proofs.Blocks.{says_always}
-use Rattle.cartridge_laws.proofs.Sayings.{cartridge_sector}
 use Rattle.cartridge_spec.specs.Code.{IsCodeBlock}
 use Rattle.cartridge_spec.specs.Says.{Agrees, Saying, LostSectors, Mismatch, Says, unreadable_count}
 use Rattle.cartridge_spec.specs.Settling.{changed_by}
@@ -16,7 +15,6 @@ use Rattle.qic_base.specs.Cartridge.{IsSector, Cartridge}
 use Rattle.qic_base.specs.Terms.{IsView}
 use Rattle.qic_base.specs.declared.tape.SectorView.{SectorView}
 use Rattle.qic_base.specs.declared.tape.SectorView.TheVariants.{Holds, Blank, Defect, Lost}
-use Rattle.cartridge_spec.specs.Code as code
 
 -- ---- cells
 
@@ -73,8 +71,8 @@ no_block : (cells : List SectorView) (block : List (List ℕ)) → HoldsNoSector
 no_block cells block other is agrees =
     let at : slice_get block other.place ≡ Some other.bytes = agrees.each other.place other.bytes other.held in
     let within : other.place < length block = slice_get_within block other.place other.bytes at in
-    other.none (cartridge_sector other.bytes (subst code.IsSector (get_or_from_slice_get block other.place other.bytes [] at)
-    (All-get_or code.IsSector block other.place [] within is.sectors)))
+    other.none (subst IsSector (get_or_from_slice_get block other.place other.bytes [] at)
+    (All-get_or IsSector block other.place [] within is.sectors))
 
 pub says_anyway : (cells : List SectorView) → (saying : Saying) × Says cells saying
 says_anyway cells =

@@ -16,13 +16,14 @@ use Rattle.cartridge_laws.specs.AppendLaws.{new_table, IsReadyFor, MayAppend}
 use Rattle.cartridge_laws.specs.AppendSettled.{MayAppendTo, IsSettledFor}
 use Rattle.cartridge_laws.specs.AppendSteps.{writes_into}
 use Rattle.cartridge_laws.specs.Shape.{Carries}
-use Rattle.cartridge_spec.specs.Appending.{table_writes, last_end, has_room, with_bytes}
+use Rattle.cartridge_spec.specs.Appending.{table_writes, has_room, with_bytes}
+use Rattle.cartridge_laws.specs.Terms.{last_end, slot_sector, with_slot}
 use Rattle.cartridge_spec.specs.Formatting.{IsLabel}
 use Rattle.cartridge_spec.specs.HeaderAndTable.{TableIs}
 use Rattle.cartridge_spec.specs.Mounting.{settled, IsTableLive}
 use Rattle.cartridge_spec.specs.Settling.{changed_by, settling_steps}
 use Rattle.cartridge_spec.specs.Shape.{mask_at, IsLive}
-use Rattle.cartridge_spec.specs.Table.{slot_bytes, slot_sector, with_slot}
+use Rattle.cartridge_spec.specs.Table.{slot_bytes}
 use Rattle.cartridge_spec.specs.Volumes.{Plain, Volume, entries_of, Stands}
 use Rattle.command_laws.proofs.InputActLaws.{volume_is_writes}
 use Rattle.command_laws.proofs.MountedKeeping.{kept_open, live_kept}

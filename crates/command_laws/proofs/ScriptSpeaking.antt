@@ -4,7 +4,8 @@ use Rattle.std.proofs.lemmas.List.{length-append}
 use Rattle.std.proofs.lemmas.Bool.{cases_Bool, le-ltb}
 use Rattle.cartridge_spec.specs.Appending.{table_writes}
 use Rattle.cartridge_spec.specs.Settling.{changed_by}
-use Rattle.cartridge_spec.specs.Table.{Entry, slot_sector, table_with}
+use Rattle.cartridge_spec.specs.Table.{Entry, table_with}
+use Rattle.cartridge_laws.specs.Terms.{slot_sector}
 use Rattle.command_laws.proofs.ScriptActs.{fits_acts, front_acts, full_taking}
 use Rattle.command_spec.specs.Append.{Kept, Taking, Fits, TooLong, TooShort, append_acts, entry_for, has_promised_room, room_in, taking, kept_over}
 use Rattle.command_spec.specs.Input.{promised, Item, IsItem, Ending, HasItems}

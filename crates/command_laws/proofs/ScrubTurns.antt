@@ -5,7 +5,7 @@ use Rattle.std.proofs.lemmas.Bool.{lt-ltb, false≢true}
 use Rattle.cartridge_laws.proofs.AppendWhole.{sector_writes_are_cartridge}
 use Rattle.cartridge_laws.proofs.Blocks.{says_always}
 use Rattle.cartridge_laws.proofs.FormatWriting.{effects-some}
-use Rattle.cartridge_laws.proofs.Sayings.{says_is_function, said_are_sectors, cartridge_sectors}
+use Rattle.cartridge_laws.proofs.Sayings.{says_is_function, said_are_sectors}
 use Rattle.cartridge_laws.proofs.Segments.{cells_are_views}
 use Rattle.cartridge_laws.specs.AppendWrites.{AreWrites, IsOfSector}
 use Rattle.cartridge_spec.specs.Code.{parity_sectors}
@@ -64,8 +64,8 @@ pub block_sectors : (c : Cartridge) (l : Looked) (sectors : List (List ℕ)) →
     All IsSector (with_parity sectors)
 block_sectors c l sectors says =
     let are = (said_are_sectors (cells_at c l) sectors says).each in
-    All-append IsSector sectors (parity_sectors sectors) (cartridge_sectors sectors are)
-    (cartridge_sectors (parity_sectors sectors) (parity_sectors-are_sectors sectors are))
+    All-append IsSector sectors (parity_sectors sectors) are
+    (parity_sectors-are_sectors sectors are)
 
 pub steps_whole : (c : Cartridge) (l : Looked) (s : Saying) → Says (cells_at c l) s → AreWrites IsOfSector (steps_in c l s)
 steps_whole c l (Data sectors) says =

@@ -11,7 +11,6 @@ use Rattle.cartridge_laws.proofs.FormatDone.{length-with_parity}
 use Rattle.cartridge_laws.proofs.FormatWriting.{some_and}
 use Rattle.cartridge_laws.proofs.MountSettles.{settling_settles}
 use Rattle.cartridge_laws.proofs.MountWhole.{settled_is_cartridge, stopped_is_cartridge}
-use Rattle.cartridge_laws.proofs.Sayings.{cartridge_sectors, code_sectors}
 use Rattle.cartridge_laws.proofs.Segments.{view_of_cartridge}
 use Rattle.cartridge_laws.proofs.Whole.{with_view_whole, worn_is_view}
 use Rattle.cartridge_laws.specs.AppendWrites.{AreWrites, IsOfSector}
@@ -24,7 +23,8 @@ use Rattle.cartridge_spec.specs.Mounting.{settled}
 use Rattle.cartridge_spec.specs.Says.{with_parity}
 use Rattle.cartridge_spec.specs.Settling.{changed_by, settling_steps, writes_of}
 use Rattle.cartridge_spec.specs.Shape.{sector_at}
-use Rattle.cartridge_spec.specs.Table.{Entry, slot_bytes, slot_sector, with_slot}
+use Rattle.cartridge_spec.specs.Table.{Entry, slot_bytes}
+use Rattle.cartridge_laws.specs.Terms.{slot_sector, with_slot}
 use Rattle.command_laws.proofs.CommandClean.{Leaves, both_leave, leaves_done}
 use Rattle.command_laws.proofs.InputActLaws.{input_is_of_sectors, writes_whole}
 use Rattle.command_laws.proofs.MountedListed.{entry_area, slot_free}
@@ -188,7 +188,7 @@ clearing_leaves n c whole left (inr (inr torn)) = formats_leave (range_with_len 
 
 pub block_sectors : (area : List (List ℕ)) → IsArea area → All IsSector (with_parity area)
 block_sectors area is =
-    All-append IsSector area (parity_sectors area) is.sectors (cartridge_sectors (parity_sectors area) (parity_sectors-are_sectors area (code_sectors area is.sectors)))
+    All-append IsSector area (parity_sectors area) is.sectors (parity_sectors-are_sectors area is.sectors)
 
 writes_more : (xs ys : List Step) → AreWrites IsOfSector xs → AreWrites IsOfSector ys → AreWrites IsOfSector (xs ++ ys)
 writes_more [] ys front rear = rear

@@ -5,7 +5,8 @@ use Rattle.cartridge_laws.specs.Table.{IsSoundList}
 use Rattle.cartridge_spec.specs.Formatting.{IsLabel}
 use Rattle.cartridge_spec.specs.Header.{Header}
 use Rattle.cartridge_spec.specs.HeaderAndTable.{last_segment, TableIs, table_cells}
-use Rattle.cartridge_spec.specs.Mounting.{Mounted, Mounts, settled, HasList}
+use Rattle.cartridge_spec.specs.Mounting.{Mounted, Mounts, settled}
+use Rattle.cartridge_laws.specs.Terms.{HasList}
 use Rattle.cartridge_spec.specs.Says.{ByCode, LostSectors, TableSays}
 use Rattle.cartridge_spec.specs.Settling.{changed_by}
 use Rattle.cartridge_spec.specs.Table.{Entry, Shows}

@@ -1,10 +1,10 @@
 -- The plain machine of `append`: what is taken of the input, and the acts that write the volume and its entry (this project's own).
-use Rattle.std.specs.Prelude.{ℕ, List, [], ◌∷◌, length, drop, nat_le, if◌then◌else◌, ◌&&◌, Bool, take, nat_lt, Option, Some, None, ◌+◌, min, is_some, ◌++◌, ◌≡◌}
+use Rattle.std.specs.Prelude.{ℕ, List, [], ◌∷◌, length, drop, nat_le, if◌then◌else◌, ◌&&◌, Bool, take, nat_lt, Option, Some, None, ◌+◌, min, is_some, ◌++◌, ◌≡◌, ◌/◌}
 use Rattle.cartridge_spec.specs.Appending.{part_writes, in_sectors, room, free_segments, new_entry, taken_by, table_writes}
 use Rattle.cartridge_spec.specs.Mounting.{settled}
 use Rattle.cartridge_spec.specs.Settling.{settling_steps}
 use Rattle.cartridge_spec.specs.Shape.{mask_at, data_count, capacity}
-use Rattle.cartridge_spec.specs.Table.{Entry, slot_sector, table_with}
+use Rattle.cartridge_spec.specs.Table.{Entry, table_with}
 use Rattle.command_spec.specs.Lines.{reply_behind}
 use Rattle.command_spec.specs.Outcome.{settling_act, CommandOutcome, Going, WritableOutcome}
 use Rattle.command_spec.specs.declared.status.Status.{Status}
@@ -110,7 +110,7 @@ entry_for kept name date bytes = new_entry (taken_by kept.words (length bytes) (
 abbrev pub entry_acts : Kept → (name : List ℕ) → (date : ℕ) → (reply : Entry → List ℕ) → Taking → List Act
 entry_acts kept name date reply (Fits bytes) =
     record {
-      steps = table_writes (slot_sector (length kept.entries)) (table_with kept.table (length kept.entries) (entry_for kept name date bytes));
+      steps = table_writes (length kept.entries / 8) (table_with kept.table (length kept.entries) (entry_for kept name date bytes));
       text = reply (entry_for kept name date bytes);
     } ∷ []
 entry_acts kept name date reply (TooLong need have) = []

@@ -13,12 +13,12 @@ use Rattle.qic_base.specs.Terms.{place_of}
 use Rattle.qic_base.specs.Tape.{Meaning}
 use Rattle.qic_base.specs.TapeCalls.{Tells, Reads}
 use Rattle.qic_base.specs.declared.tape.SectorRead.{SectorRead}
-use Rattle.qic_base.specs.declared.tape.SectorRead.TheVariants as read
 use Rattle.qic_base.specs.declared.tape.SectorView.{SectorView}
 use Rattle.qic_base.specs.declared.tape.SectorView.TheVariants.{Blank, Defect, Lost, Holds}
 use Rattle.cartridge_laws.specs.Segment.{IsUnreadable}
-use Rattle.cartridge_spec.specs.Formatting.{IsMarked}
+use Rattle.cartridge_laws.specs.Terms.{IsMarked}
 use Rattle.formatter.specs.Marking.{MarksBelow, MarksUnreadable, HasNoMark}
+use Rattle.qic_base.specs.declared.tape.SectorRead.TheVariants as read
 
 -- ---- a word with one bit more
 

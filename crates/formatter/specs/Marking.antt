@@ -4,7 +4,7 @@ use Rattle.std.specs.Prelude.{◌≡◌, ◌↔◌, ℕ, ◌^◌, ◌<◌, List,
 use Rattle.qic_base.specs.Cartridge.{Cartridge, view_at}
 use Rattle.qic_base.specs.Terms.{place_of}
 use Rattle.cartridge_laws.specs.Segment.{IsUnreadable}
-use Rattle.cartridge_spec.specs.Formatting.{IsMarked}
+use Rattle.cartridge_laws.specs.Terms.{IsMarked}
 
 -- of the sectors before a place, segment after segment, just the unreadable ones are marked, and none of the others is
 pub record MarksBelow (c : Cartridge) (words : List ℕ) (place : ℕ) : Type 0 where

@@ -9,8 +9,9 @@ ghost use Rattle.drive_spec.specs.Deck.{segments_per_track, is_stopped};
 ghost use Rattle.drive_spec.specs.Terms.{is_protected, is_referenced};
 ghost use Rattle.host_driver.specs.Calls.{IsReady, MayWrite, Keeps};
 ghost use Rattle.host_driver.specs.Fits.{AgreesWithTape};
-ghost use Rattle.cartridge_spec.specs.Formatting.{copy_writes, IsFreshArea};
+ghost use Rattle.cartridge_spec.specs.Formatting.{copy_writes};
 ghost use Rattle.cartridge_spec.specs.Says.{with_parity};
+ghost use Rattle.cartridge_laws.specs.Terms.{IsFreshArea};
 ghost use Rattle.formatter.specs.Formats.{WritesHeader};
 
 use crate::SECTOR;

@@ -12,7 +12,8 @@ use Rattle.cartridge_spec.specs.Code.{IsCodeBlock}
 use Rattle.gf256_qic.specs.Code.{AgreesOutside, IsSolvable, lost_below}
 use Rattle.erasure_solve.specs.Lost.{is_lost, lost_count}
 use Rattle.erasure_solve.proofs.Places.{is_lost_from, lost_below-places}
-use Rattle.cartridge_spec.specs.Says.{Agrees, unreadable_count, Says, Data, LostSectors, Mismatch, data_of}
+use Rattle.cartridge_spec.specs.Says.{Agrees, unreadable_count, Says, Data, LostSectors, Mismatch}
+use Rattle.cartridge_laws.specs.Terms.{data_of}
 use Rattle.cartridge_laws.proofs.Cells.{unreadable_at, readable_at, lost_below-cells, IsReadable}
 use Rattle.segment_io.specs.Gathered.{IsUnreadableAt, NamesUnreadable, Gathered}
 use Rattle.segment_io.specs.declared.fault.SegFault.{SegFault}

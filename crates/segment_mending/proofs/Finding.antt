@@ -7,7 +7,8 @@ use Rattle.cartridge_laws.proofs.Places.{usable_small}
 use Rattle.cartridge_laws.proofs.Sayings.{says_is_function}
 use Rattle.cartridge_laws.proofs.Segments.{count_of_cells}
 use Rattle.cartridge_laws.specs.Segment.{IsUnreadable}
-use Rattle.cartridge_spec.specs.Says.{Saying, Data, LostSectors, Mismatch, Says, data_of, unreadable_count}
+use Rattle.cartridge_spec.specs.Says.{Saying, Data, LostSectors, Mismatch, Says, unreadable_count}
+use Rattle.cartridge_laws.specs.Terms.{data_of}
 use Rattle.cartridge_spec.specs.Shape.{is_unreadable, usable_places, usable_count}
 use Rattle.cartridge_spec.specs.Wear.{worn}
 use Rattle.command_laws.proofs.ScrubOneWrong.{IsPlace, wrong_place, cell_unworn, cell_worn, worn_count}

@@ -3,17 +3,14 @@ use Rattle.std.proofs.Common.{◌≡◌, ℕ, ◌+◌, ◌≤◌, Bool, true, fa
 use Rattle.std.specs.Prelude.{IsOkUnless}
 use Rattle.qic_base.specs.Cartridge.{Cartridge}
 use Rattle.qic_base.specs.Step.{Step}
-use Rattle.qic_base.specs.Sink as sinks
-use Rattle.qic_base.specs.SinkCalls as sink_calls
-use Rattle.qic_base.specs.Tape as tapes
-use Rattle.qic_base.specs.TapeCalls as tape_calls
 use Rattle.qic_base.proofs.Steps.{Tells-map}
 use Rattle.qic_base.proofs.Writing.{TakesBoth}
 use Rattle.qic_base.specs.Acts.{Act, Outside, Failing, TapeFails, SinkFails, Went, Cut}
 use Rattle.qic_base.specs.Terms.{no_source, around}
 use Rattle.qic_base.proofs.Joins.{went_both, went_then_cut, cut_is_longer, sink_cut_one}
 use Rattle.cartridge_spec.specs.Says.{Saying, Data, LostSectors, Mismatch}
-use Rattle.cartridge_spec.specs.Shape.{usable_count, sectors_of}
+use Rattle.cartridge_spec.specs.Shape.{usable_count}
+use Rattle.cartridge_laws.specs.Terms.{sectors_of}
 use Rattle.cartridge_laws.specs.Writes.{named_writes}
 use Rattle.cartridge_laws.proofs.Places.{count_below}
 use Rattle.command_spec.specs.Scrub.{Looked, Counts, reads, steps_in, header_line, fault_line, line_in}
@@ -23,11 +20,15 @@ use Rattle.command_laws.proofs.ScrubNamed.{steps_by_places, count_of_named}
 use Rattle.command_laws.proofs.ScrubOneWrong.{finds_one}
 use Rattle.segment_io.proofs.Going.{tells_always}
 use Rattle.segment_mending.specs.declared.fault.ScrubFault.{ScrubFault}
-use Rattle.segment_mending.specs.declared.fault.ScrubFault.TheVariants as fault
 use Rattle.segment_mending.specs.declared.locating.Found.TheVariants.{Reads, Fails}
 use Rattle.segment_mending.specs.declared.locating.Unread.{Unread}
 use Rattle.segment_mending.specs.Locating.{data_in, unread_saying, finding_of, IsFound, MayMend, mending, GoesAs}
 use Rattle.segment_mending.specs.Looking.{AreActs, Counted, LookingCut, Looks, with_mended, with_unread}
+use Rattle.qic_base.specs.Sink as sinks
+use Rattle.qic_base.specs.SinkCalls as sink_calls
+use Rattle.qic_base.specs.Tape as tapes
+use Rattle.qic_base.specs.TapeCalls as tape_calls
+use Rattle.segment_mending.specs.declared.fault.ScrubFault.TheVariants as fault
 
 -- ---- the act
 

@@ -13,7 +13,8 @@ use Rattle.cartridge_spec.specs.HeaderAndTable.{TableIs, table_cells}
 use Rattle.cartridge_spec.specs.Mounting.{settled}
 use Rattle.cartridge_spec.specs.Says.{Data, LostSectors, AsRead, ByCode, TableSays}
 use Rattle.cartridge_spec.specs.Settling.{settling_steps}
-use Rattle.cartridge_spec.specs.Table.{Entry, slot_sector, table_with}
+use Rattle.cartridge_spec.specs.Table.{Entry, table_with}
+use Rattle.cartridge_laws.specs.Terms.{slot_sector}
 use Rattle.command_laws.proofs.CommandAdded.{status_by, input_texts, replied_text, status_fits}
 use Rattle.command_laws.proofs.CommandEndings.{nothing_front}
 use Rattle.command_laws.proofs.CommandEnds.{is_some-map}

@@ -4,27 +4,21 @@ use Rattle.std.proofs.lemmas.List.{append-nil, append_assoc}
 use Rattle.qic_base.specs.Cartridge.{Cartridge}
 use Rattle.qic_base.specs.declared.tape.TapeInfo.{TapeInfo}
 use Rattle.qic_base.specs.declared.sink.SinkFailed.{SinkFailed}
-use Rattle.qic_base.specs.Sink as sinks
-use Rattle.qic_base.specs.SinkCalls as sink_calls
 use Rattle.qic_base.specs.Step.{Step as TapeStep}
-use Rattle.qic_base.specs.Tape as tapes
 use Rattle.qic_base.proofs.Steps.{Done-Done, Done-Broke}
 use Rattle.cartridge_spec.specs.Shape.{marked_sectors}
-use Rattle.cartridge_spec.specs.Formatting.{MarksDefects}
-use Rattle.cartridge_spec.specs.Formatting.{clearing_steps, copy_writes, format_steps, IsFirstDefectInFront, HasNoDefectInFront}
+use Rattle.cartridge_spec.specs.Formatting.{MarksDefects, clearing_steps, copy_writes, format_steps, IsFirstDefectInFront, HasNoDefectInFront, IsFreshWith}
 use Rattle.cartridge_spec.specs.Says.{with_parity}
-use Rattle.cartridge_spec.specs.Formatting.{IsFreshArea, IsFreshWith}
+use Rattle.cartridge_laws.specs.Terms.{IsFreshArea}
 use Rattle.cartridge_laws.proofs.FreshFront.{first_defect_is_none}
 use Rattle.cartridge_laws.proofs.FreshMarks.{fresh_area_is_one}
 use Rattle.drive_states.specs.Unit.{UnitView}
 use Rattle.host_driver.specs.declared.host.Host.{Host}
 use Rattle.formatter.specs.declared.fault.FormatFault.{FormatFault}
-use Rattle.formatter.specs.declared.fault.FormatFault.TheVariants as fault
 use Rattle.formatter.specs.declared.formatting.FormatReport.{FormatReport}
 use Rattle.formatter.specs.Formats.{Formats, HasFormatted}
 use Rattle.command_spec.specs.declared.words.Words.TheVariants.{Format}
 use Rattle.command_spec.specs.declared.status.Status.{Status}
-use Rattle.command_spec.specs.declared.status.Status.TheVariants as status
 use Rattle.command_spec.specs.Lines.{formatted_line}
 use Rattle.command_spec.specs.Outcome.{CommandOutcome, refused}
 use Rattle.tape_cmd.specs.Outcome.{first_steps}
@@ -37,6 +31,11 @@ use Rattle.command_spec.specs.Runs.{EndsBlind}
 use Rattle.tape_cmd.proofs.Endings.{IsBlind, printed, turned_down, turned_behind, cut_off, cut_off_first}
 use Rattle.command_laws.proofs.CommandEndings.{Rules}
 use Rattle.store_opening.proofs.Started.{Present, Knows, known_before, told_known, told_known_beside, told_at_start}
+use Rattle.qic_base.specs.Sink as sinks
+use Rattle.qic_base.specs.SinkCalls as sink_calls
+use Rattle.qic_base.specs.Tape as tapes
+use Rattle.formatter.specs.declared.fault.FormatFault.TheVariants as fault
+use Rattle.command_spec.specs.declared.status.Status.TheVariants as status
 
 -- ---- what is told of the cartridge
 
@@ -65,7 +64,9 @@ AreMarks words c = MarksDefects c words × HasNoDefectInFront c
 fresh_with : (label : List ℕ) (date : ℕ) (info : TapeInfo) (words : List ℕ) (area : List (List ℕ)) (c : Cartridge) → info ≡ c.info → IsFreshArea info.segments_per_track label date words area →
     AreMarks words c → IsFreshWith c label date words area
 fresh_with label date info words area c same fresh marks =
-    record { fresh = subst (λ (i : TapeInfo). IsFreshArea i.segments_per_track label date words area) same fresh; marks = marks.0 }
+    let here : IsFreshArea c.info.segments_per_track label date words area =
+    subst (λ (i : TapeInfo). IsFreshArea i.segments_per_track label date words area) same fresh in
+    record { size = here.size; spells = here.spells; marks = marks.0 }
 
 formatted_is : (label : List ℕ) (date : ℕ) (info : TapeInfo) (words : List ℕ) (area : List (List ℕ)) (held : Option Cartridge) → info.protected ≡ false →
     IsFreshArea info.segments_per_track label date words area → Knows (Some info) held → IfSome held (AreMarks words) → FormatOutcome label date held (formatted info.segments_per_track words area)

@@ -3,43 +3,31 @@ use Rattle.std.proofs.Common.{◌≡◌, ◌≢◌, ◌⊎◌, ℕ, ◌++◌, Bo
 use Rattle.qic_base.specs.Cartridge.{Cartridge}
 use Rattle.qic_base.specs.declared.tape.TapeInfo.{TapeInfo}
 use Rattle.qic_base.specs.declared.foreign.ForeignField.{ForeignField}
-use Rattle.qic_base.specs.declared.foreign.ForeignField.TheVariants as foreign_field
 use Rattle.qic_base.specs.declared.sink.SinkFailed.{SinkFailed}
-use Rattle.qic_base.specs.Sink as sinks
-use Rattle.qic_base.specs.SinkCalls as sink_calls
 use Rattle.qic_base.specs.Step.{Step as TapeStep}
-use Rattle.qic_base.specs.Tape as tapes
 use Rattle.qic_base.proofs.Steps.{Done-Done, Done-Broke}
-use Rattle.cartridge_spec.specs.Header.{Header, fault_as}
+use Rattle.cartridge_spec.specs.Header.{Header}
+use Rattle.cartridge_laws.specs.Terms.{fault_as}
 use Rattle.cartridge_spec.specs.Table.{Entry}
-use Rattle.cartridge_spec.specs.Mounting as mounting
 use Rattle.cartridge_laws.proofs.MountOnce.{mounts_is_function}
 use Rattle.volume_store.specs.declared.fault.StoreFault.{StoreFault}
-use Rattle.volume_store.specs.declared.fault.StoreFault.TheVariants as fault
-use Rattle.cartridge_spec.specs.Header.{fault_as}
 use Rattle.volume_store.specs.Finding.{is_of_mounting, IsForeign, NamesCause}
 use Rattle.command_laws.proofs.StoreTaking.{both_true}
 use Rattle.std.proofs.lemmas.Bool.{lt-ltb, ne_eqb}
-use Rattle.std.specs.Prelude.{◌==◌, nat_lt, not}
+use Rattle.std.specs.Prelude.{◌==◌, nat_lt, not, if◌then◌else◌}
 use Rattle.volume_store.specs.Mounting.{StoreView, StoreFits, IsSettling, MountRefuses, MountDoes}
-use Rattle.volume_store.specs.Mounting as stores
 use Rattle.drive_states.specs.Unit.{UnitView}
 use Rattle.cartridge_spec.specs.Settling.{settling_steps, settling_places, block_writes}
 use Rattle.cartridge_spec.specs.Says.{with_parity}
-use Rattle.std.specs.Prelude.{if◌then◌else◌}
 use Rattle.cartridge_spec.specs.Mounting.{Mounting}
 use Rattle.command_spec.specs.declared.words.Words.{Words}
-use Rattle.command_spec.specs.declared.words.Words.TheVariants as words
 use Rattle.command_spec.specs.declared.status.Status.{Status}
-use Rattle.command_spec.specs.declared.status.Status.TheVariants as status
 use Rattle.command_spec.specs.Lines.{list_text, info_text}
-use Rattle.command_spec.specs.Outcome.{CommandOutcome, refused, acted}
+use Rattle.command_spec.specs.Outcome.{CommandOutcome, refused, acted, Going, Opened, OpenOutcome, WritableOutcome, Printing, Shows, is_refused}
 use Rattle.tape_cmd.specs.Outcome.{first_steps}
-use Rattle.command_spec.specs.Outcome.{Going, Opened, OpenOutcome, WritableOutcome, Printing, Shows, is_refused}
 use Rattle.tape_cmd.specs.Opening.{IsRefusal, RefusesOpening, store_status, open_status, is_opening, StartFails, OpeningRefused, OpeningEnds, IsUnlocked, WritableEnds}
 use Rattle.store_opening.specs.Opening.{IsOpened, HasOpened, IsTurnedDown, OpenFails, StartFails as FailsToStart}
 use Rattle.store_opening.specs.declared.opening.OpenFault.{OpenFault}
-use Rattle.store_opening.specs.declared.opening.OpenFault.TheVariants as open_fault
 use Rattle.command_spec.specs.Commands.Info.{telling}
 use Rattle.command_spec.specs.Commands.ListCommand.{listing}
 use Rattle.command_spec.specs.Machine.{CommandPrints}
@@ -48,6 +36,16 @@ use Rattle.command_spec.specs.Runs.{EndsBlind, may_come_from}
 use Rattle.tape_cmd.proofs.Endings.{IsBlind, printed, turned_down, cut_off, told_map}
 use Rattle.command_laws.proofs.CommandEndings.{Rules}
 use Rattle.store_opening.proofs.Started.{Present, Knows, told_known_beside, told_at_start}
+use Rattle.qic_base.specs.declared.foreign.ForeignField.TheVariants as foreign_field
+use Rattle.qic_base.specs.Sink as sinks
+use Rattle.qic_base.specs.SinkCalls as sink_calls
+use Rattle.qic_base.specs.Tape as tapes
+use Rattle.cartridge_spec.specs.Mounting as mounting
+use Rattle.volume_store.specs.declared.fault.StoreFault.TheVariants as fault
+use Rattle.volume_store.specs.Mounting as stores
+use Rattle.command_spec.specs.declared.words.Words.TheVariants as words
+use Rattle.command_spec.specs.declared.status.Status.TheVariants as status
+use Rattle.store_opening.specs.declared.opening.OpenFault.TheVariants as open_fault
 
 -- ---- outcomes
 

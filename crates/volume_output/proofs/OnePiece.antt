@@ -1,17 +1,13 @@
 -- One segment read and given, or not.
 use Rattle.std.proofs.Common.{◌≡◌, ℕ, ◌<◌, Bool, true, false, List, [], ◌∷◌, ◌++◌, length, take, refl, sym, ap, ◌∙◌, subst, arith, append-nil, codes, decimal, Result, Ok, Err, IsErr}
 use Rattle.qic_base.specs.Cartridge.{Cartridge}
-use Rattle.qic_base.specs.Sink as sinks
-use Rattle.qic_base.specs.SinkCalls as sink_calls
-use Rattle.qic_base.specs.Tape as tapes
-use Rattle.qic_base.specs.TapeCalls as tape_calls
 use Rattle.qic_base.proofs.Steps.{Tells-map}
 use Rattle.qic_base.proofs.Writing.{TakesBoth, Wrote-Wrote, Wrote-BrokeOff, BrokeOff-longer}
 use Rattle.qic_base.specs.Acts.{Act, text_of, TapeFails, SinkFails, Went, Cut}
 use Rattle.qic_base.specs.Terms.{no_source, around}
 use Rattle.qic_base.proofs.Joins.{cut_is_longer, broke_first}
-use Rattle.cartridge_spec.specs.Says.{cells_of, Says, Data, LostSectors, data_of}
-use Rattle.cartridge_spec.specs.Says as saying
+use Rattle.cartridge_spec.specs.Says.{cells_of, Says, Data, LostSectors}
+use Rattle.cartridge_laws.specs.Terms.{data_of}
 use Rattle.cartridge_spec.specs.Shape.{mask_at, usable_count}
 use Rattle.cartridge_laws.proofs.Segments.{count_of_cells}
 use Rattle.cartridge_spec.specs.Appending.{bytes_in}
@@ -24,6 +20,11 @@ use Rattle.volume_output.specs.Output.{GaveVolume, VolumeCut}
 use Rattle.volume_output.specs.Piece.{piece_of, printed_act, part_text}
 use Rattle.volume_output.proofs.Bytes.{Holds, data_bytes, count_of_bytes}
 use Rattle.volume_output.proofs.Joining.{printed_none, printed_steps, none_given}
+use Rattle.qic_base.specs.Sink as sinks
+use Rattle.qic_base.specs.SinkCalls as sink_calls
+use Rattle.qic_base.specs.Tape as tapes
+use Rattle.qic_base.specs.TapeCalls as tape_calls
+use Rattle.cartridge_spec.specs.Says as saying
 
 -- ---- the act of a piece as it is printed
 

@@ -5,10 +5,10 @@ use Rattle.std.proofs.lemmas.Bool.{cases_Bool, leb-true}
 use Rattle.std.proofs.lemmas.List.{length-take-le, take-append-le, take-append-drop}
 use Rattle.std.proofs.lemmas.List.Elements.{All-take}
 use Rattle.qic_base.proofs.Steps.{Tells-map}
-use Rattle.qic_base.specs.Cartridge.{Cartridge}
-use Rattle.cartridge_spec.specs.Code.{IsSector, IsCodeBlock}
-use Rattle.cartridge_spec.specs.Says.{Says, Data, LostSectors, cells_of, data_of}
-use Rattle.cartridge_spec.specs.Says as saying
+use Rattle.qic_base.specs.Cartridge.{Cartridge, IsSector}
+use Rattle.cartridge_spec.specs.Code.{IsCodeBlock}
+use Rattle.cartridge_spec.specs.Says.{Says, Data, LostSectors, cells_of}
+use Rattle.cartridge_laws.specs.Terms.{data_of}
 use Rattle.cartridge_spec.specs.Shape.{mask_at, usable_count, data_count, capacity}
 use Rattle.cartridge_laws.proofs.Places.{count_below}
 use Rattle.cartridge_laws.proofs.Segments.{count_of_cells}
@@ -17,6 +17,7 @@ use Rattle.segment_io.specs.Reading.{HasSolved}
 use Rattle.volume_output.specs.Part.{ReadsPiece, LosesPiece, MismatchesPiece}
 use Rattle.volume_output.specs.Piece.{piece_of}
 use Rattle.volume_output.proofs.Walking.{left_from, left_behind, left_skipped, left_given}
+use Rattle.cartridge_spec.specs.Says as saying
 use Rattle.qic_base.specs.Tape as tapes
 use Rattle.qic_base.specs.TapeCalls as tape_calls
 

@@ -1,6 +1,6 @@
 -- One piece of a volume, by its number: its place, and how its reading ended (this project's own).
 use Rattle.std.specs.Prelude.{ℕ, ◌*◌, ◌<◌, ◌≤◌, ◌≡◌, List, [], All, length, take, slice_get, Option, Some, None, Result, Ok, Err}
-use Rattle.cartridge_spec.specs.Code.{IsSector}
+use Rattle.qic_base.specs.Cartridge.{IsSector}
 use Rattle.cartridge_spec.specs.Says.{Says, Data}
 use Rattle.cartridge_spec.specs.Shape.{mask_at, data_count}
 use Rattle.command_spec.specs.Restore.{Piece, PieceEnds, LostIn, MismatchIn, piece_cells}

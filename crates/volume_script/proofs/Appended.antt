@@ -6,24 +6,19 @@ use Rattle.std.proofs.lemmas.List.{length-append, length-take-le}
 use Rattle.std.proofs.Math.Seq.{take-append_seam}
 use Rattle.qic_base.specs.Cartridge.{Cartridge}
 use Rattle.qic_base.specs.declared.sink.SinkFailed.{SinkFailed}
-use Rattle.qic_base.specs.Sink as sinks
-use Rattle.qic_base.specs.SinkCalls as sink_calls
-use Rattle.qic_base.specs.Source as sources
 use Rattle.qic_base.specs.Step.{Step}
-use Rattle.qic_base.specs.Tape as tapes
-use Rattle.qic_base.specs.TapeCalls as tape_calls
 use Rattle.qic_base.proofs.Steps.{Tells-map}
 use Rattle.qic_base.proofs.Writing.{TakesBoth}
 use Rattle.qic_base.specs.Acts.{Act, text_of, Failing, TapeFails, SourceFails, SinkFails, Went, Cut}
 use Rattle.qic_base.specs.Terms.{no_sink, reading}
 use Rattle.cartridge_spec.specs.Appending.{table_writes}
-use Rattle.cartridge_spec.specs.Table.{slot_sector, table_with, Entry}
+use Rattle.cartridge_laws.specs.Terms.{slot_sector}
+use Rattle.cartridge_spec.specs.Table.{table_with, Entry}
 use Rattle.qic_base.proofs.Joins.{cut_is_longer, broke_behind}
 use Rattle.cartridge_spec.specs.HeaderAndTable.{table_cells, TableIs}
 use Rattle.cartridge_spec.specs.Says.{ByCode, LostSectors, TableSays}
 use Rattle.cartridge_spec.specs.Settling.{settling_steps}
 use Rattle.command_spec.specs.declared.line.Line.{Line}
-use Rattle.command_spec.specs.declared.line.Line.TheVariants as line
 use Rattle.command_spec.specs.Input.{promised as promised_by}
 use Rattle.qic_base.specs.SourceCalls.{Gave}
 use Rattle.qic_base.proofs.Giving.{Gave-Gave}
@@ -31,7 +26,6 @@ use Rattle.tape_script.proofs.Rests.{any_rest, whole_told}
 use Rattle.command_spec.specs.Lines.{appended_line, reply_behind}
 use Rattle.volume_store.specs.declared.appended.Appended.{Appended}
 use Rattle.volume_store.specs.declared.fault.StoreFault.{StoreFault}
-use Rattle.volume_store.specs.declared.fault.StoreFault.TheVariants as store_fault
 use Rattle.command_spec.specs.Append.{Kept, Taking, Fits, TooLong, TooShort, taking, room_in, entry_for, append_acts, silently, kept_over}
 use Rattle.volume_store.specs.Appending.{kept_by, AppendRan, HasAppended, TableRefused, AppendCut, CutUnread, KeepsList}
 use Rattle.volume_store.specs.Mounting.{StoreView, StoreFits}
@@ -39,21 +33,28 @@ use Rattle.drive_spec.specs.Terms.{is_protected}
 use Rattle.drive_states.specs.Unit.{UnitView}
 use Rattle.volume_store.proofs.Copies.{tells_two}
 use Rattle.volume_script.specs.declared.fault.ItemFault.{ItemFault}
-use Rattle.volume_script.specs.declared.fault.ItemFault.TheVariants as fault
 use Rattle.volume_script.specs.declared.limited.Limited.{Limited}
 use Rattle.command_spec.specs.declared.refusal.Refusal.{Refusal}
-use Rattle.command_spec.specs.declared.refusal.Refusal.TheVariants as why
 use Rattle.command_laws.specs.ScriptItems.{EarlyDoes}
 use Rattle.volume_script.specs.Items.{ItemDone, ItemShort, ItemCut, ItemMismatched, ItemEnds, WouldDo}
 use Rattle.volume_script.specs.Limited.{limited_means}
 use Rattle.command_spec.specs.Script.{refusal_line, Did, LineDoes, Meeting, Finds, Meets, acts_on, line_refused, reply, taken_as}
 use Rattle.volume_script.specs.Promised.{RanPromised, Refuses, replied_so}
-use Rattle.command_spec.specs.Script as script
 use Rattle.command_laws.proofs.ScriptActs.{quietly, same_acts, same_taking, took_enough, took_too_long, took_short, full_acts, full_taking, short_acts, fits_acts, front_acts, front_and_last, replied_steps, replied_text, input_texts}
 use Rattle.command_laws.proofs.ScriptGiven.{gave_all, gave_few, Behind, behind}
 use Rattle.command_laws.proofs.ScriptLifting.{out, TakesNone, read_went, read_cut, replied_went, replied_cut, rested}
 use Rattle.volume_script.proofs.Quiet.{mark_told, unmarked}
 use Rattle.command_laws.proofs.ScriptPlain.{line_one, meets_one, not_lost}
+use Rattle.qic_base.specs.Sink as sinks
+use Rattle.qic_base.specs.SinkCalls as sink_calls
+use Rattle.qic_base.specs.Source as sources
+use Rattle.qic_base.specs.Tape as tapes
+use Rattle.qic_base.specs.TapeCalls as tape_calls
+use Rattle.command_spec.specs.declared.line.Line.TheVariants as line
+use Rattle.volume_store.specs.declared.fault.StoreFault.TheVariants as store_fault
+use Rattle.volume_script.specs.declared.fault.ItemFault.TheVariants as fault
+use Rattle.command_spec.specs.declared.refusal.Refusal.TheVariants as why
+use Rattle.command_spec.specs.Script as script
 
 pub flip : (o : Option (List ℕ)) (all : List ℕ) → IfSome o (λ bytes. all ≡ bytes) → IfSome o (λ bytes. bytes ≡ all)
 flip None all told = tt

@@ -13,7 +13,8 @@ use Rattle.host_driver.specs.Fits.{Fits, AgreesWithTape, segments_of, deck_of}
 use Rattle.qic_base.proofs.Steps.{Done-after_reads, Broke-after_reads}
 use Rattle.cartridge_spec.specs.Header.{HeaderFault, number, header_fault, has_signature, number_in}
 use Rattle.cartridge_spec.specs.Says.{Saying, Says, Data}
-use Rattle.cartridge_spec.specs.HeaderAndTable.{copy_cells, CopyReads, CopyDoesNotRead, IsInForce}
+use Rattle.cartridge_spec.specs.HeaderAndTable.{copy_cells, CopyReads, CopyDoesNotRead}
+use Rattle.cartridge_laws.specs.Terms.{IsInForce}
 use Rattle.cartridge_laws.proofs.Sayings.{says_is_function}
 use Rattle.cartridge_laws.proofs.Segments.{length-whole_cells}
 use Rattle.header_segments.specs.declared.header.Header.{Header}
@@ -23,9 +24,9 @@ use Rattle.header_segments.specs.Refusal.{refusal, foreign}
 use Rattle.cartridge_laws.proofs.HeaderRefusals.{fault-segments, length-words_in}
 use Rattle.segment_io.specs.Reading.{HasSolved}
 use Rattle.volume_store.specs.declared.fault.StoreFault.{StoreFault}
-use Rattle.volume_store.specs.declared.fault.StoreFault.TheVariants as fault
 use Rattle.volume_store.specs.Finding.{Leaves, Refuses, is_tape, TakesHeader, FindsCopy, FindsHeader, HasCopy, HasFormat, HasWords, HasMap}
 use Rattle.volume_store.proofs.TableSegment.{data_of-whole}
+use Rattle.volume_store.specs.declared.fault.StoreFault.TheVariants as fault
 
 -- ---- calls that only read
 

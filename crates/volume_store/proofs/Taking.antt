@@ -7,7 +7,8 @@ use Rattle.std.proofs.lemmas.List.Elements.{All-nil, All-cons, All-append}
 use Rattle.std.proofs.lemmas.Option.{same_Some}
 use Rattle.std.proofs.lemmas.List.{length-append, take_all}
 use Rattle.cartridge_laws.specs.Table.{LieBehind}
-use Rattle.cartridge_spec.specs.Appending.{end_behind, last_end, room, free_segments}
+use Rattle.cartridge_spec.specs.Appending.{end_behind, room, free_segments}
+use Rattle.cartridge_laws.specs.Terms.{last_end}
 use Rattle.cartridge_spec.specs.Table.{Entry}
 use Rattle.cartridge_spec.specs.Volumes.{carrying}
 use Rattle.command_laws.proofs.StoreTaking.{both_true}

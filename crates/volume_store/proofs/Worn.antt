@@ -1,7 +1,7 @@
 -- A store behind a sector that was worn.
 use Rattle.std.proofs.Common.{◌≡◌, false, List, ℕ, [], ◌∷◌, Option, Some, None, IfSome, sym, subst, Result, Ok, Err, refl}
 use Rattle.std.specs.Option.{option_map}
-use Rattle.cartridge_spec.specs.Mounting.{HasList}
+use Rattle.cartridge_laws.specs.Terms.{HasList}
 use Rattle.cartridge_spec.specs.Table.{Entry}
 use Rattle.command_laws.proofs.StoreWorn.{worn_list}
 use Rattle.drive_states.specs.Hand.{Wears}

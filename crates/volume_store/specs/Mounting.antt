@@ -1,9 +1,10 @@
 -- How a cartridge is mounted, what a store shows of it, and when a store fits a unit (this project's own).
 use Rattle.std.specs.Prelude.{◌≡◌, ℕ, List, take, Result, Ok, Err, ◌⊎◌, [], ◌-◌, ◌*◌, true, false, length}
 use Rattle.cartridge_laws.specs.Table.{IsSoundList}
-use Rattle.cartridge_spec.specs.Header.{fault_as, Header}
+use Rattle.cartridge_laws.specs.Terms.{fault_as, HasList}
+use Rattle.cartridge_spec.specs.Header.{Header}
 use Rattle.cartridge_spec.specs.HeaderAndTable.{table_cells}
-use Rattle.cartridge_spec.specs.Mounting.{Mounts, HasList}
+use Rattle.cartridge_spec.specs.Mounting.{Mounts}
 use Rattle.cartridge_spec.specs.Settling.{settling_steps}
 use Rattle.cartridge_spec.specs.Table.{Entry}
 use Rattle.drive_spec.specs.Terms.{is_referenced}

@@ -1,8 +1,9 @@
 //! A volume appended.
 
 ghost use Rattle.std.specs.Prelude.{◌≡◌, ◌-◌, ◌+◌, ◌*◌, ◌≤◌, Some, None, true, length};
+ghost use Rattle.cartridge_laws.specs.Terms.{last_end};
 ghost use Rattle.qic_base.specs.Terms.{reading};
-ghost use Rattle.cartridge_spec.specs.Appending.{last_end, room};
+ghost use Rattle.cartridge_spec.specs.Appending.{room};
 ghost use Rattle.cartridge_laws.specs.Table.{IsSoundList};
 ghost use Rattle.drive_spec.specs.Terms.{is_referenced};
 ghost use Rattle.cartridge_spec.specs.Formatting.{IsLabel};

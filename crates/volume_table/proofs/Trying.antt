@@ -11,7 +11,8 @@ use Rattle.qic_base.specs.Terms.{IsLost}
 use Rattle.qic_base.specs.LostSet.{lost_places}
 use Rattle.qic_base.proofs.LostSetLaws.{lost_places-lost, lost_places-kept}
 use Rattle.cartridge_laws.specs.Says.{LosesData}
-use Rattle.cartridge_spec.specs.TableSets.{set_of, with_used, sets_by, sets_by_one, sets_by_two}
+use Rattle.cartridge_spec.specs.Says.{set_of, with_used, sets_by}
+use Rattle.cartridge_laws.specs.Terms.{sets_by_one, sets_by_two}
 use Rattle.volume_table.specs.Trials.{with_place, with_last_used, tried}
 
 -- ---- sets of places

@@ -4,7 +4,8 @@ use Rattle.std.specs.Prelude.{◌≡◌, ℕ, ◌-◌, ◌^◌, ◌<◌, ◌++�
 use Rattle.qic_base.specs.Terms.{IsLost}
 use Rattle.qic_base.specs.LostSet.{lost_places}
 use Rattle.cartridge_spec.specs.Shape.{sector_at}
-use Rattle.cartridge_spec.specs.TableSets.{has_used_slot, sets_by}
+use Rattle.cartridge_laws.specs.Terms.{has_used_slot}
+use Rattle.cartridge_spec.specs.Says.{sets_by}
 use Rattle.volume_table.specs.declared.sets_tried.Trials.{Trials}
 
 -- ---- the last sector with a used slot
