@@ -31,7 +31,8 @@ use Rattle.command_spec.specs.Input.{Item}
 use Rattle.command_spec.specs.Listing.{IsHeard}
 use Rattle.command_spec.specs.Machine.{Yields, HasValues, Spells}
 use Rattle.command_spec.specs.MadeVolumes.{AppendedBy, AppendedFrom, made_contents}
-use Rattle.command_spec.specs.Make.{Makes, Making, MakeOutcome, make_status}
+use Rattle.command_laws.specs.CommandTerms.{Makes}
+use Rattle.command_spec.specs.Make.{Making, MakeOutcome, make_status}
 use Rattle.command_spec.specs.Outcome.{Going, CommandOutcome, refused, Opened, OpenOutcome}
 use Rattle.command_spec.specs.Runs.{may_come_from, fault_of, is_fault, CommandEnds}
 use Rattle.command_spec.specs.Script.{ScriptDoes, Scripting, ScriptOutcome}
@@ -495,7 +496,7 @@ module _ (told : Option (List ℕ)) (words : List (List ℕ)) (c : Cartridge) (p
             inr (record {
               mounts = was.mounts;
               held = mounted_held c plain whole script.stands was.mounts;
-              acts = ap (λ (o : CommandOutcome). o.acts) did.is ∙ ap (λ (o : scripts.ScriptRun). quiet (settling_steps plain.table_area c) ∷ o.acts) one;
+              acts = ap (λ (o : CommandOutcome). o.acts) did.is ∙ ap (λ (o : CommandOutcome). quiet (settling_steps plain.table_area c) ∷ o.acts) one;
             })
       ]
 

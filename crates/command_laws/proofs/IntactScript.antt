@@ -1,9 +1,9 @@
 -- A script, done or stopped, on a cartridge whose whole table holds what it should.
-use Rattle.std.proofs.Common.{◌≡◌, ◌∙◌, ◌⊎◌, ◌++◌, ◌+◌, ◌≤◌, ◌<◌, zero, suc, ℕ, List, [], ◌∷◌, All, Option, Some, IsSomeAnd, inl, inr, ap, sym, subst, refl, arith, length, take, drop, append-nil}
+use Rattle.std.proofs.Common.{◌≡◌, ◌∙◌, ◌++◌, ◌+◌, ◌<◌, zero, suc, ℕ, List, [], ◌∷◌, All, Option, Some, IsSomeAnd, inl, inr, ap, sym, subst, refl, arith, length, take, drop, append-nil}
 use Rattle.std.proofs.lemmas.Bool.{cases_lt}
 use Rattle.std.proofs.lemmas.List.{drop_all, take_all}
 use Rattle.cartridge_laws.proofs.AppendVolume.{free_writes_stand, last_end_least}
-use Rattle.cartridge_laws.proofs.FormatWriting.{effects-some, some_weaker}
+use Rattle.cartridge_laws.proofs.FormatWriting.{some_weaker}
 use Rattle.cartridge_laws.proofs.MountStanding.{standing_data}
 use Rattle.cartridge_laws.proofs.OneLossComesBack.{whole_comes_back}
 use Rattle.cartridge_spec.specs.Appending.{last_end}
@@ -19,11 +19,13 @@ use Rattle.command_laws.proofs.ScriptStanding.{ItemLeaves, early_entry, early_wr
 use Rattle.command_laws.specs.Intact.{IsIntact, StoppedScriptComesBack}
 use Rattle.command_laws.specs.MountedHeld.{IsHeld}
 use Rattle.command_laws.specs.ScriptStanding.{HaveBytes, plain_after, plain_behind}
-use Rattle.command_spec.specs.Append.{Kept, append_acts, entry_acts, input_writes, kept_over, room_in, taking}
+use Rattle.command_spec.specs.Append.{Kept, entry_acts, input_writes, kept_over, room_in, taking}
 use Rattle.command_spec.specs.Input.{AtEnd, AtFault, AtStop, Ending, Item}
 use Rattle.command_spec.specs.Lines.{reply_behind}
 use Rattle.command_spec.specs.OneLoss.{ComesBackAsOneOf, SomeComeBack}
-use Rattle.command_spec.specs.Script.{Did, EndDoes, FaultDoes, Finds, ItemsDo, Meeting, Meets, Refuses, ScriptDoes, ScriptRun, acts_of, acts_on, cartridge_behind, entries_behind, place_behind}
+use Rattle.command_spec.specs.Script.{Did, EndDoes, Finds, ItemsDo, Meeting, Meets, Refuses, ScriptDoes, acts_of, acts_on, cartridge_behind, entries_behind, place_behind}
+use Rattle.command_laws.specs.CommandTerms.{FaultDoes}
+use Rattle.command_spec.specs.Outcome.{CommandOutcome}
 use Rattle.command_spec.specs.ScriptLists.{ItemsWearBehind, LineSpares, WearsBehind}
 use Rattle.command_spec.specs.declared.line.Line.{Line}
 use Rattle.qic_base.proofs.Joins.{steps_of-append}
@@ -153,7 +155,7 @@ last_comes c plain rest (AtFault number place) acts left intact does torn = faul
 
 -- ---- a script
 
-module _ (c : Cartridge) (plain : Plain) (input : List ℕ) (outcome : ScriptRun) (left : Option Cartridge) (intact : IsIntact c plain)
+module _ (c : Cartridge) (plain : Plain) (input : List ℕ) (outcome : CommandOutcome) (left : Option Cartridge) (intact : IsIntact c plain)
     (does : ScriptDoes c plain.words (entries_of plain) input outcome) (content : All (λ b. b < 256) input) where
   -- behind all items
   behind_all : (n : ℕ) → n ≡ length does.items → ItemsWearBehind (take n does.items) →

@@ -14,8 +14,9 @@ use Rattle.command_laws.specs.MadeLaws.{MadeWhereThereIsRoom}
 use Rattle.command_laws.specs.MountedKept.{IsOpen}
 use Rattle.command_laws.specs.RestoreLaws.{HasVolume}
 use Rattle.command_spec.specs.Generator.{made_bytes}
-use Rattle.command_spec.specs.MadeVolumes.{before_sums, made_contents}
-use Rattle.command_spec.specs.Make.{MakeStep, AppendMade, WearSector, ScrubAll, SumVolume, wearing, first_two, wearing_in, wearing_volumes, after_items, Answer, Done, StepDoes, Runs, made_answer, appending, IsSummed, ending_answer, summing, made_list, making, made_name}
+use Rattle.command_laws.specs.CommandTerms.{before_sums, first_two}
+use Rattle.command_spec.specs.MadeVolumes.{made_contents}
+use Rattle.command_spec.specs.Make.{MakeStep, AppendMade, WearSector, ScrubAll, SumVolume, wearing, wearing_in, wearing_volumes, after_items, Answer, Done, StepDoes, Runs, made_answer, appending, IsSummed, ending_answer, summing, made_list, making, made_name}
 use Rattle.command_spec.specs.Restore.{volume_at, LosesFew, pieces, Restores}
 use Rattle.qic_base.specs.Acts.{Act, steps_of, text_of}
 use Rattle.qic_base.specs.Cartridge.{Cartridge}
@@ -67,9 +68,9 @@ mending_after seed words es (SumVolume number ∷ items) mends = absurd mends.0
 mending_goes : (seed : ℕ) (c : Cartridge) (plain : Plain) (item : MakeStep) (acts : List Act) (answer : Answer) → IsMending item → IsOpen c plain →
     StepDoes seed c plain.words (entries_of plain) item acts answer → answer ≡ Done
 mending_goes seed c plain (AppendMade volume) acts answer mends held does = absurd mends
-mending_goes seed c plain (WearSector segment sector) acts answer mends held does = does.answered
+mending_goes seed c plain (WearSector segment sector) acts answer mends held does = does.1
 mending_goes seed c plain ScrubAll acts answer mends held (inl refused) = absurd (never_unlocked c refused.mark held.unprotected)
-mending_goes seed c plain ScrubAll acts answer mends held (inr (free, done)) = done.answered
+mending_goes seed c plain ScrubAll acts answer mends held (inr (free, done)) = done.1
 mending_goes seed c plain (SumVolume number) acts answer mends held does = absurd mends
 
 all_mending_go : (seed : ℕ) (items : List MakeStep) (c : Cartridge) (plain : Plain) (acts : List Act) (answer : Answer) → AreStill items → AreMending items → IsOpen c plain →

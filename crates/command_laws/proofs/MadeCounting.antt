@@ -1,12 +1,13 @@
 -- How many volumes a run of `make` has appended, by its answer.
-use Rattle.std.proofs.Common.{◌≡◌, ◌≢◌, ℕ, zero, suc, ◌+◌, ◌<◌, List, [], ◌∷◌, ◌++◌, Bool, true, false, cond, Some, inl, inr, refl, ap, ◌∙◌, sym, subst, arith}
+use Rattle.std.proofs.Common.{◌≡◌, ◌≢◌, ℕ, suc, ◌+◌, List, [], ◌∷◌, ◌++◌, Bool, true, false, cond, Some, inl, inr, refl, ap, ◌∙◌, sym, subst, arith}
 use Rattle.cartridge_spec.specs.Settling.{changed_by}
 use Rattle.cartridge_spec.specs.Table.{Entry}
 use Rattle.command_laws.proofs.MadeStops.{AreStill, IsStill, still_after}
 use Rattle.command_spec.specs.Append.{has_promised_room, kept_in, room_in}
 use Rattle.command_spec.specs.Generator.{made_length}
 use Rattle.command_spec.specs.MadeVolumes.{AppendedFrom}
-use Rattle.command_spec.specs.Make.{MakeStep, AppendMade, WearSector, ScrubAll, SumVolume, Answer, Done, Full, Lost, Mismatch, Protected, TableMismatch, Runs, StepDoes, after_items, appending, ending_answer, made_answer, made_entry, make_status}
+use Rattle.command_spec.specs.Make.{MakeStep, AppendMade, WearSector, ScrubAll, SumVolume, Answer, Done, Full, Lost, Mismatch, Protected, TableMismatch, Runs, StepDoes, after_items, appending, ending_answer, made_answer, make_status}
+use Rattle.command_laws.specs.CommandTerms.{made_entry}
 use Rattle.command_spec.specs.Restore.{GivingEnd, Restored, LostIn, MismatchIn}
 use Rattle.qic_base.specs.Acts.{Act, steps_of}
 use Rattle.qic_base.specs.Cartridge.{Cartridge}
@@ -20,9 +21,9 @@ ending_not_full need have (MismatchIn segment) is = cc
 
 still_not_full : (seed : ℕ) (c : Cartridge) (words : List ℕ) (es : List Entry) (item : MakeStep) (acts : List Act) (need have : ℕ) → IsStill item → StepDoes seed c words es item acts (Full need have) → ⊥
 still_not_full seed c words es (AppendMade volume) acts need have still does = still
-still_not_full seed c words es (WearSector segment sector) acts need have still does = let same = does.answered in cc
+still_not_full seed c words es (WearSector segment sector) acts need have still does = let same = does.1 in cc
 still_not_full seed c words es ScrubAll acts need have still (inl refused) = let same = refused.answered in cc
-still_not_full seed c words es ScrubAll acts need have still (inr (free, done)) = let same = done.answered in cc
+still_not_full seed c words es ScrubAll acts need have still (inr (free, done)) = let same = done.1 in cc
 still_not_full seed c words es (SumVolume number) acts need have still does = ending_not_full need have does.ending does.answered
 
 stills_not_full : (seed : ℕ) (items : List MakeStep) (c : Cartridge) (words : List ℕ) (es : List Entry) (acts : List Act) (need have : ℕ) → AreStill items →

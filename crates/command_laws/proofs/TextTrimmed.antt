@@ -1,7 +1,8 @@
 -- The printed texts.
 use Rattle.std.proofs.Common.{◌≡◌, ℕ, ◌+◌, ◌-◌, true, List, [], ◌∷◌, ◌++◌, refl, ap, false, ◌∙◌, ◌<◌, ◌≤◌, length, take, get_or, arith, sym}
 use Rattle.std.proofs.lemmas.List.{take_more}
-use Rattle.command_spec.specs.Lines.{is_filler, before_cut, trimmed}
+use Rattle.command_laws.specs.CommandTerms.{is_filler, before_cut}
+use Rattle.command_spec.specs.Lines.{trimmed}
 
 -- filling at the end is cut
 pub trimmed-filler : (xs : List ℕ) (b : ℕ) → is_filler b ≡ true → trimmed (xs ++ b ∷ []) ≡ trimmed xs

@@ -10,6 +10,7 @@ use Rattle.command_spec.specs.Input.{Item}
 use Rattle.command_spec.specs.Machine.{Spells}
 use Rattle.command_spec.specs.MadeVolumes.{AppendedBy}
 use Rattle.command_spec.specs.Make.{made_list}
+use Rattle.command_spec.specs.Outcome.{CommandOutcome}
 use Rattle.command_spec.specs.Runs.{is_fault}
 use Rattle.command_spec.specs.Script.{Did, entries_behind, ScriptDoes}
 use Rattle.command_spec.specs.ScriptLists.{ItemsWearBehind, ListsAnswered, ListsBroken}
@@ -19,7 +20,6 @@ use Rattle.qic_base.specs.Cartridge.{Cartridge}
 use Rattle.qic_base.specs.Tape as tapes
 use Rattle.qic_base.specs.Sink as sinks
 use Rattle.command_spec.specs.declared.status.Status.TheVariants as status
-use Rattle.command_spec.specs.Script as scripts
 use Rattle.command_spec.specs.declared.words.Words.TheVariants as commands
 
 -- the tape told a cartridge that is mounted with this header, these words, these data of the table and this list
@@ -63,7 +63,7 @@ pub record ListsLines {T K : Type 0} (t : tapes.Meaning T) (k : sinks.Meaning K)
 pub record ListsScripted {T K : Type 0} (t : tapes.Meaning T) (k : sinks.Meaning K) (told : Option (List ℕ)) (old new : T) (before behind : K) (answer : Status) (c : Cartridge) (header : Header) (words : List ℕ) (table : List (List ℕ)) (entries : List Entry) : Type 0 where
   pub input : List ℕ
   pub is_told : IsInput told input
-  pub lists : (outcome : scripts.ScriptRun) → (does : ScriptDoes (settled table c) words entries input outcome) →
+  pub lists : (outcome : CommandOutcome) → (does : ScriptDoes (settled table c) words entries input outcome) →
       ListsLines t k old new before behind answer header words entries does.items does.dids
 
 -- When a run is over that no fault of the tape ended, the cartridge is mounted with the old list and the appends that were carried

@@ -6,8 +6,7 @@ use Rattle.qic_base.specs.Cartridge.{Cartridge}
 use Rattle.qic_base.specs.Step.{Step}
 use Rattle.qic_base.specs.Tape as tapes
 use Rattle.qic_base.proofs.Steps.{Tells-map, Done-nothing}
-use Rattle.qic_base.specs.Acts.{Act, text_of, TapeFails, Went, Cut}
-use Rattle.qic_base.specs.Acts.{no_source, no_sink, around, reading}
+use Rattle.qic_base.specs.Acts.{Act, text_of, TapeFails, Went, Cut, no_source, no_sink, around, reading}
 use Rattle.cartridge_spec.specs.HeaderAndTable.{table_cells, TableIs}
 use Rattle.cartridge_spec.specs.Says.{LostSectors, ByCode, TableSays}
 use Rattle.cartridge_spec.specs.Table.{Entry}
@@ -19,16 +18,15 @@ use Rattle.tape_script.specs.Generator.{made_means}
 use Rattle.volume_store.specs.declared.appended.Appended.{Appended}
 use Rattle.volume_store.specs.declared.fault.StoreFault.{StoreFault}
 use Rattle.volume_store.specs.declared.fault.StoreFault.TheVariants as store
-use Rattle.command_spec.specs.Append.{Taking, Fits, TooLong, TooShort, taking, room_in, kept_in, entry_for, has_promised_room, append_acts, silently}
+use Rattle.command_spec.specs.Append.{Taking, Fits, TooLong, TooShort, taking, room_in, kept_in, entry_for, has_promised_room, append_acts}
+use Rattle.command_laws.specs.CommandTerms.{silently, made_entry, made_acts}
 use Rattle.volume_store.specs.Appending.{kept_by, AppendRan, AppendCut, TableRefused, AppendEnds, CutUnread, FaultsUnread}
 use Rattle.volume_store.specs.Mounting.{StoreView, StoreFits}
 use Rattle.volume_store.proofs.Copies.{IsLearnt, told_learnt, tells_two}
 use Rattle.made_volumes.specs.declared.fault.MakeFault.{MakeFault}
 use Rattle.made_volumes.specs.declared.fault.MakeFault.TheVariants as fault
 use Rattle.made_volumes.specs.Faults.{is_of_step, fault_of}
-use Rattle.command_spec.specs.Make.{AppendMade, made_name, made_entry}
-use Rattle.command_spec.specs.Make.{Answer, Done, Protected, TableMismatch, Full, Lost, StepDoes, Runs, IsTableLost, made_acts, made_answer}
-use Rattle.command_spec.specs.Make.{MayAppend}
+use Rattle.command_spec.specs.Make.{AppendMade, made_name, Answer, Done, Protected, TableMismatch, Full, Lost, StepDoes, Runs, IsTableLost, made_answer, MayAppend}
 use Rattle.made_volumes.specs.Runs.{HasRun, RunCut, RunEnds}
 use Rattle.command_laws.proofs.MadeMachineLaws.{run_of, done_of, never_lost}
 use Rattle.command_laws.proofs.MadeMadeBytes.{length-made_bytes}

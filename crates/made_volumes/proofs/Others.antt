@@ -62,7 +62,7 @@ module _ {T : Type 0} (t : tapes.Meaning T) (seed : ℕ) (words : List ℕ) (ent
         Cut t no_source no_sink (around a tt) (around b tt) acts TapeFails)
         (λ c acts answer runs.
         let does = done_of seed c words entries (WearSector segment sector) acts answer runs in
-        subst (λ (zs : List Act). Cut t no_source no_sink (around a tt) (around b tt) zs TapeFails) (sym does.does) (wear_cut broke));
+        subst (λ (zs : List Act). Cut t no_source no_sink (around a tt) (around b tt) zs TapeFails) (sym does.0) (wear_cut broke));
     acts = worn;
     cut = wear_cut broke;
   }
@@ -106,7 +106,7 @@ module _ {T K : Type 0} (t : tapes.Meaning T) (k : sinks.Meaning K) (seed : ℕ)
       Cut t no_source k (around a x) (around b y) acts failing)
       (λ c unlocked known acts answer runs. elim (done_of seed c words entries ScrubAll acts answer runs) [
         | inl refused ↦ absurd (let same : true ≡ false = sym refused.mark ∙ unlocked in cc)
-        | inr done ↦ known acts done.1.does
+        | inr done ↦ known acts done.1.0
       ]) (told_mark t before u fits false free) cut.told
 
   pub scrub_so : ((z : K) → k.took z [] z) → (f : StoreFault) → (f ≡ store.Protected) ↔ (is_protected u.drive.deck ≡ true) → Ends (Err f) →

@@ -10,11 +10,13 @@ use Rattle.qic_base.proofs.Steps.{Done-nothing}
 use Rattle.qic_base.proofs.Joins.{sink_cut_one}
 use Rattle.qic_base.specs.Acts.{Act, Outside, next_steps, TapeFails, SourceFails, SinkFails, Went, TapeCut, Cut}
 use Rattle.drive_spec.specs.Record.{Record}
-use Rattle.command_spec.specs.Input.{IsPulse, IsTrain}
+use Rattle.command_spec.specs.Input.{IsPulse}
+use Rattle.command_laws.specs.CommandTerms.{IsTrain}
 use Rattle.qic_base.specs.Source.{Gave}
 use Rattle.command_laws.proofs.TextInputs as inputs
 use Rattle.tape_script.proofs.Lined.{IsLined-one_newline}
-use Rattle.command_spec.specs.Pulses.{pulsed_row, train_changes, train_act, level_line, train_line}
+use Rattle.command_spec.specs.Pulses.{pulsed_row, train_changes, train_act, train_line}
+use Rattle.command_laws.specs.PulseRuns.{level_line}
 use Rattle.tape_pulses.specs.Lines.{Heard, GaveNoTrain}
 use Rattle.command_laws.proofs.PulseTrains.{pulse_line, pulse_short}
 

@@ -5,8 +5,7 @@ use Rattle.qic_base.specs.Sink as sinks
 use Rattle.qic_base.specs.Tape as tapes
 use Rattle.qic_base.proofs.Steps.{Tells-map}
 use Rattle.qic_base.proofs.Writing.{TakesBoth, Wrote-Wrote, Wrote-BrokeOff, BrokeOff-longer}
-use Rattle.qic_base.specs.Acts.{Act, text_of, TapeFails, SinkFails, Went, Cut}
-use Rattle.qic_base.specs.Acts.{no_source, around}
+use Rattle.qic_base.specs.Acts.{Act, text_of, TapeFails, SinkFails, Went, Cut, no_source, around}
 use Rattle.qic_base.proofs.Joins.{cut_is_longer, broke_first}
 use Rattle.cartridge_spec.specs.Says.{cells_of, Says, Data, LostSectors, data_of}
 use Rattle.cartridge_spec.specs.Says as saying
@@ -15,7 +14,8 @@ use Rattle.cartridge_laws.proofs.Segments.{count_of_cells}
 use Rattle.cartridge_spec.specs.Appending.{bytes_in}
 use Rattle.segment_io.specs.Reading.{HasSolved}
 use Rattle.segment_io.proofs.Going.{tells_always}
-use Rattle.command_spec.specs.Restore.{Piece, GivingEnd, Restored, LostIn, MismatchIn, IsRead, PieceEnds, Restores, act_of}
+use Rattle.command_spec.specs.Restore.{Piece, GivingEnd, Restored, LostIn, MismatchIn, IsRead, PieceEnds, Restores}
+use Rattle.command_laws.specs.CommandTerms.{act_of}
 use Rattle.command_laws.proofs.RestoreEndings.{restores_is_function}
 use Rattle.command_laws.specs.OutputText.{printed}
 use Rattle.volume_output.specs.Output.{GaveVolume, VolumeCut}

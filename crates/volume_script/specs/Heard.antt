@@ -7,15 +7,15 @@ use Rattle.qic_base.specs.Tape as tapes
 use Rattle.qic_base.specs.Acts.{Act, Outside, Failing, TapeFails, SourceFails, SinkFails, Went, Cut}
 use Rattle.cartridge_spec.specs.Table.{Entry}
 use Rattle.command_spec.specs.declared.line.Line.{Line}
-use Rattle.command_spec.specs.Input.{Item, IsItem, Ending, ItemsEnd, most_items, promised}
+use Rattle.command_spec.specs.Input.{Item, IsItem, Ending, ItemsEnd, most_items, promised, IsLineText}
 use Rattle.qic_base.specs.Source.{Gave, GaveSome, HasEnded}
 use Rattle.tape_script.specs.Reading.{BeginsWithNo, GaveEnd}
-use Rattle.command_spec.specs.Input.{IsLineText}
 use Rattle.volume_store.specs.Mounting.{StoreView}
 use Rattle.volume_script.specs.declared.fault.ScriptFault.{ScriptFault}
 use Rattle.volume_script.specs.declared.fault.ScriptFault.TheVariants as fault
 use Rattle.command_laws.specs.ScriptItems.{EarlyDoes}
-use Rattle.command_spec.specs.Script.{Did, ItemDoes, EndDoes}
+use Rattle.command_spec.specs.Script.{Did, EndDoes}
+use Rattle.command_laws.specs.CommandTerms.{ItemDoes}
 
 -- no item has more bytes: its line has a u8 of them, and it promises a u32
 abbrev pub longest : ℕ
