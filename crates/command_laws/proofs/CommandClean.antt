@@ -487,7 +487,7 @@ module _ (area : List (List ℕ)) (is_area : IsArea area) where
   step_leaves seed c ws entries ScrubAll acts answer order (inr (free, scrubbed)) clean = scrub_leaves c ws entries (length ws - 1) acts order scrubbed.0 clean
   step_leaves seed c ws entries (SumVolume number) acts answer order summed clean =
       none_leaves Clean c (steps_of acts) clean
-      (ap steps_of summed.does ∙ sum_in_no_step number (volume_length ws summed.entry) (text_of summed.given) summed.ending)
+      (ap steps_of summed.is.0 ∙ sum_in_no_step number (volume_length ws summed.entry) (text_of summed.acts) summed.ending)
 
   runs_leave : (seed : ℕ) (c : Cartridge) (ws : List ℕ) (entries : List Entry) (items : List MakeStep) (acts : List Act) (answer : Answer) → IsSoundList (length ws - 1) entries →
       Runs seed c ws entries items acts answer → Clean c → Leaves Clean c (steps_of acts)

@@ -11,6 +11,7 @@ use Rattle.cartridge_spec.specs.HeaderAndTable.{TableIs}
 use Rattle.cartridge_spec.specs.Mounting.{Mounting, Mounted, Mounts, settled, Lists}
 use Rattle.cartridge_spec.specs.Settling.{changed_by, settling_steps}
 use Rattle.cartridge_spec.specs.Table.{Entry}
+use Rattle.command_laws.proofs.MadeCounting.{appended_by}
 use Rattle.command_laws.proofs.CommandAdded.{replied_text, status_fits}
 use Rattle.command_laws.proofs.CommandAppends.{appended_line_is_some}
 use Rattle.command_laws.proofs.CommandEnds.{Laws, over_at, told_whole}
@@ -28,12 +29,12 @@ use Rattle.command_laws.proofs.TextWords.{one_command}
 use Rattle.command_laws.specs.MountedListed.{IsListed, listed_behind}
 use Rattle.command_laws.specs.MountedListing.{AddsNone}
 use Rattle.command_spec.specs.Append.{Kept, Taking, Fits, TooLong, append_acts, entry_for, kept_in, room_in, taking, AppendOutcome, appended, kept_over}
-use Rattle.command_laws.specs.CommandTerms.{Appends, append_status, Makes}
+use Rattle.command_laws.specs.CommandTerms.{Appends, append_status, Makes, AppendedFrom}
 use Rattle.command_spec.specs.Headline.{ToldNow}
 use Rattle.command_spec.specs.Lines.{reply_behind}
 use Rattle.command_spec.specs.Listing.{IsHeard, ListsVolume, NowLists, WasListed, ListsAppends}
 use Rattle.command_spec.specs.Machine.{Yields, HasValues, Spells}
-use Rattle.command_spec.specs.MadeVolumes.{AppendedBy, AppendedFrom}
+use Rattle.command_spec.specs.MadeVolumes.{AppendedBy}
 use Rattle.command_spec.specs.Make.{made_list, Making, MakeOutcome}
 use Rattle.command_spec.specs.Outcome.{Going, Opened, OpenOutcome, CommandOutcome}
 use Rattle.command_spec.specs.Runs.{CommandEnds, IsCutOff, fault_of, is_fault}
@@ -502,7 +503,8 @@ module _ (seed count : ℕ) (few : count ≤ 200) (c : Cartridge) (header : Head
       (n : ℕ) × AppendedBy seed count words entries outcome.status n × HasMade n (effects (steps_of outcome.acts) (Some c))
   make_lists_answered outcome (inl (locked, is)) = (
     0,
-    (omega arith, subst (λ (why : Status). AppendedFrom seed 1 count words entries why 0) (sym (ap (λ (o : CommandOutcome). o.status) is)) tt),
+    appended_by seed count words entries outcome.status 0 (omega arith)
+        (subst (λ (why : Status). AppendedFrom seed 1 count words entries why 0) (sym (ap (λ (o : CommandOutcome). o.status) is)) tt),
     some_and (λ e. Lists e header words entries) c (effects (steps_of outcome.acts) (Some c)) (table, mounts) (ap (λ (o : CommandOutcome). effects (steps_of o.acts) (Some c)) is),
   )
   make_lists_answered outcome (inr (free, opened)) =
@@ -511,7 +513,8 @@ module _ (seed count : ℕ) (few : count ≤ 200) (c : Cartridge) (header : Head
       (lists_still c header words table entries whole mounts) (listed c header words table entries whole mounts) did.makes (append-nil did.acts)
       (behind_acts c header words table entries whole mounts did.acts) in (
         l.appended,
-        (l.within, subst (λ (why : Status). AppendedFrom seed 1 count words entries why l.appended) (sym (ap (λ (o : CommandOutcome). o.status) did.is)) (l.answered refl)),
+        appended_by seed count words entries outcome.status l.appended l.within
+            (subst (λ (why : Status). AppendedFrom seed 1 count words entries why l.appended) (sym (ap (λ (o : CommandOutcome). o.status) did.is)) (l.answered refl)),
         subst (HasMade l.appended) (sym (ap (λ (o : CommandOutcome). effects (steps_of o.acts) (Some c)) did.is)) l.lists,
       )
 
@@ -520,7 +523,7 @@ module _ (seed count : ℕ) (few : count ≤ 200) (c : Cartridge) (header : Head
   make_lists_all outcome does done =
       let made = make_lists_answered outcome does in
       subst (λ (n : ℕ). HasMade n (effects (steps_of outcome.acts) (Some c)))
-      (subst (λ (why : Status). AppendedFrom seed 1 count words entries why made.0) done made.1.1) made.2
+      (subst (λ (why : Status). AppendedBy seed count words entries why made.0) done made.1) made.2
 
 -- ---- all of them
 
@@ -597,7 +600,7 @@ none_listed t k told words a x answer right nothing never unheard unmade = recor
     text = [];
     took = nothing;
     some = (0, omega arith, as_before c header map_words table entries was);
-    answered = λ sound. (0, (omega arith, unmade seed count map_words entries), as_before c header map_words table entries was);
+    answered = λ sound. (0, appended_by seed count map_words entries answer 0 (omega arith) (unmade seed count map_words entries), as_before c header map_words table entries was);
     all = λ either. elim either [ inl some ↦ absurd (some refl) | inr done ↦ absurd (never done) ];
   };
   scripted = λ c header map_words table entries spells was other. record {

@@ -365,7 +365,7 @@ step_none seed c ws entries (WearSector segment sector) acts answer worn =
 step_none seed c ws entries ScrubAll acts answer (inl refused) = acts_of_none acts (ap steps_of refused.does)
 step_none seed c ws entries ScrubAll acts answer (inr (free, scrubbed)) = scrub_none c ws entries acts scrubbed.0
 step_none seed c ws entries (SumVolume number) acts answer summed =
-    acts_of_none acts (ap steps_of summed.does ∙ sum_in_no_step number (volume_length ws summed.entry) (text_of summed.given) summed.ending)
+    acts_of_none acts (ap steps_of summed.is.0 ∙ sum_in_no_step number (volume_length ws summed.entry) (text_of summed.acts) summed.ending)
 
 runs_none : (seed : ℕ) (c : Cartridge) (ws : List ℕ) (entries : List Entry) (items : List MakeStep) (acts : List Act) (answer : Answer) →
     Runs seed c ws entries items acts answer → AreNoRenew acts

@@ -237,7 +237,7 @@ step_leaves seed c ws entries (WearSector segment sector) acts answer whole list
 step_leaves seed c ws entries ScrubAll acts answer whole listed can (inl refused) = still_whole c (steps_of acts) whole (ap steps_of refused.does)
 step_leaves seed c ws entries ScrubAll acts answer whole listed can (inr (free, scrubbed)) = λ left torn. stopped_scrub_is_cartridge c ws entries acts left whole scrubbed.0 torn
 step_leaves seed c ws entries (SumVolume number) acts answer whole listed can summed =
-    still_whole c (steps_of acts) whole (ap steps_of summed.does ∙ sum_in_no_step number (volume_length ws summed.entry) (text_of summed.given) summed.ending)
+    still_whole c (steps_of acts) whole (ap steps_of summed.is.0 ∙ sum_in_no_step number (volume_length ws summed.entry) (text_of summed.acts) summed.ending)
 
 step_listed : (seed : ℕ) (c : Cartridge) (ws : List ℕ) (entries : List Entry) (item : MakeStep) (acts : List Act) → IsListed c ws entries → CanDo entries item →
     StepDoes seed c ws entries item acts made.Done → IsListed (changed_by (steps_of acts) c) ws (after_item seed ws entries item)
@@ -254,7 +254,7 @@ step_listed seed c ws entries (WearSector segment sector) acts listed can worn =
 step_listed seed c ws entries ScrubAll acts listed can (inl refused) = absurd (let same = refused.answered in cc)
 step_listed seed c ws entries ScrubAll acts listed can (inr (free, scrubbed)) = scrub_listed c ws entries acts listed free scrubbed.0
 step_listed seed c ws entries (SumVolume number) acts listed can summed =
-    listed_by c ws entries (steps_of acts) [] (ap steps_of summed.does ∙ sum_in_no_step number (volume_length ws summed.entry) (text_of summed.given) summed.ending) listed
+    listed_by c ws entries (steps_of acts) [] (ap steps_of summed.is.0 ∙ sum_in_no_step number (volume_length ws summed.entry) (text_of summed.acts) summed.ending) listed
 
 runs_leave : (seed : ℕ) (c : Cartridge) (ws : List ℕ) (entries : List Entry) (items : List MakeStep) (acts : List Act) (answer : Answer) → IsCartridge c → IsListed c ws entries →
     CanRun seed ws entries items → Runs seed c ws entries items acts answer → Whole c (steps_of acts)

@@ -17,9 +17,8 @@ use Rattle.command_laws.proofs.MountedListing.{append_front_lists, append_lists,
 use Rattle.command_laws.specs.MadeLaws.{MakeLists, MadeAreListed}
 use Rattle.command_laws.specs.MountedListed.{IsListed, listed_behind}
 use Rattle.command_spec.specs.Append.{Kept, Taking, Fits, TooLong, TooShort, has_promised_room, room_in, taking, kept_over}
-use Rattle.command_laws.specs.CommandTerms.{silently, made_entry, made_acts, Makes}
+use Rattle.command_laws.specs.CommandTerms.{silently, made_entry, made_acts, Makes, AppendedFrom}
 use Rattle.command_spec.specs.Generator.{made_length, made_bytes}
-use Rattle.command_spec.specs.MadeVolumes.{AppendedFrom}
 use Rattle.command_spec.specs.Make.{MakeStep, AppendMade, WearSector, ScrubAll, SumVolume, made_name, Answer, Done, Full, StepDoes, IsAppended, made_answer, Runs, after_items, appending, wearing_volumes, summing, made_list, make_status}
 use Rattle.qic_base.proofs.Joins.{text_of-append}
 use Rattle.qic_base.specs.Acts.{Act, steps_of, text_of}
@@ -115,7 +114,7 @@ module _ (seed : ℕ) (c : Cartridge) (header : Header) (words : List ℕ) (entr
   still_front ScrubAll acts front rest answer still (inr (free, done)) parts = scrub_lists c header words entries acts front rest lists done.0 parts
   still_front (SumVolume number) acts front rest answer still does parts =
       lists_by (steps_of front) (front_still front rest acts parts
-      (ap steps_of does.does ∙ sum_in_no_step number (volume_length words does.entry) (text_of does.given) does.ending))
+      (ap steps_of does.is.0 ∙ sum_in_no_step number (volume_length words does.entry) (text_of does.acts) does.ending))
 
   still_listed : (item : MakeStep) (acts : List Act) → IsStill item → StepDoes seed c words entries item acts Done → IsListed (changed_by (steps_of acts) c) words entries
   still_listed (AppendMade volume) acts still does = absurd still
@@ -125,7 +124,7 @@ module _ (seed : ℕ) (c : Cartridge) (header : Header) (words : List ℕ) (entr
   still_listed ScrubAll acts still (inr (free, done)) = scrub_listed c words entries acts listed free done.0
   still_listed (SumVolume number) acts still does =
       subst (λ (steps : List Step). IsListed (changed_by steps c) words entries)
-      (sym (ap steps_of does.does ∙ sum_in_no_step number (volume_length words does.entry) (text_of does.given) does.ending)) listed
+      (sym (ap steps_of does.is.0 ∙ sum_in_no_step number (volume_length words does.entry) (text_of does.acts) does.ending)) listed
 
 -- ---- several steps
 

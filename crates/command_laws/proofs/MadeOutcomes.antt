@@ -128,7 +128,7 @@ module _ (seed : ℕ) (c : Cartridge) (words : List ℕ) (entries : List Entry) 
             record {
               acts = scrub.0;
               answer = Done;
-              does = inr (free, record { does = scrub.1; answered = refl });
+              does = inr (free, (scrub.1, refl));
               next = λ is. scrub_listed c words entries scrub.0 listed free scrub.1;
             }
       ]
@@ -139,7 +139,7 @@ module _ (seed : ℕ) (c : Cartridge) (words : List ℕ) (entries : List Entry) 
       record {
         acts = sum_acts number (volume_length words e) (text_of gives.0) gives.1;
         answer = ending_answer gives.1;
-        does = record { entry = e; numbered = there; given = gives.0; ending = gives.1; restores = gives.2; does = refl; answered = refl };
+        does = record { entry = e; numbered = there; acts = gives.0; ending = gives.1; restores = gives.2; is = (refl, refl) };
         next = λ is.
             subst (λ (steps : List Step). IsListed (changed_by steps c) words entries)
             (sym (sum_in_no_step number (volume_length words e) (text_of gives.0) gives.1)) listed;

@@ -229,7 +229,7 @@ still_done seed c plain (WearSector segment sector) acts still held does =
 still_done seed c plain ScrubAll acts still held (inl refused) = absurd (never_unlocked c refused.mark held.unprotected)
 still_done seed c plain ScrubAll acts still held (inr (free, done)) = scrubbed_open c plain acts held done.0
 still_done seed c plain (SumVolume number) acts still held does =
-    nothing_changed c plain acts (ap steps_of does.does ∙ sum_in_no_step number (volume_length plain.words does.entry) (text_of does.given) does.ending) held
+    nothing_changed c plain acts (ap steps_of does.is.0 ∙ sum_in_no_step number (volume_length plain.words does.entry) (text_of does.acts) does.ending) held
 
 stands_there : (c : Cartridge) (plain : Plain) (left : Option Cartridge) → IsOpen c plain → left ≡ Some c → IsSomeAnd left (λ d. Stands d plain)
 stands_there c plain left held is = some_and (λ d. Stands d plain) c left held.stands is
@@ -249,7 +249,7 @@ still_stopped seed c plain ScrubAll acts answer left still held (inr (free, done
 still_stopped seed c plain (SumVolume number) acts answer left still held does torn =
     stands_there c plain left held
     (subst (λ (steps : List Step). Torn steps (Some c) left)
-    (ap steps_of does.does ∙ sum_in_no_step number (volume_length plain.words does.entry) (text_of does.given) does.ending) torn)
+    (ap steps_of does.is.0 ∙ sum_in_no_step number (volume_length plain.words does.entry) (text_of does.acts) does.ending) torn)
 
 -- ---- several steps
 

@@ -7,6 +7,7 @@ use Rattle.cartridge_spec.specs.Mounting.{IsTableLive}
 use Rattle.cartridge_spec.specs.Settling.{changed_by}
 use Rattle.cartridge_spec.specs.Table.{Entry}
 use Rattle.cartridge_spec.specs.Volumes.{Plain, Stands, entries_of}
+use Rattle.command_laws.proofs.ScriptActs.{line_spares}
 use Rattle.command_laws.proofs.MountedFronts.{ends_in}
 use Rattle.command_laws.proofs.MountedKeeping.{changed_by_acts}
 use Rattle.command_laws.proofs.ScriptReached.{AllLeave, Reached, reached_between, reached_behind, reached_none, leave_weaker}
@@ -111,7 +112,7 @@ all_stand [] [] c plain last held live has ran spares ends = λ front rest left 
 all_stand [] (did ∷ dids) c plain last held live has ran spares ends = absurd ran
 all_stand (item ∷ items) [] c plain last held live has ran spares ends = absurd ran
 all_stand (item ∷ items) (did ∷ dids) c plain last held live has ran spares ends =
-    let leaves : ItemLeaves c plain item did = item_leaves c plain item did held has.0 spares.0 ran.0 in
+    let leaves : ItemLeaves c plain item did = item_leaves c plain item did held has.0 (line_spares c plain item.line spares.0) ran.0 in
     let next : Plain = plain_after plain item did in
     let d : Cartridge = changed_by (steps_of did.acts) c in
     let first : Plain = plain_behind plain (item ∷ []) (did ∷ []) in

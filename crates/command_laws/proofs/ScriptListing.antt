@@ -11,7 +11,7 @@ use Rattle.command_laws.proofs.MountedFronts.{no_nil, front_still, front_within}
 use Rattle.command_laws.proofs.MountedListed.{append_listed, scrub_listed, wear_listed}
 use Rattle.command_laws.proofs.MountedListing.{append_front_lists, append_lists, scrub_lists, wear_lists}
 use Rattle.command_laws.proofs.RestoreCounts.{framed_in_no_step}
-use Rattle.command_laws.proofs.ScriptActs.{fits_acts, front_acts, input_texts, took_enough}
+use Rattle.command_laws.proofs.ScriptActs.{wears_behind, fits_acts, front_acts, input_texts, took_enough}
 use Rattle.command_laws.proofs.ScriptCounted.{AllCount, weaker, Answered, answered_between, Broken, broken_behind, none_answered}
 use Rattle.command_laws.proofs.ScriptOutcomes.{replied, taken_listed}
 use Rattle.command_laws.proofs.ScriptReached.{front_steps}
@@ -22,12 +22,12 @@ use Rattle.command_laws.specs.MountedListed.{IsListed, listed_behind}
 use Rattle.command_laws.specs.ScriptListing.{ListedBetween, ListedBehind, ListedDone, ListedNone}
 use Rattle.command_spec.specs.Append.{Kept, Taking, Fits, TooLong, TooShort, room_in, taking, kept_over}
 use Rattle.command_spec.specs.Input.{Item, IsLined, IsItem, Ending, HasItems, AtEnd, AtStop, AtFault}
-use Rattle.command_laws.specs.CommandTerms.{IsLine}
+use Rattle.command_laws.specs.CommandTerms.{IsLine, RestoreDoes, WearsBehind}
 use Rattle.command_spec.specs.Lines.{lost_line, reply_behind}
 use Rattle.command_spec.specs.Restore.{framed, pieces}
-use Rattle.command_spec.specs.Script.{Did, refusal_line, EndDoes, Finds, RestoreDoes, LineDoes, Meeting, Meets, Refuses, acts_on, append_did, line_refused, reply, taken_as, entries_behind, ItemsDo, cartridge_behind, ScriptDoes, place_behind, acts_of}
+use Rattle.command_spec.specs.Script.{Did, refusal_line, EndDoes, Finds, LineDoes, Meeting, Meets, Refuses, acts_on, append_did, line_refused, reply, taken_as, entries_behind, ItemsDo, cartridge_behind, ScriptDoes, place_behind, acts_of}
 use Rattle.command_spec.specs.Outcome.{CommandOutcome}
-use Rattle.command_spec.specs.ScriptLists.{WearsBehind, ItemsWearBehind, ListsBehind, ListsAnswered}
+use Rattle.command_spec.specs.ScriptLists.{ItemsWearBehind, ListsBehind, ListsAnswered}
 use Rattle.command_spec.specs.Scrub.{Scrubs}
 use Rattle.command_spec.specs.declared.line.Line.{Line}
 use Rattle.qic_base.proofs.Joins.{text_of-append}
@@ -279,10 +279,10 @@ all_list header words bytes ending last (item ∷ items) (did ∷ dids) c entrie
     let first : ItemLists c header words entries Before Behind did = line_lists c header words entries Before lists listed item.line item.bytes did labelled.0 ran.0 in (
       record {
         stopped = λ front act rest parts before behind. first.stopped front act rest parts before;
-        spoken = λ front act rest parts some before behind. spoken_lists c header words entries Before Behind did first front act rest parts some before behind.0;
+        spoken = λ front act rest parts some before behind. spoken_lists c header words entries Before Behind did first front act rest parts some before (wears_behind item.line behind.0);
       },
       weaker (ListsThere (Before × Behind) header words did.entries items dids) (λ n. ListsThere Before header words entries (item ∷ items) (did ∷ dids) (suc n))
-          (λ n d there before behind. there (before, behind.0) behind.1) dids (changed_by (steps_of did.acts) c) last
+          (λ n d there before behind. there (before, wears_behind item.line behind.0) behind.1) dids (changed_by (steps_of did.acts) c) last
           (all_list header words bytes ending last items dids (changed_by (steps_of did.acts) c) did.entries (Before × Behind) (λ both. first.done both.0 both.1) first.listed labelled.1 ran.1 ends),
     )
 

@@ -9,7 +9,7 @@ use Rattle.command_laws.proofs.ScriptReading.{Reads, place_is, split_doing}
 use Rattle.command_laws.proofs.TextInputs.{one_reading}
 use Rattle.command_laws.specs.ScriptItems.{EarlyDoes}
 use Rattle.command_laws.specs.ScriptLaws.{OneOutcome, StopsInOne}
-use Rattle.command_spec.specs.Input.{Item, IsItem, Ending, HasItems, IsScript, AtEnd, AtStop, AtFault}
+use Rattle.command_spec.specs.Input.{Item, input_status, IsItem, Ending, HasItems, IsScript, AtEnd, AtStop, AtFault}
 use Rattle.command_spec.specs.Script.{place_behind, items_taken, Meeting, acts_on, EndDoes, Did, ItemsDo, cartridge_behind, entries_behind, acts_of}
 use Rattle.command_laws.specs.CommandTerms.{FaultDoes}
 use Rattle.command_spec.specs.Outcome.{CommandOutcome}

@@ -14,7 +14,7 @@ use Rattle.command_laws.proofs.TextReadings.{each_script}
 use Rattle.command_laws.specs.MountedListed.{IsListed, listed_behind}
 use Rattle.command_laws.specs.ScriptLaws.{EachOutcome}
 use Rattle.command_spec.specs.Append.{Kept, Taking, Fits, TooLong, TooShort, room_in, taking, kept_over}
-use Rattle.command_spec.specs.Input.{Item, IsLineText, IsItem, Ending, HasItems, most_items, AtEnd, AtStop, AtFault}
+use Rattle.command_spec.specs.Input.{Item, input_status, IsLineText, IsItem, Ending, HasItems, most_items, AtEnd, AtStop, AtFault}
 use Rattle.command_spec.specs.Lines.{reply_behind, lost_line, list_text}
 use Rattle.command_spec.specs.Restore.{framed, pieces, volume_at}
 use Rattle.command_spec.specs.Script.{reply, Did, LineDoes, line_refused, taken_as, given_as, ItemsDo, cartridge_behind, entries_behind, Finds, Meeting, Meets, Refuses, acts_on, append_did, EndsEarly, end_line, EndDoes, acts_of, place_behind, items_taken}

@@ -1,24 +1,26 @@
 -- Names for what commands do in part, by which laws and code go: of appends, generated runs, restores, scripts and their texts (this
 -- project's own).
-use Rattle.std.specs.Prelude.{ℕ, ◌+◌, ◌*◌, ◌%◌, List, [], ◌∷◌, ◌++◌, codes, decimal, length, take, drop, min, Option, None, Some, unwrap_or, Bool, nat_le, ◌==◌, ◌&&◌, ◌||◌, if◌then◌else◌, ◌≡◌, ◌<◌, ◌≤◌, ◌⊎◌, slice_get, IsSomeAnd}
+use Rattle.std.specs.Prelude.{ℕ, ◌+◌, ◌*◌, ◌%◌, List, [], ◌∷◌, ◌++◌, codes, decimal, length, take, drop, min, Option, None, Some, unwrap_or, Bool, nat_le, ◌==◌, ◌&&◌, ◌||◌, if◌then◌else◌, ◌≡◌, ◌≢◌, ◌<◌, ◌≤◌, ◌⊎◌, slice_get, IsSomeAnd}
 use Rattle.std.specs.List.{slice_split}
 use Rattle.cartridge_spec.specs.Appending.{bytes_in, free_segments}
 use Rattle.cartridge_spec.specs.Shape.{mask_at, usable_places}
 use Rattle.cartridge_spec.specs.Table.{Entry}
-use Rattle.cartridge_spec.specs.Volumes.{Plain, entries_of}
+use Rattle.cartridge_spec.specs.Wear.{WearSpares}
+use Rattle.cartridge_spec.specs.Volumes.{Plain, entries_of, volume_length}
 use Rattle.command_spec.specs.Append.{Kept, Taking, Fits, TooLong, TooShort, append_acts, appended, entry_for, kept_in, kept_over}
 use Rattle.command_spec.specs.CommandWords.{HasForm, SpellsPart, Number}
 use Rattle.command_spec.specs.Generator.{made_bytes, made_length}
 use Rattle.command_spec.specs.Input.{Item, line_forms, most_items}
 use Rattle.command_spec.specs.Lines.{place_line}
-use Rattle.command_spec.specs.Make.{Answer, MakeStep, Runs, ScrubAll, appending, made_list, made_name, making, wearing_volumes}
+use Rattle.command_spec.specs.Make.{Answer, Full, MakeStep, Runs, ScrubAll, after_items, appending, ending_answer, made_answer, made_list, made_name, making, sum_acts, wearing_volumes}
 use Rattle.command_spec.specs.Outcome.{Going}
-use Rattle.command_spec.specs.Restore.{GivingEnd, Restored, LostIn, MismatchIn, Piece}
-use Rattle.command_spec.specs.Script.{Did, EndsEarly, LineDoes, Meeting, Meets, acts_on}
+use Rattle.command_spec.specs.Restore.{GivingEnd, Restored, LostIn, MismatchIn, Piece, RestoresVolume, framed, pieces}
+use Rattle.command_spec.specs.Script.{Did, EndsEarly, LineDoes, Meeting, Meets, acts_on, given_as}
 use Rattle.command_spec.specs.declared.line.Line.{Line}
 use Rattle.command_spec.specs.declared.status.Status.{Status}
-use Rattle.qic_base.specs.Acts.{Act}
-use Rattle.qic_base.specs.Cartridge.{Cartridge}
+use Rattle.qic_base.specs.Acts.{Act, text_of}
+use Rattle.qic_base.specs.Cartridge.{Cartridge, IsPlace}
+use Rattle.command_spec.specs.declared.line.Line.TheVariants as line
 use Rattle.command_spec.specs.declared.status.Status.TheVariants as status
 
 -- ---- appends
@@ -80,6 +82,15 @@ before_sums seed count plain =
     appending 1 count
     ++ (wearing_volumes plain.words (drop (length (entries_of plain)) (made_list seed count plain.words (entries_of plain))) ++ ScrubAll ∷ [])
 
+-- so many of the volumes from this one on were appended by a run that is answered so
+abbrev pub AppendedFrom : (seed volume count : ℕ) → (words : List ℕ) → List Entry → Status → (n : ℕ) → Type 0
+AppendedFrom seed volume count words entries status.Done n = n ≡ count
+AppendedFrom seed volume count words entries (status.Full need have) n =
+    (n < count) × (made_answer seed words (after_items seed words entries (appending volume n)) (volume + n) ≡ Full need have)
+AppendedFrom seed volume count words entries (status.Lost segment lost) n = segment ≢ 2 → n ≡ count
+AppendedFrom seed volume count words entries (status.Mismatch segment) n = n ≡ count
+AppendedFrom seed volume count words entries other n = Unit {0}
+
 -- ---- restores
 
 -- the act of a piece whose segment says these data
@@ -89,6 +100,17 @@ act_of piece sectors = record { steps = []; text = take piece.count (bytes_in se
 -- an act with the line `part K` before its text, where K is the count of its piece
 abbrev pub framed_act : Piece → Act → Act
 framed_act piece act = record { steps = act.steps; text = codes "part " ++ decimal piece.count ++ codes "\n" ++ act.text }
+
+-- the sum of the volume with this number, as a step of a run
+abbrev pub IsSummed : Cartridge → (words : List ℕ) → List Entry → (number : ℕ) → List Act → Answer → Type 0
+IsSummed c words entries number acts answer =
+    RestoresVolume c words entries number
+    (λ entry given ending. (acts ≡ sum_acts number (volume_length words entry) (text_of given) ending) × (answer ≡ ending_answer ending))
+
+-- the volume with this number, as a line of a script gives it
+abbrev pub RestoreDoes : Cartridge → (words : List ℕ) → List Entry → (number : ℕ) → Did → Type 0
+RestoreDoes c words entries number did =
+    RestoresVolume c words entries number (λ entry acts ending. did ≡ given_as words entries number entry (framed (pieces words entry) acts) ending)
 
 -- with so many pieces read: all of them, or the next one's segment is the one that says no data
 abbrev pub EndsAt : List Piece → (done : ℕ) → GivingEnd → Type 0
@@ -113,6 +135,17 @@ FaultDoes c words entries number rest acts =
     ((number ≤ most_items) × ((early : EndsEarly rest) × ((meeting : Meeting) × Meets c meeting
     × (acts ≡ acts_on c words entries early.name early.promised early.date early.bytes meeting))))
     ⊎ (((number ≤ most_items) → ¬ (EndsEarly rest)) × (acts ≡ []))
+
+-- a sector that a line wears lies behind the table's segment
+abbrev pub WearsBehind : Line → Type 0
+WearsBehind (line.Lose segment sector) = sector < 32 → 3 ≤ segment
+WearsBehind other = Unit {0}
+
+-- a sector that a line wears spares the header and the table, on the cartridge as it then stands
+abbrev pub LineSpares : Cartridge → Plain → Line → Type 0
+LineSpares c plain (line.Lose segment sector) =
+    IsPlace c.info.segments_per_track segment sector → WearSpares c plain segment sector
+LineSpares c plain other = Unit {0}
 
 -- ---- texts
 

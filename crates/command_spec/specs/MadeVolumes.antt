@@ -5,7 +5,7 @@ use Rattle.cartridge_spec.specs.Settling.{changed_by}
 use Rattle.cartridge_spec.specs.Table.{Entry}
 use Rattle.cartridge_spec.specs.Volumes.{Plain, entries_of}
 use Rattle.command_spec.specs.Generator.{made_bytes}
-use Rattle.command_spec.specs.Make.{made_name, made_list, Done, Full, made_answer, ScrubAll, after_items, appending, wearing_volumes, Runs}
+use Rattle.command_spec.specs.Make.{made_name, made_list, Done, Full, made_answer, ScrubAll, appending, wearing_volumes, Runs}
 use Rattle.command_spec.specs.Restore.{LosesFew, pieces, volume_at}
 use Rattle.command_spec.specs.declared.status.Status.{Status}
 use Rattle.qic_base.specs.Acts.{Act, steps_of}
@@ -20,19 +20,15 @@ made_contents seed volume (suc count) =
 
 -- ---- how many were appended
 
--- So many of these volumes were appended by a run that is answered so: all of them where it was carried out, or one of them was not
+-- So many of the volumes were appended by a run that is answered so: all of them where it was carried out, or one of them was not
 -- given back; those in front of the one that has no room; or some, where the volume table does not read.
-abbrev pub AppendedFrom : (seed volume count : ℕ) → (words : List ℕ) → List Entry → Status → (n : ℕ) → Type 0
-AppendedFrom seed volume count words entries status.Done n = n ≡ count
-AppendedFrom seed volume count words entries (status.Full need have) n =
-    (n < count) × (made_answer seed words (after_items seed words entries (appending volume n)) (volume + n) ≡ Full need have)
-AppendedFrom seed volume count words entries (status.Lost segment lost) n = segment ≢ 2 → n ≡ count
-AppendedFrom seed volume count words entries (status.Mismatch segment) n = n ≡ count
-AppendedFrom seed volume count words entries other n = Unit {0}
-
--- .. of all volumes
 abbrev pub AppendedBy : (seed count : ℕ) → (words : List ℕ) → List Entry → Status → (n : ℕ) → Type 0
-AppendedBy seed count words entries answer n = (n ≤ count) × AppendedFrom seed 1 count words entries answer n
+AppendedBy seed count words entries status.Done n = n ≡ count
+AppendedBy seed count words entries (status.Full need have) n =
+    (n < count) × (made_answer seed words (made_list seed n words entries) (1 + n) ≡ Full need have)
+AppendedBy seed count words entries (status.Lost segment lost) n = (n ≤ count) × (segment ≢ 2 → n ≡ count)
+AppendedBy seed count words entries (status.Mismatch segment) n = n ≡ count
+AppendedBy seed count words entries other n = n ≤ count
 
 -- ---- a run that is carried out
 

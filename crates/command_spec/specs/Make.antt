@@ -12,7 +12,7 @@ use Rattle.cartridge_spec.specs.Volumes.{carrying_segments, volume_length}
 use Rattle.command_spec.specs.Append.{kept_in, entry_for, append_acts, has_promised_room, kept_over}
 use Rattle.command_spec.specs.Generator.{made_bytes, made_length}
 use Rattle.command_spec.specs.Outcome.{settling_act, CommandOutcome, WritableOutcome}
-use Rattle.command_spec.specs.Restore.{GivingEnd, Restored, LostIn, MismatchIn, Restores, pieces, volume_at}
+use Rattle.command_spec.specs.Restore.{GivingEnd, Restored, LostIn, MismatchIn, RestoresVolume, pieces, volume_at}
 use Rattle.command_spec.specs.Scrub.{Scrubs, Counts, looked_at, IsScrubText}
 use Rattle.command_spec.specs.declared.status.Status.{Status}
 use Rattle.qic_base.specs.Acts.{Act, text_of, steps_of}
@@ -145,15 +145,6 @@ ending_answer Restored = Done
 ending_answer (LostIn segment lost) = Lost segment lost
 ending_answer (MismatchIn segment) = Mismatch segment
 
-pub record IsSummed (c : Cartridge) (words : List ℕ) (entries : List Entry) (number : ℕ) (acts : List Act) (answer : Answer) : Type 0 where
-  pub entry : Entry
-  pub numbered : volume_at entries number ≡ Some entry
-  pub given : List Act
-  pub ending : GivingEnd
-  pub restores : Restores c words (pieces words entry) given ending
-  pub does : acts ≡ sum_acts number (volume_length words entry) (text_of given) ending
-  pub answered : answer ≡ ending_answer ending
-
 -- ---- one step, and a run
 
 -- what a step does on a cartridge with this map and these volumes, and how it is answered
@@ -165,7 +156,9 @@ StepDoes seed c words entries (WearSector segment sector) acts answer =
     (acts ≡ record { steps = Wear segment sector ∷ []; text = [] } ∷ []) × (answer ≡ Done)
 StepDoes seed c words entries ScrubAll acts answer =
     IsRefused c acts answer ⊎ ((c.info.protected ≡ false) × (Scrubs c words entries acts × (answer ≡ Done)))
-StepDoes seed c words entries (SumVolume number) acts answer = IsSummed c words entries number acts answer
+StepDoes seed c words entries (SumVolume number) acts answer =
+    RestoresVolume c words entries number
+    (λ entry given ending. (acts ≡ sum_acts number (volume_length words entry) (text_of given) ending) × (answer ≡ ending_answer ending))
 
 -- Steps, one after the other, each on the cartridge that the ones before it leave. The first refusal ends them, and is the
 -- answer.

@@ -121,19 +121,20 @@ ending_status Restored = status.Done
 ending_status (LostIn segment lost) = status.Lost segment lost
 ending_status (MismatchIn segment) = status.Mismatch segment
 
--- there is such a volume, and the settled cartridge gives this of it
-pub record RestoresOn (c : Cartridge) (words : List ℕ) (table : List (List ℕ)) (entries : List Entry) (number : ℕ) (outcome : CommandOutcome) : Type 0 where
+-- there is a volume with this number, the cartridge gives these acts of it, and they come to this
+pub record RestoresVolume (c : Cartridge) (words : List ℕ) (entries : List Entry) (number : ℕ) (Comes : Entry → List Act → GivingEnd → Type 0) : Type 0 where
   pub entry : Entry
   pub numbered : volume_at entries number ≡ Some entry
   pub acts : List Act
   pub ending : GivingEnd
-  pub restores : Restores (settled table c) words (pieces words entry) acts ending
-  pub is : outcome ≡ record { acts = settling_act table c ∷ acts; taken = 0; status = ending_status ending }
+  pub restores : Restores c words (pieces words entry) acts ending
+  pub is : Comes entry acts ending
 
 abbrev pub Gives : (number : ℕ) → Going
 Gives number c header words table entries outcome =
     ((volume_at entries number ≡ None) × (outcome ≡ refused_behind (settling_steps table c) (status.NoVolume number (length entries))))
-    ⊎ RestoresOn c words table entries number outcome
+    ⊎ RestoresVolume (settled table c) words entries number
+      (λ entry acts ending. outcome ≡ record { acts = settling_act table c ∷ acts; taken = 0; status = ending_status ending })
 
 abbrev pub RestoreOutcome : (number : ℕ) → Option Cartridge → CommandOutcome → Type 0
 RestoreOutcome number held outcome = OpenOutcome (Gives number) held outcome

@@ -12,7 +12,7 @@ use Rattle.command_spec.specs.Append.{Kept, append_acts, Taking, Fits, TooLong, 
 use Rattle.command_spec.specs.Input.{Item, IsLineText, most_items, Ending, AtEnd, AtStop, AtFault, IsItem, HasItems, IsScript, input_status}
 use Rattle.command_spec.specs.Lines.{place_line, number_line, reply_behind, lost_line, list_text}
 use Rattle.command_spec.specs.Outcome.{settling_act, CommandOutcome, OpenOutcome}
-use Rattle.command_spec.specs.Restore.{Restored, LostIn, MismatchIn, Restores, framed, pieces, volume_at}
+use Rattle.command_spec.specs.Restore.{Restored, LostIn, MismatchIn, RestoresVolume, framed, pieces, volume_at}
 use Rattle.command_spec.specs.Scrub.{Scrubs}
 use Rattle.command_spec.specs.declared.line.Line.{Line}
 use Rattle.command_spec.specs.declared.refusal.Refusal.{Refusal}
@@ -100,15 +100,6 @@ given_as words entries number e parts Restored =
 given_as words entries number e parts (LostIn segment lost) = line_refused parts entries (why.Lost segment lost)
 given_as words entries number e parts (MismatchIn segment) = line_refused parts entries (why.Mismatch segment)
 
--- the volume with this number, as the cartridge gives it
-pub record RestoreDoes (c : Cartridge) (words : List ℕ) (entries : List Entry) (number : ℕ) (did : Did) : Type 0 where
-  pub entry : Entry
-  pub numbered : volume_at entries number ≡ Some entry
-  pub acts : List Act
-  pub ending : restoring.GivingEnd
-  pub restores : Restores c words (pieces words entry) acts ending
-  pub is : did ≡ given_as words entries number entry (framed (pieces words entry) acts) ending
-
 -- ---- an item
 
 -- what a line does on a cartridge with this map and these volumes, with the bytes that follow it
@@ -118,7 +109,7 @@ LineDoes c words entries (line.Append name promised date) bytes did =
 LineDoes c words entries line.List bytes did = did ≡ record { acts = reply (list_text words entries) ∷ []; entries = entries }
 LineDoes c words entries (line.Restore number) bytes did =
     ((volume_at entries number ≡ None) × (did ≡ line_refused [] entries (why.NoVolume number (length entries))))
-    ⊎ RestoreDoes c words entries number did
+    ⊎ RestoresVolume c words entries number (λ entry acts ending. did ≡ given_as words entries number entry (framed (pieces words entry) acts) ending)
 LineDoes c words entries line.Scrub bytes did =
     ((c.info.protected ≡ true) × (did ≡ line_refused [] entries why.Protected))
     ⊎ ((c.info.protected ≡ false) × ((acts : List Act) × Scrubs c words entries acts × (did ≡ record { acts = acts; entries = entries })))
