@@ -40,8 +40,8 @@ use Rattle.command_laws.proofs.ScrubStanding.{looks_in_front}
 use Rattle.command_laws.proofs.StoreEnding.{list_more, took_fits}
 use Rattle.command_laws.proofs.StoreTaking.{both_true}
 use Rattle.command_laws.specs.MountedListed.{listed_behind}
-use Rattle.command_laws.specs.CommandTerms.{Appends, free_in, most_written, silently, made_acts}
-use Rattle.command_spec.specs.Append.{Kept, Taking, Fits, TooLong, TooShort, append_acts, entry_acts, entry_for, has_promised_room, input_acts, input_writes, kept_over, room_in, taking}
+use Rattle.command_laws.specs.CommandTerms.{Appends, free_in, most_written, silently, made_acts, entry_for}
+use Rattle.command_spec.specs.Append.{Kept, Taking, Fits, TooLong, TooShort, append_acts, entry_acts, has_promised_room, input_acts, input_writes, kept_over, room_in, taking}
 use Rattle.command_spec.specs.Commands.Defect.{DefectOutcome}
 use Rattle.command_spec.specs.Commands.Format.{FormatOutcome}
 use Rattle.command_spec.specs.Generator.{made_bytes, made_length}

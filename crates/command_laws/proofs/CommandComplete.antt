@@ -9,8 +9,8 @@ use Rattle.cartridge_spec.specs.Volumes.{Plain, entries_of}
 use Rattle.command_laws.proofs.MadeComplete.{made_where_there_is_room}
 use Rattle.command_laws.proofs.MountedHeld.{mounted_open}
 use Rattle.command_laws.proofs.RestoreGivenBack.{given, given_whole}
-use Rattle.command_spec.specs.Append.{room_in, AppendOutcome, kept_in}
-use Rattle.command_laws.specs.CommandTerms.{Appends}
+use Rattle.command_spec.specs.Append.{room_in, AppendOutcome}
+use Rattle.command_laws.specs.CommandTerms.{kept_in, Appends}
 use Rattle.command_spec.specs.Commands.AppendCommand.{CanTake}
 use Rattle.command_spec.specs.Complete.{ReadsAs, IsUnprotected}
 use Rattle.command_spec.specs.Commands.Defect.{DefectOutcome}

@@ -15,8 +15,8 @@ use Rattle.command_laws.proofs.MadeStops.{sum_in_no_step}
 use Rattle.command_laws.proofs.RestoreCounts.{restores_in_no_step, framed_in_no_step}
 use Rattle.command_laws.proofs.ScriptOutcomes.{replied}
 use Rattle.command_laws.proofs.ScrubAtOnce.{scrub_steps}
-use Rattle.command_laws.specs.CommandTerms.{Appends, free_in, most_written, silently, made_acts, restored_line}
-use Rattle.command_spec.specs.Append.{segment_act, volume_acts, filled_acts, input_acts, Taking, Fits, TooLong, TooShort, Kept, input_writes, entry_acts, append_acts, entry_for, room_in, has_promised_room, taking, kept_over}
+use Rattle.command_laws.specs.CommandTerms.{Appends, free_in, most_written, silently, made_acts, restored_line, entry_for}
+use Rattle.command_spec.specs.Append.{segment_act, volume_acts, filled_acts, input_acts, Taking, Fits, TooLong, TooShort, Kept, input_writes, entry_acts, append_acts, room_in, has_promised_room, taking, kept_over}
 use Rattle.command_spec.specs.Commands.Defect.{DefectOutcome}
 use Rattle.command_spec.specs.Commands.Format.{FormatOutcome}
 use Rattle.command_spec.specs.Generator.{made_bytes, made_length}

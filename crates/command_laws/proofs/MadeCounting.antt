@@ -3,9 +3,9 @@ use Rattle.std.proofs.Common.{◌≡◌, ◌≢◌, ℕ, suc, ◌+◌, ◌≤◌
 use Rattle.cartridge_spec.specs.Settling.{changed_by}
 use Rattle.cartridge_spec.specs.Table.{Entry}
 use Rattle.command_laws.proofs.MadeStops.{AreStill, IsStill, still_after}
-use Rattle.command_spec.specs.Append.{has_promised_room, kept_in, room_in}
+use Rattle.command_spec.specs.Append.{has_promised_room, room_in}
+use Rattle.command_laws.specs.CommandTerms.{kept_in, AppendedFrom, made_entry}
 use Rattle.command_spec.specs.Generator.{made_length}
-use Rattle.command_laws.specs.CommandTerms.{AppendedFrom, made_entry}
 use Rattle.command_spec.specs.Make.{MakeStep, AppendMade, WearSector, ScrubAll, SumVolume, Answer, Done, Full, Lost, Mismatch, Protected, TableMismatch, Runs, StepDoes, after_items, appending, ending_answer, made_answer, make_status}
 use Rattle.command_spec.specs.Restore.{GivingEnd, Restored, LostIn, MismatchIn}
 use Rattle.command_spec.specs.MadeVolumes.{AppendedBy}

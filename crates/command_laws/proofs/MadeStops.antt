@@ -27,8 +27,8 @@ use Rattle.command_laws.proofs.MountedStanding.{all_writes, no_writes, open_appe
 use Rattle.command_laws.proofs.ScrubMounted.{stopped_scrub_stands}
 use Rattle.command_laws.specs.MadeLaws.{StoppedMakeStands, DoneMakeStands, StopsInStep, StopsAreInSteps, MakesOneThing}
 use Rattle.command_laws.specs.MountedKept.{IsAppendable, IsOpen, settle_and_append, IsKept}
-use Rattle.command_spec.specs.Append.{Kept, append_acts, room_in, kept_in, has_promised_room, kept_over}
-use Rattle.command_laws.specs.CommandTerms.{silently, made_byte, made_acts, first_two, made_entry}
+use Rattle.command_spec.specs.Append.{Kept, append_acts, room_in, has_promised_room, kept_over}
+use Rattle.command_laws.specs.CommandTerms.{kept_in, silently, made_byte, made_acts, first_two, made_entry}
 use Rattle.command_spec.specs.Generator.{made_length, made_bytes}
 use Rattle.command_spec.specs.MadeVolumes.{made_contents}
 use Rattle.command_spec.specs.Make.{made_name, AppendMade, Answer, Done, Full, StepDoes, IsAppended, made_answer, MakeStep, WearSector, ScrubAll, SumVolume, after_item, sum_acts, Runs, wearing, wearing_in, wearing_volumes, summing, after_items, appending, made_list, making}

@@ -5,8 +5,8 @@ use Rattle.std.proofs.lemmas.Bool.{cases_Bool}
 use Rattle.std.proofs.lemmas.List.{take_all, length-take-le}
 use Rattle.cartridge_spec.specs.Table.{Entry}
 use Rattle.command_laws.proofs.InputActLaws.{input_prints_nothing}
-use Rattle.command_spec.specs.Append.{Fits, TooLong, TooShort, taking, has_promised_room, input_acts, Kept, Taking, room_in, entry_acts, append_acts, input_writes, entry_for, volume_acts, filled_acts}
-use Rattle.command_laws.specs.CommandTerms.{WearsBehind, LineSpares, free_in, most_written, silently}
+use Rattle.command_spec.specs.Append.{Fits, TooLong, TooShort, taking, has_promised_room, input_acts, Kept, Taking, room_in, entry_acts, append_acts, input_writes, volume_acts, filled_acts}
+use Rattle.command_laws.specs.CommandTerms.{entry_for, WearsBehind, LineSpares, free_in, most_written, silently}
 use Rattle.qic_base.proofs.Joins.{steps_of-append, text_of-append}
 use Rattle.qic_base.specs.Acts.{Act, text_of, steps_of}
 use Rattle.cartridge_spec.specs.Volumes.{Plain}

@@ -6,7 +6,8 @@ use Rattle.cartridge_spec.specs.Appending.{table_writes}
 use Rattle.cartridge_spec.specs.Settling.{changed_by}
 use Rattle.cartridge_spec.specs.Table.{Entry, slot_sector, table_with}
 use Rattle.command_laws.proofs.ScriptActs.{fits_acts, front_acts, full_taking}
-use Rattle.command_spec.specs.Append.{Kept, Taking, Fits, TooLong, TooShort, append_acts, entry_for, has_promised_room, room_in, taking, kept_over}
+use Rattle.command_spec.specs.Append.{Kept, Taking, Fits, TooLong, TooShort, append_acts, has_promised_room, room_in, taking, kept_over}
+use Rattle.command_laws.specs.CommandTerms.{entry_for}
 use Rattle.command_spec.specs.Input.{promised, Item, IsItem, Ending, HasItems}
 use Rattle.command_spec.specs.Lines.{number_line, place_line, appended_line, list_text, count_line, volume_lines, reply_behind}
 use Rattle.command_spec.specs.Restore.{Restored, LostIn, MismatchIn}

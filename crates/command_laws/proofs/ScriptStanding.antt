@@ -30,8 +30,8 @@ use Rattle.command_laws.specs.Intact.{IsIntact}
 use Rattle.command_laws.specs.MountedHeld.{IsHeld}
 use Rattle.command_laws.specs.MountedKept.{IsAppendable, IsKept, IsOpen}
 use Rattle.command_laws.specs.ScriptStanding.{LineHasBytes, HaveBytes, ItemsHaveBytes, HasBytes, StoppedItemStands, ItemsStand, FaultStands, plain_after, plain_behind}
-use Rattle.command_spec.specs.Append.{Kept, Taking, Fits, TooLong, TooShort, append_acts, entry_for, room_in, taking, entry_acts, has_promised_room, input_acts, input_writes, kept_over}
-use Rattle.command_laws.specs.CommandTerms.{free_in, IsLine, ItemDoes, RestoreDoes, LineSpares, WearsBehind}
+use Rattle.command_spec.specs.Append.{Kept, Taking, Fits, TooLong, TooShort, append_acts, room_in, taking, entry_acts, has_promised_room, input_acts, input_writes, kept_over}
+use Rattle.command_laws.specs.CommandTerms.{entry_for, free_in, IsLine, ItemDoes, RestoreDoes, LineSpares, WearsBehind}
 use Rattle.command_spec.specs.Input.{IsLined, promised, Item, IsItem, Ending, HasItems}
 use Rattle.command_spec.specs.Lines.{reply_behind, lost_line}
 use Rattle.command_spec.specs.Restore.{Restored, LostIn, MismatchIn, framed, pieces}

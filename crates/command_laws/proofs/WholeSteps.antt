@@ -29,8 +29,8 @@ use Rattle.command_laws.proofs.CommandClean.{Leaves, both_leave, leaves_done}
 use Rattle.command_laws.proofs.InputActLaws.{input_is_of_sectors, writes_whole}
 use Rattle.command_laws.proofs.MountedListed.{entry_area, slot_free}
 use Rattle.command_laws.specs.MountedListed.{IsListed}
-use Rattle.command_spec.specs.Append.{Fits, Kept, Taking, TooLong, TooShort, append_acts, entry_acts, entry_for, has_promised_room, input_acts, input_writes, kept_over, room_in, taking}
-use Rattle.command_laws.specs.CommandTerms.{free_in, most_written}
+use Rattle.command_spec.specs.Append.{Fits, Kept, Taking, TooLong, TooShort, append_acts, entry_acts, has_promised_room, input_acts, input_writes, kept_over, room_in, taking}
+use Rattle.command_laws.specs.CommandTerms.{entry_for, free_in, most_written}
 use Rattle.qic_base.proofs.Joins.{steps_of-append}
 use Rattle.qic_base.specs.Acts.{Act, steps_of}
 use Rattle.qic_base.specs.Cartridge.{Cartridge, IsCartridge, IsLength, IsSector, IsVersion, IsView, new_cartridge, view_at, with_segment, zero_sector}

@@ -7,12 +7,12 @@ use Rattle.cartridge_spec.specs.Shape.{mask_at, usable_places}
 use Rattle.cartridge_spec.specs.Table.{Entry}
 use Rattle.cartridge_spec.specs.Wear.{WearSpares}
 use Rattle.cartridge_spec.specs.Volumes.{Plain, entries_of, volume_length}
-use Rattle.command_spec.specs.Append.{Kept, Taking, Fits, TooLong, TooShort, append_acts, appended, entry_for, kept_in, kept_over}
+use Rattle.command_spec.specs.Append.{Kept, Taking, Fits, TooLong, TooShort, append_acts, appended, entry_behind, kept_over}
 use Rattle.command_spec.specs.CommandWords.{HasForm, SpellsPart, Number}
 use Rattle.command_spec.specs.Generator.{made_bytes, made_length}
 use Rattle.command_spec.specs.Input.{Item, line_forms, most_items}
 use Rattle.command_spec.specs.Lines.{place_line}
-use Rattle.command_spec.specs.Make.{Answer, Full, MakeStep, Runs, ScrubAll, after_items, appending, ending_answer, made_answer, made_list, made_name, making, sum_acts, wearing_volumes}
+use Rattle.command_spec.specs.Make.{Answer, Done, Full, Lost, MakeStep, Mismatch, Protected, TableMismatch, Runs, ScrubAll, after_items, appending, ending_answer, made_answer, made_list, made_name, making, sum_acts, wearing_volumes}
 use Rattle.command_spec.specs.Outcome.{Going}
 use Rattle.command_spec.specs.Restore.{GivingEnd, Restored, LostIn, MismatchIn, Piece, RestoresVolume, framed, pieces}
 use Rattle.command_spec.specs.Script.{Did, EndsEarly, LineDoes, Meeting, Meets, acts_on, given_as}
@@ -39,6 +39,14 @@ bytes_taken promised (TooShort n read) = read
 -- the free segments of what an append goes by
 abbrev pub free_in : Kept → List ℕ
 free_in kept = free_segments kept.words kept.entries
+
+-- what an append goes by but for the table
+abbrev pub kept_in : (words : List ℕ) → (entries : List Entry) → Kept
+kept_in words entries = record { words = words; entries = entries; table = []; settling = [] }
+
+-- the entry of a volume of these bytes
+abbrev pub entry_for : Kept → (name : List ℕ) → (date : ℕ) → (bytes : List ℕ) → Entry
+entry_for kept name date bytes = entry_behind kept.words kept.entries name date bytes
 
 -- no reply
 abbrev pub silently : Entry → List ℕ
@@ -100,6 +108,15 @@ act_of piece sectors = record { steps = []; text = take piece.count (bytes_in se
 -- an act with the line `part K` before its text, where K is the count of its piece
 abbrev pub framed_act : Piece → Act → Act
 framed_act piece act = record { steps = act.steps; text = codes "part " ++ decimal piece.count ++ codes "\n" ++ act.text }
+
+-- an append is carried out, or full, by the map and the volumes; else its table was refused, or the cartridge is protected
+abbrev pub MayAppend : (seed : ℕ) → (words : List ℕ) → List Entry → (volume : ℕ) → Answer → Type 0
+MayAppend seed words entries volume Done = made_answer seed words entries volume ≡ Done
+MayAppend seed words entries volume (Full need have) = made_answer seed words entries volume ≡ Full need have
+MayAppend seed words entries volume Protected = Unit {0}
+MayAppend seed words entries volume TableMismatch = Unit {0}
+MayAppend seed words entries volume (Lost segment lost) = (segment ≡ 2) × (3 < lost)
+MayAppend seed words entries volume (Mismatch segment) = ⊥
 
 -- the sum of the volume with this number, as a step of a run
 abbrev pub IsSummed : Cartridge → (words : List ℕ) → List Entry → (number : ℕ) → List Act → Answer → Type 0

@@ -3,7 +3,7 @@ use Rattle.std.specs.Prelude.{ℕ, List, [], ◌∷◌, Bool, codes, if◌then�
 use Rattle.std.specs.Option.{option_map}
 use Rattle.command_spec.specs.Input.{Ending, AtEnd, AtStop, AtFault, IsPulses}
 use Rattle.command_spec.specs.Outcome.{CommandOutcome}
-use Rattle.command_spec.specs.Pulses.{pulsed_row, pulses_taken, train_acts}
+use Rattle.command_spec.specs.Pulses.{pulsed_row, pulses_taken, train_acts, train_changes}
 use Rattle.command_spec.specs.declared.status.Status.{Status}
 use Rattle.drive_spec.specs.Record.{Record, power_on}
 use Rattle.qic_base.specs.Acts.{Act}
@@ -19,6 +19,10 @@ after_trains r (train ∷ trains) = after_trains (pulsed_row r train) trains
 -- the level of the track-0 line, as a line
 abbrev pub level_line : Bool → List ℕ
 level_line on = if on then codes "1\n" else codes "0\n"
+
+-- what a train does
+abbrev pub train_act : Record → (train : ℕ) → Act
+train_act r train = record { steps = train_changes r train; text = level_line (pulsed_row r train).line }
 
 -- the input's trains were all sent; or this line, counted from 1, is none, with so many bytes before it
 pub data Answer : Type 0 where

@@ -7,8 +7,8 @@ use Rattle.cartridge_spec.specs.Formatting.{fresh_header}
 use Rattle.cartridge_spec.specs.Says.{LostSectors, Mismatch}
 use Rattle.cartridge_spec.specs.Table.{Entry}
 use Rattle.cartridge_spec.specs.Volumes.{carrying}
-use Rattle.command_spec.specs.Append.{append_acts, kept_in, entry_for, taking, TooLong, TooShort}
-use Rattle.command_laws.specs.CommandTerms.{bytes_taken, append_status, made_byte, words_of}
+use Rattle.command_spec.specs.Append.{append_acts, taking, TooLong, TooShort}
+use Rattle.command_laws.specs.CommandTerms.{kept_in, entry_for, bytes_taken, append_status, made_byte, words_of}
 use Rattle.command_spec.specs.Commands.{IsCommand}
 use Rattle.command_spec.specs.CommandWords.{IsNumber}
 use Rattle.command_spec.specs.Generator.{made_length}

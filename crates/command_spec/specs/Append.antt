@@ -86,16 +86,17 @@ input_writes kept promised input =
     then input_acts kept.words (free_segments kept.words kept.entries) (unwrap_or promised (room_in kept)) (is_some promised) input
     else []
 
--- the entry of a volume of these bytes
-abbrev pub entry_for : Kept → (name : List ℕ) → (date : ℕ) → (bytes : List ℕ) → Entry
-entry_for kept name date bytes = new_entry (taken_by kept.words (length bytes) (free_segments kept.words kept.entries)) name date (length bytes)
+-- the entry of a volume of these bytes behind the others
+abbrev pub entry_behind : (words : List ℕ) → List Entry → (name : List ℕ) → (date : ℕ) → (bytes : List ℕ) → Entry
+entry_behind words entries name date bytes = new_entry (taken_by words (length bytes) (free_segments words entries)) name date (length bytes)
 
 -- last, where all bytes are there, the writes of the table, and the reply
 abbrev pub entry_acts : Kept → (name : List ℕ) → (date : ℕ) → (reply : Entry → List ℕ) → Taking → List Act
 entry_acts kept name date reply (Fits bytes) =
+    let entry : Entry = entry_behind kept.words kept.entries name date bytes in
     record {
-      steps = table_writes (slot_sector (length kept.entries)) (table_with kept.table (length kept.entries) (entry_for kept name date bytes));
-      text = reply (entry_for kept name date bytes);
+      steps = table_writes (slot_sector (length kept.entries)) (table_with kept.table (length kept.entries) entry);
+      text = reply entry;
     } ∷ []
 entry_acts kept name date reply (TooLong need have) = []
 entry_acts kept name date reply (TooShort promised read) = []
@@ -108,13 +109,9 @@ append_acts kept name date promised reply input =
 
 -- ---- the outcome
 
--- what an append goes by but for the table
-abbrev pub kept_in : (words : List ℕ) → (entries : List Entry) → Kept
-kept_in words entries = record { words = words; entries = entries; table = []; settling = [] }
-
 -- what it goes by over a cartridge whose table has these data
 abbrev pub kept_over : Cartridge → (words : List ℕ) → (entries : List Entry) → (table : List (List ℕ)) → Kept
-kept_over c words entries table = record (kept_in words entries) { table = table; settling = settling_steps table c }
+kept_over c words entries table = record { words = words; entries = entries; table = table; settling = settling_steps table c }
 
 -- The table is settled, and the whole input appended: a sector of the table that takes no write is written again. The cartridge is
 -- full where there is no room for all of the input, or for no byte.

@@ -4,7 +4,7 @@ use Rattle.std.specs.Prelude.{◌≡◌, ℕ, List, Some, IsSomeAnd, [], ◌∷�
 use Rattle.cartridge_spec.specs.Header.{Header}
 use Rattle.cartridge_spec.specs.Mounting.{Mounted, Mounts, Lists, settled}
 use Rattle.cartridge_spec.specs.Table.{Entry}
-use Rattle.command_spec.specs.Append.{entry_for, kept_in}
+use Rattle.command_spec.specs.Append.{entry_behind}
 use Rattle.command_spec.specs.Headline.{ToldNow}
 use Rattle.command_spec.specs.Input.{Item}
 use Rattle.command_spec.specs.Machine.{Spells}
@@ -35,7 +35,7 @@ NowLists t new header words entries = ToldNow t new (λ left. IsSomeAnd left (λ
 pub record ListsVolume {T : Type 0} (t : tapes.Meaning T) (told : Option (List ℕ)) (old new : T) (header : Header) (words : List ℕ) (entries : List Entry) (name : List ℕ) (date : ℕ) : Type 0 where
   pub input : List ℕ
   pub is_told : IsInput told input
-  pub lists : NowLists t new header words (entries ++ entry_for (kept_in words entries) name date input ∷ [])
+  pub lists : NowLists t new header words (entries ++ entry_behind words entries name date input ∷ [])
 
 -- the list with the first ones of the made volumes; with those that were appended by the answer, where no fault of the outside ended
 -- it; with all of them, where anything was printed, the sink failed, or all was carried out

@@ -9,7 +9,7 @@ use Rattle.cartridge_spec.specs.Settling.{changed_by}
 use Rattle.cartridge_spec.specs.Shape.{mask_at, usable_places}
 use Rattle.cartridge_spec.specs.Table.{Entry}
 use Rattle.cartridge_spec.specs.Volumes.{carrying_segments, volume_length}
-use Rattle.command_spec.specs.Append.{kept_in, entry_for, append_acts, has_promised_room, kept_over}
+use Rattle.command_spec.specs.Append.{entry_behind, append_acts, has_promised_room, kept_over}
 use Rattle.command_spec.specs.Generator.{made_bytes, made_length}
 use Rattle.command_spec.specs.Outcome.{settling_act, CommandOutcome, WritableOutcome}
 use Rattle.command_spec.specs.Restore.{GivingEnd, Restored, LostIn, MismatchIn, RestoresVolume, pieces, volume_at}
@@ -38,7 +38,7 @@ made_name volume = filled (codes "made-" ++ decimal volume)
 -- the volumes behind a step that was carried out: a made one has the date word 0
 abbrev pub after_item : (seed : ℕ) → (words : List ℕ) → List Entry → MakeStep → List Entry
 after_item seed words entries (AppendMade volume) =
-    entries ++ entry_for (kept_in words entries) (made_name volume) 0 (made_bytes seed volume) ∷ []
+    entries ++ entry_behind words entries (made_name volume) 0 (made_bytes seed volume) ∷ []
 after_item seed words entries (WearSector segment sector) = entries
 after_item seed words entries ScrubAll = entries
 after_item seed words entries (SumVolume number) = entries
@@ -169,15 +169,6 @@ Runs seed c words entries (item ∷ items) acts answer =
     ⊎ ((first : List Act) × (rest : List Act) × (first ++ rest ≡ acts) × StepDoes seed c words entries item first Done
     × Runs seed (changed_by (steps_of first) c) words (after_item seed words entries item) items rest answer)
 
--- an append is carried out, or full, by the map and the volumes; else its table was refused, or the cartridge is protected
-abbrev pub MayAppend : (seed : ℕ) → (words : List ℕ) → List Entry → (volume : ℕ) → Answer → Type 0
-MayAppend seed words entries volume Done = made_answer seed words entries volume ≡ Done
-MayAppend seed words entries volume (Full need have) = made_answer seed words entries volume ≡ Full need have
-MayAppend seed words entries volume Protected = Unit {0}
-MayAppend seed words entries volume TableMismatch = Unit {0}
-MayAppend seed words entries volume (Lost segment lost) = (segment ≡ 2) × (3 < lost)
-MayAppend seed words entries volume (Mismatch segment) = ⊥
-
 -- a volume's line has its number and its length; a segment that ends a restore is one of the volume's
 abbrev pub MaySum : (words : List ℕ) → (number : ℕ) → Entry → (text : List ℕ) → Answer → Type 0
 MaySum words number e text Done = (total : ℕ) × (total < 2 ^ 32) × (text ≡ sum_line number (volume_length words e) total)
@@ -187,9 +178,14 @@ MaySum words number e text (Mismatch segment) =
     (text ≡ []) × ((read : ℕ) × IsSomeAnd (slice_get (pieces words e) read) (λ piece. piece.segment ≡ segment))
 MaySum words number e text answer = ⊥
 
--- a step prints this, and is answered so
+-- A step may print this and be answered so, over any cartridge. An append is carried out, or full, by the map and the volumes; else
+-- its table was refused, or the cartridge is protected.
 abbrev pub MayDo : (seed : ℕ) → (words : List ℕ) → List Entry → MakeStep → (text : List ℕ) → Answer → Type 0
-MayDo seed words entries (AppendMade volume) text answer = (text ≡ []) × MayAppend seed words entries volume answer
+MayDo seed words entries (AppendMade volume) text Done = (text ≡ []) × (made_answer seed words entries volume ≡ Done)
+MayDo seed words entries (AppendMade volume) text (Full need have) = (text ≡ []) × (made_answer seed words entries volume ≡ Full need have)
+MayDo seed words entries (AppendMade volume) text (Lost segment lost) = (text ≡ []) × ((segment ≡ 2) × (3 < lost))
+MayDo seed words entries (AppendMade volume) text (Mismatch segment) = ⊥
+MayDo seed words entries (AppendMade volume) text answer = text ≡ []
 MayDo seed words entries (WearSector segment sector) text answer = (text ≡ []) × (answer ≡ Done)
 MayDo seed words entries ScrubAll text Done = (counts : Counts) × IsScrubText (looked_at words entries) counts text
 MayDo seed words entries ScrubAll text Protected = text ≡ []

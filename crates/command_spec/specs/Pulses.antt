@@ -22,18 +22,13 @@ pulsed_row r train = after_gap (record r { train = train })
 unfoldable pub train_changes : Record → (train : ℕ) → List Step
 train_changes r train = gap_steps (record r { train = train })
 
--- What a train does: to the cartridge, which is referenced where a train 16 was accepted; and then the level of the track-0 line that
--- it leaves is printed.
-abbrev pub train_act : Record → (train : ℕ) → Act
-train_act r train = record {
-  steps = train_changes r train;
-  text = if (pulsed_row r train).line then codes "1\n" else codes "0\n";
-}
-
--- and several, one after the other
+-- What trains do, one after the other: to the cartridge, which is referenced where a train 16 was accepted; and then the level of the
+-- track-0 line that each leaves is printed.
 abbrev pub train_acts : Record → (trains : List ℕ) → List Act
 train_acts r [] = []
-train_acts r (train ∷ trains) = train_act r train ∷ train_acts (pulsed_row r train) trains
+train_acts r (train ∷ trains) =
+    record { steps = train_changes r train; text = if (pulsed_row r train).line then codes "1\n" else codes "0\n" }
+    ∷ train_acts (pulsed_row r train) trains
 
 -- ---- the input
 

@@ -8,7 +8,7 @@ use Rattle.cartridge_spec.specs.Says.{ByCode, LostSectors, TableSays}
 use Rattle.cartridge_spec.specs.Settling.{changed_by}
 use Rattle.cartridge_spec.specs.Table.{Entry}
 use Rattle.cartridge_spec.specs.Volumes.{volume_length}
-use Rattle.command_spec.specs.Append.{Kept, append_acts, Taking, Fits, TooLong, TooShort, entry_for, taking, kept_over}
+use Rattle.command_spec.specs.Append.{Kept, append_acts, Taking, Fits, TooLong, TooShort, entry_behind, taking, kept_over}
 use Rattle.command_spec.specs.Input.{Item, IsLineText, most_items, Ending, AtEnd, AtStop, AtFault, IsItem, HasItems, IsScript, input_status}
 use Rattle.command_spec.specs.Lines.{place_line, number_line, reply_behind, lost_line, list_text}
 use Rattle.command_spec.specs.Outcome.{settling_act, CommandOutcome, OpenOutcome}
@@ -80,7 +80,7 @@ acts_on c words entries name promised date bytes (Finds table) =
 
 -- what it has done then, by what became of the bytes
 abbrev pub taken_as : Kept → (name : List ℕ) → (date : ℕ) → List Act → Taking → Did
-taken_as kept name date acts (Fits bytes) = record { acts = acts; entries = kept.entries ++ entry_for kept name date bytes ∷ [] }
+taken_as kept name date acts (Fits bytes) = record { acts = acts; entries = kept.entries ++ entry_behind kept.words kept.entries name date bytes ∷ [] }
 taken_as kept name date acts (TooLong need have) = line_refused acts kept.entries (why.Full need have)
 taken_as kept name date acts (TooShort promised read) = record { acts = acts; entries = kept.entries }
 

@@ -14,14 +14,14 @@ use Rattle.drive_states.specs.Unit.{UnitView}
 use Rattle.cartridge_laws.proofs.MountOnce.{mounts_is_function}
 use Rattle.command_spec.specs.Generator.{made_length}
 use Rattle.command_spec.specs.declared.words.Words.TheVariants as words
-use Rattle.command_spec.specs.Append.{has_promised_room, kept_in, room_in}
+use Rattle.command_spec.specs.Append.{has_promised_room, room_in}
+use Rattle.command_laws.specs.CommandTerms.{kept_in, Makes}
 use Rattle.volume_store.specs.Mounting.{StoreView}
 use Rattle.command_laws.proofs.StoreTaking.{both_true}
 use Rattle.made_volumes.specs.declared.fault.MakeFault.{MakeFault}
 use Rattle.made_volumes.specs.declared.fault.MakeFault.TheVariants as fault
 use Rattle.command_spec.specs.Make.{MakeStep, AppendMade, WearSector, ScrubAll, SumVolume, after_item, making, Answer, made_answer, MayDo, MayRun, Making, make_status}
 use Rattle.command_spec.specs.Make as made
-use Rattle.command_laws.specs.CommandTerms.{Makes}
 use Rattle.made_volumes.specs.Runs.{HasRun, MakeEnds, RunCut}
 use Rattle.command_spec.specs.declared.status.Status.{Status}
 use Rattle.command_spec.specs.declared.status.Status.TheVariants as status

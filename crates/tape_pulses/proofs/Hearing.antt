@@ -15,8 +15,8 @@ use Rattle.command_laws.specs.CommandTerms.{IsTrain}
 use Rattle.qic_base.specs.Source.{Gave}
 use Rattle.command_laws.proofs.TextInputs as inputs
 use Rattle.tape_script.proofs.Lined.{IsLined-one_newline}
-use Rattle.command_spec.specs.Pulses.{pulsed_row, train_changes, train_act, train_line}
-use Rattle.command_laws.specs.PulseRuns.{level_line}
+use Rattle.command_spec.specs.Pulses.{pulsed_row, train_changes, train_line}
+use Rattle.command_laws.specs.PulseRuns.{train_act, level_line}
 use Rattle.tape_pulses.specs.Lines.{Heard, GaveNoTrain}
 use Rattle.command_laws.proofs.PulseTrains.{pulse_line, pulse_short}
 

@@ -20,8 +20,8 @@ use Rattle.command_laws.proofs.TextReadings.{each_pulses}
 use Rattle.tape_script.proofs.Rests.{any_rest, ended_rest, whole_told, left_behind}
 use Rattle.tape_pulses.specs.declared.fault.PulseFault.{PulseFault}
 use Rattle.tape_pulses.specs.declared.fault.PulseFault.TheVariants as fault
-use Rattle.command_spec.specs.Pulses.{pulsed_row, train_act, train_acts, train_line, train_lines, pulses_taken}
-use Rattle.command_laws.specs.PulseRuns.{after_trains, Answer, AllSent, ScriptFault, pulses_answer, outcome_of}
+use Rattle.command_spec.specs.Pulses.{pulsed_row, train_acts, train_line, train_lines, pulses_taken}
+use Rattle.command_laws.specs.PulseRuns.{train_act, after_trains, Answer, AllSent, ScriptFault, pulses_answer, outcome_of}
 use Rattle.tape_pulses.specs.Runs.{Leaves, Ended, CutOff}
 use Rattle.tape_pulses.specs.Runs as runs
 use Rattle.tape_pulses.specs.Lines.{Heard, GaveNoTrain, HasNoTrain, Hears, HearsEnd}

@@ -11,7 +11,8 @@ use Rattle.qic_base.specs.Source.{Gave}
 use Rattle.tape_script.specs.Reading.{GaveInLine, BeginsWithNo, GaveEnd}
 use Rattle.tape_pulses.specs.declared.fault.PulseFault.{PulseFault}
 use Rattle.tape_pulses.specs.declared.fault.PulseFault.TheVariants as fault
-use Rattle.command_spec.specs.Pulses.{pulsed_row, train_act, train_line}
+use Rattle.command_spec.specs.Pulses.{pulsed_row, train_line}
+use Rattle.command_laws.specs.PulseRuns.{train_act}
 
 -- ---- the source
 
