@@ -76,6 +76,11 @@ pub record Kept : Type 0 where
   pub table : List (List ℕ)
   pub settling : List Step
 
+-- what it goes by over a cartridge whose table has these data
+abbrev pub kept_over : Cartridge → (words : List ℕ) → (entries : List Entry) → (table : List (List ℕ)) → Kept
+kept_over c words entries table =
+    record { words = words; entries = entries; table = table; settling = settling_steps table c }
+
 abbrev pub room_in : Kept → ℕ
 room_in kept = room kept.words kept.entries
 
@@ -83,12 +88,15 @@ room_in kept = room kept.words kept.entries
 abbrev pub input_writes : Kept → (promised : Option ℕ) → (input : List ℕ) → List Act
 input_writes kept promised input =
     if has_promised_room (room_in kept) promised
-    then input_acts kept.words (free_segments kept.words kept.entries) (unwrap_or promised (room_in kept)) (is_some promised) input
+    then
+      input_acts kept.words (free_segments kept.words kept.entries) (unwrap_or promised (room_in kept))
+      (is_some promised) input
     else []
 
 -- the entry of a volume of these bytes behind the others
 abbrev pub entry_behind : (words : List ℕ) → List Entry → (name : List ℕ) → (date : ℕ) → (bytes : List ℕ) → Entry
-entry_behind words entries name date bytes = new_entry (taken_by words (length bytes) (free_segments words entries)) name date (length bytes)
+entry_behind words entries name date bytes =
+    new_entry (taken_by words (length bytes) (free_segments words entries)) name date (length bytes)
 
 -- last, where all bytes are there, the writes of the table, and the reply
 abbrev pub entry_acts : Kept → (name : List ℕ) → (date : ℕ) → (reply : Entry → List ℕ) → Taking → List Act
@@ -109,21 +117,19 @@ append_acts kept name date promised reply input =
 
 -- ---- the outcome
 
--- what it goes by over a cartridge whose table has these data
-abbrev pub kept_over : Cartridge → (words : List ℕ) → (entries : List Entry) → (table : List (List ℕ)) → Kept
-kept_over c words entries table = record { words = words; entries = entries; table = table; settling = settling_steps table c }
-
--- The table is settled, and the whole input appended: a sector of the table that takes no write is written again. The cartridge is
--- full where there is no room for all of the input, or for no byte.
+-- The table is settled, and the whole input appended: a sector of the table that takes no write is written again. The
+-- cartridge is full where there is no room for all of the input, or for no byte.
 abbrev pub appended : (name : List ℕ) → (date : ℕ) → (input : List ℕ) → Cartridge → (words : List ℕ) → (table : List (List ℕ)) → List Entry → CommandOutcome
 appended name date input c words table entries =
     let have : ℕ = room words entries in
     let taken : ℕ = min (length input) (have + 1) in record {
-      acts = settling_act table c ∷ append_acts (kept_over (settled table c) words entries table) name date None (reply_behind (length entries)) input;
+      acts = settling_act table c
+          ∷ append_acts (kept_over (settled table c) words entries table) name date None (reply_behind (length entries)) input;
       taken = taken;
       status = if nat_le 1 have && nat_le (length input) have then status.Done else status.Full taken have;
     }
 
 abbrev pub AppendOutcome : (name : List ℕ) → (date : ℕ) → Option Cartridge → (input : List ℕ) → CommandOutcome → Type 0
 AppendOutcome name date held input outcome =
-    WritableOutcome (λ c header words table entries outcome. outcome ≡ appended name date input c words table entries) held outcome
+    WritableOutcome (λ c header words table entries outcome. outcome ≡ appended name date input c words table entries)
+    held outcome

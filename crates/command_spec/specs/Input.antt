@@ -26,8 +26,8 @@ line_forms line.Scrub = (Word (codes "scrub") ∷ []) ∷ []
 line_forms (line.Lose segment sector) = (Word (codes "lose") ∷ AnyNumber segment ∷ AnyNumber sector ∷ []) ∷ []
 line_forms line.End = (Word (codes "end") ∷ []) ∷ []
 
--- a line of a script, with its newline: the words are what stands before, between and behind its spaces, so that one space parts
--- each two
+-- a line of a script, with its newline: its words are what stands before, between and behind its spaces, so that one
+-- space parts each two
 abbrev pub IsLineText : List ℕ → Line → Type 0
 IsLineText text line = IsLined (λ before. HasForm (slice_split (λ b. b == 0x20) before) (line_forms line)) text
 
@@ -87,7 +87,8 @@ HasStop input = (rest : List ℕ) × (input ≡ codes "end\n" ++ rest)
 pub record IsFault {I : Type 0} (Spelled : List ℕ → I → Type 0) (line : ℕ) (input : List ℕ) : Type 0 where
   pub some : input ≢ []
   pub no_stop : ¬ (HasStop input)
-  pub no_item : line ≤ most_items → ¬ ((item : I) × ((text : List ℕ) × ((rest : List ℕ) × ((input ≡ text ++ rest) × Spelled text item))))
+  pub no_item : line ≤ most_items →
+      ¬ ((item : I) × ((text : List ℕ) × ((rest : List ℕ) × ((input ≡ text ++ rest) × Spelled text item))))
 
 -- how the items end, in front of the line with this number
 abbrev pub ItemsEnd : {I : Type 0} → (List ℕ → I → Type 0) → (line place : ℕ) → List ℕ → Ending → Type 0

@@ -20,8 +20,8 @@ made_contents seed volume (suc count) =
 
 -- ---- how many were appended
 
--- So many of the volumes were appended by a run that is answered so: all of them where it was carried out, or one of them was not
--- given back; those in front of the one that has no room; or some, where the volume table does not read.
+-- So many of the volumes were appended by a run that is answered so: all of them where it was carried out, or one of
+-- them was not given back; those in front of the one that has no room; or some, where the volume table does not read.
 abbrev pub AppendedBy : (seed count : ℕ) → (words : List ℕ) → List Entry → Status → (n : ℕ) → Type 0
 AppendedBy seed count words entries status.Done n = n ≡ count
 AppendedBy seed count words entries (status.Full need have) n =
@@ -37,11 +37,14 @@ abbrev pub HaveRoom : (seed count : ℕ) → Plain → Type 0
 HaveRoom seed count plain =
     (n : ℕ) → n < count → made_answer seed plain.words (made_list seed n plain.words (entries_of plain)) (1 + n) ≡ Done
 
--- behind the appends, the worn sectors and the scrub no segment that holds some of a made volume has more than three unreadable sectors
+-- behind the appends, the worn sectors and the scrub no segment that holds some of a made volume has more than three
+-- unreadable sectors
 abbrev pub LoseFewBehind : (seed count : ℕ) → Cartridge → Plain → Type 0
 LoseFewBehind seed count c plain =
     let entries : List Entry = entries_of plain in
     let made : List Entry = made_list seed count plain.words entries in
     (acts : List Act) (number : ℕ) (e : Entry) →
-    Runs seed c plain.words entries (appending 1 count ++ (wearing_volumes plain.words (drop (length entries) made) ++ ScrubAll ∷ [])) acts Done →
-    length entries < number → volume_at made number ≡ Some e → All (LosesFew (changed_by (steps_of acts) c) plain.words) (pieces plain.words e)
+    Runs seed c plain.words entries
+    (appending 1 count ++ (wearing_volumes plain.words (drop (length entries) made) ++ ScrubAll ∷ [])) acts Done →
+    length entries < number → volume_at made number ≡ Some e →
+    All (LosesFew (changed_by (steps_of acts) c) plain.words) (pieces plain.words e)

@@ -63,7 +63,8 @@ wearing segment (sector ∷ sectors) = WearSector segment sector ∷ wearing seg
 -- the first two usable sectors are worn in each of these segments whose number is a multiple of 100
 abbrev pub wearing_in : (words segments : List ℕ) → List MakeStep
 wearing_in words [] = []
-wearing_in words (s ∷ ss) = (if s % 100 == 0 then wearing s (take 2 (usable_places (mask_at words s))) else []) ++ wearing_in words ss
+wearing_in words (s ∷ ss) =
+    (if s % 100 == 0 then wearing s (take 2 (usable_places (mask_at words s))) else []) ++ wearing_in words ss
 
 -- .. and so in the carrying segments of these volumes
 abbrev pub wearing_volumes : (words : List ℕ) → List Entry → List MakeStep
@@ -105,13 +106,13 @@ made_answer seed words entries volume =
     if has_promised_room (room words entries) (Some (made_length seed volume)) then Done
     else Full (made_length seed volume) (room words entries)
 
--- The volume table reads, and is settled; and the volume's bytes are appended, as many as are promised, without a reply, or it has no
--- room.
+-- The volume table reads, and is settled; and the volume's bytes are appended, as many as are promised, without a reply,
+-- or it has no room.
 pub record IsAppended (seed : ℕ) (c : Cartridge) (words : List ℕ) (entries : List Entry) (volume : ℕ) (acts : List Act) (answer : Answer) : Type 0 where
   pub table : List (List ℕ)
   pub reads : TableIs c table
-  pub does : acts ≡ append_acts (kept_over c words entries table) (made_name volume) 0 (Some (made_length seed volume)) (λ entry. [])
-      (made_bytes seed volume)
+  pub does : acts ≡ append_acts (kept_over c words entries table) (made_name volume) 0 (Some (made_length seed volume))
+      (λ entry. []) (made_bytes seed volume)
   pub answered : answer ≡ made_answer seed words entries volume
 
 -- it has lost more than three sectors
@@ -158,7 +159,8 @@ StepDoes seed c words entries ScrubAll acts answer =
     IsRefused c acts answer ⊎ ((c.info.protected ≡ false) × (Scrubs c words entries acts × (answer ≡ Done)))
 StepDoes seed c words entries (SumVolume number) acts answer =
     RestoresVolume c words entries number
-    (λ entry given ending. (acts ≡ sum_acts number (volume_length words entry) (text_of given) ending) × (answer ≡ ending_answer ending))
+    (λ entry given ending.
+    (acts ≡ sum_acts number (volume_length words entry) (text_of given) ending) × (answer ≡ ending_answer ending))
 
 -- Steps, one after the other, each on the cartridge that the ones before it leave. The first refusal ends them, and is the
 -- answer.
@@ -173,16 +175,18 @@ Runs seed c words entries (item ∷ items) acts answer =
 abbrev pub MaySum : (words : List ℕ) → (number : ℕ) → Entry → (text : List ℕ) → Answer → Type 0
 MaySum words number e text Done = (total : ℕ) × (total < 2 ^ 32) × (text ≡ sum_line number (volume_length words e) total)
 MaySum words number e text (Lost segment lost) =
-    (text ≡ []) × ((read : ℕ) × ((3 < lost) × IsSomeAnd (slice_get (pieces words e) read) (λ piece. piece.segment ≡ segment)))
+    (text ≡ [])
+    × ((read : ℕ) × ((3 < lost) × IsSomeAnd (slice_get (pieces words e) read) (λ piece. piece.segment ≡ segment)))
 MaySum words number e text (Mismatch segment) =
     (text ≡ []) × ((read : ℕ) × IsSomeAnd (slice_get (pieces words e) read) (λ piece. piece.segment ≡ segment))
 MaySum words number e text answer = ⊥
 
--- A step may print this and be answered so, over any cartridge. An append is carried out, or full, by the map and the volumes; else
--- its table was refused, or the cartridge is protected.
+-- A step may print this and be answered so, over any cartridge. An append is carried out, or full, by the map and the
+-- volumes; else its table was refused, or the cartridge is protected.
 abbrev pub MayDo : (seed : ℕ) → (words : List ℕ) → List Entry → MakeStep → (text : List ℕ) → Answer → Type 0
 MayDo seed words entries (AppendMade volume) text Done = (text ≡ []) × (made_answer seed words entries volume ≡ Done)
-MayDo seed words entries (AppendMade volume) text (Full need have) = (text ≡ []) × (made_answer seed words entries volume ≡ Full need have)
+MayDo seed words entries (AppendMade volume) text (Full need have) =
+    (text ≡ []) × (made_answer seed words entries volume ≡ Full need have)
 MayDo seed words entries (AppendMade volume) text (Lost segment lost) = (text ≡ []) × ((segment ≡ 2) × (3 < lost))
 MayDo seed words entries (AppendMade volume) text (Mismatch segment) = ⊥
 MayDo seed words entries (AppendMade volume) text answer = text ≡ []

@@ -22,8 +22,8 @@ pulsed_row r train = after_gap (record r { train = train })
 unfoldable pub train_changes : Record → (train : ℕ) → List Step
 train_changes r train = gap_steps (record r { train = train })
 
--- What trains do, one after the other: to the cartridge, which is referenced where a train 16 was accepted; and then the level of the
--- track-0 line that each leaves is printed.
+-- What trains do, one after the other: to the cartridge, which is referenced where a train 16 was accepted; and then the
+-- level of the track-0 line that each leaves is printed.
 abbrev pub train_acts : Record → (trains : List ℕ) → List Act
 train_acts r [] = []
 train_acts r (train ∷ trains) =
@@ -49,7 +49,8 @@ pulses_taken input trains AtEnd = length input
 pulses_taken input trains AtStop = length (train_lines trains) + length (codes "end\n")
 pulses_taken input trains (AtFault line place) = place
 
--- `pulses` needs no cartridge: the drive goes by what it knows of the one that was put in, if one was. At most 65,536 lines are trains.
+-- `pulses` needs no cartridge: the drive goes by what it knows of the one that was put in, if one was. At most 65,536
+-- lines are trains.
 pub record SentOutcome (held : Option Cartridge) (input : List ℕ) (outcome : CommandOutcome) : Type 0 where
   pub trains : List ℕ
   pub ending : Ending

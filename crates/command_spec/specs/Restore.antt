@@ -47,7 +47,8 @@ piece_cells c words piece = cells_of c piece.segment (mask_at words piece.segmen
 abbrev pub LosesFew : Cartridge → (words : List ℕ) → Piece → Type 0
 LosesFew c words piece = unreadable_count (piece_cells c words piece) ≤ 3
 
--- The segment says data; and the act prints the first bytes of them, as many as it holds of the volume. No step changes the tape.
+-- The segment says data; and the act prints the first bytes of them, as many as it holds of the volume. No step changes
+-- the tape.
 pub record IsRead (c : Cartridge) (words : List ℕ) (piece : Piece) (act : Act) : Type 0 where
   pub sectors : List (List ℕ)
   pub says : Says (piece_cells c words piece) (Data sectors)
@@ -95,7 +96,8 @@ abbrev pub framed : List Piece → List Act → List Act
 framed [] acts = []
 framed (piece ∷ needed) [] = []
 framed (piece ∷ needed) (act ∷ acts) =
-    record { steps = act.steps; text = codes "part " ++ decimal piece.count ++ codes "\n" ++ act.text } ∷ framed needed acts
+    record { steps = act.steps; text = codes "part " ++ decimal piece.count ++ codes "\n" ++ act.text }
+    ∷ framed needed acts
 
 -- its pieces
 abbrev pub pieces_in : Plain → Volume → List Piece
@@ -134,7 +136,8 @@ abbrev pub Gives : (number : ℕ) → Going
 Gives number c header words table entries outcome =
     ((volume_at entries number ≡ None) × (outcome ≡ refused_behind (settling_steps table c) (status.NoVolume number (length entries))))
     ⊎ RestoresVolume (settled table c) words entries number
-      (λ entry acts ending. outcome ≡ record { acts = settling_act table c ∷ acts; taken = 0; status = ending_status ending })
+      (λ entry acts ending.
+      outcome ≡ record { acts = settling_act table c ∷ acts; taken = 0; status = ending_status ending })
 
 abbrev pub RestoreOutcome : (number : ℕ) → Option Cartridge → CommandOutcome → Type 0
 RestoreOutcome number held outcome = OpenOutcome (Gives number) held outcome

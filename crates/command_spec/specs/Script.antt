@@ -80,7 +80,8 @@ acts_on c words entries name promised date bytes (Finds table) =
 
 -- what it has done then, by what became of the bytes
 abbrev pub taken_as : Kept → (name : List ℕ) → (date : ℕ) → List Act → Taking → Did
-taken_as kept name date acts (Fits bytes) = record { acts = acts; entries = kept.entries ++ entry_behind kept.words kept.entries name date bytes ∷ [] }
+taken_as kept name date acts (Fits bytes) =
+    record { acts = acts; entries = kept.entries ++ entry_behind kept.words kept.entries name date bytes ∷ [] }
 taken_as kept name date acts (TooLong need have) = line_refused acts kept.entries (why.Full need have)
 taken_as kept name date acts (TooShort promised read) = record { acts = acts; entries = kept.entries }
 
@@ -93,7 +94,7 @@ append_did c words entries name promised date bytes (Finds table) =
 
 -- ---- restore
 
--- what a restore has done that printed these parts: behind all of them the volume's number and its length in bytes are printed
+-- what a restore has done that printed these parts: behind all of them come the volume's number and its length in bytes
 abbrev pub given_as : (words : List ℕ) → List Entry → (number : ℕ) → Entry → List Act → restoring.GivingEnd → Did
 given_as words entries number e parts Restored =
     record { acts = parts ++ reply (place_line (codes "restored") number (volume_length words e)) ∷ []; entries = entries }
@@ -109,7 +110,8 @@ LineDoes c words entries (line.Append name promised date) bytes did =
 LineDoes c words entries line.List bytes did = did ≡ record { acts = reply (list_text words entries) ∷ []; entries = entries }
 LineDoes c words entries (line.Restore number) bytes did =
     ((volume_at entries number ≡ None) × (did ≡ line_refused [] entries (why.NoVolume number (length entries))))
-    ⊎ RestoresVolume c words entries number (λ entry acts ending. did ≡ given_as words entries number entry (framed (pieces words entry) acts) ending)
+    ⊎ RestoresVolume c words entries number
+      (λ entry acts ending. did ≡ given_as words entries number entry (framed (pieces words entry) acts) ending)
 LineDoes c words entries line.Scrub bytes did =
     ((c.info.protected ≡ true) × (did ≡ line_refused [] entries why.Protected))
     ⊎ ((c.info.protected ≡ false) × ((acts : List Act) × Scrubs c words entries acts × (did ≡ record { acts = acts; entries = entries })))
@@ -157,8 +159,8 @@ pub record EndsEarly (rest : List ℕ) : Type 0 where
   pub parts : rest ≡ text ++ bytes
   pub short : length bytes < promised
 
--- The last acts, behind which these bytes are left: the reply `end`; or in front of a fault in the line with this number, which
--- begins these bytes, those of an append whose bytes end early, and none where no line is read.
+-- The last acts, behind which these bytes are left: the reply `end`; or in front of a fault in the line with this number,
+-- which begins these bytes, those of an append whose bytes end early, and none where no line is read.
 abbrev pub EndDoes : Cartridge → (words : List ℕ) → List Entry → (rest : List ℕ) → Ending → List Act → Type 0
 EndDoes c words entries rest AtEnd acts = acts ≡ reply end_line ∷ []
 EndDoes c words entries rest AtStop acts = acts ≡ reply end_line ∷ []
