@@ -12,7 +12,7 @@ use Rattle.command_spec.specs.Append.{Kept, append_acts, Taking, Fits, TooLong, 
 use Rattle.command_spec.specs.Input.{Item, IsLineText, most_items, Ending, AtEnd, AtStop, AtFault, IsItem, HasItems, IsScript, input_status}
 use Rattle.command_spec.specs.Lines.{place_line, number_line, reply_behind, lost_line, list_text}
 use Rattle.command_spec.specs.Outcome.{settling_act, CommandOutcome, OpenOutcome}
-use Rattle.command_spec.specs.Restore.{Restored, LostIn, MismatchIn, RestoresVolume, framed, pieces, volume_at}
+use Rattle.command_spec.specs.Restore.{GivingEnd, Restored, LostIn, MismatchIn, RestoresVolume, framed, pieces, volume_at}
 use Rattle.command_spec.specs.Scrub.{Scrubs}
 use Rattle.command_spec.specs.declared.line.Line.{Line}
 use Rattle.command_spec.specs.declared.refusal.Refusal.{Refusal}
@@ -20,7 +20,6 @@ use Rattle.qic_base.specs.Acts.{Act, steps_of}
 use Rattle.qic_base.specs.Cartridge.{Cartridge, IsPlace}
 use Rattle.qic_base.specs.Step.{Wear}
 use Rattle.command_spec.specs.declared.refusal.Refusal.TheVariants as why
-use Rattle.command_spec.specs.Restore as restoring
 use Rattle.command_spec.specs.declared.line.Line.TheVariants as line
 use Rattle.command_spec.specs.declared.status.Status.TheVariants as status
 
@@ -95,7 +94,7 @@ append_did c words entries name promised date bytes (Finds table) =
 -- ---- restore
 
 -- what a restore has done that printed these parts: behind all of them come the volume's number and its length in bytes
-abbrev pub given_as : (words : List ℕ) → List Entry → (number : ℕ) → Entry → List Act → restoring.GivingEnd → Did
+abbrev pub given_as : (words : List ℕ) → List Entry → (number : ℕ) → Entry → List Act → GivingEnd → Did
 given_as words entries number e parts Restored =
     record { acts = parts ++ reply (place_line (codes "restored") number (volume_length words e)) ∷ []; entries = entries }
 given_as words entries number e parts (LostIn segment lost) = line_refused parts entries (why.Lost segment lost)
