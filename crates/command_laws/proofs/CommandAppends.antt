@@ -28,7 +28,8 @@ use Rattle.cartridge_spec.specs.Shape.{mask_at}
 use Rattle.cartridge_spec.specs.Table.{slot_bytes, Entry}
 use Rattle.cartridge_spec.specs.Volumes.{Plain, entries_of, Stands, Volume}
 use Rattle.command_laws.proofs.InputActLaws.{volume_is_free, volume_is_writes}
-use Rattle.command_spec.specs.Append.{appended, Appends, AppendOutcome, Kept, input_writes, entry_acts, room_in, taking, free_in, volume_acts, Fits, TooLong, entry_for, kept_over}
+use Rattle.command_spec.specs.Append.{appended, AppendOutcome, Kept, input_writes, entry_acts, room_in, taking, volume_acts, Fits, TooLong, kept_over}
+use Rattle.command_laws.specs.CommandTerms.{entry_for, Appends, free_in}
 use Rattle.command_spec.specs.Lines.{reply_behind, appended_line}
 use Rattle.command_spec.specs.Outcome.{CommandOutcome, refused, Opened, settling_act}
 use Rattle.command_spec.specs.declared.status.Status.{Status}

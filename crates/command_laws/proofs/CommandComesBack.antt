@@ -8,7 +8,7 @@ use Rattle.cartridge_spec.specs.Settling.{changed_by, settling_steps}
 use Rattle.cartridge_spec.specs.Volumes.{Plain, Stands, entries_of}
 use Rattle.command_laws.proofs.CommandOneLoss.{nothing_torn}
 use Rattle.command_laws.proofs.CommandOpened.{quiet}
-use Rattle.command_laws.proofs.CommandSeveral.{MakeRan, WasTurned, behind_front, make_course, same_input, script_course}
+use Rattle.command_laws.proofs.CommandSeveral.{WasTurned, behind_front, make_course, same_input, script_course}
 use Rattle.command_laws.proofs.CommandVolumes.{whole_of}
 use Rattle.command_laws.proofs.IntactKeeping.{intact_comes_back, settled_is_intact}
 use Rattle.command_laws.proofs.IntactMade.{done_make_is_intact, stopped_make_comes_back}
@@ -19,19 +19,19 @@ use Rattle.command_laws.specs.ScriptStanding.{plain_behind}
 use Rattle.command_spec.specs.Headline.{StopLeaves, WordsLeave}
 use Rattle.command_spec.specs.Machine.{HasValues, Spells}
 use Rattle.command_spec.specs.MadeVolumes.{made_contents}
-use Rattle.command_spec.specs.Make.{Answer, Done, Full, Lost, MakeOutcome, Makes, Mismatch, Protected, TableMismatch, make_status}
+use Rattle.command_spec.specs.Make.{Answer, Done, Full, Lost, MakeOutcome, Mismatch, Protected, TableMismatch, make_status}
+use Rattle.command_laws.specs.CommandTerms.{Makes}
 use Rattle.command_spec.specs.OneLoss.{ComesBackOnly, SomeComeBack, StoppedMakeComesBack, StoppedScriptComesBack}
-use Rattle.command_spec.specs.Outcome.{CommandOutcome, refused}
+use Rattle.command_spec.specs.Outcome.{CommandOutcome}
 use Rattle.command_spec.specs.Script.{ScriptOutcome}
 use Rattle.command_spec.specs.ScriptLists.{CameFurther, ItemsWearBehind}
-use Rattle.command_spec.specs.Several.{Generated, Scripted}
-use Rattle.command_spec.specs.declared.status.Status.{Status}
+use Rattle.command_spec.specs.Several.{Scripted}
 use Rattle.command_spec.specs.declared.words.Words.{Words}
 use Rattle.qic_base.proofs.Steps.{Torn-append}
 use Rattle.qic_base.specs.Acts.{Act, steps_of}
 use Rattle.qic_base.specs.Cartridge.{Cartridge}
 use Rattle.qic_base.specs.Terms.{IsCartridge}
-use Rattle.qic_base.specs.Step.{effects, Step}
+use Rattle.qic_base.specs.Step.{effects}
 use Rattle.qic_base.specs.Stop.{Torn}
 use Rattle.command_spec.specs.declared.status.Status.TheVariants as status
 use Rattle.command_spec.specs.declared.words.Words.TheVariants as commands

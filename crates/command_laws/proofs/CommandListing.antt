@@ -11,6 +11,7 @@ use Rattle.cartridge_spec.specs.HeaderAndTable.{TableIs}
 use Rattle.cartridge_spec.specs.Mounting.{Mounting, Mounted, Mounts, settled, Lists}
 use Rattle.cartridge_spec.specs.Settling.{changed_by, settling_steps}
 use Rattle.cartridge_spec.specs.Table.{Entry}
+use Rattle.command_laws.proofs.MadeCounting.{appended_by}
 use Rattle.command_laws.proofs.CommandAdded.{replied_text, status_fits}
 use Rattle.command_laws.proofs.CommandAppends.{appended_line_is_some}
 use Rattle.command_laws.proofs.CommandEnds.{Laws, over_at, told_whole}
@@ -27,16 +28,17 @@ use Rattle.command_laws.proofs.ScriptMachineLaws.{one_outcome as one_script}
 use Rattle.command_laws.proofs.TextWords.{one_command}
 use Rattle.command_laws.specs.MountedListed.{IsListed, listed_behind}
 use Rattle.command_laws.specs.MountedListing.{AddsNone}
-use Rattle.command_spec.specs.Append.{Kept, Taking, Fits, TooLong, append_acts, entry_for, kept_in, room_in, taking, Appends, AppendOutcome, append_status, appended, kept_over}
+use Rattle.command_spec.specs.Append.{Kept, Taking, Fits, TooLong, append_acts, room_in, taking, AppendOutcome, appended, kept_over}
+use Rattle.command_laws.specs.CommandTerms.{entry_for, kept_in, Appends, append_status, Makes, AppendedFrom}
 use Rattle.command_spec.specs.Headline.{ToldNow}
 use Rattle.command_spec.specs.Lines.{reply_behind}
 use Rattle.command_spec.specs.Listing.{IsHeard, ListsVolume, NowLists, WasListed, ListsAppends}
 use Rattle.command_spec.specs.Machine.{Yields, HasValues, Spells}
-use Rattle.command_spec.specs.MadeVolumes.{AppendedBy, AppendedFrom}
-use Rattle.command_spec.specs.Make.{made_list, Makes, Making, MakeOutcome, MakesOn, make_status}
+use Rattle.command_spec.specs.MadeVolumes.{AppendedBy}
+use Rattle.command_spec.specs.Make.{made_list, Making, MakeOutcome}
 use Rattle.command_spec.specs.Outcome.{Going, Opened, OpenOutcome, CommandOutcome}
 use Rattle.command_spec.specs.Runs.{CommandEnds, IsCutOff, fault_of, is_fault}
-use Rattle.command_spec.specs.Script.{ScriptDoes, entries_behind, Scripting, ScriptOutcome, ScriptsOn}
+use Rattle.command_spec.specs.Script.{ScriptDoes, entries_behind, Scripting, ScriptOutcome}
 use Rattle.command_spec.specs.ScriptLists.{ItemsWearBehind, ListsAnswered, ListsBroken}
 use Rattle.command_spec.specs.Volumes.{IsCarriedOut, WasNotDone}
 use Rattle.command_spec.specs.declared.status.Status.{Status}
@@ -337,7 +339,7 @@ module _ {T S K : Type 0} (t : tapes.Meaning T) (s : sources.Meaning S) (k : sin
 -- ---- `script`
 
 module _ (c : Cartridge) (header : Header) (words : List ℕ) (table : List (List ℕ)) (entries : List Entry) (whole : IsCartridge c) (mounts : Mounts c (Mounted header words table entries))
-    (input : List ℕ) (came : scripts.ScriptRun) (does : ScriptDoes (settled table c) words entries input came) where
+    (input : List ℕ) (came : CommandOutcome) (does : ScriptDoes (settled table c) words entries input came) where
   abbrev Answered : (text : List ℕ) → Option Cartridge → Type 0
   Answered text left = ListsAnswered header words entries does.items does.dids (length text) left
 
@@ -345,13 +347,13 @@ module _ (c : Cartridge) (header : Header) (words : List ℕ) (table : List (Lis
   Broken text left = ListsBroken header words entries does.items does.dids (length text) left
 
   module _ (outcome : CommandOutcome) (opened : ScriptOutcome (Some c) input outcome) where
-    did : ScriptsOn input c words table entries outcome
+    did : Scripting input c header words table entries outcome
     did = went_on c header words table entries whole mounts (Scripting input) outcome opened
 
     acts : outcome.acts ≡ quiet (settling_steps table c) ∷ came.acts
     acts =
         ap (λ (o : CommandOutcome). o.acts) did.is
-        ∙ ap (λ (o : scripts.ScriptRun). quiet (settling_steps table c) ∷ o.acts) (one_script (settled table c) words entries input did.came came did.does does)
+        ∙ ap (λ (o : CommandOutcome). quiet (settling_steps table c) ∷ o.acts) (one_script (settled table c) words entries input did.came came did.does does)
 
     -- once it was carried out those of all lines are there
     script_lists_all : ItemsWearBehind does.items → IsSomeAnd (effects (steps_of outcome.acts) (Some c)) (λ d. Lists d header words (entries_behind entries does.dids))
@@ -455,7 +457,7 @@ module _ (seed count : ℕ) (few : count ≤ 200) (c : Cartridge) (header : Head
           by_front (x ∷ xs) act rest parts = cc
   make_lists_so outcome text at (inr (free, opened)) = by_at at
     where
-      did : MakesOn seed count c words table entries outcome
+      did : Making seed count c header words table entries outcome
       did = went_on c header words table entries whole mounts (Making seed count) outcome opened
 
       acts : outcome.acts ≡ quiet (settling_steps table c) ∷ did.acts
@@ -503,16 +505,18 @@ module _ (seed count : ℕ) (few : count ≤ 200) (c : Cartridge) (header : Head
       (n : ℕ) × AppendedBy seed count words entries outcome.status n × HasMade n (effects (steps_of outcome.acts) (Some c))
   make_lists_answered outcome (inl (locked, is)) = (
     0,
-    (omega arith, subst (λ (why : Status). AppendedFrom seed 1 count words entries why 0) (sym (ap (λ (o : CommandOutcome). o.status) is)) tt),
+    appended_by seed count words entries outcome.status 0 (omega arith)
+        (subst (λ (why : Status). AppendedFrom seed 1 count words entries why 0) (sym (ap (λ (o : CommandOutcome). o.status) is)) tt),
     some_and (λ e. Lists e header words entries) c (effects (steps_of outcome.acts) (Some c)) (table, mounts) (ap (λ (o : CommandOutcome). effects (steps_of o.acts) (Some c)) is),
   )
   make_lists_answered outcome (inr (free, opened)) =
-      let did : MakesOn seed count c words table entries outcome = went_on c header words table entries whole mounts (Making seed count) outcome opened in
+      let did : Making seed count c header words table entries outcome = went_on c header words table entries whole mounts (Making seed count) outcome opened in
       let l = make_lists seed count (settled table c) header words entries did.acts did.acts [] did.answer (effects (steps_of (quiet (settling_steps table c) ∷ did.acts)) (Some c)) few
       (lists_still c header words table entries whole mounts) (listed c header words table entries whole mounts) did.makes (append-nil did.acts)
       (behind_acts c header words table entries whole mounts did.acts) in (
         l.appended,
-        (l.within, subst (λ (why : Status). AppendedFrom seed 1 count words entries why l.appended) (sym (ap (λ (o : CommandOutcome). o.status) did.is)) (l.answered refl)),
+        appended_by seed count words entries outcome.status l.appended l.within
+            (subst (λ (why : Status). AppendedFrom seed 1 count words entries why l.appended) (sym (ap (λ (o : CommandOutcome). o.status) did.is)) (l.answered refl)),
         subst (HasMade l.appended) (sym (ap (λ (o : CommandOutcome). effects (steps_of o.acts) (Some c)) did.is)) l.lists,
       )
 
@@ -521,7 +525,7 @@ module _ (seed count : ℕ) (few : count ≤ 200) (c : Cartridge) (header : Head
   make_lists_all outcome does done =
       let made = make_lists_answered outcome does in
       subst (λ (n : ℕ). HasMade n (effects (steps_of outcome.acts) (Some c)))
-      (subst (λ (why : Status). AppendedFrom seed 1 count words entries why made.0) done made.1.1) made.2
+      (subst (λ (why : Status). AppendedBy seed count words entries why made.0) done made.1) made.2
 
 -- ---- all of them
 
@@ -598,7 +602,7 @@ none_listed t k told words a x answer right nothing never unheard unmade = recor
     text = [];
     took = nothing;
     some = (0, omega arith, as_before c header map_words table entries was);
-    answered = λ sound. (0, (omega arith, unmade seed count map_words entries), as_before c header map_words table entries was);
+    answered = λ sound. (0, appended_by seed count map_words entries answer 0 (omega arith) (unmade seed count map_words entries), as_before c header map_words table entries was);
     all = λ either. elim either [ inl some ↦ absurd (some refl) | inr done ↦ absurd (never done) ];
   };
   scripted = λ c header map_words table entries spells was other. record {

@@ -17,7 +17,7 @@ use Rattle.command_laws.specs.CommandLaws.{MachineIsFunction, MachineAnswers}
 use Rattle.command_spec.specs.Commands.{traits_of}
 use Rattle.command_spec.specs.Headline.{WordsLeave, EachLeft, PrintsRefused, PrintsFront, Stepped, Answers, SpellsOne}
 use Rattle.command_spec.specs.Listing.{IsHeard}
-use Rattle.command_spec.specs.MadeVolumes.{AppendedFrom}
+use Rattle.command_laws.specs.CommandTerms.{AppendedFrom}
 use Rattle.command_spec.specs.Machine.{HasInputFault, HasValues, Spells, SpellsNone}
 use Rattle.command_spec.specs.Outcome.{CommandOutcome, output_of}
 use Rattle.command_spec.specs.Promises.{Promises}

@@ -10,6 +10,7 @@ use Rattle.cartridge_spec.specs.Mounting.{Mounts, mounted_as, Mounting, settled,
 use Rattle.cartridge_spec.specs.Settling.{changed_by, settling_steps}
 use Rattle.cartridge_spec.specs.Table.{Entry}
 use Rattle.cartridge_spec.specs.Volumes.{Plain, entries_of, Stands}
+use Rattle.command_laws.proofs.MadeCounting.{appended_by}
 use Rattle.command_laws.proofs.CommandEnds.{after_steps, is_a_fault, Laws, over_at, told_whole}
 use Rattle.command_laws.proofs.CommandOpened.{quiet}
 use Rattle.command_laws.proofs.CommandTable.{plain_answers}
@@ -30,8 +31,9 @@ use Rattle.command_spec.specs.Headline.{ToldNow, StopLeaves, WordsLeave, EachLef
 use Rattle.command_spec.specs.Input.{Item}
 use Rattle.command_spec.specs.Listing.{IsHeard}
 use Rattle.command_spec.specs.Machine.{Yields, HasValues, Spells}
-use Rattle.command_spec.specs.MadeVolumes.{AppendedBy, AppendedFrom, made_contents}
-use Rattle.command_spec.specs.Make.{Makes, Making, MakeOutcome, make_status}
+use Rattle.command_spec.specs.MadeVolumes.{AppendedBy, made_contents}
+use Rattle.command_laws.specs.CommandTerms.{AppendedFrom, Makes}
+use Rattle.command_spec.specs.Make.{Making, MakeOutcome, make_status}
 use Rattle.command_spec.specs.Outcome.{Going, CommandOutcome, refused, Opened, OpenOutcome}
 use Rattle.command_spec.specs.Runs.{may_come_from, fault_of, is_fault, CommandEnds}
 use Rattle.command_spec.specs.Script.{ScriptDoes, Scripting, ScriptOutcome}
@@ -398,17 +400,16 @@ module _ (seed count : ℕ) (few : count ≤ 200) (c : Cartridge) (plain : Plain
       elim (make_course outcome does) [
         | inl turned ↦ (
           0,
-          (
-            omega arith,
-            subst (λ (why : Status). AppendedFrom seed 1 count plain.words (entries_of plain) why 0) (sym (ap (λ (o : CommandOutcome). o.status) turned.is))
-                (turned.none_made seed count plain.words (entries_of plain)),
-          ),
+          appended_by seed count plain.words (entries_of plain) outcome.status 0 (omega arith)
+              (subst (λ (why : Status). AppendedFrom seed 1 count plain.words (entries_of plain) why 0) (sym (ap (λ (o : CommandOutcome). o.status) turned.is))
+              (turned.none_made seed count plain.words (entries_of plain))),
           some_and (λ d. Stands d plain) c (effects (steps_of outcome.acts) (Some c)) stood (ap (λ (o : CommandOutcome). effects (steps_of o.acts) (Some c)) turned.is),
         )
         | inr run ↦
             let made = answered_make_stands seed count (settled plain.table_area c) plain run.acts run.answer few run.held run.makes in (
               made.0,
-              (made.1, subst (λ (why : Status). AppendedFrom seed 1 count plain.words (entries_of plain) why made.0) (sym (ap (λ (o : CommandOutcome). o.status) run.is)) made.2),
+              appended_by seed count plain.words (entries_of plain) outcome.status made.0 made.1
+                  (subst (λ (why : Status). AppendedFrom seed 1 count plain.words (entries_of plain) why made.0) (sym (ap (λ (o : CommandOutcome). o.status) run.is)) made.2),
               some_and (λ d. Stands d (with_all plain (made_contents seed 1 made.0))) (changed_by (steps_of run.acts) (settled plain.table_area c)) (effects (steps_of outcome.acts) (Some c))
                   made.3 (ap (λ (o : CommandOutcome). effects (steps_of o.acts) (Some c)) run.is ∙ behind_front c plain whole stood run.mounts run.acts),
             )
@@ -419,7 +420,7 @@ module _ (seed count : ℕ) (few : count ≤ 200) (c : Cartridge) (plain : Plain
   make_done outcome does is_done =
       let made = make_answered outcome does in
       subst (λ (n : ℕ). HasMade n (effects (steps_of outcome.acts) (Some c)))
-      (subst (λ (why : Status). AppendedFrom seed 1 count plain.words (entries_of plain) why made.0) is_done made.1.1) made.2
+      (subst (λ (why : Status). AppendedBy seed count plain.words (entries_of plain) why made.0) is_done made.1) made.2
 
 -- what is left by words of a generated run
 some_made : (told : Option (List ℕ)) (words : List (List ℕ)) (held left : Option Cartridge) → ((command : Words) → Spells words command → HasValues command) → IfSome held IsCartridge →
@@ -497,7 +498,7 @@ module _ (told : Option (List ℕ)) (words : List (List ℕ)) (c : Cartridge) (p
             inr (record {
               mounts = was.mounts;
               held = mounted_held c plain whole script.stands was.mounts;
-              acts = ap (λ (o : CommandOutcome). o.acts) did.is ∙ ap (λ (o : scripts.ScriptRun). quiet (settling_steps plain.table_area c) ∷ o.acts) one;
+              acts = ap (λ (o : CommandOutcome). o.acts) did.is ∙ ap (λ (o : CommandOutcome). quiet (settling_steps plain.table_area c) ∷ o.acts) one;
             })
       ]
 
@@ -653,7 +654,7 @@ none_made t k told words a x answer right nothing never unmade values leaves = r
     text = [];
     took = nothing;
     answered = λ sound.
-        (0, (omega arith, unmade seed count plain.words (entries_of plain)), untouched_now t a c (λ left. IsSomeAnd left (λ d. Stands d plain)) is run.stands);
+        (0, appended_by seed count plain.words (entries_of plain) answer 0 (omega arith) (unmade seed count plain.words (entries_of plain)), untouched_now t a c (λ left. IsSomeAnd left (λ d. Stands d plain)) is run.stands);
     all = λ live which. elim which [ inl some ↦ absurd (some refl) | inr sink ↦ absurd (never (inr sink)) ];
   };
 }

@@ -26,7 +26,8 @@ use Rattle.command_laws.proofs.MountedStanding.{all_writes, kept_appended, open_
 use Rattle.command_laws.proofs.RestoreStanding.{volume_is_long}
 use Rattle.command_laws.proofs.ScriptActs.{fits_acts, front_acts, full_acts, input_texts, last_act, replied_steps, replied_text}
 use Rattle.command_laws.specs.MountedKept.{IsKept, IsOpen, settle_and_append}
-use Rattle.command_spec.specs.Append.{Fits, Kept, TooLong, TooShort, append_acts, free_in, has_promised_room, input_acts, input_writes, kept_over, room_in, taking}
+use Rattle.command_spec.specs.Append.{Fits, Kept, TooLong, TooShort, append_acts, has_promised_room, input_acts, input_writes, kept_over, room_in, taking}
+use Rattle.command_laws.specs.CommandTerms.{free_in}
 use Rattle.command_spec.specs.Copied.{BeginsLike, contents_of}
 use Rattle.command_spec.specs.Copying.{Copies, CopiesVolume, DoneOf, IsBegun, IsFull, IsGiven, Side, behind_copy, copied_behind, copied_entry, copied_line, copy_acts, giving_status, has_room_for, length_on}
 use Rattle.command_spec.specs.Restore.{GivingEnd, LostIn, MismatchIn, Restored, Restores, pieces_in}

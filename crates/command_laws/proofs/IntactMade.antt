@@ -57,18 +57,18 @@ still_done : (seed : ℕ) (c : Cartridge) (plain : Plain) (item : MakeStep) (act
     StepDoes seed c plain.words (entries_of plain) item acts Done → IsIntact (changed_by (steps_of acts) c) plain
 still_done seed c plain (AppendMade volume) acts still intact does = absurd still
 still_done seed c plain (WearSector segment sector) acts still intact does =
-    subst (λ (zs : List Act). IsIntact (changed_by (steps_of zs) c) plain) (sym does.does) (wears_leave_intact c plain segment sector intact still.0 still.1)
+    subst (λ (zs : List Act). IsIntact (changed_by (steps_of zs) c) plain) (sym does.0) (wears_leave_intact c plain segment sector intact still.0 still.1)
 still_done seed c plain ScrubAll acts still intact (inl refused) = absurd (never_unlocked c refused.mark intact.kept.unprotected)
-still_done seed c plain ScrubAll acts still intact (inr (free, done)) = let now = scrubs_leave_intact c plain acts intact done.does in now.done
+still_done seed c plain ScrubAll acts still intact (inr (free, done)) = let now = scrubs_leave_intact c plain acts intact done.0 in now.done
 still_done seed c plain (SumVolume number) acts still intact does =
     subst (λ (steps : List Step). IsIntact (changed_by steps c) plain)
-    (sym (ap steps_of does.does ∙ sum_in_no_step number (volume_length plain.words does.entry) (text_of does.given) does.ending)) intact
+    (sym (ap steps_of does.is.0 ∙ sum_in_no_step number (volume_length plain.words does.entry) (text_of does.acts) does.ending)) intact
 
 still_stopped : (seed : ℕ) (c : Cartridge) (plain : Plain) (item : MakeStep) (acts : List Act) (answer : Answer) (left : Option Cartridge) → IsStill item → IsIntact c plain →
     StepDoes seed c plain.words (entries_of plain) item acts answer → Torn (steps_of acts) (Some c) left → IsSomeAnd left (ComesBackAsOneOf plain plain)
 still_stopped seed c plain (AppendMade volume) acts answer left still intact does torn = absurd still
 still_stopped seed c plain (WearSector segment sector) acts answer left still intact does torn =
-    by_torn (subst (λ (zs : List Act). Torn (steps_of zs) (Some c) left) does.does torn)
+    by_torn (subst (λ (zs : List Act). Torn (steps_of zs) (Some c) left) does.0 torn)
   where
     by_torn : Torn (Wear segment sector ∷ []) (Some c) left → IsSomeAnd left (ComesBackAsOneOf plain plain)
     by_torn (inl is) = intact_is_one c plain plain left intact is
@@ -76,11 +76,11 @@ still_stopped seed c plain (WearSector segment sector) acts answer left still in
     by_torn (inr (inr is)) = intact_is_one (worn segment sector c) plain plain left (wears_leave_intact c plain segment sector intact still.0 still.1) is
 still_stopped seed c plain ScrubAll acts answer left still intact (inl refused) torn = absurd (never_unlocked c refused.mark intact.kept.unprotected)
 still_stopped seed c plain ScrubAll acts answer left still intact (inr (free, done)) torn =
-    let now = scrubs_leave_intact c plain acts intact done.does in now.stopped left torn
+    let now = scrubs_leave_intact c plain acts intact done.0 in now.stopped left torn
 still_stopped seed c plain (SumVolume number) acts answer left still intact does torn =
     intact_is_one c plain plain left intact
     (subst (λ (steps : List Step). Torn steps (Some c) left)
-    (ap steps_of does.does ∙ sum_in_no_step number (volume_length plain.words does.entry) (text_of does.given) does.ending) torn)
+    (ap steps_of does.is.0 ∙ sum_in_no_step number (volume_length plain.words does.entry) (text_of does.acts) does.ending) torn)
 
 stills_stopped : (seed : ℕ) (items : List MakeStep) (c : Cartridge) (plain : Plain) (acts : List Act) (answer : Answer) (left : Option Cartridge) → AreStill items → IsIntact c plain →
     Runs seed c plain.words (entries_of plain) items acts answer → Torn (steps_of acts) (Some c) left → IsSomeAnd left (ComesBackAsOneOf plain plain)

@@ -1,15 +1,16 @@
 -- A script, done or stopped, on a cartridge whose whole table holds what it should.
-use Rattle.std.proofs.Common.{◌≡◌, ◌∙◌, ◌⊎◌, ◌++◌, ◌+◌, ◌≤◌, ◌<◌, zero, suc, ℕ, List, [], ◌∷◌, All, Option, Some, IsSomeAnd, inl, inr, ap, sym, subst, refl, arith, length, take, drop, append-nil}
+use Rattle.std.proofs.Common.{◌≡◌, ◌∙◌, ◌++◌, ◌+◌, ◌<◌, zero, suc, ℕ, List, [], ◌∷◌, All, Option, Some, IsSomeAnd, inl, inr, ap, sym, subst, refl, arith, length, take, drop, append-nil}
 use Rattle.std.proofs.lemmas.Bool.{cases_lt}
 use Rattle.std.proofs.lemmas.List.{drop_all, take_all}
 use Rattle.cartridge_laws.proofs.AppendVolume.{free_writes_stand, last_end_least}
-use Rattle.cartridge_laws.proofs.FormatWriting.{effects-some, some_weaker}
+use Rattle.cartridge_laws.proofs.FormatWriting.{some_weaker}
 use Rattle.cartridge_laws.proofs.MountStanding.{standing_data}
 use Rattle.cartridge_laws.proofs.OneLossComesBack.{whole_comes_back}
 use Rattle.cartridge_laws.specs.Terms.{last_end}
 use Rattle.cartridge_spec.specs.Settling.{changed_by, settling_steps}
 use Rattle.cartridge_spec.specs.Table.{Entry}
 use Rattle.cartridge_spec.specs.Volumes.{Plain, entries_of}
+use Rattle.command_laws.proofs.ScriptActs.{wears_behind}
 use Rattle.command_laws.proofs.CommandOneLoss.{kept_whole}
 use Rattle.command_laws.proofs.IntactKeeping.{intact_is_one, whole_needs_no_steps}
 use Rattle.command_laws.proofs.MountedKeeping.{acts_stopped}
@@ -19,12 +20,14 @@ use Rattle.command_laws.proofs.ScriptStanding.{ItemLeaves, early_entry, early_wr
 use Rattle.command_laws.specs.Intact.{IsIntact, StoppedScriptComesBack}
 use Rattle.command_laws.specs.MountedHeld.{IsHeld}
 use Rattle.command_laws.specs.ScriptStanding.{HaveBytes, plain_after, plain_behind}
-use Rattle.command_spec.specs.Append.{Kept, append_acts, entry_acts, input_writes, kept_over, room_in, taking}
+use Rattle.command_spec.specs.Append.{Kept, entry_acts, input_writes, kept_over, room_in, taking}
 use Rattle.command_spec.specs.Input.{AtEnd, AtFault, AtStop, Ending, Item}
 use Rattle.command_spec.specs.Lines.{reply_behind}
 use Rattle.command_spec.specs.OneLoss.{ComesBackAsOneOf, SomeComeBack}
-use Rattle.command_spec.specs.Script.{Did, EndDoes, FaultDoes, Finds, ItemsDo, Meeting, Meets, Refuses, ScriptDoes, ScriptRun, acts_of, acts_on, cartridge_behind, entries_behind, place_behind}
-use Rattle.command_spec.specs.ScriptLists.{ItemsWearBehind, LineSpares, WearsBehind}
+use Rattle.command_spec.specs.Script.{Did, EndDoes, Finds, ItemsDo, Meeting, Meets, Refuses, ScriptDoes, acts_of, acts_on, cartridge_behind, entries_behind, place_behind}
+use Rattle.command_laws.specs.CommandTerms.{FaultDoes, LineSpares, WearsBehind}
+use Rattle.command_spec.specs.Outcome.{CommandOutcome}
+use Rattle.command_spec.specs.ScriptLists.{ItemsWearBehind}
 use Rattle.command_spec.specs.declared.line.Line.{Line}
 use Rattle.qic_base.proofs.Joins.{steps_of-append}
 use Rattle.qic_base.specs.Acts.{Act, steps_of}
@@ -59,8 +62,8 @@ all_intact [] [] c plain intact has ran behind = record { intact = intact; entri
 all_intact [] (did ∷ dids) c plain intact has ran behind = absurd ran
 all_intact (item ∷ items) [] c plain intact has ran behind = absurd ran
 all_intact (item ∷ items) (did ∷ dids) c plain intact has ran behind =
-    let one : ItemLeaves c plain item did = leaves c plain item items did dids intact has ran behind.0 in
-    let now = one.intact behind.0 intact in
+    let one : ItemLeaves c plain item did = leaves c plain item items did dids intact has ran (wears_behind item.line behind.0) in
+    let now = one.intact (wears_behind item.line behind.0) intact in
     let d : Cartridge = changed_by (steps_of did.acts) c in
     let next : Plain = plain_after plain item did in
     let rest = all_intact items dids d next now.done has.1 (next_do d plain next items did.entries dids one.entries one.words ran.1) behind.1 in
@@ -89,8 +92,8 @@ first_come_back (suc n) [] [] c plain left intact has ran behind torn = none_sto
 first_come_back (suc n) [] (did ∷ dids) c plain left intact has ran behind torn = absurd ran
 first_come_back (suc n) (item ∷ items) [] c plain left intact has ran behind torn = absurd ran
 first_come_back (suc n) (item ∷ items) (did ∷ dids) c plain left intact has ran behind torn =
-    let one : ItemLeaves c plain item did = leaves c plain item items did dids intact has ran behind.0 in
-    let now = one.intact behind.0 intact in
+    let one : ItemLeaves c plain item did = leaves c plain item items did dids intact has ran (wears_behind item.line behind.0) in
+    let now = one.intact (wears_behind item.line behind.0) intact in
     let d : Cartridge = changed_by (steps_of did.acts) c in
     let next : Plain = plain_after plain item did in
     let same : (m : ℕ) → plain_behind next (take m items) (take m dids) ≡ plain_behind plain (take (suc m) (item ∷ items)) (take (suc m) (did ∷ dids)) =
@@ -153,7 +156,7 @@ last_comes c plain rest (AtFault number place) acts left intact does torn = faul
 
 -- ---- a script
 
-module _ (c : Cartridge) (plain : Plain) (input : List ℕ) (outcome : ScriptRun) (left : Option Cartridge) (intact : IsIntact c plain)
+module _ (c : Cartridge) (plain : Plain) (input : List ℕ) (outcome : CommandOutcome) (left : Option Cartridge) (intact : IsIntact c plain)
     (does : ScriptDoes c plain.words (entries_of plain) input outcome) (content : All (λ b. b < 256) input) where
   -- behind all items
   behind_all : (n : ℕ) → n ≡ length does.items → ItemsWearBehind (take n does.items) →

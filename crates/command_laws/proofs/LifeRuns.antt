@@ -265,7 +265,7 @@ module _ (c : Cartridge) (input : List ℕ) (begun : Bool) (plain : Plain) (left
       )
 
   -- its lines were carried out
-  some_lines : (ended : Ended) (came : scripts.ScriptRun) (does : ScriptDoes (settled plain.table_area c) plain.words (entries_of plain) input came) (n : ℕ) → n ≤ length does.items →
+  some_lines : (ended : Ended) (came : CommandOutcome) (does : ScriptDoes (settled plain.table_area c) plain.words (entries_of plain) input came) (n : ℕ) → n ≤ length does.items →
       AnsweredAmong ended does.items does.dids n → Torn (steps_of outcome.acts) (Some c) left →
       IsSomeAnd left (λ d. Stands d (with_all plain (all_added (entries_of plain) (take n does.items) (take n does.dids)))) → ScriptMakes ended
   some_lines ended came does n within answered torn stands = (
@@ -294,7 +294,7 @@ module _ (c : Cartridge) (input : List ℕ) (begun : Bool) (plain : Plain) (left
 
   lines_make : (ended : Ended) → CommandSpares words.Script ended input left c → WasMounted (Scripting input) c plain outcome → Leaves ended outcome (Some c) left → ScriptMakes ended
   lines_make (Answered answer printed) spares was (is, said, all) =
-      let came : scripts.ScriptRun = was.did.came in
+      let came : CommandOutcome = was.did.came in
       let does : ScriptDoes (settled plain.table_area c) plain.words (entries_of plain) input was.did.came = was.did.does in
       let held : IsHeld (settled plain.table_area c) plain = mounted_held c plain ready.whole ready.stands was.mounts in
       some_lines (Answered answer printed) was.did.came was.did.does (length does.items) (omega arith) (λ heard. refl)

@@ -17,7 +17,7 @@ use Rattle.command_laws.proofs.CommandStep.{step_leaves}
 use Rattle.command_laws.proofs.CommandTable.ProtectCommand.{mark_keeps}
 use Rattle.command_laws.proofs.CommandTable.UpgradeCommand.{version_keeps}
 use Rattle.command_laws.specs.Life.{LossSpares}
-use Rattle.command_spec.specs.Append.{Appends}
+use Rattle.command_laws.specs.CommandTerms.{Appends}
 use Rattle.command_spec.specs.Commands.Info.{telling}
 use Rattle.command_spec.specs.Lines.{protected_line, upgraded_line}
 use Rattle.command_spec.specs.Commands.ListCommand.{listing}

@@ -11,7 +11,8 @@ use Rattle.command_laws.proofs.MadeStops.{StillBehind, behind_next, done_append_
 use Rattle.command_laws.proofs.MountedKeeping.{changed_by_acts, kept_open}
 use Rattle.command_laws.specs.MadeLaws.{MadeAreAnswered}
 use Rattle.command_laws.specs.MountedKept.{IsKept}
-use Rattle.command_spec.specs.Append.{input_acts, Kept, free_in, has_promised_room, input_writes, most_written, room_in, Taking, Fits, TooLong, TooShort, entry_acts, silently, append_acts, taking, kept_over}
+use Rattle.command_spec.specs.Append.{input_acts, Kept, has_promised_room, input_writes, room_in, Taking, Fits, TooLong, TooShort, entry_acts, append_acts, taking, kept_over}
+use Rattle.command_laws.specs.CommandTerms.{free_in, most_written, silently}
 use Rattle.command_spec.specs.Generator.{made_length, made_bytes}
 use Rattle.command_spec.specs.MadeVolumes.{made_contents}
 use Rattle.command_spec.specs.Make.{AppendMade, made_name, Answer, StepDoes, MakeStep, appending, Done, Runs, ScrubAll, wearing_volumes, summing, made_list}

@@ -47,7 +47,8 @@ use Rattle.command_laws.proofs.StoreTaking.{both_true}
 use Rattle.command_laws.proofs.StoreWorn.{worn_list}
 use Rattle.command_laws.specs.MountedListed.{ListedReads, MountedListed, IsListed, listed_behind, AppendListed, WearListed, ScrubListed}
 use Rattle.command_laws.specs.ScrubMended.{IsBeingMended}
-use Rattle.command_spec.specs.Append.{Kept, Taking, Fits, TooLong, TooShort, append_acts, entry_acts, entry_for, input_writes, room_in, taking, kept_over}
+use Rattle.command_spec.specs.Append.{Kept, Taking, Fits, TooLong, TooShort, append_acts, entry_acts, input_writes, room_in, taking, kept_over}
+use Rattle.command_laws.specs.CommandTerms.{entry_for}
 use Rattle.command_spec.specs.Scrub.{looked_at, whole_segment}
 use Rattle.qic_base.specs.Acts.{Act, steps_of}
 use Rattle.qic_base.specs.Step.{Step}

@@ -3,7 +3,8 @@ use Rattle.std.proofs.Common.{◌≡◌, ℕ, List, [], ◌∷◌, ◌++◌, ◌
 use Rattle.std.proofs.lemmas.List.{length_push}
 use Rattle.std.proofs.lemmas.Bool.Decides.{nat_tests}
 use Rattle.command_spec.specs.Input.{IsPulse}
-use Rattle.command_spec.specs.Pulses.{pulsed_row, after_trains, train_act, train_acts, train_line, train_lines, train_changes}
+use Rattle.command_spec.specs.Pulses.{pulsed_row, train_acts, train_line, train_lines, train_changes}
+use Rattle.command_laws.specs.PulseRuns.{train_act, after_trains}
 use Rattle.drive_spec.specs.Terms.{refusal_of, obeyed, idled, longer}
 use Rattle.drive_spec.specs.Deck.{is_streaming}
 use Rattle.drive_spec.specs.Effects.{given, reset, ticked}

@@ -7,6 +7,7 @@ use Rattle.cartridge_spec.specs.Mounting.{IsTableLive}
 use Rattle.cartridge_spec.specs.Settling.{changed_by}
 use Rattle.cartridge_spec.specs.Table.{Entry}
 use Rattle.cartridge_spec.specs.Volumes.{Plain, Stands, entries_of}
+use Rattle.command_laws.proofs.ScriptActs.{line_spares}
 use Rattle.command_laws.proofs.MountedFronts.{ends_in}
 use Rattle.command_laws.proofs.MountedKeeping.{changed_by_acts}
 use Rattle.command_laws.proofs.ScriptReached.{AllLeave, Reached, reached_between, reached_behind, reached_none, leave_weaker}
@@ -16,7 +17,8 @@ use Rattle.command_laws.proofs.ScriptStanding.{fault_stands, items_have_bytes, i
 use Rattle.command_laws.specs.MountedHeld.{IsHeld}
 use Rattle.command_laws.specs.ScriptStanding.{HaveBytes, AnsweredBetween, AnsweredBehind, StoppedScriptStands, DoneScriptStands, plain_behind, plain_after}
 use Rattle.command_spec.specs.Input.{Ending, AtEnd, AtStop, AtFault, Item}
-use Rattle.command_spec.specs.Script.{EndDoes, ScriptRun, ScriptDoes, cartridge_behind, entries_behind, place_behind, Did, ItemsDo, acts_of}
+use Rattle.command_spec.specs.Script.{EndDoes, ScriptDoes, cartridge_behind, entries_behind, place_behind, Did, ItemsDo, acts_of}
+use Rattle.command_spec.specs.Outcome.{CommandOutcome}
 use Rattle.command_spec.specs.ScriptLists.{FirstSpare, ItemsSpare, StandsAnswered, printed_by}
 use Rattle.qic_base.proofs.Joins.{steps_of-append, text_of-append}
 use Rattle.qic_base.proofs.Steps.{Torn-front, Torn-behind, Torn-append, Torn-nothing, Torn-all}
@@ -81,7 +83,7 @@ end_stands d p rest AtStop last held is left torn =
     some_and (λ e. Stands e p) d left held.stands (subst (λ (xs : List Act). Torn (steps_of xs) (Some d) left) is torn)
 end_stands d p rest (AtFault number place) last held does left torn = fault_stands d p number rest last left held does torn
 
-ends_of : (c : Cartridge) (plain : Plain) (input : List ℕ) (outcome : ScriptRun) → IsHeld c plain → (does : ScriptDoes c plain.words (entries_of plain) input outcome) →
+ends_of : (c : Cartridge) (plain : Plain) (input : List ℕ) (outcome : CommandOutcome) → IsHeld c plain → (does : ScriptDoes c plain.words (entries_of plain) input outcome) →
     All (λ b. b < 256) input → ItemsSpare c plain does.items does.dids → EndStands (cartridge_behind c does.dids) (plain_behind plain does.items does.dids) does.last
 ends_of c plain input outcome held does content spares =
     let has : HaveBytes does.items = items_have_bytes input does.items does.ending does.read content in
@@ -110,7 +112,7 @@ all_stand [] [] c plain last held live has ran spares ends = λ front rest left 
 all_stand [] (did ∷ dids) c plain last held live has ran spares ends = absurd ran
 all_stand (item ∷ items) [] c plain last held live has ran spares ends = absurd ran
 all_stand (item ∷ items) (did ∷ dids) c plain last held live has ran spares ends =
-    let leaves : ItemLeaves c plain item did = item_leaves c plain item did held has.0 spares.0 ran.0 in
+    let leaves : ItemLeaves c plain item did = item_leaves c plain item did held has.0 (line_spares c plain item.line spares.0) ran.0 in
     let next : Plain = plain_after plain item did in
     let d : Cartridge = changed_by (steps_of did.acts) c in
     let first : Plain = plain_behind plain (item ∷ []) (did ∷ []) in
@@ -128,7 +130,7 @@ all_stand (item ∷ items) (did ∷ dids) c plain last held live has ran spares 
           (subst (λ (p : Plain). EndStands (cartridge_behind d dids) p last) (sym (next_is plain item did items dids leaves.entries)) ends)),
     )
 
-script_stands : (c : Cartridge) (plain : Plain) (input : List ℕ) (outcome : ScriptRun) → IsHeld c plain → IsTableLive c → (does : ScriptDoes c plain.words (entries_of plain) input outcome) →
+script_stands : (c : Cartridge) (plain : Plain) (input : List ℕ) (outcome : CommandOutcome) → IsHeld c plain → IsTableLive c → (does : ScriptDoes c plain.words (entries_of plain) input outcome) →
     All (λ b. b < 256) input → ItemsSpare c plain does.items does.dids → AllLeave Tears (StandsBehind plain does.items does.dids) c does.dids does.last
 script_stands c plain input outcome held live does content spares =
     all_stand does.items does.dids c plain does.last held live (items_have_bytes input does.items does.ending does.read content) does.did spares
@@ -226,7 +228,7 @@ all_spare c plain items dids count long all spares =
     subst (λ (ds : List Did). ItemsSpare c plain items ds) (take_all count dids (omega arith))
     (subst (λ (xs : List Item). ItemsSpare c plain xs (take count dids)) (take_all count items (omega arith)) spares)
 
-module _ (c : Cartridge) (plain : Plain) (input : List ℕ) (outcome : ScriptRun) (held : IsHeld c plain) (live : IsTableLive c) (does : ScriptDoes c plain.words (entries_of plain) input outcome) (content : All (λ b. b < 256) input) where
+module _ (c : Cartridge) (plain : Plain) (input : List ℕ) (outcome : CommandOutcome) (held : IsHeld c plain) (live : IsTableLive c) (does : ScriptDoes c plain.words (entries_of plain) input outcome) (content : All (λ b. b < 256) input) where
   abbrev items : List Item
   items = does.items
 
@@ -245,7 +247,7 @@ module _ (c : Cartridge) (plain : Plain) (input : List ℕ) (outcome : ScriptRun
   -- the acts of the first items, and those behind
   acts_are : (n : ℕ) → outcome.acts ≡ acts_of (take n dids) ++ (acts_of (drop n dids) ++ does.last)
   acts_are n =
-      ap (λ (o : ScriptRun). o.acts) does.is ∙ ap (λ (acts : List Act). acts ++ does.last) (sym (acts_parted n dids))
+      ap (λ (o : CommandOutcome). o.acts) does.is ∙ ap (λ (acts : List Act). acts ++ does.last) (sym (acts_parted n dids))
       ∙ append_assoc (acts_of (take n dids)) (acts_of (drop n dids)) does.last
 
   between_all : (front rest : List Act) (left : Option Cartridge) → ItemsSpare c plain items dids → front ++ rest ≡ outcome.acts →
@@ -253,7 +255,7 @@ module _ (c : Cartridge) (plain : Plain) (input : List ℕ) (outcome : ScriptRun
   between_all front rest left spares parts torn =
       stands_answered c plain items dids (length (text_of front)) left does.did
       (reached_between Tears (StandsBehind plain items dids) dids c does.last front rest left speak
-      (script_stands c plain input outcome held live does content spares) (parts ∙ ap (λ (o : ScriptRun). o.acts) does.is) torn)
+      (script_stands c plain input outcome held live does content spares) (parts ∙ ap (λ (o : CommandOutcome). o.acts) does.is) torn)
 
   between_first : (n : ℕ) (front rest : List Act) (left : Option Cartridge) → n ≤ length items → length (text_of front) < printed_by dids n → FirstSpare c plain items dids n →
       front ++ rest ≡ outcome.acts → Torn (next_steps rest) (Some (changed_by (steps_of front) c)) left → StandsAnswered plain items dids (length (text_of front)) left
@@ -277,7 +279,7 @@ module _ (c : Cartridge) (plain : Plain) (input : List ℕ) (outcome : ScriptRun
       stands_answered c plain items dids printed left does.did
       (reached_behind Tears (λ ss d. Torn-nothing ss (Some d)) (StandsBehind plain items dids) dids c does.last front act rest left printed
       speak (script_stands c plain input outcome held live does content spares)
-      (parts ∙ ap (λ (o : ScriptRun). o.acts) does.is) is above below)
+      (parts ∙ ap (λ (o : CommandOutcome). o.acts) does.is) is above below)
 
   behind_first : (n : ℕ) (front : List Act) (act : Act) (rest : List Act) (left : Option Cartridge) (printed : ℕ) → n ≤ length items → printed < printed_by dids n → FirstSpare c plain items dids n →
       front ++ act ∷ rest ≡ outcome.acts → left ≡ Some (changed_by (steps_of front ++ act.steps) c) → length (text_of front) ≤ printed → printed ≤ length (text_of front) + length act.text →
@@ -341,7 +343,7 @@ answered_behind c plain input outcome front act rest left printed held live does
     behind_first c plain input outcome held live does content n front act rest left printed some less spares parts is above below
 
 -- where nothing was printed no item was answered
-pub none_answered : (c : Cartridge) (plain : Plain) (input : List ℕ) (outcome : ScriptRun) (left : Option Cartridge) → (does : ScriptDoes c plain.words (entries_of plain) input outcome) →
+pub none_answered : (c : Cartridge) (plain : Plain) (input : List ℕ) (outcome : CommandOutcome) (left : Option Cartridge) → (does : ScriptDoes c plain.words (entries_of plain) input outcome) →
     All (λ b. b < 256) input → IsSomeAnd left (λ d. Stands d plain) → StandsAnswered plain does.items does.dids 0 left
 none_answered c plain input outcome left does content stands =
     stands_answered c plain does.items does.dids 0 left does.did
@@ -370,7 +372,7 @@ done_script_stands c plain input outcome held does content spares =
     let d : Cartridge = cartridge_behind c does.dids in
     let p : Plain = plain_behind plain does.items does.dids in
     let behind : changed_by (steps_of outcome.acts) c ≡ changed_by (steps_of does.last) d =
-    ap (λ (o : ScriptRun). changed_by (steps_of o.acts) c) does.is ∙ changed_by_acts (acts_of does.dids) does.last c
+    ap (λ (o : CommandOutcome). changed_by (steps_of o.acts) c) does.is ∙ changed_by_acts (acts_of does.dids) does.last c
     ∙ ap (λ (e : Cartridge). changed_by (steps_of does.last) e) (sym (cartridge_is c does.dids)) in
     subst (λ (e : Cartridge). Stands e p) (sym behind)
     (ends_of c plain input outcome held does content spares (Some (changed_by (steps_of does.last) d))

@@ -1,5 +1,5 @@
 -- Which lists of steps leave a whole cartridge, done or stopped.
-use Rattle.std.proofs.Common.{◌≡◌, ◌⊎◌, ℕ, ◌+◌, ◌*◌, ◌<◌, ◌≤◌, List, [], ◌∷◌, ◌++◌, All, Option, Some, None, IsSomeAnd, IfSome, inl, inr, refl, sym, ap, ◌∙◌, subst, arith, map, take, drop, length, slice_get, get_or, replicate, length-append, length-take, length-drop, ◌-◌, ◌^◌, Bool, true, false, cond, is_some}
+use Rattle.std.proofs.Common.{◌≡◌, ℕ, ◌+◌, ◌*◌, ◌<◌, List, [], ◌∷◌, ◌++◌, All, Option, Some, None, IsSomeAnd, inl, inr, refl, sym, ap, ◌∙◌, subst, arith, map, take, drop, length, slice_get, length-append, length-take, length-drop, ◌-◌, ◌^◌, Bool, true, false, cond, is_some}
 use Rattle.std.specs.Prelude.{unwrap_or}
 use Rattle.std.proofs.lemmas.Bool.{cases_lt}
 use Rattle.std.proofs.lemmas.Option.{unwrap_or-slice_get}
@@ -29,13 +29,14 @@ use Rattle.command_laws.proofs.CommandClean.{Leaves, both_leave, leaves_done}
 use Rattle.command_laws.proofs.InputActLaws.{input_is_of_sectors, writes_whole}
 use Rattle.command_laws.proofs.MountedListed.{entry_area, slot_free}
 use Rattle.command_laws.specs.MountedListed.{IsListed}
-use Rattle.command_spec.specs.Append.{Fits, Kept, Taking, TooLong, TooShort, append_acts, entry_acts, entry_for, free_in, has_promised_room, input_acts, input_writes, kept_over, most_written, room_in, taking}
+use Rattle.command_spec.specs.Append.{Fits, Kept, Taking, TooLong, TooShort, append_acts, entry_acts, has_promised_room, input_acts, input_writes, kept_over, room_in, taking}
+use Rattle.command_laws.specs.CommandTerms.{entry_for, free_in, most_written}
 use Rattle.qic_base.proofs.Joins.{steps_of-append}
 use Rattle.qic_base.specs.Acts.{Act, steps_of}
 use Rattle.qic_base.specs.Cartridge.{Cartridge, IsLength, IsSector, new_cartridge, view_at, zero_sector}
 use Rattle.qic_base.specs.Terms.{IsVersion, IsCartridge, IsView, place_of, with_segment, HalfFormatted}
 use Rattle.qic_base.specs.Step.{FormatSegment, SetProtected, SetReferenced, Spoil, Step, Upgrade, Wear, changed, formatted_view, spoiled_view, worn_view}
-use Rattle.qic_base.specs.Stop.{ClosingView, OpeningView, SegmentBecame, Torn}
+use Rattle.qic_base.specs.Stop.{ClosingView, OpeningView, SegmentBecame}
 use Rattle.qic_base.specs.declared.tape.TapeInfo.{TapeInfo}
 use Rattle.qic_base.specs.declared.tape.SectorView.{SectorView}
 use Rattle.qic_base.specs.declared.tape.SectorView.TheVariants.{Blank, Defect, Lost, Holds}

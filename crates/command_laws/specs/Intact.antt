@@ -1,6 +1,6 @@
 -- A mounted cartridge whose whole table holds what it should, so that one sector more of the table's segment may be lost; and what
 -- generated runs and scripts leave of it, as facts (this project's own).
-use Rattle.std.specs.Prelude.{◌≡◌, ◌⊎◌, ◌+◌, ◌<◌, ◌≤◌, ℕ, List, All, Option, Some, IsSomeAnd, length, take, true}
+use Rattle.std.specs.Prelude.{◌≡◌, ◌⊎◌, ◌<◌, ◌≤◌, ℕ, List, All, Option, Some, IsSomeAnd, length, take, true}
 use Rattle.cartridge_laws.specs.AppendBetween.{IsWhole}
 use Rattle.cartridge_spec.specs.Appending.{has_room, with_all, with_bytes}
 use Rattle.cartridge_spec.specs.Mounting.{settled}
@@ -11,9 +11,11 @@ use Rattle.cartridge_spec.specs.Wear.{worn}
 use Rattle.command_laws.specs.MountedKept.{IsAppendable, IsKept, settle_and_append}
 use Rattle.command_laws.specs.ScriptStanding.{plain_behind}
 use Rattle.command_spec.specs.MadeVolumes.{made_contents}
-use Rattle.command_spec.specs.Make.{Answer, Done, Makes}
+use Rattle.command_spec.specs.Make.{Answer, Done}
+use Rattle.command_laws.specs.CommandTerms.{Makes}
 use Rattle.command_spec.specs.OneLoss.{ComesBackAsOneOf, SomeComeBack}
-use Rattle.command_spec.specs.Script.{ScriptDoes, ScriptRun}
+use Rattle.command_spec.specs.Script.{ScriptDoes}
+use Rattle.command_spec.specs.Outcome.{CommandOutcome}
 use Rattle.command_spec.specs.ScriptLists.{CameFurther, ItemsWearBehind}
 use Rattle.command_spec.specs.Scrub.{Scrubs}
 use Rattle.qic_base.specs.Acts.{Act, steps_of}
@@ -75,7 +77,7 @@ DoneMakeIsIntact =
 -- further.
 abbrev pub StoppedScriptComesBack : Type 0
 StoppedScriptComesBack =
-    (c : Cartridge) (plain : Plain) (input : List ℕ) (outcome : ScriptRun) (left : Option Cartridge) → IsIntact c plain →
+    (c : Cartridge) (plain : Plain) (input : List ℕ) (outcome : CommandOutcome) (left : Option Cartridge) → IsIntact c plain →
     (does : ScriptDoes c plain.words (entries_of plain) input outcome) → All (λ b. b < 256) input →
     (count : ℕ) → count ≤ length does.items → ItemsWearBehind (take count does.items) → Torn (steps_of outcome.acts) (Some c) left →
     CameFurther c does.items does.dids does.last count left

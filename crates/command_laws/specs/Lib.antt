@@ -2,6 +2,7 @@ pub mod ActStops
 pub mod Between
 pub mod CommandLaws
 pub mod CommandRecord
+pub mod CommandTerms
 pub mod CopyLaws
 pub mod DeepScrubLaws
 pub mod InputLaws
@@ -17,7 +18,9 @@ pub mod OutputLaws
 pub mod OutputText
 pub mod PromiseLaws
 pub mod PulseLaws
+pub mod PulseRuns
 pub mod RestoreLaws
+pub mod ScriptAnswers
 pub mod ScriptItems
 pub mod ScriptLaws
 pub mod ScriptListing

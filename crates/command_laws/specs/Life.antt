@@ -13,7 +13,7 @@ use Rattle.command_spec.specs.Listing.{IsHeard}
 use Rattle.command_spec.specs.Machine.{HasValues, Yields}
 use Rattle.command_spec.specs.MadeVolumes.{made_contents}
 use Rattle.command_spec.specs.Outcome.{CommandOutcome, HasPlace, output_of}
-use Rattle.command_spec.specs.Script.{Did, ScriptDoes, ScriptRun}
+use Rattle.command_spec.specs.Script.{Did, ScriptDoes}
 use Rattle.command_spec.specs.ScriptLists.{CameFurther, FirstSpare, GoesNoFurther, ItemsSpare, all_added, printed_by}
 use Rattle.command_spec.specs.declared.status.Status.{Status}
 use Rattle.command_spec.specs.declared.words.Words.{Words}
@@ -108,7 +108,7 @@ LinesSpare (Stopped printed) c plain items dids last left =
 abbrev pub CommandSpares : Words → Ended → (input : List ℕ) → (left : Option Cartridge) → Cartridge → Type 0
 CommandSpares (commands.Lose segment sector) ended input left c = HasPlace c segment sector → LossSpares c segment sector
 CommandSpares commands.Script ended input left c =
-    (plain : Plain) (run : ScriptRun) → Stands c plain →
+    (plain : Plain) (run : CommandOutcome) → Stands c plain →
     (does : ScriptDoes (settled plain.table_area c) plain.words (entries_of plain) input run) →
     LinesSpare ended (settled plain.table_area c) plain does.items does.dids does.last left
 CommandSpares command ended input left c = Unit {0}
@@ -212,7 +212,7 @@ AnsweredAmong (Stopped None) items dids count = Unit {0}
 
 -- the appends of the first lines, by what the plain machine did
 pub record SomeLines (c : Cartridge) (input : List ℕ) (plain : Plain) (ended : Ended) (after : Option Plain) : Type 0 where
-  pub run : ScriptRun
+  pub run : CommandOutcome
   pub does : ScriptDoes (settled plain.table_area c) plain.words (entries_of plain) input run
   pub count : ℕ
   pub within : count ≤ length does.items

@@ -8,9 +8,5 @@ use Rattle.std.specs.List.{range_with_len}
 abbrev pub made_length : (seed volume : ℕ) → ℕ
 made_length seed volume = 1000 * (1 + (seed * 37 + volume * 101) % 20000)
 
--- its byte at a place
-abbrev pub made_byte : (seed volume place : ℕ) → ℕ
-made_byte seed volume place = (place + 31 * volume + seed) % 251
-
 unfoldable pub made_bytes : (seed volume : ℕ) → List ℕ
-made_bytes seed volume = map (made_byte seed volume) (range_with_len 0 (made_length seed volume))
+made_bytes seed volume = map (λ place. (place + 31 * volume + seed) % 251) (range_with_len 0 (made_length seed volume))

@@ -4,12 +4,13 @@ use Rattle.std.specs.Prelude.{◌≡◌, ℕ, List, Some, IsSomeAnd, [], ◌∷�
 use Rattle.cartridge_spec.specs.Header.{Header}
 use Rattle.cartridge_spec.specs.Mounting.{Mounted, Mounts, Lists, settled}
 use Rattle.cartridge_spec.specs.Table.{Entry}
-use Rattle.command_spec.specs.Append.{entry_for, kept_in}
+use Rattle.command_spec.specs.Append.{entry_behind}
 use Rattle.command_spec.specs.Headline.{ToldNow}
 use Rattle.command_spec.specs.Input.{Item}
 use Rattle.command_spec.specs.Machine.{Spells}
 use Rattle.command_spec.specs.MadeVolumes.{AppendedBy}
 use Rattle.command_spec.specs.Make.{made_list}
+use Rattle.command_spec.specs.Outcome.{CommandOutcome}
 use Rattle.command_spec.specs.Runs.{is_fault}
 use Rattle.command_spec.specs.Script.{Did, entries_behind, ScriptDoes}
 use Rattle.command_spec.specs.ScriptLists.{ItemsWearBehind, ListsAnswered, ListsBroken}
@@ -19,7 +20,6 @@ use Rattle.qic_base.specs.Cartridge.{Cartridge}
 use Rattle.qic_base.specs.Tape as tapes
 use Rattle.qic_base.specs.Sink as sinks
 use Rattle.command_spec.specs.declared.status.Status.TheVariants as status
-use Rattle.command_spec.specs.Script as scripts
 use Rattle.command_spec.specs.declared.words.Words.TheVariants as commands
 
 -- the tape told a cartridge that is mounted with this header, these words, these data of the table and this list
@@ -35,7 +35,7 @@ NowLists t new header words entries = ToldNow t new (λ left. IsSomeAnd left (λ
 pub record ListsVolume {T : Type 0} (t : tapes.Meaning T) (told : Option (List ℕ)) (old new : T) (header : Header) (words : List ℕ) (entries : List Entry) (name : List ℕ) (date : ℕ) : Type 0 where
   pub input : List ℕ
   pub is_told : IsInput told input
-  pub lists : NowLists t new header words (entries ++ entry_for (kept_in words entries) name date input ∷ [])
+  pub lists : NowLists t new header words (entries ++ entry_behind words entries name date input ∷ [])
 
 -- the list with the first ones of the made volumes; with those that were appended by the answer, where no fault of the outside ended
 -- it; with all of them, where anything was printed, the sink failed, or all was carried out
@@ -63,7 +63,7 @@ pub record ListsLines {T K : Type 0} (t : tapes.Meaning T) (k : sinks.Meaning K)
 pub record ListsScripted {T K : Type 0} (t : tapes.Meaning T) (k : sinks.Meaning K) (told : Option (List ℕ)) (old new : T) (before behind : K) (answer : Status) (c : Cartridge) (header : Header) (words : List ℕ) (table : List (List ℕ)) (entries : List Entry) : Type 0 where
   pub input : List ℕ
   pub is_told : IsInput told input
-  pub lists : (outcome : scripts.ScriptRun) → (does : ScriptDoes (settled table c) words entries input outcome) →
+  pub lists : (outcome : CommandOutcome) → (does : ScriptDoes (settled table c) words entries input outcome) →
       ListsLines t k old new before behind answer header words entries does.items does.dids
 
 -- When a run is over that no fault of the tape ended, the cartridge is mounted with the old list and the appends that were carried

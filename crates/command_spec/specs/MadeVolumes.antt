@@ -5,7 +5,7 @@ use Rattle.cartridge_spec.specs.Settling.{changed_by}
 use Rattle.cartridge_spec.specs.Table.{Entry}
 use Rattle.cartridge_spec.specs.Volumes.{Plain, entries_of}
 use Rattle.command_spec.specs.Generator.{made_bytes}
-use Rattle.command_spec.specs.Make.{made_name, made_list, Done, Full, made_answer, MakeStep, ScrubAll, after_items, appending, wearing_volumes, Runs}
+use Rattle.command_spec.specs.Make.{made_name, made_list, Done, Full, made_answer, ScrubAll, appending, wearing_volumes, Runs}
 use Rattle.command_spec.specs.Restore.{LosesFew, pieces, volume_at}
 use Rattle.command_spec.specs.declared.status.Status.{Status}
 use Rattle.qic_base.specs.Acts.{Act, steps_of}
@@ -20,19 +20,15 @@ made_contents seed volume (suc count) =
 
 -- ---- how many were appended
 
--- So many of these volumes were appended by a run that is answered so: all of them where it was carried out, or one of them was not
--- given back; those in front of the one that has no room; or some, where the volume table does not read.
-abbrev pub AppendedFrom : (seed volume count : ℕ) → (words : List ℕ) → List Entry → Status → (n : ℕ) → Type 0
-AppendedFrom seed volume count words entries status.Done n = n ≡ count
-AppendedFrom seed volume count words entries (status.Full need have) n =
-    (n < count) × (made_answer seed words (after_items seed words entries (appending volume n)) (volume + n) ≡ Full need have)
-AppendedFrom seed volume count words entries (status.Lost segment lost) n = segment ≢ 2 → n ≡ count
-AppendedFrom seed volume count words entries (status.Mismatch segment) n = n ≡ count
-AppendedFrom seed volume count words entries other n = Unit {0}
-
--- .. of all volumes
+-- So many of the volumes were appended by a run that is answered so: all of them where it was carried out, or one of
+-- them was not given back; those in front of the one that has no room; or some, where the volume table does not read.
 abbrev pub AppendedBy : (seed count : ℕ) → (words : List ℕ) → List Entry → Status → (n : ℕ) → Type 0
-AppendedBy seed count words entries answer n = (n ≤ count) × AppendedFrom seed 1 count words entries answer n
+AppendedBy seed count words entries status.Done n = n ≡ count
+AppendedBy seed count words entries (status.Full need have) n =
+    (n < count) × (made_answer seed words (made_list seed n words entries) (1 + n) ≡ Full need have)
+AppendedBy seed count words entries (status.Lost segment lost) n = (n ≤ count) × (segment ≢ 2 → n ≡ count)
+AppendedBy seed count words entries (status.Mismatch segment) n = n ≡ count
+AppendedBy seed count words entries other n = n ≤ count
 
 -- ---- a run that is carried out
 
@@ -41,15 +37,14 @@ abbrev pub HaveRoom : (seed count : ℕ) → Plain → Type 0
 HaveRoom seed count plain =
     (n : ℕ) → n < count → made_answer seed plain.words (made_list seed n plain.words (entries_of plain)) (1 + n) ≡ Done
 
--- the steps in front of the sums: the appends, the worn sectors and the scrub
-abbrev pub before_sums : (seed count : ℕ) → Plain → List MakeStep
-before_sums seed count plain =
-    appending 1 count
-    ++ (wearing_volumes plain.words (drop (length (entries_of plain)) (made_list seed count plain.words (entries_of plain))) ++ ScrubAll ∷ [])
-
--- behind them no segment that holds some of a made volume has more than three unreadable sectors
+-- behind the appends, the worn sectors and the scrub no segment that holds some of a made volume has more than three
+-- unreadable sectors
 abbrev pub LoseFewBehind : (seed count : ℕ) → Cartridge → Plain → Type 0
 LoseFewBehind seed count c plain =
-    (acts : List Act) (number : ℕ) (e : Entry) → Runs seed c plain.words (entries_of plain) (before_sums seed count plain) acts Done →
-    length (entries_of plain) < number → volume_at (made_list seed count plain.words (entries_of plain)) number ≡ Some e →
+    let entries : List Entry = entries_of plain in
+    let made : List Entry = made_list seed count plain.words entries in
+    (acts : List Act) (number : ℕ) (e : Entry) →
+    Runs seed c plain.words entries
+    (appending 1 count ++ (wearing_volumes plain.words (drop (length entries) made) ++ ScrubAll ∷ [])) acts Done →
+    length entries < number → volume_at made number ≡ Some e →
     All (LosesFew (changed_by (steps_of acts) c) plain.words) (pieces plain.words e)

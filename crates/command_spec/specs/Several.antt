@@ -8,6 +8,7 @@ use Rattle.command_spec.specs.Headline.{ToldNow, EachLeft}
 use Rattle.command_spec.specs.Listing.{IsHeard}
 use Rattle.command_spec.specs.Machine.{Spells}
 use Rattle.command_spec.specs.MadeVolumes.{AppendedBy, made_contents}
+use Rattle.command_spec.specs.Outcome.{CommandOutcome}
 use Rattle.command_spec.specs.Runs.{is_fault}
 use Rattle.command_spec.specs.Script.{ScriptDoes}
 use Rattle.command_spec.specs.ScriptLists.{CameFurther, FirstSpare, GoesNoFurther, ItemsSpare, StandsAnswered, all_added}
@@ -17,7 +18,6 @@ use Rattle.command_spec.specs.declared.words.Words.TheVariants as commands
 use Rattle.qic_base.specs.Sink as sinks
 use Rattle.qic_base.specs.Tape as tapes
 use Rattle.command_spec.specs.declared.status.Status.TheVariants as status
-use Rattle.command_spec.specs.Script as scripts
 
 -- ---- a generated run
 
@@ -59,7 +59,7 @@ pub record Scripted (told : Option (List ℕ)) (words : List (List ℕ)) (c : Ca
   pub is_told : told ≡ Some input
   pub bytes : All (λ b. b < 256) input
   pub stands : Stands c plain
-  pub outcome : scripts.ScriptRun
+  pub outcome : CommandOutcome
   pub does : ScriptDoes (settled plain.table_area c) plain.words (entries_of plain) input outcome
 
 -- each sector that the first lines wear spares the header and the table, on the cartridge as it then stands

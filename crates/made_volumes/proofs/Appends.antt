@@ -4,8 +4,6 @@ use Rattle.std.proofs.lemmas.Bool.{le-ltb}
 use Rattle.std.proofs.lemmas.List.{take_all}
 use Rattle.qic_base.specs.Cartridge.{Cartridge}
 use Rattle.qic_base.specs.Step.{Step}
-use Rattle.qic_base.specs.Tape as tapes
-use Rattle.qic_base.specs.TapeCalls as tape_calls
 use Rattle.qic_base.proofs.Steps.{Tells-map, Done-nothing}
 use Rattle.qic_base.specs.Acts.{Act, text_of, TapeFails, Went, Cut}
 use Rattle.qic_base.specs.Terms.{no_source, no_sink, around, reading}
@@ -19,19 +17,22 @@ use Rattle.command_spec.specs.Generator.{made_length, made_bytes}
 use Rattle.tape_script.specs.Generator.{made_means}
 use Rattle.volume_store.specs.declared.appended.Appended.{Appended}
 use Rattle.volume_store.specs.declared.fault.StoreFault.{StoreFault}
-use Rattle.volume_store.specs.declared.fault.StoreFault.TheVariants as store
-use Rattle.command_spec.specs.Append.{Taking, Fits, TooLong, TooShort, taking, room_in, kept_in, entry_for, has_promised_room, append_acts, silently}
+use Rattle.command_spec.specs.Append.{Taking, Fits, TooLong, TooShort, taking, room_in, has_promised_room, append_acts}
+use Rattle.command_laws.specs.CommandTerms.{kept_in, entry_for, silently, made_entry, made_acts, MayAppend}
 use Rattle.volume_store.specs.Appending.{kept_by, AppendRan, AppendCut, TableRefused, AppendEnds, CutUnread, FaultsUnread}
 use Rattle.volume_store.specs.Mounting.{StoreView, StoreFits}
 use Rattle.volume_store.proofs.Copies.{IsLearnt, told_learnt, tells_two}
 use Rattle.made_volumes.specs.declared.fault.MakeFault.{MakeFault}
-use Rattle.made_volumes.specs.declared.fault.MakeFault.TheVariants as fault
 use Rattle.made_volumes.specs.Faults.{is_of_step, fault_of}
-use Rattle.command_spec.specs.Make.{AppendMade, made_name, made_entry, Answer, Done, Protected, TableMismatch, Full, Lost, StepDoes, Runs, IsTableLost, made_acts, made_answer, MayAppend}
+use Rattle.command_spec.specs.Make.{AppendMade, made_name, Answer, Done, Protected, TableMismatch, Full, Lost, StepDoes, Runs, IsTableLost, made_answer}
 use Rattle.made_volumes.specs.Runs.{HasRun, RunCut, RunEnds}
 use Rattle.command_laws.proofs.MadeMachineLaws.{run_of, done_of, never_lost}
 use Rattle.command_laws.proofs.MadeMadeBytes.{length-made_bytes}
-use Rattle.command_laws.proofs.MadeMayLaws.{may_of}
+use Rattle.command_laws.proofs.MadeMayLaws.{may_of, may_append}
+use Rattle.qic_base.specs.Tape as tapes
+use Rattle.qic_base.specs.TapeCalls as tape_calls
+use Rattle.volume_store.specs.declared.fault.StoreFault.TheVariants as store
+use Rattle.made_volumes.specs.declared.fault.MakeFault.TheVariants as fault
 
 -- ---- the mark
 
@@ -133,7 +134,7 @@ module _ {T : Type 0} (t : tapes.Meaning T) (seed volume : ℕ) (before : StoreV
     went = around_went acts went;
     told = Tells-map t a (λ c. StepDoes seed c words entries (AppendMade volume) acts answer) (λ c. Runs seed c words entries (AppendMade volume ∷ []) acts answer)
         (λ c does. run_of seed c words entries (AppendMade volume) acts answer does) told;
-    may = may_of seed words entries (AppendMade volume) (text_of acts) answer (went.wrote.took, may);
+    may = may_of seed words entries (AppendMade volume) (text_of acts) answer (may_append seed words entries volume (text_of acts) answer went.wrote.took may);
   }
 
   -- the acts of an append that ran are the plain machine's
@@ -237,7 +238,7 @@ module _ {T : Type 0} (t : tapes.Meaning T) (seed volume : ℕ) (before : StoreV
     told = Tells-map t a (λ c. c.info.protected ≡ true) (λ c. Runs seed c words entries (AppendMade volume ∷ []) [] Protected)
         (λ c mark. run_of seed c words entries (AppendMade volume) [] Protected (inl (record { mark = mark; does = refl; answered = refl })))
         (told_mark t before u fits true locked);
-    may = may_of seed words entries (AppendMade volume) [] Protected (refl, tt);
+    may = may_of seed words entries (AppendMade volume) [] Protected refl;
   })
 
   -- the answers of a call that a run makes

@@ -1,9 +1,6 @@
 -- How the wearing of a sector and a scrub ended, as steps of a run.
 use Rattle.std.proofs.Common.{◌≡◌, ◌↔◌, inl, inr, ℕ, true, false, List, [], ◌∷◌, Result, Ok, Err, refl, sym, ◌∙◌, subst, arith}
 use Rattle.qic_base.specs.Step.{Wear}
-use Rattle.qic_base.specs.Sink as sinks
-use Rattle.qic_base.specs.Tape as tapes
-use Rattle.qic_base.specs.TapeCalls as tape_calls
 use Rattle.qic_base.proofs.Steps.{Tells-map, Done-nothing}
 use Rattle.qic_base.specs.Acts.{Act, text_of, Failing, TapeFails, SinkFails, Cut}
 use Rattle.qic_base.specs.Terms.{no_source, no_sink, around}
@@ -16,16 +13,19 @@ use Rattle.segment_mending.specs.Mending.{reported}
 use Rattle.segment_mending.specs.declared.report.ScrubReport.{ScrubReport}
 use Rattle.volume_store.proofs.Copies.{tells_two}
 use Rattle.volume_store.specs.declared.fault.StoreFault.{StoreFault}
-use Rattle.volume_store.specs.declared.fault.StoreFault.TheVariants as store
 use Rattle.volume_store.specs.Mounting.{StoreView, StoreFits}
 use Rattle.volume_store.specs.Scrubbing.{MendCut, MendEnds}
-use Rattle.made_volumes.specs.declared.fault.MakeFault.TheVariants as fault
 use Rattle.made_volumes.specs.Faults.{is_of_step, fault_of}
 use Rattle.command_spec.specs.Make.{WearSector, ScrubAll, Answer, Done, Protected, Runs}
 use Rattle.made_volumes.specs.Runs.{RunEnds, NeverFull}
 use Rattle.command_laws.proofs.MadeMachineLaws.{run_of, done_of}
 use Rattle.command_laws.proofs.MadeMayLaws.{may_of}
 use Rattle.made_volumes.proofs.Appends.{told_mark, not_marked}
+use Rattle.qic_base.specs.Sink as sinks
+use Rattle.qic_base.specs.Tape as tapes
+use Rattle.qic_base.specs.TapeCalls as tape_calls
+use Rattle.volume_store.specs.declared.fault.StoreFault.TheVariants as store
+use Rattle.made_volumes.specs.declared.fault.MakeFault.TheVariants as fault
 
 -- ---- a worn sector
 
@@ -62,7 +62,7 @@ module _ {T : Type 0} (t : tapes.Meaning T) (seed : ℕ) (words : List ℕ) (ent
         Cut t no_source no_sink (around a tt) (around b tt) acts TapeFails)
         (λ c acts answer runs.
         let does = done_of seed c words entries (WearSector segment sector) acts answer runs in
-        subst (λ (zs : List Act). Cut t no_source no_sink (around a tt) (around b tt) zs TapeFails) (sym does.does) (wear_cut broke));
+        subst (λ (zs : List Act). Cut t no_source no_sink (around a tt) (around b tt) zs TapeFails) (sym does.0) (wear_cut broke));
     acts = worn;
     cut = wear_cut broke;
   }
@@ -106,7 +106,7 @@ module _ {T K : Type 0} (t : tapes.Meaning T) (k : sinks.Meaning K) (seed : ℕ)
       Cut t no_source k (around a x) (around b y) acts failing)
       (λ c unlocked known acts answer runs. elim (done_of seed c words entries ScrubAll acts answer runs) [
         | inl refused ↦ absurd (let same : true ≡ false = sym refused.mark ∙ unlocked in cc)
-        | inr done ↦ known acts done.1.does
+        | inr done ↦ known acts done.1.0
       ]) (told_mark t before u fits false free) cut.told
 
   pub scrub_so : ((z : K) → k.took z [] z) → (f : StoreFault) → (f ≡ store.Protected) ↔ (is_protected u.drive.deck ≡ true) → Ends (Err f) →

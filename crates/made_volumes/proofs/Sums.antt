@@ -4,10 +4,6 @@ use Rattle.qic_base.specs.Cartridge.{Cartridge}
 use Rattle.qic_base.specs.Step.{Step, effects}
 use Rattle.qic_base.specs.Stop.{Torn}
 use Rattle.qic_base.specs.declared.sink.SinkFailed.{SinkFailed}
-use Rattle.qic_base.specs.Sink as sinks
-use Rattle.qic_base.specs.SinkCalls as sink_calls
-use Rattle.qic_base.specs.Tape as tapes
-use Rattle.qic_base.specs.TapeCalls as tape_calls
 use Rattle.qic_base.proofs.Steps.{Tells-map}
 use Rattle.qic_base.specs.Acts.{Act, steps_of, text_of, next_steps, Failing, TapeFails, SinkFails, Cut}
 use Rattle.qic_base.specs.Terms.{no_source, around}
@@ -20,15 +16,20 @@ use Rattle.tape_script.specs.Generator.{sum_means}
 use Rattle.command_laws.specs.OutputText.{AreOf}
 use Rattle.volume_output.specs.Output.{GaveVolume, VolumeCut}
 use Rattle.volume_store.specs.declared.fault.StoreFault.{StoreFault}
-use Rattle.volume_store.specs.declared.fault.StoreFault.TheVariants as store
 use Rattle.volume_store.specs.Mounting.{StoreView}
 use Rattle.volume_store.specs.Restoring.{RestoreEnds}
-use Rattle.made_volumes.specs.declared.fault.MakeFault.TheVariants as fault
 use Rattle.made_volumes.specs.Faults.{is_of_step, fault_of, printed}
-use Rattle.command_spec.specs.Make.{SumVolume, Answer, Done, StepDoes, Runs, IsSummed, sum_line, sum_acts, ending_answer, MaySum}
+use Rattle.command_spec.specs.Make.{SumVolume, Answer, Done, StepDoes, Runs, sum_line, sum_acts, ending_answer, MaySum}
+use Rattle.command_laws.specs.CommandTerms.{IsSummed}
 use Rattle.made_volumes.specs.Runs.{HasRun, RunEnds, NeverFull}
 use Rattle.command_laws.proofs.MadeMachineLaws.{run_of, done_of, does_one}
 use Rattle.command_laws.proofs.MadeMayLaws.{may_of}
+use Rattle.qic_base.specs.Sink as sinks
+use Rattle.qic_base.specs.SinkCalls as sink_calls
+use Rattle.qic_base.specs.Tape as tapes
+use Rattle.qic_base.specs.TapeCalls as tape_calls
+use Rattle.volume_store.specs.declared.fault.StoreFault.TheVariants as store
+use Rattle.made_volumes.specs.declared.fault.MakeFault.TheVariants as fault
 
 -- ---- no step
 
@@ -222,11 +223,11 @@ module _ {T K : Type 0} (t : tapes.Meaning T) (k : sinks.Meaning K) (seed : ℕ)
       by_does c known acts answer summed =
           let there : Some summed.entry ≡ Some e = sym summed.numbered ∙ numbered in
           let entry : summed.entry ≡ e = cc in
-          let restores : Restores c words (pieces words e) summed.given summed.ending =
-          subst (λ (f : Entry). Restores c words (pieces words f) summed.given summed.ending) entry summed.restores in
-          no_step_cut summed.given acts (restores_in_no_step c words (pieces words e) summed.given summed.ending restores)
-          (ap next_steps summed.does ∙ sum_next number (volume_length words summed.entry) (text_of summed.given) summed.ending)
-          (known summed.given summed.ending restores)
+          let restores : Restores c words (pieces words e) summed.acts summed.ending =
+          subst (λ (f : Entry). Restores c words (pieces words f) summed.acts summed.ending) entry summed.restores in
+          no_step_cut summed.acts acts (restores_in_no_step c words (pieces words e) summed.acts summed.ending restores)
+          (ap next_steps summed.is.0 ∙ sum_next number (volume_length words summed.entry) (text_of summed.acts) summed.ending)
+          (known summed.acts summed.ending restores)
 
   -- the refusals and the fault of the call that restores
   pub restore_so : 1 ≤ number → number ≤ length entries → (f : StoreFault) → RestoreEnds t sum_means before number false (around a 0) (around b total) (Err f) →

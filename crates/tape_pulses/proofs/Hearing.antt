@@ -3,21 +3,23 @@ use Rattle.std.proofs.Common.{◌≡◌, ℕ, zero, suc, Bool, ◌<◌, ◌≤�
 use Rattle.std.specs.Option.{option_map}
 use Rattle.std.proofs.lemmas.List.{nil_from_length}
 use Rattle.qic_base.specs.Cause.{Rose}
-use Rattle.qic_base.specs.Sink as sinks
-use Rattle.qic_base.specs.SinkCalls as sink_calls
-use Rattle.qic_base.specs.Source as sources
-use Rattle.qic_base.specs.Tape as tapes
 use Rattle.qic_base.proofs.Steps.{Done-nothing}
 use Rattle.qic_base.proofs.Joins.{sink_cut_one}
 use Rattle.qic_base.specs.Acts.{Act, Outside, next_steps, TapeFails, SourceFails, SinkFails, Went, TapeCut, Cut}
 use Rattle.drive_spec.specs.Record.{Record}
-use Rattle.command_spec.specs.Input.{IsPulse, IsTrain}
+use Rattle.command_spec.specs.Input.{IsPulse}
+use Rattle.command_laws.specs.CommandTerms.{IsTrain}
 use Rattle.qic_base.specs.SourceCalls.{Gave}
-use Rattle.command_laws.proofs.TextInputs as inputs
 use Rattle.tape_script.proofs.Lined.{IsLined-one_newline}
-use Rattle.command_spec.specs.Pulses.{pulsed_row, train_changes, train_act, level_line, train_line}
+use Rattle.command_spec.specs.Pulses.{pulsed_row, train_changes, train_line}
+use Rattle.command_laws.specs.PulseRuns.{train_act, level_line}
 use Rattle.tape_pulses.specs.Lines.{Heard, GaveNoTrain}
 use Rattle.command_laws.proofs.PulseTrains.{pulse_line, pulse_short}
+use Rattle.qic_base.specs.Sink as sinks
+use Rattle.qic_base.specs.SinkCalls as sink_calls
+use Rattle.qic_base.specs.Source as sources
+use Rattle.qic_base.specs.Tape as tapes
+use Rattle.command_laws.proofs.TextInputs as inputs
 
 -- the source gave the text of a train, of so many bytes
 abbrev GaveTrain : {S : Type 0} (s : sources.Meaning S) (old new : S) (train n : ℕ) → Type 0

@@ -2,7 +2,8 @@
 
 ghost use Rattle.std.specs.Prelude.{◌≡◌, OnOk};
 ghost use Rattle.qic_base.specs.TapeCalls.{Does};
-ghost use Rattle.command_spec.specs.Pulses.{pulsed_row, train_changes, level_line};
+ghost use Rattle.command_spec.specs.Pulses.{pulsed_row, train_changes};
+ghost use Rattle.command_laws.specs.PulseRuns.{level_line};
 
 use drive_states::Unit;
 use qic_base::{Tape, TapeFailed};

@@ -3,7 +3,8 @@ use Rattle.std.proofs.Common.{◌≡◌, Bool, true, false, List, [], ◌∷◌,
 use Rattle.command_laws.proofs.OutputJoining.{EndsAt-more}
 use Rattle.command_laws.proofs.RestoreEndings.{restores_is_function}
 use Rattle.command_laws.specs.OutputText.{printed, AreOf}
-use Rattle.command_spec.specs.Restore.{Piece, Restored, IsRead, GivingEnd, PieceEnds, LostIn, MismatchIn, Restores, EndsAt}
+use Rattle.command_spec.specs.Restore.{Piece, Restored, IsRead, GivingEnd, PieceEnds, LostIn, MismatchIn, Restores}
+use Rattle.command_laws.specs.CommandTerms.{EndsAt}
 use Rattle.qic_base.proofs.Joins.{nothing_went, went_both, went_then_cut, cut_is_longer}
 use Rattle.qic_base.proofs.Steps.{Tells-map, Tells-read}
 use Rattle.qic_base.proofs.Writing.{TakesBoth}

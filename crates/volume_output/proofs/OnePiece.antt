@@ -13,7 +13,8 @@ use Rattle.cartridge_laws.proofs.Segments.{count_of_cells}
 use Rattle.cartridge_spec.specs.Appending.{bytes_in}
 use Rattle.segment_io.specs.Reading.{HasSolved}
 use Rattle.segment_io.proofs.Going.{tells_always}
-use Rattle.command_spec.specs.Restore.{Piece, GivingEnd, Restored, LostIn, MismatchIn, IsRead, PieceEnds, Restores, act_of}
+use Rattle.command_spec.specs.Restore.{Piece, GivingEnd, Restored, LostIn, MismatchIn, IsRead, PieceEnds, Restores}
+use Rattle.command_laws.specs.CommandTerms.{act_of}
 use Rattle.command_laws.proofs.RestoreEndings.{restores_is_function}
 use Rattle.command_laws.specs.OutputText.{printed}
 use Rattle.volume_output.specs.Output.{GaveVolume, VolumeCut}

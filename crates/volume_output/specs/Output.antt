@@ -1,7 +1,8 @@
 -- How the bytes of a volume went from its segments to a sink (this project's own).
 use Rattle.std.specs.Prelude.{ℕ, Bool, List, length, Result, Ok, Err}
 use Rattle.command_laws.specs.OutputText.{printed, AreOf}
-use Rattle.command_spec.specs.Restore.{Piece, GivingEnd, Restores, EndsAt, Restored, LostIn, MismatchIn}
+use Rattle.command_spec.specs.Restore.{Piece, GivingEnd, Restores, Restored, LostIn, MismatchIn}
+use Rattle.command_laws.specs.CommandTerms.{EndsAt}
 use Rattle.qic_base.specs.Acts.{Act, Outside, Went, Failing, Cut, TapeFails, SinkFails}
 use Rattle.qic_base.specs.Terms.{no_source}
 use Rattle.volume_output.specs.declared.fault.OutputFault.{OutputFault}

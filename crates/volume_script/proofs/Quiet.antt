@@ -5,12 +5,7 @@ use Rattle.std.specs.Prelude.{◌↔◌}
 use Rattle.qic_base.specs.Cartridge.{Cartridge, IsPlace}
 use Rattle.qic_base.specs.declared.sink.SinkFailed.{SinkFailed}
 use Rattle.qic_base.specs.declared.tape.TapeInfo.{TapeInfo}
-use Rattle.qic_base.specs.Sink as sinks
-use Rattle.qic_base.specs.SinkCalls as sink_calls
-use Rattle.qic_base.specs.Source as sources
 use Rattle.qic_base.specs.Step.{Wear}
-use Rattle.qic_base.specs.Tape as tapes
-use Rattle.qic_base.specs.TapeCalls as tape_calls
 use Rattle.qic_base.proofs.Steps.{Tells-map}
 use Rattle.qic_base.proofs.Writing.{TakesBoth}
 use Rattle.qic_base.specs.Acts.{Act, Outside, Failing, TapeFails, SourceFails, SinkFails, Went, Cut}
@@ -21,36 +16,42 @@ use Rattle.cartridge_spec.specs.Volumes.{volume_length}
 use Rattle.drive_spec.specs.Terms.{is_protected}
 use Rattle.drive_spec.specs.Deck.{segments_per_track}
 use Rattle.drive_states.specs.declared.fault.HandFault.{HandFault}
-use Rattle.drive_states.specs.declared.fault.HandFault.TheVariants as hand
 use Rattle.drive_states.specs.Hand.{Wears}
 use Rattle.drive_states.specs.Unit.{UnitView}
 use Rattle.host_driver.specs.Fits.{segments_of}
 use Rattle.command_spec.specs.Restore.{Restored, LostIn, MismatchIn, Restores, framed, pieces, volume_at}
-use Rattle.command_spec.specs.Restore as restoring
 use Rattle.command_spec.specs.Scrub.{Scrubs, counts_of, looked_at}
 use Rattle.segment_io.proofs.Going.{tells_always}
 use Rattle.segment_mending.specs.Mending.{reported}
 use Rattle.segment_mending.specs.declared.report.ScrubReport.{ScrubReport}
 use Rattle.command_spec.specs.declared.line.Line.{Line}
-use Rattle.command_spec.specs.declared.line.Line.TheVariants as line
 use Rattle.command_spec.specs.Input.{promised}
 use Rattle.qic_base.proofs.Giving.{Gave-nothing}
 use Rattle.tape_script.proofs.Rests.{any_rest}
 use Rattle.command_spec.specs.Lines.{list_text, lost_line}
 use Rattle.volume_output.specs.Output.{GaveVolume, VolumeCut}
 use Rattle.volume_store.specs.Scrubbing.{HasMended, MendCut}
-use Rattle.volume_store.specs.declared.fault.StoreFault.TheVariants as store_fault
 use Rattle.volume_store.specs.Mounting.{StoreView, StoreFits}
 use Rattle.volume_store.specs.Restoring.{RestoreEnds}
 use Rattle.volume_store.proofs.Copies.{IsLearnt, told_learnt, tells_two}
-use Rattle.command_spec.specs.declared.refusal.Refusal.TheVariants as why
 use Rattle.volume_script.specs.Items.{ItemDone, ItemCut, ItemEnds, WouldDo}
-use Rattle.command_spec.specs.Script.{refusal_line, restored_line, Did, LineDoes, given_as, reply}
+use Rattle.command_spec.specs.Script.{refusal_line, Did, LineDoes, given_as, reply}
+use Rattle.command_laws.specs.CommandTerms.{restored_line}
 use Rattle.volume_script.specs.Promised.{replied_so}
 use Rattle.command_laws.proofs.ScriptLifting.{out, TakesNone, printed_went, printed_cut, replied_went, replied_cut, rested}
 use Rattle.command_laws.proofs.ScriptPlain.{given, line_one}
 use Rattle.volume_script.proofs.Plain.{would_without}
 use Rattle.command_laws.proofs.ScriptPlaces.{place_or_not}
+use Rattle.qic_base.specs.Sink as sinks
+use Rattle.qic_base.specs.SinkCalls as sink_calls
+use Rattle.qic_base.specs.Source as sources
+use Rattle.qic_base.specs.Tape as tapes
+use Rattle.qic_base.specs.TapeCalls as tape_calls
+use Rattle.drive_states.specs.declared.fault.HandFault.TheVariants as hand
+use Rattle.command_spec.specs.Restore as restoring
+use Rattle.command_spec.specs.declared.line.Line.TheVariants as line
+use Rattle.volume_store.specs.declared.fault.StoreFault.TheVariants as store_fault
+use Rattle.command_spec.specs.declared.refusal.Refusal.TheVariants as why
 
 -- the mark that is told is the one that the drive knows
 pub mark_told : {T : Type 0} (t : tapes.Meaning T) (store : StoreView) (u : UnitView T) → StoreFits t store u → (mark : Bool) → is_protected u.drive.deck ≡ mark →

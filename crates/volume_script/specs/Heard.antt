@@ -1,10 +1,6 @@
 -- What one line of the input did to the outside, with what follows it (this project's own).
 use Rattle.std.specs.Prelude.{◌≡◌, ◌⊎◌, ℕ, ◌<◌, ◌≤◌, List, [], ◌++◌, length, Option, Some, None, IfSome, Result, Ok, Err}
 use Rattle.qic_base.specs.Cartridge.{Cartridge}
-use Rattle.qic_base.specs.Sink as sinks
-use Rattle.qic_base.specs.Source as sources
-use Rattle.qic_base.specs.Tape as tapes
-use Rattle.qic_base.specs.TapeCalls as tape_calls
 use Rattle.qic_base.specs.Acts.{Act, Outside, Failing, TapeFails, SourceFails, SinkFails, Went, Cut}
 use Rattle.cartridge_spec.specs.Table.{Entry}
 use Rattle.command_spec.specs.declared.line.Line.{Line}
@@ -13,9 +9,14 @@ use Rattle.qic_base.specs.SourceCalls.{Gave, GaveSome, HasEnded}
 use Rattle.tape_script.specs.Reading.{BeginsWithNo, GaveEnd}
 use Rattle.volume_store.specs.Mounting.{StoreView}
 use Rattle.volume_script.specs.declared.fault.ScriptFault.{ScriptFault}
-use Rattle.volume_script.specs.declared.fault.ScriptFault.TheVariants as fault
 use Rattle.command_laws.specs.ScriptItems.{EarlyDoes}
-use Rattle.command_spec.specs.Script.{Did, ItemDoes, EndDoes}
+use Rattle.command_spec.specs.Script.{Did, EndDoes}
+use Rattle.command_laws.specs.CommandTerms.{ItemDoes}
+use Rattle.qic_base.specs.Sink as sinks
+use Rattle.qic_base.specs.Source as sources
+use Rattle.qic_base.specs.Tape as tapes
+use Rattle.qic_base.specs.TapeCalls as tape_calls
+use Rattle.volume_script.specs.declared.fault.ScriptFault.TheVariants as fault
 
 -- no item has more bytes: its line has a u8 of them, and it promises a u32
 abbrev pub longest : ℕ

@@ -23,7 +23,8 @@ use Rattle.command_laws.proofs.StoreAgain.{table_one}
 use Rattle.command_laws.proofs.StoreBehind.{input_behind, settled_behind}
 use Rattle.command_laws.proofs.StoreEnding.{took_fits, list_more}
 use Rattle.command_laws.proofs.StoreSettled.{table_sectors, table_size}
-use Rattle.command_spec.specs.Append.{Taking, Fits, TooLong, TooShort, taking, Kept, room_in, free_in, bytes_taken, entry_for, input_writes, entry_acts, append_acts, silently}
+use Rattle.command_spec.specs.Append.{Taking, Fits, TooLong, TooShort, taking, Kept, room_in, input_writes, entry_acts, append_acts}
+use Rattle.command_laws.specs.CommandTerms.{entry_for, free_in, bytes_taken, silently}
 use Rattle.gf256_qic.proofs.Parities.{parity_block}
 use Rattle.qic_base.proofs.Giving.{Gave-nothing}
 use Rattle.qic_base.proofs.Joins.{went_both, went_then_cut, cut_is_longer}

@@ -32,7 +32,8 @@ use Rattle.host_driver.specs.Fits.{Fits, AgreesWithTape, segments_of}
 use Rattle.cartridge_laws.proofs.MountWhole.{table_is_area}
 use Rattle.volume_store.specs.declared.fault.StoreFault.{StoreFault}
 use Rattle.volume_store.specs.Again.{IsSettledAgain, IsAdded, SettlesAgain, AddsEntry, entry_writes}
-use Rattle.command_spec.specs.Append.{kept_in, input_writes}
+use Rattle.command_laws.specs.CommandTerms.{kept_in}
+use Rattle.command_spec.specs.Append.{input_writes}
 use Rattle.volume_store.specs.Appending.{InputIs}
 use Rattle.volume_store.specs.Mounting.{StoreView, StoreFits}
 use Rattle.command_laws.proofs.StoreAgain.{table_one}

@@ -21,7 +21,8 @@ use Rattle.volume_store.specs.declared.appended.Appended.{Appended}
 use Rattle.volume_store.specs.declared.fault.StoreFault.{StoreFault}
 use Rattle.volume_store.specs.Again.{IsSettledAgain, IsAdded, IsOfReading, SettlesAgain, AddsEntry}
 use Rattle.volume_store.specs.Appending.{InputIs, InputWritten, HasAppended, AppendEnds}
-use Rattle.command_spec.specs.Append.{kept_in, input_writes}
+use Rattle.command_laws.specs.CommandTerms.{kept_in}
+use Rattle.command_spec.specs.Append.{input_writes}
 use Rattle.volume_store.specs.Mounting.{StoreView, StoreFits}
 use Rattle.command_laws.proofs.StoreBehind.{input_behind}
 use Rattle.volume_store.proofs.Copies.{IsLearnt, told_learnt, tells_two}

@@ -12,7 +12,8 @@ use Rattle.cartridge_laws.specs.Terms.{last_end}
 use Rattle.cartridge_spec.specs.Table.{Entry}
 use Rattle.cartridge_spec.specs.Volumes.{carrying}
 use Rattle.command_laws.proofs.StoreTaking.{both_true}
-use Rattle.command_spec.specs.Append.{Fits, TooLong, taking, has_promised_room, TooShort, volume_acts, filled_acts, input_acts, Taking, bytes_taken, kept_in, input_writes}
+use Rattle.command_spec.specs.Append.{Fits, TooLong, taking, has_promised_room, TooShort, volume_acts, filled_acts, input_acts, Taking, input_writes}
+use Rattle.command_laws.specs.CommandTerms.{kept_in, bytes_taken}
 use Rattle.qic_base.proofs.Giving.{Gave-nothing, Gave-Gave, Gave-end}
 use Rattle.qic_base.proofs.Steps.{Done-nothing, Rose-after}
 use Rattle.qic_base.specs.Acts.{Act, Outside, Failing, Went, Cut, SourceFails}

@@ -5,7 +5,8 @@ use Rattle.cartridge_spec.specs.HeaderAndTable.{TableIs, table_cells}
 use Rattle.cartridge_spec.specs.Says.{LostSectors, ByCode, TableSays}
 use Rattle.cartridge_spec.specs.Settling.{settling_steps}
 use Rattle.cartridge_spec.specs.Table.{Entry, Shows}
-use Rattle.command_spec.specs.Append.{Taking, taking, bytes_taken, room_in, input_writes, kept_in, entry_for, Fits, TooLong, TooShort, Kept, append_acts, silently}
+use Rattle.command_spec.specs.Append.{Taking, taking, room_in, input_writes, Fits, TooLong, TooShort, Kept, append_acts}
+use Rattle.command_laws.specs.CommandTerms.{kept_in, entry_for, bytes_taken, silently}
 use Rattle.qic_base.specs.Acts.{Outside, Went, Failing, Cut, TapeFails, SourceFails, Act}
 use Rattle.qic_base.specs.Terms.{no_sink}
 use Rattle.qic_base.specs.Cartridge.{Cartridge}
