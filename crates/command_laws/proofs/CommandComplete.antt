@@ -18,14 +18,12 @@ use Rattle.command_spec.specs.Input.{Ending, AtEnd, AtStop, IsPulse, IsPulses, I
 use Rattle.command_spec.specs.Commands.Lose.{LoseOutcome}
 use Rattle.command_spec.specs.Make.{Making, MakeOutcome, make_status}
 use Rattle.command_spec.specs.Commands.MakeCommand.{CanMake}
-use Rattle.command_spec.specs.Outcome.{Going, CommandOutcome, Opened, OpenOutcome, WritableOutcome, HasPlace, Printing, Shows}
+use Rattle.command_spec.specs.Outcome.{Going, CommandOutcome, Opened, OpenOutcome, WritableOutcome, HasPlace, Shows}
+use Rattle.command_laws.specs.Terms.{Printing, IsOfTrains, IsOfLines, Mends, ScrubOutcome}
 use Rattle.command_spec.specs.Pulses.{SentOutcome, sent_status}
-use Rattle.command_spec.specs.Commands.PulsesCommand.{IsOfTrains}
 use Rattle.command_spec.specs.Restore.{RestoreOutcome}
 use Rattle.command_spec.specs.Commands.RestoreCommand.{CanGive}
 use Rattle.command_spec.specs.Script.{Scripting, ScriptOutcome, script_status}
-use Rattle.command_spec.specs.Commands.ScriptCommand.{IsOfLines}
-use Rattle.command_spec.specs.Scrub.{Mends, ScrubOutcome}
 use Rattle.command_spec.specs.declared.status.Status.{Status}
 use Rattle.qic_base.specs.Cartridge.{Cartridge, view_at, IsCartridge}
 use Rattle.qic_base.specs.Tape.{spoil_answer}

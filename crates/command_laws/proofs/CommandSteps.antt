@@ -23,11 +23,12 @@ use Rattle.command_spec.specs.Input.{Item, Ending, AtEnd, AtStop, AtFault}
 use Rattle.command_spec.specs.Lines.{reply_behind}
 use Rattle.command_spec.specs.Commands.Lose.{LoseOutcome}
 use Rattle.command_spec.specs.Make.{Making, MakeStep, AppendMade, WearSector, ScrubAll, SumVolume, StepDoes, Runs, Answer, after_item, made_acts, made_name, making}
-use Rattle.command_spec.specs.Outcome.{CommandOutcome, Going, Opened, OpenOutcome, WritableOutcome, Printing, Shows, settling_act}
+use Rattle.command_spec.specs.Outcome.{CommandOutcome, Going, Opened, OpenOutcome, WritableOutcome, Shows, settling_act}
+use Rattle.command_laws.specs.Terms.{Printing, Mends}
 use Rattle.command_spec.specs.Pulses.{SentOutcome, info_of, PulseRun, train_acts, train_changes, pulsed_row}
 use Rattle.command_spec.specs.Restore.{Gives, pieces, framed, GivingEnd, Restored, LostIn, MismatchIn}
 use Rattle.command_spec.specs.Script.{reply, refusal_line, restored_line, Scripting, ScriptRun, Did, Meeting, Refuses, Finds, acts_on, append_did, taken_as, given_as, LineDoes, acts_of, ItemsDo, EndDoes, cartridge_behind, entries_behind, place_behind}
-use Rattle.command_spec.specs.Scrub.{Mends, Scrubs, Looked, looked_at, reads, steps_in, mending_writes, looking_acts}
+use Rattle.command_spec.specs.Scrub.{Scrubs, Looked, looked_at, reads, steps_in, mending_writes, looking_acts}
 use Rattle.command_spec.specs.declared.line.Line.{Line}
 use Rattle.drive_spec.specs.Effects.{ticked}
 use Rattle.drive_spec.specs.Record.{Record, power_on}

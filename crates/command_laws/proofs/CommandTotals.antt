@@ -21,11 +21,11 @@ use Rattle.command_spec.specs.Commands.Defect.{DefectOutcome}
 use Rattle.command_spec.specs.Commands.Format.{FormatOutcome}
 use Rattle.command_spec.specs.Commands.Lose.{LoseOutcome}
 use Rattle.command_spec.specs.Make.{Making}
-use Rattle.command_spec.specs.Outcome.{CommandOutcome, HasPlace, Going, Opened, OpenOutcome, WritableOutcome, Printing, Shows}
+use Rattle.command_spec.specs.Outcome.{CommandOutcome, HasPlace, Going, Opened, OpenOutcome, WritableOutcome, Shows}
+use Rattle.command_laws.specs.Terms.{Printing, Mends}
 use Rattle.command_spec.specs.Pulses.{sent, info_of, SentOutcome}
 use Rattle.command_spec.specs.Restore.{Gives, volume_at, pieces}
 use Rattle.command_spec.specs.Script.{Scripting}
-use Rattle.command_spec.specs.Scrub.{Mends}
 use Rattle.qic_base.specs.Cartridge.{Cartridge, view_at, IsCartridge}
 use Rattle.qic_base.specs.Tape.{spoil_answer}
 use Rattle.cartridge_spec.specs.Mounting as mounting

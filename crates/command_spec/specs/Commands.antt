@@ -17,7 +17,7 @@ pub mod Upgrade
 use Rattle.std.specs.Prelude.{ℕ, List}
 use Rattle.command_spec.specs.Commands.AppendCommand.{append_command}
 use Rattle.command_spec.specs.Command.{Command}
-use Rattle.command_spec.specs.CommandWords.{Part, HasForm}
+use Rattle.command_spec.specs.CommandWords.{HasForm}
 use Rattle.command_spec.specs.Commands.DeepScrubCommand.{deep_scrub_command}
 use Rattle.command_spec.specs.Commands.Defect.{defect_command}
 use Rattle.command_spec.specs.Commands.Format.{format_command}
@@ -55,12 +55,9 @@ command_of words.Upgrade = upgrade_command
 
 -- ---- words and traits
 
-abbrev pub word_forms : Words → List (List Part)
-word_forms command = (command_of command).forms
-
 -- the words are those of the command
 abbrev pub IsCommand : List (List ℕ) → Words → Type 0
-IsCommand words command = HasForm words (word_forms command)
+IsCommand words command = HasForm words (command_of command).forms
 
 abbrev pub traits_of : Words → Traits
 traits_of command = (command_of command).traits

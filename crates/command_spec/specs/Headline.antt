@@ -70,6 +70,14 @@ WordsLeave told words held left =
 
 -- ---- runs one after the other
 
+-- what was told of stops before is told of them still, and time has not run backwards
+pub record StopsGoOn {T : Type 0} (t : tapes.Meaning T) (old new : T) : Type 0 where
+  pub telling : t.tells_stops new ≡ t.tells_stops old
+  pub clock : t.moment old ≤ t.moment new
+  pub kept : (time : ℕ) (left : Option Cartridge) → time ≤ t.moment old → t.left_since old time left → t.left_since new time left
+  pub parted : (time later : ℕ) (left : Option Cartridge) → time ≤ later → later ≤ t.moment old →
+      t.left_since new time left → t.left_since old time left ⊎ t.left_since new later left
+
 -- the clauses of two runs over the same objects can be put together
 pub record Joins {T S K : Type 0} (t : tapes.Meaning T) (s : sources.Meaning S) (k : sinks.Meaning K) (old new : Outside T S K) : Type 0 where
   -- no count has fallen
@@ -78,9 +86,4 @@ pub record Joins {T S K : Type 0} (t : tapes.Meaning T) (s : sources.Meaning S) 
   pub tape : is_some (t.told new.tape) ≡ is_some (t.told old.tape)
   pub source : is_some (s.left new.source) ≡ is_some (s.left old.source)
   pub sink : is_some (k.written new.sink) ≡ is_some (k.written old.sink)
-  pub telling : t.tells_stops new.tape ≡ t.tells_stops old.tape
-  -- time has not run backwards, and what was told of stops before is told of them still
-  pub clock : t.moment old.tape ≤ t.moment new.tape
-  pub kept : (time : ℕ) (left : Option Cartridge) → time ≤ t.moment old.tape → t.left_since old.tape time left → t.left_since new.tape time left
-  pub parted : (time later : ℕ) (left : Option Cartridge) → time ≤ later → later ≤ t.moment old.tape →
-      t.left_since new.tape time left → t.left_since old.tape time left ⊎ t.left_since new.tape later left
+  pub stops : StopsGoOn t old.tape new.tape

@@ -1,6 +1,6 @@
 -- What a cartridge is mounted with when a run is over that adds volumes, whether it stands for a plain cartridge or not (this
 -- project's own).
-use Rattle.std.specs.Prelude.{◌≡◌, ℕ, List, IsSomeAnd, ◌∷◌, ◌++◌, Option, ◌≢◌, ◌⊎◌, ◌≤◌, length, false}
+use Rattle.std.specs.Prelude.{◌≡◌, ℕ, List, IsSomeAnd, [], ◌∷◌, ◌++◌, Option, ◌≢◌, ◌⊎◌, ◌≤◌, length, false}
 use Rattle.cartridge_spec.specs.Header.{Header}
 use Rattle.cartridge_spec.specs.Mounting.{Lists, settled}
 use Rattle.cartridge_spec.specs.Table.{Entry}

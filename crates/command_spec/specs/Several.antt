@@ -1,6 +1,6 @@
 -- What runs of several items leave of the plain cartridge that a cartridge stands for: generated runs, and scripts (this project's
 -- own).
-use Rattle.std.specs.Prelude.{ℕ, List, ◌≡◌, ◌≤◌, Option, Some, IsSomeAnd, ◌≢◌, ◌⊎◌, ◌<◌, All, length, take, false}
+use Rattle.std.specs.Prelude.{ℕ, List, ◌≡◌, ◌≤◌, Option, Some, IsSomeAnd, ◌≢◌, ◌⊎◌, [], ◌<◌, All, length, take, false}
 use Rattle.cartridge_spec.specs.Appending.{with_all}
 use Rattle.cartridge_spec.specs.Mounting.{IsTableLive, settled}
 use Rattle.cartridge_spec.specs.Volumes.{Plain, Stands, entries_of}

@@ -9,9 +9,8 @@ use Rattle.command_spec.specs.Lines.{protected_line, lost_line, defect_line, upg
 use Rattle.command_spec.specs.Commands.Lose.{LoseOutcome}
 use Rattle.command_spec.specs.Machine.{Yields, CommandPrints}
 use Rattle.command_spec.specs.Outcome.{CommandOutcome, refused, refused_behind, acted, carried_out}
-use Rattle.command_spec.specs.Commands.Protect.{ProtectOutcome}
+use Rattle.command_laws.specs.Terms.{ProtectOutcome, UpgradeOutcome}
 use Rattle.command_spec.specs.Runs.{InputLeft, IsOfBytes, may_come_from, IsCutOff, EndsBlind}
-use Rattle.command_spec.specs.Commands.Upgrade.{UpgradeOutcome}
 use Rattle.command_spec.specs.declared.status.Status.{Status}
 use Rattle.command_spec.specs.declared.words.Words.{Words}
 use Rattle.qic_base.proofs.Joins.{broke_first}

@@ -9,10 +9,8 @@ use Rattle.qic_base.specs.Step.{Step as TapeStep}
 use Rattle.qic_base.specs.Tape as tapes
 use Rattle.qic_base.proofs.Steps.{Done-Done, Done-Broke}
 use Rattle.cartridge_spec.specs.Shape.{marked_sectors}
-use Rattle.cartridge_spec.specs.Formatting.{MarksDefects}
-use Rattle.cartridge_spec.specs.Formatting.{clearing_steps, copy_writes, format_steps, IsFirstDefectInFront, HasNoDefectInFront}
+use Rattle.cartridge_spec.specs.Formatting.{MarksDefects, clearing_steps, copy_writes, format_steps, IsFirstDefectInFront, HasNoDefectInFront, IsFreshArea, IsFreshWith}
 use Rattle.cartridge_spec.specs.Says.{with_parity}
-use Rattle.cartridge_spec.specs.Formatting.{IsFreshArea, IsFreshWith}
 use Rattle.cartridge_laws.proofs.FreshFront.{first_defect_is_none}
 use Rattle.cartridge_laws.proofs.FreshMarks.{fresh_area_is_one}
 use Rattle.drive_states.specs.Unit.{UnitView}
@@ -27,7 +25,8 @@ use Rattle.command_spec.specs.declared.status.Status.TheVariants as status
 use Rattle.command_spec.specs.Lines.{formatted_line}
 use Rattle.command_spec.specs.Outcome.{CommandOutcome, refused}
 use Rattle.tape_cmd.specs.Outcome.{first_steps}
-use Rattle.command_spec.specs.Commands.Format.{cleared, formatted, FormatOutcome}
+use Rattle.command_laws.specs.Terms.{cleared, formatted}
+use Rattle.command_spec.specs.Commands.Format.{FormatOutcome}
 use Rattle.tape_cmd.specs.Format.{format_status}
 use Rattle.tape_cmd.specs.Opening.{StartFails}
 use Rattle.store_opening.specs.Opening.{HasStarted}

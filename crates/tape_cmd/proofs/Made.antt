@@ -6,8 +6,7 @@ use Rattle.qic_base.specs.Sink as sinks
 use Rattle.qic_base.specs.Step.{Step as TapeStep}
 use Rattle.qic_base.specs.Tape as tapes
 use Rattle.qic_base.proofs.Writing.{TakesBoth}
-use Rattle.qic_base.specs.Acts.{Act, text_of, Failing, TapeFails, SourceFails, SinkFails, Cut}
-use Rattle.qic_base.specs.Acts.{no_source, around}
+use Rattle.qic_base.specs.Acts.{Act, text_of, Failing, TapeFails, SourceFails, SinkFails, Cut, no_source, around}
 use Rattle.cartridge_spec.specs.Mounting as mounting
 use Rattle.cartridge_spec.specs.Mounting.{Mounting}
 use Rattle.cartridge_spec.specs.Table.{Entry}
@@ -20,22 +19,19 @@ use Rattle.volume_store.specs.Mounting.{StoreView}
 use Rattle.command_laws.proofs.StoreTaking.{both_true}
 use Rattle.made_volumes.specs.declared.fault.MakeFault.{MakeFault}
 use Rattle.made_volumes.specs.declared.fault.MakeFault.TheVariants as fault
-use Rattle.command_spec.specs.Make.{MakeStep, AppendMade, WearSector, ScrubAll, SumVolume, after_item, making}
+use Rattle.command_spec.specs.Make.{MakeStep, AppendMade, WearSector, ScrubAll, SumVolume, after_item, making, Answer, Makes, made_answer, MayDo, MayRun, Making, make_status}
 use Rattle.command_spec.specs.Make as made
-use Rattle.command_spec.specs.Make.{Answer, Makes, made_answer}
-use Rattle.command_spec.specs.Make.{MayDo, MayRun}
 use Rattle.made_volumes.specs.Runs.{HasRun, MakeEnds, RunCut}
 use Rattle.command_spec.specs.declared.status.Status.{Status}
 use Rattle.command_spec.specs.declared.status.Status.TheVariants as status
-use Rattle.command_spec.specs.Make.{Making, make_status}
 use Rattle.tape_cmd.specs.Make.{run_status}
 use Rattle.command_spec.specs.Machine.{RefusedPrints}
-use Rattle.command_spec.specs.Outcome.{Going, Opened, OpenOutcome, WritableOutcome}
+use Rattle.command_spec.specs.Outcome.{Going, Opened, OpenOutcome, WritableOutcome, CommandOutcome}
 use Rattle.tape_cmd.specs.Opening.{IsUnlocked, WritableEnds, is_opening}
 use Rattle.store_opening.specs.Opening.{IsOpened, HasOpened}
-use Rattle.command_spec.specs.Outcome.{CommandOutcome}
 use Rattle.tape_cmd.specs.Outcome.{first_steps}
-use Rattle.command_spec.specs.Runs.{EndsBlind, IsCutOff, Prints, fault_of, may_come_from}
+use Rattle.command_spec.specs.Runs.{EndsBlind, IsCutOff, fault_of, may_come_from}
+use Rattle.command_laws.specs.Terms.{Prints}
 use Rattle.tape_cmd.proofs.Endings.{IsBlind, none_taken, turned_down, cut_off, told_map}
 use Rattle.tape_cmd.proofs.Mounted.{Settles, no_outcome, told_both, locked_is, unlocked_refused_is, writable_begins}
 use Rattle.command_laws.proofs.CommandOpened.{quiet}

@@ -18,20 +18,18 @@ use Rattle.command_spec.specs.Input.{Item, IsItem, Ending, AtEnd, AtStop, AtFaul
 use Rattle.command_laws.proofs.TextInputs as inputs
 use Rattle.volume_script.specs.declared.fault.ScriptFault.{ScriptFault}
 use Rattle.volume_script.specs.declared.fault.ScriptFault.TheVariants as fault
-use Rattle.command_spec.specs.Script.{end_line}
+use Rattle.command_spec.specs.Script.{end_line, Answer, AllDone, FaultIn, ScriptDoes, script_answer, Scripting, ScriptOutcome, script_status}
 use Rattle.volume_script.specs.Runs as runs
 use Rattle.command_spec.specs.Script as scripts
-use Rattle.command_spec.specs.Script.{Answer, AllDone, FaultIn, ScriptDoes, script_answer}
 use Rattle.volume_store.specs.Mounting.{StoreView}
 use Rattle.command_spec.specs.declared.status.Status.{Status}
 use Rattle.command_spec.specs.declared.status.Status.TheVariants as status
-use Rattle.command_spec.specs.Outcome.{Opened}
+use Rattle.command_spec.specs.Outcome.{Opened, CommandOutcome, refused}
 use Rattle.tape_cmd.specs.Opening.{OpeningEnds, is_opening}
 use Rattle.store_opening.specs.Opening.{IsOpened, HasOpened}
-use Rattle.command_spec.specs.Outcome.{CommandOutcome, refused}
 use Rattle.tape_cmd.specs.Outcome.{first_steps}
-use Rattle.command_spec.specs.Runs.{CommandEnds, InputLeft, IsCutOff, NamesFault, Prints, fault_of, may_come_from}
-use Rattle.command_spec.specs.Script.{Scripting, ScriptOutcome, script_status}
+use Rattle.command_spec.specs.Runs.{CommandEnds, InputLeft, IsCutOff, NamesFault, fault_of, may_come_from}
+use Rattle.command_laws.specs.Terms.{Prints}
 use Rattle.tape_cmd.specs.Script.{run_status}
 use Rattle.tape_cmd.proofs.Endings.{told_map}
 use Rattle.tape_cmd.proofs.Mounted.{Settles, no_outcome, begins_is, refused_is}

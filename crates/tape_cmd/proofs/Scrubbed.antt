@@ -5,8 +5,7 @@ use Rattle.qic_base.specs.Sink as sinks
 use Rattle.qic_base.specs.Step.{Step as TapeStep}
 use Rattle.qic_base.specs.Tape as tapes
 use Rattle.qic_base.proofs.Writing.{TakesBoth}
-use Rattle.qic_base.specs.Acts.{Act, Failing, TapeFails, SourceFails, SinkFails, Cut, Went, text_of}
-use Rattle.qic_base.specs.Acts.{no_source, around}
+use Rattle.qic_base.specs.Acts.{Act, Failing, TapeFails, SourceFails, SinkFails, Cut, Went, text_of, no_source, around}
 use Rattle.cartridge_spec.specs.Header.{Header}
 use Rattle.cartridge_spec.specs.Mounting as mounting
 use Rattle.cartridge_spec.specs.Mounting.{Mounting, settled}
@@ -17,7 +16,8 @@ use Rattle.cartridge_laws.proofs.MountOnce.{mounts_is_function}
 use Rattle.command_spec.specs.Commands.{traits_of}
 use Rattle.command_spec.specs.Machine.{Yields, CommandPrints, FrontPrints}
 use Rattle.command_spec.specs.Scrub.{Counts, IsScrubText, Scrubs, counts_of, looked_at}
-use Rattle.command_spec.specs.ScrubForms.{IsTextFor, MendsDeep, ScrubsAs, counts_for}
+use Rattle.command_spec.specs.ScrubForms.{IsTextFor, ScrubsAs, counts_for}
+use Rattle.command_laws.specs.Terms.{MendsDeep, Mends}
 use Rattle.command_spec.specs.declared.depth.Depth.TheVariants.{Deep}
 use Rattle.segment_mending.specs.Mending.{HasScrubbed, ScrubCut, reported}
 use Rattle.segment_mending.specs.declared.report.ScrubReport.{ScrubReport}
@@ -35,7 +35,6 @@ use Rattle.command_spec.specs.Outcome.{CommandOutcome, Going, Opened, WritableOu
 use Rattle.tape_cmd.specs.Opening.{IsUnlocked, WritableEnds, is_opening, store_status}
 use Rattle.store_opening.specs.Opening.{IsOpened, HasOpened}
 use Rattle.tape_cmd.specs.Outcome.{first_steps}
-use Rattle.command_spec.specs.Scrub.{Mends}
 use Rattle.command_spec.specs.Runs.{EndsBlind, IsCutOff, fault_of, may_come_from}
 use Rattle.tape_cmd.proofs.Endings.{IsBlind, turned_behind, turned_down, cut_off, told_map}
 use Rattle.tape_cmd.proofs.Mounted.{Settles, no_outcome, told_both, locked_is, unlocked_refused_is, writable_begins}

@@ -27,7 +27,8 @@ use Rattle.command_spec.specs.Complete.{CanBeMounted, IsUnprotected, ReadsAs}
 use Rattle.command_spec.specs.Commands.DeepScrubCommand.{deep_scrub_command}
 use Rattle.command_spec.specs.Outcome.{CommandOutcome, settling_act}
 use Rattle.command_spec.specs.Scrub.{Looked, looked_at}
-use Rattle.command_spec.specs.ScrubForms.{DeepScrubOutcome, Finding, MendsDeep, finding_acts, steps_for, without}
+use Rattle.command_laws.specs.Terms.{DeepScrubOutcome, MendsDeep}
+use Rattle.command_spec.specs.ScrubForms.{Finding, finding_acts, steps_for, without}
 use Rattle.command_spec.specs.declared.depth.Depth.TheVariants.{Deep}
 use Rattle.qic_base.specs.Acts.{Act, steps_of}
 use Rattle.qic_base.specs.Cartridge.{Cartridge, IsCartridge}

@@ -15,7 +15,7 @@ use Rattle.command_laws.proofs.TextCommands.{only, one_word, spelled_length, IsR
 use Rattle.command_laws.specs.CommandRecord.{CommandLaws}
 use Rattle.command_spec.specs.CommandWords.{HasForm}
 use Rattle.command_spec.specs.Complete.{IsUnprotected, CanBeMounted}
-use Rattle.command_spec.specs.Scrub.{Mends, ScrubOutcome}
+use Rattle.command_laws.specs.Terms.{Mends, ScrubOutcome}
 use Rattle.command_spec.specs.Commands.ScrubCommand.{scrub_command}
 use Rattle.qic_base.specs.Cartridge.{IsCartridge}
 use Rattle.command_spec.specs.declared.words.Words.{Words}

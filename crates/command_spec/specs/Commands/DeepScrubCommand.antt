@@ -4,23 +4,20 @@ use Rattle.cartridge_spec.specs.Table.{Entry}
 use Rattle.command_spec.specs.Command.{Command, plain_command}
 use Rattle.command_spec.specs.CommandWords.{Word}
 use Rattle.command_spec.specs.Complete.{IsUnprotected, CanBeMounted}
-use Rattle.command_spec.specs.Scrub.{Counts, looked_at, whole_segment}
-use Rattle.command_spec.specs.ScrubForms.{DeepScrubOutcome, IsTextFor, IsWrong}
+use Rattle.command_spec.specs.Outcome.{WritableOutcome}
+use Rattle.command_spec.specs.Scrub.{Counts, looked_at, whole_segment, MendsBy}
+use Rattle.command_spec.specs.ScrubForms.{IsTextFor, IsWrong, ScrubsAs}
 use Rattle.command_spec.specs.Traits.{none_of_them}
 use Rattle.command_spec.specs.declared.depth.Depth.TheVariants.{Deep}
-use Rattle.qic_base.specs.Cartridge.{Cartridge}
 
--- No sector of the first header copy is wrong. Two header copies may hold different headers: where the first doesn't read for a
--- wrong sector, the second is in force, and once that sector is mended the first is. On a cartridge that stands for a plain one
--- no sector of the first is wrong.
-abbrev pub IsFirstCopyRight : Cartridge → Type 0
-IsFirstCopyRight c = (sector : ℕ) (sectors : List (List ℕ)) → ¬ (IsWrong c (whole_segment 0) sector sectors)
-
+-- It keeps the list where no sector of the first header copy is wrong. Two header copies may hold different headers: where the first
+-- doesn't read for a wrong sector, the second is in force, and once that sector is mended the first is. On a cartridge that stands for
+-- a plain one no sector of the first is wrong.
 abbrev pub deep_scrub_command : Command
 deep_scrub_command =
-    record (plain_command ((Word (codes "scrub") ∷ Word (codes "deep") ∷ []) ∷ []) (λ held input outcome. DeepScrubOutcome held outcome)
+    record (plain_command ((Word (codes "scrub") ∷ Word (codes "deep") ∷ []) ∷ []) (λ held input outcome. WritableOutcome (MendsBy (ScrubsAs Deep)) held outcome)
     (λ text. (words : List ℕ) × ((entries : List Entry) × ((counts : Counts) × IsTextFor Deep (looked_at words entries) counts text)))) {
       traits = record none_of_them { goes = true; memory = true; cartridge = true; writable = true; mounts = true };
       needs = λ held input. IsSomeAnd held (λ c. IsUnprotected c × CanBeMounted c);
-      keeps_list = λ c. (c.info.protected ≡ true) ⊎ IsFirstCopyRight c;
+      keeps_list = λ c. (c.info.protected ≡ true) ⊎ ((sector : ℕ) (sectors : List (List ℕ)) → ¬ (IsWrong c (whole_segment 0) sector sectors));
     }

@@ -11,25 +11,17 @@ use Rattle.command_spec.specs.Traits.{none_of_them}
 use Rattle.qic_base.specs.Cartridge.{Cartridge}
 use Rattle.command_spec.specs.declared.status.Status.TheVariants as status
 
--- the segments were formatted, and a segment in front has a defect
-abbrev pub cleared : (n segment : ℕ) → CommandOutcome
-cleared n segment = refused_behind (clearing_steps n) (status.DefectInFront segment)
-
--- all was formatted, and the header copies have these data, with the words of this map
-abbrev pub formatted : (n : ℕ) → (words : List ℕ) → (area : List (List ℕ)) → CommandOutcome
-formatted n words area = acted (format_steps n area) (formatted_line (28 * n) (marked_sectors words))
-
--- formatting with this label and this date word: the map marks just the cartridge's defects, of which none may lie in
--- the segments 0 to 2
+-- Formatting with this label and this date word: the map marks just the cartridge's defects, of which none may lie in the segments
+-- 0 to 2; where one does, the segments were formatted and no header was written.
 abbrev pub FormatOutcome : (label : List ℕ) → (date : ℕ) → Option Cartridge → CommandOutcome → Type 0
 FormatOutcome label date None outcome = outcome ≡ refused status.NoCartridge
 FormatOutcome label date (Some c) outcome =
     ((c.info.protected ≡ true) × (outcome ≡ refused status.Protected))
     ⊎ ((c.info.protected ≡ false)
-    × ((segment : ℕ) × IsFirstDefectInFront c segment × (outcome ≡ cleared c.info.segments_per_track segment)))
+    × ((segment : ℕ) × IsFirstDefectInFront c segment × (outcome ≡ refused_behind (clearing_steps c.info.segments_per_track) (status.DefectInFront segment))))
     ⊎ ((c.info.protected ≡ false) × HasNoDefectInFront c
     × ((words : List ℕ) × ((area : List (List ℕ)) × IsFreshWith c label date words area
-    × (outcome ≡ formatted c.info.segments_per_track words area))))
+    × (outcome ≡ acted (format_steps c.info.segments_per_track area) (formatted_line (28 * c.info.segments_per_track) (marked_sectors words))))))
 
 -- formatting empties a cartridge, and writes its header, but for a protected one
 abbrev pub format_command : (label : List ℕ) → (date : ℕ) → Command
