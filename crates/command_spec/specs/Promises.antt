@@ -29,7 +29,8 @@ use Rattle.command_spec.specs.declared.words.Words.TheVariants as commands
 -- command's text, at another answer but a fault what the command prints with that, and a front of the command's text whatever is
 -- answered.
 pub record PrintsItsText {K : Type 0} (k : sinks.Meaning K) (words : List (List ℕ)) (old new : K) (answer : Status) : Type 0 where
-  pub done : answer ≡ status.Done → (command : Words) × Spells words command × ((text : List ℕ) × CommandPrints command text × k.took old text new)
+  pub done : answer ≡ status.Done →
+      (command : Words) × Spells words command × ((text : List ℕ) × CommandPrints command text × k.took old text new)
   pub refused : (command : Words) → Spells words command → is_fault answer ≡ false → answer ≢ status.Done →
       (text : List ℕ) × RefusedPrints command answer text × k.took old text new
   pub begun : (command : Words) → Spells words command → (text : List ℕ) × FrontPrints command text × k.took old text new
@@ -55,7 +56,8 @@ pub record Promises {T S K : Type 0} (t : tapes.Meaning T) (s : sources.Meaning 
   pub volumes : (plain : Plain) →
       EachLeft t old.tape new.tape (StillHolds words (λ command c. command.keeps_volumes c plain) (λ c. Stands c plain))
   pub lists : (header : Header) (map_words : List ℕ) (table : List (List ℕ)) (entries : List Entry) →
-      EachLeft t old.tape new.tape (StillHolds words (λ command c. command.keeps_list c) (λ c. Mounts c (Mounted header map_words table entries)))
+      EachLeft t old.tape new.tape (StillHolds words (λ command c. command.keeps_list c)
+      (λ c. Mounts c (Mounted header map_words table entries)))
   -- Where each sector of the table's segment takes a write, each does so in each cartridge so left, but for `new`: what the clauses
   -- on `append`, `make` and `script` ask for goes on from run to run.
   pub live : EachLeft t old.tape new.tape (StillHolds words (λ command c. command.keeps_live) IsTableLive)
@@ -76,7 +78,8 @@ pub record Promises {T S K : Type 0} (t : tapes.Meaning T) (s : sources.Meaning 
   -- volume; and once it was carried out, as that. So does what a generated run and a script left, with the first ones of their volumes.
   pub survives : SurvivesOneLoss t (s.left old.source) words old.tape new.tape answer
   -- After Done or a fault of the sink the cartridge of `new`, the empty one of `format`, whose table's segment takes writes, or
-  -- the one with the volume of `append` stands; after a defect in front a bare one; after a refused append, or a fault of its input, what stood.
+  -- the one with the volume of `append` stands; after a defect in front a bare one; after a refused append, or a fault of its input,
+  -- what stood.
   pub changed : IsChanged t (s.left old.source) words old.tape new.tape answer
   -- Behind a generated run all of its volumes are there once it has printed anything, or where the sink failed; behind a script the
   -- appends of all lines whose reply was written whole, and of at most one line more; where each sector of the table's segment takes
@@ -88,8 +91,8 @@ pub record Promises {T S K : Type 0} (t : tapes.Meaning T) (s : sources.Meaning 
       AllAnswered t k new.tape old.sink new.sink answer script
   -- Whether it stands for a plain one or not, a cartridge that was mounted is mounted behind `append`, `make` and `script` with the
   -- old list and the appends that were carried out, but after a fault of the tape.
-  pub listed : (c : Cartridge) (header : Header) (map_words : List ℕ) (table : List (List ℕ)) (entries : List Entry) → t.told old.tape ≡ Some (Some c) →
-      Mounts c (Mounted header map_words table entries) → answer ≢ status.TapeFault →
+  pub listed : (c : Cartridge) (header : Header) (map_words : List ℕ) (table : List (List ℕ)) (entries : List Entry) →
+      t.told old.tape ≡ Some (Some c) → Mounts c (Mounted header map_words table entries) → answer ≢ status.TapeFault →
       ListsAppends t k (s.left old.source) words new.tape old.sink new.sink answer c header map_words table entries
   -- Of a cartridge that stands for a plain one a volume is given back byte for byte.
   pub restores : (number : ℕ) (c : Cartridge) (plain : Plain) (volume : Volume) → Spells words (commands.Restore number) →
@@ -106,8 +109,8 @@ pub record Promises {T S K : Type 0} (t : tapes.Meaning T) (s : sources.Meaning 
   pub no_fault : answer ≡ status.Done → (command : Words) → Spells words command →
       IfSome (s.left old.source) (λ input. (line place : ℕ) → ¬ (HasInputFault command input line place))
   -- But for commands that print as they go, an answer other than Done and a fault of the sink leaves the sink alone.
-  pub silent : ((command : Words) → Spells words command → (traits_of command).goes ≡ false) → answer ≢ status.Done → answer ≢ status.SinkFault →
-      new.sink ≡ old.sink
+  pub silent : ((command : Words) → Spells words command → (traits_of command).goes ≡ false) →
+      answer ≢ status.Done → answer ≢ status.SinkFault → new.sink ≡ old.sink
   -- A command that doesn't read the input leaves the source as it was; the others keep what each call of it keeps.
   pub source : ((command : Words) → Spells words command → (traits_of command).reads ≡ false) → new.source ≡ old.source
   pub kept : s.keeps old.source new.source

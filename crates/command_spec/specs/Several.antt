@@ -82,4 +82,5 @@ pub record AllAnswered {T K : Type 0} (t : tapes.Meaning T) (k : sinks.Meaning K
   pub answered : IsTableLive c → (count : ℕ) → GoesNoFurther script.does.items script.does.dids count (length text) →
       FirstLinesSpare script count → ToldNow t new (StandsAnswered plain script.does.items script.does.dids (length text))
   pub all : IsHeard answer → ItemsSpare (settled plain.table_area c) plain script.does.items script.does.dids →
-      ToldNow t new (λ left. IsSomeAnd left (λ d. Stands d (with_all plain (all_added (entries_of plain) script.does.items script.does.dids))))
+      ToldNow t new (λ left. IsSomeAnd left (λ d.
+      Stands d (with_all plain (all_added (entries_of plain) script.does.items script.does.dids))))

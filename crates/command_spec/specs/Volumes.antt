@@ -27,7 +27,8 @@ use Rattle.qic_base.specs.Sink as sinks
 -- A fact of a cartridge that held before holds of what is left, where the words are those of a command that keeps it.
 abbrev pub StillHolds : List (List ℕ) → (keeps : Command → Cartridge → Type 0) → (Holds : Cartridge → Type 0) → (held left : Option Cartridge) → Type 0
 StillHolds words keeps Holds held left =
-    (c : Cartridge) → held ≡ Some c → Holds c → ((command : Words) → Spells words command → keeps (command_of command) c) → IsSomeAnd left Holds
+    (c : Cartridge) → held ≡ Some c → Holds c →
+    ((command : Words) → Spells words command → keeps (command_of command) c) → IsSomeAnd left Holds
 
 -- ---- formatting
 

@@ -15,9 +15,11 @@ use Rattle.command_spec.specs.declared.depth.Depth.TheVariants.{Deep}
 -- a plain one no sector of the first is wrong.
 abbrev pub deep_scrub_command : Command
 deep_scrub_command =
-    record (plain_command ((Word (codes "scrub") ∷ Word (codes "deep") ∷ []) ∷ []) (λ held input outcome. WritableOutcome (MendsBy (ScrubsAs Deep)) held outcome)
+    record (plain_command ((Word (codes "scrub") ∷ Word (codes "deep") ∷ []) ∷ [])
+    (λ held input outcome. WritableOutcome (MendsBy (ScrubsAs Deep)) held outcome)
     (λ text. (words : List ℕ) × ((entries : List Entry) × ((counts : Counts) × IsTextFor Deep (looked_at words entries) counts text)))) {
       traits = record none_of_them { goes = true; memory = true; cartridge = true; writable = true; mounts = true };
       needs = λ held input. IsSomeAnd held (λ c. IsUnprotected c × CanBeMounted c);
-      keeps_list = λ c. (c.info.protected ≡ true) ⊎ ((sector : ℕ) (sectors : List (List ℕ)) → ¬ (IsWrong c (whole_segment 0) sector sectors));
+      keeps_list = λ c. (c.info.protected ≡ true)
+          ⊎ ((sector : ℕ) (sectors : List (List ℕ)) → ¬ (IsWrong c (whole_segment 0) sector sectors));
     }

@@ -18,10 +18,12 @@ FormatOutcome label date None outcome = outcome ≡ refused status.NoCartridge
 FormatOutcome label date (Some c) outcome =
     ((c.info.protected ≡ true) × (outcome ≡ refused status.Protected))
     ⊎ ((c.info.protected ≡ false)
-    × ((segment : ℕ) × IsFirstDefectInFront c segment × (outcome ≡ refused_behind (clearing_steps c.info.segments_per_track) (status.DefectInFront segment))))
+    × ((segment : ℕ) × IsFirstDefectInFront c segment
+    × (outcome ≡ refused_behind (clearing_steps c.info.segments_per_track) (status.DefectInFront segment))))
     ⊎ ((c.info.protected ≡ false) × HasNoDefectInFront c
     × ((words : List ℕ) × ((area : List (List ℕ)) × IsFreshWith c label date words area
-    × (outcome ≡ acted (format_steps c.info.segments_per_track area) (formatted_line (28 * c.info.segments_per_track) (marked_sectors words))))))
+    × (outcome ≡ acted (format_steps c.info.segments_per_track area)
+    (formatted_line (28 * c.info.segments_per_track) (marked_sectors words))))))
 
 -- formatting empties a cartridge, and writes its header, but for a protected one
 abbrev pub format_command : (label : List ℕ) → (date : ℕ) → Command

@@ -10,7 +10,8 @@ use Rattle.command_spec.specs.Traits.{none_of_them}
 
 abbrev pub info_command : Command
 info_command =
-    record (plain_command ((Word (codes "info") ∷ []) ∷ []) (λ held input outcome. OpenOutcome (Shows (λ header words entries. info_text header words (length entries))) held outcome)
+    record (plain_command ((Word (codes "info") ∷ []) ∷ [])
+    (λ held input outcome. OpenOutcome (Shows (λ header words entries. info_text header words (length entries))) held outcome)
     (λ text. (header : Header) × ((words : List ℕ) × ((volumes : ℕ) × (text ≡ info_text header words volumes))))) {
       traits = record none_of_them { memory = true; cartridge = true; mounts = true };
       needs = λ held input. IsSomeAnd held CanBeMounted;

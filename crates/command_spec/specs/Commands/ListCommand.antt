@@ -10,7 +10,8 @@ use Rattle.command_spec.specs.Traits.{none_of_them}
 
 abbrev pub list_command : Command
 list_command =
-    record (plain_command ((Word (codes "list") ∷ []) ∷ []) (λ held input outcome. OpenOutcome (Shows (λ header words entries. list_text words entries)) held outcome)
+    record (plain_command ((Word (codes "list") ∷ []) ∷ [])
+    (λ held input outcome. OpenOutcome (Shows (λ header words entries. list_text words entries)) held outcome)
     (λ text. (words : List ℕ) × ((entries : List Entry) × (text ≡ list_text words entries)))) {
       traits = record none_of_them { memory = true; cartridge = true; mounts = true };
       needs = λ held input. IsSomeAnd held CanBeMounted;
