@@ -18,10 +18,8 @@ use Rattle.command_laws.proofs.RestoreEndings.{restores_is_function}
 use Rattle.command_laws.proofs.ScriptMachineLaws.{one_outcome as one_script}
 use Rattle.command_laws.proofs.ScrubTurns.{scrubs_is_function}
 use Rattle.command_spec.specs.Append.{Appends}
-use Rattle.command_spec.specs.Commands.Defect.{DefectOutcome}
-use Rattle.command_spec.specs.Commands.Format.{FormatOutcome}
+use Rattle.command_spec.specs.Commands.Single.{DefectOutcome, FormatOutcome, LoseOutcome}
 use Rattle.command_laws.specs.Terms.{cleared, formatted, Printing, Mends, ScrubOutcome}
-use Rattle.command_spec.specs.Commands.Lose.{LoseOutcome}
 use Rattle.command_spec.specs.Make.{Making, made_on}
 use Rattle.command_spec.specs.Outcome.{refused, CommandOutcome, Going, Opened, OpenOutcome, WritableOutcome, Shows, settling_act, HasPlace}
 use Rattle.command_spec.specs.Pulses.{sent, info_of, SentOutcome, train_acts}

@@ -16,12 +16,10 @@ use Rattle.command_laws.proofs.RestoreCounts.{restores_in_no_step, framed_in_no_
 use Rattle.command_laws.proofs.ScriptOutcomes.{replied}
 use Rattle.command_laws.proofs.ScrubAtOnce.{scrub_steps}
 use Rattle.command_spec.specs.Append.{Appends, segment_act, volume_acts, filled_acts, input_acts, Taking, Fits, TooLong, TooShort, Kept, input_writes, entry_acts, append_acts, entry_for, room_in, free_in, has_promised_room, most_written, taking, kept_over, silently}
-use Rattle.command_spec.specs.Commands.Defect.{DefectOutcome}
-use Rattle.command_spec.specs.Commands.Format.{FormatOutcome}
+use Rattle.command_spec.specs.Commands.Single.{DefectOutcome, FormatOutcome, LoseOutcome}
 use Rattle.command_spec.specs.Generator.{made_bytes, made_length}
 use Rattle.command_spec.specs.Input.{Item, Ending, AtEnd, AtStop, AtFault}
 use Rattle.command_spec.specs.Lines.{reply_behind}
-use Rattle.command_spec.specs.Commands.Lose.{LoseOutcome}
 use Rattle.command_spec.specs.Make.{Making, MakeStep, AppendMade, WearSector, ScrubAll, SumVolume, StepDoes, Runs, Answer, after_item, made_acts, made_name, making}
 use Rattle.command_spec.specs.Outcome.{CommandOutcome, Going, Opened, OpenOutcome, WritableOutcome, Shows, settling_act}
 use Rattle.command_laws.specs.Terms.{Printing, Mends}

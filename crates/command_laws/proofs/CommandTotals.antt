@@ -17,9 +17,7 @@ use Rattle.command_laws.proofs.ScriptOutcomes.{each_outcome as each_script}
 use Rattle.command_laws.proofs.ScriptPlaces.{place_or_not}
 use Rattle.command_laws.proofs.ScrubTurns.{scrubs_always}
 use Rattle.command_spec.specs.Append.{Appends}
-use Rattle.command_spec.specs.Commands.Defect.{DefectOutcome}
-use Rattle.command_spec.specs.Commands.Format.{FormatOutcome}
-use Rattle.command_spec.specs.Commands.Lose.{LoseOutcome}
+use Rattle.command_spec.specs.Commands.Single.{DefectOutcome, FormatOutcome, LoseOutcome}
 use Rattle.command_spec.specs.Make.{Making}
 use Rattle.command_spec.specs.Outcome.{CommandOutcome, HasPlace, Going, Opened, OpenOutcome, WritableOutcome, Shows}
 use Rattle.command_laws.specs.Terms.{Printing, Mends}

@@ -23,7 +23,7 @@ use Rattle.command_laws.proofs.TextWords.{one_command}
 use Rattle.command_laws.specs.Terms.{IsBare, WasNotDone}
 use Rattle.command_spec.specs.Command.{Command}
 use Rattle.command_spec.specs.Commands.{command_of, traits_of}
-use Rattle.command_spec.specs.Commands.Format.{FormatOutcome}
+use Rattle.command_spec.specs.Commands.Single.{FormatOutcome}
 use Rattle.command_spec.specs.Headline.{ToldNow, EachLeft, StopLeaves, WordsLeave}
 use Rattle.command_spec.specs.Machine.{Yields, HasValues, Spells}
 use Rattle.command_spec.specs.Outcome.{CommandOutcome}

@@ -23,7 +23,7 @@ use Rattle.command_laws.proofs.WholeSteps.{append_leaves, behind_leave, clearing
 use Rattle.command_laws.specs.MountedListed.{IsListed, listed_behind}
 use Rattle.command_laws.specs.ScriptStanding.{HaveBytes, LineHasBytes}
 use Rattle.command_spec.specs.Append.{AppendOutcome, Appends, Fits, Kept, Taking, TooLong, TooShort, append_acts, kept_over, room_in, silently, taking}
-use Rattle.command_spec.specs.Commands.Format.{FormatOutcome}
+use Rattle.command_spec.specs.Commands.Single.{FormatOutcome}
 use Rattle.command_spec.specs.Generator.{made_bytes, made_length}
 use Rattle.command_spec.specs.Input.{AtEnd, AtFault, AtStop, Ending, Item}
 use Rattle.command_spec.specs.Lines.{reply_behind}

@@ -18,7 +18,7 @@ use Rattle.command_laws.proofs.ScriptAnswered.{next_torn}
 use Rattle.command_laws.specs.ActStops.{IsLeftBy}
 use Rattle.command_laws.specs.Terms.{IsBare, NewOutcome}
 use Rattle.command_laws.specs.Life.{Ended, Answered, Stopped, Becomes, IsReady, IsSound, IsWithout, Leaves, MayEnd, begun_by}
-use Rattle.command_spec.specs.Commands.Format.{FormatOutcome}
+use Rattle.command_spec.specs.Commands.Single.{FormatOutcome}
 use Rattle.command_spec.specs.Outcome.{CommandOutcome}
 use Rattle.command_spec.specs.Volumes.{StandsEmpty}
 use Rattle.command_spec.specs.declared.status.Status.{Status}

@@ -1,22 +1,26 @@
 -- Names that the laws of commands use for what the statement says in place (this project's own).
-use Rattle.std.specs.Prelude.{ℕ, ◌*◌, List, [], ◌∷◌, ◌++◌, length, ◌≡◌, ◌≢◌, ◌⊎◌, Bool, Option}
+use Rattle.std.specs.Prelude.{ℕ, ◌*◌, All, true, List, [], ◌∷◌, ◌++◌, length, ◌≡◌, ◌≢◌, ◌⊎◌, Bool, Option}
+use Rattle.cartridge_spec.specs.Appending.{has_room}
 use Rattle.cartridge_spec.specs.Formatting.{HasNoHeader, clearing_steps, format_steps}
 use Rattle.cartridge_spec.specs.Header.{Header, HeaderFault}
 use Rattle.cartridge_spec.specs.HeaderAndTable.{IsUnformatted}
 use Rattle.cartridge_spec.specs.Says.{Saying}
 use Rattle.cartridge_spec.specs.Shape.{marked_sectors}
 use Rattle.cartridge_spec.specs.Table.{Entry}
-use Rattle.cartridge_spec.specs.Volumes.{Plain}
+use Rattle.cartridge_spec.specs.Volumes.{Plain, Volume}
 use Rattle.command_spec.specs.CommandWords.{Part}
 use Rattle.command_spec.specs.Commands.{command_of}
+use Rattle.command_spec.specs.Commands.RestoreCommand.{HasNumber}
+use Rattle.command_spec.specs.Complete.{ReadsAs}
 use Rattle.command_spec.specs.Headline.{Stepped}
 use Rattle.command_spec.specs.Input.{AtEnd, AtStop, IsPulses, IsScript, Item}
 use Rattle.command_spec.specs.Lines.{blank_line, formatted_line, info_text, list_text, protected_line, upgraded_line}
 use Rattle.command_spec.specs.Machine.{CommandPrints, RefusedPrints}
 use Rattle.command_spec.specs.Outcome.{CommandOutcome, Going, OpenOutcome, Shows, StepOutcome, WritableOutcome, acted, carried_out, refused_behind}
+use Rattle.command_spec.specs.Restore.{LosesFew, pieces_in}
 use Rattle.command_spec.specs.Runs.{OverTold}
-use Rattle.command_spec.specs.Scrub.{Looked, MendsBy, Scrubs, ScrubsBy, counts_of, last_act, line_in, looking_acts, steps_in, whole_segment}
-use Rattle.command_spec.specs.ScrubForms.{Finding, HasFound, IsWrong, ScrubsAs, counts_for, finding_acts, line_for, steps_for}
+use Rattle.command_spec.specs.Scrub.{Counts, Looked, MendsBy, Scrubs, ScrubsBy, counted, counts_line, line_in, looking_acts, steps_in, whole_segment}
+use Rattle.command_spec.specs.ScrubForms.{Finding, HasFound, IsWrong, ScrubsAs, finding_acts, line_for, sayings_of, steps_for}
 use Rattle.command_spec.specs.declared.depth.Depth.{Depth}
 use Rattle.command_spec.specs.declared.depth.Depth.TheVariants.{Deep}
 use Rattle.command_spec.specs.declared.status.Status.{Status}
@@ -131,6 +135,17 @@ find_act c looked finding = record { steps = steps_for c looked finding; text = 
 abbrev pub Finds : Depth → Cartridge → Looked → Finding → Type 0
 Finds depth c looked finding = HasFound depth c looked finding.saying finding.wrong
 
+-- what is counted of segments that say this, or of which this is found
+abbrev pub counts_of : Cartridge → List Looked → List Saying → Counts
+counts_of c looked sayings = counted looked (looking_acts c looked sayings) sayings
+
+abbrev pub counts_for : Cartridge → List Looked → List Finding → Counts
+counts_for c looked findings = counted looked (finding_acts c looked findings) (sayings_of findings)
+
+-- the last act: no step, and the line of the counts
+abbrev pub last_act : Counts → Act
+last_act counts = record { steps = []; text = counts_line counts }
+
 -- all acts, and the line of the counts
 abbrev pub scrub_acts : Cartridge → List Looked → List Saying → List Act
 scrub_acts c looked sayings = looking_acts c looked sayings ++ last_act (counts_of c looked sayings) ∷ []
@@ -157,3 +172,14 @@ DeepScrubOutcome held outcome = WritableOutcome MendsDeep held outcome
 -- no sector of the first header copy is wrong
 abbrev pub IsFirstCopyRight : Cartridge → Type 0
 IsFirstCopyRight c = (sector : ℕ) (sectors : List (List ℕ)) → ¬ (IsWrong c (whole_segment 0) sector sectors)
+
+-- ---- what a command needs
+
+-- there is room for one byte at least, and for all of the input
+abbrev pub CanTake : Cartridge → (input : List ℕ) → Type 0
+CanTake c input = (plain : Plain) × ReadsAs c plain × (has_room plain (length input) ≡ true)
+
+-- there is a volume of this number, and no segment that holds some of its bytes has more than three unreadable sectors
+abbrev pub CanGive : Cartridge → (number : ℕ) → Type 0
+CanGive c number =
+    (plain : Plain) × ((volume : Volume) × HasNumber c plain number volume × All (LosesFew c plain.words) (pieces_in plain volume))

@@ -113,10 +113,10 @@ pub record Counts : Type 0 where
   pub mended : ℕ
   pub unreadable : ℕ
 
-abbrev pub counts_of : Cartridge → List Looked → List Saying → Counts
-counts_of c looked sayings = record {
+abbrev pub counted : List Looked → List Act → List Saying → Counts
+counted looked acts sayings = record {
   segments = length looked;
-  mended = length (steps_of (looking_acts c looked sayings));
+  mended = length (steps_of acts);
   unreadable = unread_count looked sayings;
 }
 
@@ -125,15 +125,15 @@ counts_line counts =
     codes "scrub " ++ decimal counts.segments ++ codes " " ++ decimal counts.mended ++ codes " " ++ decimal counts.unreadable
     ++ codes "\n"
 
--- the last act: no step, and the line of the counts
-abbrev pub last_act : Counts → Act
-last_act counts = record { steps = []; text = counts_line counts }
+-- the acts in these segments, and the last one: no step, and the line of the counts
+abbrev pub with_counts : List Looked → List Act → List Saying → List Act
+with_counts looked acts sayings = acts ++ record { steps = []; text = counts_line (counted looked acts sayings) } ∷ []
 
 -- the acts of scrubbing a cartridge with this map and these volumes
 pub record Scrubs (c : Cartridge) (words : List ℕ) (entries : List Entry) (acts : List Act) : Type 0 where
   pub sayings : List Saying
   pub said : SayInTurn c (looked_at words entries) sayings
-  pub are : acts ≡ looking_acts c (looked_at words entries) sayings ++ last_act (counts_of c (looked_at words entries) sayings) ∷ []
+  pub are : acts ≡ with_counts (looked_at words entries) (looking_acts c (looked_at words entries) sayings) sayings
 
 -- the lines of these segments, one after the other, where they say this
 abbrev pub lines_of : List Looked → List Saying → List ℕ

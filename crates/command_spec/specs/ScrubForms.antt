@@ -7,8 +7,8 @@ use Rattle.cartridge_spec.specs.Settling.{changed_by}
 use Rattle.cartridge_spec.specs.Shape.{usable_places, usable_count}
 use Rattle.cartridge_spec.specs.Table.{Entry}
 use Rattle.cartridge_spec.specs.Wear.{worn}
-use Rattle.command_spec.specs.Scrub.{Looked, looked_at, cells_at, reads, steps_in, line_in, unread_count, Counts, counts_line, last_act}
-use Rattle.qic_base.specs.Acts.{Act, steps_of}
+use Rattle.command_spec.specs.Scrub.{Looked, looked_at, cells_at, reads, steps_in, line_in, unread_count, Counts, counts_line, with_counts}
+use Rattle.qic_base.specs.Acts.{Act}
 use Rattle.qic_base.specs.Cartridge.{Cartridge}
 use Rattle.qic_base.specs.Step.{Step}
 use Rattle.command_spec.specs.declared.depth.Depth.{Depth}
@@ -82,19 +82,12 @@ finding_acts c (l ∷ ls) (f ∷ fs) =
 abbrev pub sayings_of : List Finding → List Saying
 sayings_of findings = map (λ finding. finding.saying) findings
 
--- what is counted, as by a scrub: a wrong sector is one of those for which a write was sent
-abbrev pub counts_for : Cartridge → List Looked → List Finding → Counts
-counts_for c looked findings = record {
-  segments = length looked;
-  mended = length (steps_of (finding_acts c looked findings));
-  unreadable = unread_count looked (sayings_of findings);
-}
-
 -- the acts of scrubbing a cartridge with this map and these volumes in this form
 pub record ScrubsAs (depth : Depth) (c : Cartridge) (words : List ℕ) (entries : List Entry) (acts : List Act) : Type 0 where
   pub findings : List Finding
   pub found : FindInTurn depth c (looked_at words entries) findings
-  pub are : acts ≡ finding_acts c (looked_at words entries) findings ++ last_act (counts_for c (looked_at words entries) findings) ∷ []
+  -- a wrong sector is counted as one of those for which a write was sent
+  pub are : acts ≡ with_counts (looked_at words entries) (finding_acts c (looked_at words entries) findings) (sayings_of findings)
 
 -- the lines of these segments, one after the other, where this is found of them
 abbrev pub lines_for : List Looked → List Finding → List ℕ

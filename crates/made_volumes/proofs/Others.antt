@@ -4,12 +4,12 @@ use Rattle.qic_base.specs.Step.{Wear}
 use Rattle.qic_base.specs.Sink as sinks
 use Rattle.qic_base.specs.Tape as tapes
 use Rattle.qic_base.proofs.Steps.{Tells-map, Done-nothing}
-use Rattle.qic_base.specs.Acts.{Act, text_of, Failing, TapeFails, SinkFails, Cut}
-use Rattle.qic_base.specs.Acts.{no_source, no_sink, around}
+use Rattle.qic_base.specs.Acts.{Act, text_of, Failing, TapeFails, SinkFails, Cut, no_source, no_sink, around}
 use Rattle.cartridge_spec.specs.Table.{Entry}
 use Rattle.drive_spec.specs.Deck.{is_protected}
 use Rattle.drive_states.specs.Unit.{UnitView}
-use Rattle.command_spec.specs.Scrub.{Scrubs, counts_of, looked_at}
+use Rattle.command_spec.specs.Scrub.{Scrubs, looked_at}
+use Rattle.command_laws.specs.Terms.{counts_of}
 use Rattle.segment_io.proofs.Going.{tells_always}
 use Rattle.segment_mending.specs.Mending.{reported}
 use Rattle.segment_mending.specs.declared.report.ScrubReport.{ScrubReport}
@@ -20,8 +20,7 @@ use Rattle.volume_store.specs.Mounting.{StoreView, StoreFits}
 use Rattle.volume_store.specs.Scrubbing.{MendCut, MendEnds}
 use Rattle.made_volumes.specs.declared.fault.MakeFault.TheVariants as fault
 use Rattle.made_volumes.specs.Faults.{is_of_step, fault_of}
-use Rattle.command_spec.specs.Make.{WearSector, ScrubAll}
-use Rattle.command_spec.specs.Make.{Answer, Done, Protected, Runs}
+use Rattle.command_spec.specs.Make.{WearSector, ScrubAll, Answer, Done, Protected, Runs}
 use Rattle.made_volumes.specs.Runs.{RunEnds, NeverFull}
 use Rattle.command_laws.proofs.MadeMachineLaws.{run_of, done_of}
 use Rattle.command_laws.proofs.MadeMayLaws.{may_of}

@@ -100,7 +100,7 @@ run_prints : (seed count : ℕ) (ws : List ℕ) (es : List Entry) (text : List �
 run_prints seed count ws es text answer may = by_answer answer refl
   where
     turned : (why : Answer) → answer ≡ why → RefusedPrints (words.Make seed count) (make_status why) text
-    turned why same = inr (record { words = ws; entries = es; why = answer; answered = ap make_status (sym same); may = may })
+    turned why same = inr (ws, (es, (answer, ap make_status (sym same), may)))
 
     by_answer : (why : Answer) → answer ≡ why → Prints (words.Make seed count) (make_status why) text
     by_answer made.Done same = ((λ is. (ws, (es, subst (MayRun seed ws es (making seed count ws es) text) same may))), (λ other. absurd (other refl)))

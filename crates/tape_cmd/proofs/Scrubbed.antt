@@ -15,9 +15,9 @@ use Rattle.drive_states.specs.Unit.{UnitView}
 use Rattle.cartridge_laws.proofs.MountOnce.{mounts_is_function}
 use Rattle.command_spec.specs.Commands.{traits_of}
 use Rattle.command_spec.specs.Machine.{Yields, CommandPrints, FrontPrints}
-use Rattle.command_spec.specs.Scrub.{Counts, IsScrubText, Scrubs, counts_of, looked_at}
-use Rattle.command_spec.specs.ScrubForms.{IsTextFor, ScrubsAs, counts_for}
-use Rattle.command_laws.specs.Terms.{MendsDeep, Mends}
+use Rattle.command_spec.specs.Scrub.{Counts, IsScrubText, Scrubs, looked_at}
+use Rattle.command_laws.specs.Terms.{counts_of, counts_for, MendsDeep, Mends}
+use Rattle.command_spec.specs.ScrubForms.{IsTextFor, ScrubsAs}
 use Rattle.command_spec.specs.declared.depth.Depth.TheVariants.{Deep}
 use Rattle.segment_mending.specs.Mending.{HasScrubbed, ScrubCut, reported}
 use Rattle.segment_mending.specs.declared.report.ScrubReport.{ScrubReport}

@@ -11,8 +11,7 @@ use Rattle.qic_base.specs.Step.{Wear}
 use Rattle.qic_base.specs.Tape as tapes
 use Rattle.qic_base.proofs.Steps.{Tells-map}
 use Rattle.qic_base.proofs.Writing.{TakesBoth}
-use Rattle.qic_base.specs.Acts.{Act, Outside, Failing, TapeFails, SourceFails, SinkFails, Went, Cut}
-use Rattle.qic_base.specs.Acts.{no_source, around}
+use Rattle.qic_base.specs.Acts.{Act, Outside, Failing, TapeFails, SourceFails, SinkFails, Went, Cut, no_source, around}
 use Rattle.qic_base.proofs.Joins.{cut_is_longer, sink_cut_one}
 use Rattle.cartridge_spec.specs.Table.{Entry}
 use Rattle.cartridge_spec.specs.Volumes.{volume_length}
@@ -22,9 +21,10 @@ use Rattle.drive_states.specs.declared.fault.HandFault.TheVariants as hand
 use Rattle.drive_states.specs.Hand.{Wears}
 use Rattle.drive_states.specs.Unit.{UnitView}
 use Rattle.host_driver.specs.Fits.{segments_of}
-use Rattle.command_spec.specs.Restore.{Restored, LostIn, MismatchIn, Restores, framed, pieces}
+use Rattle.command_spec.specs.Restore.{Restored, LostIn, MismatchIn, Restores, framed, pieces, volume_at}
 use Rattle.command_spec.specs.Restore as restoring
-use Rattle.command_spec.specs.Scrub.{Scrubs, counts_of, looked_at}
+use Rattle.command_spec.specs.Scrub.{Scrubs, looked_at}
+use Rattle.command_laws.specs.Terms.{counts_of}
 use Rattle.segment_io.proofs.Going.{tells_always}
 use Rattle.segment_mending.specs.Mending.{reported}
 use Rattle.segment_mending.specs.declared.report.ScrubReport.{ScrubReport}
@@ -39,13 +39,11 @@ use Rattle.volume_store.specs.Scrubbing.{HasMended, MendCut}
 use Rattle.volume_store.specs.declared.fault.StoreFault.TheVariants as store_fault
 use Rattle.volume_store.specs.Mounting.{StoreView, StoreFits}
 use Rattle.volume_store.specs.Restoring.{RestoreEnds}
-use Rattle.command_spec.specs.Restore.{volume_at}
 use Rattle.volume_store.proofs.Copies.{IsLearnt, told_learnt, tells_two}
 use Rattle.command_spec.specs.declared.refusal.Refusal.TheVariants as why
 use Rattle.volume_script.specs.Items.{ItemDone, ItemCut, ItemEnds, WouldDo}
-use Rattle.command_spec.specs.Script.{refusal_line, restored_line}
+use Rattle.command_spec.specs.Script.{refusal_line, restored_line, Did, LineDoes, given_as, reply}
 use Rattle.volume_script.specs.Promised.{replied_so}
-use Rattle.command_spec.specs.Script.{Did, LineDoes, given_as, reply}
 use Rattle.command_laws.proofs.ScriptLifting.{out, TakesNone, printed_went, printed_cut, replied_went, replied_cut, rested}
 use Rattle.command_laws.proofs.ScriptPlain.{given, line_one}
 use Rattle.volume_script.proofs.Plain.{would_without}

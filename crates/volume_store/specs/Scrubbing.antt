@@ -1,7 +1,8 @@
 -- How the scrubbing of a cartridge ended, in either form, by the answer of the call (this project's own).
 use Rattle.std.specs.Prelude.{◌≡◌, ℕ, List, ◌++◌, Result, Ok, Err}
 use Rattle.cartridge_spec.specs.Table.{Entry}
-use Rattle.command_spec.specs.Scrub.{Counts, looked_at, Scrubs, counts_of, IsScrubText}
+use Rattle.command_spec.specs.Scrub.{Counts, looked_at, Scrubs, IsScrubText}
+use Rattle.command_laws.specs.Terms.{counts_of}
 use Rattle.command_spec.specs.declared.depth.Depth.{Depth}
 use Rattle.qic_base.specs.Sink as sinks
 use Rattle.qic_base.specs.Tape as tapes

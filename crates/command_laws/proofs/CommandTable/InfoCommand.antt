@@ -15,7 +15,7 @@ use Rattle.command_laws.specs.CommandRecord.{CommandLaws}
 use Rattle.command_spec.specs.CommandWords.{HasForm}
 use Rattle.command_spec.specs.Complete.{CanBeMounted}
 use Rattle.command_laws.specs.Terms.{InfoOutcome, telling}
-use Rattle.command_spec.specs.Commands.Info.{info_command}
+use Rattle.command_spec.specs.Commands.Single.{info_command}
 use Rattle.command_spec.specs.Outcome.{Shows}
 use Rattle.qic_base.specs.Cartridge.{IsCartridge}
 use Rattle.command_spec.specs.declared.status.Status.TheVariants as status
