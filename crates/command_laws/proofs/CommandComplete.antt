@@ -11,7 +11,7 @@ use Rattle.command_laws.proofs.MountedHeld.{mounted_open}
 use Rattle.command_laws.proofs.RestoreGivenBack.{given, given_whole}
 use Rattle.command_spec.specs.Append.{room_in, Appends, AppendOutcome, kept_in}
 use Rattle.command_laws.specs.Terms.{CanTake, Printing, IsOfTrains, IsOfLines, Mends, ScrubOutcome, CanGive}
-use Rattle.command_spec.specs.Complete.{ReadsAs, IsUnprotected}
+use Rattle.command_spec.specs.Command.{ReadsAs, IsUnprotected}
 use Rattle.command_spec.specs.Commands.Single.{DefectOutcome, FormatOutcome, LoseOutcome}
 use Rattle.command_spec.specs.Input.{Ending, AtEnd, AtStop, IsPulse, IsPulses, Item, IsItem, IsScript}
 use Rattle.command_spec.specs.Make.{Making, MakeOutcome, make_status}

@@ -11,7 +11,7 @@ use Rattle.cartridge_spec.specs.Volumes.{Plain, Volume}
 use Rattle.command_spec.specs.CommandWords.{Part}
 use Rattle.command_spec.specs.Commands.{command_of}
 use Rattle.command_spec.specs.Commands.RestoreCommand.{HasNumber}
-use Rattle.command_spec.specs.Complete.{ReadsAs}
+use Rattle.command_spec.specs.Command.{ReadsAs}
 use Rattle.command_spec.specs.Headline.{Stepped}
 use Rattle.command_spec.specs.Input.{AtEnd, AtStop, IsPulses, IsScript, Item}
 use Rattle.command_spec.specs.Lines.{blank_line, formatted_line, info_text, list_text, protected_line, upgraded_line}
@@ -72,18 +72,21 @@ foreign fault = status.Foreign fault.field fault.value
 abbrev pub Printing : Type 0
 Printing = Header → (words : List ℕ) → List Entry → List ℕ
 
+-- what `info` prints, and its outcome
 abbrev pub telling : Printing
 telling header words entries = info_text header words (length entries)
 
 abbrev pub InfoOutcome : Option Cartridge → CommandOutcome → Type 0
 InfoOutcome held outcome = OpenOutcome (Shows telling) held outcome
 
+-- what `list` prints, and its outcome
 abbrev pub listing : Printing
 listing header words entries = list_text words entries
 
 abbrev pub ListOutcome : Option Cartridge → CommandOutcome → Type 0
 ListOutcome held outcome = OpenOutcome (Shows listing) held outcome
 
+-- the outcomes of `new`, `protect` and `upgrade`
 abbrev pub NewOutcome : (segments : ℕ) → CommandOutcome → Type 0
 NewOutcome segments outcome = outcome ≡ carried_out (Renew segments) (blank_line segments)
 
@@ -126,12 +129,14 @@ word_forms command = (command_of command).forms
 
 -- ---- scrubbing
 
+-- the act in a segment that says this, or of which this is found
 abbrev pub look_act : Cartridge → Looked → Saying → Act
 look_act c looked saying = record { steps = steps_in c looked saying; text = line_in looked saying }
 
 abbrev pub find_act : Cartridge → Looked → Finding → Act
 find_act c looked finding = record { steps = steps_for c looked finding; text = line_for looked finding }
 
+-- this is found of a segment
 abbrev pub Finds : Depth → Cartridge → Looked → Finding → Type 0
 Finds depth c looked finding = HasFound depth c looked finding.saying finding.wrong
 
@@ -153,6 +158,7 @@ scrub_acts c looked sayings = looking_acts c looked sayings ++ last_act (counts_
 abbrev pub acts_for : Cartridge → List Looked → List Finding → List Act
 acts_for c looked findings = finding_acts c looked findings ++ last_act (counts_for c looked findings) ∷ []
 
+-- what `scrub` does once the cartridge is open, and its outcome
 abbrev pub Mends : Going
 Mends = MendsBy Scrubs
 
@@ -163,6 +169,7 @@ ScrubOutcome held outcome = WritableOutcome Mends held outcome
 abbrev pub ScrubsDeepOn : (c : Cartridge) (words : List ℕ) (table : List (List ℕ)) (entries : List Entry) (outcome : CommandOutcome) → Type 0
 ScrubsDeepOn c words table entries outcome = ScrubsBy (ScrubsAs Deep) c words table entries outcome
 
+-- what `scrub deep` does once it is open, and its outcome
 abbrev pub MendsDeep : Going
 MendsDeep = MendsBy (ScrubsAs Deep)
 

@@ -8,7 +8,7 @@ pub mod ScrubCommand
 pub mod Single
 use Rattle.std.specs.Prelude.{ℕ, List}
 use Rattle.command_spec.specs.Commands.AppendCommand.{append_command}
-use Rattle.command_spec.specs.Command.{Command}
+use Rattle.command_spec.specs.Command.{Command, Traits}
 use Rattle.command_spec.specs.CommandWords.{HasForm}
 use Rattle.command_spec.specs.Commands.ScrubCommand.{deep_scrub_command, scrub_command}
 use Rattle.command_spec.specs.Commands.Single.{defect_command, format_command, info_command, list_command, lose_command, new_command, protect_command, upgrade_command}
@@ -16,7 +16,6 @@ use Rattle.command_spec.specs.Commands.MakeCommand.{make_command}
 use Rattle.command_spec.specs.Commands.PulsesCommand.{pulses_command}
 use Rattle.command_spec.specs.Commands.RestoreCommand.{restore_command}
 use Rattle.command_spec.specs.Commands.ScriptCommand.{script_command}
-use Rattle.command_spec.specs.Traits.{Traits}
 use Rattle.command_spec.specs.declared.words.Words.{Words}
 use Rattle.command_spec.specs.declared.words.Words.TheVariants as words
 

@@ -23,7 +23,7 @@ use Rattle.command_laws.proofs.TextCommands.{IsRead, named, only, spelled_length
 use Rattle.command_laws.proofs.WholeSteps.{behind_leave}
 use Rattle.command_laws.specs.CommandRecord.{CommandLaws}
 use Rattle.command_spec.specs.CommandWords.{HasForm}
-use Rattle.command_spec.specs.Complete.{CanBeMounted, IsUnprotected, ReadsAs}
+use Rattle.command_spec.specs.Command.{CanBeMounted, IsUnprotected, ReadsAs}
 use Rattle.command_spec.specs.Commands.ScrubCommand.{deep_scrub_command}
 use Rattle.command_spec.specs.Outcome.{CommandOutcome, settling_act}
 use Rattle.command_spec.specs.Scrub.{Looked, looked_at}

@@ -4,11 +4,9 @@ use Rattle.cartridge_spec.specs.Appending.{has_room}
 use Rattle.cartridge_spec.specs.Formatting.{IsLabel}
 use Rattle.cartridge_spec.specs.Volumes.{Plain}
 use Rattle.command_spec.specs.Append.{AppendOutcome}
-use Rattle.command_spec.specs.Command.{Command, plain_command}
+use Rattle.command_spec.specs.Command.{Command, plain_command, IsUnprotected, ReadsAs, none_of_them}
 use Rattle.command_spec.specs.CommandWords.{Word, Name, dated}
-use Rattle.command_spec.specs.Complete.{IsUnprotected, ReadsAs}
 use Rattle.command_spec.specs.Lines.{appended_line}
-use Rattle.command_spec.specs.Traits.{none_of_them}
 
 -- It needs room for one byte at least, and for all of the input. It asks for at most one byte beyond the room that there is, and adds
 -- a volume, but to a protected cartridge.

@@ -3,12 +3,10 @@ use Rattle.std.specs.Prelude.{ℕ, List, [], ◌∷◌, ◌≡◌, ◌≤◌, �
 use Rattle.cartridge_spec.specs.Mounting.{settled}
 use Rattle.cartridge_spec.specs.Table.{Entry}
 use Rattle.cartridge_spec.specs.Volumes.{Plain}
-use Rattle.command_spec.specs.Command.{Command, plain_command}
+use Rattle.command_spec.specs.Command.{Command, plain_command, IsUnprotected, ReadsAs, none_of_them}
 use Rattle.command_spec.specs.CommandWords.{Word, AnyNumber, Number}
-use Rattle.command_spec.specs.Complete.{IsUnprotected, ReadsAs}
 use Rattle.command_spec.specs.MadeVolumes.{HaveRoom, LoseFewBehind}
 use Rattle.command_spec.specs.Make.{MakeOutcome, making, MayRun, Answer, Done, make_status}
-use Rattle.command_spec.specs.Traits.{none_of_them}
 use Rattle.qic_base.specs.Cartridge.{Cartridge}
 
 -- Each of the generated volumes has room when its turn comes, and no segment that holds some of their bytes has more than three

@@ -1,10 +1,9 @@
 -- The command `pulses` (this project's own).
 use Rattle.std.specs.Prelude.{ℕ, List, [], ◌∷◌, ◌⊎◌, true, codes}
-use Rattle.command_spec.specs.Command.{Command, plain_command}
+use Rattle.command_spec.specs.Command.{Command, plain_command, none_of_them}
 use Rattle.command_spec.specs.CommandWords.{Word}
 use Rattle.command_spec.specs.Input.{AtEnd, AtStop, AtFault, IsPulses}
 use Rattle.command_spec.specs.Pulses.{SentOutcome, AreLevels}
-use Rattle.command_spec.specs.Traits.{none_of_them}
 
 -- The drive shows its levels without a cartridge, and those of the trains before a fault of the input: the lines of trains go up to
 -- the end of the input or to the line `end`.

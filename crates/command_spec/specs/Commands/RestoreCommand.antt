@@ -2,10 +2,9 @@
 use Rattle.std.specs.Prelude.{ℕ, zero, suc, List, [], ◌∷◌, ◌≡◌, ◌==◌, ◌&&◌, Bool, true, nat_le, codes, All, Some, slice_get, IsSomeAnd}
 use Rattle.cartridge_spec.specs.Mounting.{CanBeRead}
 use Rattle.cartridge_spec.specs.Volumes.{Plain, Stands, Volume}
-use Rattle.command_spec.specs.Command.{Command, plain_command}
+use Rattle.command_spec.specs.Command.{Command, plain_command, none_of_them}
 use Rattle.command_spec.specs.CommandWords.{Word, AnyNumber}
 use Rattle.command_spec.specs.Restore.{pieces_in, LosesFew, RestoreOutcome}
-use Rattle.command_spec.specs.Traits.{none_of_them}
 use Rattle.command_spec.specs.declared.status.Status.{Status}
 use Rattle.qic_base.specs.Cartridge.{Cartridge}
 use Rattle.command_spec.specs.declared.status.Status.TheVariants as status

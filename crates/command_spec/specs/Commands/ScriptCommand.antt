@@ -1,11 +1,9 @@
 -- The command `script` (this project's own).
 use Rattle.std.specs.Prelude.{ℕ, List, [], ◌∷◌, ◌++◌, ◌≡◌, ◌⊎◌, true, codes, IsSomeAnd}
-use Rattle.command_spec.specs.Command.{Command, plain_command}
+use Rattle.command_spec.specs.Command.{Command, plain_command, CanBeMounted, none_of_them}
 use Rattle.command_spec.specs.CommandWords.{Word}
-use Rattle.command_spec.specs.Complete.{CanBeMounted}
 use Rattle.command_spec.specs.Input.{AtEnd, AtStop, AtFault, Item, IsScript}
 use Rattle.command_spec.specs.Script.{ScriptOutcome, end_line}
-use Rattle.command_spec.specs.Traits.{none_of_them}
 use Rattle.command_spec.specs.declared.status.Status.{Status}
 use Rattle.command_spec.specs.declared.status.Status.TheVariants as status
 

@@ -1,13 +1,11 @@
 -- The commands `scrub` and `scrub deep` (this project's own).
 use Rattle.std.specs.Prelude.{ℕ, List, [], ◌∷◌, true, codes, IsSomeAnd, ◌≡◌, ◌⊎◌}
 use Rattle.cartridge_spec.specs.Table.{Entry}
-use Rattle.command_spec.specs.Command.{Command, plain_command}
+use Rattle.command_spec.specs.Command.{Command, plain_command, IsUnprotected, CanBeMounted, none_of_them}
 use Rattle.command_spec.specs.CommandWords.{Word}
-use Rattle.command_spec.specs.Complete.{IsUnprotected, CanBeMounted}
 use Rattle.command_spec.specs.Outcome.{WritableOutcome}
 use Rattle.command_spec.specs.Scrub.{Counts, looked_at, IsScrubText, MendsBy, Scrubs, whole_segment}
 use Rattle.command_spec.specs.ScrubForms.{IsTextFor, IsWrong, ScrubsAs}
-use Rattle.command_spec.specs.Traits.{none_of_them}
 use Rattle.command_spec.specs.declared.depth.Depth.TheVariants.{Deep}
 
 abbrev pub scrub_command : Command
