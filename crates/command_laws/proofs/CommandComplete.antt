@@ -10,23 +10,17 @@ use Rattle.command_laws.proofs.MadeComplete.{made_where_there_is_room}
 use Rattle.command_laws.proofs.MountedHeld.{mounted_open}
 use Rattle.command_laws.proofs.RestoreGivenBack.{given, given_whole}
 use Rattle.command_spec.specs.Append.{room_in, AppendOutcome}
+use Rattle.command_laws.specs.Terms.{CanTake, Printing, IsOfTrains, IsOfLines, Mends, ScrubOutcome, CanGive}
+use Rattle.command_spec.specs.Command.{ReadsAs, IsUnprotected}
+use Rattle.command_spec.specs.Commands.Single.{DefectOutcome, FormatOutcome, LoseOutcome}
 use Rattle.command_laws.specs.CommandTerms.{kept_in, Appends}
-use Rattle.command_spec.specs.Commands.AppendCommand.{CanTake}
-use Rattle.command_spec.specs.Complete.{ReadsAs, IsUnprotected}
-use Rattle.command_spec.specs.Commands.Defect.{DefectOutcome}
-use Rattle.command_spec.specs.Commands.Format.{FormatOutcome}
 use Rattle.command_spec.specs.Input.{Ending, AtEnd, AtStop, IsPulse, IsPulses, Item, IsItem, IsScript, input_status}
-use Rattle.command_spec.specs.Commands.Lose.{LoseOutcome}
 use Rattle.command_spec.specs.Make.{Making, MakeOutcome, make_status}
 use Rattle.command_spec.specs.Commands.MakeCommand.{CanMake}
-use Rattle.command_spec.specs.Outcome.{Going, CommandOutcome, Opened, OpenOutcome, WritableOutcome, HasPlace, Printing, Shows}
+use Rattle.command_spec.specs.Outcome.{Going, CommandOutcome, Opened, OpenOutcome, WritableOutcome, HasPlace, Shows}
 use Rattle.command_spec.specs.Pulses.{SentOutcome}
-use Rattle.command_spec.specs.Commands.PulsesCommand.{IsOfTrains}
 use Rattle.command_spec.specs.Restore.{RestoreOutcome}
-use Rattle.command_spec.specs.Commands.RestoreCommand.{CanGive}
 use Rattle.command_spec.specs.Script.{Scripting, ScriptOutcome}
-use Rattle.command_spec.specs.Commands.ScriptCommand.{IsOfLines}
-use Rattle.command_spec.specs.Scrub.{Mends, ScrubOutcome}
 use Rattle.command_spec.specs.declared.status.Status.{Status}
 use Rattle.qic_base.specs.Cartridge.{Cartridge, view_at}
 use Rattle.qic_base.specs.Terms.{IsCartridge}
@@ -86,14 +80,15 @@ shows_done prints c plain outcome there opened = ap status_of (goes_on (Shows pr
 pub append_goes : (name : List ℕ) (date : ℕ) (input : List ℕ) (c : Cartridge) (outcome : CommandOutcome) → IsUnprotected c → CanTake c input → AppendOutcome name date (Some c) input outcome → outcome.status ≡ status.Done
 append_goes name date input c outcome free can does =
     let goes : Going = Appends name date input in
-    let plain : Plain = can.plain in
-    let on = goes_on goes c plain outcome can.mounts (is_opened goes c outcome free does) in
+    let plain : Plain = can.0 in
+    let on = goes_on goes c plain outcome can.1 (is_opened goes c outcome free does) in
     let have : ℕ = room_in (kept_in plain.words (entries_of plain)) in
-    ap status_of on.did ∙ ap (λ (b : Bool). cond b status.Done (status.Full (min (length input) (have + 1)) have)) can.room
+    ap status_of on.did ∙ ap (λ (b : Bool). cond b status.Done (status.Full (min (length input) (have + 1)) have)) can.2
 
 pub restore_goes : (number : ℕ) (c : Cartridge) (outcome : CommandOutcome) → CanGive c number → RestoreOutcome number (Some c) outcome → outcome.status ≡ status.Done
 restore_goes number c outcome can does =
-    (given_whole number c can.plain can.volume outcome can.has (given number c can.plain can.volume outcome can.has does) can.few).0
+    let has = can.1.1 in
+    (given_whole number c can.0 can.1.0 outcome has (given number c can.0 can.1.0 outcome has does) can.1.2).0
 
 pub scrub_goes : (c : Cartridge) (plain : Plain) (outcome : CommandOutcome) → IsUnprotected c → ReadsAs c plain → ScrubOutcome (Some c) outcome → outcome.status ≡ status.Done
 scrub_goes c plain outcome free there does =

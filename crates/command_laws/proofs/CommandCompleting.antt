@@ -3,7 +3,7 @@ use Rattle.std.proofs.Common.{◌≡◌, inl, inr, ℕ, List, Option, IfSome, �
 use Rattle.command_laws.proofs.CommandEnds.{over_map, told_whole}
 use Rattle.command_laws.proofs.CommandTable.{done_where_all_is_there}
 use Rattle.command_laws.proofs.TextWords.{one_command}
-use Rattle.command_spec.specs.Headline.{Answers}
+use Rattle.command_laws.specs.Terms.{Answers}
 use Rattle.command_spec.specs.Machine.{HasValues, Spells, Step, Yields, CanBeDone}
 use Rattle.command_spec.specs.Runs.{OverTold}
 use Rattle.command_spec.specs.declared.status.Status.{Status}

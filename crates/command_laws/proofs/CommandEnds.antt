@@ -5,10 +5,11 @@ use Rattle.std.specs.Prelude.{is_some}
 use Rattle.command_laws.proofs.CommandEndings.{refused_front, shorter_front, text_front}
 use Rattle.command_laws.proofs.CommandTable.{plain_answers}
 use Rattle.command_spec.specs.Commands.{traits_of}
-use Rattle.command_spec.specs.Headline.{EachLeft, StopsGoOn, Stepped, Answers, NoneRose, WasCut, IsCut, WordsLeave, Joins, PrintsFront}
-use Rattle.command_spec.specs.Machine.{HasValues, Yields, Spells}
+use Rattle.command_spec.specs.Headline.{EachLeft, StopsGoOn, Stepped, NoneRose, IsCut, WordsLeave, Joins}
+use Rattle.command_laws.specs.Terms.{Answers}
+use Rattle.command_spec.specs.Machine.{HasValues, Yields, Spells, FrontPrints}
 use Rattle.command_spec.specs.Outcome.{CommandOutcome, output_of}
-use Rattle.command_spec.specs.Runs.{fault_of, may_come_from, is_fault, is_outcome, InputLeft, Finished, CommandEnds}
+use Rattle.command_spec.specs.Runs.{fault_of, may_come_from, is_fault, is_outcome, InputLeft, Finished, CommandEnds, IsCutOff}
 use Rattle.command_spec.specs.declared.status.Status.{Status}
 use Rattle.command_spec.specs.declared.words.Words.{Words}
 use Rattle.qic_base.proofs.Outcomes.{cut_is_torn, cut_stops, cut_took_front, cut_fell_none, cut_rose}
@@ -192,8 +193,7 @@ module _ {T S K : Type 0} (t : tapes.Meaning T) (s : sources.Meaning S) (k : sin
     spelled,
     over_map (t.told old.tape) (s.left old.source) _ _ stopped.told (λ held input told off.
         let some = has_outcome laws spelled values held input told in
-        subst (WasCut t s k command held input old new) (same_failing other failing (sym was ∙ is))
-        (record { outcome = some.0; plain = some.1; off = off.1 some.0 some.1 })),
+        (some.0, some.1, subst (λ (f : Failing). IsCutOff t s k command old new f some.0) (same_failing other failing (sym was ∙ is)) (off.1 some.0 some.1))),
   )
 
   -- what a run did, over what the tape told
@@ -275,26 +275,23 @@ module _ {T S K : Type 0} (t : tapes.Meaning T) (s : sources.Meaning S) (k : sin
   ends_finished (inr (failing, is, stopped)) sound =
       let fault : is_fault answer ≡ true = ap is_fault is ∙ is_a_fault failing in absurd (cc)
 
-  pub ends_begun : Laws t s k old new → Spells words command → CommandEnds t s k command old new answer → PrintsFront k command old.sink new.sink
+  pub ends_begun : Laws t s k old new → Spells words command → CommandEnds t s k command old new answer → (text : List ℕ) × FrontPrints command text × k.took old.sink text new.sink
   ends_begun laws spelled (inl finished) = by_answer (done_or_not answer)
     where
-      by_answer : (answer ≡ status.Done) ⊎ (answer ≢ status.Done) → PrintsFront k command old.sink new.sink
-      by_answer (inl is) = record {
-        text = output_of finished.outcome;
-        is_front = text_front command (output_of finished.outcome) (finished.prints.0 is);
-        took = finished.went.wrote.took;
-      }
-      by_answer (inr other) = record {
-        text = output_of finished.outcome;
-        is_front = refused_front command answer (output_of finished.outcome) (finished.prints.1 other);
-        took = finished.went.wrote.took;
-      }
+      by_answer : (answer ≡ status.Done) ⊎ (answer ≢ status.Done) → (text : List ℕ) × FrontPrints command text × k.took old.sink text new.sink
+      by_answer (inl is) = (
+        output_of finished.outcome,
+        text_front command (output_of finished.outcome) (finished.prints.0 is),
+        finished.went.wrote.took,
+      )
+      by_answer (inr other) = (
+        output_of finished.outcome,
+        refused_front command answer (output_of finished.outcome) (finished.prints.1 other),
+        finished.went.wrote.took,
+      )
   ends_begun laws spelled (inr (failing, is, stopped)) =
-      let took = cut_took_front t s k old new stopped.acts failing stopped.cut in record {
-        text = took.front;
-        is_front = shorter_front command took.front took.rest (text_of stopped.acts) took.parts stopped.front;
-        took = took.took;
-      }
+      let took = cut_took_front t s k old new stopped.acts failing stopped.cut in
+      (took.front, shorter_front command took.front took.rest (text_of stopped.acts) took.parts stopped.front, took.took)
 
   pub ends_silent : CommandEnds t s k command old new answer → (traits_of command).goes ≡ false → answer ≢ status.Done → answer ≢ status.SinkFault → new.sink ≡ old.sink
   ends_silent (inl finished) still other fault = finished.silent still other

@@ -17,17 +17,16 @@ use Rattle.command_laws.proofs.RestoreCounts.{restores_in_no_step}
 use Rattle.command_laws.proofs.RestoreEndings.{restores_is_function}
 use Rattle.command_laws.proofs.ScriptMachineLaws.{one_outcome as one_script}
 use Rattle.command_laws.proofs.ScrubTurns.{scrubs_is_function}
+use Rattle.command_spec.specs.Commands.Single.{DefectOutcome, FormatOutcome, LoseOutcome}
+use Rattle.command_laws.specs.Terms.{cleared, formatted, Printing, Mends, ScrubOutcome}
 use Rattle.command_laws.specs.CommandTerms.{Appends}
-use Rattle.command_spec.specs.Commands.Defect.{DefectOutcome}
-use Rattle.command_spec.specs.Commands.Format.{FormatOutcome, cleared, formatted}
-use Rattle.command_spec.specs.Commands.Lose.{LoseOutcome}
 use Rattle.command_spec.specs.Make.{Answer, Making, make_status}
-use Rattle.command_spec.specs.Outcome.{refused, CommandOutcome, Going, Opened, OpenOutcome, WritableOutcome, Printing, Shows, settling_act, HasPlace}
+use Rattle.command_spec.specs.Outcome.{refused, CommandOutcome, Going, Opened, OpenOutcome, WritableOutcome, Shows, settling_act, HasPlace}
 use Rattle.command_laws.specs.PulseRuns.{sent, info_of}
 use Rattle.command_spec.specs.Pulses.{SentOutcome, train_acts}
 use Rattle.command_spec.specs.Restore.{GivingEnd, Restores, pieces, Gives, ending_status, RestoreOutcome}
 use Rattle.command_spec.specs.Script.{Scripting}
-use Rattle.command_spec.specs.Scrub.{Mends, Scrubs, ScrubOutcome}
+use Rattle.command_spec.specs.Scrub.{Scrubs}
 use Rattle.command_spec.specs.declared.status.Status.{Status}
 use Rattle.drive_spec.specs.Record.{power_on}
 use Rattle.qic_base.proofs.Steps.{Torn-append}

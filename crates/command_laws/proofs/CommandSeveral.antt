@@ -38,7 +38,7 @@ use Rattle.command_spec.specs.Outcome.{Going, CommandOutcome, refused, Opened, O
 use Rattle.command_spec.specs.Runs.{may_come_from, fault_of, is_fault, CommandEnds}
 use Rattle.command_spec.specs.Script.{ScriptDoes, Scripting, ScriptOutcome}
 use Rattle.command_spec.specs.ScriptLists.{CameFurther, ItemsSpare, StandsAnswered}
-use Rattle.command_spec.specs.Several.{FirstLinesSpare, Scripted, SomeMade, MakesVolumes, SomeScripted, CarriesOutLines}
+use Rattle.command_spec.specs.Several.{FirstLinesSpare, Scripted, SomeMade, SomeScripted, AllAnswered, AllMade, Generated}
 use Rattle.command_spec.specs.Volumes.{IsCarriedOut}
 use Rattle.command_spec.specs.declared.status.Status.{Status}
 use Rattle.command_spec.specs.declared.words.Words.{Words}
@@ -434,39 +434,41 @@ some_made told words held left values whole (inr (command, spelled, leaves)) see
     subst (λ (w : Words). StopLeaves told w (Some c) left) same (subst (λ (h : Option Cartridge). StopLeaves told command h left) is leaves) in
     make_stopped seed count (values other run.spelled) c plain (whole_of held c whole is) run.stands l.outcome left live l.plain l.torn
 
+pub makes_stop : {T : Type 0} (t : tapes.Meaning T) (told : Option (List ℕ)) (words : List (List ℕ)) (a b : T) → tape_calls.IsToldRight (t.told a) (t.size a) →
+    ((other : Words) → Spells words other → HasValues other) → EachLeft t a b (WordsLeave told words) → EachLeft t a b (SomeMade words)
+makes_stop t told words a b right values leaves = each_weaker t a b right (λ held left whole is. some_made told words held left values whole is) leaves
+
 pub makes_volumes : {T S K : Type 0} (t : tapes.Meaning T) (s : sources.Meaning S) (k : sinks.Meaning K) (words : List (List ℕ)) (command : Words) (old new : Outside T S K) (answer : Status) →
     Laws t s k old new → Spells words command → ((other : Words) → Spells words other → HasValues other) → CommandEnds t s k command old new answer →
-    EachLeft t old.tape new.tape (WordsLeave (s.left old.source) words) → MakesVolumes t k words old.tape new.tape old.sink new.sink answer
-makes_volumes t s k words command old new answer laws spelled values ends leaves = record {
-  stopped = each_weaker t old.tape new.tape laws.right (λ held left whole is. some_made (s.left old.source) words held left values whole is) leaves;
-  over = λ seed count c plain told run.
-      let other : Words = commands.Make seed count in
-      let same : command ≡ other = one_command words command other spelled run.spelled in
-      let few : count ≤ 200 = values other run.spelled in
-      let whole : IsCartridge c = told_whole (Some c) (t.told old.tape) (t.size old.tape) laws.right told in
-      let ran = ends_ran t s k other old new answer laws few (subst (λ (w : Words). CommandEnds t s k w old new answer) same ends) c told in
-      let was = ran.was in record {
-        text = was.text;
-        took = was.took;
-        answered = λ sound.
-            let all = ran.sound sound in
-            let made = make_answered seed count few c plain whole run.stands ran.outcome ran.plain in (
-              made.0,
-              subst (λ (why : Status). AppendedBy seed count plain.words (entries_of plain) why made.0) all.0 made.1,
-              now_weaker t old.tape new.tape
-                  (λ left is. subst (λ (o : Option Cartridge). IsSomeAnd o (λ d. Stands d (with_all plain (made_contents seed 1 made.0)))) (sym is) made.2)
-                  (done_now t old.tape new.tape (steps_of ran.outcome.acts) (Some c) all.1 told),
-            );
-        all = λ live which. elim which [
-          | inl some ↦ now_weaker t old.tape new.tape
-              (λ left is. make_printed seed count few c plain whole run.stands ran.outcome was.text left live ran.plain some is) was.each
-          | inr sink ↦
-              let broken = ran.broke sink in
-              now_weaker t old.tape new.tape
-              (λ left is. make_broken seed count few c plain whole run.stands ran.outcome broken.text left live ran.plain is) broken.each
-        ];
-      };
-}
+    (seed count : ℕ) (c : Cartridge) (plain : Plain) → t.told old.tape ≡ Some (Some c) → Generated words seed count c plain →
+    AllMade t k new.tape old.sink new.sink answer seed count c plain
+makes_volumes t s k words command old new answer laws spelled values ends seed count c plain told run =
+    let other : Words = commands.Make seed count in
+    let same : command ≡ other = one_command words command other spelled run.spelled in
+    let few : count ≤ 200 = values other run.spelled in
+    let whole : IsCartridge c = told_whole (Some c) (t.told old.tape) (t.size old.tape) laws.right told in
+    let ran = ends_ran t s k other old new answer laws few (subst (λ (w : Words). CommandEnds t s k w old new answer) same ends) c told in
+    let was = ran.was in record {
+      text = was.text;
+      took = was.took;
+      answered = λ sound.
+          let all = ran.sound sound in
+          let made = make_answered seed count few c plain whole run.stands ran.outcome ran.plain in (
+            made.0,
+            subst (λ (why : Status). AppendedBy seed count plain.words (entries_of plain) why made.0) all.0 made.1,
+            now_weaker t old.tape new.tape
+                (λ left is. subst (λ (o : Option Cartridge). IsSomeAnd o (λ d. Stands d (with_all plain (made_contents seed 1 made.0)))) (sym is) made.2)
+                (done_now t old.tape new.tape (steps_of ran.outcome.acts) (Some c) all.1 told),
+          );
+      all = λ live which. elim which [
+        | inl some ↦ now_weaker t old.tape new.tape
+            (λ left is. make_printed seed count few c plain whole run.stands ran.outcome was.text left live ran.plain some is) was.each
+        | inr sink ↦
+            let broken = ran.broke sink in
+            now_weaker t old.tape new.tape
+            (λ left is. make_broken seed count few c plain whole run.stands ran.outcome broken.text left live ran.plain is) broken.each
+      ];
+    }
 
 -- ---- a script
 
@@ -616,58 +618,56 @@ some_scripted told words held left whole (inr (command, spelled, leaves)) c plai
     subst (λ (w : Words). StopLeaves told w (Some c) left) same (subst (λ (h : Option Cartridge). StopLeaves told command h left) is leaves) in
     script_stopped told words c plain (whole_of held c whole is) script l.input l.outcome left live (same_input told script.input l.input script.is_told l.is_told) l.plain count spares l.torn
 
+pub scripts_stop : {T : Type 0} (t : tapes.Meaning T) (told : Option (List ℕ)) (words : List (List ℕ)) (a b : T) → tape_calls.IsToldRight (t.told a) (t.size a) →
+    EachLeft t a b (WordsLeave told words) → EachLeft t a b (SomeScripted told words)
+scripts_stop t told words a b right leaves = each_weaker t a b right (λ held left whole is. some_scripted told words held left whole is) leaves
+
 pub carries_out_lines : {T S K : Type 0} (t : tapes.Meaning T) (s : sources.Meaning S) (k : sinks.Meaning K) (words : List (List ℕ)) (command : Words) (old new : Outside T S K) (answer : Status) →
     Laws t s k old new → Spells words command → CommandEnds t s k command old new answer →
-    EachLeft t old.tape new.tape (WordsLeave (s.left old.source) words) → CarriesOutLines t k (s.left old.source) words old.tape new.tape old.sink new.sink answer
-carries_out_lines t s k words command old new answer laws spelled ends leaves = record {
-  stopped = each_weaker t old.tape new.tape laws.right (λ held left whole is. some_scripted (s.left old.source) words held left whole is) leaves;
-  over = λ c plain told script.
-      let same : command ≡ commands.Script = one_command words command commands.Script spelled script.spelled in
-      let whole : IsCartridge c = told_whole (Some c) (t.told old.tape) (t.size old.tape) laws.right told in
-      let ran = ends_ran t s k commands.Script old new answer laws tt (subst (λ (w : Words). CommandEnds t s k w old new answer) same ends) c told in
-      let was = ran.was in record {
-        text = was.text;
-        took = was.took;
-        answered = λ live count further spares. now_weaker t old.tape new.tape
-            (λ left is. script_answered (s.left old.source) words c plain whole script ran.input ran.outcome was.text left live
-            (same_input (s.left old.source) script.input ran.input script.is_told ran.is_told) ran.plain (count, spares.0, further, spares.1) is) was.each;
-        all = λ heard spares.
-            let all = ran.heard heard in
-            now_weaker t old.tape new.tape
-            (λ left is. subst (λ (o : Option Cartridge). IsSomeAnd o (λ d. Stands d (plain_behind plain script.does.items script.does.dids))) (sym is)
-            (script_heard (s.left old.source) words c plain whole script ran.input ran.outcome
-            (same_input (s.left old.source) script.input ran.input script.is_told ran.is_told) ran.plain (subst IsHeard (sym all.0) heard) spares))
-            (done_now t old.tape new.tape (steps_of ran.outcome.acts) (Some c) all.1 told);
-      };
-}
+    (c : Cartridge) (plain : Plain) → t.told old.tape ≡ Some (Some c) → (script : Scripted (s.left old.source) words c plain) →
+    AllAnswered t k new.tape old.sink new.sink answer script
+carries_out_lines t s k words command old new answer laws spelled ends c plain told script =
+    let same : command ≡ commands.Script = one_command words command commands.Script spelled script.spelled in
+    let whole : IsCartridge c = told_whole (Some c) (t.told old.tape) (t.size old.tape) laws.right told in
+    let ran = ends_ran t s k commands.Script old new answer laws tt (subst (λ (w : Words). CommandEnds t s k w old new answer) same ends) c told in
+    let was = ran.was in record {
+      text = was.text;
+      took = was.took;
+      answered = λ live count further spares. now_weaker t old.tape new.tape
+          (λ left is. script_answered (s.left old.source) words c plain whole script ran.input ran.outcome was.text left live
+          (same_input (s.left old.source) script.input ran.input script.is_told ran.is_told) ran.plain (count, spares.0, further, spares.1) is) was.each;
+      all = λ heard spares.
+          let all = ran.heard heard in
+          now_weaker t old.tape new.tape
+          (λ left is. subst (λ (o : Option Cartridge). IsSomeAnd o (λ d. Stands d (plain_behind plain script.does.items script.does.dids))) (sym is)
+          (script_heard (s.left old.source) words c plain whole script ran.input ran.outcome
+          (same_input (s.left old.source) script.input ran.input script.is_told ran.is_told) ran.plain (subst IsHeard (sym all.0) heard) spares))
+          (done_now t old.tape new.tape (steps_of ran.outcome.acts) (Some c) all.1 told);
+    }
 
 -- ---- a run that touched nothing
 
 untouched_now : {T : Type 0} (t : tapes.Meaning T) (a : T) (c : Cartridge) (P : Option Cartridge → Type 0) → t.told a ≡ Some (Some c) → P (Some c) → ToldNow t a P
 untouched_now t a c P told holds = subst (λ (o : Option (Option Cartridge)). IsSomeAnd o P) (sym told) holds
 
-pub none_made : {T K : Type 0} (t : tapes.Meaning T) (k : sinks.Meaning K) (told : Option (List ℕ)) (words : List (List ℕ)) (a : T) (x : K) (answer : Status) → tape_calls.IsToldRight (t.told a) (t.size a) →
-    k.took x [] x → (IsCarriedOut answer → ⊥) → ((seed count : ℕ) (words : List ℕ) (es : List Entry) → AppendedFrom seed 1 count words es answer 0) → ((other : Words) → Spells words other → HasValues other) → EachLeft t a a (WordsLeave told words) → MakesVolumes t k words a a x x answer
-none_made t k told words a x answer right nothing never unmade values leaves = record {
-  stopped = each_weaker t a a right (λ held left whole is. some_made told words held left values whole is) leaves;
-  over = λ seed count c plain is run. record {
-    text = [];
-    took = nothing;
-    answered = λ sound.
-        (0, appended_by seed count plain.words (entries_of plain) answer 0 (omega arith) (unmade seed count plain.words (entries_of plain)), untouched_now t a c (λ left. IsSomeAnd left (λ d. Stands d plain)) is run.stands);
-    all = λ live which. elim which [ inl some ↦ absurd (some refl) | inr sink ↦ absurd (never (inr sink)) ];
-  };
+pub none_made : {T K : Type 0} (t : tapes.Meaning T) (k : sinks.Meaning K) (words : List (List ℕ)) (a : T) (x : K) (answer : Status) →
+    k.took x [] x → (IsCarriedOut answer → ⊥) → ((seed count : ℕ) (words : List ℕ) (es : List Entry) → AppendedFrom seed 1 count words es answer 0) →
+    (seed count : ℕ) (c : Cartridge) (plain : Plain) → t.told a ≡ Some (Some c) → Generated words seed count c plain → AllMade t k a x x answer seed count c plain
+none_made t k words a x answer nothing never unmade seed count c plain is run = record {
+  text = [];
+  took = nothing;
+  answered = λ sound.
+      (0, appended_by seed count plain.words (entries_of plain) answer 0 (omega arith) (unmade seed count plain.words (entries_of plain)), untouched_now t a c (λ left. IsSomeAnd left (λ d. Stands d plain)) is run.stands);
+  all = λ live which. elim which [ inl some ↦ absurd (some refl) | inr sink ↦ absurd (never (inr sink)) ];
 }
 
-pub none_scripted : {T K : Type 0} (t : tapes.Meaning T) (k : sinks.Meaning K) (told : Option (List ℕ)) (words : List (List ℕ)) (a : T) (x : K) (answer : Status) → tape_calls.IsToldRight (t.told a) (t.size a) →
-    k.took x [] x → (IsHeard answer → ⊥) → EachLeft t a a (WordsLeave told words) → CarriesOutLines t k told words a a x x answer
-none_scripted t k told words a x answer right nothing unheard leaves = record {
-  stopped = each_weaker t a a right (λ held left whole is. some_scripted told words held left whole is) leaves;
-  over = λ c plain is script. record {
-    text = [];
-    took = nothing;
-    answered = λ live count further spares. untouched_now t a c (StandsAnswered plain script.does.items script.does.dids 0) is
-        (none_answered (settled plain.table_area c) plain script.input script.outcome (Some c) script.does script.bytes script.stands);
-    all = λ heard spares. absurd (unheard heard);
-  };
+pub none_scripted : {T K : Type 0} (t : tapes.Meaning T) (k : sinks.Meaning K) (told : Option (List ℕ)) (words : List (List ℕ)) (a : T) (x : K) (answer : Status) →
+    k.took x [] x → (IsHeard answer → ⊥) → (c : Cartridge) (plain : Plain) → t.told a ≡ Some (Some c) → (script : Scripted told words c plain) →
+    AllAnswered t k a x x answer script
+none_scripted t k told words a x answer nothing unheard c plain is script = record {
+  text = [];
+  took = nothing;
+  answered = λ live count further spares. untouched_now t a c (StandsAnswered plain script.does.items script.does.dids 0) is
+      (none_answered (settled plain.table_area c) plain script.input script.outcome (Some c) script.does script.bytes script.stands);
+  all = λ heard spares. absurd (unheard heard);
 }

@@ -22,17 +22,16 @@ use Rattle.command_laws.proofs.WholeSteps.{append_leaves, behind_leave, clearing
 use Rattle.command_laws.specs.MountedListed.{IsListed, listed_behind}
 use Rattle.command_laws.specs.ScriptStanding.{HaveBytes, LineHasBytes}
 use Rattle.command_spec.specs.Append.{AppendOutcome, Fits, Kept, Taking, TooLong, TooShort, append_acts, kept_over, room_in, taking}
+use Rattle.command_spec.specs.Commands.Single.{FormatOutcome}
 use Rattle.command_laws.specs.CommandTerms.{Appends, silently, made_acts}
-use Rattle.command_spec.specs.Commands.Format.{FormatOutcome}
 use Rattle.command_spec.specs.Generator.{made_bytes, made_length}
 use Rattle.command_spec.specs.Input.{AtEnd, AtFault, AtStop, Ending, Item}
 use Rattle.command_spec.specs.Lines.{reply_behind}
 use Rattle.command_spec.specs.Make.{Answer, AppendMade, Making, MakeStep, Runs, ScrubAll, StepDoes, SumVolume, WearSector, after_item, made_name, making}
-use Rattle.command_spec.specs.Commands.New.{NewOutcome}
-use Rattle.command_spec.specs.Outcome.{CommandOutcome, Opened, Printing, Shows, StepOutcome}
+use Rattle.command_laws.specs.Terms.{NewOutcome, Printing, Mends}
+use Rattle.command_spec.specs.Outcome.{CommandOutcome, Opened, Shows, StepOutcome}
 use Rattle.command_spec.specs.Restore.{GivingEnd, Gives, LostIn, MismatchIn, Restored, framed, pieces}
 use Rattle.command_spec.specs.Script.{Did, EndDoes, Finds, ItemsDo, LineDoes, Meeting, Meets, Refuses, Scripting, acts_of, acts_on, append_did, cartridge_behind, entries_behind, given_as, line_refused, place_behind, refusal_line, reply, taken_as}
-use Rattle.command_spec.specs.Scrub.{Mends}
 use Rattle.command_spec.specs.declared.line.Line.{Line}
 use Rattle.gf256_qic.proofs.Parities.{all_right}
 use Rattle.qic_base.specs.Acts.{Act, steps_of, text_of}

@@ -26,7 +26,8 @@ use Rattle.command_spec.specs.Headline.{Stepped, ToldNow}
 use Rattle.command_spec.specs.Machine.{Spells, Yields}
 use Rattle.command_spec.specs.Outcome.{CommandOutcome, Opened}
 use Rattle.command_spec.specs.Runs.{is_fault}
-use Rattle.command_spec.specs.ScrubForms.{MendsDeep, ScrubsAs, ScrubsDeepOn}
+use Rattle.command_laws.specs.Terms.{MendsDeep, ScrubsDeepOn}
+use Rattle.command_spec.specs.ScrubForms.{ScrubsAs}
 use Rattle.command_spec.specs.declared.depth.Depth.TheVariants.{Deep}
 use Rattle.command_spec.specs.declared.status.Status.{Status}
 use Rattle.command_spec.specs.declared.words.Words.{Words}

@@ -29,10 +29,10 @@ use Rattle.command_laws.proofs.ScrubSeen.{IsSeen, SameIn, same_back, wrong_same}
 use Rattle.command_laws.proofs.ScrubStanding.{copy_reads, in_force, looks_in_front, table_kept}
 use Rattle.command_laws.specs.ScrubFound.{without_all}
 use Rattle.command_laws.specs.ScrubSayings.{Rise}
-use Rattle.command_spec.specs.Commands.DeepScrubCommand.{IsFirstCopyRight}
+use Rattle.command_laws.specs.Terms.{IsFirstCopyRight, DeepScrubOutcome, MendsDeep, ScrubsDeepOn}
 use Rattle.command_spec.specs.Outcome.{CommandOutcome, Opened}
 use Rattle.command_spec.specs.Scrub.{Looked, looked_at, whole_segment}
-use Rattle.command_spec.specs.ScrubForms.{DeepScrubOutcome, Finding, IsWrong, MendsDeep, ScrubsAs, ScrubsDeepOn}
+use Rattle.command_spec.specs.ScrubForms.{Finding, IsWrong, ScrubsAs}
 use Rattle.command_spec.specs.declared.depth.Depth.{Depth}
 use Rattle.command_spec.specs.declared.depth.Depth.TheVariants.{Deep}
 use Rattle.qic_base.specs.Acts.{Act, steps_of}

@@ -30,7 +30,7 @@ use Rattle.command_spec.specs.MadeVolumes.{made_contents}
 use Rattle.command_spec.specs.Outcome.{CommandOutcome, output_of}
 use Rattle.command_spec.specs.Script.{Did, ScriptDoes, Scripting, ScriptOutcome}
 use Rattle.command_spec.specs.ScriptLists.{all_added}
-use Rattle.command_spec.specs.Volumes.{KeepsCopies, KeepsLive, KeepsVolumes}
+use Rattle.command_laws.specs.Terms.{KeepsCopies, KeepsLive, KeepsVolumes}
 use Rattle.command_spec.specs.declared.status.Status.{Status}
 use Rattle.command_spec.specs.declared.words.Words.{Words}
 use Rattle.qic_base.specs.Acts.{Act, steps_of, text_of}

@@ -17,16 +17,14 @@ use Rattle.command_laws.proofs.CommandStep.{step_leaves}
 use Rattle.command_laws.proofs.CommandTable.ProtectCommand.{mark_keeps}
 use Rattle.command_laws.proofs.CommandTable.UpgradeCommand.{version_keeps}
 use Rattle.command_laws.specs.Life.{LossSpares}
+use Rattle.command_laws.specs.Terms.{telling, listing, Mends}
 use Rattle.command_laws.specs.CommandTerms.{Appends}
-use Rattle.command_spec.specs.Commands.Info.{telling}
 use Rattle.command_spec.specs.Lines.{protected_line, upgraded_line}
-use Rattle.command_spec.specs.Commands.ListCommand.{listing}
 use Rattle.command_spec.specs.Machine.{Yields}
 use Rattle.command_spec.specs.Make.{Making}
 use Rattle.command_spec.specs.Outcome.{CommandOutcome, Going, HasPlace, OpenOutcome, Opened, Shows, WritableOutcome}
 use Rattle.command_spec.specs.Restore.{Gives}
 use Rattle.command_spec.specs.Script.{Scripting}
-use Rattle.command_spec.specs.Scrub.{Mends}
 use Rattle.command_spec.specs.declared.words.Words.{Words}
 use Rattle.qic_base.specs.Acts.{steps_of}
 use Rattle.qic_base.specs.Cartridge.{Cartridge, view_at}

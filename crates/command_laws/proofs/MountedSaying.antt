@@ -10,7 +10,8 @@ use Rattle.cartridge_spec.specs.Settling.{changed_by}
 use Rattle.command_laws.proofs.RestoreEndings.{by_saying}
 use Rattle.command_laws.specs.MountedListed.{RestoresAnyway, ScrubsAnyway}
 use Rattle.command_spec.specs.Restore.{Restored, piece_cells}
-use Rattle.command_spec.specs.Scrub.{Looked, cells_at, steps_in, SayInTurn, looked_at, scrub_acts}
+use Rattle.command_spec.specs.Scrub.{Looked, cells_at, steps_in, SayInTurn, looked_at}
+use Rattle.command_laws.specs.Terms.{scrub_acts}
 use Rattle.qic_base.specs.Cartridge.{IsSector, Cartridge}
 use Rattle.qic_base.specs.Terms.{IsView}
 use Rattle.qic_base.specs.declared.tape.SectorView.{SectorView}

@@ -14,7 +14,8 @@ use Rattle.command_spec.specs.Lines.{number_line, place_line, appended_line, lis
 use Rattle.command_spec.specs.Restore.{Restored, LostIn, MismatchIn}
 use Rattle.command_spec.specs.Script.{no_volume_line, refusal_line, line_refused, reply, given_as, taken_as, Did, LineDoes, Meeting, Finds, Refuses, append_did, ItemsDo, ScriptDoes}
 use Rattle.command_spec.specs.Outcome.{CommandOutcome}
-use Rattle.command_spec.specs.Scrub.{Counts, counts_line, counts_of, last_act, looked_at, looking_acts}
+use Rattle.command_spec.specs.Scrub.{Counts, counts_line, looked_at, looking_acts}
+use Rattle.command_laws.specs.Terms.{counts_of, last_act}
 use Rattle.command_spec.specs.declared.line.Line.{Line}
 use Rattle.command_spec.specs.declared.refusal.Refusal.{Refusal}
 use Rattle.qic_base.proofs.Joins.{text_of-append}

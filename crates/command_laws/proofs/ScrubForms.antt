@@ -24,8 +24,9 @@ use Rattle.command_laws.specs.DeepScrubLaws.{ShallowIsScrub, FoundMayBe, FindsAt
 use Rattle.command_laws.specs.ScrubFound.{FindAtOnce, without_all, IsBeingScrubbed}
 use Rattle.command_laws.specs.ScrubMended.{IsMended, IsBeingMended, IsScrubbed}
 use Rattle.command_laws.specs.ScrubSayings.{Rise, SayAtOnce, acts_at_once}
-use Rattle.command_spec.specs.Scrub.{reads, Looked, looked_at, SayInTurn, looking_acts, scrub_acts, steps_in, look_act, unread_count, last_act}
-use Rattle.command_spec.specs.ScrubForms.{MayFind, Finding, FindInTurn, HasFound, ScrubsAs, finding_acts, acts_for, counts_for, sayings_of, steps_for, without}
+use Rattle.command_spec.specs.Scrub.{reads, Looked, looked_at, SayInTurn, looking_acts, steps_in, unread_count}
+use Rattle.command_laws.specs.Terms.{last_act, scrub_acts, look_act, acts_for, counts_for}
+use Rattle.command_spec.specs.ScrubForms.{MayFind, Finding, FindInTurn, HasFound, ScrubsAs, finding_acts, sayings_of, steps_for, without}
 use Rattle.command_spec.specs.declared.depth.Depth.{Depth}
 use Rattle.command_spec.specs.declared.depth.Depth.TheVariants.{Shallow}
 use Rattle.qic_base.proofs.Joins.{steps_of-append}

@@ -21,7 +21,8 @@ use Rattle.command_laws.proofs.ScrubStanding.{cell_at, same_place}
 use Rattle.command_laws.proofs.ScrubTurns.{steps_whole}
 use Rattle.command_laws.specs.DeepScrubLaws.{FormIsFunction, FormAlways}
 use Rattle.command_spec.specs.Scrub.{Looked, cells_at, reads, looked_at}
-use Rattle.command_spec.specs.ScrubForms.{Finding, IsSearched, IsWrong, HasFound, Finds, FindInTurn, acts_for, steps_for, without}
+use Rattle.command_spec.specs.ScrubForms.{Finding, IsSearched, IsWrong, HasFound, FindInTurn, steps_for, without}
+use Rattle.command_laws.specs.Terms.{Finds, acts_for}
 use Rattle.command_spec.specs.declared.depth.Depth.{Depth}
 use Rattle.command_spec.specs.declared.depth.Depth.TheVariants.{Shallow, Deep}
 use Rattle.qic_base.proofs.Steps.{Torn-all}

@@ -14,7 +14,8 @@ use Rattle.cartridge_laws.proofs.AppendKeeping.{steps_kept}
 use Rattle.command_laws.specs.ScrubFound.{FindAtOnce, finds_at_once, without_all}
 use Rattle.command_laws.specs.ScrubSayings.{Rise, SayAtOnce, acts_at_once}
 use Rattle.command_spec.specs.Scrub.{Looked, cells_at}
-use Rattle.command_spec.specs.ScrubForms.{Finding, IsSearched, IsWrong, HasFound, Finds, FindInTurn, finding_acts, find_act, steps_for, line_for, sayings_of, without}
+use Rattle.command_spec.specs.ScrubForms.{Finding, IsSearched, IsWrong, HasFound, FindInTurn, finding_acts, steps_for, line_for, sayings_of, without}
+use Rattle.command_laws.specs.Terms.{Finds, find_act}
 use Rattle.command_spec.specs.declared.depth.Depth.{Depth}
 use Rattle.qic_base.specs.Acts.{Act, steps_of}
 use Rattle.qic_base.specs.Cartridge.{Cartridge, view_at}

@@ -5,7 +5,7 @@ use Rattle.cartridge_spec.specs.Formatting.{HasCleanCopies, HasNoHeader}
 use Rattle.cartridge_spec.specs.HeaderAndTable.{IsArea}
 use Rattle.command_spec.specs.Machine.{Step, Yields, HasValues, CanBeDone}
 use Rattle.command_spec.specs.Outcome.{CommandOutcome}
-use Rattle.command_spec.specs.Volumes.{KeepsCopies, KeepsLive}
+use Rattle.command_laws.specs.Terms.{KeepsCopies, KeepsLive}
 use Rattle.command_spec.specs.declared.status.Status.{Status}
 use Rattle.command_spec.specs.declared.words.Words.{Words}
 use Rattle.qic_base.specs.Acts.{steps_of}

@@ -13,11 +13,11 @@ use Rattle.command_laws.specs.ScrubFound.{FindAtOnce, finds_at_once, without_all
 use Rattle.command_laws.specs.ScrubLaws.{AreAllLive}
 use Rattle.command_laws.specs.ScrubMended.{IsScrubbed}
 use Rattle.command_laws.specs.SilentSectors.{DiffersSilently}
-use Rattle.command_spec.specs.Commands.DeepScrubCommand.{IsFirstCopyRight}
+use Rattle.command_laws.specs.Terms.{IsFirstCopyRight, ScrubsDeepOn}
 use Rattle.command_spec.specs.Machine.{Yields}
 use Rattle.command_spec.specs.Outcome.{CommandOutcome}
 use Rattle.command_spec.specs.Scrub.{Scrubs, Looked, looked_at}
-use Rattle.command_spec.specs.ScrubForms.{Finding, FindInTurn, MayBeFound, ScrubsAs, ScrubsDeepOn, finding_acts}
+use Rattle.command_spec.specs.ScrubForms.{Finding, FindInTurn, MayBeFound, ScrubsAs, finding_acts}
 use Rattle.command_spec.specs.declared.depth.Depth.{Depth}
 use Rattle.command_spec.specs.declared.depth.Depth.TheVariants.{Shallow, Deep}
 use Rattle.qic_base.specs.Acts.{Act, steps_of}

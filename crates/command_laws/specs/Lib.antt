@@ -30,6 +30,7 @@ pub mod ScrubLaws
 pub mod ScrubMended
 pub mod ScrubSayings
 pub mod SilentSectors
+pub mod Terms
 pub mod TextGenerator
 pub mod TextInput
 pub mod TextLaws

@@ -3,7 +3,8 @@ use Rattle.std.specs.Prelude.{◌≡◌, IsSomeAnd, List, Some, ℕ}
 use Rattle.cartridge_laws.specs.AppendSettled.{IsSettledFor}
 use Rattle.cartridge_spec.specs.Volumes.{Plain, Stands}
 use Rattle.command_laws.specs.SilentSectors.{DiffersSilently}
-use Rattle.command_spec.specs.Headline.{Answers, NoneRose, ToldNow}
+use Rattle.command_laws.specs.Terms.{Answers}
+use Rattle.command_spec.specs.Headline.{NoneRose, ToldNow}
 use Rattle.command_spec.specs.Machine.{Spells}
 use Rattle.command_spec.specs.Promises.{Promises}
 use Rattle.command_spec.specs.declared.status.Status.{Status}

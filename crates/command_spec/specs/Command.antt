@@ -1,11 +1,57 @@
--- All that is said of a command, in one record (this project's own).
-use Rattle.std.specs.Prelude.{ℕ, List, [], ◌++◌, ◌≡◌, Option, Bool, false}
-use Rattle.cartridge_spec.specs.Volumes.{Plain}
+-- All that is said of a command, in one record: what kind of a command it is, what it needs, does, prints and keeps (this
+-- project's own).
+use Rattle.std.specs.Prelude.{Bool, false, ◌≡◌, ℕ, List, [], ◌++◌, Option}
+use Rattle.cartridge_spec.specs.Mounting.{CanBeRead}
+use Rattle.cartridge_spec.specs.Volumes.{Plain, Stands}
 use Rattle.command_spec.specs.CommandWords.{Part}
 use Rattle.command_spec.specs.Outcome.{CommandOutcome}
-use Rattle.command_spec.specs.Traits.{Traits, none_of_them}
 use Rattle.command_spec.specs.declared.status.Status.{Status}
 use Rattle.qic_base.specs.Cartridge.{Cartridge}
+
+-- ---- its traits
+
+pub record Traits : Type 0 where
+  -- it reads the input; which is one of lines, one of which may be at fault
+  pub reads : Bool
+  pub lines : Bool
+  -- it prints as it goes, where the others print once all else is done; it takes memory
+  pub goes : Bool
+  pub memory : Bool
+  -- a missing cartridge stops it; a protected one does
+  pub cartridge : Bool
+  pub writable : Bool
+  -- it names a sector; one that was never formatted
+  pub sector : Bool
+  pub blank : Bool
+  -- it formats; mounts the cartridge; appends its whole input as a volume; gives volumes back, so it reads their segments
+  pub formats : Bool
+  pub mounts : Bool
+  pub appends : Bool
+  pub restores : Bool
+
+-- one with none of them
+abbrev pub none_of_them : Traits
+none_of_them = record {
+  reads = false; lines = false; goes = false; memory = false; cartridge = false; writable = false;
+  sector = false; blank = false; formats = false; mounts = false; appends = false; restores = false;
+}
+
+-- ---- what it may need of a cartridge
+
+-- the cartridge takes writes
+abbrev pub IsUnprotected : Cartridge → Type 0
+IsUnprotected c = c.info.protected ≡ false
+
+-- it stands for this plain one, and its volume table can be read
+pub record ReadsAs (c : Cartridge) (plain : Plain) : Type 0 where
+  pub stands : Stands c plain
+  pub reads : CanBeRead c
+
+-- it stands for some plain one, and its volume table can be read
+abbrev pub CanBeMounted : Cartridge → Type 0
+CanBeMounted c = (plain : Plain) × ReadsAs c plain
+
+-- ---- the record
 
 -- a command with its values
 pub record Command : Type 1 where

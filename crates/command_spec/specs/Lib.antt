@@ -2,7 +2,6 @@ pub mod Append
 pub mod Command
 pub mod CommandWords
 pub mod Commands
-pub mod Complete
 pub mod Copied
 pub mod CopyPromises
 pub mod Copying
@@ -25,5 +24,4 @@ pub mod ScriptLists
 pub mod Scrub
 pub mod ScrubForms
 pub mod Several
-pub mod Traits
 pub mod Volumes

@@ -50,15 +50,6 @@ is_outcome status.TapeFault = false
 is_outcome status.NoMemory = false
 is_outcome answer = true
 
--- these are the number of a volume that was asked for, and the count of those that there are, among which it is none
-abbrev pub is_no_volume : Words → (number count : ℕ) → Bool
-is_no_volume command number count = (command_of command).is_no_volume number count
-
--- there is no room for so many bytes: an append of the whole input asks for at most one byte beyond it, and a generated volume
--- for more than there is
-abbrev pub is_full : Words → (need have : ℕ) → Bool
-is_full command need have = (command_of command).is_full need have
-
 -- the commands that such an answer may come from, and with which numbers, whatever the tape and the source tell: a segment
 -- that doesn't read lost more than three sectors, and is that of the volume table but for commands that give volumes back; a foreign
 -- value is not the one that its field has to have
@@ -75,8 +66,8 @@ may_come_from (status.Lost segment lost) command =
     (traits_of command).mounts && (nat_lt 3 lost && ((traits_of command).restores || segment == 2))
 may_come_from (status.DefectInFront segment) command = (traits_of command).formats
 may_come_from status.TableMismatch command = (traits_of command).mounts
-may_come_from (status.Full need have) command = is_full command need have
-may_come_from (status.NoVolume number count) command = is_no_volume command number count
+may_come_from (status.Full need have) command = (command_of command).is_full need have
+may_come_from (status.NoVolume number count) command = (command_of command).is_no_volume number count
 may_come_from (status.Mismatch segment) command = (traits_of command).restores
 may_come_from answer command = false
 
@@ -85,11 +76,6 @@ abbrev pub IsOfBytes : Words → (told : Option (List ℕ)) → (input : List �
 IsOfBytes command told input = (traits_of command).appends ≡ true → IfNone told (All (λ b. b < 256) input)
 
 -- ---- how a command ended
-
--- the texts behind an answer: those of a command that was carried out, or that was refused
-abbrev pub Prints : Words → Status → List ℕ → Type 0
-Prints command answer text =
-    (answer ≡ status.Done → CommandPrints command text) × (answer ≢ status.Done → RefusedPrints command answer text)
 
 -- the input's fault is named, where one is answered, and Done comes only over an input without one
 pub record NamesFault (command : Words) (input : List ℕ) (answer : Status) : Type 0 where
@@ -107,7 +93,8 @@ pub record Finished {T S K : Type 0} (t : tapes.Meaning T) (s : sources.Meaning 
   -- and over any tape and source one that the command may have
   pub sound : may_come_from answer command ≡ true
   pub none_taken : (traits_of command).reads ≡ false → outcome.taken ≡ 0
-  pub prints : Prints command answer (output_of outcome)
+  pub prints : (answer ≡ status.Done → CommandPrints command (output_of outcome))
+      × (answer ≢ status.Done → RefusedPrints command answer (output_of outcome))
   pub silent : (traits_of command).goes ≡ false → answer ≢ status.Done → new.sink ≡ old.sink
   -- where the source tells its bytes their fault is named, if one is
   pub fault : IfSome (s.left old.source) (λ input. NamesFault command input answer)

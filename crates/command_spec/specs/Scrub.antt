@@ -1,5 +1,5 @@
 -- The plain machine of `scrub`: the segments that it looks at, what it writes and prints of each, and its counts (this project's own).
-use Rattle.std.specs.Prelude.{ℕ, List, [], ◌∷◌, ◌+◌, ◌++◌, Bool, true, false, nat_lt, if◌then◌else◌, codes, decimal, length, ◌≡◌, Option}
+use Rattle.std.specs.Prelude.{ℕ, List, [], ◌∷◌, ◌+◌, ◌++◌, Bool, true, false, nat_lt, if◌then◌else◌, codes, decimal, length, ◌≡◌}
 use Rattle.cartridge_spec.specs.Header.{has_signature}
 use Rattle.cartridge_spec.specs.Mounting.{settled}
 use Rattle.cartridge_spec.specs.Says.{whole_mask, cells_of, Saying, Data, LostSectors, Mismatch, with_parity, Says}
@@ -7,7 +7,7 @@ use Rattle.cartridge_spec.specs.Settling.{changed_by}
 use Rattle.cartridge_spec.specs.Shape.{mask_at, is_unreadable, usable_places}
 use Rattle.cartridge_spec.specs.Table.{Entry}
 use Rattle.cartridge_spec.specs.Volumes.{carrying_segments}
-use Rattle.command_spec.specs.Outcome.{settling_act, CommandOutcome, Going, WritableOutcome}
+use Rattle.command_spec.specs.Outcome.{settling_act, CommandOutcome, Going}
 use Rattle.qic_base.specs.Acts.{Act, steps_of}
 use Rattle.qic_base.specs.Cartridge.{Cartridge, view_at}
 use Rattle.qic_base.specs.Step.{Step, WriteSector}
@@ -84,9 +84,6 @@ line_in looked saying =
     else if nat_lt looked.segment 2 then header_line looked.segment
     else fault_line looked.segment saying
 
-abbrev pub look_act : Cartridge → Looked → Saying → Act
-look_act c looked saying = record { steps = steps_in c looked saying; text = line_in looked saying }
-
 -- ---- all of them, one after the other
 
 -- each of these segments says this, on the cartridge as it stands when it is looked at
@@ -100,7 +97,8 @@ SayInTurn c (l ∷ ls) (s ∷ ss) = Says (cells_at c l) s × SayInTurn (changed_
 abbrev pub looking_acts : Cartridge → List Looked → List Saying → List Act
 looking_acts c [] ss = []
 looking_acts c (l ∷ ls) [] = []
-looking_acts c (l ∷ ls) (s ∷ ss) = look_act c l s ∷ looking_acts (changed_by (steps_in c l s) c) ls ss
+looking_acts c (l ∷ ls) (s ∷ ss) =
+    record { steps = steps_in c l s; text = line_in l s } ∷ looking_acts (changed_by (steps_in c l s) c) ls ss
 
 -- as many of them do not read
 abbrev pub unread_count : List Looked → List Saying → ℕ
@@ -115,10 +113,10 @@ pub record Counts : Type 0 where
   pub mended : ℕ
   pub unreadable : ℕ
 
-abbrev pub counts_of : Cartridge → List Looked → List Saying → Counts
-counts_of c looked sayings = record {
+abbrev pub counted : List Looked → List Act → List Saying → Counts
+counted looked acts sayings = record {
   segments = length looked;
-  mended = length (steps_of (looking_acts c looked sayings));
+  mended = length (steps_of acts);
   unreadable = unread_count looked sayings;
 }
 
@@ -127,18 +125,15 @@ counts_line counts =
     codes "scrub " ++ decimal counts.segments ++ codes " " ++ decimal counts.mended ++ codes " " ++ decimal counts.unreadable
     ++ codes "\n"
 
--- the last act: no step, and the line of the counts
-abbrev pub last_act : Counts → Act
-last_act counts = record { steps = []; text = counts_line counts }
-
-abbrev pub scrub_acts : Cartridge → List Looked → List Saying → List Act
-scrub_acts c looked sayings = looking_acts c looked sayings ++ last_act (counts_of c looked sayings) ∷ []
+-- the acts in these segments, and the last one: no step, and the line of the counts
+abbrev pub with_counts : List Looked → List Act → List Saying → List Act
+with_counts looked acts sayings = acts ++ record { steps = []; text = counts_line (counted looked acts sayings) } ∷ []
 
 -- the acts of scrubbing a cartridge with this map and these volumes
 pub record Scrubs (c : Cartridge) (words : List ℕ) (entries : List Entry) (acts : List Act) : Type 0 where
   pub sayings : List Saying
   pub said : SayInTurn c (looked_at words entries) sayings
-  pub are : acts ≡ scrub_acts c (looked_at words entries) sayings
+  pub are : acts ≡ with_counts (looked_at words entries) (looking_acts c (looked_at words entries) sayings) sayings
 
 -- the lines of these segments, one after the other, where they say this
 abbrev pub lines_of : List Looked → List Saying → List ℕ
@@ -154,14 +149,14 @@ pub record IsScrubText (looked : List Looked) (counts : Counts) (text : List ℕ
   pub segments : counts.segments ≡ length looked
   pub unreadable : counts.unreadable ≡ unread_count looked sayings
 
--- the settled cartridge is scrubbed so
-pub record ScrubsOn (c : Cartridge) (words : List ℕ) (table : List (List ℕ)) (entries : List Entry) (outcome : CommandOutcome) : Type 0 where
+-- ---- the command, in either form
+
+-- the settled cartridge is scrubbed by these acts
+pub record ScrubsBy (Scrubbed : Cartridge → List ℕ → List Entry → List Act → Type 0) (c : Cartridge) (words : List ℕ) (table : List (List ℕ)) (entries : List Entry) (outcome : CommandOutcome) : Type 0 where
   pub acts : List Act
-  pub scrubs : Scrubs (settled table c) words entries acts
+  pub scrubs : Scrubbed (settled table c) words entries acts
   pub is : outcome ≡ record { acts = settling_act table c ∷ acts; taken = 0; status = status.Done }
 
-abbrev pub Mends : Going
-Mends c header words table entries outcome = ScrubsOn c words table entries outcome
-
-abbrev pub ScrubOutcome : Option Cartridge → CommandOutcome → Type 0
-ScrubOutcome held outcome = WritableOutcome Mends held outcome
+-- what is done once it is open
+abbrev pub MendsBy : (Cartridge → List ℕ → List Entry → List Act → Type 0) → Going
+MendsBy Scrubbed c header words table entries outcome = ScrubsBy Scrubbed c words table entries outcome

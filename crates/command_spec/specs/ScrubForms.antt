@@ -2,20 +2,17 @@
 -- a segment that can be read and holds wrong bytes (QIC-80-MC: two code blocks differ in at least four sectors; the rest is
 -- this project's profile).
 use Rattle.std.specs.Prelude.{ℕ, List, [], ◌∷◌, ◌++◌, codes, decimal, length, map, ◌≡◌, ◌≢◌, ◌<◌, ◌≤◌, true, slice_index, Option, Some, None}
-use Rattle.cartridge_spec.specs.Mounting.{settled}
 use Rattle.cartridge_spec.specs.Says.{Saying, Data, Mismatch, Says, unreadable_count}
 use Rattle.cartridge_spec.specs.Settling.{changed_by}
 use Rattle.cartridge_spec.specs.Shape.{usable_places, usable_count}
 use Rattle.cartridge_spec.specs.Table.{Entry}
 use Rattle.cartridge_spec.specs.Wear.{worn}
-use Rattle.command_spec.specs.Outcome.{settling_act, CommandOutcome, Going, WritableOutcome}
-use Rattle.command_spec.specs.Scrub.{Looked, looked_at, cells_at, reads, steps_in, line_in, unread_count, Counts, counts_line, last_act}
-use Rattle.qic_base.specs.Acts.{Act, steps_of}
+use Rattle.command_spec.specs.Scrub.{Looked, looked_at, cells_at, reads, steps_in, line_in, unread_count, Counts, counts_line, with_counts}
+use Rattle.qic_base.specs.Acts.{Act}
 use Rattle.qic_base.specs.Cartridge.{Cartridge}
 use Rattle.qic_base.specs.Step.{Step}
 use Rattle.command_spec.specs.declared.depth.Depth.{Depth}
 use Rattle.command_spec.specs.declared.depth.Depth.TheVariants.{Shallow, Deep}
-use Rattle.command_spec.specs.declared.status.Status.TheVariants as status
 
 -- ---- one segment
 
@@ -53,9 +50,6 @@ HasFound depth c looked saying None =
 HasFound depth c looked saying (Some sector) =
     IsSearched depth looked × (sectors : List (List ℕ)) × (saying ≡ Data sectors) × IsWrong c looked sector sectors
 
-abbrev pub Finds : Depth → Cartridge → Looked → Finding → Type 0
-Finds depth c looked finding = HasFound depth c looked finding.saying finding.wrong
-
 -- the writes: those of a scrub, where the wrong sector counts as lost
 abbrev pub steps_for : Cartridge → Looked → Finding → List Step
 steps_for c looked finding = steps_in (without finding.wrong looked c) looked finding.saying
@@ -69,9 +63,6 @@ wrong_line segment (Some sector) = codes "wrong " ++ decimal segment ++ codes " 
 abbrev pub line_for : Looked → Finding → List ℕ
 line_for looked finding = wrong_line looked.segment finding.wrong ++ line_in looked finding.saying
 
-abbrev pub find_act : Cartridge → Looked → Finding → Act
-find_act c looked finding = record { steps = steps_for c looked finding; text = line_for looked finding }
-
 -- ---- all of them, one after the other
 
 -- this is found of each of these segments, on the cartridge as it stands when it is looked at
@@ -79,33 +70,24 @@ abbrev pub FindInTurn : Depth → Cartridge → List Looked → List Finding →
 FindInTurn depth c [] [] = Unit {0}
 FindInTurn depth c [] (f ∷ fs) = ⊥
 FindInTurn depth c (l ∷ ls) [] = ⊥
-FindInTurn depth c (l ∷ ls) (f ∷ fs) = Finds depth c l f × FindInTurn depth (changed_by (steps_for c l f) c) ls fs
+FindInTurn depth c (l ∷ ls) (f ∷ fs) = HasFound depth c l f.saying f.wrong × FindInTurn depth (changed_by (steps_for c l f) c) ls fs
 
 -- the acts: in each segment its writes, then its line
 abbrev pub finding_acts : Cartridge → List Looked → List Finding → List Act
 finding_acts c [] fs = []
 finding_acts c (l ∷ ls) [] = []
-finding_acts c (l ∷ ls) (f ∷ fs) = find_act c l f ∷ finding_acts (changed_by (steps_for c l f) c) ls fs
+finding_acts c (l ∷ ls) (f ∷ fs) =
+    record { steps = steps_for c l f; text = line_for l f } ∷ finding_acts (changed_by (steps_for c l f) c) ls fs
 
 abbrev pub sayings_of : List Finding → List Saying
 sayings_of findings = map (λ finding. finding.saying) findings
-
--- what is counted, as by a scrub: a wrong sector is one of those for which a write was sent
-abbrev pub counts_for : Cartridge → List Looked → List Finding → Counts
-counts_for c looked findings = record {
-  segments = length looked;
-  mended = length (steps_of (finding_acts c looked findings));
-  unreadable = unread_count looked (sayings_of findings);
-}
-
-abbrev pub acts_for : Cartridge → List Looked → List Finding → List Act
-acts_for c looked findings = finding_acts c looked findings ++ last_act (counts_for c looked findings) ∷ []
 
 -- the acts of scrubbing a cartridge with this map and these volumes in this form
 pub record ScrubsAs (depth : Depth) (c : Cartridge) (words : List ℕ) (entries : List Entry) (acts : List Act) : Type 0 where
   pub findings : List Finding
   pub found : FindInTurn depth c (looked_at words entries) findings
-  pub are : acts ≡ acts_for c (looked_at words entries) findings
+  -- a wrong sector is counted as one of those for which a write was sent
+  pub are : acts ≡ with_counts (looked_at words entries) (finding_acts c (looked_at words entries) findings) (sayings_of findings)
 
 -- the lines of these segments, one after the other, where this is found of them
 abbrev pub lines_for : List Looked → List Finding → List ℕ
@@ -132,17 +114,3 @@ pub record IsTextFor (depth : Depth) (looked : List Looked) (counts : Counts) (t
   pub lines : text ≡ lines_for looked findings ++ counts_line counts
   pub segments : counts.segments ≡ length looked
   pub unreadable : counts.unreadable ≡ unread_count looked (sayings_of findings)
-
--- ---- the command `scrub deep`
-
--- the settled cartridge is scrubbed so
-pub record ScrubsDeepOn (c : Cartridge) (words : List ℕ) (table : List (List ℕ)) (entries : List Entry) (outcome : CommandOutcome) : Type 0 where
-  pub acts : List Act
-  pub scrubs : ScrubsAs Deep (settled table c) words entries acts
-  pub is : outcome ≡ record { acts = settling_act table c ∷ acts; taken = 0; status = status.Done }
-
-abbrev pub MendsDeep : Going
-MendsDeep c header words table entries outcome = ScrubsDeepOn c words table entries outcome
-
-abbrev pub DeepScrubOutcome : Option Cartridge → CommandOutcome → Type 0
-DeepScrubOutcome held outcome = WritableOutcome MendsDeep held outcome

@@ -4,7 +4,7 @@ use Rattle.std.specs.Prelude.{ℕ, List, ◌≡◌, ◌≤◌, Option, Some, IsS
 use Rattle.cartridge_spec.specs.Appending.{with_all}
 use Rattle.cartridge_spec.specs.Mounting.{IsTableLive, settled}
 use Rattle.cartridge_spec.specs.Volumes.{Plain, Stands, entries_of}
-use Rattle.command_spec.specs.Headline.{ToldNow, EachLeft}
+use Rattle.command_spec.specs.Headline.{ToldNow}
 use Rattle.command_spec.specs.Listing.{IsHeard}
 use Rattle.command_spec.specs.Machine.{Spells}
 use Rattle.command_spec.specs.MadeVolumes.{AppendedBy, made_contents}
@@ -36,18 +36,14 @@ SomeMade words held left =
 -- When it is over this was printed; and where no fault of the outside ended it, as many of the volumes are there as were appended by
 -- its answer, all of them once it was carried out. Where each sector of the table's segment takes a write, all are there, too, where
 -- anything was printed, or the sink failed.
-pub record AllMade {T K : Type 0} (t : tapes.Meaning T) (k : sinks.Meaning K) (old new : T) (before behind : K) (answer : Status) (seed count : ℕ) (c : Cartridge) (plain : Plain) : Type 0 where
+pub record AllMade {T K : Type 0} (t : tapes.Meaning T) (k : sinks.Meaning K) (new : T) (before behind : K) (answer : Status) (seed count : ℕ) (c : Cartridge) (plain : Plain) : Type 0 where
   pub text : List ℕ
   pub took : k.took before text behind
   pub answered : is_fault answer ≡ false →
-      (n : ℕ) × AppendedBy seed count plain.words (entries_of plain) answer n × ToldNow t new (λ left. IsSomeAnd left (λ d. Stands d (with_all plain (made_contents seed 1 n))))
-  pub all : IsTableLive c → (text ≢ []) ⊎ (answer ≡ status.SinkFault) → ToldNow t new (λ left. IsSomeAnd left (λ d. Stands d (with_all plain (made_contents seed 1 count))))
-
--- A generated run may be stopped: each cartridge that it leaves is so; and so it is when it is over.
-pub record MakesVolumes {T K : Type 0} (t : tapes.Meaning T) (k : sinks.Meaning K) (words : List (List ℕ)) (old new : T) (before behind : K) (answer : Status) : Type 0 where
-  pub stopped : EachLeft t old new (SomeMade words)
-  pub over : (seed count : ℕ) (c : Cartridge) (plain : Plain) → t.told old ≡ Some (Some c) → Generated words seed count c plain →
-      AllMade t k old new before behind answer seed count c plain
+      (n : ℕ) × AppendedBy seed count plain.words (entries_of plain) answer n
+      × ToldNow t new (λ left. IsSomeAnd left (λ d. Stands d (with_all plain (made_contents seed 1 n))))
+  pub all : IsTableLive c → (text ≢ []) ⊎ (answer ≡ status.SinkFault) →
+      ToldNow t new (λ left. IsSomeAnd left (λ d. Stands d (with_all plain (made_contents seed 1 count))))
 
 -- ---- a script
 
@@ -80,15 +76,11 @@ SomeScripted told words held left =
 -- When it is over, whatever it answered, this was printed. Where each sector of the table's segment takes a write, and the lines that
 -- it went no further than spare header and table, all lines whose reply was written whole are among these, and at most one more; and
 -- all lines, also where some of these sectors take none, once the input was carried out, if all lines spare them.
-pub record AllAnswered {T K : Type 0} (t : tapes.Meaning T) (k : sinks.Meaning K) {told : Option (List ℕ)} {words : List (List ℕ)} {c : Cartridge} {plain : Plain} (old new : T) (before behind : K) (answer : Status) (script : Scripted told words c plain) : Type 0 where
+pub record AllAnswered {T K : Type 0} (t : tapes.Meaning T) (k : sinks.Meaning K) {told : Option (List ℕ)} {words : List (List ℕ)} {c : Cartridge} {plain : Plain} (new : T) (before behind : K) (answer : Status) (script : Scripted told words c plain) : Type 0 where
   pub text : List ℕ
   pub took : k.took before text behind
-  pub answered : IsTableLive c → (count : ℕ) → GoesNoFurther script.does.items script.does.dids count (length text) → FirstLinesSpare script count →
-      ToldNow t new (StandsAnswered plain script.does.items script.does.dids (length text))
-  pub all : IsHeard answer → ItemsSpare (settled plain.table_area c) plain script.does.items script.does.dids → ToldNow t new (λ left. IsSomeAnd left (λ d. Stands d (with_all plain (all_added (entries_of plain) script.does.items script.does.dids))))
-
--- A script may be stopped: each cartridge that it leaves is so; and so it is when it is over.
-pub record CarriesOutLines {T K : Type 0} (t : tapes.Meaning T) (k : sinks.Meaning K) (told : Option (List ℕ)) (words : List (List ℕ)) (old new : T) (before behind : K) (answer : Status) : Type 0 where
-  pub stopped : EachLeft t old new (SomeScripted told words)
-  pub over : (c : Cartridge) (plain : Plain) → t.told old ≡ Some (Some c) → (script : Scripted told words c plain) →
-      AllAnswered t k old new before behind answer script
+  pub answered : IsTableLive c → (count : ℕ) → GoesNoFurther script.does.items script.does.dids count (length text) →
+      FirstLinesSpare script count → ToldNow t new (StandsAnswered plain script.does.items script.does.dids (length text))
+  pub all : IsHeard answer → ItemsSpare (settled plain.table_area c) plain script.does.items script.does.dids →
+      ToldNow t new (λ left. IsSomeAnd left (λ d.
+      Stands d (with_all plain (all_added (entries_of plain) script.does.items script.does.dids))))

@@ -1,7 +1,8 @@
 //! The way to the first segment of a track.
 
 ghost use Rattle.std.specs.Prelude.{◌≡◌, ◌<◌, ◌*◌, true, IsOk, IfOk};
-ghost use Rattle.drive_spec.specs.Deck.{segments_per_track, is_referenced};
+ghost use Rattle.drive_spec.specs.Deck.{segments_per_track};
+ghost use Rattle.drive_spec.specs.Terms.{is_referenced};
 ghost use Rattle.host_driver.specs.Calls.{IsReady, Keeps};
 ghost use Rattle.host_driver.specs.Place.{StreamsAt};
 

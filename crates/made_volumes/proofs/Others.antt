@@ -7,7 +7,8 @@ use Rattle.qic_base.specs.Terms.{no_source, no_sink, around}
 use Rattle.cartridge_spec.specs.Table.{Entry}
 use Rattle.drive_spec.specs.Terms.{is_protected}
 use Rattle.drive_states.specs.Unit.{UnitView}
-use Rattle.command_spec.specs.Scrub.{Scrubs, counts_of, looked_at}
+use Rattle.command_spec.specs.Scrub.{Scrubs, looked_at}
+use Rattle.command_laws.specs.Terms.{counts_of}
 use Rattle.segment_io.proofs.Going.{tells_always}
 use Rattle.segment_mending.specs.Mending.{reported}
 use Rattle.segment_mending.specs.declared.report.ScrubReport.{ScrubReport}

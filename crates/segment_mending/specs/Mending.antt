@@ -2,7 +2,8 @@
 use Rattle.std.specs.Prelude.{◌≡◌, ℕ, List, ◌++◌, Result, Ok, Err}
 use Rattle.cartridge_spec.specs.Table.{Entry}
 use Rattle.command_spec.specs.Scrub.{Counts, looked_at}
-use Rattle.command_spec.specs.ScrubForms.{ScrubsAs, IsTextFor, counts_for}
+use Rattle.command_spec.specs.ScrubForms.{ScrubsAs, IsTextFor}
+use Rattle.command_laws.specs.Terms.{counts_for}
 use Rattle.command_spec.specs.declared.depth.Depth.{Depth}
 use Rattle.qic_base.specs.Acts.{Act, text_of, Outside, Went, Failing, Cut, TapeFails, SinkFails}
 use Rattle.qic_base.specs.Terms.{no_source}

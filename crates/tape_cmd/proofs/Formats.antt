@@ -22,7 +22,8 @@ use Rattle.command_spec.specs.declared.status.Status.{Status}
 use Rattle.command_spec.specs.Lines.{formatted_line}
 use Rattle.command_spec.specs.Outcome.{CommandOutcome, refused}
 use Rattle.tape_cmd.specs.Outcome.{first_steps}
-use Rattle.command_spec.specs.Commands.Format.{cleared, formatted, FormatOutcome}
+use Rattle.command_laws.specs.Terms.{cleared, formatted}
+use Rattle.command_spec.specs.Commands.Single.{FormatOutcome}
 use Rattle.tape_cmd.specs.Format.{format_status}
 use Rattle.tape_cmd.specs.Opening.{StartFails}
 use Rattle.store_opening.specs.Opening.{HasStarted}

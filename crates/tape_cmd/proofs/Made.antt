@@ -25,7 +25,8 @@ use Rattle.command_spec.specs.Outcome.{Going, Opened, OpenOutcome, WritableOutco
 use Rattle.tape_cmd.specs.Opening.{IsUnlocked, WritableEnds, is_opening}
 use Rattle.store_opening.specs.Opening.{IsOpened, HasOpened}
 use Rattle.tape_cmd.specs.Outcome.{first_steps}
-use Rattle.command_spec.specs.Runs.{EndsBlind, IsCutOff, Prints, fault_of, may_come_from}
+use Rattle.command_spec.specs.Runs.{EndsBlind, IsCutOff, fault_of, may_come_from}
+use Rattle.command_laws.specs.Terms.{Prints}
 use Rattle.tape_cmd.proofs.Endings.{IsBlind, none_taken, turned_down, cut_off, told_map}
 use Rattle.tape_cmd.proofs.Mounted.{Settles, no_outcome, told_both, locked_is, unlocked_refused_is, writable_begins}
 use Rattle.command_laws.proofs.CommandOpened.{quiet}
@@ -101,7 +102,7 @@ run_prints : (seed count : ℕ) (ws : List ℕ) (es : List Entry) (text : List �
 run_prints seed count ws es text answer may = by_answer answer refl
   where
     turned : (why : Answer) → answer ≡ why → RefusedPrints (words.Make seed count) (make_status why) text
-    turned why same = inr (record { words = ws; entries = es; why = answer; answered = ap make_status (sym same); may = may })
+    turned why same = inr (ws, (es, (answer, ap make_status (sym same), may)))
 
     by_answer : (why : Answer) → answer ≡ why → Prints (words.Make seed count) (make_status why) text
     by_answer made.Done same = ((λ is. (ws, (es, subst (MayRun seed ws es (making seed count ws es) text) same may))), (λ other. absurd (other refl)))

@@ -23,13 +23,12 @@ use Rattle.cartridge_spec.specs.Mounting.{Mounting}
 use Rattle.command_spec.specs.declared.words.Words.{Words}
 use Rattle.command_spec.specs.declared.status.Status.{Status}
 use Rattle.command_spec.specs.Lines.{list_text, info_text}
-use Rattle.command_spec.specs.Outcome.{CommandOutcome, refused, acted, Going, Opened, OpenOutcome, WritableOutcome, Printing, Shows, is_refused}
+use Rattle.command_spec.specs.Outcome.{CommandOutcome, refused, acted, Going, Opened, OpenOutcome, WritableOutcome, Shows, is_refused}
 use Rattle.tape_cmd.specs.Outcome.{first_steps}
+use Rattle.command_laws.specs.Terms.{Printing, telling, listing}
 use Rattle.tape_cmd.specs.Opening.{IsRefusal, RefusesOpening, store_status, open_status, is_opening, StartFails, OpeningRefused, OpeningEnds, IsUnlocked, WritableEnds}
 use Rattle.store_opening.specs.Opening.{IsOpened, HasOpened, IsTurnedDown, OpenFails, StartFails as FailsToStart}
 use Rattle.store_opening.specs.declared.opening.OpenFault.{OpenFault}
-use Rattle.command_spec.specs.Commands.Info.{telling}
-use Rattle.command_spec.specs.Commands.ListCommand.{listing}
 use Rattle.command_spec.specs.Machine.{CommandPrints}
 use Rattle.tape_cmd.specs.Writing.{printed_status}
 use Rattle.command_spec.specs.Runs.{EndsBlind, may_come_from}

@@ -3,38 +3,39 @@ use Rattle.std.proofs.Common.{◌≡◌, ◌≢◌, ℕ, true, List, [], ◌∷�
 use Rattle.std.specs.Option.{option_map}
 use Rattle.std.specs.Prelude.{is_some}
 use Rattle.qic_base.specs.Cartridge.{Cartridge}
-use Rattle.qic_base.specs.Sink as sinks
-use Rattle.qic_base.specs.Source as sources
 use Rattle.qic_base.specs.Step.{Step as TapeStep}
-use Rattle.qic_base.specs.Tape as tapes
 use Rattle.qic_base.proofs.Writing.{TakesBoth}
 use Rattle.qic_base.specs.Acts.{Act, text_of, Failing, TapeFails, SourceFails, SinkFails, Cut}
-use Rattle.cartridge_spec.specs.Mounting as mounting
 use Rattle.cartridge_spec.specs.Mounting.{Mounting}
 use Rattle.drive_states.specs.Unit.{UnitView}
 use Rattle.cartridge_laws.proofs.MountOnce.{mounts_is_function}
-use Rattle.command_spec.specs.declared.words.Words.TheVariants as words
 use Rattle.command_spec.specs.Input.{Item, IsItem, Ending, AtEnd, AtStop, AtFault, IsScript}
-use Rattle.command_laws.proofs.TextInputs as inputs
 use Rattle.volume_script.specs.declared.fault.ScriptFault.{ScriptFault}
-use Rattle.volume_script.specs.declared.fault.ScriptFault.TheVariants as fault
 use Rattle.command_spec.specs.Script.{end_line, ScriptDoes, Scripting, ScriptOutcome}
-use Rattle.volume_script.specs.Runs as runs
 use Rattle.command_laws.specs.ScriptAnswers.{Answer, AllDone, FaultIn, script_answer, script_status}
 use Rattle.volume_store.specs.Mounting.{StoreView}
 use Rattle.command_spec.specs.declared.status.Status.{Status}
-use Rattle.command_spec.specs.declared.status.Status.TheVariants as status
 use Rattle.command_spec.specs.Outcome.{Opened, CommandOutcome, refused}
 use Rattle.tape_cmd.specs.Opening.{OpeningEnds, is_opening}
 use Rattle.store_opening.specs.Opening.{IsOpened, HasOpened}
 use Rattle.tape_cmd.specs.Outcome.{first_steps}
-use Rattle.command_spec.specs.Runs.{CommandEnds, InputLeft, IsCutOff, NamesFault, Prints, fault_of, may_come_from}
+use Rattle.command_spec.specs.Runs.{CommandEnds, InputLeft, IsCutOff, NamesFault, fault_of, may_come_from}
+use Rattle.command_laws.specs.Terms.{Prints}
 use Rattle.tape_cmd.specs.Script.{run_status}
 use Rattle.tape_cmd.proofs.Endings.{told_map}
 use Rattle.tape_cmd.proofs.Mounted.{Settles, no_outcome, begins_is, refused_is}
 use Rattle.store_opening.proofs.Opened.{opening_cut, outside, went_behind, cut_behind, settled_told}
 use Rattle.command_laws.proofs.CommandOpened.{quiet}
 use Rattle.command_laws.proofs.CommandTold.{input_of, input_told}
+use Rattle.qic_base.specs.Sink as sinks
+use Rattle.qic_base.specs.Source as sources
+use Rattle.qic_base.specs.Tape as tapes
+use Rattle.cartridge_spec.specs.Mounting as mounting
+use Rattle.command_spec.specs.declared.words.Words.TheVariants as words
+use Rattle.command_laws.proofs.TextInputs as inputs
+use Rattle.volume_script.specs.declared.fault.ScriptFault.TheVariants as fault
+use Rattle.volume_script.specs.Runs as runs
+use Rattle.command_spec.specs.declared.status.Status.TheVariants as status
 
 -- ---- the fault of an input
 

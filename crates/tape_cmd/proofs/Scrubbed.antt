@@ -1,15 +1,11 @@
 -- How the scrubbing of a cartridge ends, in either form.
 use Rattle.std.proofs.Common.{◌≡◌, ◌≢◌, ◌++◌, true, false, ℕ, List, [], ◌∷◌, Option, Some, Err, refl, sym, ap, ◌∙◌, subst, inl, inr}
 use Rattle.qic_base.specs.Cartridge.{Cartridge}
-use Rattle.qic_base.specs.Sink as sinks
 use Rattle.qic_base.specs.Step.{Step as TapeStep}
-use Rattle.qic_base.specs.Tape as tapes
-use Rattle.qic_base.specs.TapeCalls as tape_calls
 use Rattle.qic_base.proofs.Writing.{TakesBoth}
 use Rattle.qic_base.specs.Acts.{Act, Failing, TapeFails, SourceFails, SinkFails, Cut, Went, text_of}
 use Rattle.qic_base.specs.Terms.{no_source, around}
 use Rattle.cartridge_spec.specs.Header.{Header}
-use Rattle.cartridge_spec.specs.Mounting as mounting
 use Rattle.cartridge_spec.specs.Mounting.{Mounting, settled}
 use Rattle.cartridge_spec.specs.Table.{Entry}
 use Rattle.drive_spec.specs.Terms.{is_protected}
@@ -17,21 +13,19 @@ use Rattle.drive_states.specs.Unit.{UnitView}
 use Rattle.cartridge_laws.proofs.MountOnce.{mounts_is_function}
 use Rattle.command_spec.specs.Commands.{traits_of}
 use Rattle.command_spec.specs.Machine.{Yields, CommandPrints, FrontPrints}
-use Rattle.command_spec.specs.Scrub.{Counts, IsScrubText, Scrubs, counts_of, looked_at, Mends}
-use Rattle.command_spec.specs.ScrubForms.{IsTextFor, MendsDeep, ScrubsAs, counts_for}
+use Rattle.command_spec.specs.Scrub.{Counts, IsScrubText, Scrubs, looked_at}
+use Rattle.command_laws.specs.Terms.{counts_of, counts_for, MendsDeep, Mends}
+use Rattle.command_spec.specs.ScrubForms.{IsTextFor, ScrubsAs}
 use Rattle.command_spec.specs.declared.depth.Depth.TheVariants.{Deep}
 use Rattle.segment_mending.specs.Mending.{HasScrubbed, ScrubCut, reported}
 use Rattle.segment_mending.specs.declared.report.ScrubReport.{ScrubReport}
 use Rattle.command_spec.specs.declared.words.Words.{Words}
-use Rattle.command_spec.specs.declared.words.Words.TheVariants as words
 use Rattle.volume_store.proofs.Copies.{tells_two}
 use Rattle.std.specs.Prelude.{◌↔◌}
 use Rattle.volume_store.specs.declared.fault.StoreFault.{StoreFault}
-use Rattle.volume_store.specs.declared.fault.StoreFault.TheVariants as fault
 use Rattle.volume_store.specs.Mounting.{StoreView}
 use Rattle.volume_store.specs.Scrubbing.{HasMended, MendCut, MendEnds, MendEndsAs}
 use Rattle.command_spec.specs.declared.status.Status.{Status}
-use Rattle.command_spec.specs.declared.status.Status.TheVariants as status
 use Rattle.command_spec.specs.Outcome.{CommandOutcome, Going, Opened, WritableOutcome, settling_act}
 use Rattle.tape_cmd.specs.Opening.{IsUnlocked, WritableEnds, is_opening, store_status}
 use Rattle.store_opening.specs.Opening.{IsOpened, HasOpened}
@@ -41,6 +35,13 @@ use Rattle.tape_cmd.proofs.Endings.{IsBlind, turned_behind, turned_down, cut_off
 use Rattle.tape_cmd.proofs.Mounted.{Settles, no_outcome, told_both, locked_is, unlocked_refused_is, writable_begins}
 use Rattle.store_opening.proofs.Opened.{IsKnown, went_behind, cut_behind, settled_told, opened_known, known_before, found_locked, never_both, unlocked}
 use Rattle.command_laws.proofs.CommandOpened.{quiet}
+use Rattle.qic_base.specs.Sink as sinks
+use Rattle.qic_base.specs.Tape as tapes
+use Rattle.qic_base.specs.TapeCalls as tape_calls
+use Rattle.cartridge_spec.specs.Mounting as mounting
+use Rattle.command_spec.specs.declared.words.Words.TheVariants as words
+use Rattle.volume_store.specs.declared.fault.StoreFault.TheVariants as fault
+use Rattle.command_spec.specs.declared.status.Status.TheVariants as status
 
 -- the outcome of these acts
 abbrev mended : List Act → CommandOutcome

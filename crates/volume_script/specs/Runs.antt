@@ -26,7 +26,7 @@ pub record Ended {T S K : Type 0} (t : tapes.Meaning T) (s : sources.Meaning S) 
   pub input : List ℕ
   pub is_told : IfSome (s.left old.source) (λ bytes. input ≡ bytes)
   pub outcome : CommandOutcome
-  pub told : tapes.Tells t old.tape (λ c. ScriptDoes c store.words store.entries input outcome)
+  pub told : tape_calls.Tells t old.tape (λ c. ScriptDoes c store.words store.entries input outcome)
   pub answered : outcome.status ≡ script_status answer
   pub went : Went t s k old new outcome.acts
   pub left : Leaves s old.source new.source outcome.taken answer
@@ -50,7 +50,7 @@ pub record Mismatched {T S K : Type 0} (t : tapes.Meaning T) (s : sources.Meanin
 pub record CutOff {T S K : Type 0} (t : tapes.Meaning T) (s : sources.Meaning S) (k : sinks.Meaning K) (store : StoreView) (old new : Outside T S K) (failing : Failing) : Type 0 where
   pub input : List ℕ
   pub is_told : IfSome (s.left old.source) (λ bytes. input ≡ bytes)
-  pub told : tapes.Tells t old.tape (λ c. (outcome : CommandOutcome) → ScriptDoes c store.words store.entries input outcome →
+  pub told : tape_calls.Tells t old.tape (λ c. (outcome : CommandOutcome) → ScriptDoes c store.words store.entries input outcome →
       Cut t s k old new outcome.acts failing)
   -- and over any tape
   pub acts : List Act

@@ -27,7 +27,8 @@ use Rattle.command_laws.specs.ScrubFound.{without_all}
 use Rattle.command_laws.specs.ScrubMended.{IsBeingMended}
 use Rattle.command_laws.specs.ScrubSayings.{Rise}
 use Rattle.command_spec.specs.Scrub.{Looked, whole_segment, looked_at}
-use Rattle.command_spec.specs.ScrubForms.{Finding, ScrubsAs, counts_for}
+use Rattle.command_spec.specs.ScrubForms.{Finding, ScrubsAs}
+use Rattle.command_laws.specs.Terms.{counts_for}
 use Rattle.command_spec.specs.declared.depth.Depth.{Depth}
 use Rattle.command_laws.proofs.ScrubBeside.{not_the_table}
 use Rattle.command_laws.proofs.ScrubForms.{AsSeen, as_seen, IsLeft, stopped_left}

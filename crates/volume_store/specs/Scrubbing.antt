@@ -1,18 +1,19 @@
 -- How the scrubbing of a cartridge ended, in either form, by the answer of the call (this project's own).
 use Rattle.std.specs.Prelude.{◌≡◌, ℕ, List, ◌++◌, Result, Ok, Err}
 use Rattle.cartridge_spec.specs.Table.{Entry}
-use Rattle.command_spec.specs.Scrub.{Counts, looked_at, Scrubs, counts_of, IsScrubText}
+use Rattle.command_spec.specs.Scrub.{Counts, looked_at, Scrubs, IsScrubText}
+use Rattle.command_laws.specs.Terms.{counts_of}
 use Rattle.command_spec.specs.declared.depth.Depth.{Depth}
-use Rattle.qic_base.specs.Sink as sinks
-use Rattle.qic_base.specs.Tape as tapes
-use Rattle.qic_base.specs.TapeCalls as tape_calls
 use Rattle.qic_base.specs.Acts.{Act, text_of, Outside, Went, Failing, Cut, TapeFails, SinkFails}
 use Rattle.qic_base.specs.Terms.{no_source}
 use Rattle.segment_mending.specs.Mending.{reported, HasScrubbed, ScrubCut}
 use Rattle.segment_mending.specs.declared.report.ScrubReport.{ScrubReport}
 use Rattle.volume_store.specs.declared.fault.StoreFault.{StoreFault}
-use Rattle.volume_store.specs.declared.fault.StoreFault.TheVariants as fault
 use Rattle.volume_store.specs.Mounting.{StoreView}
+use Rattle.qic_base.specs.Sink as sinks
+use Rattle.qic_base.specs.Tape as tapes
+use Rattle.qic_base.specs.TapeCalls as tape_calls
+use Rattle.volume_store.specs.declared.fault.StoreFault.TheVariants as fault
 
 -- ---- in a form
 

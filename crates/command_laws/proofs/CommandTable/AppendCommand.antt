@@ -16,9 +16,10 @@ use Rattle.command_laws.proofs.TextCommands.{dated_cases, two_words, three_words
 use Rattle.command_laws.specs.CommandRecord.{CommandLaws}
 use Rattle.command_laws.specs.CommandTerms.{Appends}
 use Rattle.command_spec.specs.Append.{AppendOutcome}
-use Rattle.command_spec.specs.Commands.AppendCommand.{CanTake, append_command}
+use Rattle.command_laws.specs.Terms.{CanTake}
+use Rattle.command_spec.specs.Commands.AppendCommand.{append_command}
 use Rattle.command_spec.specs.CommandWords.{HasForm}
-use Rattle.command_spec.specs.Complete.{IsUnprotected}
+use Rattle.command_spec.specs.Command.{IsUnprotected}
 use Rattle.qic_base.specs.Name.{filled}
 use Rattle.command_spec.specs.declared.status.Status.TheVariants as status
 use Rattle.command_spec.specs.declared.words.Words.TheVariants as words

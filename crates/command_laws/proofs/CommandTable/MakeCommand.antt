@@ -13,7 +13,7 @@ use Rattle.command_laws.proofs.CommandWhole.{making_whole, some_whole}
 use Rattle.command_laws.proofs.TextCommands.{only, three_words, spelled_length, IsNumber-value, IsRead, Reading, word_at, number_value, named}
 use Rattle.command_laws.specs.CommandRecord.{CommandLaws}
 use Rattle.command_spec.specs.CommandWords.{HasForm}
-use Rattle.command_spec.specs.Complete.{IsUnprotected}
+use Rattle.command_spec.specs.Command.{IsUnprotected}
 use Rattle.command_spec.specs.Make.{Making, MakeOutcome}
 use Rattle.command_spec.specs.Commands.MakeCommand.{CanMake, make_command}
 use Rattle.qic_base.specs.Terms.{IsCartridge}

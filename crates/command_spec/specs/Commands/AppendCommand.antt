@@ -4,20 +4,12 @@ use Rattle.cartridge_spec.specs.Appending.{has_room}
 use Rattle.cartridge_spec.specs.Formatting.{IsLabel}
 use Rattle.cartridge_spec.specs.Volumes.{Plain}
 use Rattle.command_spec.specs.Append.{AppendOutcome}
-use Rattle.command_spec.specs.Command.{Command, plain_command}
+use Rattle.command_spec.specs.Command.{Command, plain_command, IsUnprotected, ReadsAs, none_of_them}
 use Rattle.command_spec.specs.CommandWords.{Word, Name, dated}
-use Rattle.command_spec.specs.Complete.{IsUnprotected, ReadsAs}
 use Rattle.command_spec.specs.Lines.{appended_line}
-use Rattle.command_spec.specs.Traits.{none_of_them}
-use Rattle.qic_base.specs.Cartridge.{Cartridge}
 
--- there is room for one byte at least, and for all of the input
-pub record CanTake (c : Cartridge) (input : List ℕ) : Type 0 where
-  pub plain : Plain
-  pub mounts : ReadsAs c plain
-  pub room : has_room plain (length input) ≡ true
-
--- it asks for at most one byte beyond the room that there is, and adds a volume, but to a protected cartridge
+-- It needs room for one byte at least, and for all of the input. It asks for at most one byte beyond the room that there is, and adds
+-- a volume, but to a protected cartridge.
 abbrev pub append_command : (name : List ℕ) → (date : ℕ) → Command
 append_command name date =
     record (plain_command (dated (Word (codes "append") ∷ Name name ∷ []) date) (AppendOutcome name date)
@@ -31,7 +23,8 @@ append_command name date =
         mounts = true;
         appends = true;
       };
-      needs = λ held input. IsSomeAnd held (λ c. IsUnprotected c × CanTake c input);
+      needs = λ held input. IsSomeAnd held (λ c. IsUnprotected c
+          × ((plain : Plain) × ReadsAs c plain × (has_room plain (length input) ≡ true)));
       keeps_volumes = λ c plain. c.info.protected ≡ true;
       keeps_list = λ c. c.info.protected ≡ true;
       is_full = λ need have. nat_le need (have + 1);

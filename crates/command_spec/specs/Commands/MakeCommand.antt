@@ -3,13 +3,10 @@ use Rattle.std.specs.Prelude.{ℕ, List, [], ◌∷◌, ◌≡◌, ◌≤◌, �
 use Rattle.cartridge_spec.specs.Mounting.{settled}
 use Rattle.cartridge_spec.specs.Table.{Entry}
 use Rattle.cartridge_spec.specs.Volumes.{Plain}
-use Rattle.command_spec.specs.Command.{Command, plain_command}
+use Rattle.command_spec.specs.Command.{Command, plain_command, IsUnprotected, ReadsAs, none_of_them}
 use Rattle.command_spec.specs.CommandWords.{Word, AnyNumber, Number}
-use Rattle.command_spec.specs.Complete.{IsUnprotected, ReadsAs}
 use Rattle.command_spec.specs.MadeVolumes.{HaveRoom, LoseFewBehind}
 use Rattle.command_spec.specs.Make.{MakeOutcome, making, MayRun, Answer, Done, make_status}
-use Rattle.command_spec.specs.Traits.{none_of_them}
-use Rattle.command_spec.specs.declared.status.Status.{Status}
 use Rattle.qic_base.specs.Cartridge.{Cartridge}
 
 -- Each of the generated volumes has room when its turn comes, and no segment that holds some of their bytes has more than three
@@ -19,14 +16,6 @@ pub record CanMake (c : Cartridge) (seed count : ℕ) : Type 0 where
   pub mounts : ReadsAs c plain
   pub room : HaveRoom seed count plain
   pub few : LoseFewBehind seed count (settled plain.table_area c) plain
-
--- what steps of a generated run may print that are answered so
-pub record MakesText (seed count : ℕ) (answer : Status) (text : List ℕ) : Type 0 where
-  pub words : List ℕ
-  pub entries : List Entry
-  pub why : Answer
-  pub answered : answer ≡ make_status why
-  pub may : MayRun seed words entries (making seed count words entries) text why
 
 -- Where it is refused, the lines before the step that was refused are printed; where it is cut off, they may be any. A volume is
 -- full that is longer than the room that there is. Volumes are added, but to a protected cartridge.
@@ -45,7 +34,8 @@ make_command seed count =
         restores = true;
       };
       fronts = λ text. Unit {0};
-      refused = λ answer text. (text ≡ []) ⊎ MakesText seed count answer text;
+      refused = λ answer text. (text ≡ []) ⊎ ((words : List ℕ) × ((entries : List Entry) × ((why : Answer)
+          × (answer ≡ make_status why) × MayRun seed words entries (making seed count words entries) text why)));
       needs = λ held input. IsSomeAnd held (λ c. IsUnprotected c × CanMake c seed count);
       keeps_volumes = λ c plain. c.info.protected ≡ true;
       keeps_list = λ c. c.info.protected ≡ true;
