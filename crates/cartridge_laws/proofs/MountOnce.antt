@@ -135,8 +135,8 @@ slots_not_at_fault : (c : Cartridge) (fault : HeaderFault) (area : List (List �
     HasNoFault area (last_segment c) → ⊥
 slots_not_at_fault c fault area refuses table sound =
     let same : refuses.area ≡ area = one_table c refuses.area area refuses.table table in
-    not_at_fault area (last_segment c) refuses.slot
-    (subst (λ (xs : List (List ℕ)). IsFirstFault xs (last_segment c) refuses.slot) same refuses.first) sound
+    not_at_fault area (last_segment c) fault
+    (subst (λ (xs : List (List ℕ)). IsFirstFault xs (last_segment c) fault) same refuses.first) sound
 
 -- ---- what mounting gives, beside each thing that it may give
 
