@@ -149,15 +149,20 @@ pub record KeepsFormat (store after : StoreView) : Type 0 where
 
 -- There is room for as many bytes as are promised. With nothing promised the source is asked also where there is no room, for how
 -- many bytes it has.
-abbrev pub HasRoomFor : StoreView → (promised : Option ℕ) → Type 0
-HasRoomFor store promised = IfSome promised (λ n. has_promised_room (room_in (kept_in store.words store.entries)) (Some n) ≡ true)
+abbrev pub HasRoomFor : (words : List ℕ) → (entries : List Entry) → (promised : Option ℕ) → Type 0
+HasRoomFor words entries promised = IfSome promised (λ n. has_promised_room (room_in (kept_in words entries)) (Some n) ≡ true)
+
+-- so an input was taken that so many bytes are promised of: the answer is full, and the source as it was, or there is room
+abbrev pub AskedFor : {S : Type 0} (words : List ℕ) (entries : List Entry) (n : ℕ) (old new : S) → Result Written StoreFault → Type 0
+AskedFor words entries n old new (Err (fault.Full need have)) = new ≡ old
+AskedFor words entries n old new answer = HasRoomFor words entries (Some n)
 
 -- the source may be asked for bytes: the table's data were read and show the list, and there is room
 pub record MayAsk {T : Type 0} (t : tapes.Meaning T) (old : T) (store : StoreView) (promised : Option ℕ) : Type 0 where
   pub table : List (List ℕ)
   pub shown : Shows table store.entries
   pub read : tapes.Tells t old (λ c. TableIs c table)
-  pub room : HasRoomFor store promised
+  pub room : HasRoomFor store.words store.entries promised
 
 -- it was asked only then
 abbrev pub AsksInRoom : {T S : Type 0} (t : tapes.Meaning T) (old new : Outside T S (Unit {0})) (store : StoreView) (promised : Option ℕ) → Type 0
