@@ -1,11 +1,11 @@
 -- In which order an append asked its source and wrote its entry, by what its stages did.
-use Rattle.std.proofs.Common.{◌≡◌, ℕ, List, [], ◌∷◌, ◌++◌, length, drop, Option, Some, None, IfSome, Result, Ok, Err, inl, inr, refl, sym, ap, ◌∙◌, subst, true}
+use Rattle.std.proofs.Common.{◌≡◌, ℕ, List, [], ◌∷◌, ◌++◌, length, drop, Option, Some, None, IfSome, Result, Ok, Err, inl, inr, refl, sym, ap, ◌∙◌, subst}
 use Rattle.std.specs.Option.{option_map}
 use Rattle.std.proofs.lemmas.List.Elements.{All-nil}
 use Rattle.cartridge_spec.specs.HeaderAndTable.{TableIs}
 use Rattle.cartridge_spec.specs.Settling.{settling_steps}
 use Rattle.command_laws.proofs.StoreAgain.{table_one}
-use Rattle.command_spec.specs.Append.{Fits, bytes_taken, input_writes, kept_in, room_in, has_promised_room}
+use Rattle.command_spec.specs.Append.{Fits, bytes_taken, input_writes}
 use Rattle.qic_base.proofs.Giving.{Gave-nothing}
 use Rattle.qic_base.proofs.Joins.{went_then_cut}
 use Rattle.qic_base.proofs.Steps.{Tells-map, Broke-front}
@@ -101,14 +101,15 @@ module _ {T S : Type 0} (t : tapes.Meaning T) (s : sources.Meaning S) (store : S
           (act_went t s x0 x1 a again.steps again.done) broke.cut)) again.told;
     }
 
+    -- where there is no room for what is promised nothing was asked
+    full : (p : Option ℕ) → (HasRoomFor store.words store.entries p → MayAsk t x0 store promised) → IfSome p (λ n. b ≡ a) → AsksInRoom t (reading x0 a) (reading x2 b) store promised
+    full None may asked = inr (may tt)
+    full (Some n) may asked = inl asked
+
     -- the input came to nothing
     pub input_order : (why : StoreFault) → InputIs t s store.words store.entries promised (reading x1 a) (reading x2 b) (Err why) →
         IfSome promised (λ n. AskedFor store.words store.entries n a b (Err why)) → InOrder t s (reading x0 a) (reading x2 b) store promised (Err why)
     input_order (fault.Full need have) is asked = record { asks = full promised (λ room. asks_in room) asked; entry = asked }
-      where
-        full : (p : Option ℕ) → (HasRoomFor store.words store.entries p → MayAsk t x0 store promised) → IfSome p (λ n. b ≡ a) → AsksInRoom t (reading x0 a) (reading x2 b) store promised
-        full None may asked = inr (may tt)
-        full (Some n) may asked = inl asked
     input_order (fault.Short wanted read) is asked = record { asks = inr (asks_in asked); entry = tt }
     input_order fault.Source is asked = record { asks = inr (asks_in asked); entry = (asks_in asked, broke_late SourceFails is) }
     input_order fault.Tape is asked = record { asks = inr (asks_in asked); entry = inl (broke_late TapeFails is) }
