@@ -62,7 +62,7 @@ too_long have input beyond =
 no_room : (input : List ℕ) (n : ℕ) → n ≡ min (length input) 1 → taking 0 None input ≡ TooLong n 0
 no_room input n is = ap (λ (k : ℕ). TooLong k 0) (sym is)
 
-pub has_room : (have n : ℕ) → 1 ≤ have → n ≤ have → has_promised_room have (Some n) ≡ true
+has_room : (have n : ℕ) → 1 ≤ have → n ≤ have → has_promised_room have (Some n) ≡ true
 has_room have n some within = both_true (nat_le 1 have) (nat_le n have) (le-leb 1 have some) (le-leb n have within)
 
 has_none : (have n : ℕ) → (have ≡ 0) ⊎ (have < n) → has_promised_room have (Some n) ≡ false

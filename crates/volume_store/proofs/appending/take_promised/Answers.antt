@@ -6,7 +6,7 @@ use Rattle.volume_input.specs.Input.{HasWritten, EndedShort}
 use Rattle.host_driver.proofs.Keeping.{keeps_none}
 use Rattle.volume_store.specs.Appending.{InputWent}
 use Rattle.command_spec.specs.Append.{TooLong}
-use Rattle.volume_store.proofs.Taking.{has_room, promise_refused, promised_written, promised_ends_short}
+use Rattle.volume_store.proofs.Taking.{promise_refused, promised_written, promised_ends_short}
 use Rattle.volume_store.proofs.appending.take_promised.Goals as goal
 use Rattle.volume_store.proofs.appending.take_promised.Goals.{then-have-eq0-via-then-have-eq0, then-have-eq0-via-else-have-eq0+then-count-have}
 
