@@ -1,6 +1,6 @@
 //! A volume appended.
 
-ghost use Rattle.std.specs.Prelude.{◌≡◌, ◌-◌, ◌+◌, ◌*◌, ◌≤◌, Some, None, true, length};
+ghost use Rattle.std.specs.Prelude.{◌≡◌, ◌-◌, ◌+◌, ◌*◌, ◌≤◌, Some, None, true, length, IfSome};
 ghost use Rattle.cartridge_laws.specs.Terms.{last_end};
 ghost use Rattle.qic_base.specs.Terms.{reading};
 ghost use Rattle.cartridge_spec.specs.Appending.{room};
@@ -10,7 +10,7 @@ ghost use Rattle.cartridge_spec.specs.Formatting.{IsLabel};
 ghost use Rattle.host_driver.specs.Calls.{IsReady, MayWrite, Keeps};
 ghost use Rattle.host_driver.specs.Fits.{segments_of};
 ghost use Rattle.qic_base.specs.declared.TheConstants.{LONGEST};
-ghost use Rattle.volume_store.specs.Appending.{InputIs, TakesNone};
+ghost use Rattle.volume_store.specs.Appending.{InputIs, TakesNone, AskedFor};
 
 use crate::fault::StoreFault;
 use crate::store::capacity_between;
@@ -78,6 +78,7 @@ fn take_promised<T: Tape, S: Source>(
     requires have { have ≡ room map.now table.now }
     ensures ends { InputIs T.means S.means map.now table.now (Some count)
         (reading unit.old.tape source.old) (reading unit.new.tape source.new) result }
+    ensures asked { AskedFor map.now table.now count source.old source.new result }
     ensures kept { S.means.keeps source.old source.new }
     ensures keeps { Keeps T.means host.new unit.old unit.new }
 {
@@ -186,6 +187,7 @@ pub(crate) fn take_input<T: Tape, S: Source>(
     requires list { IsSoundList (length map.now - 1) table.now }
     ensures ends { InputIs T.means S.means map.now table.now promised
         (reading unit.old.tape source.old) (reading unit.new.tape source.new) result }
+    ensures asked { IfSome promised (λ n. AskedFor map.now table.now n source.old source.new result) }
     ensures kept { S.means.keeps source.old source.new }
     ensures keeps { Keeps T.means host.new unit.old unit.new }
 {
