@@ -164,7 +164,7 @@ AskedFor words entries n old new answer = HasRoomFor words entries (Some n)
 pub record MayAsk {T : Type 0} (t : tapes.Meaning T) (old : T) (store : StoreView) (promised : Option ℕ) : Type 0 where
   pub table : List (List ℕ)
   pub shown : Shows table store.entries
-  pub read : tapes.Tells t old (λ c. TableIs c table)
+  pub read : tape_calls.Tells t old (λ c. TableIs c table)
   pub room : HasRoomFor store.words store.entries promised
 
 -- it was asked only then
@@ -180,7 +180,7 @@ pub record CutBeforeEntry {T S : Type 0} (t : tapes.Meaning T) (s : sources.Mean
   pub input : List ℕ
   pub is_told : IfSome (s.left old.source) (λ bytes. input ≡ bytes)
   pub content : IfNone (s.left old.source) (All (λ b. b < 256) input)
-  pub told : tapes.Tells t old.tape (λ c. (table : List (List ℕ)) → TableIs c table →
+  pub told : tape_calls.Tells t old.tape (λ c. (table : List (List ℕ)) → TableIs c table →
       Cut t s no_sink old new (acts_before_entry (kept_by store table (settling_steps table c)) promised input) failing)
 
 -- the source had given all bytes of the volume
