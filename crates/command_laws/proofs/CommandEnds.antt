@@ -7,7 +7,8 @@ use Rattle.command_laws.proofs.CommandTable.{plain_answers}
 use Rattle.command_spec.specs.Commands.{traits_of}
 use Rattle.command_spec.specs.Headline.{EachLeft, StopsGoOn, Stepped, NoneRose, IsCut, WordsLeave, Joins}
 use Rattle.command_laws.specs.Terms.{Answers}
-use Rattle.command_spec.specs.Machine.{HasValues, Yields, Spells, FrontPrints}
+use Rattle.command_spec.specs.Machine.{HasValues, Spells}
+use Rattle.command_laws.specs.CommandTerms.{Yields, FrontPrints}
 use Rattle.command_spec.specs.Outcome.{CommandOutcome, output_of}
 use Rattle.command_spec.specs.Runs.{fault_of, may_come_from, is_fault, is_outcome, InputLeft, Finished, CommandEnds, IsCutOff}
 use Rattle.command_spec.specs.declared.status.Status.{Status}

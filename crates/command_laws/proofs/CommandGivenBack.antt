@@ -6,7 +6,8 @@ use Rattle.command_laws.proofs.RestoreGivenBack.{given, given_whole, given_lost,
 use Rattle.command_laws.proofs.TextWords.{one_command}
 use Rattle.command_laws.specs.Terms.{Answers}
 use Rattle.command_spec.specs.Headline.{Stepped, IsCut}
-use Rattle.command_spec.specs.Machine.{Spells, Step, Yields}
+use Rattle.command_spec.specs.Machine.{Spells, Step}
+use Rattle.command_laws.specs.CommandTerms.{Yields}
 use Rattle.command_spec.specs.Outcome.{CommandOutcome, output_of}
 use Rattle.command_spec.specs.Restore.{RestoreOutcome}
 use Rattle.command_spec.specs.Commands.RestoreCommand.{HasNumber}

@@ -29,11 +29,11 @@ use Rattle.command_laws.proofs.TextWords.{one_command}
 use Rattle.command_laws.specs.MountedListed.{IsListed, listed_behind}
 use Rattle.command_laws.specs.MountedListing.{AddsNone}
 use Rattle.command_spec.specs.Append.{Kept, Taking, Fits, TooLong, append_acts, room_in, taking, AppendOutcome, appended, kept_over}
-use Rattle.command_laws.specs.CommandTerms.{entry_for, kept_in, Appends, append_status, Makes, AppendedFrom}
+use Rattle.command_laws.specs.CommandTerms.{entry_for, kept_in, Appends, append_status, Makes, AppendedFrom, Yields}
 use Rattle.command_spec.specs.Headline.{ToldNow}
 use Rattle.command_spec.specs.Lines.{reply_behind}
 use Rattle.command_spec.specs.Listing.{IsHeard, NowLists, ListsAppends}
-use Rattle.command_spec.specs.Machine.{Yields, HasValues, Spells}
+use Rattle.command_spec.specs.Machine.{HasValues, Spells}
 use Rattle.command_spec.specs.MadeVolumes.{AppendedBy}
 use Rattle.command_spec.specs.Make.{made_list, Making, MakeOutcome}
 use Rattle.command_spec.specs.Outcome.{Going, Opened, OpenOutcome, CommandOutcome}

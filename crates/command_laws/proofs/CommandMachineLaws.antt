@@ -4,7 +4,8 @@ use Rattle.command_laws.proofs.CommandTable.{plain_is_function, plain_answers, h
 use Rattle.command_laws.specs.CommandLaws.{IsSameOutcome, MachineIsFunction, MachineAnswers}
 use Rattle.command_laws.specs.TextWords.{OneCommand, IsNoCommand, EachWords}
 use Rattle.command_spec.specs.Commands.{IsCommand}
-use Rattle.command_spec.specs.Machine.{Yields, Step, SpellsNone}
+use Rattle.command_laws.specs.CommandTerms.{Yields}
+use Rattle.command_spec.specs.Machine.{Step, SpellsNone}
 use Rattle.command_spec.specs.Outcome.{CommandOutcome, output_of}
 use Rattle.command_spec.specs.declared.status.Status.{Status}
 use Rattle.command_spec.specs.declared.words.Words.{Words}

@@ -18,8 +18,8 @@ use Rattle.command_spec.specs.Commands.{traits_of}
 use Rattle.command_spec.specs.Headline.{WordsLeave, EachLeft, Stepped}
 use Rattle.command_laws.specs.Terms.{Answers}
 use Rattle.command_spec.specs.Listing.{IsHeard}
-use Rattle.command_laws.specs.CommandTerms.{AppendedFrom}
-use Rattle.command_spec.specs.Machine.{HasInputFault, HasValues, Spells, SpellsNone, FrontPrints, RefusedPrints}
+use Rattle.command_laws.specs.CommandTerms.{AppendedFrom, HasInputFault, FrontPrints, RefusedPrints}
+use Rattle.command_spec.specs.Machine.{HasValues, Spells, SpellsNone}
 use Rattle.command_spec.specs.Outcome.{CommandOutcome, output_of}
 use Rattle.command_spec.specs.Promises.{Promises}
 use Rattle.command_spec.specs.Runs.{may_come_from, NamesFault, InputLeft, IsCutOff, CommandEnds, EndsBlind, is_fault, Finished, is_outcome}

@@ -30,9 +30,9 @@ use Rattle.command_laws.specs.ScriptStanding.{WentNoFurther, plain_behind}
 use Rattle.command_spec.specs.Headline.{ToldNow, StopLeaves, WordsLeave, EachLeft}
 use Rattle.command_spec.specs.Input.{Item}
 use Rattle.command_spec.specs.Listing.{IsHeard}
-use Rattle.command_spec.specs.Machine.{Yields, HasValues, Spells}
+use Rattle.command_laws.specs.CommandTerms.{Yields, AppendedFrom, Makes}
+use Rattle.command_spec.specs.Machine.{HasValues, Spells}
 use Rattle.command_spec.specs.MadeVolumes.{AppendedBy, made_contents}
-use Rattle.command_laws.specs.CommandTerms.{AppendedFrom, Makes}
 use Rattle.command_spec.specs.Make.{Making, MakeOutcome, make_status}
 use Rattle.command_spec.specs.Outcome.{Going, CommandOutcome, refused, Opened, OpenOutcome}
 use Rattle.command_spec.specs.Runs.{may_come_from, fault_of, is_fault, CommandEnds}

@@ -25,7 +25,8 @@ use Rattle.command_spec.specs.Command.{Command}
 use Rattle.command_spec.specs.Commands.{traits_of, command_of}
 use Rattle.command_spec.specs.Commands.Single.{FormatOutcome}
 use Rattle.command_spec.specs.Headline.{ToldNow, EachLeft, StopLeaves, WordsLeave}
-use Rattle.command_spec.specs.Machine.{Yields, HasValues, Spells}
+use Rattle.command_laws.specs.CommandTerms.{Yields}
+use Rattle.command_spec.specs.Machine.{HasValues, Spells}
 use Rattle.command_spec.specs.Outcome.{CommandOutcome}
 use Rattle.command_spec.specs.Runs.{IsOfBytes, fault_of, may_come_from, IsCutOff, Finished, CommandEnds, is_fault}
 use Rattle.command_spec.specs.Volumes.{IsCarriedOut, StandsEmpty, FormatsOrNot, AreBytes, StandsAppended, AppendedOrNot, IsChanged, StillHolds}

@@ -23,7 +23,8 @@ use Rattle.command_laws.specs.DeepScrubLaws.{DeepScrubMends, DeepScrubStopped, F
 use Rattle.command_laws.specs.PromiseLaws.{DeepScrubRunMends}
 use Rattle.command_laws.specs.SilentSectors.{DiffersSilently}
 use Rattle.command_spec.specs.Headline.{Stepped, ToldNow}
-use Rattle.command_spec.specs.Machine.{Spells, Yields}
+use Rattle.command_spec.specs.Machine.{Spells}
+use Rattle.command_laws.specs.CommandTerms.{Yields}
 use Rattle.command_spec.specs.Outcome.{CommandOutcome, Opened}
 use Rattle.command_spec.specs.Runs.{is_fault}
 use Rattle.command_laws.specs.Terms.{MendsDeep, ScrubsDeepOn}

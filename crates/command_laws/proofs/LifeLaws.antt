@@ -14,7 +14,8 @@ use Rattle.command_laws.proofs.CommandUnread.{worn_neither}
 use Rattle.command_laws.specs.CommandRecord.{NeitherReads}
 use Rattle.command_laws.proofs.WholeSteps.{worn_whole}
 use Rattle.command_laws.specs.Life.{ALife, CommandSpares, Ended, Event, EventBecomes, Happens, IsSound, Leaves, LossSpares, Loses, MayEnd, Runs, begun_behind, begun_by}
-use Rattle.command_spec.specs.Machine.{HasValues, Yields}
+use Rattle.command_spec.specs.Machine.{HasValues}
+use Rattle.command_laws.specs.CommandTerms.{Yields}
 use Rattle.command_spec.specs.Outcome.{CommandOutcome}
 use Rattle.command_spec.specs.declared.words.Words.{Words}
 use Rattle.qic_base.specs.Acts.{steps_of}

@@ -25,7 +25,8 @@ use Rattle.command_laws.specs.MountedHeld.{IsHeld}
 use Rattle.command_spec.specs.Commands.{command_of}
 use Rattle.command_spec.specs.Input.{Item}
 use Rattle.command_spec.specs.Listing.{IsHeard}
-use Rattle.command_spec.specs.Machine.{HasValues, Yields}
+use Rattle.command_spec.specs.Machine.{HasValues}
+use Rattle.command_laws.specs.CommandTerms.{Yields}
 use Rattle.command_spec.specs.MadeVolumes.{made_contents}
 use Rattle.command_spec.specs.Outcome.{CommandOutcome, output_of}
 use Rattle.command_spec.specs.Script.{Did, ScriptDoes, Scripting, ScriptOutcome}

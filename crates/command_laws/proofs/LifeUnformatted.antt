@@ -18,9 +18,8 @@ use Rattle.command_laws.proofs.CommandTable.ProtectCommand.{mark_keeps}
 use Rattle.command_laws.proofs.CommandTable.UpgradeCommand.{version_keeps}
 use Rattle.command_laws.specs.Life.{LossSpares}
 use Rattle.command_laws.specs.Terms.{telling, listing, Mends}
-use Rattle.command_laws.specs.CommandTerms.{Appends}
+use Rattle.command_laws.specs.CommandTerms.{Appends, Yields}
 use Rattle.command_spec.specs.Lines.{protected_line, upgraded_line}
-use Rattle.command_spec.specs.Machine.{Yields}
 use Rattle.command_spec.specs.Make.{Making}
 use Rattle.command_spec.specs.Outcome.{CommandOutcome, Going, HasPlace, OpenOutcome, Opened, Shows, WritableOutcome}
 use Rattle.command_spec.specs.Restore.{Gives}

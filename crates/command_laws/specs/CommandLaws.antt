@@ -3,7 +3,8 @@ use Rattle.std.specs.Prelude.{All, ◌<◌, ◌≡◌, ℕ, List, Option, Some, 
 use Rattle.cartridge_laws.specs.ChangeSteps.{HasNoRenew}
 use Rattle.cartridge_spec.specs.Formatting.{HasCleanCopies, HasNoHeader}
 use Rattle.cartridge_spec.specs.HeaderAndTable.{IsArea}
-use Rattle.command_spec.specs.Machine.{Step, Yields, HasValues, CanBeDone}
+use Rattle.command_spec.specs.Machine.{Step, HasValues}
+use Rattle.command_laws.specs.CommandTerms.{Yields, CanBeDone}
 use Rattle.command_spec.specs.Outcome.{CommandOutcome}
 use Rattle.command_laws.specs.Terms.{KeepsCopies, KeepsLive}
 use Rattle.command_spec.specs.declared.status.Status.{Status}

@@ -7,13 +7,15 @@ use Rattle.cartridge_spec.specs.Shape.{mask_at, usable_places}
 use Rattle.cartridge_spec.specs.Table.{Entry}
 use Rattle.cartridge_spec.specs.Wear.{WearSpares}
 use Rattle.cartridge_spec.specs.Volumes.{Plain, entries_of, volume_length}
+use Rattle.command_spec.specs.declared.words.Words.{Words}
+use Rattle.command_spec.specs.Commands.{command_of}
 use Rattle.command_spec.specs.Append.{Kept, Taking, Fits, TooLong, TooShort, append_acts, appended, entry_behind, kept_over}
 use Rattle.command_spec.specs.CommandWords.{HasForm, SpellsPart, Number}
 use Rattle.command_spec.specs.Generator.{made_bytes, made_length}
 use Rattle.command_spec.specs.Input.{Item, line_forms, most_items}
 use Rattle.command_spec.specs.Lines.{place_line}
 use Rattle.command_spec.specs.Make.{Answer, Done, Full, Lost, MakeStep, Mismatch, Protected, TableMismatch, Runs, ScrubAll, after_items, appending, ending_answer, made_answer, made_list, made_name, making, sum_acts, wearing_volumes}
-use Rattle.command_spec.specs.Outcome.{Going}
+use Rattle.command_spec.specs.Outcome.{CommandOutcome, Going}
 use Rattle.command_spec.specs.Restore.{GivingEnd, Restored, LostIn, MismatchIn, Piece, RestoresVolume, framed, pieces}
 use Rattle.command_spec.specs.Script.{Did, EndsEarly, LineDoes, Meeting, Meets, acts_on, given_as}
 use Rattle.command_spec.specs.declared.line.Line.{Line}
@@ -203,3 +205,32 @@ IsTrain before pulses = SpellsPart before (Number 0 255 pulses)
 -- an item begins the input
 abbrev pub HasItem : {I : Type 0} → (List ℕ → I → Type 0) → List ℕ → Type 0
 HasItem {I} Spelled input = (item : I) × ((text : List ℕ) × ((rest : List ℕ) × ((input ≡ text ++ rest) × Spelled text item)))
+
+-- ---- commands
+
+-- a command over what the drive holds and an input
+abbrev pub Yields : Words → (held : Option Cartridge) (input : List ℕ) → CommandOutcome → Type 0
+Yields command held input outcome = (command_of command).yields held input outcome
+
+-- what a command that was carried out prints, whatever it is that the drive holds
+abbrev pub CommandPrints : Words → List ℕ → Type 0
+CommandPrints command text = (command_of command).prints text
+
+-- a front of that; of the lines of a generated run any
+abbrev pub FrontPrints : Words → List ℕ → Type 0
+FrontPrints command text = (command_of command).fronts text
+
+-- what a command has printed that was refused with this answer: most of them nothing; the levels of the trains, or the replies to
+-- the lines, before a fault of the input, or before a volume table that doesn't show the list; the bytes of a volume before a
+-- segment that doesn't read; and the lines of a generated run before the step that was refused
+abbrev pub RefusedPrints : Words → Status → List ℕ → Type 0
+RefusedPrints command answer text = (command_of command).refused answer text
+
+-- the fault of the input of a command: the number of the line, counted from 1, and how many bytes stand before it
+abbrev pub HasInputFault : Words → (input : List ℕ) → (line place : ℕ) → Type 0
+HasInputFault command input line place = (command_of command).fault input line place
+
+-- All is there that the command needs. A new cartridge and trains need none that is held; a line of a script that is refused is
+-- answered by its reply, so the lines need nothing more.
+abbrev pub CanBeDone : Words → (held : Option Cartridge) (input : List ℕ) → Type 0
+CanBeDone command held input = (command_of command).needs held input

@@ -14,7 +14,7 @@ use Rattle.command_laws.specs.ScrubLaws.{AreAllLive}
 use Rattle.command_laws.specs.ScrubMended.{IsScrubbed}
 use Rattle.command_laws.specs.SilentSectors.{DiffersSilently}
 use Rattle.command_laws.specs.Terms.{IsFirstCopyRight, ScrubsDeepOn}
-use Rattle.command_spec.specs.Machine.{Yields}
+use Rattle.command_laws.specs.CommandTerms.{Yields}
 use Rattle.command_spec.specs.Outcome.{CommandOutcome}
 use Rattle.command_spec.specs.Scrub.{Scrubs, Looked, looked_at}
 use Rattle.command_spec.specs.ScrubForms.{Finding, FindInTurn, MayBeFound, ScrubsAs, finding_acts}

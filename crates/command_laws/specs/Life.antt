@@ -10,7 +10,8 @@ use Rattle.cartridge_spec.specs.Wear.{WearSpares}
 use Rattle.command_laws.specs.ActStops.{IsLeftBy}
 use Rattle.command_spec.specs.Input.{Item}
 use Rattle.command_spec.specs.Listing.{IsHeard}
-use Rattle.command_spec.specs.Machine.{HasValues, Yields}
+use Rattle.command_spec.specs.Machine.{HasValues}
+use Rattle.command_laws.specs.CommandTerms.{Yields}
 use Rattle.command_spec.specs.MadeVolumes.{made_contents}
 use Rattle.command_spec.specs.Outcome.{CommandOutcome, HasPlace, output_of}
 use Rattle.command_spec.specs.Script.{Did, ScriptDoes}

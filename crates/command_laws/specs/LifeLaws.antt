@@ -5,7 +5,8 @@ use Rattle.cartridge_spec.specs.Mounting.{CanBeRead}
 use Rattle.cartridge_spec.specs.Volumes.{Plain, Volume}
 use Rattle.command_laws.specs.Life.{Answered, Ended, Event, HasRun, IsEmptied, IsSound, Lives, Loses, Run, Runs, Stopped, begun_behind_all}
 use Rattle.command_spec.specs.Headline.{WordsLeave}
-use Rattle.command_spec.specs.Machine.{Spells, SpellsNone, Step, Yields}
+use Rattle.command_spec.specs.Machine.{Spells, SpellsNone, Step}
+use Rattle.command_laws.specs.CommandTerms.{Yields}
 use Rattle.command_spec.specs.Outcome.{CommandOutcome, output_of}
 use Rattle.command_spec.specs.Restore.{LosesFew, pieces_in}
 use Rattle.command_spec.specs.declared.status.Status.{Status}

@@ -15,7 +15,7 @@ use Rattle.command_spec.specs.Command.{ReadsAs}
 use Rattle.command_spec.specs.Headline.{Stepped}
 use Rattle.command_spec.specs.Input.{AtEnd, AtStop, IsPulses, IsScript, Item}
 use Rattle.command_spec.specs.Lines.{blank_line, formatted_line, info_text, list_text, protected_line, upgraded_line}
-use Rattle.command_spec.specs.Machine.{CommandPrints, RefusedPrints}
+use Rattle.command_laws.specs.CommandTerms.{CommandPrints, RefusedPrints}
 use Rattle.command_spec.specs.Outcome.{CommandOutcome, Going, OpenOutcome, Shows, StepOutcome, WritableOutcome, acted, carried_out, refused_behind}
 use Rattle.command_spec.specs.Restore.{LosesFew, pieces_in}
 use Rattle.command_spec.specs.Runs.{OverTold}

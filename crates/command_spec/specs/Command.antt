@@ -66,11 +66,14 @@ pub record Command : Type 1 where
   pub prints : List ℕ → Type 0
   -- what it may have printed wherever a fault cuts it off
   pub fronts : List ℕ → Type 0
-  -- what it has printed that was refused with an answer
+  -- what it has printed that was refused with an answer: most of them nothing; the levels of the trains, or the replies
+  -- to the lines, before a fault of the input, or before a volume table that doesn't show the list; the bytes of a
+  -- volume before a segment that doesn't read; and the lines of a generated run before the step that was refused
   pub refused : Status → List ℕ → Type 0
   -- the fault of its input: the number of the line, counted from 1, and how many bytes stand before it
   pub fault : (input : List ℕ) → (line place : ℕ) → Type 0
-  -- all is there that it needs
+  -- All is there that it needs. A new cartridge and trains need none that is held; a line of a script that is refused
+  -- is answered by its reply, so the lines need nothing more.
   pub needs : (held : Option Cartridge) (input : List ℕ) → Type 0
   -- it keeps what a cartridge stands for; what it is mounted as, whether it stands for a plain one or not; its header copies; where
   -- it keeps these, that none of them can be read; and that each sector of the table's segment takes a write

@@ -1,7 +1,8 @@
 -- The clauses of the headline, one by one (this project's own).
 use Rattle.std.specs.Prelude.{◌≡◌, ℕ, List, ◌++◌, Option, Some, ◌⊎◌, true, IsSomeAnd, IfSome, ◌≤◌, is_some}
 use Rattle.std.specs.Option.{option_map}
-use Rattle.command_spec.specs.Machine.{Step, Yields, Spells}
+use Rattle.command_spec.specs.Commands.{command_of}
+use Rattle.command_spec.specs.Machine.{Step, Spells}
 use Rattle.command_spec.specs.Outcome.{CommandOutcome}
 use Rattle.command_spec.specs.Runs.{InputLeft, OverTold, IsCutOff, IsOfBytes}
 use Rattle.command_spec.specs.declared.status.Status.{Status}
@@ -39,7 +40,7 @@ pub record NoneRose {T S K : Type 0} (t : tapes.Meaning T) (s : sources.Meaning 
 abbrev pub IsCut : {T S K : Type 0} (t : tapes.Meaning T) (s : sources.Meaning S) (k : sinks.Meaning K) (words : List (List ℕ)) (old new : Outside T S K) → Failing → Type 0
 IsCut t s k words old new failing =
     (command : Words) × Spells words command × OverTold t s old (λ held input.
-    (outcome : CommandOutcome) × Yields command held input outcome × IsCutOff t s k command old new failing outcome)
+    (outcome : CommandOutcome) × (command_of command).yields held input outcome × IsCutOff t s k command old new failing outcome)
 
 -- ---- a stop
 
@@ -60,7 +61,7 @@ pub record StopLeaves (told : Option (List ℕ)) (command : Words) (held left : 
   pub is_told : IfSome told (λ bytes. input ≡ bytes)
   pub bytes : IsOfBytes command told input
   pub outcome : CommandOutcome
-  pub plain : Yields command held input outcome
+  pub plain : (command_of command).yields held input outcome
   pub torn : Torn (steps_of outcome.acts) held left
 
 -- what a run leaves: what stood, or what a stop in its command leaves

@@ -6,11 +6,11 @@ use Rattle.cartridge_spec.specs.HeaderAndTable.{IsArea}
 use Rattle.cartridge_spec.specs.Mounting.{Mounted, Mounts, IsTableLive}
 use Rattle.cartridge_spec.specs.Table.{Entry}
 use Rattle.cartridge_spec.specs.Volumes.{Plain, Stands, Volume}
-use Rattle.command_spec.specs.Commands.{traits_of}
+use Rattle.command_spec.specs.Commands.{command_of, traits_of}
 use Rattle.command_spec.specs.Commands.RestoreCommand.{HasNumber}
 use Rattle.command_spec.specs.Headline.{Stepped, NoneRose, IsCut, EachLeft, WordsLeave, Joins}
 use Rattle.command_spec.specs.Listing.{ListsAppends}
-use Rattle.command_spec.specs.Machine.{CanBeDone, Spells, SpellsNone, HasInputFault, CommandPrints, RefusedPrints, FrontPrints}
+use Rattle.command_spec.specs.Machine.{Spells, SpellsNone}
 use Rattle.command_spec.specs.OneLoss.{SurvivesOneLoss}
 use Rattle.command_spec.specs.Runs.{OverTold, is_fault, fault_of, is_outcome, may_come_from}
 use Rattle.command_spec.specs.Several.{Generated, SomeMade, AllMade, Scripted, SomeScripted, AllAnswered}
@@ -30,10 +30,10 @@ use Rattle.command_spec.specs.declared.words.Words.TheVariants as commands
 -- answered.
 pub record PrintsItsText {K : Type 0} (k : sinks.Meaning K) (words : List (List ℕ)) (old new : K) (answer : Status) : Type 0 where
   pub done : answer ≡ status.Done →
-      (command : Words) × Spells words command × ((text : List ℕ) × CommandPrints command text × k.took old text new)
+      (command : Words) × Spells words command × ((text : List ℕ) × (command_of command).prints text × k.took old text new)
   pub refused : (command : Words) → Spells words command → is_fault answer ≡ false → answer ≢ status.Done →
-      (text : List ℕ) × RefusedPrints command answer text × k.took old text new
-  pub begun : (command : Words) → Spells words command → (text : List ℕ) × FrontPrints command text × k.took old text new
+      (text : List ℕ) × (command_of command).refused answer text × k.took old text new
+  pub begun : (command : Words) → Spells words command → (text : List ℕ) × (command_of command).fronts text × k.took old text new
 
 -- What a run of words promises, by the objects of the outside before it and after it, and by its answer.
 pub record Promises {T S K : Type 0} (t : tapes.Meaning T) (s : sources.Meaning S) (k : sinks.Meaning K) (words : List (List ℕ)) (old new : Outside T S K) (answer : Status) : Type 0 where
@@ -42,7 +42,7 @@ pub record Promises {T S K : Type 0} (t : tapes.Meaning T) (s : sources.Meaning 
       OverTold t s old (λ held input. (answer ≡ status.NoMemory) ⊎ Stepped t s k words held input old new answer)
   -- Where no count rose, and the command has all that it needs, it is Done, or there was no memory.
   pub complete : NoneRose t s k old new → (command : Words) → Spells words command →
-      OverTold t s old (λ held input. CanBeDone command held input → (answer ≡ status.NoMemory) ⊎ (answer ≡ status.Done))
+      OverTold t s old (λ held input. (command_of command).needs held input → (answer ≡ status.NoMemory) ⊎ (answer ≡ status.Done))
   -- A fault of the outside cut off the acts of the plain machine's outcome over what is told, ..
   pub cut : (failing : Failing) → answer ≡ fault_of failing → IsCut t s k words old new failing
   -- .. and comes only where the count of its object rose, one of the source only to a command that reads it.
@@ -105,9 +105,9 @@ pub record Promises {T S K : Type 0} (t : tapes.Meaning T) (s : sources.Meaning 
   pub named : is_outcome answer ≡ true → (command : Words) × Spells words command × (may_come_from answer command ≡ true)
   -- A fault of the input comes from a command that reads lines of it, and is where it is named; at Done there is none.
   pub fault : (line place : ℕ) → answer ≡ status.ScriptFault line place → (command : Words) × Spells words command
-      × ((traits_of command).lines ≡ true) × IfSome (s.left old.source) (λ input. HasInputFault command input line place)
+      × ((traits_of command).lines ≡ true) × IfSome (s.left old.source) (λ input. (command_of command).fault input line place)
   pub no_fault : answer ≡ status.Done → (command : Words) → Spells words command →
-      IfSome (s.left old.source) (λ input. (line place : ℕ) → ¬ (HasInputFault command input line place))
+      IfSome (s.left old.source) (λ input. (line place : ℕ) → ¬ ((command_of command).fault input line place))
   -- But for commands that print as they go, an answer other than Done and a fault of the sink leaves the sink alone.
   pub silent : ((command : Words) → Spells words command → (traits_of command).goes ≡ false) →
       answer ≢ status.Done → answer ≢ status.SinkFault → new.sink ≡ old.sink

@@ -2,7 +2,6 @@
 use Rattle.std.specs.Prelude.{◌≡◌, ℕ, List, Option, IfSome, ◌+◌, drop, Bool, true, false, ◌&&◌, ◌==◌, nat_lt, ◌||◌, ◌<◌, All, IfNone, ◌≢◌, [], is_some, ◌⊎◌}
 use Rattle.std.specs.Option.{option_map}
 use Rattle.command_spec.specs.Commands.{command_of, traits_of}
-use Rattle.command_spec.specs.Machine.{CommandPrints, RefusedPrints, HasInputFault, Yields, FrontPrints}
 use Rattle.command_spec.specs.Outcome.{is_refused, CommandOutcome, output_of}
 use Rattle.command_spec.specs.declared.status.Status.{Status}
 use Rattle.command_spec.specs.declared.words.Words.{Words}
@@ -79,22 +78,22 @@ IsOfBytes command told input = (traits_of command).appends ≡ true → IfNone t
 
 -- the input's fault is named, where one is answered, and Done comes only over an input without one
 pub record NamesFault (command : Words) (input : List ℕ) (answer : Status) : Type 0 where
-  pub named : (line place : ℕ) → answer ≡ status.ScriptFault line place → HasInputFault command input line place
-  pub none : answer ≡ status.Done → (line place : ℕ) → ¬ (HasInputFault command input line place)
+  pub named : (line place : ℕ) → answer ≡ status.ScriptFault line place → (command_of command).fault input line place
+  pub none : answer ≡ status.Done → (line place : ℕ) → ¬ ((command_of command).fault input line place)
 
 -- It was carried out or refused: all acts of its outcome went.
 pub record Finished {T S K : Type 0} (t : tapes.Meaning T) (s : sources.Meaning S) (k : sinks.Meaning K) (command : Words) (old new : Outside T S K) (answer : Status) : Type 0 where
   pub outcome : CommandOutcome
   pub answered : answer ≡ outcome.status
   -- over what is told the plain machine's
-  pub told : OverTold t s old (λ held input. IsOfBytes command (s.left old.source) input × Yields command held input outcome)
+  pub told : OverTold t s old (λ held input. IsOfBytes command (s.left old.source) input × (command_of command).yields held input outcome)
   pub went : Went t s k old new outcome.acts
   pub left : InputLeft answer outcome.taken (s.left old.source) (s.left new.source)
   -- and over any tape and source one that the command may have
   pub sound : may_come_from answer command ≡ true
   pub none_taken : (traits_of command).reads ≡ false → outcome.taken ≡ 0
-  pub prints : (answer ≡ status.Done → CommandPrints command (output_of outcome))
-      × (answer ≢ status.Done → RefusedPrints command answer (output_of outcome))
+  pub prints : (answer ≡ status.Done → (command_of command).prints (output_of outcome))
+      × (answer ≢ status.Done → (command_of command).refused answer (output_of outcome))
   pub silent : (traits_of command).goes ≡ false → answer ≢ status.Done → new.sink ≡ old.sink
   -- where the source tells its bytes their fault is named, if one is
   pub fault : IfSome (s.left old.source) (λ input. NamesFault command input answer)
@@ -117,11 +116,11 @@ pub record IsCutOff {T S K : Type 0} (t : tapes.Meaning T) (s : sources.Meaning 
 pub record Stopped {T S K : Type 0} (t : tapes.Meaning T) (s : sources.Meaning S) (k : sinks.Meaning K) (command : Words) (old new : Outside T S K) (failing : Failing) : Type 0 where
   -- over what is told in the acts of the plain machine's outcome
   pub told : OverTold t s old (λ held input. IsOfBytes command (s.left old.source) input
-      × ((outcome : CommandOutcome) → Yields command held input outcome → IsCutOff t s k command old new failing outcome))
+      × ((outcome : CommandOutcome) → (command_of command).yields held input outcome → IsCutOff t s k command old new failing outcome))
   -- and over any tape and source in some that print a front of the command's text
   pub acts : List Act
   pub cut : Cut t s k old new acts failing
-  pub front : FrontPrints command (text_of acts)
+  pub front : (command_of command).fronts (text_of acts)
   pub silent : (traits_of command).goes ≡ false → failing ≢ SinkFails → new.sink ≡ old.sink
   -- a fault of the source comes to a command that reads it
   pub reads : failing ≡ SourceFails → (traits_of command).reads ≡ true

@@ -23,9 +23,8 @@ use Rattle.command_laws.proofs.CommandTable.{plain_is_function}
 use Rattle.command_laws.proofs.CommandTold.{input_of, input_told}
 use Rattle.command_laws.proofs.StoreTaking.{both_true}
 use Rattle.command_spec.specs.Append.{Kept, Taking, Fits, TooLong, TooShort, entry_acts, taking, room_in, input_writes, append_acts, AppendOutcome, kept_over}
-use Rattle.command_laws.specs.CommandTerms.{entry_for, silently, append_status, Appends, bytes_taken}
+use Rattle.command_laws.specs.CommandTerms.{entry_for, silently, append_status, Appends, bytes_taken, CommandPrints, FrontPrints}
 use Rattle.command_spec.specs.Lines.{reply_behind, appended_line}
-use Rattle.command_spec.specs.Machine.{CommandPrints, FrontPrints}
 use Rattle.command_spec.specs.Outcome.{CommandOutcome, refused, refused_behind}
 use Rattle.command_spec.specs.Runs.{NamesFault, may_come_from, InputLeft, CommandEnds, IsOfBytes, IsCutOff}
 use Rattle.command_spec.specs.declared.status.Status.{Status}

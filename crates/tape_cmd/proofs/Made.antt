@@ -12,7 +12,7 @@ use Rattle.drive_states.specs.Unit.{UnitView}
 use Rattle.cartridge_laws.proofs.MountOnce.{mounts_is_function}
 use Rattle.command_spec.specs.Generator.{made_length}
 use Rattle.command_spec.specs.Append.{has_promised_room, room_in}
-use Rattle.command_laws.specs.CommandTerms.{kept_in, Makes}
+use Rattle.command_laws.specs.CommandTerms.{kept_in, Makes, RefusedPrints}
 use Rattle.volume_store.specs.Mounting.{StoreView}
 use Rattle.command_laws.proofs.StoreTaking.{both_true}
 use Rattle.made_volumes.specs.declared.fault.MakeFault.{MakeFault}
@@ -20,7 +20,6 @@ use Rattle.command_spec.specs.Make.{MakeStep, AppendMade, WearSector, ScrubAll, 
 use Rattle.made_volumes.specs.Runs.{HasRun, MakeEnds, RunCut}
 use Rattle.command_spec.specs.declared.status.Status.{Status}
 use Rattle.tape_cmd.specs.Make.{run_status}
-use Rattle.command_spec.specs.Machine.{RefusedPrints}
 use Rattle.command_spec.specs.Outcome.{Going, Opened, OpenOutcome, WritableOutcome, CommandOutcome}
 use Rattle.tape_cmd.specs.Opening.{IsUnlocked, WritableEnds, is_opening}
 use Rattle.store_opening.specs.Opening.{IsOpened, HasOpened}

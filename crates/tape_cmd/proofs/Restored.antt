@@ -4,7 +4,7 @@ use Rattle.std.specs.Prelude.{◌==◌, ◌&&◌, nat_lt, nat_le, zero, suc}
 use Rattle.std.proofs.lemmas.Bool.{lt-ltb, le-leb, eq-eqb}
 use Rattle.std.proofs.lemmas.Option.{slice_get_cases, none-some}
 use Rattle.command_laws.proofs.StoreTaking.{both_true}
-use Rattle.command_laws.specs.CommandTerms.{EndsAt}
+use Rattle.command_laws.specs.CommandTerms.{EndsAt, RefusedPrints}
 use Rattle.command_spec.specs.Restore.{Piece, GivingEnd, Restored, LostIn, MismatchIn, Restores, pieces, volume_at, Gives, RestoreOutcome, ending_status}
 use Rattle.qic_base.specs.Cartridge.{Cartridge}
 use Rattle.qic_base.specs.Step.{Step as TapeStep}
@@ -20,7 +20,6 @@ use Rattle.volume_store.specs.Mounting.{StoreView}
 use Rattle.volume_store.specs.declared.fault.StoreFault.{StoreFault}
 use Rattle.volume_store.specs.Restoring.{RestoreEnds}
 use Rattle.command_spec.specs.declared.status.Status.{Status}
-use Rattle.command_spec.specs.Machine.{RefusedPrints}
 use Rattle.command_spec.specs.Outcome.{Opened, CommandOutcome, refused_behind}
 use Rattle.tape_cmd.specs.Opening.{OpeningEnds, is_opening, store_status}
 use Rattle.store_opening.specs.Opening.{IsOpened, HasOpened}

@@ -12,7 +12,7 @@ use Rattle.drive_spec.specs.Terms.{is_protected}
 use Rattle.drive_states.specs.Unit.{UnitView}
 use Rattle.cartridge_laws.proofs.MountOnce.{mounts_is_function}
 use Rattle.command_spec.specs.Commands.{traits_of}
-use Rattle.command_spec.specs.Machine.{Yields, CommandPrints, FrontPrints}
+use Rattle.command_laws.specs.CommandTerms.{Yields, CommandPrints, FrontPrints}
 use Rattle.command_spec.specs.Scrub.{Counts, IsScrubText, Scrubs, looked_at}
 use Rattle.command_laws.specs.Terms.{counts_of, counts_for, MendsDeep, Mends}
 use Rattle.command_spec.specs.ScrubForms.{IsTextFor, ScrubsAs}
