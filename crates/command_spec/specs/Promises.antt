@@ -58,7 +58,7 @@ pub record Promises {T S K : Type 0} (t : tapes.Meaning T) (s : sources.Meaning 
   pub changed : IsChanged t (s.left old.source) words old.tape new.tape answer
   -- Where then one sector more of the table's segment is lost, what appending left comes back as what stood, or as that with the
   -- volume; and once it was carried out, as that. So does what a generated run and a script left, with the first ones of their volumes.
-  pub survives : SurvivesOneLoss t (s.left old.source) words old.tape new.tape answer
+  pub survives : SurvivesOneLoss t k (s.left old.source) words old.tape new.tape old.sink new.sink answer
   -- A generated run leaves what stood with the first ones of its volumes, and with all of them once it has printed anything, or
   -- where the sink failed; a script leaves what stood with the appends of its first lines, among them all whose reply was written
   -- whole, and at most one line more, if no line that it came to wears out header or table; where each sector of the table's segment
