@@ -1,5 +1,5 @@
 -- What leaves a whole table whole: appends, sectors that are worn behind it, and scrubs.
-use Rattle.std.proofs.Common.{if◌then◌else◌, ◌≡◌, ◌∙◌, ◌⊎◌, ◌++◌, ◌<◌, ◌≤◌, ℕ, List, [], Bool, true, false, Option, Some, IsSomeAnd, inl, inr, ap, sym, subst, refl, arith, length}
+use Rattle.std.proofs.Common.{if◌then◌else◌, ◌≡◌, ◌∙◌, ◌⊎◌, ◌++◌, ◌+◌, ◌<◌, ◌≤◌, ℕ, suc, List, [], Bool, true, false, Option, Some, IsSomeAnd, inl, inr, ap, sym, subst, refl, arith, length}
 use Rattle.std.proofs.lemmas.Bool.{cases_Bool, cases_lt}
 use Rattle.cartridge_laws.proofs.AppendVolume.{old_order}
 use Rattle.cartridge_laws.proofs.ChangeViews.{view_of_other}
@@ -30,7 +30,7 @@ use Rattle.command_laws.proofs.ScrubStanding.{mending_stands}
 use Rattle.command_laws.specs.Intact.{AppendsLeaveIntact, IntactComesBack, IsIntact, ScrubsLeaveIntact, SettledIsIntact, WearsLeaveIntact}
 use Rattle.command_laws.specs.MountedKept.{IsKept, settle_and_append}
 use Rattle.command_laws.specs.ScrubMended.{IsBeingMended}
-use Rattle.command_spec.specs.OneLoss.{ComesBackAsOneOf}
+use Rattle.command_spec.specs.OneLoss.{ComesBackAsOneOf, SomeComeBack}
 use Rattle.command_spec.specs.Scrub.{looked_at}
 use Rattle.qic_base.specs.Acts.{steps_of}
 use Rattle.qic_base.specs.Cartridge.{Cartridge, view_at}
@@ -65,6 +65,36 @@ intact_comes_back c plain f lost intact loses = whole_comes_back c plain intact.
 pub intact_is_one : (c : Cartridge) (plain other : Plain) (left : Option Cartridge) → IsIntact c plain → left ≡ Some c → IsSomeAnd left (ComesBackAsOneOf plain other)
 intact_is_one c plain other left intact is =
     some_and (ComesBackAsOneOf plain other) c left (λ f lost loses. inl (intact_comes_back c plain f lost intact loses)) is
+
+-- ---- of several plain cartridges
+
+-- as the first, or as the next one
+pub one_comes : (standing : ℕ → Plain) (n : ℕ) (left : Option Cartridge) → IsSomeAnd left (ComesBackAsOneOf (standing n) (standing n)) → SomeComeBack standing n n left
+one_comes standing n left comes = record { one = n; other = n; from = omega arith; next = (omega arith, omega arith); within = omega arith; comes = comes }
+
+-- from fewer volumes on
+pub less_comes : (standing : ℕ → Plain) (fewer least most : ℕ) (left : Option Cartridge) → fewer ≤ least → SomeComeBack standing least most left → SomeComeBack standing fewer most left
+less_comes standing fewer least most left less back = record {
+  one = back.one;
+  other = back.other;
+  from = (let least = back.from in omega arith);
+  next = back.next;
+  within = back.within;
+  comes = back.comes;
+}
+
+-- behind one volume more
+pub next_comes : (standing : ℕ → Plain) (least most : ℕ) (left : Option Cartridge) → SomeComeBack (λ n. standing (suc n)) least most left → SomeComeBack standing (suc least) (suc most) left
+next_comes standing least most left back = record {
+  one = suc back.one;
+  other = suc back.other;
+  from = (let least = back.from in omega arith);
+  next = (let next = back.next in (omega (arith, next.0), omega (arith, next.1)));
+  within = (let few = back.within in omega arith);
+  comes = back.comes;
+}
+
+-- ---- what makes it whole
 
 pub settled_is_intact : SettledIsIntact
 settled_is_intact c plain kept =
