@@ -36,7 +36,7 @@ lost_now Defect live = absurd live
 lost_now Lost live = refl
 lost_now (Holds bytes) live = refl
 
-loses_one : (c : Cartridge) (lost : ℕ) → IsTableLive c → lost < 32 → LosesOneAlone c (worn 2 lost c) lost
+pub loses_one : (c : Cartridge) (lost : ℕ) → IsTableLive c → lost < 32 → LosesOneAlone c (worn 2 lost c) lost
 loses_one c lost live small = record {
   loses = record {
     within = small;

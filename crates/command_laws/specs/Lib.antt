@@ -17,6 +17,7 @@ pub mod OutputLaws
 pub mod OutputText
 pub mod PromiseLaws
 pub mod PulseLaws
+pub mod ReadableLaws
 pub mod RestoreLaws
 pub mod ScriptItems
 pub mod ScriptLaws

@@ -2,6 +2,7 @@
 //! lost. Each law is the contract of a function that does nothing; their proofs import the lemmas of this crate's `proofs`.
 
 ghost use Rattle.command_laws.specs.Intact.{SettledIsIntact, IntactComesBack, AppendsLeaveIntact, WearsLeaveIntact, ScrubsLeaveIntact};
+ghost use Rattle.command_laws.specs.ReadableLaws.{ComesBackCanBeRead, LeftCanBeRead};
 ghost use Rattle.command_laws.specs.Between.{FreeMayComeBack, StepsBetweenCarryOn, MountsWhileProtected, ComesBackOnceFree};
 ghost use Rattle.command_laws.specs.Intact.{StoppedMakeComesBack, PrintedMakeComesBack, DoneMakeIsIntact};
 ghost use Rattle.command_laws.specs.Intact.{StoppedScriptComesBack, AnsweredScriptComesBack, DoneScriptComesBack};
@@ -45,4 +46,11 @@ pub fn what_comes_between_carries_on()
     ensures steps { StepsBetweenCarryOn }
     ensures mounts { MountsWhileProtected }
     ensures comes { ComesBackOnceFree }
+{}
+
+/// What comes back with any one sector of its table's segment lost can be read without a loss, and so can each cartridge
+/// that an append, a generated run or a script leaves of one that could be read.
+pub fn what_comes_back_can_be_read()
+    ensures comes { ComesBackCanBeRead }
+    ensures left { LeftCanBeRead }
 {}
