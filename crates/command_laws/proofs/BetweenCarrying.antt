@@ -11,18 +11,18 @@ use Rattle.cartridge_laws.proofs.FormatViews.{view_of_other_sector, view_of_sect
 use Rattle.cartridge_laws.proofs.MountSettled.{settled_keeps_table}
 use Rattle.cartridge_laws.proofs.MountWriting.{length-writes_of}
 use Rattle.cartridge_laws.proofs.OneLossComesBack.{table_alone_comes_back}
-use Rattle.cartridge_spec.specs.HeaderAndTable.{TableIs, table_cells}
+use Rattle.cartridge_spec.specs.HeaderAndTable.{TableIs}
 use Rattle.cartridge_spec.specs.Mounting.{IsTableLive, Mounts, mounted_as, settled}
-use Rattle.cartridge_spec.specs.OneLoss.{ChangesTableAlone, ComesBackAs, LosesOneAlone}
+use Rattle.cartridge_spec.specs.OneLoss.{ComesBackAs, LosesOneAlone}
 use Rattle.cartridge_spec.specs.Says.{AsRead, ByCode, Data, TableSays, whole_mask, with_parity}
 use Rattle.cartridge_spec.specs.Settling.{changed_by, writes_of}
 use Rattle.cartridge_spec.specs.Shape.{IsLive, usable_places}
 use Rattle.cartridge_spec.specs.Volumes.{Plain, Stands, entries_of}
 use Rattle.cartridge_spec.specs.Wear.{worn}
-use Rattle.command_laws.specs.Between.{ComesBackOnceFree, FreeMayComeBack, IsBetween, MayComeBack, MountsWhileProtected, StepsBetweenCarryOn, without_mark}
+use Rattle.command_laws.specs.Between.{ComesBackOnceFree, FreeMayComeBack, MountsWhileProtected, StepsBetweenCarryOn, without_mark}
 use Rattle.command_spec.specs.OneLoss.{ComesBackAsOneOf}
 use Rattle.qic_base.specs.Cartridge.{Cartridge, view_at, with_view}
-use Rattle.qic_base.specs.Step.{FormatSegment, Renew, SetProtected, SetReferenced, Spoil, Step, Upgrade, Wear, WriteSector, changed, spoiled_view, worn_view}
+use Rattle.qic_base.specs.Step.{FormatSegment, Renew, SetProtected, SetReferenced, Spoil, Upgrade, Wear, WriteSector, changed, spoiled_view, worn_view}
 use Rattle.qic_base.specs.declared.tape.SectorView.{SectorView}
 use Rattle.qic_base.specs.declared.tape.SectorView.TheVariants.{Blank, Defect, Holds, Lost}
 use Rattle.qic_base.specs.declared.tape.TapeInfo.{TapeInfo}

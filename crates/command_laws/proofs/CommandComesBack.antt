@@ -1,5 +1,5 @@
 -- What a generated run and a script leave comes back where one sector more of the table's segment is lost.
-use Rattle.std.proofs.Common.{◌≡◌, ◌≢◌, ◌∙◌, ◌⊎◌, ◌≤◌, ◌<◌, zero, suc, ℕ, List, [], ◌∷◌, Option, Some, IsSomeAnd, inl, inr, ap, sym, subst, refl, arith, false, length, take}
+use Rattle.std.proofs.Common.{◌≡◌, ◌≢◌, ◌∙◌, ◌⊎◌, ◌≤◌, ◌<◌, zero, suc, ℕ, List, [], ◌∷◌, Option, Some, inl, inr, ap, sym, subst, refl, arith, false, length, take}
 use Rattle.cartridge_laws.proofs.MountWhole.{settling_effects}
 use Rattle.cartridge_spec.specs.Mounting.{IsTableLive, Mounts, mounted_as, settled}
 use Rattle.cartridge_spec.specs.Settling.{changed_by, settling_steps}
@@ -17,14 +17,14 @@ use Rattle.command_laws.specs.Intact.{IsIntact}
 use Rattle.command_spec.specs.Listing.{IsHeard}
 use Rattle.command_spec.specs.Make.{Answer, Done, Full, Lost, MakeOutcome, Makes, Mismatch, Protected, TableMismatch, make_status}
 use Rattle.command_spec.specs.OneLoss.{LeftComesBack, SomeComeBack, with_items, with_made}
-use Rattle.command_spec.specs.Outcome.{CommandOutcome, refused}
+use Rattle.command_spec.specs.Outcome.{CommandOutcome}
 use Rattle.command_spec.specs.Script.{Did, ScriptDoes, ScriptOutcome, ScriptRun}
 use Rattle.command_spec.specs.ScriptLists.{CameFurther, GoesNoFurther, ItemsWearBehind, printed_by}
 use Rattle.command_spec.specs.Several.{Scripted}
 use Rattle.qic_base.proofs.Steps.{Torn-append}
 use Rattle.qic_base.specs.Acts.{Act, steps_of}
 use Rattle.qic_base.specs.Cartridge.{Cartridge, IsCartridge}
-use Rattle.qic_base.specs.Step.{effects, Step}
+use Rattle.qic_base.specs.Step.{effects}
 use Rattle.qic_base.specs.Stop.{Torn}
 use Rattle.command_spec.specs.Input.{Item}
 use Rattle.command_spec.specs.declared.status.Status.TheVariants as status

@@ -23,7 +23,7 @@ use Rattle.command_laws.proofs.ScriptAnswered.{answered_behind, answered_between
 use Rattle.command_laws.proofs.ScriptReached.{front_steps}
 use Rattle.command_laws.proofs.ScriptMachineLaws.{one_outcome as one_script}
 use Rattle.command_laws.proofs.TextWords.{one_command}
-use Rattle.command_laws.specs.ActStops.{Between, Behind, IsLeftBy}
+use Rattle.command_laws.specs.ActStops.{Behind, IsLeftBy}
 use Rattle.command_laws.specs.MountedHeld.{IsHeld}
 use Rattle.command_laws.specs.MountedKept.{IsKept, IsOpen}
 use Rattle.command_laws.specs.ScriptStanding.{WentNoFurther, plain_behind}
@@ -41,7 +41,7 @@ use Rattle.command_spec.specs.Several.{FirstLinesSpare, Scripted, SomeMade, Make
 use Rattle.command_spec.specs.Volumes.{IsCarriedOut}
 use Rattle.command_spec.specs.declared.status.Status.{Status}
 use Rattle.command_spec.specs.declared.words.Words.{Words}
-use Rattle.qic_base.proofs.Joins.{text_of-append, steps_of-append}
+use Rattle.qic_base.proofs.Joins.{text_of-append}
 use Rattle.qic_base.proofs.Steps.{Torn-append, effects-append}
 use Rattle.qic_base.specs.Acts.{Act, steps_of, text_of, next_steps, Outside, Failing, TapeFails, SourceFails, SinkFails, Went, Cut}
 use Rattle.qic_base.specs.Cartridge.{Cartridge, IsCartridge}

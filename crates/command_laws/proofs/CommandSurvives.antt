@@ -1,5 +1,5 @@
 -- What words that append leave comes back where one sector more of the table's segment is lost.
-use Rattle.std.proofs.Common.{◌≡◌, ◌∙◌, ◌≤◌, ◌+◌, ℕ, List, [], Option, Some, IfSome, IsSomeAnd, inl, inr, ap, refl, subst, sym, arith, length}
+use Rattle.std.proofs.Common.{◌≡◌, ◌∙◌, ◌≤◌, ℕ, List, [], Option, Some, IfSome, IsSomeAnd, inl, inr, ap, refl, subst, sym, arith, length}
 use Rattle.cartridge_laws.proofs.FormatWriting.{some_weaker}
 use Rattle.cartridge_spec.specs.Appending.{with_bytes}
 use Rattle.cartridge_spec.specs.Mounting.{IsTableLive, settled}

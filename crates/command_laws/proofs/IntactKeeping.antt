@@ -1,5 +1,5 @@
 -- What leaves a whole table whole: appends, sectors that are worn behind it, and scrubs.
-use Rattle.std.proofs.Common.{if◌then◌else◌, ◌≡◌, ◌∙◌, ◌⊎◌, ◌++◌, ◌+◌, ◌<◌, ◌≤◌, ℕ, suc, List, [], Bool, true, false, Option, Some, IsSomeAnd, inl, inr, ap, sym, subst, refl, arith, length}
+use Rattle.std.proofs.Common.{if◌then◌else◌, ◌≡◌, ◌∙◌, ◌++◌, ◌+◌, ◌≤◌, ℕ, suc, List, [], Bool, false, Option, Some, IsSomeAnd, inl, inr, ap, sym, subst, arith}
 use Rattle.std.proofs.lemmas.Bool.{cases_Bool, cases_lt}
 use Rattle.cartridge_laws.proofs.AppendVolume.{old_order}
 use Rattle.cartridge_laws.proofs.ChangeViews.{view_of_other}
@@ -10,15 +10,12 @@ use Rattle.cartridge_laws.proofs.MountSettled.{settled_is_whole, settled_keeps_t
 use Rattle.cartridge_laws.proofs.MountWhole.{settled_is_cartridge}
 use Rattle.cartridge_laws.proofs.OneLossComesBack.{whole_comes_back}
 use Rattle.cartridge_laws.specs.AppendBetween.{IsWhole}
-use Rattle.cartridge_laws.specs.AppendLaws.{new_table}
-use Rattle.cartridge_spec.specs.Appending.{has_room, with_bytes}
+use Rattle.cartridge_spec.specs.Appending.{with_bytes}
 use Rattle.cartridge_spec.specs.HeaderAndTable.{last_segment}
-use Rattle.cartridge_spec.specs.Mounting.{settled}
-use Rattle.cartridge_spec.specs.OneLoss.{LosesOneAlone}
 use Rattle.cartridge_spec.specs.Says.{with_parity}
 use Rattle.cartridge_spec.specs.Settling.{block_writes, changed_by, is_left_out, is_unsettled, places_where, settling_places, settling_steps}
 use Rattle.cartridge_spec.specs.Shape.{sector_at}
-use Rattle.cartridge_spec.specs.Volumes.{Plain, Stands, entries_of}
+use Rattle.cartridge_spec.specs.Volumes.{Plain, entries_of}
 use Rattle.command_laws.proofs.MountedHeld.{settled_live}
 use Rattle.command_laws.proofs.MountedKeeping.{scrubbed_kept, worn_kept}
 use Rattle.command_laws.proofs.MountedStanding.{kept_appended, whole_appended}
@@ -28,7 +25,6 @@ use Rattle.command_laws.proofs.ScrubDone.{done_being_mended}
 use Rattle.command_laws.proofs.ScrubMending.{readable_stays, stopped_scrub}
 use Rattle.command_laws.proofs.ScrubStanding.{mending_stands}
 use Rattle.command_laws.specs.Intact.{AppendsLeaveIntact, IntactComesBack, IsIntact, ScrubsLeaveIntact, SettledIsIntact, WearsLeaveIntact}
-use Rattle.command_laws.specs.MountedKept.{IsKept, settle_and_append}
 use Rattle.command_laws.specs.ScrubMended.{IsBeingMended}
 use Rattle.command_spec.specs.OneLoss.{ComesBackAsOneOf, SomeComeBack}
 use Rattle.command_spec.specs.Scrub.{looked_at}

@@ -1,7 +1,6 @@
 -- A generated run, done or stopped, on a cartridge whose whole table holds what it should.
-use Rattle.std.proofs.Common.{◌≡◌, ◌≢◌, ◌∙◌, ◌++◌, ◌+◌, ◌≤◌, ◌<◌, zero, suc, ℕ, List, [], ◌∷◌, Option, Some, IsSomeAnd, inl, inr, ap, sym, subst, refl, arith, length, drop, true}
+use Rattle.std.proofs.Common.{◌≡◌, ◌≢◌, ◌∙◌, ◌++◌, ◌+◌, ◌≤◌, zero, suc, ℕ, List, [], ◌∷◌, Option, Some, IsSomeAnd, inl, inr, ap, sym, subst, refl, arith, length, drop, true}
 use Rattle.std.proofs.lemmas.Bool.{cases_Bool}
-use Rattle.cartridge_laws.proofs.FormatWriting.{some_weaker}
 use Rattle.cartridge_spec.specs.Appending.{has_room, with_all, with_bytes}
 use Rattle.cartridge_spec.specs.Settling.{changed_by}
 use Rattle.cartridge_spec.specs.Table.{Entry}

@@ -23,7 +23,7 @@ use Rattle.command_laws.specs.ActStops.{Behind, Between}
 use Rattle.command_laws.specs.Intact.{AnsweredScriptComesBack, DoneScriptComesBack, IsIntact, StoppedScriptComesBack}
 use Rattle.command_laws.specs.MountedHeld.{IsHeld}
 use Rattle.command_laws.specs.ScriptStanding.{HaveBytes, plain_after, plain_behind}
-use Rattle.command_spec.specs.Append.{Kept, append_acts, entry_acts, input_writes, kept_over, room_in, taking}
+use Rattle.command_spec.specs.Append.{Kept, entry_acts, input_writes, kept_over, room_in, taking}
 use Rattle.command_spec.specs.Input.{AtEnd, AtFault, AtStop, Ending, Item}
 use Rattle.command_spec.specs.Lines.{reply_behind}
 use Rattle.command_spec.specs.OneLoss.{ComesBackAsOneOf, SomeComeBack, with_items}

@@ -1,5 +1,5 @@
 -- That a volume table can be read goes on from run to run.
-use Rattle.std.proofs.Common.{◌≡◌, ◌⊎◌, ◌∙◌, ◌<◌, ◌≤◌, ◌*◌, ℕ, List, Option, Some, None, IfSome, IsSomeAnd, inl, inr, ap, sym, subst, refl, arith, length, take, false, append-nil}
+use Rattle.std.proofs.Common.{◌≡◌, ◌⊎◌, ◌∙◌, ◌≤◌, ℕ, List, Option, Some, None, IfSome, IsSomeAnd, inl, inr, ap, sym, subst, arith, length, append-nil}
 use Rattle.std.proofs.lemmas.List.{take_all}
 use Rattle.cartridge_laws.proofs.Cells.{count_of_readable, readable_from_count}
 use Rattle.cartridge_laws.proofs.ChangeStanding.{count_grows}
@@ -13,21 +13,19 @@ use Rattle.cartridge_laws.proofs.Segments.{length-whole_cells}
 use Rattle.cartridge_laws.specs.FormatMarks.{IsFormattedFrom}
 use Rattle.cartridge_spec.specs.Formatting.{HasNoDefectInFront, format_steps}
 use Rattle.cartridge_spec.specs.HeaderAndTable.{IsArea, table_cells}
-use Rattle.cartridge_spec.specs.Mounting.{CanBeRead, IsTableLive, Mounts, mounted_as}
+use Rattle.cartridge_spec.specs.Mounting.{CanBeRead, IsTableLive}
 use Rattle.cartridge_spec.specs.Says.{whole_mask}
 use Rattle.cartridge_spec.specs.Settling.{changed_by}
 use Rattle.cartridge_spec.specs.Volumes.{Plain, entries_of}
 use Rattle.cartridge_spec.specs.Wear.{worn}
 use Rattle.command_laws.proofs.BetweenCarrying.{loses_one}
 use Rattle.command_laws.proofs.TextWords.{one_command}
-use Rattle.command_laws.specs.ReadableLaws.{ComesBackCanBeRead, FormattedCanBeRead, LeftCanBeRead, RunsKeepReadable, StillReadable, WordsKeepReadable}
+use Rattle.command_laws.specs.ReadableLaws.{ComesBackCanBeRead, FormattedCanBeRead, LeftCanBeRead, RunsKeepReadable, StillReadable}
 use Rattle.command_spec.specs.Commands.Format.{FormatOutcome}
-use Rattle.command_spec.specs.Complete.{ReadsAs}
 use Rattle.command_spec.specs.Headline.{EachLeft, Stepped, ToldNow}
 use Rattle.command_spec.specs.Machine.{Spells, Yields}
-use Rattle.command_spec.specs.OneLoss.{AppendingLeaves, ComesBackAsOneOf, LeftComesBack, SomeComeBack, StoppedComesBack, with_items, with_made, with_one}
+use Rattle.command_spec.specs.OneLoss.{ComesBackAsOneOf, StoppedComesBack, with_items, with_made, with_one}
 use Rattle.command_spec.specs.Outcome.{CommandOutcome}
-use Rattle.command_spec.specs.Promises.{Promises}
 use Rattle.command_spec.specs.Runs.{is_fault}
 use Rattle.command_spec.specs.ScriptLists.{ItemsWearBehind}
 use Rattle.command_spec.specs.Volumes.{KeepsLive, StillLive, StillMounts}
@@ -36,7 +34,6 @@ use Rattle.command_spec.specs.declared.words.Words.{Words}
 use Rattle.qic_base.specs.Acts.{Outside, steps_of}
 use Rattle.qic_base.specs.Cartridge.{Cartridge, IsCartridge, view_at}
 use Rattle.qic_base.specs.Step.{Step, effects}
-use Rattle.qic_base.specs.declared.tape.SectorView.TheVariants.{Holds}
 use Rattle.qic_base.specs.Tape as tapes
 use Rattle.qic_base.specs.Sink as sinks
 use Rattle.qic_base.specs.Source as sources

@@ -16,8 +16,8 @@ pub record MayComeBack (one other : Plain) (c : Cartridge) : Type 0 where
   pub comes : ComesBackAsOneOf one other (without_mark c)
   pub live : IsTableLive c
 
--- The mark and the version change, the reference bursts are there already, a sector is worn behind the table's segment, or one is
--- made a defect: only one that was never formatted becomes one, so none of the table's segment does.
+-- The mark and the version change, the reference bursts are there already, a sector is worn behind the table's segment,
+-- or one is made a defect: only one that was never formatted becomes one, so none of the table's segment does.
 abbrev pub IsBetween : Cartridge → Step → Type 0
 IsBetween c (SetProtected on) = Unit {0}
 IsBetween c Upgrade = Unit {0}

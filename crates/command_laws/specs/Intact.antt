@@ -62,46 +62,55 @@ ScrubsLeaveIntact =
 -- one that is stopped leaves what comes back with some of its volumes, ..
 abbrev pub StoppedMakeComesBack : Type 0
 StoppedMakeComesBack =
-    (seed count : ℕ) (c : Cartridge) (plain : Plain) (acts : List Act) (answer : Answer) (left : Option Cartridge) → count ≤ 200 →
-    IsIntact c plain → Makes seed count c plain.words (entries_of plain) acts answer → Torn (steps_of acts) (Some c) left →
-    SomeComeBack (with_made plain seed) 0 count left
+    (seed count : ℕ) (c : Cartridge) (plain : Plain) (acts : List Act) (answer : Answer) (left : Option Cartridge) →
+    count ≤ 200 → IsIntact c plain → Makes seed count c plain.words (entries_of plain) acts answer →
+    Torn (steps_of acts) (Some c) left → SomeComeBack (with_made plain seed) 0 count left
 
 -- .. with all, where something was printed before the stop, which may come inside the steps of the next act, ..
 abbrev pub PrintedMakeComesBack : Type 0
 PrintedMakeComesBack =
-    (seed count : ℕ) (c : Cartridge) (plain : Plain) (acts front rest : List Act) (answer : Answer) (left : Option Cartridge) → count ≤ 200 →
-    IsIntact c plain → Makes seed count c plain.words (entries_of plain) acts answer → front ++ rest ≡ acts → text_of front ≢ [] →
-    Torn (next_steps rest) (Some (changed_by (steps_of front) c)) left → SomeComeBack (with_made plain seed) count count left
+    (seed count : ℕ) (c : Cartridge) (plain : Plain) (acts front rest : List Act) (answer : Answer)
+    (left : Option Cartridge) → count ≤ 200 → IsIntact c plain →
+    Makes seed count c plain.words (entries_of plain) acts answer → front ++ rest ≡ acts → text_of front ≢ [] →
+    Torn (next_steps rest) (Some (changed_by (steps_of front) c)) left →
+    SomeComeBack (with_made plain seed) count count left
 
 -- .. and where it was carried out
 abbrev pub DoneMakeIsIntact : Type 0
 DoneMakeIsIntact =
     (seed count : ℕ) (c : Cartridge) (plain : Plain) (acts : List Act) → count ≤ 200 → IsIntact c plain →
-    Makes seed count c plain.words (entries_of plain) acts Done → IsIntact (changed_by (steps_of acts) c) (with_made plain seed count)
+    Makes seed count c plain.words (entries_of plain) acts Done →
+    IsIntact (changed_by (steps_of acts) c) (with_made plain seed count)
 
 -- ---- scripts
 
--- One whose first lines wear no sector of the segments 0 to 2 leaves what comes back behind some of these, or the stop came further.
+-- One whose first lines wear no sector of the segments 0 to 2 leaves what comes back behind some of these, or the stop
+-- came further.
 abbrev pub StoppedScriptComesBack : Type 0
 StoppedScriptComesBack =
-    (c : Cartridge) (plain : Plain) (input : List ℕ) (outcome : ScriptRun) (left : Option Cartridge) → IsIntact c plain →
-    (does : ScriptDoes c plain.words (entries_of plain) input outcome) → All (λ b. b < 256) input →
-    (count : ℕ) → count ≤ length does.items → ItemsWearBehind (take count does.items) → Torn (steps_of outcome.acts) (Some c) left →
-    CameFurther c does.items does.dids does.last count left ⊎ SomeComeBack (with_items plain does.items does.dids) 0 count left
+    (c : Cartridge) (plain : Plain) (input : List ℕ) (outcome : ScriptRun) (left : Option Cartridge) →
+    IsIntact c plain → (does : ScriptDoes c plain.words (entries_of plain) input outcome) → All (λ b. b < 256) input →
+    (count : ℕ) → count ≤ length does.items → ItemsWearBehind (take count does.items) →
+    Torn (steps_of outcome.acts) (Some c) left →
+    CameFurther c does.items does.dids does.last count left
+    ⊎ SomeComeBack (with_items plain does.items does.dids) 0 count left
 
--- where it was cut off once this was written, and the lines that it went no further than are these, all lines whose reply was written
--- whole are among those
+-- Where it was cut off once this was written, and the lines that it went no further than are these, all lines whose
+-- reply was written whole are among those.
 abbrev pub AnsweredScriptComesBack : Type 0
 AnsweredScriptComesBack =
-    (c : Cartridge) (plain : Plain) (input : List ℕ) (outcome : ScriptRun) (text : List ℕ) (left : Option Cartridge) → IsIntact c plain →
-    (does : ScriptDoes c plain.words (entries_of plain) input outcome) → All (λ b. b < 256) input →
+    (c : Cartridge) (plain : Plain) (input : List ℕ) (outcome : ScriptRun) (text : List ℕ) (left : Option Cartridge) →
+    IsIntact c plain → (does : ScriptDoes c plain.words (entries_of plain) input outcome) → All (λ b. b < 256) input →
     (answered count : ℕ) → answered ≤ length does.items → printed_by does.dids answered ≤ length text →
-    count ≤ length does.items → GoesNoFurther does.items does.dids count (length text) → ItemsWearBehind (take count does.items) →
-    IsLeftBy c outcome.acts text left → SomeComeBack (with_items plain does.items does.dids) answered count left
+    count ≤ length does.items → GoesNoFurther does.items does.dids count (length text) →
+    ItemsWearBehind (take count does.items) → IsLeftBy c outcome.acts text left →
+    SomeComeBack (with_items plain does.items does.dids) answered count left
 
 -- and all lines, where all of it was done
 abbrev pub DoneScriptComesBack : Type 0
 DoneScriptComesBack =
     (c : Cartridge) (plain : Plain) (input : List ℕ) (outcome : ScriptRun) → IsIntact c plain →
-    (does : ScriptDoes c plain.words (entries_of plain) input outcome) → All (λ b. b < 256) input → ItemsWearBehind does.items →
-    SomeComeBack (with_items plain does.items does.dids) (length does.items) (length does.items) (Some (changed_by (steps_of outcome.acts) c))
+    (does : ScriptDoes c plain.words (entries_of plain) input outcome) → All (λ b. b < 256) input →
+    ItemsWearBehind does.items →
+    SomeComeBack (with_items plain does.items does.dids) (length does.items) (length does.items)
+    (Some (changed_by (steps_of outcome.acts) c))

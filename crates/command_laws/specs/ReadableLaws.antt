@@ -1,7 +1,8 @@
--- That a volume table can be read goes on from run to run, by what the promises of a run say, as facts (this project's own).
+-- That a volume table can be read goes on from run to run, by what the promises of a run say, as facts (this project's
+-- own).
 use Rattle.std.specs.Prelude.{◌≡◌, ◌⊎◌, ℕ, List, Option, Some, IsSomeAnd, false}
 use Rattle.cartridge_spec.specs.Mounting.{CanBeRead, IsTableLive}
-use Rattle.cartridge_spec.specs.Volumes.{Plain, Stands}
+use Rattle.cartridge_spec.specs.Volumes.{Plain}
 use Rattle.command_spec.specs.Complete.{ReadsAs}
 use Rattle.command_spec.specs.Headline.{EachLeft, ToldNow}
 use Rattle.command_spec.specs.Machine.{Spells}
@@ -31,8 +32,8 @@ LeftCanBeRead =
 
 -- ---- runs
 
--- The words keep the list; or they are those of an append, of a generated run, or of a script no line of which wears a sector of
--- the segments 0 to 2, on a cartridge that is not protected.
+-- The words keep the list; or they are those of an append, of a generated run, or of a script no line of which wears a
+-- sector of the segments 0 to 2, on a cartridge that is not protected.
 abbrev pub WordsKeepReadable : (told : Option (List ℕ)) → (words : List (List ℕ)) → Cartridge → Plain → Type 0
 WordsKeepReadable told words c plain =
     WordsKeepList words c
@@ -42,17 +43,18 @@ WordsKeepReadable told words c plain =
 
 abbrev pub StillReadable : (told : Option (List ℕ)) → (words : List (List ℕ)) → (held left : Option Cartridge) → Type 0
 StillReadable told words held left =
-    (c : Cartridge) (plain : Plain) → held ≡ Some c → ReadsAs c plain → IsTableLive c → WordsKeepReadable told words c plain → IsSomeAnd left CanBeRead
+    (c : Cartridge) (plain : Plain) → held ≡ Some c → ReadsAs c plain → IsTableLive c →
+    WordsKeepReadable told words c plain → IsSomeAnd left CanBeRead
 
 -- each cartridge that a run leaves of one that could be read can be read
-abbrev pub RunsKeepReadable : {T S K : Type 0} (t : tapes.Meaning T) (s : sources.Meaning S) (k : sinks.Meaning K) → Type 0
+abbrev pub RunsKeepReadable : {T S K : Type 0} → tapes.Meaning T → sources.Meaning S → sinks.Meaning K → Type 0
 RunsKeepReadable {T} {S} {K} t s k =
     (words : List (List ℕ)) (old new : Outside T S K) (answer : Status) → Promises t s k words old new answer →
     EachLeft t old.tape new.tape (StillReadable (s.left old.source) words)
 
 -- behind a formatting that was carried out it can
-abbrev pub FormattedCanBeRead : {T S K : Type 0} (t : tapes.Meaning T) (s : sources.Meaning S) (k : sinks.Meaning K) → Type 0
+abbrev pub FormattedCanBeRead : {T S K : Type 0} → tapes.Meaning T → sources.Meaning S → sinks.Meaning K → Type 0
 FormattedCanBeRead {T} {S} {K} t s k =
     (words : List (List ℕ)) (old new : Outside T S K) (answer : Status) (label : List ℕ) (date : ℕ) (c : Cartridge) →
-    Promises t s k words old new answer → Spells words (commands.Format label date) → answer ≡ status.Done → t.told old.tape ≡ Some (Some c) →
-    IsCartridge c → ToldNow t new.tape (λ left. IsSomeAnd left CanBeRead)
+    Promises t s k words old new answer → Spells words (commands.Format label date) → answer ≡ status.Done →
+    t.told old.tape ≡ Some (Some c) → IsCartridge c → ToldNow t new.tape (λ left. IsSomeAnd left CanBeRead)

@@ -22,8 +22,8 @@ pub fn appends_wears_and_scrubs_leave_it_intact()
     ensures scrubs { ScrubsLeaveIntact }
 {}
 
-/// A generated run leaves a cartridge that comes back, wherever it is stopped: with all of its volumes once it has printed
-/// anything.
+/// A generated run leaves a cartridge that comes back, wherever it is stopped: with all of its volumes once it has
+/// printed anything.
 pub fn a_run_comes_back()
     ensures stopped { StoppedMakeComesBack }
     ensures printed { PrintedMakeComesBack }
@@ -48,8 +48,8 @@ pub fn what_comes_between_carries_on()
     ensures comes { ComesBackOnceFree }
 {}
 
-/// What comes back with any one sector of its table's segment lost can be read without a loss, and so can each cartridge
-/// that an append, a generated run or a script leaves of one that could be read.
+/// What comes back with any one sector of its table's segment lost can be read without a loss, and so can each
+/// cartridge that an append, a generated run or a script leaves of one that could be read.
 pub fn what_comes_back_can_be_read()
     ensures comes { ComesBackCanBeRead }
     ensures left { LeftCanBeRead }

@@ -20,8 +20,9 @@ pub fn a_formatted_table_can_be_read<T: Tape, S: Source, K: Sink>()
     ensures { FormattedCanBeRead T.means S.means K.means }
 {}
 
-/// Where the volume table can be read, and each sector of its segment takes a write, it can be read in each cartridge that a
-/// run leaves, but for `new`, `format` and what loses sectors of the segments 0 to 2.
+/// Where the volume table can be read, and each sector of its segment takes a write, it can be read in each cartridge
+/// that a run leaves, but for `new`, `format`, what loses sectors of the segments 0 to 2, and a script on a protected
+/// cartridge.
 pub fn a_run_leaves_the_table_readable<T: Tape, S: Source, K: Sink>()
     ensures { RunsKeepReadable T.means S.means K.means }
 {}
