@@ -274,7 +274,7 @@ module _ {T S K : Type 0} (t : tapes.Meaning T) (s : sources.Meaning S) (k : sin
         makes = makes_stop t (s.left old.source) words old.tape old.tape laws.right (λ other spells. has_values words other spells) stops;
         scripts = scripts_stop t (s.left old.source) words old.tape old.tape laws.right stops;
         changed = none_changed t (s.left old.source) words old.tape answer nothing.0 nothing.1;
-        survives = none_survives t (s.left old.source) words old.tape answer laws.right nothing.0 nothing.1 (λ other spells. has_values words other spells) stops;
+        survives = none_survives t k (s.left old.source) words old.tape old.sink answer laws.right (laws.nothing old.sink) ends.0 ends.1 (λ other spells. has_values words other spells) stops;
         made = none_made t k words old.tape old.sink answer (laws.nothing old.sink) ends.0 (λ seed count map_words es. idle_appends_none seed count map_words es answer is);
         scripted = none_scripted t k (s.left old.source) words old.tape old.sink answer (laws.nothing old.sink) ends.1;
         listed = λ c header map_words table entries told mounts other.

@@ -199,7 +199,7 @@ module _ (seed count : ℕ) (c : Cartridge) (input : List ℕ) (begun : Bool) (p
       )
 
   said_made : (text : List ℕ) → text ≢ [] → IsLeftBy c outcome.acts text left → StandsMade count left
-  said_made text some so = make_printed seed count few c plain ready.whole ready.stands outcome text left ready.live yields some so
+  said_made text some so = make_printed seed count few c plain ready.whole ready.stands outcome text left ready.live yields (inl (some, so))
 
   refused_makes : (answer : Status) (printed : List ℕ) → answer ≢ status.Done → Leaves (Answered answer printed) outcome (Some c) left → RunMakes (Answered answer printed)
   refused_makes answer [] other leaves =

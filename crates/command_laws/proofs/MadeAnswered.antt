@@ -65,7 +65,7 @@ next_torn : (rest : List Act) (held left : Option Cartridge) → Torn (next_step
 next_torn [] held left torn = torn
 next_torn (act ∷ rest) held left torn = Torn-front act.steps (steps_of rest) held left torn
 
-torn_behind : (front rest acts : List Act) (c : Cartridge) (left : Option Cartridge) → front ++ rest ≡ acts →
+pub torn_behind : (front rest acts : List Act) (c : Cartridge) (left : Option Cartridge) → front ++ rest ≡ acts →
     Torn (next_steps rest) (Some (changed_by (steps_of front) c)) left → Torn (steps_of acts) (Some c) left
 torn_behind front rest acts c left parts torn =
     subst (λ (steps : List Step). Torn steps (Some c) left) (sym (steps_of-append front rest) ∙ ap steps_of parts)
@@ -74,7 +74,7 @@ torn_behind front rest acts c left parts torn =
     (next_torn rest (Some (changed_by (steps_of front) c)) left torn)))
 
 -- of two fronts of one list one is a front of the other
-two_fronts : (xs ys us vs : List Act) → xs ++ ys ≡ us ++ vs →
+pub two_fronts : (xs ys us vs : List Act) → xs ++ ys ≡ us ++ vs →
     ((more : List Act) × (xs ++ more ≡ us)) ⊎ ((more : List Act) × (us ++ more ≡ xs) × (more ++ ys ≡ vs))
 two_fronts [] ys us vs same = inl (us, refl)
 two_fronts (x ∷ xs) ys [] vs same = inr (x ∷ xs, refl, same)

@@ -34,7 +34,7 @@ next_torn [] held left torn = torn
 next_torn (act ∷ acts) held left torn = Torn-front act.steps (steps_of acts) held left torn
 
 -- a stop in the act behind a front
-torn_there : (front rest acts : List Act) (c : Cartridge) (left : Option Cartridge) → front ++ rest ≡ acts → Torn (next_steps rest) (Some (changed_by (steps_of front) c)) left →
+pub torn_there : (front rest acts : List Act) (c : Cartridge) (left : Option Cartridge) → front ++ rest ≡ acts → Torn (next_steps rest) (Some (changed_by (steps_of front) c)) left →
     Torn (steps_of acts) (Some c) left
 torn_there front rest acts c left parts torn =
     subst (λ (ss : List Step). Torn ss (Some c) left) (sym (steps_of-append front rest) ∙ ap steps_of parts)
@@ -43,13 +43,13 @@ torn_there front rest acts c left parts torn =
     (next_torn rest (Some (changed_by (steps_of front) c)) left torn)))
 
 -- a stop among acts is one in the act behind a front
-record StopsBehind (acts : List Act) (c : Cartridge) (left : Option Cartridge) : Type 0 where
-  front : List Act
-  rest : List Act
-  parts : front ++ rest ≡ acts
-  torn : Torn (next_steps rest) (Some (changed_by (steps_of front) c)) left
+pub record StopsBehind (acts : List Act) (c : Cartridge) (left : Option Cartridge) : Type 0 where
+  pub front : List Act
+  pub rest : List Act
+  pub parts : front ++ rest ≡ acts
+  pub torn : Torn (next_steps rest) (Some (changed_by (steps_of front) c)) left
 
-stops_behind : (acts : List Act) (c : Cartridge) (left : Option Cartridge) → Torn (steps_of acts) (Some c) left → StopsBehind acts c left
+pub stops_behind : (acts : List Act) (c : Cartridge) (left : Option Cartridge) → Torn (steps_of acts) (Some c) left → StopsBehind acts c left
 stops_behind [] c left torn = record { front = []; rest = []; parts = refl; torn = torn }
 stops_behind (act ∷ acts) c left torn =
     elim (Torn-append act.steps (steps_of acts) (Some c) left torn) [
@@ -98,7 +98,7 @@ ends_of c plain input outcome held does content spares =
 -- ---- what is left of a script
 
 -- a stop may leave whatever these steps leave
-abbrev Tears : List Step → Cartridge → Option Cartridge → Type 0
+abbrev pub Tears : List Step → Cartridge → Option Cartridge → Type 0
 Tears ss d left = Torn ss (Some d) left
 
 -- the plain cartridge behind so many items
@@ -159,12 +159,12 @@ first_do (suc n) [] (did ∷ dids) c words entries ran = absurd ran
 first_do (suc n) (item ∷ items) [] c words entries ran = absurd ran
 first_do (suc n) (item ∷ items) (did ∷ dids) c words entries ran = (ran.0, first_do n items dids (changed_by (steps_of did.acts) c) words did.entries ran.1)
 
-first_have : (n : ℕ) (items : List Item) → HaveBytes items → HaveBytes (take n items)
+pub first_have : (n : ℕ) (items : List Item) → HaveBytes items → HaveBytes (take n items)
 first_have zero items have = tt
 first_have (suc n) [] have = tt
 first_have (suc n) (item ∷ items) have = (have.0, first_have n items have.1)
 
-first_speak : (n : ℕ) (dids : List Did) → AllSpeak dids → AllSpeak (take n dids)
+pub first_speak : (n : ℕ) (dids : List Did) → AllSpeak dids → AllSpeak (take n dids)
 first_speak zero dids speak = tt
 first_speak (suc n) [] speak = tt
 first_speak (suc n) (did ∷ dids) speak = (speak.0, first_speak n dids speak.1)
@@ -177,7 +177,7 @@ acts_parted (suc n) (did ∷ dids) =
     append_assoc did.acts (acts_of (take n dids)) (acts_of (drop n dids)) ∙ ap (λ (acts : List Act). did.acts ++ acts) (acts_parted n dids)
 
 -- of more items more is printed
-more_printed : (n m : ℕ) (dids : List Did) → n ≤ m → printed_by dids n ≤ printed_by dids m
+pub more_printed : (n m : ℕ) (dids : List Did) → n ≤ m → printed_by dids n ≤ printed_by dids m
 more_printed n m dids less =
     let parts = ap (λ (acts : List Act). length (text_of acts)) (sym (acts_parted n (take m dids))) in
     let texts = ap (λ (text : List ℕ). length text) (text_of-append (acts_of (take n (take m dids))) (acts_of (drop n (take m dids)))) in
@@ -235,17 +235,17 @@ module _ (c : Cartridge) (plain : Plain) (input : List ℕ) (outcome : CommandOu
   abbrev dids : List Did
   dids = does.dids
 
-  long : length dids ≡ length items
+  pub long : length dids ≡ length items
   long = as_many items dids c plain.words (entries_of plain) does.did
 
-  speak : AllSpeak dids
+  pub speak : AllSpeak dids
   speak = script_speaks c plain.words (entries_of plain) input outcome does
 
   has : HaveBytes items
   has = items_have_bytes input items does.ending does.read content
 
   -- the acts of the first items, and those behind
-  acts_are : (n : ℕ) → outcome.acts ≡ acts_of (take n dids) ++ (acts_of (drop n dids) ++ does.last)
+  pub acts_are : (n : ℕ) → outcome.acts ≡ acts_of (take n dids) ++ (acts_of (drop n dids) ++ does.last)
   acts_are n =
       ap (λ (o : CommandOutcome). o.acts) does.is ∙ ap (λ (acts : List Act). acts ++ does.last) (sym (acts_parted n dids))
       ∙ append_assoc (acts_of (take n dids)) (acts_of (drop n dids)) does.last

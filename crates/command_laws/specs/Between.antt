@@ -6,7 +6,7 @@ use Rattle.cartridge_spec.specs.OneLoss.{LosesOneAlone}
 use Rattle.cartridge_spec.specs.Volumes.{Plain}
 use Rattle.command_spec.specs.OneLoss.{ComesBackAsOneOf}
 use Rattle.qic_base.specs.Cartridge.{Cartridge}
-use Rattle.qic_base.specs.Step.{SetProtected, SetReferenced, Step, Upgrade, Wear, changed}
+use Rattle.qic_base.specs.Step.{SetProtected, SetReferenced, Spoil, Step, Upgrade, Wear, changed}
 
 abbrev pub without_mark : Cartridge → Cartridge
 without_mark c = changed (SetProtected false) c
@@ -16,12 +16,14 @@ pub record MayComeBack (one other : Plain) (c : Cartridge) : Type 0 where
   pub comes : ComesBackAsOneOf one other (without_mark c)
   pub live : IsTableLive c
 
--- the mark and the version change, the reference bursts are there already, or a sector is worn behind the table's segment
+-- The mark and the version change, the reference bursts are there already, a sector is worn behind the table's segment,
+-- or one is made a defect: only one that was never formatted becomes one, so none of the table's segment does.
 abbrev pub IsBetween : Cartridge → Step → Type 0
 IsBetween c (SetProtected on) = Unit {0}
 IsBetween c Upgrade = Unit {0}
 IsBetween c SetReferenced = c.info.referenced ≡ true
 IsBetween c (Wear segment sector) = (3 ≤ segment) × (sector < 32)
+IsBetween c (Spoil segment sector) = sector < 32
 IsBetween c step = ⊥
 
 -- such a step carries it on

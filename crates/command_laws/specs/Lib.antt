@@ -19,6 +19,7 @@ pub mod OutputText
 pub mod PromiseLaws
 pub mod PulseLaws
 pub mod PulseRuns
+pub mod ReadableLaws
 pub mod RestoreLaws
 pub mod ScriptAnswers
 pub mod ScriptItems

@@ -76,7 +76,7 @@ pub record Promises {T S K : Type 0} (t : tapes.Meaning T) (s : sources.Meaning 
   pub scripts : EachLeft t old.tape new.tape (SomeScripted (s.left old.source) words)
   -- Where then one sector more of the table's segment is lost, what appending left comes back as what stood, or as that with the
   -- volume; and once it was carried out, as that. So does what a generated run and a script left, with the first ones of their volumes.
-  pub survives : SurvivesOneLoss t (s.left old.source) words old.tape new.tape answer
+  pub survives : SurvivesOneLoss t k (s.left old.source) words old.tape new.tape old.sink new.sink answer
   -- After Done or a fault of the sink the cartridge of `new`, the empty one of `format`, whose table's segment takes writes, or
   -- the one with the volume of `append` stands; after a defect in front a bare one; after a refused append, or a fault of its input,
   -- what stood.
