@@ -21,18 +21,20 @@ use Rattle.cartridge_spec.specs.Wear.{worn}
 use Rattle.command_laws.proofs.BetweenCarrying.{loses_one}
 use Rattle.command_laws.proofs.TextWords.{one_command}
 use Rattle.command_laws.specs.ReadableLaws.{ComesBackCanBeRead, FormattedCanBeRead, LeftCanBeRead, RunsKeepReadable, StillReadable}
-use Rattle.command_spec.specs.Commands.Format.{FormatOutcome}
+use Rattle.command_spec.specs.Commands.Single.{FormatOutcome}
 use Rattle.command_spec.specs.Headline.{EachLeft, Stepped, ToldNow}
 use Rattle.command_spec.specs.Machine.{Spells, Yields}
 use Rattle.command_spec.specs.OneLoss.{ComesBackAsOneOf, StoppedComesBack, with_items, with_made, with_one}
 use Rattle.command_spec.specs.Outcome.{CommandOutcome}
 use Rattle.command_spec.specs.Runs.{is_fault}
 use Rattle.command_spec.specs.ScriptLists.{ItemsWearBehind}
-use Rattle.command_spec.specs.Volumes.{KeepsLive, StillLive, StillMounts}
+use Rattle.command_laws.specs.Terms.{KeepsLive}
+use Rattle.command_spec.specs.Volumes.{StillLive, StillMounts}
 use Rattle.command_spec.specs.declared.status.Status.{Status}
 use Rattle.command_spec.specs.declared.words.Words.{Words}
 use Rattle.qic_base.specs.Acts.{Outside, steps_of}
-use Rattle.qic_base.specs.Cartridge.{Cartridge, IsCartridge, view_at}
+use Rattle.qic_base.specs.Cartridge.{Cartridge, view_at}
+use Rattle.qic_base.specs.Terms.{IsCartridge}
 use Rattle.qic_base.specs.Step.{Step, effects}
 use Rattle.qic_base.specs.Tape as tapes
 use Rattle.qic_base.specs.Sink as sinks

@@ -3,7 +3,7 @@
 use Rattle.std.specs.Prelude.{◌≡◌, ◌⊎◌, ℕ, List, Option, Some, IsSomeAnd, false}
 use Rattle.cartridge_spec.specs.Mounting.{CanBeRead, IsTableLive}
 use Rattle.cartridge_spec.specs.Volumes.{Plain}
-use Rattle.command_spec.specs.Complete.{ReadsAs}
+use Rattle.command_spec.specs.Command.{ReadsAs}
 use Rattle.command_spec.specs.Headline.{EachLeft, ToldNow}
 use Rattle.command_spec.specs.Machine.{Spells}
 use Rattle.command_spec.specs.OneLoss.{ComesBackAsOneOf, LeftComesBack}
@@ -13,7 +13,8 @@ use Rattle.command_spec.specs.Several.{Scripted}
 use Rattle.command_spec.specs.Volumes.{AreBytes, WordsKeepList}
 use Rattle.command_spec.specs.declared.status.Status.{Status}
 use Rattle.qic_base.specs.Acts.{Outside}
-use Rattle.qic_base.specs.Cartridge.{Cartridge, IsCartridge}
+use Rattle.qic_base.specs.Cartridge.{Cartridge}
+use Rattle.qic_base.specs.Terms.{IsCartridge}
 use Rattle.qic_base.specs.Sink as sinks
 use Rattle.qic_base.specs.Source as sources
 use Rattle.qic_base.specs.Tape as tapes
