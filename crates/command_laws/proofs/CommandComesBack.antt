@@ -6,7 +6,7 @@ use Rattle.cartridge_spec.specs.Settling.{changed_by, settling_steps}
 use Rattle.cartridge_spec.specs.Volumes.{Plain, Stands, entries_of}
 use Rattle.command_laws.proofs.CommandOneLoss.{nothing_torn}
 use Rattle.command_laws.proofs.CommandOpened.{quiet}
-use Rattle.command_laws.proofs.CommandSeveral.{WasTurned, behind_front, make_course, script_course, ScriptRan, left_then, make_has_printed, turned_left}
+use Rattle.command_laws.proofs.CommandSeveral.{WasTurned, behind_front, make_course, script_course, ScriptRan, left_then, make_has_printed, turned_left, MakeRan}
 use Rattle.command_laws.proofs.IntactKeeping.{settled_is_intact, intact_is_one, one_comes}
 use Rattle.command_laws.proofs.IntactMade.{done_make_is_intact, stopped_make_comes_back, printed_make_comes_back}
 use Rattle.command_laws.proofs.IntactScript.{stopped_script_comes_back, answered_script_comes_back, done_script_comes_back}
@@ -19,7 +19,7 @@ use Rattle.command_spec.specs.Make.{Answer, Done, Full, Lost, MakeOutcome, Misma
 use Rattle.command_laws.specs.CommandTerms.{Makes}
 use Rattle.command_spec.specs.OneLoss.{SomeComeBack, LeftComesBack, with_items, with_made}
 use Rattle.command_spec.specs.Outcome.{CommandOutcome}
-use Rattle.command_spec.specs.Script.{ScriptOutcome, Did, ScriptDoes, ScriptRun}
+use Rattle.command_spec.specs.Script.{ScriptOutcome, Did, ScriptDoes}
 use Rattle.command_spec.specs.ScriptLists.{CameFurther, ItemsWearBehind, GoesNoFurther, printed_by}
 use Rattle.command_spec.specs.Several.{Scripted}
 use Rattle.qic_base.proofs.Steps.{Torn-append}
@@ -114,7 +114,7 @@ module _ (seed count : ℕ) (few : count ≤ 200) (c : Cartridge) (plain : Plain
 -- ---- a script
 
 -- where nothing was printed no line was answered
-pub none_answered : (c : Cartridge) (plain : Plain) (input : List ℕ) (outcome : ScriptRun) (does : ScriptDoes c plain.words (entries_of plain) input outcome) (answered : ℕ) (text : List ℕ) →
+pub none_answered : (c : Cartridge) (plain : Plain) (input : List ℕ) (outcome : CommandOutcome) (does : ScriptDoes c plain.words (entries_of plain) input outcome) (answered : ℕ) (text : List ℕ) →
     answered ≤ length does.items → printed_by does.dids answered ≤ length text → text ≡ [] → answered ≡ 0
 none_answered c plain input outcome does zero text known written none = refl
 none_answered c plain input outcome does (suc n) text known written none =

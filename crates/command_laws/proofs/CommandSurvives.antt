@@ -16,7 +16,8 @@ use Rattle.command_laws.proofs.IntactKeeping.{one_comes}
 use Rattle.command_laws.proofs.TextWords.{one_command}
 use Rattle.command_spec.specs.Headline.{StopLeaves, WordsLeave, EachLeft}
 use Rattle.command_spec.specs.Listing.{IsHeard}
-use Rattle.command_spec.specs.Machine.{HasValues, Spells, Yields}
+use Rattle.command_laws.specs.CommandTerms.{Yields}
+use Rattle.command_spec.specs.Machine.{HasValues, Spells}
 use Rattle.command_spec.specs.OneLoss.{StoppedComesBack, SurvivesOneLoss, AppendingLeaves, AppendingLeft, LeftComesBack, SomeComeBack, with_items, with_made, with_one}
 use Rattle.command_spec.specs.Runs.{CommandEnds, is_fault}
 use Rattle.command_spec.specs.Volumes.{IsCarriedOut}

@@ -1,9 +1,9 @@
 -- A script, done or stopped, on a cartridge whose whole table holds what it should.
-use Rattle.std.proofs.Common.{◌≡◌, ◌∙◌, ◌++◌, ◌+◌, ◌<◌, zero, suc, ℕ, List, [], ◌∷◌, All, Option, Some, IsSomeAnd, inl, inr, ap, sym, subst, refl, arith, length, take, drop, append-nil}
+use Rattle.std.proofs.Common.{◌≡◌, ◌∙◌, ◌++◌, ◌+◌, ◌<◌, zero, suc, ℕ, List, [], ◌∷◌, All, Option, Some, IsSomeAnd, inl, inr, ap, sym, subst, refl, arith, length, take, drop, append-nil, ◌≤◌, ◌⊎◌}
 use Rattle.std.proofs.lemmas.Bool.{cases_lt}
 use Rattle.std.proofs.lemmas.List.{drop_all, take_all, length-append, length-take-le, take-take}
 use Rattle.cartridge_laws.proofs.AppendVolume.{free_writes_stand, last_end_least}
-use Rattle.cartridge_laws.proofs.FormatWriting.{some_weaker}
+use Rattle.cartridge_laws.proofs.FormatWriting.{some_weaker, effects-some}
 use Rattle.cartridge_laws.proofs.MountStanding.{standing_data}
 use Rattle.cartridge_laws.proofs.OneLossComesBack.{whole_comes_back}
 use Rattle.cartridge_laws.specs.Terms.{last_end}

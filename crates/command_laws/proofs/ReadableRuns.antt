@@ -13,7 +13,7 @@ use Rattle.cartridge_laws.proofs.Segments.{length-whole_cells}
 use Rattle.cartridge_laws.specs.FormatMarks.{IsFormattedFrom}
 use Rattle.cartridge_spec.specs.Formatting.{HasNoDefectInFront, format_steps}
 use Rattle.cartridge_spec.specs.HeaderAndTable.{IsArea, table_cells}
-use Rattle.cartridge_spec.specs.Mounting.{CanBeRead, IsTableLive}
+use Rattle.cartridge_spec.specs.Mounting.{CanBeRead, IsTableLive, Mounted, Mounts}
 use Rattle.cartridge_spec.specs.Says.{whole_mask}
 use Rattle.cartridge_spec.specs.Settling.{changed_by}
 use Rattle.cartridge_spec.specs.Volumes.{Plain, entries_of}
@@ -23,13 +23,14 @@ use Rattle.command_laws.proofs.TextWords.{one_command}
 use Rattle.command_laws.specs.ReadableLaws.{ComesBackCanBeRead, FormattedCanBeRead, LeftCanBeRead, RunsKeepReadable, StillReadable}
 use Rattle.command_spec.specs.Commands.Single.{FormatOutcome}
 use Rattle.command_spec.specs.Headline.{EachLeft, Stepped, ToldNow}
-use Rattle.command_spec.specs.Machine.{Spells, Yields}
+use Rattle.command_laws.specs.CommandTerms.{Yields}
+use Rattle.command_spec.specs.Machine.{Spells}
 use Rattle.command_spec.specs.OneLoss.{ComesBackAsOneOf, StoppedComesBack, with_items, with_made, with_one}
 use Rattle.command_spec.specs.Outcome.{CommandOutcome}
 use Rattle.command_spec.specs.Runs.{is_fault}
 use Rattle.command_spec.specs.ScriptLists.{ItemsWearBehind}
 use Rattle.command_laws.specs.Terms.{KeepsLive}
-use Rattle.command_spec.specs.Volumes.{StillLive, StillMounts}
+use Rattle.command_spec.specs.Volumes.{StillHolds}
 use Rattle.command_spec.specs.declared.status.Status.{Status}
 use Rattle.command_spec.specs.declared.words.Words.{Words}
 use Rattle.qic_base.specs.Acts.{Outside, steps_of}
@@ -85,19 +86,37 @@ each_both t a b follows one other = record {
   since = λ held left telling told is. follows held left (one.since held left telling told is) (other.since held left telling told is);
 }
 
+-- so it is with a clause for each of some things
+all_told : (o : Option (Option Cartridge)) {A : Type 0} {P : A → Option Cartridge → Type 0} {Q R : Option Cartridge → Type 0} →
+    ((left : Option Cartridge) → ((x : A) → P x left) → Q left → R left) → ((x : A) → IsSomeAnd o (P x)) → IsSomeAnd o Q → IsSomeAnd o R
+all_told None follows each other = absurd other
+all_told (Some left) follows each other = follows left each other
+
+each_all : {T A : Type 0} {P : A → (held left : Option Cartridge) → Type 0} {Q R : (held left : Option Cartridge) → Type 0} (t : tapes.Meaning T) (a b : T) →
+    ((held left : Option Cartridge) → ((x : A) → P x held left) → Q held left → R held left) → ((x : A) → EachLeft t a b (P x)) → EachLeft t a b Q → EachLeft t a b R
+each_all t a b follows each other = record {
+  told = λ held told. all_told (t.told b) (λ left. follows held left) (λ x. (each x).told held told) (other.told held told);
+  since = λ held left telling told is. follows held left (λ x. (each x).since held left telling told is) (other.since held left telling told is);
+}
+
 module _ (told : Option (List ℕ)) (words : List (List ℕ)) where
   -- the clauses on the list, on the table's segment and on one loss
   record IsLeftSo (held left : Option Cartridge) : Type 0 where
-    live : StillLive words held left
+    live : StillHolds words (λ command c. command.keeps_live) IsTableLive held left
     comes : StoppedComesBack told words held left
 
   only : (command : Words) → Spells words command → KeepsLive command → (other : Words) → Spells words other → KeepsLive other
   only command spells keeps other spelled = subst KeepsLive (one_command words command other spells spelled) keeps
 
-  still_readable : (held left : Option Cartridge) → StillMounts words held left → IsLeftSo held left → StillReadable told words held left
+  -- the clause on the list of a plain cartridge
+  abbrev StillLists : Plain → (held left : Option Cartridge) → Type 0
+  StillLists plain held left =
+      StillHolds words (λ command c. command.keeps_list c) (λ c. Mounts c (Mounted plain.header plain.words plain.table_area (entries_of plain))) held left
+
+  still_readable : (held left : Option Cartridge) → ((plain : Plain) → StillLists plain held left) → IsLeftSo held left → StillReadable told words held left
   still_readable held left mounts so c plain is reads live (inl keeps) =
       some_weaker left (λ d mounted. can_be_read d plain.table_area mounted.reads)
-      (mounts c plain.header plain.words plain.table_area (entries_of plain) is (standing_mounts c plain reads.stands reads.reads) keeps)
+      (mounts plain c is (standing_mounts c plain reads.stands reads.reads) keeps)
   still_readable held left mounts so c plain is reads live (inr (inl (name, date, spells, bytes))) =
       let (input, is_told, comes) = (so.comes c plain is reads.stands live).append name date spells bytes in
       left_can_be_read c (with_one plain name date input) 0 1 left reads (so.live c is live (only (commands.Append name date) spells tt)) comes
@@ -132,12 +151,13 @@ format_reads label date c outcome whole (inr (inr (free, none, (words, (area, fr
     let n : ℕ = c.info.segments_per_track in
     subst (λ (o : Option Cartridge). IsSomeAnd o CanBeRead)
     (sym (ap (λ (o : CommandOutcome). effects (steps_of o.acts) (Some c)) is ∙ ap (λ (steps : List Step). effects steps (Some c)) (append-nil (format_steps n area)) ∙ effects-some (format_steps n area) c))
-    (formatted_reads c area whole fresh.fresh.size none)
+    (formatted_reads c area whole fresh.size none)
 
 module _ {T S K : Type 0} (t : tapes.Meaning T) (s : sources.Meaning S) (k : sinks.Meaning K) where
   pub runs_keep_readable : RunsKeepReadable t s k
   runs_keep_readable words old new answer promises =
-      each_both t old.tape new.tape (λ held left mounts so. still_readable (s.left old.source) words held left mounts so) promises.lists
+      each_all t old.tape new.tape (λ held left mounts so. still_readable (s.left old.source) words held left mounts so)
+      (λ (plain : Plain). promises.lists plain.header plain.words plain.table_area (entries_of plain))
       (each_both t old.tape new.tape (λ held left live comes. record { live = live; comes = comes }) promises.live promises.survives.stopped)
 
   by_step : (words : List (List ℕ)) (input : List ℕ) (old new : Outside T S K) (answer : Status) (label : List ℕ) (date : ℕ) (c : Cartridge) → Spells words (commands.Format label date) →

@@ -101,7 +101,7 @@ StoppedScriptComesBack =
 -- reply was written whole are among those.
 abbrev pub AnsweredScriptComesBack : Type 0
 AnsweredScriptComesBack =
-    (c : Cartridge) (plain : Plain) (input : List ℕ) (outcome : ScriptRun) (text : List ℕ) (left : Option Cartridge) →
+    (c : Cartridge) (plain : Plain) (input : List ℕ) (outcome : CommandOutcome) (text : List ℕ) (left : Option Cartridge) →
     IsIntact c plain → (does : ScriptDoes c plain.words (entries_of plain) input outcome) → All (λ b. b < 256) input →
     (answered count : ℕ) → answered ≤ length does.items → printed_by does.dids answered ≤ length text →
     count ≤ length does.items → GoesNoFurther does.items does.dids count (length text) →
@@ -111,7 +111,7 @@ AnsweredScriptComesBack =
 -- and all lines, where all of it was done
 abbrev pub DoneScriptComesBack : Type 0
 DoneScriptComesBack =
-    (c : Cartridge) (plain : Plain) (input : List ℕ) (outcome : ScriptRun) → IsIntact c plain →
+    (c : Cartridge) (plain : Plain) (input : List ℕ) (outcome : CommandOutcome) → IsIntact c plain →
     (does : ScriptDoes c plain.words (entries_of plain) input outcome) → All (λ b. b < 256) input →
     ItemsWearBehind does.items →
     SomeComeBack (with_items plain does.items does.dids) (length does.items) (length does.items)

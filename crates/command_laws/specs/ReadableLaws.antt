@@ -4,13 +4,15 @@ use Rattle.std.specs.Prelude.{◌≡◌, ◌⊎◌, ℕ, List, Option, Some, IsS
 use Rattle.cartridge_spec.specs.Mounting.{CanBeRead, IsTableLive}
 use Rattle.cartridge_spec.specs.Volumes.{Plain}
 use Rattle.command_spec.specs.Command.{ReadsAs}
+use Rattle.command_spec.specs.Commands.{command_of}
 use Rattle.command_spec.specs.Headline.{EachLeft, ToldNow}
 use Rattle.command_spec.specs.Machine.{Spells}
 use Rattle.command_spec.specs.OneLoss.{ComesBackAsOneOf, LeftComesBack}
 use Rattle.command_spec.specs.Promises.{Promises}
 use Rattle.command_spec.specs.ScriptLists.{ItemsWearBehind}
 use Rattle.command_spec.specs.Several.{Scripted}
-use Rattle.command_spec.specs.Volumes.{AreBytes, WordsKeepList}
+use Rattle.command_spec.specs.Volumes.{AreBytes}
+use Rattle.command_spec.specs.declared.words.Words.{Words}
 use Rattle.command_spec.specs.declared.status.Status.{Status}
 use Rattle.qic_base.specs.Acts.{Outside}
 use Rattle.qic_base.specs.Cartridge.{Cartridge}
@@ -37,7 +39,7 @@ LeftCanBeRead =
 -- sector of the segments 0 to 2, on a cartridge that is not protected.
 abbrev pub WordsKeepReadable : (told : Option (List ℕ)) → (words : List (List ℕ)) → Cartridge → Plain → Type 0
 WordsKeepReadable told words c plain =
-    WordsKeepList words c
+    ((command : Words) → Spells words command → (command_of command).keeps_list c)
     ⊎ ((name : List ℕ) × (date : ℕ) × Spells words (commands.Append name date) × AreBytes told)
     ⊎ ((seed : ℕ) × (count : ℕ) × Spells words (commands.Make seed count))
     ⊎ ((script : Scripted told words c plain) × (c.info.protected ≡ false) × ItemsWearBehind script.does.items)
