@@ -65,7 +65,7 @@ none_in_writes segment (place ∷ places) (bytes ∷ sectors) = (tt, none_in_wri
 none_in_block : (block : List (List ℕ)) (places : List ℕ) → HasNoRenew (block_writes block places)
 none_in_block block places = none_in_writes 2 places (map (sector_at block) places)
 
-none_in_settling : (table : List (List ℕ)) (c : Cartridge) → HasNoRenew (settling_steps table c)
+pub none_in_settling : (table : List (List ℕ)) (c : Cartridge) → HasNoRenew (settling_steps table c)
 none_in_settling table c =
     none_where c.info.protected [] (block_writes (with_parity table) (settling_places c table)) tt
     (none_in_block (with_parity table) (settling_places c table))
@@ -260,7 +260,7 @@ entry_none kept name date reply (Fits bytes) =
 entry_none kept name date reply (TooLong need have) = tt
 entry_none kept name date reply (TooShort promised read) = tt
 
-append_none : (kept : Kept) (name : List ℕ) (date : ℕ) (promised : Option ℕ) (reply : Entry → List ℕ) (input : List ℕ) → HasNoRenew kept.settling →
+pub append_none : (kept : Kept) (name : List ℕ) (date : ℕ) (promised : Option ℕ) (reply : Entry → List ℕ) (input : List ℕ) → HasNoRenew kept.settling →
     AreNoRenew (append_acts kept name date promised reply input)
 append_none kept name date promised reply input none =
     let entry : List Act = entry_acts kept name date reply (taking (room_in kept) promised input) in

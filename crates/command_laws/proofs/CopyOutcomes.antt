@@ -1,5 +1,5 @@
 -- A copy comes to something, whatever the sectors of the cartridges hold.
-use Rattle.std.proofs.Common.{◌≡◌, ℕ, nat_lt, arith, Bool, true, false, cond, List, [], ◌∷◌, ◌++◌, length, take, All, Option, Some, None, IfSome, inl, inr, refl, ap, ◌∙◌, subst}
+use Rattle.std.proofs.Common.{◌≡◌, ℕ, nat_lt, arith, Bool, true, false, cond, List, [], ◌∷◌, ◌++◌, length, take, All, Option, Some, None, IfSome, inl, inr, refl, ap, ◌∙◌, subst, sym}
 use Rattle.std.proofs.lemmas.Bool.{cases_Bool, le-ltb}
 use Rattle.std.proofs.lemmas.List.{take_all}
 use Rattle.std.proofs.lemmas.List.Elements.{All-drop, All-head, All-tail}
@@ -19,7 +19,7 @@ use Rattle.command_laws.proofs.RestoreGiven.{given_always, given_is_long}
 use Rattle.command_laws.specs.CopyLaws.{CopiesSomething}
 use Rattle.command_laws.specs.MountedListed.{IsListed, listed_behind}
 use Rattle.command_spec.specs.Append.{Fits, Kept, Taking, TooLong, TooShort, room_in, taking}
-use Rattle.command_spec.specs.Copying.{Compares, Copies, CopiesVolume, CopyOutcome, FromMounted, Side, ToDoes, ToMounted, behind_copy, copied_behind, copied_entry, copy_acts, copy_refused, first_difference, foreign_fault, giving_status, has_room_for, kept_on, length_on, missing, side_of}
+use Rattle.command_spec.specs.Copying.{Compares, Copies, CopiesVolume, CopyOutcome, FromMounted, Side, ToDoes, ToMounted, behind_copy, copied_behind, copied_entry, copy_acts, copy_refused, first_difference, foreign_fault, giving_status, has_room_for, kept_on, length_on, missing, side_of, DoneOf}
 use Rattle.command_spec.specs.Lines.{count_line}
 use Rattle.command_spec.specs.Outcome.{settling_act}
 use Rattle.command_spec.specs.Restore.{GivenBytes, GivingEnd, LostIn, MismatchIn, Restored, Restores, pieces}
@@ -33,9 +33,9 @@ use Rattle.command_spec.specs.declared.copy_fault.CopyFault.TheVariants as fault
 use Rattle.command_spec.specs.declared.copy_status.CopyStatus.TheVariants as status
 
 -- a target that takes volumes
-record IsTarget (to : Side) : Type 0 where
-  listed : IsListed to.cartridge to.words to.entries
-  unprotected : to.cartridge.info.protected ≡ false
+pub record IsTarget (to : Side) : Type 0 where
+  pub listed : IsListed to.cartridge to.words to.entries
+  pub unprotected : to.cartridge.info.protected ≡ false
 
 -- ---- one volume
 
@@ -112,6 +112,20 @@ module _ (from : Side) (e : Entry) (to : Side) (values : HasValues e) (target : 
     }
   ]
 
+-- what a volume that was copied leaves takes more
+pub copied_target : (from : Side) (e : Entry) (to : Side) (acts : List Act) → HasValues e → IsTarget to → CopiesVolume from e to acts status.Done → IsTarget (behind_copy from e to acts)
+copied_target from e to acts values target (inl lost) = absurd (let no : status.Done ≡ status.To (fault.Lost 2 lost.lost) = lost.answered in cc)
+copied_target from e to acts values target (inr (table, reads, inl full)) =
+    absurd (let no : status.Done ≡ status.To (fault.Full (length_on from e) (room_in (kept_on to table))) = full.answered in cc)
+copied_target from e to acts values target (inr (table, reads, inr is)) = by_done is.ending is.does is.answered
+  where
+    by_done : (ending : GivingEnd) → DoneOf from e to table is.bytes ending acts → status.Done ≡ giving_status ending → IsTarget (behind_copy from e to acts)
+    by_done Restored does answered =
+        subst (λ (zs : List Act). IsTarget (behind_copy from e to zs)) (sym does)
+        (next_target from e to values target table reads is.bytes (given_is_long from.cartridge from.words e is.bytes is.given) is.room)
+    by_done (LostIn segment lost) does answered = absurd (cc)
+    by_done (MismatchIn segment) does answered = absurd (cc)
+
 copies_some : (from : Side) (e : Entry) (to : Side) → HasValues e → IsTarget to → CopiesSome from e to
 copies_some from e to values target = elim (listed_reads to.cartridge to.words to.entries target.listed target.unprotected) [
   | inl (table, reads, shown) ↦ by_room from e to values target table reads
@@ -125,7 +139,7 @@ copies_some from e to values target = elim (listed_reads to.cartridge to.words t
 
 -- ---- volumes one after the other
 
-copies_somehow : (from : Side) (es : List Entry) (to : Side) → All HasValues es → IsTarget to → (acts : List Act) × (answer : CopyStatus) × Copies from es to acts answer
+pub copies_somehow : (from : Side) (es : List Entry) (to : Side) → All HasValues es → IsTarget to → (acts : List Act) × (answer : CopyStatus) × Copies from es to acts answer
 copies_somehow from [] to values target = (record { steps = []; text = count_line (length to.entries) } ∷ [], status.Done, (refl, refl))
 copies_somehow from (e ∷ es) to values target =
     let some : CopiesSome from e to = copies_some from e to (All-head HasValues e es values) target in

@@ -35,6 +35,7 @@ pub mod CopyOnce
 pub mod CopyOutcomes
 pub mod CopyPrinted
 pub mod CopyStanding
+pub mod CopySteps
 pub mod CopyValues
 pub mod InputActLaws
 pub mod IntactKeeping

@@ -1,5 +1,6 @@
 -- What a copy onto another cartridge comes to, and what a stop in it leaves, as facts (this project's own).
 use Rattle.std.specs.Prelude.{◌≡◌, ℕ, ◌≤◌, List, length, Option, Some, IfSome, IsSomeAnd}
+use Rattle.cartridge_spec.specs.Mounting.{IsTableLive}
 use Rattle.cartridge_spec.specs.Settling.{changed_by}
 use Rattle.cartridge_spec.specs.Volumes.{Plain, Stands}
 use Rattle.command_laws.specs.ActStops.{IsLeftBy}
@@ -56,6 +57,12 @@ PrintedCopiesStand =
     (c : Cartridge) (one : Plain) (d : Cartridge) (other : Plain) (outcome : CopyOutcome) (text : List ℕ) (left : Option Cartridge) →
     IsCartridge d → StandAlike c one d other → CopyYields (Some c) (Some d) outcome → IsLeftBy d outcome.acts text left →
     StandsPrinted one other (length text) left
+
+-- a target whose volume table takes each write goes on to do so
+abbrev pub CopiedTableLives : Type 0
+CopiedTableLives =
+    (from : Option Cartridge) (d : Cartridge) (outcome : CopyOutcome) (left : Option Cartridge) → IsTableLive d →
+    CopyYields from (Some d) outcome → Torn (steps_of outcome.acts) (Some d) left → IsSomeAnd left IsTableLive
 
 -- all of them stand at Done, also where sectors of the target's volume table take no write
 abbrev pub DoneCopyStands : Type 0

@@ -1,7 +1,7 @@
 //! What a copy onto another cartridge comes to. Each law is the contract of a function that does nothing, so that other
 //! crates can rest on it; their proofs import the lemmas of this crate's `proofs`.
 
-ghost use Rattle.command_laws.specs.CopyLaws.{CopiesOneThing, CopiesSomething, CopyGoesOn, CopyWithRoomIsDone, DoneCopyStands, PrintedCopiesStand, StoppedCopyStands, StoppedSourceStands};
+ghost use Rattle.command_laws.specs.CopyLaws.{CopiedTableLives, CopiesOneThing, CopiesSomething, CopyGoesOn, CopyWithRoomIsDone, DoneCopyStands, PrintedCopiesStand, StoppedCopyStands, StoppedSourceStands};
 
 /// A copy has one status and prints one text.
 pub fn a_copy_is_one()
@@ -20,6 +20,11 @@ pub fn a_copy_adds_the_missing_volumes()
     ensures done { DoneCopyStands }
     ensures stopped { StoppedCopyStands }
     ensures source { StoppedSourceStands }
+{}
+
+/// A copy, done or stopped, leaves each sector of the target's volume table taking writes, where each did.
+pub fn a_copied_table_lives()
+    ensures { CopiedTableLives }
 {}
 
 /// A copy that goes on behind some of the missing volumes adds the rest of them, and makes what it would have made without a

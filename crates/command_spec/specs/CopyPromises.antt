@@ -1,11 +1,12 @@
 -- What the program that copies one cartridge's volumes to another promises (this project's own).
 use Rattle.std.specs.Prelude.{ℕ, ◌+◌, ◌<◌, List, [], ◌++◌, ◌≡◌, ◌≢◌, ◌⊎◌, ◌↔◌, ◌≤◌, ◌==◌, ◌&&◌, ◌||◌, Bool, true, false, nat_lt, length, Option, None, Some, Contains, IfSome, IsSomeAnd, is_some}
+use Rattle.cartridge_spec.specs.Appending.{room}
 use Rattle.cartridge_spec.specs.Header.{Header}
-use Rattle.cartridge_spec.specs.Mounting.{Mounting, Mounts, settled}
+use Rattle.cartridge_spec.specs.Mounting.{Mounting, Mounts, settled, IsTableLive}
 use Rattle.cartridge_spec.specs.Settling.{settling_steps}
 use Rattle.cartridge_spec.specs.Table.{Entry}
 use Rattle.cartridge_spec.specs.Volumes.{Plain, Stands}
-use Rattle.command_spec.specs.Copied.{CanBeCopied, StandAlike, StandsPrinted, StandsUpTo, copied, copied_lines}
+use Rattle.command_spec.specs.Copied.{CanBeCopied, StandAlike, StandsPrinted, StandsUpTo, copied, copied_lines, BeginsLike}
 use Rattle.command_spec.specs.Copying.{CopyOutcome, CopyYields, foreign_fault, giving_status}
 use Rattle.command_spec.specs.Headline.{EachLeft, StopsGoOn, ToldNow}
 use Rattle.command_spec.specs.Lines.{count_line}
@@ -32,13 +33,6 @@ pub record Decks (A B K : Type 0) : Type 0 where
 
 -- ---- how it ended
 
--- a fault of the outside ended it
-abbrev pub is_copy_fault : CopyStatus → Bool
-is_copy_fault (status.From fault.Tape) = true
-is_copy_fault (status.To fault.Tape) = true
-is_copy_fault status.SinkFault = true
-is_copy_fault answer = false
-
 -- it ended before any drive was asked
 abbrev pub IsUnasked : CopyStatus → Type 0
 IsUnasked answer = (answer ≡ status.Usage) ⊎ (answer ≡ status.NoMemory)
@@ -55,13 +49,14 @@ pub record CopyWent {A B K : Type 0} (a : tapes.Meaning A) (b : tapes.Meaning B)
   pub settling : tapes.Done a old.from new.from outcome.settling
   pub went : Went b no_source k (around old.to old.sink) (around new.to new.sink) outcome.acts
 
--- A fault of the source's tape broke it off, in the settling of that or later: first ones of its acts went.
+-- A fault of the source's tape broke it off: in the settling of that, before anything was done to the target, or in a reading behind
+-- it, once first ones of its acts went.
 pub record FromCut {A B K : Type 0} (a : tapes.Meaning A) (b : tapes.Meaning B) (k : sinks.Meaning K) (old new : Decks A B K) (from to : Option Cartridge) : Type 0 where
   pub outcome : CopyOutcome
   pub plain : CopyYields from to outcome
-  pub broke : tapes.Broke a old.from new.from outcome.settling
   pub front : List Act
   pub rest : List Act
+  pub broke : (tapes.Broke a old.from new.from outcome.settling × (front ≡ [])) ⊎ tapes.Done a old.from new.from outcome.settling
   pub parts : front ++ rest ≡ outcome.acts
   pub went : Went b no_source k (around old.to old.sink) (around new.to new.sink) front
 
@@ -101,14 +96,14 @@ is_from_fault (fault.Lost segment lost) = nat_lt 3 lost
 is_from_fault (fault.Mismatch segment) = true
 is_from_fault other = is_mount_fault other
 
--- the target is mounted, and volumes are appended
+-- the target is mounted, and volumes are appended; there is no room for a volume, but where no room at all is left
 abbrev pub is_to_fault : CopyFault → Bool
 is_to_fault fault.Protected = true
 is_to_fault (fault.Full need have) = have == 0 || nat_lt have need
 is_to_fault (fault.Short promised read) = nat_lt read promised
 is_to_fault other = is_mount_fault other
 
--- there is no room for a volume, but where no room at all is left
+-- the refusals that an answer may name
 abbrev pub HasKind : CopyStatus → Type 0
 HasKind (status.From found) = is_from_fault found ≡ true
 HasKind (status.To found) = is_to_fault found ≡ true
@@ -136,10 +131,11 @@ EndsVolume c found header words table entries =
     (e : Entry) × Contains entries e × ((read : List Act) × ((ending : GivingEnd) × Restores (settled table c) words (pieces words e) read ending
     × (giving_status ending ≡ status.From found)))
 
--- .. of the target: it is protected, or an append to it is refused
+-- .. of the target: it is protected, or an append to it is refused; the room is that behind its volumes and those that were copied
 abbrev pub EndsAppend : Cartridge → CopyFault → Header → (words : List ℕ) → (table : List (List ℕ)) → List Entry → Type 0
 EndsAppend c fault.Protected header words table entries = c.info.protected ≡ true
-EndsAppend c (fault.Full need have) header words table entries = c.info.protected ≡ false
+EndsAppend c (fault.Full need have) header words table entries =
+    (c.info.protected ≡ false) × ((more : List Entry) × (have ≡ room words (entries ++ more)))
 EndsAppend c (fault.Lost segment lost) header words table entries = c.info.protected ≡ false
 EndsAppend c (fault.Short promised read) header words table entries = c.info.protected ≡ false
 EndsAppend c found header words table entries = ⊥
@@ -148,6 +144,13 @@ EndsAppend c found header words table entries = ⊥
 abbrev pub MountsSome : Option Cartridge → Type 0
 MountsSome held =
     IsSomeAnd held (λ c. (header : Header) × ((words : List ℕ) × ((table : List (List ℕ)) × ((entries : List Entry) × Mounts c (mounting.Mounted header words table entries)))))
+
+-- .. and takes more of them; its list is so
+abbrev pub TakesMore : Option Cartridge → (List Entry → Type 0) → Type 0
+TakesMore held P =
+    IsSomeAnd held (λ c. (c.info.protected ≡ false)
+    × ((header : Header) × ((words : List ℕ) × ((table : List (List ℕ)) × ((entries : List Entry)
+    × Mounts c (mounting.Mounted header words table entries) × P entries)))))
 
 -- what an answer says of the source's cartridge alone
 abbrev pub FromAnswers : Option Cartridge → CopyStatus → Type 0
@@ -158,16 +161,19 @@ FromAnswers held status.FromAbsent = held ≡ None
 FromAnswers held (status.From found) = IsSomeAnd held (λ c. (m : Mounting) × Mounts c m × MountingRefuses m found (EndsVolume c found))
 FromAnswers held answer = MountsSome held
 
--- .. and of the target's
+-- .. and of the target's: each volume is copied once that takes volumes, and the segment of none is that of the volume table
 abbrev pub ToAnswers : Option Cartridge → CopyStatus → Type 0
 ToAnswers held status.Usage = Unit {0}
 ToAnswers held status.NoMemory = Unit {0}
 ToAnswers held status.FromAbsent = Unit {0}
+ToAnswers held (status.From (fault.Mismatch segment)) = TakesMore held (λ entries. Unit {0})
+ToAnswers held (status.From (fault.Lost segment lost)) = segment ≢ 2 → TakesMore held (λ entries. Unit {0})
 ToAnswers held (status.From found) = Unit {0}
 ToAnswers held (status.To fault.Tape) = Unit {0}
 ToAnswers held status.ToAbsent = held ≡ None
 ToAnswers held (status.To found) = IsSomeAnd held (λ c. (m : Mounting) × Mounts c m × MountingRefuses m found (EndsAppend c found))
-ToAnswers held answer = MountsSome held
+ToAnswers held (status.Differs number) = TakesMore held (λ entries. number ≤ length entries)
+ToAnswers held answer = TakesMore held (λ entries. Unit {0})
 
 -- ---- what is printed
 
@@ -175,11 +181,28 @@ ToAnswers held answer = MountsSome held
 abbrev pub copy_text : (count : ℕ) → (lengths : List ℕ) → List ℕ
 copy_text count lengths = copied_lines (count + 1) lengths ++ count_line (count + length lengths)
 
--- whole lines at an answer but a fault of the sink, all of them at Done; and behind that a front
+-- it is given before any volume is copied
+abbrev pub is_before_copies : CopyStatus → Bool
+is_before_copies status.Usage = true
+is_before_copies status.NoMemory = true
+is_before_copies status.FromAbsent = true
+is_before_copies status.ToAbsent = true
+is_before_copies (status.From fault.NotFormatted) = true
+is_before_copies (status.From (fault.Foreign field value)) = true
+is_before_copies (status.From fault.TableMismatch) = true
+is_before_copies (status.To fault.NotFormatted) = true
+is_before_copies (status.To (fault.Foreign field value)) = true
+is_before_copies (status.Differs number) = true
+is_before_copies answer = false
+
+-- whole lines at an answer but a fault of the sink, all of them at Done, and none where no volume was copied; behind that fault
+-- a front, and not all
 abbrev pub IsCopyText : CopyStatus → List ℕ → Type 0
 IsCopyText status.Done text = (count : ℕ) × ((lengths : List ℕ) × (text ≡ copy_text count lengths))
-IsCopyText status.SinkFault text = (count : ℕ) × ((lengths : List ℕ) × ((rest : List ℕ) × (text ++ rest ≡ copy_text count lengths)))
-IsCopyText answer text = (count : ℕ) × ((lengths : List ℕ) × (text ≡ copied_lines (count + 1) lengths))
+IsCopyText status.SinkFault text =
+    (count : ℕ) × ((lengths : List ℕ) × ((rest : List ℕ) × (rest ≢ []) × (text ++ rest ≡ copy_text count lengths)))
+IsCopyText answer text =
+    (count : ℕ) × ((lengths : List ℕ) × (is_before_copies answer ≡ true → lengths ≡ []) × (text ≡ copied_lines (count + 1) lengths))
 
 pub record PrintsCopies {K : Type 0} (k : sinks.Meaning K) (answer : CopyStatus) (old new : K) : Type 0 where
   pub text : List ℕ
@@ -210,17 +233,20 @@ ToLeaves from held left = (left ≡ held) ⊎ ((outcome : CopyOutcome) × CopyYi
 abbrev pub SourceStays : (held left : Option Cartridge) → Type 0
 SourceStays held left = (c : Cartridge) (plain : Plain) → held ≡ Some c → Stands c plain → IsSomeAnd left (λ d. Stands d plain)
 
+-- a target whose volume table takes each write goes on to do so
+abbrev pub TargetLives : (held left : Option Cartridge) → Type 0
+TargetLives held left = (d : Cartridge) → held ≡ Some d → IsTableLive d → IsSomeAnd left IsTableLive
+
 -- and of the target for its volumes and some of the missing ones, in their order
 abbrev pub TargetGrows : (from : Option Cartridge) → (held left : Option Cartridge) → Type 0
 TargetGrows from held left =
     (c : Cartridge) (one : Plain) (d : Cartridge) (other : Plain) → from ≡ Some c → held ≡ Some d → StandAlike c one d other → StandsUpTo one other left
 
--- When it is over this was printed, and the target has at least the volumes whose lines were written whole, and all at Done.
-pub record CopyIsOver {A B K : Type 0} (b : tapes.Meaning B) (k : sinks.Meaning K) (old new : Decks A B K) (answer : CopyStatus) (from to : Plain) : Type 0 where
+-- When it is over this was printed, and the target has at least the volumes whose lines were written whole.
+pub record CopyIsOver {A B K : Type 0} (b : tapes.Meaning B) (k : sinks.Meaning K) (old new : Decks A B K) (from to : Plain) : Type 0 where
   pub text : List ℕ
   pub took : k.took old.sink text new.sink
   pub printed : ToldNow b new.to (StandsPrinted from to (length text))
-  pub done : answer ≡ status.Done → ToldNow b new.to (λ left. IsSomeAnd left (λ d. Stands d (copied from to (length from.volumes))))
 
 -- no count of faults rose
 pub record NoDeckRose {A B K : Type 0} (a : tapes.Meaning A) (b : tapes.Meaning B) (k : sinks.Meaning K) (old new : Decks A B K) : Type 0 where
@@ -263,11 +289,16 @@ pub record CopyPromises {A B K : Type 0} (a : tapes.Meaning A) (b : tapes.Meanin
   -- table, and stands for what it stood for.
   pub from_left : EachLeft a old.from new.from FromLeaves
   pub from_stays : EachLeft a old.from new.from SourceStays
-  -- The target stands for its volumes with some of the missing ones, in their order; those whose lines were written whole are
-  -- among them when it is over, and at Done all are.
+  -- The target stands for its volumes with some of the missing ones, in their order, where its volume table takes each write, as it
+  -- does then behind the copy too; those whose lines were written whole are among them when it is over.
   pub to_left : IfSome (a.told old.from) (λ from. EachLeft b old.to new.to (ToLeaves from))
+  pub to_lives : IfSome (a.told old.from) (λ from. EachLeft b old.to new.to TargetLives)
   pub to_grows : IfSome (a.told old.from) (λ from. EachLeft b old.to new.to (TargetGrows from))
   pub over : (c : Cartridge) (one : Plain) (d : Cartridge) (other : Plain) → a.told old.from ≡ Some (Some c) → b.told old.to ≡ Some (Some d) →
-      StandAlike c one d other → CopyIsOver b k old new answer one other
+      StandAlike c one d other → CopyIsOver b k old new one other
+  -- At Done it stands for all of them, whatever its volume table takes.
+  pub done : (c : Cartridge) (one : Plain) (d : Cartridge) (other : Plain) → a.told old.from ≡ Some (Some c) → b.told old.to ≡ Some (Some d) →
+      Stands c one → Stands d other → BeginsLike one other → answer ≡ status.Done →
+      ToldNow b new.to (λ left. IsSomeAnd left (λ e. Stands e (copied one other (length one.volumes))))
   -- Two copies can be joined.
   pub joins : CopiesJoin a b k old new
