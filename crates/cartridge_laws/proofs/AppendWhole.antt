@@ -25,8 +25,7 @@ use Rattle.gf256_qic.proofs.Parities.{parity_sectors-are_sectors}
 use Rattle.qic_base.proofs.Steps.{Torn-all}
 use Rattle.qic_base.specs.Cartridge.{Cartridge, view_at, IsSector}
 use Rattle.qic_base.specs.Terms.{IsCartridge}
-use Rattle.qic_base.specs.Step.{Step, WriteSector, FormatSegment, SetReferenced, SetProtected, Renew, Wear, Spoil, Upgrade, changed, written_view, worn_view, effects}
-use Rattle.qic_base.specs.Stop.{Halfway, Torn}
+use Rattle.qic_base.specs.Step.{Step, WriteSector, FormatSegment, SetReferenced, SetProtected, Renew, Wear, Spoil, Upgrade, changed, written_view, worn_view, effects, Halfway, Torn}
 
 -- ---- writes of whole sectors
 

@@ -7,8 +7,7 @@ use Rattle.cartridge_spec.specs.Formatting.{IsCleanCopy, StandsCleanly, HasNoHea
 use Rattle.cartridge_laws.specs.Terms.{IsBareCopy}
 use Rattle.cartridge_spec.specs.HeaderAndTable.{copy_cells}
 use Rattle.cartridge_spec.specs.Says.{whole_mask, unreadable_count}
-use Rattle.cartridge_spec.specs.Volumes.{Plain, Stands}
-use Rattle.cartridge_spec.specs.Wear.{worn}
+use Rattle.cartridge_spec.specs.Volumes.{Plain, Stands, worn}
 use Rattle.qic_base.specs.Cartridge.{Cartridge}
 use Rattle.qic_base.specs.Step.{Spoil, changed, SetProtected, SetReferenced}
 

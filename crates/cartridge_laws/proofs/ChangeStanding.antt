@@ -15,8 +15,7 @@ use Rattle.cartridge_spec.specs.HeaderAndTable.{CopyReads, copy_cells, table_cel
 use Rattle.cartridge_laws.specs.Terms.{IsInForce, CopiesAre, PartStands}
 use Rattle.cartridge_spec.specs.Says.{cells_of, Written, Zero, whole_mask, unreadable_count, Says, Data, ReadsAll}
 use Rattle.cartridge_spec.specs.Shape.{mask_at, usable_places}
-use Rattle.cartridge_spec.specs.Volumes.{Volume, VolumeStands, parts_of, carrying_segments, Plain, Stands}
-use Rattle.cartridge_spec.specs.Wear.{worn, WearSpares}
+use Rattle.cartridge_spec.specs.Volumes.{Volume, VolumeStands, parts_of, carrying_segments, Plain, Stands, worn, WearSpares}
 use Rattle.qic_base.specs.Cartridge.{Cartridge, view_at}
 use Rattle.qic_base.specs.Terms.{place_of}
 use Rattle.qic_base.specs.Step.{worn_view, Spoil, changed, SetProtected, SetReferenced}

@@ -16,9 +16,8 @@ use Rattle.cartridge_spec.specs.Says.{cells_of, Written, unreadable_count, Reads
 use Rattle.cartridge_spec.specs.Shape.{usable_places, mask_at, data_count, usable_count}
 use Rattle.cartridge_spec.specs.Table.{is_used, is_free, slot, slot_fault, some_free_below, has_bad_range, entry_in, Entry, HasNoFault}
 use Rattle.cartridge_spec.specs.Volumes.{Volume, Part, parts_of, VolumeStands, carrying, Plain, Stands, entries_of}
-use Rattle.qic_base.specs.Cartridge.{Cartridge, view_at}
+use Rattle.qic_base.specs.Cartridge.{Cartridge, view_at, lost_places}
 use Rattle.qic_base.specs.Field.{number_at, little_endian}
-use Rattle.qic_base.specs.LostSet.{lost_places}
 use Rattle.qic_base.specs.declared.tape.SectorView.{SectorView}
 use Rattle.cartridge_spec.specs.Table as tables
 

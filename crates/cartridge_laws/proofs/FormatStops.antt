@@ -18,8 +18,7 @@ use Rattle.cartridge_spec.specs.Volumes.{Plain, Stands}
 use Rattle.qic_base.proofs.Steps.{Torn-append}
 use Rattle.qic_base.specs.Cartridge.{Cartridge, view_at, zero_sector}
 use Rattle.qic_base.specs.Terms.{IsCartridge}
-use Rattle.qic_base.specs.Step.{Step, effects}
-use Rattle.qic_base.specs.Stop.{Torn}
+use Rattle.qic_base.specs.Step.{Step, effects, Torn}
 use Rattle.qic_base.specs.declared.tape.SectorView.TheVariants.{Holds}
 
 -- ---- among the steps that clear

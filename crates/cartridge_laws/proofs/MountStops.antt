@@ -19,8 +19,7 @@ use Rattle.cartridge_spec.specs.Settling.{holds, writes_of, changed_by}
 use Rattle.cartridge_laws.specs.Terms.{is_unsettled}
 use Rattle.cartridge_spec.specs.Shape.{sector_at, is_unreadable, usable_places}
 use Rattle.qic_base.specs.Cartridge.{Cartridge, view_at, with_view}
-use Rattle.qic_base.specs.Step.{WriteSector, Wear, changed, Step, written_view, worn_view}
-use Rattle.qic_base.specs.Stop.{Torn}
+use Rattle.qic_base.specs.Step.{WriteSector, Wear, changed, Step, written_view, worn_view, Torn}
 use Rattle.qic_base.specs.declared.tape.SectorView.{SectorView}
 use Rattle.qic_base.specs.declared.tape.SectorView.TheVariants.{Blank, Defect, Lost, Holds}
 

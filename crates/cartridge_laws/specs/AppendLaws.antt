@@ -16,8 +16,7 @@ use Rattle.cartridge_spec.specs.Table.{Shows}
 use Rattle.cartridge_spec.specs.Volumes.{Plain, Stands, entries_of, volume_length}
 use Rattle.qic_base.specs.Cartridge.{Cartridge, view_at}
 use Rattle.qic_base.specs.Terms.{IsCartridge}
-use Rattle.qic_base.specs.Step.{Step}
-use Rattle.qic_base.specs.Stop.{Torn}
+use Rattle.qic_base.specs.Step.{Step, Torn}
 
 abbrev pub new_table : Plain → (name : List ℕ) → (date : ℕ) → (bytes : List ℕ) → List (List ℕ)
 new_table plain name date bytes = (with_bytes plain name date bytes).table_area

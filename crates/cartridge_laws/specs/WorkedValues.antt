@@ -13,9 +13,8 @@ use Rattle.cartridge_spec.specs.Shape.{capacity, usable_places, marked_sectors}
 use Rattle.cartridge_spec.specs.Table.{slot_bytes, entry_in, slot_fault, Entry}
 use Rattle.cartridge_spec.specs.Volumes.{volume_length}
 use Rattle.qic_base.specs.Cartridge.{new_cartridge, IsPlace, IsLength}
-use Rattle.qic_base.specs.Date.{date_word, IsDate}
+use Rattle.qic_base.specs.Field.{date_word, IsDate, filled, IsNameText}
 use Rattle.qic_base.specs.Terms.{ShowsDate}
-use Rattle.qic_base.specs.Name.{filled, IsNameText}
 use Rattle.qic_base.specs.Step.{WriteSector, FormatSegment, SetReferenced}
 use Rattle.qic_base.specs.declared.foreign.ForeignField.TheVariants.{FormatCode}
 use Rattle.qic_base.specs.declared.tape.SectorView.{SectorView}

@@ -4,10 +4,8 @@ pub mod Formatting
 pub mod Header
 pub mod HeaderAndTable
 pub mod Mounting
-pub mod OneLoss
 pub mod Says
 pub mod Settling
 pub mod Shape
 pub mod Table
 pub mod Volumes
-pub mod Wear

@@ -1,6 +1,6 @@
 -- Volumes, and the plain cartridge that a cartridge stands for: its header, its table and its volumes (the rules of a
 -- volume's segments and of its length are this project's profile).
-use Rattle.std.specs.Prelude.{ℕ, ◌+◌, ◌-◌, List, filter, nat_le, sum_by, ◌==◌, ◌&&◌, if◌then◌else◌, [], ◌∷◌, take, drop, ◌≡◌, length, All, map, ◌⊎◌, None}
+use Rattle.std.specs.Prelude.{ℕ, ◌+◌, ◌-◌, List, filter, nat_le, sum_by, ◌==◌, ◌&&◌, if◌then◌else◌, [], ◌∷◌, take, drop, ◌≡◌, length, All, map, ◌⊎◌, None, ◌<◌, ◌≤◌}
 use Rattle.std.specs.List.{range_with_len}
 use Rattle.cartridge_spec.specs.Header.{Header, header_fault}
 use Rattle.cartridge_spec.specs.HeaderAndTable.{IsArea, copy_cells, HasHeader, table_cells, last_segment}
@@ -8,6 +8,7 @@ use Rattle.cartridge_spec.specs.Says.{cells_of, Written, Zero, ReadsAll}
 use Rattle.cartridge_spec.specs.Shape.{mask_at, usable_count, capacity, data_count}
 use Rattle.cartridge_spec.specs.Table.{Entry, HasNoFault}
 use Rattle.qic_base.specs.Cartridge.{Cartridge, IsSector}
+use Rattle.qic_base.specs.Step.{Wear, changed}
 use Rattle.cartridge_spec.specs.Header as headers
 use Rattle.cartridge_spec.specs.Table as tables
 
@@ -82,3 +83,18 @@ pub record Stands (c : Cartridge) (plain : Plain) : Type 0 where
   pub shown : tables.Shows plain.table_area (entries_of plain)
   pub volumes : All (VolumeStands c plain.words) plain.volumes
   pub table : Written (table_cells c) plain.table_area ⊎ ReadsAll (table_cells c) plain.table_area
+
+-- ---- A worn sector, and when it takes neither header nor table away (this project's profile).
+
+-- the cartridge with a sector worn
+abbrev pub worn : (segment sector : ℕ) → Cartridge → Cartridge
+worn segment sector c = changed (Wear segment sector) c
+
+-- A worn sector takes neither the header nor the table away: it lies behind them; or it is one of a header copy, and
+-- the header in force is the same without it; or it is one of the table's segment, whose readable sectors are those
+-- that were written with their parity.
+abbrev pub WearSpares : (c : Cartridge) (plain : Plain) (segment sector : ℕ) → Type 0
+WearSpares c plain segment sector =
+    (3 ≤ segment)
+    ⊎ ((segment < 2) × HasHeader (worn segment sector c) plain.header_area)
+    ⊎ ((segment ≡ 2) × Written (table_cells c) plain.table_area)

@@ -12,13 +12,11 @@ use Rattle.cartridge_laws.proofs.MountSettled.{settled_keeps_table}
 use Rattle.cartridge_laws.proofs.MountWriting.{length-writes_of}
 use Rattle.cartridge_laws.proofs.OneLossComesBack.{table_alone_comes_back}
 use Rattle.cartridge_spec.specs.HeaderAndTable.{TableIs}
-use Rattle.cartridge_spec.specs.Mounting.{IsTableLive, Mounts, mounted_as, settled}
-use Rattle.cartridge_spec.specs.OneLoss.{ComesBackAs, LosesOneAlone}
+use Rattle.cartridge_spec.specs.Mounting.{IsTableLive, Mounts, mounted_as, settled, ComesBackAs, LosesOneAlone}
 use Rattle.cartridge_spec.specs.Says.{AsRead, ByCode, Data, TableSays, whole_mask, with_parity}
 use Rattle.cartridge_spec.specs.Settling.{changed_by, writes_of}
 use Rattle.cartridge_spec.specs.Shape.{IsLive, usable_places}
-use Rattle.cartridge_spec.specs.Volumes.{Plain, Stands, entries_of}
-use Rattle.cartridge_spec.specs.Wear.{worn}
+use Rattle.cartridge_spec.specs.Volumes.{Plain, Stands, entries_of, worn}
 use Rattle.command_laws.specs.Between.{ComesBackOnceFree, FreeMayComeBack, MountsWhileProtected, StepsBetweenCarryOn, without_mark}
 use Rattle.command_spec.specs.OneLoss.{ComesBackAsOneOf}
 use Rattle.qic_base.specs.Cartridge.{Cartridge, view_at, with_view}

@@ -43,11 +43,10 @@ use Rattle.command_laws.proofs.StoreTaking.{both_true}
 use Rattle.command_laws.specs.MountedListed.{listed_behind}
 use Rattle.command_laws.specs.CommandTerms.{Appends, free_in, most_written, silently, made_acts, entry_for}
 use Rattle.command_spec.specs.Append.{Kept, Taking, Fits, TooLong, TooShort, append_acts, entry_acts, has_promised_room, input_acts, input_writes, kept_over, room_in, taking}
-use Rattle.command_spec.specs.Commands.Single.{DefectOutcome, FormatOutcome, LoseOutcome}
-use Rattle.command_spec.specs.Generator.{made_bytes, made_length}
+use Rattle.command_spec.specs.Single.{DefectOutcome, FormatOutcome, LoseOutcome}
+use Rattle.command_spec.specs.Make.{made_bytes, made_length, Making, MakeStep, AppendMade, WearSector, ScrubAll, SumVolume, StepDoes, Runs, Answer, after_item, made_answer, made_name, making}
 use Rattle.command_spec.specs.Input.{Item, Ending, AtEnd, AtStop, AtFault}
 use Rattle.command_spec.specs.Lines.{reply_behind}
-use Rattle.command_spec.specs.Make.{Making, MakeStep, AppendMade, WearSector, ScrubAll, SumVolume, StepDoes, Runs, Answer, after_item, made_answer, made_name, making}
 use Rattle.command_spec.specs.Outcome.{CommandOutcome, Going, OpenOutcome, WritableOutcome, Shows, settling_act}
 use Rattle.command_laws.specs.Terms.{Printing, Mends}
 use Rattle.command_spec.specs.Pulses.{SentOutcome}
@@ -59,8 +58,7 @@ use Rattle.qic_base.proofs.Joins.{steps_of-append}
 use Rattle.qic_base.proofs.Steps.{Torn-all, Torn-append}
 use Rattle.qic_base.specs.Acts.{Act, steps_of, text_of}
 use Rattle.qic_base.specs.Cartridge.{Cartridge}
-use Rattle.qic_base.specs.Step.{Step, SetReferenced, Spoil, Wear, changed, effects}
-use Rattle.qic_base.specs.Stop.{Torn}
+use Rattle.qic_base.specs.Step.{Step, SetReferenced, Spoil, Wear, changed, effects, Torn}
 use Rattle.qic_base.specs.declared.tape.SectorView.{SectorView}
 use Rattle.cartridge_spec.specs.Mounting as mounting
 use Rattle.command_spec.specs.declared.refusal.Refusal.TheVariants as why

@@ -14,20 +14,18 @@ use Rattle.command_laws.proofs.ScriptReached.{first_prints}
 use Rattle.command_laws.proofs.ScriptSpeaking.{as_many, script_speaks}
 use Rattle.command_laws.specs.ActStops.{Behind, IsLeftBy}
 use Rattle.command_laws.specs.Intact.{IsIntact}
-use Rattle.command_spec.specs.Listing.{IsHeard}
+use Rattle.command_spec.specs.Several.{IsHeard, Scripted}
 use Rattle.command_spec.specs.Make.{Answer, Done, Full, Lost, MakeOutcome, Mismatch, Protected, TableMismatch, make_status}
 use Rattle.command_laws.specs.CommandTerms.{Makes}
 use Rattle.command_spec.specs.OneLoss.{SomeComeBack, LeftComesBack, with_items, with_made}
 use Rattle.command_spec.specs.Outcome.{CommandOutcome}
 use Rattle.command_spec.specs.Script.{ScriptOutcome, Did, ScriptDoes}
 use Rattle.command_spec.specs.ScriptLists.{CameFurther, ItemsWearBehind, GoesNoFurther, printed_by}
-use Rattle.command_spec.specs.Several.{Scripted}
 use Rattle.qic_base.proofs.Steps.{Torn-append}
 use Rattle.qic_base.specs.Acts.{Act, steps_of}
 use Rattle.qic_base.specs.Cartridge.{Cartridge}
 use Rattle.qic_base.specs.Terms.{IsCartridge}
-use Rattle.qic_base.specs.Step.{effects}
-use Rattle.qic_base.specs.Stop.{Torn}
+use Rattle.qic_base.specs.Step.{effects, Torn}
 use Rattle.command_spec.specs.Input.{Item}
 use Rattle.command_spec.specs.declared.status.Status.TheVariants as status
 

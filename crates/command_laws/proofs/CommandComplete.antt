@@ -12,11 +12,10 @@ use Rattle.command_laws.proofs.RestoreGivenBack.{given, given_whole}
 use Rattle.command_spec.specs.Append.{room_in, AppendOutcome}
 use Rattle.command_laws.specs.Terms.{CanTake, Printing, IsOfTrains, IsOfLines, Mends, ScrubOutcome, CanGive}
 use Rattle.command_spec.specs.Command.{ReadsAs, IsUnprotected}
-use Rattle.command_spec.specs.Commands.Single.{DefectOutcome, FormatOutcome, LoseOutcome}
+use Rattle.command_spec.specs.Single.{DefectOutcome, FormatOutcome, LoseOutcome}
 use Rattle.command_laws.specs.CommandTerms.{kept_in, Appends}
 use Rattle.command_spec.specs.Input.{Ending, AtEnd, AtStop, IsPulse, IsPulses, Item, IsItem, IsScript, input_status}
-use Rattle.command_spec.specs.Make.{Making, MakeOutcome, make_status}
-use Rattle.command_spec.specs.Commands.MakeCommand.{CanMake}
+use Rattle.command_spec.specs.Make.{Making, MakeOutcome, make_status, CanMake}
 use Rattle.command_spec.specs.Outcome.{Going, CommandOutcome, Opened, OpenOutcome, WritableOutcome, HasPlace, Shows}
 use Rattle.command_spec.specs.Pulses.{SentOutcome}
 use Rattle.command_spec.specs.Restore.{RestoreOutcome}

@@ -4,9 +4,8 @@ use Rattle.command_laws.proofs.CommandEnds.{over_map, told_whole}
 use Rattle.command_laws.proofs.CommandTable.{done_where_all_is_there}
 use Rattle.command_laws.proofs.TextWords.{one_command}
 use Rattle.command_laws.specs.Terms.{Answers}
-use Rattle.command_spec.specs.Machine.{HasValues, Spells, Step}
+use Rattle.command_spec.specs.Machine.{HasValues, Spells, Step, OverTold}
 use Rattle.command_laws.specs.CommandTerms.{Yields, CanBeDone}
-use Rattle.command_spec.specs.Runs.{OverTold}
 use Rattle.command_spec.specs.declared.status.Status.{Status}
 use Rattle.command_spec.specs.declared.words.Words.{Words}
 use Rattle.qic_base.specs.Acts.{Outside}

@@ -7,10 +7,9 @@ use Rattle.command_laws.proofs.CommandTable.{plain_answers}
 use Rattle.command_spec.specs.Commands.{traits_of}
 use Rattle.command_spec.specs.Headline.{EachLeft, StopsGoOn, Stepped, NoneRose, IsCut, WordsLeave, Joins}
 use Rattle.command_laws.specs.Terms.{Answers}
-use Rattle.command_spec.specs.Machine.{HasValues, Spells}
+use Rattle.command_spec.specs.Machine.{HasValues, Spells, fault_of, may_come_from, is_fault, is_outcome, InputLeft, Finished, CommandEnds, IsCutOff}
 use Rattle.command_laws.specs.CommandTerms.{Yields, FrontPrints}
 use Rattle.command_spec.specs.Outcome.{CommandOutcome, output_of}
-use Rattle.command_spec.specs.Runs.{fault_of, may_come_from, is_fault, is_outcome, InputLeft, Finished, CommandEnds, IsCutOff}
 use Rattle.command_spec.specs.declared.status.Status.{Status}
 use Rattle.command_spec.specs.declared.words.Words.{Words}
 use Rattle.qic_base.proofs.Outcomes.{cut_is_torn, cut_stops, cut_took_front, cut_fell_none, cut_rose}
@@ -18,8 +17,7 @@ use Rattle.qic_base.proofs.Steps.{Torn-all, Stops-left}
 use Rattle.qic_base.specs.Acts.{Failing, TapeFails, SourceFails, SinkFails, Outside, Act, steps_of, text_of, Cut, FailingRose}
 use Rattle.qic_base.specs.Cartridge.{Cartridge}
 use Rattle.qic_base.specs.Terms.{IsCartridge}
-use Rattle.qic_base.specs.Step.{Step as TapeStep, effects}
-use Rattle.qic_base.specs.Stop.{Torn}
+use Rattle.qic_base.specs.Step.{Step as TapeStep, effects, Torn}
 use Rattle.qic_base.specs.Tape as tapes
 use Rattle.qic_base.specs.TapeCalls as tape_calls
 use Rattle.command_spec.specs.declared.status.Status.TheVariants as status

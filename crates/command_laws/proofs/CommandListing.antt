@@ -32,12 +32,10 @@ use Rattle.command_spec.specs.Append.{Kept, Taking, Fits, TooLong, append_acts, 
 use Rattle.command_laws.specs.CommandTerms.{entry_for, kept_in, Appends, append_status, Makes, AppendedFrom, Yields}
 use Rattle.command_spec.specs.Headline.{ToldNow}
 use Rattle.command_spec.specs.Lines.{reply_behind}
-use Rattle.command_spec.specs.Listing.{IsHeard, NowLists, ListsAppends}
-use Rattle.command_spec.specs.Machine.{HasValues, Spells}
-use Rattle.command_spec.specs.MadeVolumes.{AppendedBy}
-use Rattle.command_spec.specs.Make.{made_list, Making, MakeOutcome}
+use Rattle.command_spec.specs.Several.{IsHeard, NowLists, ListsAppends}
+use Rattle.command_spec.specs.Machine.{HasValues, Spells, CommandEnds, IsCutOff, fault_of, is_fault}
+use Rattle.command_spec.specs.Make.{AppendedBy, made_list, Making, MakeOutcome}
 use Rattle.command_spec.specs.Outcome.{Going, Opened, OpenOutcome, CommandOutcome}
-use Rattle.command_spec.specs.Runs.{CommandEnds, IsCutOff, fault_of, is_fault}
 use Rattle.command_spec.specs.Script.{ScriptDoes, entries_behind, Scripting, ScriptOutcome}
 use Rattle.command_spec.specs.ScriptLists.{ItemsWearBehind, ListsAnswered, ListsBroken}
 use Rattle.command_spec.specs.Volumes.{IsCarriedOut, IsInput}

@@ -17,7 +17,7 @@ use Rattle.command_laws.proofs.RestoreCounts.{restores_in_no_step}
 use Rattle.command_laws.proofs.RestoreEndings.{restores_is_function}
 use Rattle.command_laws.proofs.ScriptMachineLaws.{one_outcome as one_script}
 use Rattle.command_laws.proofs.ScrubTurns.{scrubs_is_function}
-use Rattle.command_spec.specs.Commands.Single.{DefectOutcome, FormatOutcome, LoseOutcome}
+use Rattle.command_spec.specs.Single.{DefectOutcome, FormatOutcome, LoseOutcome}
 use Rattle.command_laws.specs.Terms.{cleared, formatted, Printing, Mends, ScrubOutcome}
 use Rattle.command_laws.specs.CommandTerms.{Appends}
 use Rattle.command_spec.specs.Make.{Answer, Making, make_status}
@@ -32,8 +32,7 @@ use Rattle.drive_spec.specs.Record.{power_on}
 use Rattle.qic_base.proofs.Steps.{Torn-append}
 use Rattle.qic_base.specs.Acts.{Act, steps_of}
 use Rattle.qic_base.specs.Cartridge.{Cartridge}
-use Rattle.qic_base.specs.Step.{Step as TapeStep, changed, SetReferenced, Wear, Spoil, effect, effects}
-use Rattle.qic_base.specs.Stop.{Torn, Halfway}
+use Rattle.qic_base.specs.Step.{Step as TapeStep, changed, SetReferenced, Wear, Spoil, effect, effects, Torn, Halfway}
 use Rattle.cartridge_spec.specs.Mounting as mounting
 use Rattle.command_spec.specs.declared.status.Status.TheVariants as status
 

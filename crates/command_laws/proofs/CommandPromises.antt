@@ -17,12 +17,11 @@ use Rattle.command_laws.specs.CommandLaws.{MachineIsFunction, MachineAnswers}
 use Rattle.command_spec.specs.Commands.{traits_of}
 use Rattle.command_spec.specs.Headline.{WordsLeave, EachLeft, Stepped}
 use Rattle.command_laws.specs.Terms.{Answers}
-use Rattle.command_spec.specs.Listing.{IsHeard}
+use Rattle.command_spec.specs.Several.{IsHeard}
 use Rattle.command_laws.specs.CommandTerms.{AppendedFrom, HasInputFault, FrontPrints, RefusedPrints}
-use Rattle.command_spec.specs.Machine.{HasValues, Spells, SpellsNone}
+use Rattle.command_spec.specs.Machine.{HasValues, Spells, SpellsNone, may_come_from, NamesFault, InputLeft, IsCutOff, CommandEnds, EndsBlind, is_fault, Finished, is_outcome}
 use Rattle.command_spec.specs.Outcome.{CommandOutcome, output_of}
 use Rattle.command_spec.specs.Promises.{Promises}
-use Rattle.command_spec.specs.Runs.{may_come_from, NamesFault, InputLeft, IsCutOff, CommandEnds, EndsBlind, is_fault, Finished, is_outcome}
 use Rattle.command_spec.specs.Volumes.{IsCarriedOut}
 use Rattle.command_spec.specs.declared.status.Status.{Status}
 use Rattle.command_spec.specs.declared.words.Words.{Words}
@@ -30,7 +29,7 @@ use Rattle.qic_base.proofs.Steps.{Stops-nothing}
 use Rattle.qic_base.specs.Acts.{Act, Outside, Failing, TapeFails, SourceFails, SinkFails, Went, Cut}
 use Rattle.qic_base.specs.Terms.{no_source, around}
 use Rattle.qic_base.specs.Cartridge.{Cartridge}
-use Rattle.qic_base.specs.Cause.{Rose}
+use Rattle.qic_base.specs.Tape.{Rose}
 use Rattle.command_spec.specs.declared.status.Status.TheVariants as status
 use Rattle.qic_base.specs.Sink as sinks
 use Rattle.qic_base.specs.Source as sources

@@ -30,16 +30,13 @@ use Rattle.command_laws.specs.MountedKept.{IsKept, IsOpen}
 use Rattle.command_laws.specs.ScriptStanding.{WentNoFurther, plain_behind}
 use Rattle.command_spec.specs.Headline.{ToldNow, StopLeaves, WordsLeave, EachLeft}
 use Rattle.command_spec.specs.Input.{Item}
-use Rattle.command_spec.specs.Listing.{IsHeard}
+use Rattle.command_spec.specs.Several.{IsHeard, FirstLinesSpare, Scripted, SomeMade, SomeScripted, AllAnswered, AllMade, Generated}
 use Rattle.command_laws.specs.CommandTerms.{Yields, AppendedFrom, Makes}
-use Rattle.command_spec.specs.Machine.{HasValues, Spells}
-use Rattle.command_spec.specs.MadeVolumes.{AppendedBy, made_contents}
-use Rattle.command_spec.specs.Make.{Making, MakeOutcome, make_status}
+use Rattle.command_spec.specs.Machine.{HasValues, Spells, may_come_from, fault_of, is_fault, CommandEnds}
+use Rattle.command_spec.specs.Make.{AppendedBy, made_contents, Making, MakeOutcome, make_status}
 use Rattle.command_spec.specs.Outcome.{Going, CommandOutcome, refused, Opened, OpenOutcome}
-use Rattle.command_spec.specs.Runs.{may_come_from, fault_of, is_fault, CommandEnds}
 use Rattle.command_spec.specs.Script.{ScriptDoes, Scripting, ScriptOutcome}
 use Rattle.command_spec.specs.ScriptLists.{CameFurther, ItemsSpare, StandsAnswered}
-use Rattle.command_spec.specs.Several.{FirstLinesSpare, Scripted, SomeMade, SomeScripted, AllAnswered, AllMade, Generated}
 use Rattle.command_spec.specs.Volumes.{IsCarriedOut}
 use Rattle.command_spec.specs.declared.status.Status.{Status}
 use Rattle.command_spec.specs.declared.words.Words.{Words}
@@ -48,8 +45,7 @@ use Rattle.qic_base.proofs.Steps.{Torn-append, effects-append}
 use Rattle.qic_base.specs.Acts.{Act, steps_of, text_of, next_steps, Outside, Failing, TapeFails, SourceFails, SinkFails, Went, Cut}
 use Rattle.qic_base.specs.Cartridge.{Cartridge}
 use Rattle.qic_base.specs.Terms.{IsCartridge}
-use Rattle.qic_base.specs.Step.{effects, Step as TapeStep}
-use Rattle.qic_base.specs.Stop.{Torn}
+use Rattle.qic_base.specs.Step.{effects, Step as TapeStep, Torn}
 use Rattle.command_spec.specs.declared.status.Status.TheVariants as status
 use Rattle.qic_base.specs.Tape as tapes
 use Rattle.qic_base.specs.TapeCalls as tape_calls

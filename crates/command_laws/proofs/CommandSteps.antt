@@ -18,11 +18,10 @@ use Rattle.command_laws.proofs.ScriptOutcomes.{replied}
 use Rattle.command_laws.proofs.ScrubAtOnce.{scrub_steps}
 use Rattle.command_laws.specs.CommandTerms.{Appends, free_in, most_written, silently, made_acts, restored_line, entry_for}
 use Rattle.command_spec.specs.Append.{segment_act, volume_acts, filled_acts, input_acts, Taking, Fits, TooLong, TooShort, Kept, input_writes, entry_acts, append_acts, room_in, has_promised_room, taking, kept_over}
-use Rattle.command_spec.specs.Commands.Single.{DefectOutcome, FormatOutcome, LoseOutcome}
-use Rattle.command_spec.specs.Generator.{made_bytes, made_length}
+use Rattle.command_spec.specs.Single.{DefectOutcome, FormatOutcome, LoseOutcome}
+use Rattle.command_spec.specs.Make.{made_bytes, made_length, Making, MakeStep, AppendMade, WearSector, ScrubAll, SumVolume, StepDoes, Runs, Answer, after_item, made_name, making}
 use Rattle.command_spec.specs.Input.{Item, Ending, AtEnd, AtStop, AtFault}
 use Rattle.command_spec.specs.Lines.{reply_behind}
-use Rattle.command_spec.specs.Make.{Making, MakeStep, AppendMade, WearSector, ScrubAll, SumVolume, StepDoes, Runs, Answer, after_item, made_name, making}
 use Rattle.command_spec.specs.Outcome.{CommandOutcome, Going, Opened, OpenOutcome, WritableOutcome, Shows, settling_act}
 use Rattle.command_laws.specs.Terms.{Printing, Mends}
 use Rattle.command_spec.specs.Pulses.{SentOutcome, train_acts, train_changes, pulsed_row}

@@ -2,8 +2,7 @@
 use Rattle.std.proofs.Common.{◌≤◌, ◌≡◌, ℕ, List, Option, Some, IfSome, refl, ◌∙◌, subst, inl, inr, IsSomeAnd, sym, ap, [], arith, length}
 use Rattle.cartridge_laws.proofs.FormatWriting.{some_weaker}
 use Rattle.cartridge_spec.specs.Appending.{with_bytes}
-use Rattle.cartridge_spec.specs.Mounting.{IsTableLive, settled}
-use Rattle.cartridge_spec.specs.OneLoss.{ComesBackAs, LosesOneAlone}
+use Rattle.cartridge_spec.specs.Mounting.{IsTableLive, settled, ComesBackAs, LosesOneAlone}
 use Rattle.cartridge_spec.specs.Settling.{settling_steps}
 use Rattle.cartridge_spec.specs.Volumes.{Plain, Stands}
 use Rattle.command_laws.proofs.CommandComesBack.{make_comes_back, make_comes_done, make_comes_printed, none_answered, script_comes_answered, script_comes_back, script_comes_heard}
@@ -15,19 +14,17 @@ use Rattle.command_laws.proofs.CommandVolumes.{whole_of, of_bytes, each_weaker, 
 use Rattle.command_laws.proofs.IntactKeeping.{one_comes}
 use Rattle.command_laws.proofs.TextWords.{one_command}
 use Rattle.command_spec.specs.Headline.{StopLeaves, WordsLeave, EachLeft}
-use Rattle.command_spec.specs.Listing.{IsHeard}
+use Rattle.command_spec.specs.Several.{IsHeard}
 use Rattle.command_laws.specs.CommandTerms.{Yields}
-use Rattle.command_spec.specs.Machine.{HasValues, Spells}
+use Rattle.command_spec.specs.Machine.{HasValues, Spells, CommandEnds, is_fault}
 use Rattle.command_spec.specs.OneLoss.{StoppedComesBack, SurvivesOneLoss, AppendingLeaves, AppendingLeft, LeftComesBack, SomeComeBack, with_items, with_made, with_one}
-use Rattle.command_spec.specs.Runs.{CommandEnds, is_fault}
 use Rattle.command_spec.specs.Volumes.{IsCarriedOut}
 use Rattle.command_spec.specs.declared.status.Status.{Status}
 use Rattle.command_spec.specs.declared.words.Words.{Words}
 use Rattle.qic_base.specs.Acts.{steps_of, Outside}
 use Rattle.qic_base.specs.Cartridge.{Cartridge}
 use Rattle.qic_base.specs.Terms.{IsCartridge}
-use Rattle.qic_base.specs.Step.{effects}
-use Rattle.qic_base.specs.Stop.{Torn}
+use Rattle.qic_base.specs.Step.{effects, Torn}
 use Rattle.command_spec.specs.declared.words.Words.TheVariants as commands
 use Rattle.qic_base.specs.Tape as tapes
 use Rattle.qic_base.specs.TapeCalls as tape_calls

@@ -23,12 +23,11 @@ use Rattle.command_laws.proofs.TextWords.{one_command}
 use Rattle.command_laws.specs.Terms.{IsBare, WasNotDone}
 use Rattle.command_spec.specs.Command.{Command}
 use Rattle.command_spec.specs.Commands.{traits_of, command_of}
-use Rattle.command_spec.specs.Commands.Single.{FormatOutcome}
+use Rattle.command_spec.specs.Single.{FormatOutcome}
 use Rattle.command_spec.specs.Headline.{ToldNow, EachLeft, StopLeaves, WordsLeave}
 use Rattle.command_laws.specs.CommandTerms.{Yields}
-use Rattle.command_spec.specs.Machine.{HasValues, Spells}
+use Rattle.command_spec.specs.Machine.{HasValues, Spells, IsOfBytes, fault_of, may_come_from, IsCutOff, Finished, CommandEnds, is_fault}
 use Rattle.command_spec.specs.Outcome.{CommandOutcome}
-use Rattle.command_spec.specs.Runs.{IsOfBytes, fault_of, may_come_from, IsCutOff, Finished, CommandEnds, is_fault}
 use Rattle.command_spec.specs.Volumes.{IsCarriedOut, StandsEmpty, FormatsOrNot, AreBytes, StandsAppended, AppendedOrNot, IsChanged, StillHolds}
 use Rattle.command_spec.specs.declared.status.Status.{Status}
 use Rattle.command_spec.specs.declared.words.Words.{Words}
@@ -36,8 +35,7 @@ use Rattle.qic_base.proofs.Steps.{Done-nothing}
 use Rattle.qic_base.specs.Acts.{steps_of, Outside, Failing, TapeFails, SourceFails, SinkFails}
 use Rattle.qic_base.specs.Cartridge.{Cartridge, new_cartridge}
 use Rattle.qic_base.specs.Terms.{IsCartridge}
-use Rattle.qic_base.specs.Step.{Step as TapeStep, effects, Renew}
-use Rattle.qic_base.specs.Stop.{Torn}
+use Rattle.qic_base.specs.Step.{Step as TapeStep, effects, Renew, Torn}
 use Rattle.qic_base.specs.Tape as tapes
 use Rattle.qic_base.specs.TapeCalls as tape_calls
 use Rattle.qic_base.specs.Sink as sinks

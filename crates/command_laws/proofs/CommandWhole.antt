@@ -22,12 +22,11 @@ use Rattle.command_laws.proofs.WholeSteps.{append_leaves, behind_leave, clearing
 use Rattle.command_laws.specs.MountedListed.{IsListed, listed_behind}
 use Rattle.command_laws.specs.ScriptStanding.{HaveBytes, LineHasBytes}
 use Rattle.command_spec.specs.Append.{AppendOutcome, Fits, Kept, Taking, TooLong, TooShort, append_acts, kept_over, room_in, taking}
-use Rattle.command_spec.specs.Commands.Single.{FormatOutcome}
+use Rattle.command_spec.specs.Single.{FormatOutcome}
 use Rattle.command_laws.specs.CommandTerms.{Appends, silently, made_acts}
-use Rattle.command_spec.specs.Generator.{made_bytes, made_length}
+use Rattle.command_spec.specs.Make.{made_bytes, made_length, Answer, AppendMade, Making, MakeStep, Runs, ScrubAll, StepDoes, SumVolume, WearSector, after_item, made_name, making}
 use Rattle.command_spec.specs.Input.{AtEnd, AtFault, AtStop, Ending, Item}
 use Rattle.command_spec.specs.Lines.{reply_behind}
-use Rattle.command_spec.specs.Make.{Answer, AppendMade, Making, MakeStep, Runs, ScrubAll, StepDoes, SumVolume, WearSector, after_item, made_name, making}
 use Rattle.command_laws.specs.Terms.{NewOutcome, Printing, Mends}
 use Rattle.command_spec.specs.Outcome.{CommandOutcome, Opened, Shows, StepOutcome}
 use Rattle.command_spec.specs.Restore.{GivingEnd, Gives, LostIn, MismatchIn, Restored, framed, pieces}
@@ -37,8 +36,7 @@ use Rattle.gf256_qic.proofs.Parities.{all_right}
 use Rattle.qic_base.specs.Acts.{Act, steps_of, text_of}
 use Rattle.qic_base.specs.Cartridge.{Cartridge, IsLength, new_cartridge}
 use Rattle.qic_base.specs.Terms.{IsCartridge}
-use Rattle.qic_base.specs.Step.{Renew, Step, Wear, changed}
-use Rattle.qic_base.specs.Stop.{Halfway, Torn}
+use Rattle.qic_base.specs.Step.{Renew, Step, Wear, changed, Halfway, Torn}
 use Rattle.qic_base.specs.declared.tape.TapeInfo.{TapeInfo}
 use Rattle.cartridge_spec.specs.Mounting as mounting
 use Rattle.command_spec.specs.declared.line.Line.TheVariants as line

@@ -31,8 +31,7 @@ use Rattle.command_laws.specs.ScrubFound.{without_all}
 use Rattle.command_laws.specs.ScrubSayings.{Rise}
 use Rattle.command_laws.specs.Terms.{IsFirstCopyRight, DeepScrubOutcome, MendsDeep, ScrubsDeepOn}
 use Rattle.command_spec.specs.Outcome.{CommandOutcome, Opened}
-use Rattle.command_spec.specs.Scrub.{Looked, looked_at, whole_segment}
-use Rattle.command_spec.specs.ScrubForms.{Finding, IsWrong, ScrubsAs}
+use Rattle.command_spec.specs.Scrub.{Looked, looked_at, whole_segment, Finding, IsWrong, ScrubsAs}
 use Rattle.command_spec.specs.declared.depth.Depth.{Depth}
 use Rattle.command_spec.specs.declared.depth.Depth.TheVariants.{Deep}
 use Rattle.qic_base.specs.Acts.{Act, steps_of}

@@ -31,8 +31,7 @@ use Rattle.command_spec.specs.OneLoss.{ComesBackAsOneOf, SomeComeBack}
 use Rattle.command_spec.specs.Scrub.{looked_at}
 use Rattle.qic_base.specs.Acts.{steps_of}
 use Rattle.qic_base.specs.Cartridge.{Cartridge, view_at}
-use Rattle.qic_base.specs.Step.{Step, worn_view}
-use Rattle.qic_base.specs.Stop.{Torn}
+use Rattle.qic_base.specs.Step.{Step, worn_view, Torn}
 use Rattle.qic_base.specs.declared.tape.TapeInfo.{TapeInfo}
 
 -- ---- a whole table

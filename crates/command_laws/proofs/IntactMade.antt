@@ -4,23 +4,19 @@ use Rattle.std.proofs.lemmas.Bool.{cases_Bool}
 use Rattle.cartridge_spec.specs.Appending.{has_room, with_all, with_bytes}
 use Rattle.cartridge_spec.specs.Settling.{changed_by}
 use Rattle.cartridge_spec.specs.Table.{Entry}
-use Rattle.cartridge_spec.specs.Volumes.{Plain, entries_of, volume_length}
-use Rattle.cartridge_spec.specs.Wear.{worn}
+use Rattle.cartridge_spec.specs.Volumes.{Plain, entries_of, volume_length, worn}
 use Rattle.command_laws.proofs.IntactKeeping.{appends_leave_intact, intact_is_one, scrubs_leave_intact, wears_leave_intact, whole_needs_no_steps, less_comes, next_comes, one_comes}
 use Rattle.command_laws.proofs.MadeAnswered.{append_prints_nothing, quiet_front, torn_behind, two_fronts}
 use Rattle.command_laws.proofs.MadeMachineLaws.{never_unlocked}
 use Rattle.command_laws.proofs.MadeStops.{AreStill, IsStill, StillBehind, append_is, behind_is_still, behind_next, done_append, entries_more, made_named, only_settled, still_after, steps_are, sum_in_no_step}
 use Rattle.command_laws.proofs.MountedKeeping.{acts_stopped, changed_by_acts, kept_open}
 use Rattle.command_laws.specs.Intact.{AppendLeavesIntact, DoneMakeIsIntact, IsIntact, StoppedMakeComesBack, PrintedMakeComesBack}
-use Rattle.command_spec.specs.Generator.{made_bytes}
-use Rattle.command_spec.specs.Make.{Answer, AppendMade, Done, MakeStep, Runs, ScrubAll, StepDoes, SumVolume, WearSector, appending, made_list, made_name, summing, wearing_volumes}
-use Rattle.command_spec.specs.MadeVolumes.{made_contents}
+use Rattle.command_spec.specs.Make.{made_bytes, Answer, AppendMade, Done, MakeStep, Runs, ScrubAll, StepDoes, SumVolume, WearSector, appending, made_list, made_name, summing, wearing_volumes, made_contents}
 use Rattle.command_spec.specs.OneLoss.{ComesBackAsOneOf, SomeComeBack}
 use Rattle.qic_base.proofs.Joins.{text_of-append}
 use Rattle.qic_base.specs.Acts.{Act, steps_of, text_of, next_steps}
 use Rattle.qic_base.specs.Cartridge.{Cartridge}
-use Rattle.qic_base.specs.Step.{Step, Wear}
-use Rattle.qic_base.specs.Stop.{Torn}
+use Rattle.qic_base.specs.Step.{Step, Wear, Torn}
 
 -- ---- an append
 

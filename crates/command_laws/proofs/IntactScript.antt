@@ -37,8 +37,7 @@ use Rattle.qic_base.proofs.Joins.{steps_of-append, text_of-append}
 use Rattle.qic_base.proofs.Steps.{Torn-all, Torn-nothing}
 use Rattle.qic_base.specs.Acts.{Act, steps_of, next_steps, text_of}
 use Rattle.qic_base.specs.Cartridge.{Cartridge}
-use Rattle.qic_base.specs.Step.{Step}
-use Rattle.qic_base.specs.Stop.{Torn}
+use Rattle.qic_base.specs.Step.{Step, Torn}
 use Rattle.command_spec.specs.declared.line.Line.TheVariants as line
 
 -- ---- the first items

@@ -19,7 +19,7 @@ use Rattle.command_laws.proofs.ScriptAnswered.{next_torn}
 use Rattle.command_laws.specs.ActStops.{IsLeftBy}
 use Rattle.command_laws.specs.Terms.{IsBare, NewOutcome}
 use Rattle.command_laws.specs.Life.{Ended, Answered, Stopped, Becomes, IsReady, IsSound, IsWithout, Leaves, MayEnd, begun_by}
-use Rattle.command_spec.specs.Commands.Single.{FormatOutcome}
+use Rattle.command_spec.specs.Single.{FormatOutcome}
 use Rattle.command_spec.specs.Outcome.{CommandOutcome}
 use Rattle.command_spec.specs.Volumes.{StandsEmpty}
 use Rattle.command_spec.specs.declared.status.Status.{Status}
@@ -29,8 +29,7 @@ use Rattle.qic_base.proofs.Steps.{Torn-all, Torn-behind, Torn-front}
 use Rattle.qic_base.specs.Acts.{Act, steps_of}
 use Rattle.qic_base.specs.Cartridge.{Cartridge, new_cartridge}
 use Rattle.qic_base.specs.Terms.{IsCartridge}
-use Rattle.qic_base.specs.Step.{Renew, Step, effects}
-use Rattle.qic_base.specs.Stop.{Torn}
+use Rattle.qic_base.specs.Step.{Renew, Step, effects, Torn}
 use Rattle.command_spec.specs.declared.status.Status.TheVariants as status
 use Rattle.command_spec.specs.declared.words.Words.TheVariants as words
 

@@ -4,8 +4,7 @@ use Rattle.cartridge_laws.proofs.ChangeClean.{clean_less, worn_is_bare}
 use Rattle.cartridge_laws.proofs.ChangeLive.{steps_keep_live}
 use Rattle.cartridge_laws.proofs.ChangeStanding.{worn_stands}
 use Rattle.cartridge_laws.proofs.ChangeViews.{worn_reads_no_more}
-use Rattle.cartridge_spec.specs.Volumes.{Plain}
-use Rattle.cartridge_spec.specs.Wear.{worn}
+use Rattle.cartridge_spec.specs.Volumes.{Plain, worn}
 use Rattle.command_laws.proofs.CommandLeft.{leaves_whole}
 use Rattle.command_laws.proofs.CommandTable.{only_new_renews}
 use Rattle.command_laws.proofs.LifeFormats.{Makes, format_makes, new_makes, torn_by}

@@ -24,10 +24,10 @@ use Rattle.command_laws.specs.Life.{Ended, Answered, Stopped, AnsweredAmong, Com
 use Rattle.command_laws.specs.MountedHeld.{IsHeld}
 use Rattle.command_spec.specs.Commands.{command_of}
 use Rattle.command_spec.specs.Input.{Item}
-use Rattle.command_spec.specs.Listing.{IsHeard}
+use Rattle.command_spec.specs.Several.{IsHeard}
 use Rattle.command_spec.specs.Machine.{HasValues}
 use Rattle.command_laws.specs.CommandTerms.{Yields}
-use Rattle.command_spec.specs.MadeVolumes.{made_contents}
+use Rattle.command_spec.specs.Make.{made_contents}
 use Rattle.command_spec.specs.Outcome.{CommandOutcome, output_of}
 use Rattle.command_spec.specs.Script.{Did, ScriptDoes, Scripting, ScriptOutcome}
 use Rattle.command_spec.specs.ScriptLists.{all_added}
@@ -37,8 +37,7 @@ use Rattle.command_spec.specs.declared.words.Words.{Words}
 use Rattle.qic_base.specs.Acts.{Act, steps_of, text_of}
 use Rattle.qic_base.specs.Cartridge.{Cartridge}
 use Rattle.qic_base.specs.Terms.{IsCartridge}
-use Rattle.qic_base.specs.Step.{Step, Renew, WriteSector, effect, effects}
-use Rattle.qic_base.specs.Stop.{Halfway, Torn}
+use Rattle.qic_base.specs.Step.{Step, Renew, WriteSector, effect, effects, Halfway, Torn}
 use Rattle.command_spec.specs.Script as scripts
 use Rattle.command_spec.specs.Several as several
 use Rattle.command_spec.specs.declared.status.Status.TheVariants as status

@@ -13,15 +13,12 @@ use Rattle.command_laws.specs.MadeLaws.{MadeAreAnswered}
 use Rattle.command_laws.specs.MountedKept.{IsKept}
 use Rattle.command_spec.specs.Append.{input_acts, Kept, has_promised_room, input_writes, room_in, Taking, Fits, TooLong, TooShort, entry_acts, append_acts, taking, kept_over}
 use Rattle.command_laws.specs.CommandTerms.{free_in, most_written, silently}
-use Rattle.command_spec.specs.Generator.{made_length, made_bytes}
-use Rattle.command_spec.specs.MadeVolumes.{made_contents}
-use Rattle.command_spec.specs.Make.{AppendMade, made_name, Answer, StepDoes, MakeStep, appending, Done, Runs, ScrubAll, wearing_volumes, summing, made_list}
+use Rattle.command_spec.specs.Make.{made_length, made_bytes, made_contents, AppendMade, made_name, Answer, StepDoes, MakeStep, appending, Done, Runs, ScrubAll, wearing_volumes, summing, made_list}
 use Rattle.qic_base.proofs.Joins.{text_of-append, steps_of-append}
 use Rattle.qic_base.proofs.Steps.{Torn-front, Torn-behind}
 use Rattle.qic_base.specs.Acts.{Act, text_of, steps_of, next_steps}
 use Rattle.qic_base.specs.Cartridge.{Cartridge}
-use Rattle.qic_base.specs.Step.{Step}
-use Rattle.qic_base.specs.Stop.{Torn}
+use Rattle.qic_base.specs.Step.{Step, Torn}
 
 -- ---- what is printed
 

@@ -13,10 +13,8 @@ use Rattle.command_laws.proofs.RestoreStanding.{restores_byte_for_byte}
 use Rattle.command_laws.specs.MadeLaws.{MadeWhereThereIsRoom}
 use Rattle.command_laws.specs.MountedKept.{IsOpen}
 use Rattle.command_laws.specs.RestoreLaws.{HasVolume}
-use Rattle.command_spec.specs.Generator.{made_bytes}
+use Rattle.command_spec.specs.Make.{made_bytes, made_contents, MakeStep, AppendMade, WearSector, ScrubAll, SumVolume, wearing, wearing_in, wearing_volumes, after_items, Answer, Done, StepDoes, Runs, made_answer, appending, ending_answer, summing, made_list, making, made_name}
 use Rattle.command_laws.specs.CommandTerms.{before_sums, first_two, IsSummed}
-use Rattle.command_spec.specs.MadeVolumes.{made_contents}
-use Rattle.command_spec.specs.Make.{MakeStep, AppendMade, WearSector, ScrubAll, SumVolume, wearing, wearing_in, wearing_volumes, after_items, Answer, Done, StepDoes, Runs, made_answer, appending, ending_answer, summing, made_list, making, made_name}
 use Rattle.command_spec.specs.Restore.{volume_at, LosesFew, pieces, Restores}
 use Rattle.qic_base.specs.Acts.{Act, steps_of, text_of}
 use Rattle.qic_base.specs.Cartridge.{Cartridge}

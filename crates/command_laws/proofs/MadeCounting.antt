@@ -5,10 +5,8 @@ use Rattle.cartridge_spec.specs.Table.{Entry}
 use Rattle.command_laws.proofs.MadeStops.{AreStill, IsStill, still_after}
 use Rattle.command_spec.specs.Append.{has_promised_room, room_in}
 use Rattle.command_laws.specs.CommandTerms.{kept_in, AppendedFrom, made_entry}
-use Rattle.command_spec.specs.Generator.{made_length}
-use Rattle.command_spec.specs.Make.{MakeStep, AppendMade, WearSector, ScrubAll, SumVolume, Answer, Done, Full, Lost, Mismatch, Protected, TableMismatch, Runs, StepDoes, after_items, appending, ending_answer, made_answer, make_status}
+use Rattle.command_spec.specs.Make.{made_length, MakeStep, AppendMade, WearSector, ScrubAll, SumVolume, Answer, Done, Full, Lost, Mismatch, Protected, TableMismatch, Runs, StepDoes, after_items, appending, ending_answer, made_answer, make_status, AppendedBy}
 use Rattle.command_spec.specs.Restore.{GivingEnd, Restored, LostIn, MismatchIn}
-use Rattle.command_spec.specs.MadeVolumes.{AppendedBy}
 use Rattle.command_spec.specs.declared.status.Status.{Status}
 use Rattle.qic_base.specs.Acts.{Act, steps_of}
 use Rattle.qic_base.specs.Cartridge.{Cartridge}

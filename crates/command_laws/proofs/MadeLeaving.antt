@@ -18,8 +18,7 @@ use Rattle.command_laws.specs.MadeLaws.{MakeLists, MadeAreListed}
 use Rattle.command_laws.specs.MountedListed.{IsListed, listed_behind}
 use Rattle.command_spec.specs.Append.{Kept, Taking, Fits, TooLong, TooShort, has_promised_room, room_in, taking, kept_over}
 use Rattle.command_laws.specs.CommandTerms.{silently, made_entry, made_acts, Makes, AppendedFrom}
-use Rattle.command_spec.specs.Generator.{made_length, made_bytes}
-use Rattle.command_spec.specs.Make.{MakeStep, AppendMade, WearSector, ScrubAll, SumVolume, made_name, Answer, Done, Full, StepDoes, IsAppended, made_answer, Runs, after_items, appending, wearing_volumes, summing, made_list, make_status}
+use Rattle.command_spec.specs.Make.{made_length, made_bytes, MakeStep, AppendMade, WearSector, ScrubAll, SumVolume, made_name, Answer, Done, Full, StepDoes, IsAppended, made_answer, Runs, after_items, appending, wearing_volumes, summing, made_list, make_status}
 use Rattle.qic_base.proofs.Joins.{text_of-append}
 use Rattle.qic_base.specs.Acts.{Act, steps_of, text_of}
 use Rattle.qic_base.specs.Cartridge.{Cartridge}

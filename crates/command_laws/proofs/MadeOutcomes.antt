@@ -15,8 +15,7 @@ use Rattle.command_laws.specs.MadeLaws.{MakesSomething}
 use Rattle.command_laws.specs.MountedListed.{IsListed, listed_behind}
 use Rattle.command_spec.specs.Append.{Kept, Taking, Fits, TooLong, TooShort, has_promised_room, room_in, taking, kept_over}
 use Rattle.command_laws.specs.CommandTerms.{silently, made_entry, made_acts, first_two}
-use Rattle.command_spec.specs.Generator.{made_length, made_bytes}
-use Rattle.command_spec.specs.Make.{MakeStep, AppendMade, WearSector, ScrubAll, SumVolume, after_item, Answer, Done, StepDoes, made_name, Protected, Full, Lost, made_answer, sum_acts, ending_answer, Runs, after_items, appending, wearing, wearing_in, wearing_volumes, summing, made_list, making}
+use Rattle.command_spec.specs.Make.{made_length, made_bytes, MakeStep, AppendMade, WearSector, ScrubAll, SumVolume, after_item, Answer, Done, StepDoes, made_name, Protected, Full, Lost, made_answer, sum_acts, ending_answer, Runs, after_items, appending, wearing, wearing_in, wearing_volumes, summing, made_list, making}
 use Rattle.command_spec.specs.Restore.{volume_at, pieces}
 use Rattle.qic_base.specs.Acts.{Act, steps_of, text_of}
 use Rattle.qic_base.specs.Cartridge.{Cartridge}

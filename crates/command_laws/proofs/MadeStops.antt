@@ -18,8 +18,7 @@ use Rattle.cartridge_spec.specs.HeaderAndTable.{TableIs, last_segment}
 use Rattle.cartridge_spec.specs.Settling.{settling_steps, changed_by}
 use Rattle.cartridge_spec.specs.Shape.{mask_at, usable_places}
 use Rattle.cartridge_spec.specs.Table.{Entry}
-use Rattle.cartridge_spec.specs.Volumes.{Plain, entries_of, Stands, volume_length, carrying_segments, Volume}
-use Rattle.cartridge_spec.specs.Wear.{worn}
+use Rattle.cartridge_spec.specs.Volumes.{Plain, entries_of, Stands, volume_length, carrying_segments, Volume, worn}
 use Rattle.command_laws.proofs.MadeMachineLaws.{never_lost, never_unlocked, runs_one}
 use Rattle.command_laws.proofs.MadeMadeBytes.{length-made_bytes}
 use Rattle.command_laws.proofs.MountedKeeping.{kept_open, scrubbed_open, worn_open, acts_stopped, changed_by_acts}
@@ -29,16 +28,13 @@ use Rattle.command_laws.specs.MadeLaws.{StoppedMakeStands, DoneMakeStands, Stops
 use Rattle.command_laws.specs.MountedKept.{IsAppendable, IsOpen, settle_and_append, IsKept}
 use Rattle.command_spec.specs.Append.{Kept, append_acts, room_in, has_promised_room, kept_over}
 use Rattle.command_laws.specs.CommandTerms.{kept_in, silently, made_byte, made_acts, first_two, made_entry}
-use Rattle.command_spec.specs.Generator.{made_length, made_bytes}
-use Rattle.command_spec.specs.MadeVolumes.{made_contents}
-use Rattle.command_spec.specs.Make.{made_name, AppendMade, Answer, Done, Full, StepDoes, IsAppended, made_answer, MakeStep, WearSector, ScrubAll, SumVolume, after_item, sum_acts, Runs, wearing, wearing_in, wearing_volumes, summing, after_items, appending, made_list, making}
+use Rattle.command_spec.specs.Make.{made_length, made_bytes, made_contents, made_name, AppendMade, Answer, Done, Full, StepDoes, IsAppended, made_answer, MakeStep, WearSector, ScrubAll, SumVolume, after_item, sum_acts, Runs, wearing, wearing_in, wearing_volumes, summing, after_items, appending, made_list, making}
 use Rattle.command_spec.specs.Restore.{GivingEnd, Restored, LostIn, MismatchIn}
 use Rattle.qic_base.proofs.Steps.{Torn-all}
 use Rattle.qic_base.specs.Acts.{Act, steps_of, text_of}
 use Rattle.qic_base.specs.Cartridge.{Cartridge}
-use Rattle.qic_base.specs.Name.{filled}
-use Rattle.qic_base.specs.Step.{Step, Wear}
-use Rattle.qic_base.specs.Stop.{Torn}
+use Rattle.qic_base.specs.Field.{filled}
+use Rattle.qic_base.specs.Step.{Step, Wear, Torn}
 
 -- a fact of two or of one, of what a stop left
 some_split : (P Q : Cartridge → Type 0) (left : Option Cartridge) → IsSomeAnd left (λ d. P d ⊎ Q d) → IsSomeAnd left P ⊎ IsSomeAnd left Q

@@ -33,8 +33,7 @@ use Rattle.command_laws.specs.CommandTerms.{entry_for, free_in, silently}
 use Rattle.qic_base.proofs.Joins.{steps_of-append}
 use Rattle.qic_base.specs.Acts.{Act, steps_of}
 use Rattle.qic_base.specs.Cartridge.{Cartridge}
-use Rattle.qic_base.specs.Step.{Step}
-use Rattle.qic_base.specs.Stop.{Torn}
+use Rattle.qic_base.specs.Step.{Step, Torn}
 use Rattle.qic_base.specs.declared.tape.TapeInfo.{TapeInfo}
 use Rattle.cartridge_laws.specs.AppendLaws as appends
 

@@ -3,7 +3,7 @@ use Rattle.std.proofs.Common.{◌≡◌, true, refl, inl, inr}
 use Rattle.std.proofs.lemmas.Bool.{cases_Bool}
 use Rattle.command_laws.specs.PromiseLaws.{AnswersWhereNoneRose}
 use Rattle.command_spec.specs.Headline.{NoneRose}
-use Rattle.command_spec.specs.Runs.{is_fault, fault_of}
+use Rattle.command_spec.specs.Machine.{is_fault, fault_of}
 use Rattle.command_spec.specs.declared.status.Status.{Status}
 use Rattle.qic_base.specs.Acts.{Outside, Failing, TapeFails, SourceFails, SinkFails, FailingRose}
 use Rattle.command_spec.specs.declared.status.Status.TheVariants as status

@@ -16,18 +16,16 @@ use Rattle.cartridge_spec.specs.HeaderAndTable.{IsArea, table_cells}
 use Rattle.cartridge_spec.specs.Mounting.{CanBeRead, IsTableLive, Mounted, Mounts}
 use Rattle.cartridge_spec.specs.Says.{whole_mask}
 use Rattle.cartridge_spec.specs.Settling.{changed_by}
-use Rattle.cartridge_spec.specs.Volumes.{Plain, entries_of}
-use Rattle.cartridge_spec.specs.Wear.{worn}
+use Rattle.cartridge_spec.specs.Volumes.{Plain, entries_of, worn}
 use Rattle.command_laws.proofs.BetweenCarrying.{loses_one}
 use Rattle.command_laws.proofs.TextWords.{one_command}
 use Rattle.command_laws.specs.ReadableLaws.{ComesBackCanBeRead, FormattedCanBeRead, LeftCanBeRead, RunsKeepReadable, StillReadable}
-use Rattle.command_spec.specs.Commands.Single.{FormatOutcome}
+use Rattle.command_spec.specs.Single.{FormatOutcome}
 use Rattle.command_spec.specs.Headline.{EachLeft, Stepped, ToldNow}
 use Rattle.command_laws.specs.CommandTerms.{Yields}
-use Rattle.command_spec.specs.Machine.{Spells}
+use Rattle.command_spec.specs.Machine.{Spells, is_fault}
 use Rattle.command_spec.specs.OneLoss.{ComesBackAsOneOf, StoppedComesBack, with_items, with_made, with_one}
 use Rattle.command_spec.specs.Outcome.{CommandOutcome}
-use Rattle.command_spec.specs.Runs.{is_fault}
 use Rattle.command_spec.specs.ScriptLists.{ItemsWearBehind}
 use Rattle.command_laws.specs.Terms.{KeepsLive}
 use Rattle.command_spec.specs.Volumes.{StillHolds}

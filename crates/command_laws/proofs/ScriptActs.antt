@@ -9,8 +9,7 @@ use Rattle.command_spec.specs.Append.{Fits, TooLong, TooShort, taking, has_promi
 use Rattle.command_laws.specs.CommandTerms.{entry_for, WearsBehind, LineSpares, free_in, most_written, silently}
 use Rattle.qic_base.proofs.Joins.{steps_of-append, text_of-append}
 use Rattle.qic_base.specs.Acts.{Act, text_of, steps_of}
-use Rattle.cartridge_spec.specs.Volumes.{Plain}
-use Rattle.cartridge_spec.specs.Wear.{WearSpares}
+use Rattle.cartridge_spec.specs.Volumes.{Plain, WearSpares}
 use Rattle.command_spec.specs.declared.line.Line.{Line}
 use Rattle.qic_base.specs.Cartridge.{Cartridge, IsPlace}
 use Rattle.qic_base.specs.Step.{Step}

@@ -24,8 +24,7 @@ use Rattle.qic_base.proofs.Joins.{steps_of-append, text_of-append}
 use Rattle.qic_base.proofs.Steps.{Torn-front, Torn-behind, Torn-append, Torn-nothing, Torn-all}
 use Rattle.qic_base.specs.Acts.{Act, steps_of, next_steps, text_of}
 use Rattle.qic_base.specs.Cartridge.{Cartridge}
-use Rattle.qic_base.specs.Step.{Step}
-use Rattle.qic_base.specs.Stop.{Torn}
+use Rattle.qic_base.specs.Step.{Step, Torn}
 
 -- ---- stops among acts
 

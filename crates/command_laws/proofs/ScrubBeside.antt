@@ -20,13 +20,11 @@ use Rattle.cartridge_spec.specs.HeaderAndTable.{CopyReads, copy_cells, table_cel
 use Rattle.cartridge_spec.specs.Says.{cells_of, Says, Data, Mismatch, Written, Zero, ReadsAll, with_parity}
 use Rattle.cartridge_spec.specs.Shape.{usable_places, usable_count, mask_at, data_count}
 use Rattle.cartridge_spec.specs.Table.{slot_fault}
-use Rattle.cartridge_spec.specs.Volumes.{Part, parts_of, Volume, VolumeStands, carrying_segments, Plain, Stands, entries_of}
-use Rattle.cartridge_spec.specs.Wear.{worn}
+use Rattle.cartridge_spec.specs.Volumes.{Part, parts_of, Volume, VolumeStands, carrying_segments, Plain, Stands, entries_of, worn}
 use Rattle.command_laws.proofs.ScrubApart.{contains_cases}
 use Rattle.command_laws.proofs.ScrubSeen.{SameIn, IsFoundWrong}
 use Rattle.command_laws.proofs.ScrubStanding.{cell_at}
-use Rattle.command_spec.specs.Scrub.{Looked, cells_at, looked_at, looked_segments, looked_volumes, whole_segment}
-use Rattle.command_spec.specs.ScrubForms.{IsSearched, IsWrong}
+use Rattle.command_spec.specs.Scrub.{Looked, cells_at, looked_at, looked_segments, looked_volumes, whole_segment, IsSearched, IsWrong}
 use Rattle.command_spec.specs.declared.depth.Depth.{Depth}
 use Rattle.command_spec.specs.declared.depth.Depth.TheVariants.{Shallow, Deep}
 use Rattle.gf256_qic.proofs.Parities.{block_count, length-parity_sectors}

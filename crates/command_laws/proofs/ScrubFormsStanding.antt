@@ -17,8 +17,7 @@ use Rattle.command_laws.specs.DeepScrubLaws.{StoppedFormStands, DoneFormStands, 
 use Rattle.command_laws.specs.ScrubFound.{without_all}
 use Rattle.command_laws.specs.ScrubMended.{IsBeingMended}
 use Rattle.command_laws.specs.ScrubSayings.{Rise}
-use Rattle.command_spec.specs.Scrub.{Looked, looked_at, whole_segment, cells_at}
-use Rattle.command_spec.specs.ScrubForms.{Finding, IsSearched, IsWrong}
+use Rattle.command_spec.specs.Scrub.{Looked, looked_at, whole_segment, cells_at, Finding, IsSearched, IsWrong}
 use Rattle.command_spec.specs.declared.depth.Depth.{Depth}
 use Rattle.qic_base.proofs.Steps.{Torn-all}
 use Rattle.qic_base.specs.Acts.{steps_of}

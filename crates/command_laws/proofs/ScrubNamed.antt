@@ -19,8 +19,7 @@ use Rattle.command_laws.proofs.ScrubStanding.{cell_at}
 use Rattle.command_laws.specs.ScrubLaws.{CountOfNamed, StepsByPlaces}
 use Rattle.command_spec.specs.Scrub.{mending_writes, Looked, cells_at}
 use Rattle.qic_base.proofs.LostSetLaws.{lost_places-above}
-use Rattle.qic_base.specs.Cartridge.{Cartridge, view_at}
-use Rattle.qic_base.specs.LostSet.{lost_places}
+use Rattle.qic_base.specs.Cartridge.{Cartridge, view_at, lost_places}
 use Rattle.qic_base.specs.Terms.{IsLost}
 use Rattle.qic_base.specs.Step.{Step, WriteSector}
 use Rattle.qic_base.specs.declared.tape.SectorView.{SectorView}

@@ -19,8 +19,7 @@ use Rattle.cartridge_spec.specs.Says.{Saying, Says, Data, Mismatch, TableSays, A
 use Rattle.cartridge_spec.specs.Settling.{changed_by}
 use Rattle.cartridge_spec.specs.Shape.{usable_count}
 use Rattle.cartridge_spec.specs.Table.{slot_fault}
-use Rattle.cartridge_spec.specs.Volumes.{Plain, Stands, entries_of}
-use Rattle.cartridge_spec.specs.Wear.{worn}
+use Rattle.cartridge_spec.specs.Volumes.{Plain, Stands, entries_of, worn}
 use Rattle.command_laws.proofs.ScrubApart.{contains_cases, contains_first, one_looked, looked_rise}
 use Rattle.command_laws.proofs.ScrubBeside.{beside_stands, written_before, written_not_wrong, not_the_table, HasWritten, volumes_written}
 use Rattle.command_laws.proofs.ScrubForms.{as_seen, mended_as_seen}
@@ -32,8 +31,7 @@ use Rattle.command_laws.specs.DeepScrubLaws.{SilentSectorsAreMended, SilentSecto
 use Rattle.command_laws.specs.ScrubFound.{FindAtOnce, without_all}
 use Rattle.command_laws.specs.ScrubSayings.{Rise}
 use Rattle.command_laws.specs.SilentSectors.{IsSameIn, HasOneSilent, IsSilentIn, HasCopy, DiffersSilently}
-use Rattle.command_spec.specs.Scrub.{Looked, cells_at, reads, looked_at, looked_volumes, whole_segment}
-use Rattle.command_spec.specs.ScrubForms.{Finding, IsSearched, IsWrong, HasFound, without}
+use Rattle.command_spec.specs.Scrub.{Looked, cells_at, reads, looked_at, looked_volumes, whole_segment, Finding, IsSearched, IsWrong, HasFound, without}
 use Rattle.command_laws.specs.Terms.{Finds}
 use Rattle.command_spec.specs.declared.depth.Depth.{Depth}
 use Rattle.command_spec.specs.declared.depth.Depth.TheVariants.{Deep}

@@ -1,6 +1,6 @@
 -- The texts of dates.
 use Rattle.std.proofs.Common.{◌≡◌, ℕ, ◌+◌, ◌/◌, ◌<◌, List, get_or, length, ◌%◌, arith, ◌≤◌, refl}
-use Rattle.command_spec.specs.CommandWords.{IsDateWord}
+use Rattle.command_spec.specs.Command.{IsDateWord}
 use Rattle.command_laws.specs.CommandTerms.{digit}
 use Rattle.command_spec.specs.Lines.{date_form}
 

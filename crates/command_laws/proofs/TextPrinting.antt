@@ -8,9 +8,8 @@ use Rattle.command_laws.specs.TextLaws.{DateIsPrintedAsRead, NameIsPrintedAsRead
 use Rattle.command_spec.specs.Lines.{date_text, trimmed, name_text}
 use Rattle.command_laws.specs.CommandTerms.{printable, is_filler}
 use Rattle.qic_base.proofs.DateLaws.{written_date_is_read_back}
-use Rattle.qic_base.specs.Date.{low_part, date_word}
+use Rattle.qic_base.specs.Field.{low_part, date_word, filled}
 use Rattle.qic_base.specs.Terms.{greatest_low_part, ShowsDate, IsPrintable}
-use Rattle.qic_base.specs.Name.{filled}
 
 pub date_is_printed_as_read : DateIsPrintedAsRead
 unfolding date_text

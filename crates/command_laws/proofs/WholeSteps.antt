@@ -35,8 +35,7 @@ use Rattle.qic_base.proofs.Joins.{steps_of-append}
 use Rattle.qic_base.specs.Acts.{Act, steps_of}
 use Rattle.qic_base.specs.Cartridge.{Cartridge, IsLength, IsSector, new_cartridge, view_at, zero_sector}
 use Rattle.qic_base.specs.Terms.{IsVersion, IsCartridge, IsView, place_of, with_segment, HalfFormatted}
-use Rattle.qic_base.specs.Step.{FormatSegment, SetProtected, SetReferenced, Spoil, Step, Upgrade, Wear, changed, formatted_view, spoiled_view, worn_view}
-use Rattle.qic_base.specs.Stop.{ClosingView, OpeningView, SegmentBecame}
+use Rattle.qic_base.specs.Step.{FormatSegment, SetProtected, SetReferenced, Spoil, Step, Upgrade, Wear, changed, formatted_view, spoiled_view, worn_view, ClosingView, OpeningView, SegmentBecame}
 use Rattle.qic_base.specs.declared.tape.TapeInfo.{TapeInfo}
 use Rattle.qic_base.specs.declared.tape.SectorView.{SectorView}
 use Rattle.qic_base.specs.declared.tape.SectorView.TheVariants.{Blank, Defect, Lost, Holds}

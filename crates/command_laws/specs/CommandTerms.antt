@@ -5,16 +5,14 @@ use Rattle.std.specs.List.{slice_split}
 use Rattle.cartridge_spec.specs.Appending.{bytes_in, free_segments}
 use Rattle.cartridge_spec.specs.Shape.{mask_at, usable_places}
 use Rattle.cartridge_spec.specs.Table.{Entry}
-use Rattle.cartridge_spec.specs.Wear.{WearSpares}
-use Rattle.cartridge_spec.specs.Volumes.{Plain, entries_of, volume_length}
+use Rattle.cartridge_spec.specs.Volumes.{WearSpares, Plain, entries_of, volume_length}
 use Rattle.command_spec.specs.declared.words.Words.{Words}
 use Rattle.command_spec.specs.Commands.{command_of}
 use Rattle.command_spec.specs.Append.{Kept, Taking, Fits, TooLong, TooShort, append_acts, appended, entry_behind, kept_over}
-use Rattle.command_spec.specs.CommandWords.{HasForm, SpellsPart, Number}
-use Rattle.command_spec.specs.Generator.{made_bytes, made_length}
+use Rattle.command_spec.specs.Command.{HasForm, SpellsPart, Number}
+use Rattle.command_spec.specs.Make.{made_bytes, made_length, Answer, Done, Full, Lost, MakeStep, Mismatch, Protected, TableMismatch, Runs, ScrubAll, after_items, appending, ending_answer, made_answer, made_list, made_name, making, sum_acts, wearing_volumes}
 use Rattle.command_spec.specs.Input.{Item, line_forms, most_items}
 use Rattle.command_spec.specs.Lines.{place_line}
-use Rattle.command_spec.specs.Make.{Answer, Done, Full, Lost, MakeStep, Mismatch, Protected, TableMismatch, Runs, ScrubAll, after_items, appending, ending_answer, made_answer, made_list, made_name, making, sum_acts, wearing_volumes}
 use Rattle.command_spec.specs.Outcome.{CommandOutcome, Going}
 use Rattle.command_spec.specs.Restore.{GivingEnd, Restored, LostIn, MismatchIn, Piece, RestoresVolume, framed, pieces}
 use Rattle.command_spec.specs.Script.{Did, EndsEarly, LineDoes, Meeting, Meets, acts_on, given_as}

@@ -3,11 +3,9 @@
 use Rattle.std.specs.Prelude.{◌≡◌, ◌⊎◌, ◌<◌, ◌≤◌, ℕ, List, All, Option, Some, IsSomeAnd, length, take, true, ◌≢◌, ◌++◌, []}
 use Rattle.cartridge_laws.specs.AppendBetween.{IsWhole}
 use Rattle.cartridge_spec.specs.Appending.{has_room, with_bytes}
-use Rattle.cartridge_spec.specs.Mounting.{settled}
-use Rattle.cartridge_spec.specs.OneLoss.{ComesBackAs, LosesOneAlone}
+use Rattle.cartridge_spec.specs.Mounting.{settled, ComesBackAs, LosesOneAlone}
 use Rattle.cartridge_spec.specs.Settling.{changed_by}
-use Rattle.cartridge_spec.specs.Volumes.{Plain, entries_of}
-use Rattle.cartridge_spec.specs.Wear.{worn}
+use Rattle.cartridge_spec.specs.Volumes.{Plain, entries_of, worn}
 use Rattle.command_laws.specs.ActStops.{IsLeftBy}
 use Rattle.command_laws.specs.MountedKept.{IsAppendable, IsKept, settle_and_append}
 use Rattle.command_spec.specs.Make.{Answer, Done}
@@ -19,7 +17,7 @@ use Rattle.command_spec.specs.ScriptLists.{CameFurther, ItemsWearBehind, GoesNoF
 use Rattle.command_spec.specs.Scrub.{Scrubs}
 use Rattle.qic_base.specs.Acts.{Act, steps_of, next_steps, text_of}
 use Rattle.qic_base.specs.Cartridge.{Cartridge}
-use Rattle.qic_base.specs.Stop.{Torn}
+use Rattle.qic_base.specs.Step.{Torn}
 
 -- all 32 sectors of its table's segment hold their parts of the table
 pub record IsIntact (c : Cartridge) (plain : Plain) : Type 0 where

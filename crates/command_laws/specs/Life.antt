@@ -5,14 +5,13 @@ use Rattle.cartridge_spec.specs.Appending.{with_all, with_bytes}
 use Rattle.cartridge_spec.specs.Formatting.{HasCleanCopies, HasNoHeader, IsFreshFor, fresh_plain}
 use Rattle.cartridge_spec.specs.HeaderAndTable.{CopyDoesNotRead}
 use Rattle.cartridge_spec.specs.Mounting.{IsTableLive, settled}
-use Rattle.cartridge_spec.specs.Volumes.{Plain, Stands, entries_of}
-use Rattle.cartridge_spec.specs.Wear.{WearSpares}
+use Rattle.cartridge_spec.specs.Volumes.{Plain, Stands, entries_of, WearSpares}
 use Rattle.command_laws.specs.ActStops.{IsLeftBy}
 use Rattle.command_spec.specs.Input.{Item}
-use Rattle.command_spec.specs.Listing.{IsHeard}
+use Rattle.command_spec.specs.Several.{IsHeard}
 use Rattle.command_spec.specs.Machine.{HasValues}
 use Rattle.command_laws.specs.CommandTerms.{Yields}
-use Rattle.command_spec.specs.MadeVolumes.{made_contents}
+use Rattle.command_spec.specs.Make.{made_contents}
 use Rattle.command_spec.specs.Outcome.{CommandOutcome, HasPlace, output_of}
 use Rattle.command_spec.specs.Script.{Did, ScriptDoes}
 use Rattle.command_spec.specs.ScriptLists.{CameFurther, FirstSpare, GoesNoFurther, ItemsSpare, all_added, printed_by}
@@ -21,8 +20,7 @@ use Rattle.command_spec.specs.declared.words.Words.{Words}
 use Rattle.qic_base.specs.Acts.{Act, steps_of}
 use Rattle.qic_base.specs.Cartridge.{Cartridge}
 use Rattle.qic_base.specs.Terms.{IsCartridge}
-use Rattle.qic_base.specs.Step.{Wear, effect, effects}
-use Rattle.qic_base.specs.Stop.{Torn}
+use Rattle.qic_base.specs.Step.{Wear, effect, effects, Torn}
 use Rattle.command_spec.specs.declared.status.Status.TheVariants as status
 use Rattle.command_spec.specs.declared.words.Words.TheVariants as commands
 

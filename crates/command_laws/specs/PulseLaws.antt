@@ -6,8 +6,7 @@ use Rattle.command_spec.specs.Pulses.{train_lines, train_acts}
 use Rattle.drive_spec.specs.Record.{Record}
 use Rattle.qic_base.specs.Acts.{steps_of}
 use Rattle.qic_base.specs.Cartridge.{Cartridge}
-use Rattle.qic_base.specs.Step.{SetReferenced, effect}
-use Rattle.qic_base.specs.Stop.{Torn}
+use Rattle.qic_base.specs.Step.{SetReferenced, effect, Torn}
 use Rattle.qic_base.specs.declared.tape.TapeInfo.{TapeInfo}
 
 -- each input has an outcome, over each cartridge and none

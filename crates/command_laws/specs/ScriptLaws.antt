@@ -6,7 +6,7 @@ use Rattle.command_spec.specs.Outcome.{CommandOutcome}
 use Rattle.command_spec.specs.Script.{ScriptDoes, Did, cartridge_behind, acts_of}
 use Rattle.qic_base.specs.Acts.{steps_of, Act}
 use Rattle.qic_base.specs.Cartridge.{Cartridge}
-use Rattle.qic_base.specs.Stop.{Torn}
+use Rattle.qic_base.specs.Step.{Torn}
 
 -- an input has at most one outcome over a cartridge with this map and these volumes
 abbrev pub OneOutcome : Type 0

@@ -14,7 +14,7 @@ use Rattle.command_spec.specs.ScriptLists.{CameFurther, FirstSpare, GoesNoFurthe
 use Rattle.command_spec.specs.declared.line.Line.{Line}
 use Rattle.qic_base.specs.Acts.{steps_of, Act, text_of, next_steps}
 use Rattle.qic_base.specs.Cartridge.{Cartridge}
-use Rattle.qic_base.specs.Stop.{Torn}
+use Rattle.qic_base.specs.Step.{Torn}
 use Rattle.command_spec.specs.declared.line.Line.TheVariants as line
 
 -- a line's name is a label, its date a date word, and the bytes that follow it are bytes, as many as it promises

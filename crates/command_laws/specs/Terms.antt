@@ -8,19 +8,16 @@ use Rattle.cartridge_spec.specs.Says.{Saying}
 use Rattle.cartridge_spec.specs.Shape.{marked_sectors}
 use Rattle.cartridge_spec.specs.Table.{Entry}
 use Rattle.cartridge_spec.specs.Volumes.{Plain, Volume}
-use Rattle.command_spec.specs.CommandWords.{Part}
+use Rattle.command_spec.specs.Command.{Part, ReadsAs}
 use Rattle.command_spec.specs.Commands.{command_of}
-use Rattle.command_spec.specs.Commands.RestoreCommand.{HasNumber}
-use Rattle.command_spec.specs.Command.{ReadsAs}
+use Rattle.command_spec.specs.Restore.{HasNumber, LosesFew, pieces_in}
 use Rattle.command_spec.specs.Headline.{Stepped}
 use Rattle.command_spec.specs.Input.{AtEnd, AtStop, IsPulses, IsScript, Item}
 use Rattle.command_spec.specs.Lines.{blank_line, formatted_line, info_text, list_text, protected_line, upgraded_line}
 use Rattle.command_laws.specs.CommandTerms.{CommandPrints, RefusedPrints}
 use Rattle.command_spec.specs.Outcome.{CommandOutcome, Going, OpenOutcome, Shows, StepOutcome, WritableOutcome, acted, carried_out, refused_behind}
-use Rattle.command_spec.specs.Restore.{LosesFew, pieces_in}
-use Rattle.command_spec.specs.Runs.{OverTold}
-use Rattle.command_spec.specs.Scrub.{Counts, Looked, MendsBy, Scrubs, ScrubsBy, counted, counts_line, line_in, looking_acts, steps_in, whole_segment}
-use Rattle.command_spec.specs.ScrubForms.{Finding, HasFound, IsWrong, ScrubsAs, finding_acts, line_for, sayings_of, steps_for}
+use Rattle.command_spec.specs.Machine.{OverTold}
+use Rattle.command_spec.specs.Scrub.{Counts, Looked, MendsBy, Scrubs, ScrubsBy, counted, counts_line, line_in, looking_acts, steps_in, whole_segment, Finding, HasFound, IsWrong, ScrubsAs, finding_acts, line_for, sayings_of, steps_for}
 use Rattle.command_spec.specs.declared.depth.Depth.{Depth}
 use Rattle.command_spec.specs.declared.depth.Depth.TheVariants.{Deep}
 use Rattle.command_spec.specs.declared.status.Status.{Status}

@@ -1,15 +1,18 @@
 -- The plain machine of `append`: what is taken of the input, and the acts that write the volume and its entry (this project's own).
-use Rattle.std.specs.Prelude.{ℕ, List, [], ◌∷◌, length, drop, nat_le, if◌then◌else◌, ◌&&◌, Bool, take, nat_lt, Option, Some, None, ◌+◌, min, is_some, ◌++◌, ◌≡◌, ◌/◌, unwrap_or}
-use Rattle.cartridge_spec.specs.Appending.{part_writes, in_sectors, room, free_segments, new_entry, taken_by, table_writes}
+use Rattle.std.specs.Prelude.{ℕ, List, [], ◌∷◌, length, drop, nat_le, if◌then◌else◌, ◌&&◌, Bool, take, nat_lt, Option, Some, None, ◌+◌, min, is_some, ◌++◌, ◌≡◌, ◌/◌, unwrap_or, true, ◌<◌, ◌^◌, codes, IsSomeAnd}
+use Rattle.cartridge_spec.specs.Appending.{part_writes, in_sectors, room, free_segments, new_entry, taken_by, table_writes, has_room}
 use Rattle.cartridge_spec.specs.Mounting.{settled}
 use Rattle.cartridge_spec.specs.Settling.{settling_steps}
 use Rattle.cartridge_spec.specs.Shape.{mask_at, data_count, capacity}
 use Rattle.cartridge_spec.specs.Table.{Entry, table_with}
-use Rattle.command_spec.specs.Lines.{reply_behind}
+use Rattle.command_spec.specs.Lines.{reply_behind, appended_line}
 use Rattle.command_spec.specs.Outcome.{settling_act, CommandOutcome, WritableOutcome}
 use Rattle.qic_base.specs.Acts.{Act}
 use Rattle.qic_base.specs.Cartridge.{Cartridge}
 use Rattle.qic_base.specs.Step.{Step}
+use Rattle.cartridge_spec.specs.Formatting.{IsLabel}
+use Rattle.cartridge_spec.specs.Volumes.{Plain}
+use Rattle.command_spec.specs.Command.{Command, plain_command, IsUnprotected, ReadsAs, none_of_them, Word, Name, dated}
 use Rattle.command_spec.specs.declared.status.Status.TheVariants as status
 
 -- ---- the acts
@@ -133,3 +136,27 @@ abbrev pub AppendOutcome : (name : List ℕ) → (date : ℕ) → Option Cartrid
 AppendOutcome name date held input outcome =
     WritableOutcome (λ c header words table entries outcome. outcome ≡ appended name date input c words table entries)
     held outcome
+
+-- ---- The command `append`: what it needs, what it prints and what it keeps (this project's own).
+
+-- It needs room for one byte at least, and for all of the input. It asks for at most one byte beyond the room that there is, and adds
+-- a volume, but to a protected cartridge.
+abbrev pub append_command : (name : List ℕ) → (date : ℕ) → Command
+append_command name date =
+    record (plain_command (dated (Word (codes "append") ∷ Name name ∷ []) date) (AppendOutcome name date)
+    (λ text. (number : ℕ) × ((bytes : ℕ) × ((start : ℕ) × ((end : ℕ) × (text ≡ appended_line number bytes start end)))))) {
+      values = IsLabel name × (date < 2 ^ 32);
+      traits = record none_of_them {
+        reads = true;
+        memory = true;
+        cartridge = true;
+        writable = true;
+        mounts = true;
+        appends = true;
+      };
+      needs = λ held input. IsSomeAnd held (λ c. IsUnprotected c
+          × ((plain : Plain) × ReadsAs c plain × (has_room plain (length input) ≡ true)));
+      keeps_volumes = λ c plain. c.info.protected ≡ true;
+      keeps_list = λ c. c.info.protected ≡ true;
+      is_full = λ need have. nat_le need (have + 1);
+    }

@@ -1,21 +1,13 @@
 -- The commands: the record of each, in a file of the folder, and its words and traits by that (this project's own).
-pub mod AppendCommand
-pub mod MakeCommand
-pub mod PulsesCommand
-pub mod RestoreCommand
-pub mod ScriptCommand
-pub mod ScrubCommand
-pub mod Single
 use Rattle.std.specs.Prelude.{ℕ, List}
-use Rattle.command_spec.specs.Commands.AppendCommand.{append_command}
-use Rattle.command_spec.specs.Command.{Command, Traits}
-use Rattle.command_spec.specs.CommandWords.{HasForm}
-use Rattle.command_spec.specs.Commands.ScrubCommand.{deep_scrub_command, scrub_command}
-use Rattle.command_spec.specs.Commands.Single.{defect_command, format_command, info_command, list_command, lose_command, new_command, protect_command, upgrade_command}
-use Rattle.command_spec.specs.Commands.MakeCommand.{make_command}
-use Rattle.command_spec.specs.Commands.PulsesCommand.{pulses_command}
-use Rattle.command_spec.specs.Commands.RestoreCommand.{restore_command}
-use Rattle.command_spec.specs.Commands.ScriptCommand.{script_command}
+use Rattle.command_spec.specs.Append.{append_command}
+use Rattle.command_spec.specs.Command.{Command, Traits, HasForm}
+use Rattle.command_spec.specs.Scrub.{deep_scrub_command, scrub_command}
+use Rattle.command_spec.specs.Single.{defect_command, format_command, info_command, list_command, lose_command, new_command, protect_command, upgrade_command}
+use Rattle.command_spec.specs.Make.{make_command}
+use Rattle.command_spec.specs.Pulses.{pulses_command}
+use Rattle.command_spec.specs.Restore.{restore_command}
+use Rattle.command_spec.specs.Script.{script_command}
 use Rattle.command_spec.specs.declared.words.Words.{Words}
 use Rattle.command_spec.specs.declared.words.Words.TheVariants as words
 

@@ -17,8 +17,8 @@ use Rattle.command_spec.specs.declared.copy_status.CopyStatus.{CopyStatus}
 use Rattle.qic_base.specs.Acts.{Act, SinkCut, TapeCut, Went, steps_of}
 use Rattle.qic_base.specs.Terms.{around, no_source}
 use Rattle.qic_base.specs.Cartridge.{Cartridge}
-use Rattle.qic_base.specs.Cause.{Rose}
-use Rattle.qic_base.specs.Stop.{Torn}
+use Rattle.qic_base.specs.Tape.{Rose}
+use Rattle.qic_base.specs.Step.{Torn}
 use Rattle.cartridge_spec.specs.Mounting as mounting
 use Rattle.command_spec.specs.declared.copy_fault.CopyFault.TheVariants as fault
 use Rattle.command_spec.specs.declared.copy_status.CopyStatus.TheVariants as status

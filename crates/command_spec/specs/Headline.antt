@@ -2,15 +2,14 @@
 use Rattle.std.specs.Prelude.{◌≡◌, ℕ, List, ◌++◌, Option, Some, ◌⊎◌, true, IsSomeAnd, IfSome, ◌≤◌, is_some}
 use Rattle.std.specs.Option.{option_map}
 use Rattle.command_spec.specs.Commands.{command_of}
-use Rattle.command_spec.specs.Machine.{Step, Spells}
+use Rattle.command_spec.specs.Machine.{Step, Spells, InputLeft, OverTold, IsCutOff, IsOfBytes}
 use Rattle.command_spec.specs.Outcome.{CommandOutcome}
-use Rattle.command_spec.specs.Runs.{InputLeft, OverTold, IsCutOff, IsOfBytes}
 use Rattle.command_spec.specs.declared.status.Status.{Status}
 use Rattle.command_spec.specs.declared.words.Words.{Words}
 use Rattle.qic_base.specs.Acts.{Outside, Failing, steps_of, NoneFell}
 use Rattle.qic_base.specs.Cartridge.{Cartridge}
-use Rattle.qic_base.specs.Cause.{Rose}
-use Rattle.qic_base.specs.Stop.{Torn}
+use Rattle.qic_base.specs.Tape.{Rose}
+use Rattle.qic_base.specs.Step.{Torn}
 use Rattle.qic_base.specs.Sink as sinks
 use Rattle.qic_base.specs.Source as sources
 use Rattle.qic_base.specs.Tape as tapes

@@ -1,7 +1,7 @@
 -- The inputs of `script` and of `pulses`: items, and what ends them (this project's own).
 use Rattle.std.specs.Prelude.{◌≡◌, ◌≢◌, ℕ, ◌+◌, ◌≤◌, List, [], ◌∷◌, ◌++◌, length, All, ◌==◌, codes}
 use Rattle.std.specs.List.{slice_split}
-use Rattle.command_spec.specs.CommandWords.{Part, Word, Name, dated, AnyNumber, HasForm, SpellsPart, Number}
+use Rattle.command_spec.specs.Command.{Part, Word, Name, dated, AnyNumber, HasForm, SpellsPart, Number}
 use Rattle.command_spec.specs.declared.line.Line.{Line}
 use Rattle.command_spec.specs.declared.status.Status.{Status}
 use Rattle.command_spec.specs.declared.line.Line.TheVariants as line

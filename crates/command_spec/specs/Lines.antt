@@ -4,7 +4,7 @@ use Rattle.cartridge_spec.specs.Header.{Header}
 use Rattle.cartridge_spec.specs.Shape.{marked_sectors}
 use Rattle.cartridge_spec.specs.Table.{Entry}
 use Rattle.cartridge_spec.specs.Volumes.{volume_length}
-use Rattle.qic_base.specs.Date.{low_part}
+use Rattle.qic_base.specs.Field.{low_part}
 
 -- ---- dates
 

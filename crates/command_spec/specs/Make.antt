@@ -1,6 +1,7 @@
--- The plain machine of `make`: the steps of a generated run, what each does, and what a run may print (this project's own).
-use Rattle.std.specs.Prelude.{ℕ, ◌+◌, List, ◌++◌, codes, decimal, [], ◌∷◌, zero, suc, take, ◌%◌, ◌==◌, if◌then◌else◌, length, drop, Some, ◌≡◌, true, slice_get, IsSomeAnd, ◌^◌, sum, ◌⊎◌, false, ◌≢◌, ◌<◌, Option}
-use Rattle.cartridge_spec.specs.Appending.{room}
+-- The bytes of the volumes that `make` appends, and their sums (this project's own).
+use Rattle.std.specs.Prelude.{ℕ, ◌+◌, ◌*◌, ◌%◌, List, map, ◌++◌, codes, decimal, [], ◌∷◌, zero, suc, take, ◌==◌, if◌then◌else◌, length, drop, Some, ◌≡◌, true, slice_get, IsSomeAnd, ◌^◌, sum, ◌⊎◌, false, ◌≢◌, ◌<◌, Option, ◌≤◌, All, nat_lt}
+use Rattle.std.specs.List.{range_with_len}
+use Rattle.cartridge_spec.specs.Appending.{room, Content}
 use Rattle.cartridge_spec.specs.Header.{Header}
 use Rattle.cartridge_spec.specs.HeaderAndTable.{TableIs, table_cells}
 use Rattle.cartridge_spec.specs.Mounting.{settled}
@@ -8,18 +9,29 @@ use Rattle.cartridge_spec.specs.Says.{LostSectors, ByCode, TableSays}
 use Rattle.cartridge_spec.specs.Settling.{changed_by}
 use Rattle.cartridge_spec.specs.Shape.{mask_at, usable_places}
 use Rattle.cartridge_spec.specs.Table.{Entry}
-use Rattle.cartridge_spec.specs.Volumes.{carrying_segments, volume_length}
+use Rattle.cartridge_spec.specs.Volumes.{carrying_segments, volume_length, Plain, entries_of}
 use Rattle.command_spec.specs.Append.{entry_behind, append_acts, has_promised_room, kept_over}
-use Rattle.command_spec.specs.Generator.{made_bytes, made_length}
 use Rattle.command_spec.specs.Outcome.{settling_act, CommandOutcome, WritableOutcome}
-use Rattle.command_spec.specs.Restore.{GivingEnd, Restored, LostIn, MismatchIn, RestoresVolume, pieces, volume_at}
+use Rattle.command_spec.specs.Restore.{GivingEnd, Restored, LostIn, MismatchIn, RestoresVolume, pieces, volume_at, LosesFew}
 use Rattle.command_spec.specs.Scrub.{Scrubs, Counts, looked_at, IsScrubText}
 use Rattle.command_spec.specs.declared.status.Status.{Status}
 use Rattle.qic_base.specs.Acts.{Act, text_of, steps_of}
 use Rattle.qic_base.specs.Cartridge.{Cartridge}
-use Rattle.qic_base.specs.Name.{filled}
+use Rattle.qic_base.specs.Field.{filled}
 use Rattle.qic_base.specs.Step.{Wear}
+use Rattle.command_spec.specs.Command.{Command, plain_command, IsUnprotected, ReadsAs, none_of_them, Word, AnyNumber, Number}
 use Rattle.command_spec.specs.declared.status.Status.TheVariants as status
+
+-- ---- what is made
+
+-- a made volume's number of bytes
+abbrev pub made_length : (seed volume : ℕ) → ℕ
+made_length seed volume = 1000 * (1 + (seed * 37 + volume * 101) % 20000)
+
+unfoldable pub made_bytes : (seed volume : ℕ) → List ℕ
+made_bytes seed volume = map (λ place. (place + 31 * volume + seed) % 251) (range_with_len 0 (made_length seed volume))
+
+-- ---- The plain machine of `make`: the steps of a generated run, what each does, and what a run may print (this project's own).
 
 -- A step of a run: the made volume with this number is appended; a sector is worn; all is scrubbed; the volume with this
 -- number in the list is restored, and summed.
@@ -223,3 +235,77 @@ pub record Making (seed count : ℕ) (c : Cartridge) (header : Header) (words : 
 
 abbrev pub MakeOutcome : (seed count : ℕ) → Option Cartridge → CommandOutcome → Type 0
 MakeOutcome seed count held outcome = WritableOutcome (Making seed count) held outcome
+
+-- ---- The volumes that `make` appends, how many it has appended by its answer, and what it needs to be carried out (this project's own).
+
+-- so many made volumes, from this one on
+abbrev pub made_contents : (seed volume count : ℕ) → List Content
+made_contents seed volume zero = []
+made_contents seed volume (suc count) =
+    record { name = made_name volume; date = 0; bytes = made_bytes seed volume } ∷ made_contents seed (volume + 1) count
+
+-- ---- how many were appended
+
+-- So many of the volumes were appended by a run that is answered so: all of them where it was carried out, or one of
+-- them was not given back; those in front of the one that has no room; or some, where the volume table does not read.
+abbrev pub AppendedBy : (seed count : ℕ) → (words : List ℕ) → List Entry → Status → (n : ℕ) → Type 0
+AppendedBy seed count words entries status.Done n = n ≡ count
+AppendedBy seed count words entries (status.Full need have) n =
+    (n < count) × (made_answer seed words (made_list seed n words entries) (1 + n) ≡ Full need have)
+AppendedBy seed count words entries (status.Lost segment lost) n = (n ≤ count) × (segment ≢ 2 → n ≡ count)
+AppendedBy seed count words entries (status.Mismatch segment) n = n ≡ count
+AppendedBy seed count words entries other n = n ≤ count
+
+-- ---- a run that is carried out
+
+-- each of the made volumes has room when its turn comes
+abbrev pub HaveRoom : (seed count : ℕ) → Plain → Type 0
+HaveRoom seed count plain =
+    (n : ℕ) → n < count → made_answer seed plain.words (made_list seed n plain.words (entries_of plain)) (1 + n) ≡ Done
+
+-- behind the appends, the worn sectors and the scrub no segment that holds some of a made volume has more than three
+-- unreadable sectors
+abbrev pub LoseFewBehind : (seed count : ℕ) → Cartridge → Plain → Type 0
+LoseFewBehind seed count c plain =
+    let entries : List Entry = entries_of plain in
+    let made : List Entry = made_list seed count plain.words entries in
+    (acts : List Act) (number : ℕ) (e : Entry) →
+    Runs seed c plain.words entries
+    (appending 1 count ++ (wearing_volumes plain.words (drop (length entries) made) ++ ScrubAll ∷ [])) acts Done →
+    length entries < number → volume_at made number ≡ Some e →
+    All (LosesFew (changed_by (steps_of acts) c) plain.words) (pieces plain.words e)
+
+-- ---- The command `make`: what it needs, and what it prints (this project's own).
+
+-- Each of the generated volumes has room when its turn comes, and no segment that holds some of their bytes has more than three
+-- unreadable sectors once they were appended, worn and scrubbed.
+pub record CanMake (c : Cartridge) (seed count : ℕ) : Type 0 where
+  pub plain : Plain
+  pub mounts : ReadsAs c plain
+  pub room : HaveRoom seed count plain
+  pub few : LoseFewBehind seed count (settled plain.table_area c) plain
+
+-- Where it is refused, the lines before the step that was refused are printed; where it is cut off, they may be any. A volume is
+-- full that is longer than the room that there is. Volumes are added, but to a protected cartridge.
+abbrev pub make_command : (seed count : ℕ) → Command
+make_command seed count =
+    record (plain_command ((Word (codes "make") ∷ AnyNumber seed ∷ Number 1 200 count ∷ []) ∷ [])
+    (λ held input outcome. MakeOutcome seed count held outcome)
+    (λ text. (words : List ℕ) × ((entries : List Entry) × MayRun seed words entries (making seed count words entries) text Done))) {
+      values = count ≤ 200;
+      traits = record none_of_them {
+        goes = true;
+        memory = true;
+        cartridge = true;
+        writable = true;
+        mounts = true;
+        restores = true;
+      };
+      fronts = λ text. Unit {0};
+      refused = λ answer text. (text ≡ []) ⊎ ((words : List ℕ) × ((entries : List Entry) × ((why : Answer)
+          × (answer ≡ make_status why) × MayRun seed words entries (making seed count words entries) text why)));
+      needs = λ held input. IsSomeAnd held (λ c. IsUnprotected c × CanMake c seed count);
+      keeps_volumes = λ c plain. c.info.protected ≡ true;
+      keeps_list = λ c. c.info.protected ≡ true;
+      is_full = λ need have. nat_lt have need;
+    }

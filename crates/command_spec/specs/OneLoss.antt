@@ -2,22 +2,20 @@
 -- more of its table's segment is lost (this project's own).
 use Rattle.std.specs.Prelude.{◌⊎◌, ℕ, List, Option, ◌≡◌, ◌≢◌, ◌≤◌, ◌+◌, Some, IsSomeAnd, [], ◌∷◌, length, take, false}
 use Rattle.cartridge_spec.specs.Appending.{with_all}
-use Rattle.cartridge_spec.specs.Mounting.{IsTableLive, settled}
-use Rattle.cartridge_spec.specs.OneLoss.{ComesBackAs, LosesOneAlone}
+use Rattle.cartridge_spec.specs.Mounting.{IsTableLive, settled, ComesBackAs, LosesOneAlone}
 use Rattle.cartridge_spec.specs.Settling.{settling_steps}
 use Rattle.cartridge_spec.specs.Volumes.{Plain, Stands, entries_of}
 use Rattle.command_spec.specs.Headline.{EachLeft, ToldNow}
 use Rattle.command_spec.specs.Input.{Item}
-use Rattle.command_spec.specs.Listing.{IsHeard}
+use Rattle.command_spec.specs.Several.{IsHeard, Scripted}
 use Rattle.command_spec.specs.Machine.{Spells}
-use Rattle.command_spec.specs.MadeVolumes.{made_contents}
+use Rattle.command_spec.specs.Make.{made_contents}
 use Rattle.command_spec.specs.Script.{Did}
 use Rattle.command_spec.specs.ScriptLists.{CameFurther, GoesNoFurther, ItemsWearBehind, all_added, printed_by}
-use Rattle.command_spec.specs.Several.{Scripted}
 use Rattle.command_spec.specs.Volumes.{IsInput, AreBytes, IsCarriedOut}
 use Rattle.command_spec.specs.declared.status.Status.{Status}
 use Rattle.qic_base.specs.Cartridge.{Cartridge}
-use Rattle.qic_base.specs.Stop.{Torn}
+use Rattle.qic_base.specs.Step.{Torn}
 use Rattle.command_spec.specs.declared.words.Words.TheVariants as commands
 use Rattle.qic_base.specs.Sink as sinks
 use Rattle.qic_base.specs.Tape as tapes

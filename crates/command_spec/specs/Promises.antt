@@ -7,13 +7,11 @@ use Rattle.cartridge_spec.specs.Mounting.{Mounted, Mounts, IsTableLive}
 use Rattle.cartridge_spec.specs.Table.{Entry}
 use Rattle.cartridge_spec.specs.Volumes.{Plain, Stands, Volume}
 use Rattle.command_spec.specs.Commands.{command_of, traits_of}
-use Rattle.command_spec.specs.Commands.RestoreCommand.{HasNumber}
+use Rattle.command_spec.specs.Restore.{HasNumber}
 use Rattle.command_spec.specs.Headline.{Stepped, NoneRose, IsCut, EachLeft, WordsLeave, Joins}
-use Rattle.command_spec.specs.Listing.{ListsAppends}
-use Rattle.command_spec.specs.Machine.{Spells, SpellsNone}
+use Rattle.command_spec.specs.Several.{ListsAppends, Generated, SomeMade, AllMade, Scripted, SomeScripted, AllAnswered}
+use Rattle.command_spec.specs.Machine.{Spells, SpellsNone, OverTold, is_fault, fault_of, is_outcome, may_come_from}
 use Rattle.command_spec.specs.OneLoss.{SurvivesOneLoss}
-use Rattle.command_spec.specs.Runs.{OverTold, is_fault, fault_of, is_outcome, may_come_from}
-use Rattle.command_spec.specs.Several.{Generated, SomeMade, AllMade, Scripted, SomeScripted, AllAnswered}
 use Rattle.command_spec.specs.Volumes.{StillHolds, FormatsOrNot, AppendedOrNot, IsChanged, GivesBack}
 use Rattle.command_spec.specs.declared.status.Status.{Status}
 use Rattle.command_spec.specs.declared.words.Words.{Words}

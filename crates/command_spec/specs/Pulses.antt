@@ -1,5 +1,5 @@
 -- The plain machine of `pulses`: the trains of an input, and the levels that they leave (this project's own).
-use Rattle.std.specs.Prelude.{ℕ, List, [], ◌∷◌, if◌then◌else◌, codes, ◌+◌, ◌++◌, decimal, length, ◌≡◌, Option}
+use Rattle.std.specs.Prelude.{ℕ, List, [], ◌∷◌, if◌then◌else◌, codes, ◌+◌, ◌++◌, decimal, length, ◌≡◌, Option, ◌⊎◌, true}
 use Rattle.std.specs.Option.{option_map}
 use Rattle.command_spec.specs.Input.{Ending, AtEnd, AtStop, AtFault, IsPulses, input_status}
 use Rattle.command_spec.specs.Outcome.{CommandOutcome}
@@ -10,6 +10,7 @@ use Rattle.qic_base.specs.Acts.{Act, text_of}
 use Rattle.qic_base.specs.Cartridge.{Cartridge}
 use Rattle.qic_base.specs.Step.{Step}
 use Rattle.qic_base.specs.declared.tape.TapeInfo.{TapeInfo}
+use Rattle.command_spec.specs.Command.{Command, plain_command, none_of_them, Word}
 use Rattle.command_spec.specs.declared.status.Status.TheVariants as status
 
 -- ---- trains
@@ -64,3 +65,16 @@ pub record SentOutcome (held : Option Cartridge) (input : List ℕ) (outcome : C
 -- the levels of some trains, over some cartridge or none
 abbrev pub AreLevels : List ℕ → Type 0
 AreLevels text = (known : Option TapeInfo) × ((trains : List ℕ) × (text ≡ text_of (train_acts (power_on known) trains)))
+
+-- ---- The command `pulses` (this project's own).
+
+-- The drive shows its levels without a cartridge, and those of the trains before a fault of the input: the lines of trains go up to
+-- the end of the input or to the line `end`.
+abbrev pub pulses_command : Command
+pulses_command =
+    record (plain_command ((Word (codes "pulses") ∷ []) ∷ []) SentOutcome AreLevels) {
+      traits = record none_of_them { reads = true; lines = true; goes = true };
+      refused = λ answer text. AreLevels text;
+      fault = λ input line place. (trains : List ℕ) × IsPulses input trains (AtFault line place);
+      needs = λ held input. (trains : List ℕ) × (IsPulses input trains AtEnd ⊎ IsPulses input trains AtStop);
+    }

@@ -1,17 +1,18 @@
 -- The plain machine of `restore`: a volume's bytes, segment by segment, and how their giving ends (this project's own).
-use Rattle.std.specs.Prelude.{ℕ, zero, suc, ◌-◌, List, [], ◌∷◌, min, sum_by, ◌≤◌, take, ◌≡◌, ◌++◌, codes, decimal, ◌<◌, All, length, slice_get, Option, None, Some, ◌⊎◌, replicate}
+use Rattle.std.specs.Prelude.{ℕ, zero, suc, ◌-◌, List, [], ◌∷◌, min, sum_by, ◌≤◌, take, ◌≡◌, ◌++◌, codes, decimal, ◌<◌, All, length, slice_get, Option, None, Some, ◌⊎◌, replicate, ◌==◌, ◌&&◌, Bool, true, nat_le, IsSomeAnd}
 use Rattle.cartridge_spec.specs.Appending.{bytes_in}
-use Rattle.cartridge_spec.specs.Mounting.{settled}
+use Rattle.cartridge_spec.specs.Mounting.{settled, CanBeRead}
 use Rattle.cartridge_spec.specs.Says.{cells_of, unreadable_count, Saying, Says, Data, LostSectors, Mismatch}
 use Rattle.cartridge_spec.specs.Settling.{settling_steps}
 use Rattle.cartridge_spec.specs.Shape.{mask_at, capacity}
 use Rattle.cartridge_spec.specs.Table.{Entry}
-use Rattle.cartridge_spec.specs.Volumes.{carrying_segments, volume_length, Plain, Volume}
+use Rattle.cartridge_spec.specs.Volumes.{carrying_segments, volume_length, Plain, Volume, Stands}
 use Rattle.command_spec.specs.Outcome.{settling_act, CommandOutcome, Going, refused_behind, OpenOutcome}
 use Rattle.command_spec.specs.declared.status.Status.{Status}
 use Rattle.qic_base.specs.Acts.{Act}
 use Rattle.qic_base.specs.Cartridge.{Cartridge}
 use Rattle.qic_base.specs.declared.tape.SectorView.{SectorView}
+use Rattle.command_spec.specs.Command.{Command, plain_command, none_of_them, Word, AnyNumber}
 use Rattle.command_spec.specs.declared.status.Status.TheVariants as status
 
 -- ---- the segments that are read
@@ -141,3 +142,37 @@ Gives number c header words table entries outcome =
 
 abbrev pub RestoreOutcome : (number : ℕ) → Option Cartridge → CommandOutcome → Type 0
 RestoreOutcome number held outcome = OpenOutcome (Gives number) held outcome
+
+-- ---- The command `restore`: what it needs, what it prints and which volumes there are not (this project's own).
+
+-- a cartridge stands for a plain one that has this volume of the number, counted from 1, and its volume table can be read
+pub record HasNumber (c : Cartridge) (plain : Plain) (number : ℕ) (volume : Volume) : Type 0 where
+  pub stands : Stands c plain
+  pub reads : CanBeRead c
+  pub place : ℕ
+  pub numbered : number ≡ suc place
+  pub is : slice_get plain.volumes place ≡ Some volume
+
+-- a number, counted from 1, is that of none of so many volumes
+abbrev pub is_past : (number count : ℕ) → Bool
+is_past zero count = true
+is_past (suc n) count = nat_le count n
+
+-- the bytes of a volume may have been printed before a segment that doesn't read
+abbrev pub restore_refused : Status → List ℕ → Type 0
+restore_refused (status.Lost segment lost) text = Unit {0}
+restore_refused (status.Mismatch segment) text = Unit {0}
+restore_refused answer text = text ≡ []
+
+-- It needs a volume of the number, no segment of which, where it holds some of its bytes, has more than three unreadable sectors. The
+-- bytes of a volume may be any; the number that is refused is the one that was asked for.
+abbrev pub restore_command : (number : ℕ) → Command
+restore_command number =
+    record (plain_command ((Word (codes "restore") ∷ AnyNumber number ∷ []) ∷ [])
+    (λ held input outcome. RestoreOutcome number held outcome) (λ text. Unit {0})) {
+      traits = record none_of_them { goes = true; memory = true; cartridge = true; mounts = true; restores = true };
+      refused = restore_refused;
+      needs = λ held input. IsSomeAnd held (λ c. (plain : Plain) × ((volume : Volume) × HasNumber c plain number volume
+          × All (LosesFew c plain.words) (pieces_in plain volume)));
+      is_no_volume = λ named count. (named == number) && is_past number count;
+    }

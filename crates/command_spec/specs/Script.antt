@@ -1,5 +1,5 @@
 -- The plain machine of `script`: its lines, one after the other, over a mounted cartridge, and their replies (this project's own).
-use Rattle.std.specs.Prelude.{ℕ, List, codes, ◌++◌, decimal, [], ◌+◌, ◌∷◌, ◌≡◌, true, false, length, Some, ◌⊎◌, None, ◌<◌, ◌≤◌, drop, Option}
+use Rattle.std.specs.Prelude.{ℕ, List, codes, ◌++◌, decimal, [], ◌+◌, ◌∷◌, ◌≡◌, true, false, length, Some, ◌⊎◌, None, ◌<◌, ◌≤◌, drop, Option, IsSomeAnd}
 use Rattle.cartridge_spec.specs.Appending.{room}
 use Rattle.cartridge_spec.specs.Header.{Header}
 use Rattle.cartridge_spec.specs.HeaderAndTable.{table_cells, TableIs}
@@ -19,6 +19,8 @@ use Rattle.command_spec.specs.declared.refusal.Refusal.{Refusal}
 use Rattle.qic_base.specs.Acts.{Act, steps_of}
 use Rattle.qic_base.specs.Cartridge.{Cartridge, IsPlace}
 use Rattle.qic_base.specs.Step.{Wear}
+use Rattle.command_spec.specs.Command.{Command, plain_command, CanBeMounted, none_of_them, Word}
+use Rattle.command_spec.specs.declared.status.Status.{Status}
 use Rattle.command_spec.specs.declared.refusal.Refusal.TheVariants as why
 use Rattle.command_spec.specs.declared.line.Line.TheVariants as line
 use Rattle.command_spec.specs.declared.status.Status.TheVariants as status
@@ -201,3 +203,26 @@ pub record Scripting (input : List ℕ) (c : Cartridge) (header : Header) (words
 
 abbrev pub ScriptOutcome : Option Cartridge → (input : List ℕ) → CommandOutcome → Type 0
 ScriptOutcome held input outcome = OpenOutcome (Scripting input) held outcome
+
+-- ---- The command `script` (this project's own).
+
+-- the replies to the lines before a fault of the input, or before a volume table that doesn't show the list
+abbrev pub script_refused : Status → List ℕ → Type 0
+script_refused (status.ScriptFault line place) text = Unit {0}
+script_refused status.TableMismatch text = Unit {0}
+script_refused answer text = text ≡ []
+
+-- The lines of a script, each append's with its bytes, go up to the end of the input or to the line `end`. The replies to them may be
+-- any. A line that is refused is answered by its reply, so they need nothing but a cartridge that can be mounted; and they may add
+-- volumes.
+abbrev pub script_command : Command
+script_command =
+    record (plain_command ((Word (codes "script") ∷ []) ∷ []) ScriptOutcome (λ text. (replies : List ℕ) × (text ≡ replies ++ end_line))) {
+      traits = record none_of_them { reads = true; lines = true; goes = true; memory = true; cartridge = true; mounts = true };
+      refused = script_refused;
+      fault = λ input line place. (items : List Item) × IsScript input items (AtFault line place);
+      needs = λ held input. IsSomeAnd held CanBeMounted
+          × ((items : List Item) × (IsScript input items AtEnd ⊎ IsScript input items AtStop));
+      keeps_volumes = λ c plain. ⊥;
+      keeps_list = λ c. ⊥;
+    }

@@ -6,14 +6,13 @@ use Rattle.cartridge_spec.specs.Header.{Header}
 use Rattle.cartridge_spec.specs.Mounting.{Lists}
 use Rattle.cartridge_spec.specs.Settling.{changed_by}
 use Rattle.cartridge_spec.specs.Table.{Entry}
-use Rattle.cartridge_spec.specs.Volumes.{Plain, entries_of, Stands}
-use Rattle.cartridge_spec.specs.Wear.{WearSpares}
+use Rattle.cartridge_spec.specs.Volumes.{Plain, entries_of, Stands, WearSpares}
 use Rattle.command_spec.specs.Input.{Item}
 use Rattle.command_spec.specs.Script.{Did, acts_of, cartridge_behind, entries_behind}
 use Rattle.command_spec.specs.declared.line.Line.{Line}
 use Rattle.qic_base.specs.Acts.{Act, steps_of, text_of}
 use Rattle.qic_base.specs.Cartridge.{Cartridge, IsPlace}
-use Rattle.qic_base.specs.Stop.{Torn}
+use Rattle.qic_base.specs.Step.{Torn}
 use Rattle.command_spec.specs.declared.line.Line.TheVariants as line
 
 -- ---- what items append

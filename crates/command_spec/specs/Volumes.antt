@@ -10,9 +10,8 @@ use Rattle.cartridge_spec.specs.Volumes.{Plain, Stands, Volume}
 use Rattle.command_spec.specs.Command.{Command}
 use Rattle.command_spec.specs.Commands.{command_of}
 use Rattle.command_spec.specs.Headline.{ToldNow}
-use Rattle.command_spec.specs.Machine.{Spells}
+use Rattle.command_spec.specs.Machine.{Spells, is_fault, fault_of}
 use Rattle.command_spec.specs.Restore.{FirstLost, pieces_in, LosesFew, bytes_held, piece_cells}
-use Rattle.command_spec.specs.Runs.{is_fault, fault_of}
 use Rattle.command_spec.specs.declared.status.Status.{Status}
 use Rattle.command_spec.specs.declared.words.Words.{Words}
 use Rattle.qic_base.specs.Acts.{Failing, TookFront}

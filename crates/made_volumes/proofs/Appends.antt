@@ -13,7 +13,7 @@ use Rattle.cartridge_spec.specs.Table.{Entry}
 use Rattle.drive_spec.specs.Terms.{is_protected}
 use Rattle.drive_states.specs.Unit.{UnitView}
 use Rattle.cartridge_spec.specs.Settling.{settling_steps}
-use Rattle.command_spec.specs.Generator.{made_length, made_bytes}
+use Rattle.command_spec.specs.Make.{made_length, made_bytes, AppendMade, made_name, Answer, Done, Protected, TableMismatch, Full, Lost, StepDoes, Runs, IsTableLost, made_answer}
 use Rattle.tape_script.specs.Generator.{made_means}
 use Rattle.volume_store.specs.declared.appended.Appended.{Appended}
 use Rattle.volume_store.specs.declared.fault.StoreFault.{StoreFault}
@@ -24,7 +24,6 @@ use Rattle.volume_store.specs.Mounting.{StoreView, StoreFits}
 use Rattle.volume_store.proofs.Copies.{IsLearnt, told_learnt, tells_two}
 use Rattle.made_volumes.specs.declared.fault.MakeFault.{MakeFault}
 use Rattle.made_volumes.specs.Faults.{is_of_step, fault_of}
-use Rattle.command_spec.specs.Make.{AppendMade, made_name, Answer, Done, Protected, TableMismatch, Full, Lost, StepDoes, Runs, IsTableLost, made_answer}
 use Rattle.made_volumes.specs.Runs.{HasRun, RunCut, RunEnds}
 use Rattle.command_laws.proofs.MadeMachineLaws.{run_of, done_of, never_lost}
 use Rattle.command_laws.proofs.MadeMadeBytes.{length-made_bytes}

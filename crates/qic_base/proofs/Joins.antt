@@ -6,8 +6,7 @@ use Rattle.qic_base.proofs.Writing.{TakesBoth, Wrote-Wrote}
 use Rattle.qic_base.specs.Acts.{Act, steps_of, text_of, Parted, WroteAndBroke, next_steps, Outside, TapeFails, SourceFails, SinkFails, Went, TapeCut, SinkCut, SourceCut, Cut}
 use Rattle.qic_base.specs.Cartridge.{Cartridge}
 use Rattle.qic_base.specs.JoinLaws.{NothingWent, WentBoth, WentThenCut, CutIsLonger}
-use Rattle.qic_base.specs.Step.{Step, effects}
-use Rattle.qic_base.specs.Stop.{Torn}
+use Rattle.qic_base.specs.Step.{Step, effects, Torn}
 use Rattle.qic_base.specs.Sink as sinks
 use Rattle.qic_base.specs.SinkCalls as sink_calls
 use Rattle.qic_base.specs.Source as sources

@@ -1,6 +1,6 @@
 -- What a call of a sink did, by its answer (this project's profile).
 use Rattle.std.specs.Prelude.{◌≡◌, ◌≢◌, ℕ, ◌≤◌, List, [], ◌++◌, length, take, Result, Ok, Err}
-use Rattle.qic_base.specs.Cause.{Rose}
+use Rattle.qic_base.specs.Tape.{Rose}
 use Rattle.qic_base.specs.Sink.{Meaning, Wrote}
 
 -- A write that answers n took the first n bytes, at least one; a failure took none.

@@ -1,13 +1,18 @@
--- A tape: the cartridge that it holds, its size as told, how often it failed, and what a stop may have left; and what
--- a call did to it (this project's profile).
-use Rattle.std.specs.Prelude.{◌≡◌, ℕ, ◌≤◌, ◌⊎◌, Bool, true, false, List, Option, Some, is_some}
+-- Why a call of the outside may fail: each object of the outside counts its own faults.
+use Rattle.std.specs.Prelude.{ℕ, ◌+◌, ◌-◌, ◌^◌, ◌≤◌, min, ◌≡◌, ◌⊎◌, Bool, true, false, List, Option, Some, is_some}
 use Rattle.std.specs.Option.{option_map}
 use Rattle.qic_base.specs.declared.tape.SectorView.{SectorView}
 use Rattle.qic_base.specs.declared.tape.SectorView.TheVariants.{Blank, Defect}
 use Rattle.qic_base.specs.Cartridge.{Cartridge}
-use Rattle.qic_base.specs.Cause.{Rose}
-use Rattle.qic_base.specs.Step.{Step, effects}
-use Rattle.qic_base.specs.Stop.{Torn}
+use Rattle.qic_base.specs.Step.{Step, effects, Torn}
+
+-- The count of faults rose, or stands at the greatest u64, where it can rise no more; a larger count is read as the
+-- greatest (this project's profile).
+abbrev pub Rose : ℕ → ℕ → Type 0
+Rose before now = min (before + 1) (2 ^ 64 - 1) ≤ now
+
+-- ---- A tape: the cartridge that it holds, its size as told, how often it failed, and what a stop may have left; and what
+-- a call did to it (this project's profile).
 
 -- All that a tape means to the code above it.
 pub record Meaning (S : Type 0) : Type 1 where

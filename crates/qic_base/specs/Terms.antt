@@ -4,10 +4,9 @@ use Rattle.qic_base.specs.declared.tape.SectorView.{SectorView}
 use Rattle.qic_base.specs.declared.tape.SectorView.TheVariants.{Blank, Defect, Lost, Holds}
 use Rattle.qic_base.specs.Acts.{Outside}
 use Rattle.qic_base.specs.Cartridge.{Cartridge, IsSector, IsLength}
-use Rattle.qic_base.specs.Cause.{Rose}
-use Rattle.qic_base.specs.Date.{low_part, IsDate, date_word}
-use Rattle.qic_base.specs.Step.{FormatSegment}
-use Rattle.qic_base.specs.Stop.{Halfway}
+use Rattle.qic_base.specs.Tape.{Rose}
+use Rattle.qic_base.specs.Field.{low_part, IsDate, date_word}
+use Rattle.qic_base.specs.Step.{FormatSegment, Halfway}
 use Rattle.qic_base.specs.Sink as sinks
 use Rattle.qic_base.specs.Source as sources
 

@@ -2,7 +2,7 @@
 
 ghost use Rattle.std.specs.Prelude.{◌≡◌, ◌<◌, ◌↔◌, IsTrue, length};
 ghost use Rattle.qic_base.specs.Terms.{IsLost};
-ghost use Rattle.qic_base.specs.LostSet.{lost_places};
+ghost use Rattle.qic_base.specs.Cartridge.{lost_places};
 
 use std::marker::Model;
 

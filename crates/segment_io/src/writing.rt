@@ -1,7 +1,7 @@
 //! A segment written.
 
 ghost use Rattle.std.specs.Prelude.{◌≡◌, ◌<◌, ◌≤◌, ◌+◌, ◌^◌, ◌++◌, [], ◌∷◌, length, drop, IsOkUnless, OnOk};
-ghost use Rattle.qic_base.specs.LostSet.{lost_places};
+ghost use Rattle.qic_base.specs.Cartridge.{lost_places};
 ghost use Rattle.qic_base.specs.Step.{WriteSector};
 ghost use Rattle.qic_base.specs.TapeCalls.{Does};
 ghost use Rattle.cartridge_spec.specs.Shape.{sector_at, data_count, usable_count};

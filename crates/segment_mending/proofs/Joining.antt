@@ -14,8 +14,7 @@ use Rattle.qic_base.specs.Terms.{no_source}
 use Rattle.qic_base.proofs.Joins.{steps_of-append, text_of-append, nothing_went, went_both, went_then_cut, cut_is_longer}
 use Rattle.cartridge_spec.specs.Settling.{changed_by}
 use Rattle.cartridge_laws.proofs.FormatWriting.{effects-some}
-use Rattle.command_spec.specs.Scrub.{Looked, Counts, unread_count}
-use Rattle.command_spec.specs.ScrubForms.{Finding, FindInTurn, finding_acts, lines_for, sayings_of}
+use Rattle.command_spec.specs.Scrub.{Looked, Counts, unread_count, Finding, FindInTurn, finding_acts, lines_for, sayings_of}
 use Rattle.command_spec.specs.declared.depth.Depth.{Depth}
 use Rattle.segment_io.proofs.Going.{tells_then}
 use Rattle.segment_mending.specs.declared.fault.ScrubFault.{ScrubFault}

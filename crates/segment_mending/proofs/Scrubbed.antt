@@ -7,9 +7,8 @@ use Rattle.qic_base.specs.Acts.{Act, steps_of, text_of, Outside, Failing, TapeFa
 use Rattle.qic_base.specs.Terms.{no_source, around}
 use Rattle.qic_base.proofs.Joins.{text_of-append, went_both, went_then_cut, cut_is_longer, sink_cut_one}
 use Rattle.cartridge_spec.specs.Table.{Entry}
-use Rattle.command_spec.specs.Scrub.{Looked, Counts, looked_at, unread_count, counts_line}
+use Rattle.command_spec.specs.Scrub.{Looked, Counts, looked_at, unread_count, counts_line, Finding, FindInTurn, ScrubsAs, IsTextFor, finding_acts, sayings_of}
 use Rattle.command_laws.specs.Terms.{last_act, counts_for}
-use Rattle.command_spec.specs.ScrubForms.{Finding, FindInTurn, ScrubsAs, IsTextFor, finding_acts, sayings_of}
 use Rattle.command_spec.specs.declared.depth.Depth.{Depth}
 use Rattle.command_laws.proofs.ScrubOneWrong.{form_is_function}
 use Rattle.segment_mending.specs.declared.fault.ScrubFault.{ScrubFault}

@@ -4,8 +4,7 @@ use Rattle.cartridge_spec.specs.Code.{IsCodeBlock}
 use Rattle.cartridge_spec.specs.Says.{Saying, Data, LostSectors, unreadable_count}
 use Rattle.cartridge_laws.specs.Terms.{data_of}
 use Rattle.cartridge_spec.specs.Shape.{usable_count}
-use Rattle.command_spec.specs.Scrub.{Looked, cells_at, reads}
-use Rattle.command_spec.specs.ScrubForms.{Finding, MayFind, without, wrong_line}
+use Rattle.command_spec.specs.Scrub.{Looked, cells_at, reads, Finding, MayFind, without, wrong_line}
 use Rattle.command_laws.specs.Terms.{Finds}
 use Rattle.command_spec.specs.declared.depth.Depth.{Depth}
 use Rattle.cartridge_laws.specs.Writes.{named_writes}

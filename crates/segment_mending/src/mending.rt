@@ -9,7 +9,7 @@ ghost use Rattle.cartridge_laws.specs.Terms.{sectors_of};
 ghost use Rattle.cartridge_laws.specs.Writes.{named_writes};
 ghost use Rattle.host_driver.specs.Calls.{IsReady, MayWrite, Keeps};
 ghost use Rattle.segment_io.specs.Calls.{HasSegment};
-ghost use Rattle.command_spec.specs.ScrubForms.{wrong_line};
+ghost use Rattle.command_spec.specs.Scrub.{wrong_line};
 ghost use Rattle.segment_mending.specs.Locating.{mending, GoesAs};
 ghost use Rattle.segment_mending.specs.Looking.{HasFew, with_mended, with_unread};
 ghost use Rattle.segment_mending.specs.Mending.{reported};

@@ -26,7 +26,7 @@ use Rattle.command_spec.specs.Append.{Kept, Taking, Fits, TooLong, TooShort, ent
 use Rattle.command_laws.specs.CommandTerms.{entry_for, silently, append_status, Appends, bytes_taken, CommandPrints, FrontPrints}
 use Rattle.command_spec.specs.Lines.{reply_behind, appended_line}
 use Rattle.command_spec.specs.Outcome.{CommandOutcome, refused, refused_behind}
-use Rattle.command_spec.specs.Runs.{NamesFault, may_come_from, InputLeft, CommandEnds, IsOfBytes, IsCutOff}
+use Rattle.command_spec.specs.Machine.{NamesFault, may_come_from, InputLeft, CommandEnds, IsOfBytes, IsCutOff}
 use Rattle.command_spec.specs.declared.status.Status.{Status}
 use Rattle.drive_spec.specs.Terms.{is_protected}
 use Rattle.drive_states.specs.Unit.{UnitView}
@@ -36,8 +36,7 @@ use Rattle.qic_base.proofs.Writing.{TakesBoth}
 use Rattle.qic_base.specs.Acts.{steps_of, Act, text_of, next_steps, Failing, TapeFails, SourceFails, SinkFails, Went, Cut, TapeCut, SourceCut, SinkCut}
 use Rattle.qic_base.specs.Terms.{no_sink, reading}
 use Rattle.qic_base.specs.Cartridge.{Cartridge}
-use Rattle.qic_base.specs.Step.{Step as TapeStep, effects}
-use Rattle.qic_base.specs.Stop.{Torn}
+use Rattle.qic_base.specs.Step.{Step as TapeStep, effects, Torn}
 use Rattle.qic_base.specs.declared.sink.SinkFailed.{SinkFailed}
 use Rattle.tape_cmd.proofs.Endings.{told_map}
 use Rattle.tape_cmd.proofs.Mounted.{Settles, told_both, locked_is, unlocked_refused_is, writable_begins}

@@ -4,12 +4,12 @@ use Rattle.std.specs.Option.{option_map}
 use Rattle.command_laws.proofs.CommandEndings.{Rules, appends_none, any_input, nothing_front, text_front, none_printed}
 use Rattle.command_laws.proofs.CommandTable.{plain_is_function}
 use Rattle.command_spec.specs.Commands.{traits_of}
-use Rattle.command_spec.specs.Commands.Single.{DefectOutcome, LoseOutcome}
+use Rattle.command_spec.specs.Single.{DefectOutcome, LoseOutcome}
 use Rattle.command_spec.specs.Lines.{protected_line, lost_line, defect_line, upgraded_line}
 use Rattle.command_laws.specs.CommandTerms.{Yields, CommandPrints}
 use Rattle.command_spec.specs.Outcome.{CommandOutcome, refused, refused_behind, acted, carried_out}
 use Rattle.command_laws.specs.Terms.{ProtectOutcome, UpgradeOutcome}
-use Rattle.command_spec.specs.Runs.{InputLeft, IsOfBytes, may_come_from, IsCutOff, EndsBlind}
+use Rattle.command_spec.specs.Machine.{InputLeft, IsOfBytes, may_come_from, IsCutOff, EndsBlind}
 use Rattle.command_spec.specs.declared.status.Status.{Status}
 use Rattle.command_spec.specs.declared.words.Words.{Words}
 use Rattle.qic_base.proofs.Joins.{broke_first}

@@ -31,7 +31,7 @@ use Rattle.store_opening.specs.Opening.{IsOpened, HasOpened, IsTurnedDown, OpenF
 use Rattle.store_opening.specs.declared.opening.OpenFault.{OpenFault}
 use Rattle.command_laws.specs.CommandTerms.{CommandPrints}
 use Rattle.tape_cmd.specs.Writing.{printed_status}
-use Rattle.command_spec.specs.Runs.{EndsBlind, may_come_from}
+use Rattle.command_spec.specs.Machine.{EndsBlind, may_come_from}
 use Rattle.tape_cmd.proofs.Endings.{IsBlind, printed, turned_down, cut_off, told_map}
 use Rattle.command_laws.proofs.CommandEndings.{Rules}
 use Rattle.store_opening.proofs.Started.{Present, Knows, told_known_beside, told_at_start}

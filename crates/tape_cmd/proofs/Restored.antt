@@ -24,7 +24,7 @@ use Rattle.command_spec.specs.Outcome.{Opened, CommandOutcome, refused_behind}
 use Rattle.tape_cmd.specs.Opening.{OpeningEnds, is_opening, store_status}
 use Rattle.store_opening.specs.Opening.{IsOpened, HasOpened}
 use Rattle.tape_cmd.specs.Outcome.{first_steps}
-use Rattle.command_spec.specs.Runs.{EndsBlind, IsCutOff, fault_of, may_come_from}
+use Rattle.command_spec.specs.Machine.{EndsBlind, IsCutOff, fault_of, may_come_from}
 use Rattle.command_laws.specs.Terms.{is_no_volume}
 use Rattle.tape_cmd.proofs.Endings.{none_taken, turned_behind, told_map}
 use Rattle.tape_cmd.proofs.Mounted.{Follows, Settles, opened_is, refuses}

@@ -20,7 +20,7 @@ use Rattle.command_spec.specs.declared.status.Status.{Status}
 use Rattle.command_spec.specs.declared.status.Status.TheVariants as status
 use Rattle.command_spec.specs.Outcome.{CommandOutcome}
 use Rattle.command_spec.specs.Pulses.{SentOutcome, AreLevels}
-use Rattle.command_spec.specs.Runs.{InputLeft, fault_of, may_come_from, NamesFault, IsOfBytes, IsCutOff, CommandEnds}
+use Rattle.command_spec.specs.Machine.{InputLeft, fault_of, may_come_from, NamesFault, IsOfBytes, IsCutOff, CommandEnds}
 
 -- ---- the fault of an input
 

@@ -1,6 +1,6 @@
 -- How a run of the program ends (this project's own).
 use Rattle.std.specs.Prelude.{◌≡◌, ◌≢◌, ◌⊎◌, ℕ, List, [], replicate, Option, Some, None, IfSome, Result, Ok, Err}
-use Rattle.qic_base.specs.Cause.{Rose}
+use Rattle.qic_base.specs.Tape.{Rose}
 use Rattle.qic_base.specs.Disk as disks
 use Rattle.qic_base.specs.Disk.{Look}
 use Rattle.qic_base.specs.Sink as sinks

@@ -1,6 +1,6 @@
 -- What one line of the input did to the outside (this project's own).
 use Rattle.std.specs.Prelude.{◌≡◌, ℕ, ◌<◌, ◌≤◌, [], ◌∷◌, length, Option, Some, None, Result, Ok, Err, codes}
-use Rattle.qic_base.specs.Cause.{Rose}
+use Rattle.qic_base.specs.Tape.{Rose}
 use Rattle.qic_base.specs.Acts.{Outside, TapeFails, SourceFails, SinkFails, Went, Cut}
 use Rattle.drive_spec.specs.Record.{Record}
 use Rattle.command_spec.specs.Input.{IsPulse}

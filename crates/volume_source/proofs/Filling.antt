@@ -12,9 +12,8 @@ use Rattle.command_spec.specs.Restore.{Piece, LostIn, MismatchIn, PieceEnds, pie
 use Rattle.drive_states.specs.Unit.{UnitView}
 use Rattle.qic_base.proofs.Steps.{Done-told, Broke-told, Tells-map}
 use Rattle.qic_base.specs.Cartridge.{Cartridge}
-use Rattle.qic_base.specs.Cause.{Rose}
+use Rattle.qic_base.specs.Tape.{Rose, Meaning, Done, Broke, Stops}
 use Rattle.qic_base.specs.SourceCalls.{HasEnded}
-use Rattle.qic_base.specs.Tape.{Meaning, Done, Broke, Stops}
 use Rattle.qic_base.specs.TapeCalls.{Tells}
 use Rattle.segment_io.proofs.Going.{done_moved}
 use Rattle.volume_output.specs.Part.{ReadsPiece}

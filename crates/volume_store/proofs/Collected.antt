@@ -7,7 +7,7 @@ use Rattle.std.proofs.lemmas.List.{length-append, length-drop, length-take-le, t
 use Rattle.std.proofs.lemmas.Nat.{one_shl}
 use Rattle.std.proofs.lemmas.Nat.Bits.{bit_at-pow_same, bit_at-pow_other}
 use Rattle.qic_base.specs.Terms.{IsLost}
-use Rattle.qic_base.specs.LostSet.{lost_places}
+use Rattle.qic_base.specs.Cartridge.{lost_places}
 use Rattle.qic_base.specs.declared.tape.SectorView.{SectorView}
 use Rattle.qic_base.specs.declared.tape.SectorView.TheVariants.{Holds}
 use Rattle.cartridge_spec.specs.Code.{IsCodeBlock}

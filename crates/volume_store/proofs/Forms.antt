@@ -4,9 +4,8 @@ use Rattle.cartridge_spec.specs.Says.{Saying}
 use Rattle.cartridge_spec.specs.Settling.{changed_by}
 use Rattle.cartridge_spec.specs.Table.{Entry}
 use Rattle.command_laws.proofs.ScrubForms.{found_may_be, shallow_is_scrub}
-use Rattle.command_spec.specs.Scrub.{Looked, Counts, SayInTurn, Scrubs, IsScrubText, looked_at, steps_in, line_in, looking_acts, lines_of, unread_count, counts_line}
+use Rattle.command_spec.specs.Scrub.{Looked, Counts, SayInTurn, Scrubs, IsScrubText, looked_at, steps_in, line_in, looking_acts, lines_of, unread_count, counts_line, Finding, FindInTurn, MayFind, MayBeFound, ScrubsAs, IsTextFor, finding_acts, lines_for, sayings_of}
 use Rattle.command_laws.specs.Terms.{counts_of, last_act, look_act, counts_for}
-use Rattle.command_spec.specs.ScrubForms.{Finding, FindInTurn, MayFind, MayBeFound, ScrubsAs, IsTextFor, finding_acts, lines_for, sayings_of}
 use Rattle.command_spec.specs.declared.depth.Depth.TheVariants.{Shallow}
 use Rattle.qic_base.proofs.Steps.{Tells-map}
 use Rattle.qic_base.specs.Acts.{Act, steps_of, text_of, Outside, Failing, TapeFails, SinkFails, Cut}

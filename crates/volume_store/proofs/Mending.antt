@@ -6,7 +6,7 @@ use Rattle.std.proofs.lemmas.List.{map-append, length-take-le, take_at}
 use Rattle.cartridge_spec.specs.Code.{parity_sectors}
 use Rattle.std.proofs.lemmas.List.Elements.{filter-append}
 use Rattle.std.proofs.lemmas.List.FromFn.{get_or-range_with_len}
-use Rattle.qic_base.specs.LostSet.{lost_places}
+use Rattle.qic_base.specs.Cartridge.{lost_places}
 use Rattle.erasure_solve.specs.Lost.{is_lost}
 use Rattle.cartridge_spec.specs.Shape.{sector_at, usable_places}
 use Rattle.cartridge_spec.specs.Says.{whole_mask}

@@ -4,8 +4,7 @@ use Rattle.std.specs.Option.{option_map}
 use Rattle.std.proofs.lemmas.List.Elements.{All-take}
 use Rattle.cartridge_laws.specs.Terms.{HasList, data_of}
 use Rattle.qic_base.specs.Cartridge.{Cartridge, IsSector}
-use Rattle.qic_base.specs.Step.{effects}
-use Rattle.qic_base.specs.Stop.{Torn}
+use Rattle.qic_base.specs.Step.{effects, Torn}
 use Rattle.qic_base.specs.Tape.{Meaning}
 use Rattle.qic_base.specs.TapeCalls.{Tells, IsToldRight}
 use Rattle.qic_base.specs.declared.tape.SectorView.{SectorView}
@@ -26,8 +25,7 @@ use Rattle.host_driver.specs.Fits.{Fits, AgreesWithTape, segments_of}
 use Rattle.command_laws.specs.ScrubFound.{without_all}
 use Rattle.command_laws.specs.ScrubMended.{IsBeingMended}
 use Rattle.command_laws.specs.ScrubSayings.{Rise}
-use Rattle.command_spec.specs.Scrub.{Looked, whole_segment, looked_at}
-use Rattle.command_spec.specs.ScrubForms.{Finding, ScrubsAs}
+use Rattle.command_spec.specs.Scrub.{Looked, whole_segment, looked_at, Finding, ScrubsAs}
 use Rattle.command_laws.specs.Terms.{counts_for}
 use Rattle.command_spec.specs.declared.depth.Depth.{Depth}
 use Rattle.command_laws.proofs.ScrubBeside.{not_the_table}

@@ -4,8 +4,7 @@ use Rattle.std.specs.List.{slice_get}
 use Rattle.std.proofs.lemmas.Nat.Bits.{bit_at-zero}
 use Rattle.std.proofs.lemmas.List.{get_or-take, take_all}
 use Rattle.std.proofs.lemmas.Option.{slice_get-get_or, slice_get_within}
-use Rattle.qic_base.specs.Cartridge.{Cartridge}
-use Rattle.qic_base.specs.LostSet.{lost_places}
+use Rattle.qic_base.specs.Cartridge.{Cartridge, lost_places}
 use Rattle.qic_base.specs.Terms.{IsLost}
 use Rattle.qic_base.specs.Tape.{Meaning}
 use Rattle.qic_base.specs.TapeCalls.{Tells}

@@ -18,7 +18,7 @@ use Rattle.qic_base.proofs.Giving.{Gave-nothing, Gave-Gave, Gave-end}
 use Rattle.qic_base.proofs.Steps.{Done-nothing, Rose-after}
 use Rattle.qic_base.specs.Acts.{Act, Outside, Failing, Went, Cut, SourceFails}
 use Rattle.qic_base.specs.Terms.{no_sink, reading}
-use Rattle.qic_base.specs.Cause.{Rose}
+use Rattle.qic_base.specs.Tape.{Rose}
 use Rattle.qic_base.specs.SourceCalls.{Gave, HasEnded}
 use Rattle.tape_script.specs.Reading.{Skips}
 use Rattle.volume_input.proofs.Inputs.{left_of, whole_told, still_tells, none_left}

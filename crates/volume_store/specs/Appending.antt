@@ -10,7 +10,7 @@ use Rattle.command_laws.specs.CommandTerms.{kept_in, entry_for, bytes_taken, sil
 use Rattle.qic_base.specs.Acts.{Outside, Went, Failing, Cut, TapeFails, SourceFails, Act}
 use Rattle.qic_base.specs.Terms.{no_sink}
 use Rattle.qic_base.specs.Cartridge.{Cartridge}
-use Rattle.qic_base.specs.Cause.{Rose}
+use Rattle.qic_base.specs.Tape.{Rose}
 use Rattle.qic_base.specs.Step.{Step}
 use Rattle.tape_script.specs.Reading.{Skips}
 use Rattle.volume_input.specs.declared.written.Written.{Written}

@@ -2,7 +2,7 @@
 
 ghost use Rattle.std.specs.Prelude.{◌≡◌, ◌≢◌, ◌<◌, ◌≤◌, ◌↔◌, ◌++◌, ℕ, List, Some, true, length, take, drop, IfOk, IfSome, IsOkUnless};
 ghost use Rattle.qic_base.specs.Terms.{IsLost};
-ghost use Rattle.qic_base.specs.LostSet.{lost_places};
+ghost use Rattle.qic_base.specs.Cartridge.{lost_places};
 ghost use Rattle.qic_base.specs.TapeCalls.{Tells};
 ghost use Rattle.qic_base.specs.declared.tape.SectorView.{SectorView};
 ghost use Rattle.cartridge_spec.specs.HeaderAndTable.{table_cells};

@@ -2,7 +2,7 @@
 -- project's profile).
 use Rattle.std.specs.Prelude.{◌≡◌, ℕ, ◌-◌, ◌^◌, ◌<◌, ◌++◌, true, List, [], ◌∷◌, Option, None, Some, length, replicate, bit_or}
 use Rattle.qic_base.specs.Terms.{IsLost}
-use Rattle.qic_base.specs.LostSet.{lost_places}
+use Rattle.qic_base.specs.Cartridge.{lost_places}
 use Rattle.cartridge_spec.specs.Shape.{sector_at}
 use Rattle.cartridge_laws.specs.Terms.{has_used_slot}
 use Rattle.cartridge_spec.specs.Says.{sets_by}

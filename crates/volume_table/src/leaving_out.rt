@@ -2,7 +2,7 @@
 //! block agrees with the readable ones (this project's profile).
 
 ghost use Rattle.std.specs.Prelude.{◌≡◌, ◌<◌, ◌≤◌, ◌↔◌, ◌+◌, ◌++◌, ℕ, List, length, map, slice_get, unwrap_or, IfSome};
-ghost use Rattle.qic_base.specs.LostSet.{lost_places};
+ghost use Rattle.qic_base.specs.Cartridge.{lost_places};
 ghost use Rattle.qic_base.specs.declared.tape.SectorView.TheVariants.{Holds, Lost};
 ghost use Rattle.cartridge_laws.specs.Terms.{hidden, has_used_slot, last_used};
 ghost use Rattle.cartridge_laws.specs.Says.{LosesData};

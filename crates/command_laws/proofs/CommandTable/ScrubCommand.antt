@@ -13,10 +13,9 @@ use Rattle.command_laws.proofs.CommandUnread.{writable_unread}
 use Rattle.command_laws.proofs.CommandWhole.{mends_whole, some_whole}
 use Rattle.command_laws.proofs.TextCommands.{only, one_word, spelled_length, IsRead, Reading, named}
 use Rattle.command_laws.specs.CommandRecord.{CommandLaws}
-use Rattle.command_spec.specs.CommandWords.{HasForm}
-use Rattle.command_spec.specs.Command.{IsUnprotected, CanBeMounted}
+use Rattle.command_spec.specs.Command.{HasForm, IsUnprotected, CanBeMounted}
 use Rattle.command_laws.specs.Terms.{Mends, ScrubOutcome}
-use Rattle.command_spec.specs.Commands.ScrubCommand.{scrub_command}
+use Rattle.command_spec.specs.Scrub.{scrub_command}
 use Rattle.qic_base.specs.Terms.{IsCartridge}
 use Rattle.command_spec.specs.declared.words.Words.{Words}
 use Rattle.command_spec.specs.declared.status.Status.TheVariants as status

@@ -1,6 +1,6 @@
 use Rattle.std.proofs.Common.{◌≡◌, ℕ, ◌+◌, ◌≤◌, List, [], ◌∷◌, length, refl, ap, subst, sym, ◌∙◌, arith}
 use Rattle.qic_base.specs.Terms.{IsLost}
-use Rattle.qic_base.specs.LostSet.{lost_places}
+use Rattle.qic_base.specs.Cartridge.{lost_places}
 use Rattle.qic_base.specs.Step.{Step, WriteSector}
 use Rattle.qic_base.specs.TapeCalls.{Does}
 use Rattle.cartridge_spec.specs.Shape.{sector_at}

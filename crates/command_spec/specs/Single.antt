@@ -4,9 +4,8 @@ use Rattle.cartridge_spec.specs.Formatting.{HasNoHeader, clearing_steps, format_
 use Rattle.cartridge_spec.specs.Header.{Header}
 use Rattle.cartridge_spec.specs.Shape.{marked_sectors}
 use Rattle.cartridge_spec.specs.Table.{Entry}
-use Rattle.cartridge_spec.specs.Wear.{WearSpares}
-use Rattle.command_spec.specs.Command.{Command, plain_command, IsUnprotected, CanBeMounted, none_of_them}
-use Rattle.command_spec.specs.CommandWords.{Word, Number, AnyNumber, Name, dated}
+use Rattle.cartridge_spec.specs.Volumes.{WearSpares}
+use Rattle.command_spec.specs.Command.{Command, plain_command, IsUnprotected, CanBeMounted, none_of_them, Word, Number, AnyNumber, Name, dated}
 use Rattle.command_spec.specs.Lines.{blank_line, defect_line, lost_line, protected_line, upgraded_line, formatted_line, info_text, list_text}
 use Rattle.command_spec.specs.Outcome.{carried_out, CommandOutcome, refused, refused_behind, HasPlace, StepOutcome, acted, Shows, OpenOutcome}
 use Rattle.qic_base.specs.Cartridge.{IsLength, Cartridge, view_at}
