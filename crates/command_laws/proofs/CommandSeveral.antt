@@ -638,7 +638,7 @@ module _ (told : Option (List ℕ)) (words : List (List ℕ)) (c : Cartridge) (p
           (at.is ∙ effects-some (steps_of at.front ++ at.act.steps) (settled plain.table_area c)) (omega arith) (omega arith)
 
 -- what is left by words of a script
-some_scripted : (told : Option (List ℕ)) (words : List (List ℕ)) (held left : Option Cartridge) → IfSome held IsCartridge → WordsLeave told words held left → SomeScripted told words held left
+pub some_scripted : (told : Option (List ℕ)) (words : List (List ℕ)) (held left : Option Cartridge) → IfSome held IsCartridge → WordsLeave told words held left → SomeScripted told words held left
 some_scripted told words held left whole (inl same) c plain is script live count spares =
     inr (0, omega arith, some_and (λ d. Stands d plain) c left script.stands (same ∙ is))
 some_scripted told words held left whole (inr (command, spelled, leaves)) c plain is script live count spares =

@@ -70,7 +70,7 @@ left_by told words command c plain left values whole spelled leaves stood live =
   as_other : (other : Words) → Spells words other → StopLeaves told other (Some c) left
   as_other other spells = subst (λ (w : Words). StopLeaves told w (Some c) left) (one_command words command other spelled spells) leaves
 
-stopped_comes_back : (told : Option (List ℕ)) (words : List (List ℕ)) (held left : Option Cartridge) → ((command : Words) → Spells words command → HasValues command) →
+pub stopped_comes_back : (told : Option (List ℕ)) (words : List (List ℕ)) (held left : Option Cartridge) → ((command : Words) → Spells words command → HasValues command) →
     IfSome held IsCartridge → WordsLeave told words held left → StoppedComesBack told words held left
 stopped_comes_back told words held left values whole (inl same) c plain is stood live = untouched told words c plain left (same ∙ is)
 stopped_comes_back told words held left values whole (inr (command, spelled, leaves)) c plain is stood live =

@@ -1,6 +1,6 @@
 //! What follows of the promises of a run and is no clause of them. Each is the contract of a function that does nothing.
 
-ghost use Rattle.command_laws.specs.PromiseLaws.{AnswersWhereNoneRose, DeepScrubRunMends};
+ghost use Rattle.command_laws.specs.PromiseLaws.{AnswersWhereNoneRose, DeepScrubRunMends, ScriptsUntold};
 ghost use Rattle.command_laws.specs.ReadableLaws.{FormattedCanBeRead, RunsKeepReadable};
 
 use qic_base::{Sink, Source, Tape};
@@ -25,4 +25,9 @@ pub fn a_formatted_table_can_be_read<T: Tape, S: Source, K: Sink>()
 /// cartridge.
 pub fn a_run_leaves_the_table_readable<T: Tape, S: Source, K: Sink>()
     ensures { RunsKeepReadable T.means S.means K.means }
+{}
+
+/// What a script leaves over a source that tells nothing is what one leaves over some input.
+pub fn a_script_over_nothing_told<T: Tape, S: Source, K: Sink>()
+    ensures { ScriptsUntold T.means S.means K.means }
 {}
