@@ -11,7 +11,8 @@ use Rattle.command_spec.specs.OneLoss.{StoppedComesBack}
 use Rattle.command_spec.specs.Several.{SomeScripted}
 use Rattle.command_spec.specs.Machine.{is_fault, fault_of}
 use Rattle.command_spec.specs.declared.status.Status.{Status}
-use Rattle.qic_base.specs.Cartridge.{Cartridge, IsCartridge}
+use Rattle.qic_base.specs.Cartridge.{Cartridge}
+use Rattle.qic_base.specs.Terms.{IsCartridge}
 use Rattle.qic_base.specs.Acts.{Outside, Failing, TapeFails, SourceFails, SinkFails, FailingRose}
 use Rattle.command_spec.specs.declared.status.Status.TheVariants as status
 use Rattle.qic_base.specs.Sink as sinks
