@@ -166,7 +166,7 @@ sectors-put rows r j v h hv all =
     All-set IsSector rows r (set (get_or rows r []) j v)
     (record {
       size = length-set (get_or rows r []) j v ∙ row.size;
-      each = All-set (λ b. b < 256) (get_or rows r []) j v hv row.bytes;
+      each = All-set (λ b. b < 256) (get_or rows r []) j v hv row.each;
     })
     all
 
