@@ -1,5 +1,5 @@
 -- How an append ended, by what its stages did.
-use Rattle.std.proofs.Common.{ℕ, ◌+◌, List, ◌++◌, ap, ◌∙◌, ◌≡◌, ◌-◌, Option, Some, None, IfSome, subst, inl, inr, length, sym, arith, drop, refl, Result, ◌<◌, false, [], ◌∷◌, Err, append-nil}
+use Rattle.std.proofs.Common.{ℕ, List, ◌++◌, ap, ◌∙◌, ◌≡◌, ◌-◌, Option, Some, None, IfSome, subst, inl, inr, length, sym, arith, drop, refl, Result, ◌<◌, false, [], ◌∷◌, Err, append-nil}
 use Rattle.std.specs.Option.{option_map}
 use Rattle.std.specs.Prelude.{is_some, slice_index}
 use Rattle.std.proofs.lemmas.List.{length-append}

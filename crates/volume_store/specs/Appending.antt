@@ -150,12 +150,12 @@ pub record KeepsFormat (store after : StoreView) : Type 0 where
 
 -- ---- in which order
 
--- There is room for as many bytes as are promised. With nothing promised the source is asked also where there is no room, for how
--- many bytes it has.
+-- There is room for as many bytes as are promised. With nothing promised the source is asked for one byte where there
+-- is no room, too.
 abbrev pub HasRoomFor : (words : List ℕ) → (entries : List Entry) → (promised : Option ℕ) → Type 0
 HasRoomFor words entries promised = IfSome promised (λ n. has_promised_room (room_in (kept_in words entries)) (Some n) ≡ true)
 
--- so an input was taken that so many bytes are promised of: the answer is full, and the source as it was, or there is room
+-- so an input was taken of which so many bytes are promised: it is Full, and the source as it was; or there is room
 abbrev pub AskedFor : {S : Type 0} (words : List ℕ) (entries : List Entry) (n : ℕ) (old new : S) → Result Written StoreFault → Type 0
 AskedFor words entries n old new (Err (fault.Full need have)) = new ≡ old
 AskedFor words entries n old new answer = HasRoomFor words entries (Some n)
@@ -192,8 +192,8 @@ pub record HasGivenAll {S : Type 0} (s : sources.Meaning S) (old new : S) (store
   pub took : taking (room_in (kept_in store.words store.entries)) promised input ≡ Fits bytes
   pub left : s.left new ≡ option_map (drop (length bytes)) (s.left old)
 
--- Where a promise has no room the source is as it was; a fault of the source, which was asked, came before any write of the entry,
--- and one of the tape too, or behind the last byte of the source.
+-- Where a promise has no room the source is as it was. A fault of the source, which was asked, came before any write of
+-- the entry; one of the tape did, or it came once the source had given all bytes.
 abbrev pub ListsLast : {T S : Type 0} (t : tapes.Meaning T) (s : sources.Meaning S) (old new : Outside T S (Unit {0})) (store : StoreView) (promised : Option ℕ) → Result Appended StoreFault → Type 0
 ListsLast t s old new store promised (Err (fault.Full need have)) = IfSome promised (λ n. new.source ≡ old.source)
 ListsLast t s old new store promised (Err fault.Source) = MayAsk t old.tape store promised × CutBeforeEntry t s old new store promised SourceFails
@@ -202,7 +202,8 @@ ListsLast t s old new store promised (Err fault.Tape) =
     ⊎ (MayAsk t old.tape store promised × HasGivenAll s old.source new.source store promised)
 ListsLast t s old new store promised answer = Unit {0}
 
--- The source was asked only once the table was read and had room, and the entry written only once the source had given all bytes.
+-- The source was asked only once the table was read and there was room, and the entry written only once the source had
+-- given all bytes.
 pub record InOrder {T S : Type 0} (t : tapes.Meaning T) (s : sources.Meaning S) (old new : Outside T S (Unit {0})) (store : StoreView) (promised : Option ℕ) (answer : Result Appended StoreFault) : Type 0 where
   pub asks : AsksInRoom t old new store promised
   pub entry : ListsLast t s old new store promised answer
