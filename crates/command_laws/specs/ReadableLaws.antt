@@ -1,6 +1,8 @@
 -- That a volume table can be read goes on from run to run, by what the promises of a run say, as facts (this project's
 -- own).
 use Rattle.std.specs.Prelude.{◌≡◌, ◌⊎◌, ℕ, List, Option, Some, IsSomeAnd, false}
+use Rattle.cartridge_spec.specs.Formatting.{HasNoHeader}
+use Rattle.cartridge_spec.specs.HeaderAndTable.{IsUnformatted}
 use Rattle.cartridge_spec.specs.Mounting.{CanBeRead, IsTableLive}
 use Rattle.cartridge_spec.specs.Volumes.{Plain}
 use Rattle.command_spec.specs.Command.{ReadsAs}
@@ -61,3 +63,11 @@ FormattedCanBeRead {T} {S} {K} t s k =
     (words : List (List ℕ)) (old new : Outside T S K) (answer : Status) (label : List ℕ) (date : ℕ) (c : Cartridge) →
     Promises t s k words old new answer → Spells words (commands.Format label date) → answer ≡ status.Done →
     t.told old.tape ≡ Some (Some c) → IsCartridge c → ToldNow t new.tape (λ left. IsSomeAnd left CanBeRead)
+
+-- what one that was stopped leaves is unformatted, or can be read
+abbrev pub FormatsLeaveReadable : {T S K : Type 0} → tapes.Meaning T → sources.Meaning S → sinks.Meaning K → Type 0
+FormatsLeaveReadable {T} {S} {K} t s k =
+    (words : List (List ℕ)) (old new : Outside T S K) (answer : Status) → Promises t s k words old new answer →
+    EachLeft t old.tape new.tape (λ held left. (label : List ℕ) (date : ℕ) (c : Cartridge) →
+    Spells words (commands.Format label date) → held ≡ Some c → IsCartridge c → CanBeRead c ⊎ HasNoHeader c →
+    IsSomeAnd left (λ d. IsUnformatted d ⊎ CanBeRead d))

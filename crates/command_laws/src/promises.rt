@@ -1,7 +1,7 @@
 //! What follows of the promises of a run and is no clause of them. Each is the contract of a function that does nothing.
 
 ghost use Rattle.command_laws.specs.PromiseLaws.{AnswersWhereNoneRose, DeepScrubRunMends, ScriptsUntold};
-ghost use Rattle.command_laws.specs.ReadableLaws.{FormattedCanBeRead, RunsKeepReadable};
+ghost use Rattle.command_laws.specs.ReadableLaws.{FormatsLeaveReadable, FormattedCanBeRead, RunsKeepReadable};
 
 use qic_base::{Sink, Source, Tape};
 
@@ -15,9 +15,11 @@ pub fn a_run_that_scrubs_deep_mends<T: Tape, S: Source, K: Sink>()
     ensures { DeepScrubRunMends T.means S.means K.means }
 {}
 
-/// Behind a formatting that was carried out the volume table can be read.
+/// Behind a formatting that was carried out the volume table can be read; and what one leaves that was stopped is
+/// unformatted or can be read.
 pub fn a_formatted_table_can_be_read<T: Tape, S: Source, K: Sink>()
-    ensures { FormattedCanBeRead T.means S.means K.means }
+    ensures done { FormattedCanBeRead T.means S.means K.means }
+    ensures stopped { FormatsLeaveReadable T.means S.means K.means }
 {}
 
 /// Where the volume table can be read, and each sector of its segment takes a write, it can be read in each cartridge
