@@ -1,6 +1,6 @@
 -- What the header copies of a cartridge are found to be, and how calls that only read join.
 use Rattle.std.proofs.Common.{◌≡◌, ℕ, ◌*◌, Bool, true, false, List, [], length, take, Option, Some, None, IfSome, IsSomeAnd, IfOk, Result, Ok, Err, sym, ap, ◌∙◌, subst, inl, inr, arith}
-use Rattle.std.specs.Option.{option_map, option_map_or}
+use Rattle.std.specs.Option.{option_map_or}
 use Rattle.qic_base.specs.Cartridge.{Cartridge}
 use Rattle.qic_base.specs.Step.{Step}
 use Rattle.qic_base.specs.Tape.{Meaning, Done, Tells}
@@ -10,7 +10,7 @@ use Rattle.drive_states.specs.Unit.{UnitView}
 use Rattle.host_driver.specs.declared.host.Host.{Host}
 use Rattle.host_driver.specs.Fits.{Fits, AgreesWithTape, segments_of, deck_of}
 use Rattle.qic_base.proofs.Steps.{Done-after_reads, Broke-after_reads}
-use Rattle.cartridge_spec.specs.Header.{HeaderFault, number, header_fault, has_signature, number_in}
+use Rattle.cartridge_spec.specs.Header.{number, header_fault, has_signature, number_in}
 use Rattle.cartridge_spec.specs.Says.{Saying, Says, Data}
 use Rattle.cartridge_spec.specs.HeaderAndTable.{copy_cells, CopyReads, CopyDoesNotRead, IsInForce}
 use Rattle.cartridge_laws.proofs.Sayings.{says_is_function}
@@ -18,7 +18,6 @@ use Rattle.cartridge_laws.proofs.Segments.{length-whole_cells}
 use Rattle.header_segments.specs.declared.header.Header.{Header}
 use Rattle.header_segments.specs.Header.{header_of}
 use Rattle.cartridge_laws.specs.HeaderLaws.{AreTaken}
-use Rattle.header_segments.specs.Refusal.{refusal, foreign}
 use Rattle.cartridge_laws.proofs.HeaderRefusals.{fault-segments, length-words_in}
 use Rattle.segment_io.specs.Reading.{HasSolved}
 use Rattle.volume_store.specs.declared.fault.StoreFault.{StoreFault}

@@ -1,5 +1,5 @@
 -- How an append ended, by what its stages did.
-use Rattle.std.proofs.Common.{ℕ, ◌+◌, List, ◌++◌, ap, ◌∙◌, ◌≡◌, ◌-◌, Option, Some, None, IfSome, subst, inl, inr, length, sym, arith, drop, refl, Result, ◌<◌, false, [], ◌∷◌, Err, append-nil}
+use Rattle.std.proofs.Common.{ℕ, List, ◌++◌, ap, ◌∙◌, ◌≡◌, ◌-◌, Option, Some, None, IfSome, subst, inl, inr, length, sym, arith, drop, refl, Result, ◌<◌, false, [], ◌∷◌, Err, append-nil}
 use Rattle.std.specs.Option.{option_map}
 use Rattle.std.specs.Prelude.{is_some, slice_index}
 use Rattle.std.proofs.lemmas.List.{length-append}
@@ -46,7 +46,7 @@ use Rattle.qic_base.specs.Tape as tapes
 use Rattle.qic_base.specs.Source as sources
 use Rattle.volume_store.specs.declared.fault.StoreFault.TheVariants as fault
 
-no_text : TakesBoth no_sink
+pub no_text : TakesBoth no_sink
 no_text a b c xs ys first next = ap (λ (l : List ℕ). l ++ ys) first ∙ next
 
 -- ---- a told cartridge
@@ -105,15 +105,16 @@ answered T S t s old new view store after name date promised end r same is ends 
     subst (λ (v : StoreView). AppendEnds t s old new v after name date promised r) same
     (subst (λ (answer : Result Appended StoreFault). AppendEnds t s old new view after name date promised answer) (sym is) ends)
 
-module _ {T S : Type 0} (t : tapes.Meaning T) (s : sources.Meaning S) (store after : StoreView) (name : List ℕ) (date : ℕ) (promised : Option ℕ) where
-  act_went : (x y : T) (a : S) (steps : List Step) → Done t x y steps → Went t s no_sink (reading x a) (reading y a) (record { steps = steps; text = [] } ∷ [])
+-- one act of these steps that went, and one that a fault of the tape broke off
+module _ {T S : Type 0} (t : tapes.Meaning T) (s : sources.Meaning S) where
+  pub act_went : (x y : T) (a : S) (steps : List Step) → Done t x y steps → Went t s no_sink (reading x a) (reading y a) (record { steps = steps; text = [] } ∷ [])
   act_went x y a steps done = record {
     did = subst (Done t x y) (sym (append-nil steps)) done;
     wrote = record { took = refl; later = omega arith };
     source_later = omega arith;
   }
 
-  broke_cut : (x y : T) (a : S) (act : Act) (rest : List Act) → Broke t x y act.steps → Cut t s no_sink (reading x a) (reading y a) (act ∷ rest) TapeFails
+  pub broke_cut : (x y : T) (a : S) (act : Act) (rest : List Act) → Broke t x y act.steps → Cut t s no_sink (reading x a) (reading y a) (act ∷ rest) TapeFails
   broke_cut x y a act rest broke = record {
     front = [];
     rest = act ∷ rest;
@@ -124,6 +125,7 @@ module _ {T S : Type 0} (t : tapes.Meaning T) (s : sources.Meaning S) (store aft
     source_later = omega arith;
   }
 
+module _ {T S : Type 0} (t : tapes.Meaning T) (s : sources.Meaning S) (store after : StoreView) (name : List ℕ) (date : ℕ) (promised : Option ℕ) where
   -- ---- the settling was refused, or broke off
   pub first_refused : (x0 x1 : T) (a : S) (sectors : List (List ℕ)) (why : StoreFault) → SettlesAgain {A = Unit {0}} t x0 x1 store.entries sectors (Err why) → IsOfReading {A = Unit {0}} (Err why) →
       Tells t x0 (λ c. HasList c store.entries) → AppendEnds t s (reading x0 a) (reading x1 a) store after name date promised (Err why)
@@ -156,11 +158,11 @@ module _ {T S : Type 0} (t : tapes.Meaning T) (s : sources.Meaning S) (store aft
         (λ c known table is reply.
         let got = known table is in
         let kept : Kept = kept_by store table (settling_steps table c) in
-        broke_cut x0 x1 a (record { steps = settling_steps table c; text = [] })
+        broke_cut t s x0 x1 a (record { steps = settling_steps table c; text = [] })
         (input_writes kept promised (left_of (s.left a)) ++ entry_acts kept name date reply (taking (room_in kept) promised (left_of (s.left a))))
         (subst (Broke t x0 x1) got.1 (Broke-front got.0 did.broke))) did.told;
     acts = record { steps = did.steps; text = [] } ∷ [];
-    cut = broke_cut x0 x1 a (record { steps = did.steps; text = [] }) [] did.broke;
+    cut = broke_cut t s x0 x1 a (record { steps = did.steps; text = [] }) [] did.broke;
     tells = refl;
   }
   first_refused x0 x1 a sectors fault.NotFormatted did kind lists = absurd did
@@ -182,7 +184,7 @@ module _ {T S : Type 0} (t : tapes.Meaning T) (s : sources.Meaning S) (store aft
     kept = kept_by store area again.steps
 
     first_went : Went t s no_sink (reading x0 a) (reading x1 a) (first_act ∷ [])
-    first_went = act_went x0 x1 a again.steps again.done
+    first_went = act_went t s x0 x1 a again.steps again.done
 
     both_went : (acts : List Act) → Went t s no_sink (reading x1 a) (reading x2 b) acts → Went t s no_sink (reading x0 a) (reading x2 b) (first_act ∷ acts)
     both_went acts went = went_both t s no_sink no_text (reading x0 a) (reading x1 a) (reading x2 b) (first_act ∷ []) acts first_went went
@@ -300,7 +302,7 @@ module _ {T S : Type 0} (t : tapes.Meaning T) (s : sources.Meaning S) (store aft
 
       cut_last : (act : Act) → Broke t x2 x3 act.steps → Cut t s no_sink (reading x0 a) (reading x3 b) (first_act ∷ (ins ++ act ∷ [])) TapeFails
       cut_last act broke =
-          went_then_cut t s no_sink no_text (reading x0 a) (reading x2 b) (reading x3 b) (first_act ∷ ins) (act ∷ []) TapeFails all_went (broke_cut x2 x3 b act [] broke)
+          went_then_cut t s no_sink no_text (reading x0 a) (reading x2 b) (reading x3 b) (first_act ∷ ins) (act ∷ []) TapeFails all_went (broke_cut t s x2 x3 b act [] broke)
 
       broken : IsBrokenOff t x2 x3 (λ d c. entry_writes store.entries new d) → AppendCut t s (reading x0 a) (reading x3 b) store name date promised TapeFails
       broken did = record {
@@ -355,7 +357,7 @@ module _ {T S : Type 0} (t : tapes.Meaning T) (s : sources.Meaning S) (store aft
           HasAppended t s (reading x0 a) (reading x3 b) store after name date promised appended
       added appended did list number count start end =
           let act : Act = record { steps = entry_writes store.entries new did.area; text = [] } in
-          let last_went : Went t s no_sink (reading x2 b) (reading x3 b) (act ∷ []) = act_went x2 x3 b act.steps did.done in
+          let last_went : Went t s no_sink (reading x2 b) (reading x3 b) (act ∷ []) = act_went t s x2 x3 b act.steps did.done in
           let whole_went : Went t s no_sink (reading x0 a) (reading x3 b) (first_act ∷ (ins ++ act ∷ [])) =
           went_both t s no_sink no_text (reading x0 a) (reading x2 b) (reading x3 b) (first_act ∷ ins) (act ∷ []) all_went last_went in
           let is : act ≡ record { steps = entry_writes store.entries (entry_for kept name date wrote.bytes) did.area; text = [] } =

@@ -9,6 +9,7 @@ pub mod Forms
 pub mod Mending
 pub mod Mounts
 pub mod Parts
+pub mod Ordering
 pub mod Passing
 pub mod Restored
 pub mod Scrubs

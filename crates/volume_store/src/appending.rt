@@ -1,6 +1,6 @@
 //! A volume appended.
 
-ghost use Rattle.std.specs.Prelude.{◌≡◌, ◌-◌, ◌+◌, ◌*◌, ◌≤◌, Some, None, true, length};
+ghost use Rattle.std.specs.Prelude.{◌≡◌, ◌-◌, ◌+◌, ◌*◌, ◌≤◌, IfSome, Some, None, true, length};
 ghost use Rattle.qic_base.specs.Acts.{reading};
 ghost use Rattle.cartridge_spec.specs.Appending.{last_end, room};
 ghost use Rattle.cartridge_laws.specs.Table.{IsSoundList};
@@ -9,7 +9,7 @@ ghost use Rattle.cartridge_spec.specs.Formatting.{IsLabel};
 ghost use Rattle.host_driver.specs.Calls.{IsReady, MayWrite, Keeps};
 ghost use Rattle.host_driver.specs.Fits.{segments_of};
 ghost use Rattle.qic_base.specs.declared.TheConstants.{LONGEST};
-ghost use Rattle.volume_store.specs.Appending.{InputIs, TakesNone};
+ghost use Rattle.volume_store.specs.Appending.{AskedFor, InputIs, TakesNone};
 
 use crate::fault::StoreFault;
 use crate::store::capacity_between;
@@ -77,6 +77,7 @@ fn take_promised<T: Tape, S: Source>(
     requires have { have ≡ room map.now table.now }
     ensures ends { InputIs T.means S.means map.now table.now (Some count)
         (reading unit.old.tape source.old) (reading unit.new.tape source.new) result }
+    ensures asked { AskedFor map.now table.now count source.old source.new result }
     ensures kept { S.means.keeps source.old source.new }
     ensures keeps { Keeps T.means host.new unit.old unit.new }
 {
@@ -185,6 +186,7 @@ pub(crate) fn take_input<T: Tape, S: Source>(
     requires list { IsSoundList (length map.now - 1) table.now }
     ensures ends { InputIs T.means S.means map.now table.now promised
         (reading unit.old.tape source.old) (reading unit.new.tape source.new) result }
+    ensures asked { IfSome promised (λ n. AskedFor map.now table.now n source.old source.new result) }
     ensures kept { S.means.keeps source.old source.new }
     ensures keeps { Keeps T.means host.new unit.old unit.new }
 {

@@ -10,7 +10,7 @@ ghost use Rattle.host_driver.specs.Fits.{AgreesWithTape, deck_of, segments_of};
 ghost use Rattle.cartridge_spec.specs.Shape.{mask_at, marked_sectors};
 ghost use Rattle.cartridge_spec.specs.Volumes.{capacity_between, volume_length};
 ghost use Rattle.header_segments.specs.Header.{header_of};
-ghost use Rattle.volume_store.specs.Appending.{AppendEnds, FaultsUnread, KeepsFormat, KeepsList};
+ghost use Rattle.volume_store.specs.Appending.{AppendEnds, FaultsUnread, InOrder, KeepsFormat, KeepsList};
 ghost use Rattle.volume_store.specs.Finding.{NamesCause, RefusesMounting};
 ghost use Rattle.volume_store.specs.Mounting.{MountDoes, StoreFits, KeepsStore};
 ghost use Rattle.volume_store.specs.Restoring.{RestoreEnds, ReadsPart, fault_of_output};
@@ -142,6 +142,8 @@ impl Store {
             self.old self.new name.now date promised result }
         ensures unread { FaultsUnread T.means S.means
             (reading unit.old.tape source.old) (reading unit.new.tape source.new) result }
+        ensures order { InOrder T.means S.means
+            (reading unit.old.tape source.old) (reading unit.new.tape source.new) self.old promised result }
         ensures protected { (result ≡ Err StoreFault.Protected) ↔
             (is_protected unit.old.drive.deck ≡ true) }
         ensures list { KeepsList result self.old self.new }

@@ -5,6 +5,7 @@ use Rattle.volume_store.specs.declared.fault.StoreFault.{StoreFault}
 use Rattle.volume_store.specs.declared.fault.StoreFault.TheVariants.{Tape}
 use Rattle.volume_store.proofs.BrokenUnread.{unread_first, unread_known}
 use Rattle.volume_store.proofs.Ending.{answered}
+use Rattle.volume_store.proofs.Ordering.{added_order, entry_order, input_order, ordered, settling_order}
 use Rattle.volume_store.proofs.Passing.{passed}
 use Rattle.volume_store.proofs.Stages.{writable, settling_ends, settling_fits, input_ends, input_fits, either_order, entry_ends, entry_fits, added_ends, added_fits}
 use Rattle.volume_store.proofs.store.Store.append.Goals as goal
@@ -130,3 +131,41 @@ returns-in_err-written-clause-unread g c =
 pub returns-in_err-add_entry-clause-unread : goal.returns-in_err-add_entry-clause-unread
 returns-in_err-add_entry-clause-unread g c =
     unread_known g.T.Tape.means g.S.Source.means _ _ _ _ c.from_residual-in_err-add_entry.result c.in_ok-settle_again.ensures.did.told
+
+pub returns-in_err-settle_again-clause-order : goal.returns-in_err-settle_again-clause-order
+returns-in_err-settle_again-clause-order g c =
+    let m = g.T.Tape.means in
+    let view : StoreView = record { host = c.self.inside.host; header = header_of c.self.inside.header; words = c.self.inside.map; entries = c.self.inside.table; part = take c.self.inside.shown c.self.inside.work } in
+    let why : StoreFault = c.in_err-settle_again.field-0.0 in
+    let is : c.from_residual.result ≡ Err why = passed c.from_residual.result why c.from_residual.ensures.1 in
+    ordered m g.S.Source.means _ _ view _ c.args.promised (Err why) c.from_residual.result c.self.view_is is
+    (settling_order m g.S.Source.means view c.args.promised c.args.unit.now.tape c.settle_again.new.unit.tape c.args.source.now c.settle_again.new.work why
+    c.in_err-settle_again.ensures.did c.in_err-settle_again.ensures.kind)
+
+pub returns-in_err-written-clause-order : goal.returns-in_err-written-clause-order
+returns-in_err-written-clause-order g c =
+    let m = g.T.Tape.means in
+    let view : StoreView = record { host = c.self.inside.host; header = header_of c.self.inside.header; words = c.self.inside.map; entries = c.self.inside.table; part = take c.self.inside.shown c.self.inside.work } in
+    let why : StoreFault = c.in_err-written.field-0.0 in
+    let is : c.from_residual-in_err-written.result ≡ Err why = passed c.from_residual-in_err-written.result why c.from_residual-in_err-written.ensures.1 in
+    ordered m g.S.Source.means _ _ view _ c.args.promised (Err why) c.from_residual-in_err-written.result c.self.view_is is
+    (input_order m g.S.Source.means view c.args.promised c.args.unit.now.tape c.settle_again.new.unit.tape c.take_input.new.unit.tape c.args.source.now c.take_input.new.source _
+    c.in_ok-settle_again.ensures.did why c.in_err-written.ensures.ends c.in_err-written.ensures.asked)
+
+pub returns-in_err-add_entry-clause-order : goal.returns-in_err-add_entry-clause-order
+returns-in_err-add_entry-clause-order g c =
+    let m = g.T.Tape.means in
+    let view : StoreView = record { host = c.self.inside.host; header = header_of c.self.inside.header; words = c.self.inside.map; entries = c.self.inside.table; part = take c.self.inside.shown c.self.inside.work } in
+    let why : StoreFault = c.in_err-add_entry.field-0.0 in
+    let is : c.from_residual-in_err-add_entry.result ≡ Err why = passed c.from_residual-in_err-add_entry.result why c.from_residual-in_err-add_entry.ensures.1 in
+    ordered m g.S.Source.means _ _ view _ c.args.promised (Err why) c.from_residual-in_err-add_entry.result c.self.view_is is
+    (entry_order m g.S.Source.means view c.args.promised c.args.unit.now.tape c.settle_again.new.unit.tape c.take_input.new.unit.tape c.args.source.now c.take_input.new.source _
+    c.in_ok-settle_again.ensures.did c.add_entry.new.unit.tape c.in_ok-written.written c.in_ok-written.ensures.ends c.in_ok-written.ensures.asked why c.in_err-add_entry.ensures.kind)
+
+pub returns-clause-order : goal.returns-clause-order
+returns-clause-order g c =
+    let m = g.T.Tape.means in
+    let view : StoreView = record { host = c.self.inside.host; header = header_of c.self.inside.header; words = c.self.inside.map; entries = c.self.inside.table; part = take c.self.inside.shown c.self.inside.work } in
+    ordered m g.S.Source.means _ _ view _ c.args.promised (Ok _) _ c.self.view_is refl
+    (added_order m g.S.Source.means view c.args.promised c.args.unit.now.tape c.settle_again.new.unit.tape c.take_input.new.unit.tape c.args.source.now c.take_input.new.source _
+    c.in_ok-settle_again.ensures.did c.add_entry.new.unit.tape c.in_ok-written.written c.in_ok-written.ensures.ends c.in_ok-written.ensures.asked _)
