@@ -153,7 +153,7 @@ module _ {A B K : Type 0} (a : tapes.Meaning A) (b : tapes.Meaning B) (k : sinks
       let done = one_done a b (next_number mid) mid.from new.from mid.to new.to (Ok has.bytes) has.one has.bytes refl in
       let copied : IsCopied b source e here mid.to.unit.tape new.to has.bytes =
       subst (λ (s : Side). IsCopied b s e here mid.to.unit.tape new.to has.bytes) (source_is mid at)
-          (is_copied a b (next_number mid) mid.from new.from mid.to new.to (Ok has.bytes) has.one source.cartridge at.from_told at.cartridge at.to_told at.target has.bytes refl) in
+      (is_copied a b (next_number mid) mid.from new.from mid.to new.to (Ok has.bytes) has.one source.cartridge at.from_told at.cartridge at.to_told at.target has.bytes refl) in
       let next : Side = side_over new.to.store copied.cartridge in
       let more : length new.to.store.entries ≡ length mid.to.store.entries + 1 =
       sym (ap (λ (s : Side). length s.entries) copied.next) ∙ length-append mid.to.store.entries _ in
@@ -174,7 +174,7 @@ module _ {A B K : Type 0} (a : tapes.Meaning A) (b : tapes.Meaning B) (k : sinks
         behind = λ rest answer does.
             let there : Copies source (later mid at e has.one.numbered) (behind_copy source e here copied.acts) rest answer =
             subst (λ (s : Side). Copies source (later mid at e has.one.numbered) s rest answer) (sym copied.next)
-                (subst (λ (n : ℕ). Copies source (drop n source.entries) next rest answer) more does) in
+            (subst (λ (n : ℕ). Copies source (drop n source.entries) next rest answer) more does) in
             subst (λ (zs : List Act). Copies source (missing source to) to zs answer) (sym (append_assoc at.acts copied.acts rest))
             (at.behind (copied.acts ++ rest) answer
             (subst (λ (es : List Entry). Copies source es here (copied.acts ++ rest) answer) (sym (missing_is mid at e has.one.numbered))
@@ -225,8 +225,8 @@ module _ {A B K : Type 0} (a : tapes.Meaning A) (b : tapes.Meaning B) (k : sinks
             ⊎ IsUnwritten a b source refused.one.entry here (reading mid.to.unit.tape (new_source mid.from.store mid.from.unit (next_number mid))) (reading new.to.unit.tape refused.one.source) answer
         whole =
             subst (λ (s : Side). IsTurned b s refused.one.entry here mid.to.unit.tape new.to.unit.tape answer
-                ⊎ IsUngiven b s refused.one.entry here mid.to.unit.tape new.to.unit.tape answer
-                ⊎ IsUnwritten a b s refused.one.entry here (reading mid.to.unit.tape (new_source mid.from.store mid.from.unit (next_number mid))) (reading new.to.unit.tape refused.one.source) answer)
+            ⊎ IsUngiven b s refused.one.entry here mid.to.unit.tape new.to.unit.tape answer
+            ⊎ IsUnwritten a b s refused.one.entry here (reading mid.to.unit.tape (new_source mid.from.store mid.from.unit (next_number mid))) (reading new.to.unit.tape refused.one.source) answer)
             (source_is mid at)
             (is_refused a b (next_number mid) mid.from new.from mid.to new.to (Err answer) refused.one source.cartridge at.from_told at.cartridge at.to_told at.target at.to_fits answer refl)
 
@@ -270,11 +270,11 @@ module _ {A B K : Type 0} (a : tapes.Meaning A) (b : tapes.Meaning B) (k : sinks
         let e : Entry = unprinted.one.entry in
         let copied : IsCopied b source e here mid.to.unit.tape new.to unprinted.bytes =
         subst (λ (s : Side). IsCopied b s e here mid.to.unit.tape new.to unprinted.bytes) (source_is mid at)
-            (is_copied a b (next_number mid) mid.from new.from mid.to new.to (Ok unprinted.bytes) unprinted.one source.cartridge at.from_told at.cartridge at.to_told at.target unprinted.bytes refl) in
+        (is_copied a b (next_number mid) mid.from new.from mid.to new.to (Ok unprinted.bytes) unprinted.one source.cartridge at.from_told at.cartridge at.to_told at.target unprinted.bytes refl) in
         let some = behind_done mid at e unprinted.one.numbered copied.acts copied.copies in
         let did : tapes.Done b mid.to.unit.tape new.to.unit.tape (steps_of copied.front ++ copied.last.steps) =
         subst (tapes.Done b mid.to.unit.tape new.to.unit.tape)
-            (ap steps_of (sym copied.parts) ∙ steps_of-append copied.front (copied.last ∷ []) ∙ ap (λ ss. steps_of copied.front ++ ss) (append-nil copied.last.steps)) copied.did in
+        (ap steps_of (sym copied.parts) ∙ steps_of-append copied.front (copied.last ∷ []) ∙ ap (λ ss. steps_of copied.front ++ ss) (append-nil copied.last.steps)) copied.did in
         let first : SinkCut b no_source k (seen mid) (seen new) copied.acts = record {
           at = record { front = copied.front; act = copied.last; rest = []; parts = copied.parts };
           did = did;

@@ -219,7 +219,7 @@ module _ {A B K : Type 0} (a : tapes.Meaning A) (b : tapes.Meaning B) (k : sinks
               let short : length ends.input < n = ltb-true (length ends.input) n early.short in
               let all : ends.input ≡ _ =
               over_at _ (λ bs. ends.input ≡ bs) _ ends.is_told
-                  (left_before a b (next_number run.missing.mid) run.missing.mid.from run.ended.from run.missing.mid.to run.ended.to (Err answer) refused.one now from_now) in
+              (left_before a b (next_number run.missing.mid) run.missing.mid.from run.ended.from run.missing.mid.to run.ended.to (Err answer) refused.one now from_now) in
               let size = long a b (next_number run.missing.mid) run.missing.mid.from run.ended.from run.missing.mid.to run.ended.to (Err answer) refused.one now from_now in
               let whole : length ends.input ≡ n = ap length all ∙ size in
               omega (arith, short, whole)

@@ -29,10 +29,9 @@ use Rattle.qic_base.specs.Cause.{Rose}
 use Rattle.volume_copy.proofs.Appended.{AddsOne, AppendIs, Ended, adds_one, adds_to_target, all_acts, append_is, kept, never_protected, replied_steps, side_over, size, tells_at, told_behind}
 use Rattle.volume_copy.proofs.Given.{bytes, given, left_before, long, needed, refused_so, taken_restored, unread_restored}
 use Rattle.volume_copy.proofs.Goes.{Early, Enough, NoRoom, fitting, too_long, too_short}
-use Rattle.volume_copy.specs.Order.{CutBeforeEntry, HasGivenAll, ListsLast, MayAsk, acts_before_entry}
 use Rattle.volume_copy.specs.Runs.{CopiesOne, SideFits, SideView, append_answer, append_status}
 use Rattle.volume_source.specs.Source.{IsOfPart, IsRefusal, SourceView, new_source, source_means}
-use Rattle.volume_store.specs.Appending.{AppendCut, AppendEnds, CutUnread, FaultsUnread, kept_by}
+use Rattle.volume_store.specs.Appending.{AppendCut, AppendEnds, CutBeforeEntry, CutUnread, FaultsUnread, HasGivenAll, ListsLast, MayAsk, acts_before_entry, kept_by}
 use Rattle.volume_store.specs.declared.appended.Appended.{Appended}
 use Rattle.volume_store.specs.declared.fault.StoreFault.{StoreFault}
 use Rattle.command_spec.specs.declared.copy_fault.CopyFault.TheVariants as copy
@@ -148,16 +147,20 @@ module _ {A B : Type 0} (a : tapes.Meaning A) (b : tapes.Meaning B) (number : �
   by_restored : (table : List (List ℕ)) → TableIs d table → has_room_for source e side ≡ true → (read : List Act) → Restores c from.store.words (pieces from.store.words one.entry) read Restored →
       (input : List ℕ) → input ≡ given_so → CopiesVolume source e side (copy_acts source e side table input) status.Done
   by_restored table reads room read restores input is =
-      inr (table, reads, inr (record {
-        room = room;
-        bytes = given_so;
-        given = given_is_so;
-        read = read;
-        ending = Restored;
-        restores = restores;
-        does = ap (copy_acts source e side table) is;
-        answered = refl;
-      }))
+      inr (
+        table,
+        reads,
+        inr (record {
+          room = room;
+          bytes = given_so;
+          given = given_is_so;
+          read = read;
+          ending = Restored;
+          restores = restores;
+          does = ap (copy_acts source e side table) is;
+          answered = refl;
+        }),
+      )
 
   abbrev before : (table : List (List ℕ)) → (input : List ℕ) → List Act
   before table input = acts_before_entry (kept_so table) (Some n) input
@@ -165,30 +168,38 @@ module _ {A B : Type 0} (a : tapes.Meaning A) (b : tapes.Meaning B) (number : �
   by_lost : (table : List (List ℕ)) → TableIs d table → has_room_for source e side ≡ true → (read : List Act) (segment lost : ℕ) → Restores c from.store.words (pieces from.store.words one.entry) read (LostIn segment lost) →
       (front rest : List Act) → front ++ rest ≡ before table given_so → CopiesVolume source e side front (status.From (copy.Lost segment lost))
   by_lost table reads room read segment lost restores front rest parts =
-      inr (table, reads, inr (record {
-        room = room;
-        bytes = given_so;
-        given = given_is_so;
-        read = read;
-        ending = LostIn segment lost;
-        restores = restores;
-        does = record { rest = rest; parts = parts };
-        answered = refl;
-      }))
+      inr (
+        table,
+        reads,
+        inr (record {
+          room = room;
+          bytes = given_so;
+          given = given_is_so;
+          read = read;
+          ending = LostIn segment lost;
+          restores = restores;
+          does = record { rest = rest; parts = parts };
+          answered = refl;
+        }),
+      )
 
   by_mismatch : (table : List (List ℕ)) → TableIs d table → has_room_for source e side ≡ true → (read : List Act) (segment : ℕ) → Restores c from.store.words (pieces from.store.words one.entry) read (MismatchIn segment) →
       (front rest : List Act) → front ++ rest ≡ before table given_so → CopiesVolume source e side front (status.From (copy.Mismatch segment))
   by_mismatch table reads room read segment restores front rest parts =
-      inr (table, reads, inr (record {
-        room = room;
-        bytes = given_so;
-        given = given_is_so;
-        read = read;
-        ending = MismatchIn segment;
-        restores = restores;
-        does = record { rest = rest; parts = parts };
-        answered = refl;
-      }))
+      inr (
+        table,
+        reads,
+        inr (record {
+          room = room;
+          bytes = given_so;
+          given = given_is_so;
+          read = read;
+          ending = MismatchIn segment;
+          restores = restores;
+          does = record { rest = rest; parts = parts };
+          answered = refl;
+        }),
+      )
 
   by_full : (table : List (List ℕ)) → TableIs d table → has_room_for source e side ≡ false →
       CopiesVolume source e side (copy_acts source e side table []) (status.To (copy.Full n (room_in (kept_so table))))
@@ -350,7 +361,7 @@ module _ {A B : Type 0} (a : tapes.Meaning A) (b : tapes.Meaning B) (number : �
       let reads : TableIs d may.table = tells_at b to.unit.tape (λ f. TableIs f may.table) d to_told may.read in
       let cut : SourceCut b (source_means a) no_sink old_outside new_outside (before may.table early.input) =
       tells_at b to.unit.tape (λ f. (table : List (List ℕ)) → TableIs f table →
-          SourceCut b (source_means a) no_sink old_outside new_outside (acts_before_entry (kept_by to.store table (settling_steps table f)) (Some n) early.input)) d to_told early.told may.table reads in
+      SourceCut b (source_means a) no_sink old_outside new_outside (acts_before_entry (kept_by to.store table (settling_steps table f)) (Some n) early.input)) d to_told early.told may.table reads in
       by_source may.table reads may.room cut.front cut.rest (cut.parts ∙ ap (before may.table) (input_is early.input early.is_told)) cut.did one.source.fault
       (has_fault cut.cause) one.sound.kind (refused_so a b number from after to new result one c from_told)
 
@@ -360,7 +371,7 @@ module _ {A B : Type 0} (a : tapes.Meaning A) (b : tapes.Meaning B) (number : �
     cut_all : TapeCut b (source_means a) no_sink old_outside new_outside (copy_acts source e side table ends.input)
     cut_all =
         tells_at b to.unit.tape (λ f. (t : List (List ℕ)) → TableIs f t → (said : Entry → List ℕ) →
-            TapeCut b (source_means a) no_sink old_outside new_outside (append_acts (kept_by to.store t (settling_steps t f)) one.entry.name one.entry.date (Some n) said ends.input)) d to_told ends.told table reads reply
+        TapeCut b (source_means a) no_sink old_outside new_outside (append_acts (kept_by to.store t (settling_steps t f)) one.entry.name one.entry.date (Some n) said ends.input)) d to_told ends.told table reads reply
 
     unwritten_full : has_room_for source e side ≡ false → IsUnwritten a b source e side old_outside new_outside (status.To copy.Tape)
     unwritten_full none = record {
@@ -386,7 +397,7 @@ module _ {A B : Type 0} (a : tapes.Meaning A) (b : tapes.Meaning B) (number : �
       cut_early =
           subst (λ (input : List ℕ). TapeCut b (source_means a) no_sink old_outside new_outside (before table input)) (input_is early.input early.is_told)
           (tells_at b to.unit.tape (λ f. (t : List (List ℕ)) → TableIs f t →
-              TapeCut b (source_means a) no_sink old_outside new_outside (acts_before_entry (kept_by to.store t (settling_steps t f)) (Some n) early.input)) d to_told early.told table reads)
+          TapeCut b (source_means a) no_sink old_outside new_outside (acts_before_entry (kept_by to.store t (settling_steps t f)) (Some n) early.input)) d to_told early.told table reads)
 
       unwritten_early : (read : List Act) (ending : GivingEnd) → Restores c from.store.words (pieces from.store.words one.entry) read ending →
           IsUnwritten a b source e side old_outside new_outside (status.To copy.Tape)
