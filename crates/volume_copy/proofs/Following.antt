@@ -1,5 +1,5 @@
 -- What follows of a copy's ends, where both tapes tell: completeness, and what is left of the target.
-use Rattle.std.proofs.Common.{◌≡◌, ◌≢◌, ◌⊎◌, ℕ, ◌≤◌, Bool, true, false, List, [], ◌∷◌, ◌++◌, length, Option, Some, None, IfSome, IsSomeAnd, refl, ap, sym, subst, ◌∙◌, arith, inl, inr, append-nil}
+use Rattle.std.proofs.Common.{◌≡◌, ◌≢◌, ◌⊎◌, ℕ, ◌≤◌, Bool, true, false, List, [], ◌∷◌, ◌++◌, length, Option, Some, None, IfSome, IsSomeAnd, refl, ap, sym, subst, ◌∙◌, arith, inl, inr, append-nil, append_assoc}
 use Rattle.std.specs.Option.{option_map}
 use Rattle.std.specs.Prelude.{is_some}
 use Rattle.cartridge_laws.proofs.FormatWriting.{effects-some, some_and}
@@ -18,7 +18,7 @@ use Rattle.command_spec.specs.CopyPromises.{CopyEnds, CopyIsOver, CopyWent, Deck
 use Rattle.command_spec.specs.Copying.{CopyOutcome, CopyYields}
 use Rattle.command_spec.specs.Headline.{EachLeft, ToldNow}
 use Rattle.command_spec.specs.declared.copy_status.CopyStatus.{CopyStatus}
-use Rattle.qic_base.proofs.Joins.{steps_of-append}
+use Rattle.qic_base.proofs.Joins.{steps_of-append, text_of-append}
 use Rattle.qic_base.proofs.Outcomes.{cut_is_torn, cut_stops}
 use Rattle.qic_base.proofs.Steps.{Stops-nothing, Torn-all, Torn-front, Torn-nothing}
 use Rattle.qic_base.specs.Acts.{Act, SinkFails, TapeFails, around, no_source, next_steps, steps_of, text_of}
@@ -26,6 +26,8 @@ use Rattle.qic_base.specs.Cartridge.{Cartridge, IsCartridge}
 use Rattle.qic_base.specs.Step.{Step as TapeStep, effects}
 use Rattle.qic_base.specs.Stop.{Torn}
 use Rattle.volume_copy.proofs.Ends.{AtStart}
+use Rattle.volume_copy.proofs.Text.{text_begins}
+use Rattle.volume_copy.specs.Printing.{PrintsMissing}
 use Rattle.command_spec.specs.declared.copy_fault.CopyFault.TheVariants as copy
 use Rattle.command_spec.specs.declared.copy_status.CopyStatus.TheVariants as status
 use Rattle.qic_base.specs.Sink as sinks
@@ -96,10 +98,10 @@ module _ {A B K : Type 0} (a : tapes.Meaning A) (b : tapes.Meaning B) (k : sinks
 
   -- how it ended: nothing was done, or the plain machine's outcome, or a front of it
   abbrev pub Ended : Type 0
-  Ended = (new ≡ old) ⊎ ((from to : Option Cartridge) → a.told old.from ≡ Some from → b.told old.to ≡ Some to → CopyEnds a b k old new answer from to)
+  Ended = ((new ≡ old) × (answer ≢ status.Done)) ⊎ ((from to : Option Cartridge) → a.told old.from ≡ Some from → b.told old.to ≡ Some to → CopyEnds a b k old new answer from to)
 
   pub to_left : Ended → (from : Option Cartridge) → a.told old.from ≡ Some from → EachLeft b old.to new.to (ToLeaves from)
-  to_left (inl same) from from_told = each_left b old.to new.to (ToLeaves from) laws.to_now (λ held told. left_alone from held same told)
+  to_left (inl (same, other)) from from_told = each_left b old.to new.to (ToLeaves from) laws.to_now (λ held told. left_alone from held same told)
   to_left (inr ends) from from_told = each_left b old.to new.to (ToLeaves from) laws.to_now (λ held told. left_by from held told answer (ends from held from_told told))
 
   pub to_lives : (from : Option Cartridge) → EachLeft b old.to new.to (ToLeaves from) → EachLeft b old.to new.to TargetLives
@@ -137,25 +139,41 @@ module _ {A B K : Type 0} (a : tapes.Meaning A) (b : tapes.Meaning B) (k : sinks
     whole_d : IsCartridge d
     whole_d = whole_to d to_told
 
-    over_by : StandAlike c one d other → (outcome : CopyOutcome) → CopyYields (Some c) (Some d) outcome → (text : List ℕ) → k.took old.sink text new.sink → (left : Option Cartridge) → b.told new.to ≡ Some left →
-        IsLeftBy d outcome.acts text left → CopyIsOver b k old new one other
-    over_by alike outcome plain text took left now is = record {
-      text = text;
-      took = took;
-      printed = now_told (b.told new.to) (StandsPrinted one other (length text)) left now (printed_copies_stand c one d other outcome text left whole_d alike plain is);
-    }
+    -- the text is a front of that of the outcome, and all of it at Done
+    over_by : StandAlike c one d other → (found : CopyStatus) (outcome : CopyOutcome) → CopyYields (Some c) (Some d) outcome → (text more : List ℕ) → text ++ more ≡ text_of outcome.acts →
+        (found ≡ status.Done → (outcome.status ≡ status.Done) × (more ≡ [])) → k.took old.sink text new.sink → (left : Option Cartridge) → b.told new.to ≡ Some left →
+        IsLeftBy d outcome.acts text left → PrintsMissing b k old new found one other
+    over_by alike found outcome plain text more whole all took left now is =
+        let begins = text_begins c one d other (record { source = whole_from c from_told; target = whole_d; stands = alike.source; standing = alike.target; like = alike.like }) outcome plain in record {
+          text = text;
+          rest = more ++ begins.rest;
+          parts = sym (append_assoc text more begins.rest) ∙ ap (λ (xs : List ℕ). xs ++ begins.rest) whole ∙ begins.parts;
+          all = λ done. ap (λ (xs : List ℕ). xs ++ begins.rest) (all done).1 ∙ begins.all (all done).0;
+          took = took;
+          printed = now_told (b.told new.to) (StandsPrinted one other (length text)) left now (printed_copies_stand c one d other outcome text left whole_d alike plain is);
+        }
 
-    over_ends : StandAlike c one d other → (found : CopyStatus) → CopyEnds a b k old new found (Some c) (Some d) → CopyIsOver b k old new one other
+    front_text : (front rest acts : List Act) → front ++ rest ≡ acts → text_of front ++ text_of rest ≡ text_of acts
+    front_text front rest acts parts = sym (text_of-append front rest) ∙ ap text_of parts
+
+    over_ends : StandAlike c one d other → (found : CopyStatus) → CopyEnds a b k old new found (Some c) (Some d) → PrintsMissing b k old new found one other
     over_ends alike (status.From copy.Tape) cut =
-        over_by alike cut.outcome cut.plain (text_of cut.front) cut.went.wrote.took (effects (steps_of cut.front) (Some d)) (went_left cut.front (Some d) to_told cut.went.did)
+        over_by alike (status.From copy.Tape) cut.outcome cut.plain (text_of cut.front) (text_of cut.rest) (front_text cut.front cut.rest cut.outcome.acts cut.parts) (λ is. absurd (cc)) cut.went.wrote.took (effects (steps_of cut.front) (Some d)) (went_left cut.front (Some d) to_told cut.went.did)
         (inl (record { front = cut.front; rest = cut.rest; parts = cut.parts; torn = Torn-nothing (next_steps cut.rest) (effects (steps_of cut.front) (Some d)); is_text = refl }))
     over_ends alike (status.To copy.Tape) cut =
         let now = still_told (b.told old.to) (b.told new.to) (Some d) cut.cut.broke.tells to_told in
-        over_by alike cut.outcome cut.plain (text_of cut.cut.front) cut.cut.wrote.took now.0 now.1
+        over_by alike (status.To copy.Tape) cut.outcome cut.plain (text_of cut.cut.front) (text_of cut.cut.rest) (front_text cut.cut.front cut.cut.rest cut.outcome.acts cut.cut.parts) (λ is. absurd (cc))
+        cut.cut.wrote.took now.0 now.1
         (inl (record { front = cut.cut.front; rest = cut.cut.rest; parts = cut.cut.parts; torn = cut.cut.here (Some d) now.0 to_told now.1; is_text = refl }))
     over_ends alike status.SinkFault cut =
         let steps : List TapeStep = steps_of cut.cut.at.front ++ cut.cut.at.act.steps in
-        over_by alike cut.outcome cut.plain (text_of cut.cut.at.front ++ cut.cut.broke.part) cut.cut.broke.took (effects steps (Some d)) (cut.cut.did.told ∙ ap (option_map (effects steps)) to_told)
+        let front : List ℕ = text_of cut.cut.at.front in
+        let behind : List ℕ = text_of cut.cut.at.rest in
+        over_by alike status.SinkFault cut.outcome cut.plain (front ++ cut.cut.broke.part) (cut.cut.broke.rest ++ behind)
+        (append_assoc front cut.cut.broke.part (cut.cut.broke.rest ++ behind)
+        ∙ ap (λ (xs : List ℕ). front ++ xs) (sym (append_assoc cut.cut.broke.part cut.cut.broke.rest behind) ∙ ap (λ (xs : List ℕ). xs ++ behind) cut.cut.broke.parts)
+        ∙ front_text cut.cut.at.front (cut.cut.at.act ∷ cut.cut.at.rest) cut.outcome.acts cut.cut.at.parts)
+        (λ is. absurd (cc)) cut.cut.broke.took (effects steps (Some d)) (cut.cut.did.told ∙ ap (option_map (effects steps)) to_told)
         (inr (record {
           front = cut.cut.at.front;
           act = cut.cut.at.act;
@@ -169,19 +187,22 @@ module _ {A B K : Type 0} (a : tapes.Meaning A) (b : tapes.Meaning B) (k : sinks
           is_text = refl;
         }))
     over_ends alike found went =
-        over_by alike went.outcome went.plain (text_of went.outcome.acts) went.went.wrote.took (effects (steps_of went.outcome.acts) (Some d)) (went_left went.outcome.acts (Some d) to_told went.went.did)
+        over_by alike found went.outcome went.plain (text_of went.outcome.acts) [] (append-nil (text_of went.outcome.acts)) (λ is. (sym went.answered ∙ is, refl)) went.went.wrote.took (effects (steps_of went.outcome.acts) (Some d)) (went_left went.outcome.acts (Some d) to_told went.went.did)
         (inl (record { front = went.outcome.acts; rest = []; parts = append-nil went.outcome.acts; torn = refl; is_text = refl }))
 
-    over_alone : StandAlike c one d other → new ≡ old → CopyIsOver b k old new one other
-    over_alone alike same =
+    over_alone : StandAlike c one d other → new ≡ old → answer ≢ status.Done → PrintsMissing b k old new answer one other
+    over_alone alike same unlike =
         let some = copies_something (Some c) (Some d) (whole_from c from_told) whole_d in
-        over_by alike some.0 some.1 [] (subst (λ (decks : Decks A B K). k.took old.sink [] decks.sink) (sym same) (laws.nothing old.sink)) (Some d)
+        over_by alike answer some.0 some.1 [] (text_of some.0.acts) refl (λ is. absurd (unlike is)) (subst (λ (decks : Decks A B K). k.took old.sink [] decks.sink) (sym same) (laws.nothing old.sink)) (Some d)
         (subst (λ (decks : Decks A B K). b.told decks.to ≡ Some (Some d)) (sym same) to_told)
         (inl (record { front = []; rest = some.0.acts; parts = refl; torn = Torn-nothing (next_steps some.0.acts) (Some d); is_text = refl }))
 
+    pub prints : Ended → StandAlike c one d other → PrintsMissing b k old new answer one other
+    prints (inl (same, unlike)) alike = over_alone alike same unlike
+    prints (inr ends) alike = over_ends alike answer (ends (Some c) (Some d) from_told to_told)
+
     pub over : Ended → StandAlike c one d other → CopyIsOver b k old new one other
-    over (inl same) alike = over_alone alike same
-    over (inr ends) alike = over_ends alike answer (ends (Some c) (Some d) from_told to_told)
+    over ended alike = let all = prints ended alike in record { text = all.text; took = all.took; printed = all.printed }
 
     pub done : ((from to : Option Cartridge) → a.told old.from ≡ Some from → b.told old.to ≡ Some to → CopyEnds a b k old new answer from to) → Stands c one → Stands d other → BeginsLike one other → answer ≡ status.Done →
         ToldNow b new.to (λ left. IsSomeAnd left (λ e. Stands e (copied one other (length one.volumes))))

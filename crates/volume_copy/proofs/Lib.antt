@@ -11,4 +11,5 @@ pub mod Lengths
 pub mod Lists
 pub mod Openings
 pub mod Promising
+pub mod Text
 pub mod Volume

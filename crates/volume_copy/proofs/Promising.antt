@@ -11,7 +11,8 @@ use Rattle.qic_base.specs.Cartridge.{Cartridge}
 use Rattle.volume_copy.proofs.Answering.{IsOther, no_text, none_joins, run_joins, run_kind, run_printed, run_risen}
 use Rattle.volume_copy.proofs.Deciding.{from_left, from_stays, run_short, run_source, run_target}
 use Rattle.volume_copy.proofs.Ends.{AtStart, decks_of, run_ended, runs_end}
-use Rattle.volume_copy.proofs.Following.{Ended, complete, done, over, to_grows, to_left, to_lives}
+use Rattle.volume_copy.proofs.Following.{Ended, complete, done, over, prints, to_grows, to_left, to_lives}
+use Rattle.volume_copy.specs.Printing.{PrintsLines}
 use Rattle.volume_copy.specs.Runs.{CopyRuns, RunEnds, Units, is_asked}
 use Rattle.command_spec.specs.declared.copy_fault.CopyFault.TheVariants as copy
 use Rattle.command_spec.specs.declared.copy_status.CopyStatus.TheVariants as status
@@ -67,10 +68,21 @@ module _ {A B K : Type 0} (a : tapes.Meaning A) (b : tapes.Meaning B) (k : sinks
   left_alive : Ended a b k before after laws answer → (from : Option Cartridge) → a.told before.from ≡ Some from → EachLeft b before.to after.to (ToLeaves from)
   left_alive ended from told = to_left a b k before after laws answer ended from told
 
+  -- nothing was done, or a drive was asked
+  unasked_ended : IsUnasked answer → new ≡ old → Ended a b k before after laws answer
+  unasked_ended unasked same = inl (ap decks_of same, (λ is. no_done is unasked))
+    where
+      no_done : answer ≡ status.Done → IsUnasked answer → ⊥
+      no_done is (inl not) = let no = sym not ∙ is in cc
+      no_done is (inr not) = let no = sym not ∙ is in cc
+
+  asked_ended : RunEnds a b k old new answer → Ended a b k before after laws answer
+  asked_ended runs = inr (λ from to from_told to_told. run_ended a b k old new laws from to from_told to_told answer runs)
+
   unasked_promises : IsUnasked answer → new ≡ old → CopyPromises a b k words before after answer
   unasked_promises unasked same =
       let still : after ≡ before = ap decks_of same in
-      let ended : Ended a b k before after laws answer = inl still in
+      let ended : Ended a b k before after laws answer = unasked_ended unasked same in
       record {
         usage = usage;
         untouched = λ is. still;
@@ -148,3 +160,16 @@ module _ {A B K : Type 0} (a : tapes.Meaning A) (b : tapes.Meaning B) (k : sinks
       untouched : IsUnasked answer → new ≡ old
       untouched (inl is) = subst (CopyRuns a b k old new) is runs
       untouched (inr is) = subst (CopyRuns a b k old new) is runs
+
+  pub prints_lines : CopyRuns a b k old new answer → PrintsLines a b k before after answer
+  prints_lines runs c one d other from_told to_told alike = prints a b k before after laws answer c one d other from_told to_told ended alike
+    where
+      untouched : IsUnasked answer → new ≡ old
+      untouched (inl is) = subst (CopyRuns a b k old new) is runs
+      untouched (inr is) = subst (CopyRuns a b k old new) is runs
+
+      ended : Ended a b k before after laws answer
+      ended = elim (asked_or_not answer) [
+        | inl unasked ↦ unasked_ended unasked (untouched unasked)
+        | inr asked ↦ asked_ended (runs_end a b k old new answer runs (never_unasked answer asked))
+      ]

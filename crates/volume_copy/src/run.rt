@@ -2,6 +2,7 @@
 
 ghost use Rattle.std.specs.Prelude.{◌≡◌, map, string_bytes, true};
 ghost use Rattle.command_spec.specs.CopyPromises.{CopyPromises};
+ghost use Rattle.volume_copy.specs.Printing.{PrintsLines};
 ghost use Rattle.volume_copy.specs.Runs.{CopyRuns, RunEnds, is_asked};
 
 use crate::copying::{Source, copy_missing};
@@ -22,6 +23,9 @@ pub fn run_copy<A: Tape, B: Tape, K: Sink>(
     sink: &mut K,
 ) -> (CopyStatus, Unit<A>)
     ensures promises { CopyPromises A.means B.means K.means (map string_bytes words.now.items)
+        record { from = from.tape; to = to.old.tape; sink = sink.old }
+        record { from = result.1.tape; to = to.new.tape; sink = sink.new } result.0 }
+    ensures lines { PrintsLines A.means B.means K.means
         record { from = from.tape; to = to.old.tape; sink = sink.old }
         record { from = result.1.tape; to = to.new.tape; sink = sink.new } result.0 }
     ensures runs { CopyRuns A.means B.means K.means
