@@ -13,7 +13,7 @@ use Rattle.store_opening.specs.declared.opening.OpenFault.{OpenFault}
 use Rattle.volume_copy.specs.Faults.{from_status, is_of_cartridge, is_of_opening, to_status}
 use Rattle.volume_copy.specs.Runs.{BothRefused, CopiesOne, CopyRuns, CopyView, HasCopied, HaveCopied, IsCounted, IsRefused, IsUnprinted, MissingEnds, PrintsCount, RunEnds, SideFits, SideView, Units, append_answer, append_status, is_append_fault, is_asked}
 use Rattle.volume_source.specs.Source.{IsOfPart, IsSoundSource, SourceView, new_source, source_means}
-use Rattle.volume_store.specs.Appending.{AppendEnds, FaultsUnread}
+use Rattle.volume_store.specs.Appending.{AppendEnds, FaultsUnread, InOrder}
 use Rattle.volume_store.specs.Finding.{is_of_mounting}
 use Rattle.volume_store.specs.Mounting.{StoreView}
 use Rattle.volume_store.specs.declared.appended.Appended.{Appended}
@@ -131,6 +131,13 @@ pub unread_as : {A B : Type 0} (a : tapes.Meaning A) (b : tapes.Meaning B) (x y 
     made ≡ old → FaultsUnread b (source_means a) (reading x made) (reading y new) r → FaultsUnread b (source_means a) (reading x old) (reading y new) r
 unread_as {A = A} a b x y made old new r same unread =
     subst (λ (s : SourceView A). FaultsUnread b (source_means a) (reading x s) (reading y new) r) same unread
+
+pub order_as : {A B : Type 0} (a : tapes.Meaning A) (b : tapes.Meaning B) (x y : B) (made old new : SourceView A) (store : StoreView) (n m : ℕ) (r : Result Appended StoreFault) →
+    made ≡ old → n ≡ m → InOrder b (source_means a) (reading x made) (reading y new) store (Some n) r →
+    InOrder b (source_means a) (reading x old) (reading y new) store (Some m) r
+order_as {A = A} a b x y made old new store n m r same long order =
+    subst (λ (s : SourceView A). InOrder b (source_means a) (reading x s) (reading y new) store (Some m) r) same
+    (subst (λ (k : ℕ). InOrder b (source_means a) (reading x made) (reading y new) store (Some k) r) long order)
 
 -- sides of the same parts are the same
 pub same_sides : {T : Type 0} (one other : SideView T) → one.store ≡ other.store → one.unit ≡ other.unit → one ≡ other

@@ -1,3 +1,15 @@
+pub mod Answering
+pub mod Appended
+pub mod Carried
 pub mod Copied
+pub mod Deciding
+pub mod Ends
+pub mod Following
+pub mod Given
+pub mod Goes
 pub mod Lengths
 pub mod Lists
+pub mod Openings
+pub mod Promising
+pub mod Text
+pub mod Volume

@@ -1,5 +1,6 @@
 -- How a copy ended, call by call (this project's own).
-use Rattle.std.specs.Prelude.{◌≡◌, ◌≢◌, ◌⊎◌, ℕ, zero, suc, ◌+◌, Option, Some, None, Result, Ok, Err, Bool, length, slice_get, true, false}
+use Rattle.std.specs.Prelude.{◌≡◌, ◌≢◌, ◌⊎◌, ℕ, zero, suc, ◌+◌, Option, Some, None, Result, Ok, Err, Bool, length, slice_get, true, false, ◌↔◌, ◌<◌, ◌^◌}
+use Rattle.cartridge_spec.specs.Formatting.{IsLabel}
 use Rattle.cartridge_spec.specs.Table.{Entry}
 use Rattle.cartridge_spec.specs.Volumes.{volume_length}
 use Rattle.command_spec.specs.Copying.{copied_line, difference, is_alike}
@@ -14,7 +15,7 @@ use Rattle.store_opening.specs.Opening.{HasOpened, OpenFails}
 use Rattle.store_opening.specs.declared.opening.OpenFault.{OpenFault}
 use Rattle.volume_copy.specs.Faults.{copy_fault, from_status, is_of_cartridge, to_status}
 use Rattle.volume_source.specs.Source.{IsSoundSource, KeepsVolume, SourceView, new_source, source_means}
-use Rattle.volume_store.specs.Appending.{AppendEnds, FaultsUnread, KeepsFormat, KeepsList}
+use Rattle.volume_store.specs.Appending.{AppendEnds, FaultsUnread, KeepsFormat, KeepsList, InOrder}
 use Rattle.volume_store.specs.Mounting.{StoreView, StoreFits}
 use Rattle.volume_store.specs.declared.appended.Appended.{Appended}
 use Rattle.volume_store.specs.declared.fault.StoreFault.{StoreFault}
@@ -58,11 +59,16 @@ append_answer (Err why) refused = Err (append_status why refused)
 pub record CopiesOne {A B : Type 0} (a : tapes.Meaning A) (b : tapes.Meaning B) (number : ℕ) (from after : SideView A) (to new : SideView B) (result : Result ℕ CopyStatus) : Type 0 where
   pub entry : Entry
   pub numbered : volume_at from.store.entries number ≡ Some entry
+  pub label : IsLabel entry.name
+  pub word : entry.date < 2 ^ 32
   pub source : SourceView A
   pub appended : Result Appended StoreFault
   pub ends : AppendEnds b (source_means a) (reading to.unit.tape (new_source from.store from.unit number)) (reading new.unit.tape source)
       to.store new.store entry.name entry.date (Some (volume_length from.store.words entry)) appended
   pub unread : FaultsUnread b (source_means a) (reading to.unit.tape (new_source from.store from.unit number)) (reading new.unit.tape source) appended
+  pub order : InOrder b (source_means a) (reading to.unit.tape (new_source from.store from.unit number)) (reading new.unit.tape source)
+      to.store (Some (volume_length from.store.words entry)) appended
+  pub free : (appended ≡ Err fault.Protected) ↔ (is_protected to.unit.drive.deck ≡ true)
   pub kept : KeepsVolume a (new_source from.store from.unit number) source
   pub sound : IsSoundSource a source
   pub back : after ≡ record { store = source.store; unit = source.unit }

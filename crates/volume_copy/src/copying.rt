@@ -1,13 +1,14 @@
 //! The volumes that the target lacks, copied one after the other.
 
 ghost use Rattle.std.specs.Prelude.{◌≡◌, ◌<◌, ◌≤◌, length, true};
+ghost use Rattle.cartridge_spec.specs.Formatting.{IsLabel};
 ghost use Rattle.volume_copy.specs.Runs.{CopiesOne, MissingEnds, append_status, is_append_fault};
 ghost use Rattle.volume_store.specs.Mounting.{StoreFits};
 
 use crate::fault::copy_fault;
 use command_spec::{CopyFault, CopyStatus};
 use drive_states::Unit;
-use qic_base::{Sink, SinkFailed, Tape};
+use qic_base::{Name, Sink, SinkFailed, Tape};
 use tape_script::write_text;
 use volume_lines::{number_text, place_text};
 use volume_source::VolumeSource;
@@ -39,6 +40,19 @@ fn append_status(fault: StoreFault, refused: Option<StoreFault>) -> CopyStatus
     }
 }
 
+/// States that a name is 44 bytes, and does nothing.
+fn is_label(name: &Name)
+    ensures { IsLabel name.now }
+{
+    is_label_text(name.bytes());
+}
+
+fn is_label_text(text: &[u8; 44])
+    ensures { IsLabel text.now }
+{
+    let _bytes = text.iter();
+}
+
 /// Copies one volume, counted from 1, behind those of the target, with its name and date and with its length promised. The
 /// answer is its length in bytes.
 fn copy_volume<A: Tape, B: Tape>(
@@ -57,6 +71,7 @@ fn copy_volume<A: Tape, B: Tape>(
 {
     let entry = from.store.entry(number - 1);
     let (name, date) = (entry.name, entry.date);
+    is_label(&name);
     let length = from.store.length(number - 1) as u32;
     let mut bytes = VolumeSource::new(from.store, from.unit, number);
     let copied = match store.append(unit, &name, date, Some(length), &mut bytes) {

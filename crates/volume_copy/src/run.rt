@@ -1,6 +1,8 @@
 //! The top call of a copy.
 
-ghost use Rattle.std.specs.Prelude.{◌≡◌, ◌≢◌, ◌↔◌, [], true};
+ghost use Rattle.std.specs.Prelude.{◌≡◌, map, string_bytes, true};
+ghost use Rattle.command_spec.specs.CopyPromises.{CopyPromises};
+ghost use Rattle.volume_copy.specs.Printing.{PrintsLines};
 ghost use Rattle.volume_copy.specs.Runs.{CopyRuns, RunEnds, is_asked};
 
 use crate::copying::{Source, copy_missing};
@@ -20,7 +22,12 @@ pub fn run_copy<A: Tape, B: Tape, K: Sink>(
     to: &mut Unit<B>,
     sink: &mut K,
 ) -> (CopyStatus, Unit<A>)
-    ensures usage { (result.0 ≡ CopyStatus.Usage) ↔ (words.now.items ≢ []) }
+    ensures promises { CopyPromises A.means B.means K.means (map string_bytes words.now.items)
+        record { from = from.tape; to = to.old.tape; sink = sink.old }
+        record { from = result.1.tape; to = to.new.tape; sink = sink.new } result.0 }
+    ensures lines { PrintsLines A.means B.means K.means
+        record { from = from.tape; to = to.old.tape; sink = sink.old }
+        record { from = result.1.tape; to = to.new.tape; sink = sink.new } result.0 }
     ensures runs { CopyRuns A.means B.means K.means
         record { from = from; to = to.old; sink = sink.old }
         record { from = result.1; to = to.new; sink = sink.new } result.0 }

@@ -1,7 +1,7 @@
 use Rattle.std.proofs.Common.{◌≡◌, ◌-◌, ◌<◌, ◌^◌, ℕ, Err, arith, sym, subst, ap, ◌∙◌}
 use Rattle.cartridge_spec.specs.Table.{Entry}
 use Rattle.cartridge_spec.specs.Volumes.{volume_length}
-use Rattle.volume_copy.proofs.Copied.{ends_as, same_sides, unread_as}
+use Rattle.volume_copy.proofs.Copied.{ends_as, order_as, same_sides, unread_as}
 use Rattle.volume_copy.proofs.Lengths.{length_of_fits}
 use Rattle.volume_copy.proofs.copying.copy_volume.Goals as goal
 use Rattle.volume_copy.proofs.copying.copy_volume.Goals.{in-Ok, in-Err}
@@ -30,12 +30,17 @@ returns g c =
     record {
       entry = e;
       numbered = volume_there store.entries c.args.number e c.requires.numbered c.entry-entry.ensures;
+      label = c.is_label.ensures;
+      word = omega arith;
       source = c.append.new.source;
       appended = c.append.result;
       ends = ends_as a b c.args.unit.now.tape c.append.new.unit.tape c.new-bytes.result (new_source store c.args.from.unit c.args.number) c.append.new.source
           c.args.store.now c.append.new.self e.name e.date c.length-length.result (volume_length store.words e) c.append.result made long c.append.ensures.ends;
       unread = unread_as a b c.args.unit.now.tape c.append.new.unit.tape c.new-bytes.result (new_source store c.args.from.unit c.args.number) c.append.new.source
           c.append.result made c.append.ensures.unread;
+      order = order_as a b c.args.unit.now.tape c.append.new.unit.tape c.new-bytes.result (new_source store c.args.from.unit c.args.number) c.append.new.source
+          c.args.store.now c.length-length.result (volume_length store.words e) c.append.result made long c.append.ensures.order;
+      free = c.append.ensures.protected;
       kept = subst (λ s. KeepsVolume a s c.append.new.source) made c.append.ensures.kept;
       sound = c.into_parts-store.ensures.sound;
       back = same_sides _ _ c.into_parts-store.ensures.store c.into_parts-store.ensures.unit;

@@ -1,0 +1,349 @@
+-- What a copy does to both tapes and the sink, over any of them.
+use Rattle.std.proofs.Common.{◌≡◌, ◌≢◌, ◌⊎◌, ℕ, zero, suc, ◌+◌, ◌<◌, ◌≤◌, ◌&&◌, Bool, true, false, nat_le, List, [], ◌∷◌, ◌++◌, length, take, Option, Some, None, Result, Ok, Err, refl, ap, sym, subst, ◌∙◌, arith, inl, inr, append-nil, append_assoc, length-append}
+use Rattle.std.specs.Prelude.{if◌then◌else◌, ◌==◌, ◌||◌, nat_lt, is_some}
+use Rattle.std.specs.Option.{option_map}
+use Rattle.std.proofs.lemmas.Bool.{and_from, and_cases, cases_Bool, leb-false, leb-true, ltb-true, ltb-false, lt-ltb}
+use Rattle.cartridge_spec.specs.Appending.{room}
+use Rattle.cartridge_spec.specs.Table.{Entry}
+use Rattle.cartridge_spec.specs.Volumes.{volume_length}
+use Rattle.command_laws.proofs.CommandEnds.{is_some-map, stops_go_on}
+use Rattle.command_spec.specs.Append.{Fits, Taking, TooLong, TooShort, has_promised_room, taking}
+use Rattle.command_spec.specs.Copied.{copied_lines}
+use Rattle.command_spec.specs.Copying.{copied_line}
+use Rattle.command_spec.specs.CopyPromises.{HasKind, is_before_copies}
+use Rattle.command_spec.specs.Headline.{StopsGoOn}
+use Rattle.command_spec.specs.declared.copy_status.CopyStatus.{CopyStatus}
+use Rattle.qic_base.proofs.Steps.{Done-Done, Done-nothing}
+use Rattle.qic_base.proofs.Writing.{TakesBoth}
+use Rattle.qic_base.specs.Acts.{reading}
+use Rattle.qic_base.specs.Cartridge.{Cartridge}
+use Rattle.qic_base.specs.Cause.{Rose}
+use Rattle.qic_base.specs.Step.{Step as TapeStep, effects}
+use Rattle.store_opening.specs.Opening.{HasOpened, OpenFails}
+use Rattle.store_opening.specs.declared.opening.OpenFault.{OpenFault}
+use Rattle.volume_copy.specs.Runs.{CopiesOne, CopyView, HasCopied, HaveCopied, IsCounted, IsRefused, IsUnprinted, MissingEnds, PrintsCount, SideFits, SideView, append_answer, append_status, next_number}
+use Rattle.volume_source.specs.Source.{IsOfPart, KeepsVolume, SourceView, new_source, source_means}
+use Rattle.volume_store.specs.Appending.{AppendEnds}
+use Rattle.volume_store.specs.Mounting.{StoreView}
+use Rattle.volume_store.specs.declared.appended.Appended.{Appended}
+use Rattle.volume_store.specs.declared.fault.StoreFault.{StoreFault}
+use Rattle.command_spec.specs.declared.copy_status.CopyStatus.TheVariants as status
+use Rattle.qic_base.specs.Sink as sinks
+use Rattle.qic_base.specs.Source as sources
+use Rattle.qic_base.specs.Tape as tapes
+use Rattle.store_opening.specs.declared.opening.OpenFault.TheVariants as open_fault
+use Rattle.volume_store.specs.declared.fault.StoreFault.TheVariants as fault
+
+-- ---- a tape
+
+-- time went on over it
+pub record GoesOn {T : Type 0} (m : tapes.Meaning T) (old new : T) : Type 0 where
+  pub later : m.faults old ≤ m.faults new
+  pub tells : is_some (m.told new) ≡ is_some (m.told old)
+  pub stops : StopsGoOn m old new
+
+pub goes_done : {T : Type 0} (m : tapes.Meaning T) (a b : T) (steps : List TapeStep) → tapes.Done m a b steps → GoesOn m a b
+goes_done m a b steps did = record {
+  later = did.later;
+  tells = ap is_some did.told ∙ is_some-map (effects steps) (m.told a);
+  stops = stops_go_on m a b steps did.stops;
+}
+
+pub goes_broke : {T : Type 0} (m : tapes.Meaning T) (a b : T) (steps : List TapeStep) → tapes.Broke m a b steps → GoesOn m a b
+goes_broke m a b steps broke = record { later = broke.later; tells = broke.tells; stops = stops_go_on m a b steps broke.stops }
+
+pub goes_same : {T : Type 0} (m : tapes.Meaning T) (a b : T) → b ≡ a → GoesOn m a b
+goes_same m a b same = subst (GoesOn m a) (sym same) (goes_done m a a [] (Done-nothing m a))
+
+pub goes_both : {T : Type 0} (m : tapes.Meaning T) (a b c : T) → GoesOn m a b → GoesOn m b c → GoesOn m a c
+goes_both m a b c first next = record {
+  later = let e = first.later in let f = next.later in omega arith;
+  tells = next.tells ∙ first.tells;
+  stops = record {
+    telling = next.stops.telling ∙ first.stops.telling;
+    clock = let e = first.stops.clock in let f = next.stops.clock in omega arith;
+    kept = λ time left before was. next.stops.kept time left (let e = first.stops.clock in omega (arith, before)) (first.stops.kept time left before was);
+    parted = λ time later left order before was. elim (next.stops.parted time later left order (let e = first.stops.clock in omega (arith, before)) was) [
+      | inl early ↦ elim (first.stops.parted time later left order before early) [
+        | inl first_early ↦ inl first_early
+        | inr late ↦ inr (next.stops.kept later left (let e = first.stops.clock in omega (arith, before)) late)
+      ]
+      | inr late ↦ inr late
+    ];
+  };
+}
+
+-- ---- what became of an input with a promise
+
+pub record NoRoom (have n need most : ℕ) : Type 0 where
+  pub none : has_promised_room have (Some n) ≡ false
+  pub needs : n ≡ need
+  pub has : have ≡ most
+
+pub record Early (have n promised read : ℕ) (input : List ℕ) : Type 0 where
+  pub room : has_promised_room have (Some n) ≡ true
+  pub asked : n ≡ promised
+  pub given : length input ≡ read
+  pub short : nat_lt (length input) n ≡ true
+
+pub record Enough (have n : ℕ) (input bytes : List ℕ) : Type 0 where
+  pub room : has_promised_room have (Some n) ≡ true
+  pub long : nat_lt (length input) n ≡ false
+  pub taken : take n input ≡ bytes
+
+abbrev taking_by : (room short : Bool) (have n : ℕ) (input : List ℕ) → Taking
+taking_by room short have n input = if room then (if short then TooShort n (length input) else Fits (take n input)) else TooLong n have
+
+pub too_long : (have n : ℕ) (input : List ℕ) (need most : ℕ) → taking have (Some n) input ≡ TooLong need most → NoRoom have n need most
+too_long have n input need most is = by_flags (has_promised_room have (Some n)) (nat_lt (length input) n) refl is
+  where
+    by_flags : (room short : Bool) → has_promised_room have (Some n) ≡ room → taking_by room short have n input ≡ TooLong need most → NoRoom have n need most
+    by_flags true true room is = absurd (cc)
+    by_flags true false room is = absurd (cc)
+    by_flags false short room is = record { none = room; needs = cc; has = cc }
+
+pub too_short : (have n : ℕ) (input : List ℕ) (promised read : ℕ) → taking have (Some n) input ≡ TooShort promised read → Early have n promised read input
+too_short have n input promised read is = by_flags (has_promised_room have (Some n)) (nat_lt (length input) n) refl refl is
+  where
+    by_flags : (room short : Bool) → has_promised_room have (Some n) ≡ room → nat_lt (length input) n ≡ short → taking_by room short have n input ≡ TooShort promised read →
+        Early have n promised read input
+    by_flags true true room short is = record { room = room; asked = cc; given = cc; short = short }
+    by_flags true false room short is = absurd (cc)
+    by_flags false short room is_short is = absurd (cc)
+
+pub fitting : (have n : ℕ) (input bytes : List ℕ) → taking have (Some n) input ≡ Fits bytes → Enough have n input bytes
+fitting have n input bytes is = by_flags (has_promised_room have (Some n)) (nat_lt (length input) n) refl refl is
+  where
+    by_flags : (room short : Bool) → has_promised_room have (Some n) ≡ room → nat_lt (length input) n ≡ short → taking_by room short have n input ≡ Fits bytes →
+        Enough have n input bytes
+    by_flags true true room short is = absurd (cc)
+    by_flags true false room short is = record { room = room; long = short; taken = cc }
+    by_flags false short room is_short is = absurd (cc)
+
+-- there is no room for so many bytes, or for none
+full_is_named : (have n : ℕ) → has_promised_room have (Some n) ≡ false → (have == 0 || nat_lt have n) ≡ true
+full_is_named have n none = by_parts (and_cases (nat_le 1 have) (nat_le n have) none)
+  where
+    or_second : (x y : Bool) → y ≡ true → (x || y) ≡ true
+    or_second true y is = refl
+    or_second false y is = is
+
+    by_parts : (nat_le 1 have ≡ false) ⊎ (nat_le n have ≡ false) → (have == 0 || nat_lt have n) ≡ true
+    by_parts (inl empty) =
+        let zero : have ≡ 0 = let few = leb-false 1 have empty in omega (arith, few) in ap (λ (h : ℕ). h == 0 || nat_lt h n) zero
+    by_parts (inr little) =
+        let few : have < n = leb-false n have little in or_second (have == 0) (nat_lt have n) (lt-ltb have n few)
+
+-- ---- an append
+
+module _ {A B : Type 0} (a : tapes.Meaning A) (b : tapes.Meaning B) (x y : B) (old new : SourceView A) (store after : StoreView) (name : List ℕ) (date n : ℕ) where
+  abbrev Appends : Result Appended StoreFault → Type 0
+  Appends r = AppendEnds b (source_means a) (reading x old) (reading y new) store after name date (Some n) r
+
+  pub append_goes : (r : Result Appended StoreFault) → Appends r → GoesOn b x y
+  append_goes (Ok appended) ends = goes_done b x y _ ends.ran.went.did
+  append_goes (Err fault.Protected) ends = goes_same b x y ends.0
+  append_goes (Err (fault.Lost segment lost)) ends = goes_done b x y _ ends.2.went.did
+  append_goes (Err fault.TableMismatch) ends = goes_done b x y _ ends.went.did
+  append_goes (Err (fault.Full need have)) ends = goes_done b x y _ ends.went.did
+  append_goes (Err (fault.Short promised read)) ends = goes_done b x y _ ends.went.did
+  append_goes (Err fault.Source) ends = goes_done b x y _ ends.cut.did
+  append_goes (Err fault.Tape) ends = goes_broke b x y _ ends.cut.broke
+  append_goes (Err f) ends = absurd ends
+
+  pub append_kind : (f : StoreFault) (refused : Option StoreFault) → Appends (Err f) → IsOfPart refused → HasKind (append_status f refused)
+  append_kind fault.Source (Some fault.Tape) ends kind = refl
+  append_kind fault.Source (Some (fault.Lost segment lost)) ends kind = lt-ltb 3 lost kind
+  append_kind fault.Source (Some (fault.Mismatch segment)) ends kind = refl
+  append_kind fault.Source (Some f) ends kind = absurd kind
+  append_kind fault.Source None ends kind = refl
+  append_kind fault.Protected refused ends kind = refl
+  append_kind (fault.Lost segment lost) refused ends kind =
+      and_from (segment == 2) (nat_lt 3 lost) (ap (λ (s : ℕ). s == 2) ends.0) (lt-ltb 3 lost ends.1)
+  append_kind fault.TableMismatch refused ends kind = refl
+  append_kind (fault.Full need have) refused ends kind =
+      let most : ℕ = room store.words store.entries in
+      let none = too_long most n ends.input need have ends.took in
+      subst (λ (h : ℕ). (h == 0 || nat_lt h need) ≡ true) none.has (subst (λ (m : ℕ). (most == 0 || nat_lt most m) ≡ true) none.needs (full_is_named most n none.none))
+  append_kind (fault.Short promised read) refused ends kind =
+      let early = too_short (room store.words store.entries) n ends.input promised read ends.took in
+      ap (λ (m : ℕ). nat_lt m promised) (sym early.given) ∙ ap (λ (m : ℕ). nat_lt (length ends.input) m) (sym early.asked) ∙ early.short
+  append_kind fault.Tape refused ends kind = refl
+  append_kind f refused ends kind = absurd ends
+
+  -- none of its refusals comes before a volume is copied
+  pub append_late : (f : StoreFault) (refused : Option StoreFault) → Appends (Err f) → IsOfPart refused → is_before_copies (append_status f refused) ≡ false
+  append_late fault.Source (Some fault.Tape) ends kind = refl
+  append_late fault.Source (Some (fault.Lost segment lost)) ends kind = refl
+  append_late fault.Source (Some (fault.Mismatch segment)) ends kind = refl
+  append_late fault.Source (Some f) ends kind = absurd kind
+  append_late fault.Source None ends kind = refl
+  append_late fault.Protected refused ends kind = refl
+  append_late (fault.Lost segment lost) refused ends kind = refl
+  append_late fault.TableMismatch refused ends kind = refl
+  append_late (fault.Full need have) refused ends kind = refl
+  append_late (fault.Short promised read) refused ends kind = refl
+  append_late fault.Tape refused ends kind = refl
+  append_late f refused ends kind = absurd ends
+
+-- ---- a volume
+
+effects_none : (told : Option (Option Cartridge)) → told ≡ option_map (effects []) told
+effects_none None = refl
+effects_none (Some held) = refl
+
+-- what a copy of one did, whatever came of it
+pub record OneGoes {A B : Type 0} (a : tapes.Meaning A) (b : tapes.Meaning B) (before after : SideView A) (old new : SideView B) : Type 0 where
+  pub from : tapes.Done a before.unit.tape after.unit.tape []
+  pub words : after.store.words ≡ before.store.words
+  pub entries : after.store.entries ≡ before.store.entries
+  pub fits : SideFits a after
+  pub to : GoesOn b old.unit.tape new.unit.tape
+  pub to_words : new.store.words ≡ old.store.words
+
+module _ {A B : Type 0} (a : tapes.Meaning A) (b : tapes.Meaning B) (number : ℕ) (from after : SideView A) (to new : SideView B) (result : Result ℕ CopyStatus) (one : CopiesOne a b number from after to new result) where
+  source_tape : after.unit.tape ≡ one.source.unit.tape
+  source_tape = ap (λ (side : SideView A). side.unit.tape) one.back
+
+  pub one_goes : OneGoes a b from after to new
+  one_goes = record {
+    from = subst (λ (t : A). tapes.Done a from.unit.tape t []) (sym source_tape)
+        (record { told = one.kept.told ∙ effects_none (a.told from.unit.tape); later = one.kept.later; stops = one.kept.stops });
+    words = ap (λ (side : SideView A). side.store.words) one.back ∙ one.kept.store.words;
+    entries = ap (λ (side : SideView A). side.store.entries) one.back ∙ one.kept.store.entries;
+    fits = subst (λ (side : SideView A). SideFits a side) (sym one.back) one.sound.fits;
+    to = append_goes a b to.unit.tape new.unit.tape (new_source from.store from.unit number) one.source to.store new.store one.entry.name one.entry.date
+        (volume_length from.store.words one.entry) one.appended one.ends;
+    to_words = one.format.words;
+  }
+
+  -- it was copied: the target's store fits, and has an entry more
+  pub record OneDone (bytes : ℕ) : Type 0 where
+    pub fits : SideFits b new
+    pub entry : Entry
+    pub more : new.store.entries ≡ to.store.entries ++ entry ∷ []
+
+  abbrev Ended : Result Appended StoreFault → Type 0
+  Ended r = AppendEnds b (source_means a) (reading to.unit.tape (new_source from.store from.unit number)) (reading new.unit.tape one.source)
+      to.store new.store one.entry.name one.entry.date (Some (volume_length from.store.words one.entry)) r
+
+  pub one_done : (bytes : ℕ) → result ≡ Ok bytes → OneDone bytes
+  one_done bytes ok = by_answer one.appended refl
+    where
+      by_answer : (r : Result Appended StoreFault) → one.appended ≡ r → OneDone bytes
+      by_answer (Ok appended) is =
+          let does : Ended (Ok appended) = subst Ended is one.ends in record {
+            fits = one.fits (λ bad. let no : Ok appended ≡ Err fault.Tape = sym is ∙ bad in cc);
+            entry = does.entry;
+            more = does.added;
+          }
+      by_answer (Err f) is =
+          let no : Ok bytes ≡ append_answer (Err f) one.source.fault = sym ok ∙ one.is ∙ ap (λ (r : Result Appended StoreFault). append_answer r one.source.fault) is in absurd (cc)
+
+-- ---- volumes one after the other
+
+pub lines_more : (number : ℕ) (xs : List ℕ) (y : ℕ) → copied_lines number (xs ++ y ∷ []) ≡ copied_lines number xs ++ copied_line (number + length xs) y
+lines_more number [] y =
+    let same : number + 0 ≡ number = omega arith in rw same (append-nil (copied_line number y))
+lines_more number (x ∷ xs) y =
+    let same : number + 1 + length xs ≡ number + length (x ∷ xs) = omega arith in
+    ap (λ (text : List ℕ). copied_line number x ++ text) (lines_more (number + 1) xs y)
+    ∙ sym (append_assoc (copied_line number x) (copied_lines (number + 1) xs) (copied_line (number + 1 + length xs) y))
+    ∙ ap (λ (k : ℕ). (copied_line number x ++ copied_lines (number + 1) xs) ++ copied_line k y) same
+
+-- what so many copies did
+pub record Chained {A B K : Type 0} (a : tapes.Meaning A) (b : tapes.Meaning B) (k : sinks.Meaning K) (old mid : CopyView A B K) : Type 0 where
+  pub from : tapes.Done a old.from.unit.tape mid.from.unit.tape []
+  pub words : mid.from.store.words ≡ old.from.store.words
+  pub entries : mid.from.store.entries ≡ old.from.store.entries
+  pub from_fits : SideFits a mid.from
+  pub to : GoesOn b old.to.unit.tape mid.to.unit.tape
+  pub to_words : mid.to.store.words ≡ old.to.store.words
+  pub to_fits : SideFits b mid.to
+  pub more : List Entry
+  pub to_entries : mid.to.store.entries ≡ old.to.store.entries ++ more
+  pub lengths : List ℕ
+  pub many : length lengths ≡ length more
+  pub took : k.took old.sink (copied_lines (next_number old) lengths) mid.sink
+  pub later : k.faults old.sink ≤ k.faults mid.sink
+
+module _ {A B K : Type 0} (a : tapes.Meaning A) (b : tapes.Meaning B) (k : sinks.Meaning K) (both : TakesBoth k) (nothing : (z : K) → k.took z [] z) where
+  chain_more : (old mid new : CopyView A B K) → Chained a b k old mid → HasCopied a b k mid new → Chained a b k old new
+  chain_more old mid new chain has =
+      let goes = one_goes a b (next_number mid) mid.from new.from mid.to new.to (Ok has.bytes) has.one in
+      let done = one_done a b (next_number mid) mid.from new.from mid.to new.to (Ok has.bytes) has.one has.bytes refl in
+      let count : length mid.to.store.entries ≡ length old.to.store.entries + length chain.more =
+      ap length chain.to_entries ∙ length-append old.to.store.entries chain.more in
+      let number : next_number mid ≡ next_number old + length chain.lengths = omega (arith, count, chain.many) in
+      let one_more : length (chain.more ++ done.entry ∷ []) ≡ length chain.more + 1 = length-append chain.more (done.entry ∷ []) in
+      let one_longer : length (chain.lengths ++ has.bytes ∷ []) ≡ length chain.lengths + 1 = length-append chain.lengths (has.bytes ∷ []) in
+      record {
+        from = Done-Done chain.from goes.from;
+        words = goes.words ∙ chain.words;
+        entries = goes.entries ∙ chain.entries;
+        from_fits = goes.fits;
+        to = goes_both b old.to.unit.tape mid.to.unit.tape new.to.unit.tape chain.to goes.to;
+        to_words = goes.to_words ∙ chain.to_words;
+        to_fits = done.fits;
+        more = chain.more ++ done.entry ∷ [];
+        to_entries = done.more ∙ ap (λ (es : List Entry). es ++ done.entry ∷ []) chain.to_entries ∙ append_assoc old.to.store.entries chain.more (done.entry ∷ []);
+        lengths = chain.lengths ++ has.bytes ∷ [];
+        many = omega (arith, one_more, one_longer, chain.many);
+        took = subst (λ (text : List ℕ). k.took old.sink text new.sink)
+            (ap (λ (n : ℕ). copied_lines (next_number old) chain.lengths ++ copied_line n has.bytes) number ∙ sym (lines_more (next_number old) chain.lengths has.bytes))
+            (both old.sink mid.sink new.sink (copied_lines (next_number old) chain.lengths) (copied_line (next_number mid) has.bytes) chain.took has.line.took);
+        later = let e = chain.later in let f = has.line.later in omega arith;
+      }
+
+  pub chained : (count : ℕ) (old mid : CopyView A B K) → SideFits a old.from → SideFits b old.to → HaveCopied a b k count old mid → Chained a b k old mid
+  chained zero old mid source target same =
+      subst (Chained a b k old) (sym same) (record {
+        from = Done-nothing a old.from.unit.tape;
+        words = refl;
+        entries = refl;
+        from_fits = source;
+        to = goes_same b old.to.unit.tape old.to.unit.tape refl;
+        to_words = refl;
+        to_fits = target;
+        more = [];
+        to_entries = sym (append-nil old.to.store.entries);
+        lengths = [];
+        many = refl;
+        took = nothing old.sink;
+        later = omega arith;
+      })
+  chained (suc count) old new source target (mid, before, one) = chain_more old mid new (chained count old mid source target before) one
+
+  -- the whole of them
+  pub record AllGoes (old new : CopyView A B K) : Type 0 where
+    pub from : tapes.Done a old.from.unit.tape new.from.unit.tape []
+    pub to : GoesOn b old.to.unit.tape new.to.unit.tape
+    pub sink : k.faults old.sink ≤ k.faults new.sink
+
+  pub missing_goes : (old new : CopyView A B K) (answer : CopyStatus) → SideFits a old.from → SideFits b old.to → MissingEnds a b k old new answer → AllGoes old new
+  missing_goes old new answer source target ends = by_end ends.ends
+    where
+      chain : Chained a b k old ends.mid
+      chain = chained ends.count old ends.mid source target ends.copied
+
+      with_one : (r : Result ℕ CopyStatus) → CopiesOne a b (next_number ends.mid) ends.mid.from new.from ends.mid.to new.to r → k.faults ends.mid.sink ≤ k.faults new.sink → AllGoes old new
+      with_one r one later =
+          let goes = one_goes a b (next_number ends.mid) ends.mid.from new.from ends.mid.to new.to r one in record {
+            from = Done-Done chain.from goes.from;
+            to = goes_both b old.to.unit.tape ends.mid.to.unit.tape new.to.unit.tape chain.to goes.to;
+            sink = let e = chain.later in omega (arith, e, later);
+          }
+
+      count_later : (found : CopyStatus) → PrintsCount k ends.mid.sink new.sink (length ends.mid.to.store.entries) found → k.faults ends.mid.sink ≤ k.faults new.sink
+      count_later status.Done wrote = wrote.later
+      count_later status.SinkFault broke = broke.later
+      count_later found none = absurd none
+
+      by_end : IsRefused a b ends.mid new answer ⊎ IsUnprinted a b k ends.mid new answer ⊎ IsCounted k ends.mid new answer → AllGoes old new
+      by_end (inl refused) = with_one (Err answer) refused.one (let same : k.faults new.sink ≡ k.faults ends.mid.sink = ap k.faults refused.sink in omega (arith, same))
+      by_end (inr (inl unprinted)) = with_one (Ok unprinted.bytes) unprinted.one unprinted.line.later
+      by_end (inr (inr counted)) = record {
+        from = subst (λ (side : SideView A). tapes.Done a old.from.unit.tape side.unit.tape []) (sym counted.from) chain.from;
+        to = subst (λ (side : SideView B). GoesOn b old.to.unit.tape side.unit.tape) (sym counted.to) chain.to;
+        sink = let e = chain.later in let f = count_later answer counted.count in omega (arith, e, f);
+      }
