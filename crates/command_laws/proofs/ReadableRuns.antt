@@ -13,10 +13,11 @@ use Rattle.cartridge_laws.proofs.MountKeeping.{stopped_mounts}
 use Rattle.cartridge_laws.proofs.MountStanding.{can_be_read, standing_mounts}
 use Rattle.cartridge_laws.proofs.Segments.{length-whole_cells}
 use Rattle.cartridge_laws.specs.FormatMarks.{IsFormattedFrom}
-use Rattle.cartridge_spec.specs.Formatting.{HasNoDefectInFront, format_steps, HasNoHeader, IsBareCopy, clearing_steps, copy_writes}
+use Rattle.cartridge_spec.specs.Formatting.{HasNoDefectInFront, format_steps, HasNoHeader, clearing_steps, copy_writes}
+use Rattle.cartridge_laws.specs.Terms.{IsBareCopy, unreadable_data}
 use Rattle.cartridge_spec.specs.HeaderAndTable.{IsArea, table_cells, IsUnformatted}
 use Rattle.cartridge_spec.specs.Mounting.{CanBeRead, IsTableLive, Mounted, Mounts}
-use Rattle.cartridge_spec.specs.Says.{whole_mask, unreadable_count, unreadable_data, with_parity}
+use Rattle.cartridge_spec.specs.Says.{whole_mask, unreadable_count, with_parity}
 use Rattle.cartridge_spec.specs.Settling.{changed_by}
 use Rattle.cartridge_spec.specs.Volumes.{Plain, entries_of, worn}
 use Rattle.command_laws.proofs.BetweenCarrying.{loses_one}
@@ -40,7 +41,7 @@ use Rattle.qic_base.specs.Acts.{Outside, steps_of}
 use Rattle.qic_base.specs.Cartridge.{Cartridge, view_at, zero_sector}
 use Rattle.qic_base.specs.Terms.{IsCartridge}
 use Rattle.qic_base.specs.Step.{Step, effects}
-use Rattle.qic_base.specs.Stop.{Torn}
+use Rattle.qic_base.specs.Step.{Torn}
 use Rattle.qic_base.specs.declared.tape.SectorView.{SectorView}
 use Rattle.qic_base.specs.declared.tape.SectorView.TheVariants.{Holds}
 use Rattle.qic_base.specs.Tape as tapes

@@ -15,9 +15,9 @@ use Rattle.command_spec.specs.Headline.{StopsGoOn}
 use Rattle.command_spec.specs.declared.copy_status.CopyStatus.{CopyStatus}
 use Rattle.qic_base.proofs.Steps.{Done-Done, Done-nothing}
 use Rattle.qic_base.proofs.Writing.{TakesBoth}
-use Rattle.qic_base.specs.Acts.{reading}
+use Rattle.qic_base.specs.Terms.{reading}
 use Rattle.qic_base.specs.Cartridge.{Cartridge}
-use Rattle.qic_base.specs.Cause.{Rose}
+use Rattle.qic_base.specs.Tape.{Rose}
 use Rattle.qic_base.specs.Step.{Step as TapeStep, effects}
 use Rattle.store_opening.specs.Opening.{HasOpened, OpenFails}
 use Rattle.store_opening.specs.declared.opening.OpenFault.{OpenFault}
