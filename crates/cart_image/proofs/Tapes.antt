@@ -31,14 +31,13 @@ use Rattle.cart_image.proofs.Carries.{Means, Does-carried}
 use Rattle.cart_image.proofs.Changes.{view_at-read}
 use Rattle.cart_image.proofs.Exits.{Carried-looked, Carried-runs, told-fact}
 use Rattle.cart_image.proofs.Formats.{format-means}
-use Rattle.cart_image.proofs.Heads.{protected-means, referenced-means}
+use Rattle.cart_image.proofs.Heads.{protected-means, referenced-means, TellsLayout}
 use Rattle.cart_image.proofs.Known.{on-tape, on-segment, head-under, long-under}
 use Rattle.cart_image.proofs.Laid.{carried-laid, carried-passes, some_told, write-spares, wear-spares, spoil-spares, format-spares, mark-spares}
 use Rattle.cart_image.proofs.Renews.{renew-means, renew-laid}
 use Rattle.cart_image.proofs.Upgrades.{upgrade-means, upgrade-laid}
 use Rattle.cart_image.proofs.Runs.{Looks-settled, Looks-nothing, Ran-told}
 use Rattle.cart_image.proofs.Sectors.{write-means, wear-means, spoil-means}
-use Rattle.cart_image.proofs.Heads.{TellsLayout}
 use Rattle.cart_image.proofs.Writes.{Spares}
 
 Tape-stops : {D : Type 0} {g : Ghosts D} (old new : ImageTape D g) (steps : List Step) → Stops (disk_means g.means) old.disk new.disk steps → Stops (image_means {g = g}) old new steps

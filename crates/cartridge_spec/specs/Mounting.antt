@@ -85,7 +85,7 @@ IsTableLive c = (i : ℕ) → i < 32 → IsLive (view_at c 2 i)
 abbrev pub Lists : Cartridge → Header → (words : List ℕ) → List Entry → Type 0
 Lists d header words entries = (table : List (List ℕ)) × Mounts d (Mounted header words table entries)
 
--- ---- A table's segment of which one sector more is lost, where an append wrote it (this project's profile).
+-- ---- a table's segment of which one sector more is lost, where an append wrote it
 
 -- one sector of the table's segment is lost, and the others are as they were
 pub record LosesOne (c d : Cartridge) (lost : ℕ) : Type 0 where

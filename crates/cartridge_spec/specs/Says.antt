@@ -140,7 +140,7 @@ sets_by used (m ∷ other ∷ []) =
 sets_by used (m ∷ other ∷ third ∷ more) = []
 
 -- its data as they are, where all of them can be read, and else what the code says: without leaving a sector out, and
--- then by the sets of its unreadable sectors and of its last data sector with a used slot
+-- then by the sets of its unreadable sectors, of its last data sector with a used slot and of the parity sectors
 pub data TableSaying : Type 0 where
   AsRead : List (List ℕ) → TableSaying
   ByCode : Saying → TableSaying

@@ -84,7 +84,7 @@ pub record Stands (c : Cartridge) (plain : Plain) : Type 0 where
   pub volumes : All (VolumeStands c plain.words) plain.volumes
   pub table : Written (table_cells c) plain.table_area ⊎ ReadsAll (table_cells c) plain.table_area
 
--- ---- A worn sector, and when it takes neither header nor table away (this project's profile).
+-- ---- a worn sector, and when it takes neither header nor table away
 
 -- the cartridge with a sector worn
 abbrev pub worn : (segment sector : ℕ) → Cartridge → Cartridge

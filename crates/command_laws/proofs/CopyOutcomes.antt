@@ -19,10 +19,10 @@ use Rattle.command_laws.proofs.RestoreGiven.{given_always, given_is_long}
 use Rattle.command_laws.specs.CopyLaws.{CopiesSomething}
 use Rattle.command_laws.specs.MountedListed.{IsListed, listed_behind}
 use Rattle.command_spec.specs.Append.{Fits, Kept, Taking, TooLong, TooShort, room_in, taking}
-use Rattle.command_spec.specs.Copying.{Compares, Copies, CopiesVolume, CopyOutcome, FromMounted, Side, ToDoes, ToMounted, behind_copy, copied_behind, copied_entry, copy_acts, copy_refused, first_difference, foreign_fault, giving_status, has_room_for, kept_on, length_on, missing, side_of, DoneOf}
+use Rattle.command_spec.specs.Copying.{Compares, Copies, CopiesVolume, CopyOutcome, FromMounted, Side, ToDoes, ToMounted, behind_copy, copied_behind, copied_entry, copy_acts, copy_refused, first_difference, foreign_fault, giving_status, has_room_for, kept_on, length_on, missing, side_of, DoneOf, GivenBytes}
 use Rattle.command_spec.specs.Lines.{count_line}
 use Rattle.command_spec.specs.Outcome.{settling_act}
-use Rattle.command_spec.specs.Restore.{GivenBytes, GivingEnd, LostIn, MismatchIn, Restored, Restores, pieces}
+use Rattle.command_spec.specs.Restore.{GivingEnd, LostIn, MismatchIn, Restored, Restores, pieces}
 use Rattle.command_spec.specs.declared.copy_status.CopyStatus.{CopyStatus}
 use Rattle.qic_base.specs.Acts.{Act, steps_of}
 use Rattle.qic_base.specs.Cartridge.{Cartridge}

@@ -15,7 +15,8 @@ use Rattle.command_laws.proofs.RestoreGiven.{given_begins_restored}
 use Rattle.command_laws.proofs.RestoreStanding.{few_or_first_lost, restores_byte_for_byte, restores_front}
 use Rattle.command_laws.specs.MountedKept.{IsAppendable}
 use Rattle.command_laws.specs.RestoreLaws.{HasVolume}
-use Rattle.command_spec.specs.Restore.{GivenBytes, Restored, Restores, pieces_in}
+use Rattle.command_spec.specs.Copying.{GivenBytes}
+use Rattle.command_spec.specs.Restore.{Restored, Restores, pieces_in}
 use Rattle.qic_base.specs.Acts.{Act, text_of}
 use Rattle.qic_base.specs.Cartridge.{Cartridge, IsSector}
 use Rattle.qic_base.specs.Field.{little_endian, number_at}

@@ -232,3 +232,12 @@ HasInputFault command input line place = (command_of command).fault input line p
 -- answered by its reply, so the lines need nothing more.
 abbrev pub CanBeDone : Words → (held : Option Cartridge) (input : List ℕ) → Type 0
 CanBeDone command held input = (command_of command).needs held input
+
+-- the reading of words: a command, with its values; or they are those of none
+abbrev pub ReadsCommand : List (List ℕ) → Option Words → Type 0
+ReadsCommand words None = SpellsNone words
+ReadsCommand words (Some command) = Spells words command × HasValues command
+
+-- how it ended, whatever the source is
+abbrev pub EndsBlind : {T K : Type 0} (t : tapes.Meaning T) (k : sinks.Meaning K) (command : Words) (old new : T) (sink printed : K) → Status → Type 0
+EndsBlind t k command old new sink printed answer = CommandEnds t no_source k command (around old sink) (around new printed) answer

@@ -1,8 +1,7 @@
 //! What a run of `make` comes to. Each law is the contract of a function that does nothing, so that other crates can
 //! rest on it; their proofs import the lemmas of this crate's `proofs`.
 
-ghost use Rattle.command_laws.specs.MadeLaws.{MakesOneThing, MakesSomething, StopsAreInSteps, StoppedMakeStands, DoneMakeStands, AnsweredMakeStands, MadeAreAnswered, MadeWhereThereIsRoom};
-ghost use Rattle.command_laws.specs.MadeLaws.{MakeLists, MadeAreListed};
+ghost use Rattle.command_laws.specs.MadeLaws.{MakesOneThing, MakesSomething, StopsAreInSteps, StoppedMakeStands, DoneMakeStands, AnsweredMakeStands, MadeAreAnswered, MadeWhereThereIsRoom, MakeLists, MadeAreListed};
 
 /// A run does one thing on a cartridge.
 pub fn a_run_is_one()

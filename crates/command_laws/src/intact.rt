@@ -1,11 +1,9 @@
 //! What becomes of a cartridge whose whole table holds what it should, so that one sector more of the table's segment may be
 //! lost. Each law is the contract of a function that does nothing; their proofs import the lemmas of this crate's `proofs`.
 
-ghost use Rattle.command_laws.specs.Intact.{SettledIsIntact, IntactComesBack, AppendsLeaveIntact, WearsLeaveIntact, ScrubsLeaveIntact};
+ghost use Rattle.command_laws.specs.Intact.{SettledIsIntact, IntactComesBack, AppendsLeaveIntact, WearsLeaveIntact, ScrubsLeaveIntact, StoppedMakeComesBack, PrintedMakeComesBack, DoneMakeIsIntact, StoppedScriptComesBack, AnsweredScriptComesBack, DoneScriptComesBack};
 ghost use Rattle.command_laws.specs.ReadableLaws.{ComesBackCanBeRead, LeftCanBeRead};
 ghost use Rattle.command_laws.specs.Between.{FreeMayComeBack, StepsBetweenCarryOn, MountsWhileProtected, ComesBackOnceFree};
-ghost use Rattle.command_laws.specs.Intact.{StoppedMakeComesBack, PrintedMakeComesBack, DoneMakeIsIntact};
-ghost use Rattle.command_laws.specs.Intact.{StoppedScriptComesBack, AnsweredScriptComesBack, DoneScriptComesBack};
 
 /// A cartridge is intact once its table was settled, where each sector of the table's segment takes a write; and then it
 /// comes back where one of these sectors is lost.

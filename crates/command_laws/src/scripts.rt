@@ -1,8 +1,7 @@
 //! Laws of the plain machine of `script`. Each is the contract of a function that does nothing.
 
 ghost use Rattle.command_laws.specs.ScriptLaws.{OneOutcome, EachOutcome, StopsInOne};
-ghost use Rattle.command_laws.specs.ScriptStanding.{ItemsHaveBytes, ItemsStand, StoppedItemStands, FaultStands};
-ghost use Rattle.command_laws.specs.ScriptStanding.{DoneScriptStands, StoppedScriptStands, AnsweredBetween, AnsweredBehind};
+ghost use Rattle.command_laws.specs.ScriptStanding.{ItemsHaveBytes, ItemsStand, StoppedItemStands, FaultStands, DoneScriptStands, StoppedScriptStands, AnsweredBetween, AnsweredBehind};
 ghost use Rattle.command_laws.specs.ScriptListing.{ListedBetween, ListedBehind, ListedDone, ListedNone};
 
 /// An input has at most one outcome over a mounted cartridge.

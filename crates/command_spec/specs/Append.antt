@@ -137,7 +137,7 @@ AppendOutcome name date held input outcome =
     WritableOutcome (λ c header words table entries outcome. outcome ≡ appended name date input c words table entries)
     held outcome
 
--- ---- The command `append`: what it needs, what it prints and what it keeps (this project's own).
+-- ---- the command
 
 -- It needs room for one byte at least, and for all of the input. It asks for at most one byte beyond the room that there is, and adds
 -- a volume, but to a protected cartridge.

@@ -1,4 +1,5 @@
--- The forms of words, and how numbers, dates and names are spelled in them (this project's own).
+-- All that is said of a command, in one record: how its words are spelled, what kind of a command it is, what it needs,
+-- does, prints and keeps (this project's own).
 use Rattle.std.specs.Prelude.{◌≡◌, ℕ, ◌≤◌, List, decimal, [], ◌∷◌, ◌⊎◌, ◌==◌, ◌++◌, if◌then◌else◌, Bool, false, Option}
 use Rattle.command_spec.specs.Lines.{date_form}
 use Rattle.qic_base.specs.Field.{IsDate, date_word, IsNameText, filled}
@@ -66,9 +67,6 @@ dated form date = (form ++ Date date ∷ []) ∷ (if date == 0 then form ∷ [] 
 -- any number that a word can be
 abbrev pub AnyNumber : ℕ → Part
 AnyNumber n = Number 0 999999999 n
-
--- ---- All that is said of a command, in one record: what kind of a command it is, what it needs, does, prints and keeps (this
--- project's own).
 
 -- ---- its traits
 

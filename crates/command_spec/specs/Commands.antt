@@ -1,4 +1,4 @@
--- The commands: the record of each, in a file of the folder, and its words and traits by that (this project's own).
+-- The commands: the record of each, from its own file, and its words and traits by that (this project's own).
 use Rattle.std.specs.Prelude.{ℕ, List}
 use Rattle.command_spec.specs.Append.{append_command}
 use Rattle.command_spec.specs.Command.{Command, Traits, HasForm}

@@ -1,19 +1,19 @@
 -- The plain machine of a copy: the volumes of one cartridge are appended to another one, behind those that it has (this
 -- project's own).
-use Rattle.std.specs.Prelude.{ℕ, ◌+◌, List, [], ◌∷◌, ◌++◌, codes, length, drop, ◌≡◌, ◌≢◌, ◌⊎◌, ◌==◌, ◌&&◌, Bool, true, false, if◌then◌else◌, Option, Some, None}
+use Rattle.std.specs.Prelude.{ℕ, ◌+◌, List, [], ◌∷◌, ◌++◌, codes, length, drop, take, replicate, ◌≡◌, ◌≢◌, ◌⊎◌, ◌==◌, ◌&&◌, Bool, true, false, if◌then◌else◌, Option, Some, None}
 use Rattle.std.specs.Str.{bytes_eq}
-use Rattle.cartridge_spec.specs.Appending.{new_entry, taken_by, free_segments}
+use Rattle.cartridge_spec.specs.Appending.{bytes_in, new_entry, taken_by, free_segments}
 use Rattle.cartridge_spec.specs.Header.{HeaderFault}
 use Rattle.cartridge_spec.specs.HeaderAndTable.{TableIs, table_cells}
 use Rattle.cartridge_spec.specs.Mounting.{Mounting, Mounts, settled}
-use Rattle.cartridge_spec.specs.Says.{LostSectors, ByCode, TableSays}
+use Rattle.cartridge_spec.specs.Says.{Saying, Says, Data, LostSectors, Mismatch, ByCode, TableSays}
 use Rattle.cartridge_spec.specs.Settling.{changed_by, settling_steps}
 use Rattle.cartridge_spec.specs.Table.{Entry}
 use Rattle.cartridge_spec.specs.Volumes.{volume_length}
 use Rattle.command_spec.specs.Append.{Kept, append_acts, has_promised_room, input_writes, kept_over, room_in}
 use Rattle.command_spec.specs.Lines.{place_line, count_line}
 use Rattle.command_spec.specs.Outcome.{settling_act}
-use Rattle.command_spec.specs.Restore.{GivingEnd, Restored, LostIn, MismatchIn, Restores, GivenBytes, pieces}
+use Rattle.command_spec.specs.Restore.{GivingEnd, Piece, Restored, LostIn, MismatchIn, Restores, piece_cells, pieces}
 use Rattle.command_spec.specs.declared.copy_fault.CopyFault.{CopyFault}
 use Rattle.command_spec.specs.declared.copy_status.CopyStatus.{CopyStatus}
 use Rattle.qic_base.specs.Acts.{Act, steps_of}
@@ -22,6 +22,21 @@ use Rattle.qic_base.specs.Step.{Step}
 use Rattle.cartridge_spec.specs.Mounting as mounting
 use Rattle.command_spec.specs.declared.copy_fault.CopyFault.TheVariants as fault
 use Rattle.command_spec.specs.declared.copy_status.CopyStatus.TheVariants as status
+
+-- ---- the bytes that the source gives
+
+-- a piece's bytes, by what its segment says: the first bytes of its data, or zero bytes in their place where it says none
+abbrev pub bytes_said : Piece → Saying → List ℕ
+bytes_said piece (Data sectors) = take piece.count (bytes_in sectors)
+bytes_said piece (LostSectors lost) = replicate piece.count 0
+bytes_said piece Mismatch = replicate piece.count 0
+
+-- the bytes of all pieces, one after the other
+abbrev pub GivenBytes : Cartridge → (words : List ℕ) → List Piece → (bytes : List ℕ) → Type 0
+GivenBytes c words [] bytes = bytes ≡ []
+GivenBytes c words (piece ∷ needed) bytes =
+    (saying : Saying) × (rest : List ℕ) × Says (piece_cells c words piece) saying × GivenBytes c words needed rest
+    × (bytes ≡ bytes_said piece saying ++ rest)
 
 -- One of the two cartridges, mounted and settled: the words of its map, and the list of its volumes. Those of `from` are copied
 -- to `to`.

@@ -1,21 +1,14 @@
--- The plain machine over words (this project's own).
-use Rattle.std.specs.Prelude.{ℕ, List, Option, ◌≡◌, ◌⊎◌, [], Some, None}
-use Rattle.command_spec.specs.Commands.{command_of, IsCommand}
-use Rattle.command_spec.specs.Outcome.{CommandOutcome, output_of}
+-- The plain machine over words, and how a command ended: all acts of its outcome went, or a fault of the outside cut
+-- them off (this project's own).
+use Rattle.std.specs.Prelude.{ℕ, List, Option, ◌≡◌, ◌⊎◌, [], IfSome, ◌+◌, drop, Bool, true, false, ◌&&◌, ◌==◌, nat_lt, ◌||◌, ◌<◌, All, IfNone, ◌≢◌, is_some}
+use Rattle.command_spec.specs.Commands.{command_of, IsCommand, traits_of}
+use Rattle.command_spec.specs.Outcome.{CommandOutcome, output_of, is_refused}
 use Rattle.command_spec.specs.declared.status.Status.{Status}
 use Rattle.command_spec.specs.declared.words.Words.{Words}
-use Rattle.qic_base.specs.Acts.{steps_of}
+use Rattle.qic_base.specs.Acts.{steps_of, Outside, Failing, TapeFails, SourceFails, SinkFails, Went, Act, Cut, text_of}
 use Rattle.qic_base.specs.Cartridge.{Cartridge}
 use Rattle.qic_base.specs.Step.{effects}
-use Rattle.std.specs.Prelude.{◌≡◌, ℕ, List, Option, IfSome, ◌+◌, drop, Bool, true, false, ◌&&◌, ◌==◌, nat_lt, ◌||◌, ◌<◌, All, IfNone, ◌≢◌, [], is_some, ◌⊎◌}
 use Rattle.std.specs.Option.{option_map}
-use Rattle.command_spec.specs.Commands.{command_of, traits_of}
-use Rattle.command_spec.specs.Outcome.{is_refused, CommandOutcome, output_of}
-use Rattle.command_spec.specs.declared.status.Status.{Status}
-use Rattle.command_spec.specs.declared.words.Words.{Words}
-use Rattle.qic_base.specs.Acts.{Outside, Failing, TapeFails, SourceFails, SinkFails, Went, Act, Cut, steps_of, text_of}
-use Rattle.qic_base.specs.Terms.{no_source, around}
-use Rattle.qic_base.specs.Cartridge.{Cartridge}
 use Rattle.command_spec.specs.declared.status.Status.TheVariants as status
 use Rattle.qic_base.specs.Source as sources
 use Rattle.qic_base.specs.Tape as tapes
@@ -37,11 +30,6 @@ Spells words command = IsCommand words command
 abbrev pub SpellsNone : List (List ℕ) → Type 0
 SpellsNone words = (command : Words) → ¬ (Spells words command)
 
--- the reading of words: a command, with its values; or they are those of none
-abbrev pub ReadsCommand : List (List ℕ) → Option Words → Type 0
-ReadsCommand words None = SpellsNone words
-ReadsCommand words (Some command) = Spells words command × HasValues command
-
 -- words, what the drive holds and the input; and then what it holds, what was printed, how many bytes of the input were
 -- taken, and the status
 abbrev pub Step : (words : List (List ℕ)) (held : Option Cartridge) (input : List ℕ) (held' : Option Cartridge) (output : List ℕ) (taken : ℕ) → Status → Type 0
@@ -49,8 +37,6 @@ Step words held input held' output taken answer =
     (SpellsNone words × (held' ≡ held) × (output ≡ []) × (taken ≡ 0) × (answer ≡ status.Usage))
     ⊎ ((command : Words) × Spells words command × ((outcome : CommandOutcome) × (command_of command).yields held input outcome
     × (held' ≡ effects (steps_of outcome.acts) held) × (output ≡ output_of outcome) × (taken ≡ outcome.taken) × (answer ≡ outcome.status)))
-
--- ---- How a command ended: all acts of its outcome went, or a fault of the outside cut them off (this project's own).
 
 -- where the tape tells, a fact of what it told and of the input: that which the source told, or some input where it
 -- tells none
@@ -170,9 +156,3 @@ abbrev pub CommandEnds : {T S K : Type 0} (t : tapes.Meaning T) (s : sources.Mea
 CommandEnds t s k command old new answer =
     Finished t s k command old new answer
     ⊎ ((failing : Failing) × (answer ≡ fault_of failing) × Stopped t s k command old new failing)
-
--- ---- a command that reads no input
-
--- how it ended, whatever the source is
-abbrev pub EndsBlind : {T K : Type 0} (t : tapes.Meaning T) (k : sinks.Meaning K) (command : Words) (old new : T) (sink printed : K) → Status → Type 0
-EndsBlind t k command old new sink printed answer = CommandEnds t no_source k command (around old sink) (around new printed) answer

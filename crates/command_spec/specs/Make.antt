@@ -1,4 +1,5 @@
--- The bytes of the volumes that `make` appends, and their sums (this project's own).
+-- The plain machine of `make`: the volumes that it appends, the steps of a generated run, what each does, what a run may
+-- print, how many were appended by its answer, and the command (this project's own).
 use Rattle.std.specs.Prelude.{ℕ, ◌+◌, ◌*◌, ◌%◌, List, map, ◌++◌, codes, decimal, [], ◌∷◌, zero, suc, take, ◌==◌, if◌then◌else◌, length, drop, Some, ◌≡◌, true, slice_get, IsSomeAnd, ◌^◌, sum, ◌⊎◌, false, ◌≢◌, ◌<◌, Option, ◌≤◌, All, nat_lt}
 use Rattle.std.specs.List.{range_with_len}
 use Rattle.cartridge_spec.specs.Appending.{room, Content}
@@ -30,8 +31,6 @@ made_length seed volume = 1000 * (1 + (seed * 37 + volume * 101) % 20000)
 
 unfoldable pub made_bytes : (seed volume : ℕ) → List ℕ
 made_bytes seed volume = map (λ place. (place + 31 * volume + seed) % 251) (range_with_len 0 (made_length seed volume))
-
--- ---- The plain machine of `make`: the steps of a generated run, what each does, and what a run may print (this project's own).
 
 -- A step of a run: the made volume with this number is appended; a sector is worn; all is scrubbed; the volume with this
 -- number in the list is restored, and summed.
@@ -236,8 +235,6 @@ pub record Making (seed count : ℕ) (c : Cartridge) (header : Header) (words : 
 abbrev pub MakeOutcome : (seed count : ℕ) → Option Cartridge → CommandOutcome → Type 0
 MakeOutcome seed count held outcome = WritableOutcome (Making seed count) held outcome
 
--- ---- The volumes that `make` appends, how many it has appended by its answer, and what it needs to be carried out (this project's own).
-
 -- so many made volumes, from this one on
 abbrev pub made_contents : (seed volume count : ℕ) → List Content
 made_contents seed volume zero = []
@@ -275,10 +272,9 @@ LoseFewBehind seed count c plain =
     length entries < number → volume_at made number ≡ Some e →
     All (LosesFew (changed_by (steps_of acts) c) plain.words) (pieces plain.words e)
 
--- ---- The command `make`: what it needs, and what it prints (this project's own).
+-- ---- the command
 
--- Each of the generated volumes has room when its turn comes, and no segment that holds some of their bytes has more than three
--- unreadable sectors once they were appended, worn and scrubbed.
+-- its volumes have room, and lose few sectors of a segment once they were appended, worn and scrubbed
 pub record CanMake (c : Cartridge) (seed count : ℕ) : Type 0 where
   pub plain : Plain
   pub mounts : ReadsAs c plain

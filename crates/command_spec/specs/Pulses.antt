@@ -66,7 +66,7 @@ pub record SentOutcome (held : Option Cartridge) (input : List ℕ) (outcome : C
 abbrev pub AreLevels : List ℕ → Type 0
 AreLevels text = (known : Option TapeInfo) × ((trains : List ℕ) × (text ≡ text_of (train_acts (power_on known) trains)))
 
--- ---- The command `pulses` (this project's own).
+-- ---- the command
 
 -- The drive shows its levels without a cartridge, and those of the trains before a fault of the input: the lines of trains go up to
 -- the end of the input or to the line `end`.

@@ -1,8 +1,8 @@
 -- The plain machine of `restore`: a volume's bytes, segment by segment, and how their giving ends (this project's own).
-use Rattle.std.specs.Prelude.{ℕ, zero, suc, ◌-◌, List, [], ◌∷◌, min, sum_by, ◌≤◌, take, ◌≡◌, ◌++◌, codes, decimal, ◌<◌, All, length, slice_get, Option, None, Some, ◌⊎◌, replicate, ◌==◌, ◌&&◌, Bool, true, nat_le, IsSomeAnd}
+use Rattle.std.specs.Prelude.{ℕ, zero, suc, ◌-◌, List, [], ◌∷◌, min, sum_by, ◌≤◌, take, ◌≡◌, ◌++◌, codes, decimal, ◌<◌, All, length, slice_get, Option, None, Some, ◌⊎◌, ◌==◌, ◌&&◌, Bool, true, nat_le, IsSomeAnd}
 use Rattle.cartridge_spec.specs.Appending.{bytes_in}
 use Rattle.cartridge_spec.specs.Mounting.{settled, CanBeRead}
-use Rattle.cartridge_spec.specs.Says.{cells_of, unreadable_count, Saying, Says, Data, LostSectors, Mismatch}
+use Rattle.cartridge_spec.specs.Says.{cells_of, unreadable_count, Says, Data, LostSectors, Mismatch}
 use Rattle.cartridge_spec.specs.Settling.{settling_steps}
 use Rattle.cartridge_spec.specs.Shape.{mask_at, capacity}
 use Rattle.cartridge_spec.specs.Table.{Entry}
@@ -75,21 +75,6 @@ Restores c words [] acts ending = (acts ≡ []) × (ending ≡ Restored)
 Restores c words (piece ∷ needed) [] ending = PieceEnds c words piece ending
 Restores c words (piece ∷ needed) (act ∷ acts) ending = IsRead c words piece act × Restores c words needed acts ending
 
--- ---- asked for piece by piece
-
--- a piece's bytes, by what its segment says: the first bytes of its data, or zero bytes in their place where it says none
-abbrev pub bytes_said : Piece → Saying → List ℕ
-bytes_said piece (Data sectors) = take piece.count (bytes_in sectors)
-bytes_said piece (LostSectors lost) = replicate piece.count 0
-bytes_said piece Mismatch = replicate piece.count 0
-
--- the bytes of all pieces, one after the other
-abbrev pub GivenBytes : Cartridge → (words : List ℕ) → List Piece → (bytes : List ℕ) → Type 0
-GivenBytes c words [] bytes = bytes ≡ []
-GivenBytes c words (piece ∷ needed) bytes =
-    (saying : Saying) × (rest : List ℕ) × Says (piece_cells c words piece) saying × GivenBytes c words needed rest
-    × (bytes ≡ bytes_said piece saying ++ rest)
-
 -- ---- the framed form
 
 -- each act of these pieces with the line `part K` before its text, where K is the count of its piece
@@ -143,7 +128,7 @@ Gives number c header words table entries outcome =
 abbrev pub RestoreOutcome : (number : ℕ) → Option Cartridge → CommandOutcome → Type 0
 RestoreOutcome number held outcome = OpenOutcome (Gives number) held outcome
 
--- ---- The command `restore`: what it needs, what it prints and which volumes there are not (this project's own).
+-- ---- the command
 
 -- a cartridge stands for a plain one that has this volume of the number, counted from 1, and its volume table can be read
 pub record HasNumber (c : Cartridge) (plain : Plain) (number : ℕ) (volume : Volume) : Type 0 where

@@ -204,7 +204,7 @@ pub record Scripting (input : List ℕ) (c : Cartridge) (header : Header) (words
 abbrev pub ScriptOutcome : Option Cartridge → (input : List ℕ) → CommandOutcome → Type 0
 ScriptOutcome held input outcome = OpenOutcome (Scripting input) held outcome
 
--- ---- The command `script` (this project's own).
+-- ---- the command
 
 -- the replies to the lines before a fault of the input, or before a volume table that doesn't show the list
 abbrev pub script_refused : Status → List ℕ → Type 0

@@ -164,11 +164,8 @@ pub record ScrubsBy (Scrubbed : Cartridge → List ℕ → List Entry → List A
 abbrev pub MendsBy : (Cartridge → List ℕ → List Entry → List Act → Type 0) → Going
 MendsBy Scrubbed c header words table entries outcome = ScrubsBy Scrubbed c words table entries outcome
 
--- ---- The two forms of a scrub over one kind of finding: `scrub` mends sectors that can't be read, and `scrub deep` also one of
--- a segment that can be read and holds wrong bytes (QIC-80-MC: two code blocks differ in at least four sectors; the rest is
--- this project's profile).
-
--- ---- one segment
+-- ---- one segment in either form: `scrub deep` also mends a sector that can be read and holds wrong bytes (QIC-80-MC: two
+-- code blocks differ in at least four sectors)
 
 -- where a wrong sector is looked for: in no segment, or in each but the table's
 abbrev pub IsSearched : Depth → Looked → Type 0
@@ -269,7 +266,7 @@ pub record IsTextFor (depth : Depth) (looked : List Looked) (counts : Counts) (t
   pub segments : counts.segments ≡ length looked
   pub unreadable : counts.unreadable ≡ unread_count looked (sayings_of findings)
 
--- ---- The commands `scrub` and `scrub deep` (this project's own).
+-- ---- the commands
 
 abbrev pub scrub_command : Command
 scrub_command =

@@ -1,5 +1,5 @@
--- What a cartridge is mounted with when a run is over that adds volumes, whether it stands for a plain cartridge or not (this
--- project's own).
+-- Runs that add volumes: what a cartridge is mounted with when one is over, and what one of several items leaves of the
+-- plain cartridge (this project's own).
 use Rattle.std.specs.Prelude.{◌≡◌, ℕ, List, IsSomeAnd, [], ◌∷◌, ◌++◌, Option, ◌≢◌, ◌⊎◌, ◌≤◌, length, false, Some, ◌<◌, All, take}
 use Rattle.cartridge_spec.specs.Header.{Header}
 use Rattle.cartridge_spec.specs.Mounting.{Lists, settled, IsTableLive}
@@ -64,9 +64,6 @@ pub record ListsAppends {T K : Type 0} (t : tapes.Meaning T) (k : sinks.Meaning 
       (input : List ℕ) × IsInput told input
       × ((outcome : CommandOutcome) (does : ScriptDoes (settled table c) map_words entries input outcome) →
       ListsLines t k new before behind answer header map_words entries does.items does.dids)
-
--- ---- What runs of several items leave of the plain cartridge that a cartridge stands for: generated runs, and scripts (this project's
--- own).
 
 -- ---- a generated run
 

@@ -1,6 +1,6 @@
--- A cartridge: its sectors, each blank, a defect, lost, or with bytes; a set of sectors as a word (this project's own).
-use Rattle.std.specs.Prelude.{ℕ, zero, suc, ◌/◌, ◌%◌, ◌^◌, List, [], ◌∷◌, ◌++◌, ◌==◌, if◌then◌else◌}
-use Rattle.std.specs.Prelude.{◌≡◌, ℕ, ◌+◌, ◌*◌, ◌<◌, ◌≤◌, List, length, replicate, All, false, slice_get, slice_set, unwrap_or}
+-- A cartridge: its marks, the version of what keeps it, and the view of each of its sectors (this project's profile of a
+-- QIC-80 minicartridge); a set of sectors as a word.
+use Rattle.std.specs.Prelude.{ℕ, zero, suc, ◌/◌, ◌%◌, ◌^◌, List, [], ◌∷◌, ◌++◌, ◌==◌, if◌then◌else◌, ◌≡◌, ◌+◌, ◌*◌, ◌<◌, ◌≤◌, length, replicate, All, false, slice_get, slice_set, unwrap_or}
 use Rattle.qic_base.specs.declared.tape.SectorView.{SectorView}
 use Rattle.qic_base.specs.declared.tape.SectorView.TheVariants.{Blank}
 use Rattle.qic_base.specs.declared.tape.TapeInfo.{TapeInfo}
@@ -11,9 +11,6 @@ unfoldable pub lost_places : ℕ → ℕ → List ℕ
 lost_places mask zero = []
 lost_places mask (suc place) =
     lost_places mask place ++ (if mask / 2 ^ place % 2 == 1 then place ∷ [] else [])
-
--- ---- A cartridge: its marks, the version of what keeps it, and the view of each of its sectors (this project's profile of a
--- QIC-80 minicartridge).
 
 -- Its length and marks, the version of the layout in which it is kept, and the views of its sectors, 32 to a segment,
 -- segment after segment.

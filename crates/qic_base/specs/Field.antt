@@ -1,7 +1,5 @@
 -- Fields of the medium: little-endian numbers, names, date words (this project's profile).
-use Rattle.std.specs.Prelude.{ℕ, zero, suc, ◌+◌, ◌*◌, ◌/◌, ◌%◌, List, [], ◌∷◌, ◌++◌, length, take, drop, slice_range}
-use Rattle.std.specs.Prelude.{◌≢◌, ℕ, ◌-◌, ◌≤◌, List, ◌++◌, length, replicate, All, slice_get, Some}
-use Rattle.std.specs.Prelude.{ℕ, ◌+◌, ◌-◌, ◌*◌, ◌%◌, ◌^◌, ◌≤◌}
+use Rattle.std.specs.Prelude.{ℕ, zero, suc, ◌+◌, ◌*◌, ◌/◌, ◌%◌, List, [], ◌∷◌, ◌++◌, length, take, drop, slice_range, ◌≢◌, ◌-◌, ◌≤◌, replicate, All, slice_get, Some, ◌^◌}
 
 -- the number that the bytes spell, the low byte first
 abbrev pub little_endian : List ℕ → ℕ
@@ -21,8 +19,7 @@ little_endian_bytes (suc width) value = value % 256 ∷ little_endian_bytes widt
 unfoldable pub overwritten : List ℕ → ℕ → List ℕ → List ℕ
 overwritten bytes at part = take at bytes ++ part ++ drop (at + length part) bytes
 
--- ---- The text of a name: which texts make one, and the 44 bytes that it fills (the filling by the Linux ftape headers,
--- the rest this project's profile).
+-- ---- a name, and the 44 bytes that it fills (the filling by the Linux ftape headers)
 
 -- 1 to 44 bytes that a line can show, a space to a tilde, with no space at either end
 pub record IsNameText (text : List ℕ) : Type 0 where
@@ -36,7 +33,7 @@ pub record IsNameText (text : List ℕ) : Type 0 where
 unfoldable pub filled : List ℕ → List ℕ
 filled text = text ++ replicate (44 - length text) 0x20
 
--- ---- The date word: its high 7 bits are the year less 1970, its low 25 bits are
+-- ---- the date word: its high 7 bits are the year less 1970, its low 25 bits are
 -- second + 60 * (minute + 60 * (hour + 24 * (day + 31 * month))), day and month counted from 0 (Linux ftape headers).
 
 -- what a word holds below the year

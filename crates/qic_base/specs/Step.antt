@@ -62,7 +62,7 @@ abbrev pub effects : List Step → Option Cartridge → Option Cartridge
 effects [] held = held
 effects (s ∷ ss) held = effects ss (effect s held)
 
--- ---- What a stop leaves: inside a call of a tape, and inside a list of them (this project's profile).
+-- ---- what a stop leaves: inside a call of a tape, and inside a list of them
 
 -- a sector of a segment whose formatting has begun: as it was, or lost where it was formatted and is no defect
 abbrev pub ClosingView : SectorView → SectorView → Type 0

@@ -1,4 +1,5 @@
--- Why a call of the outside may fail: each object of the outside counts its own faults.
+-- A tape: the cartridge that it holds, its size as told, how often it failed, and what a stop may have left; and what a
+-- call did to it (this project's profile). Each object of the outside counts its own faults.
 use Rattle.std.specs.Prelude.{ℕ, ◌+◌, ◌-◌, ◌^◌, ◌≤◌, min, ◌≡◌, ◌⊎◌, Bool, true, false, List, Option, Some, is_some}
 use Rattle.std.specs.Option.{option_map}
 use Rattle.qic_base.specs.declared.tape.SectorView.{SectorView}
@@ -10,9 +11,6 @@ use Rattle.qic_base.specs.Step.{Step, effects, Torn}
 -- greatest (this project's profile).
 abbrev pub Rose : ℕ → ℕ → Type 0
 Rose before now = min (before + 1) (2 ^ 64 - 1) ≤ now
-
--- ---- A tape: the cartridge that it holds, its size as told, how often it failed, and what a stop may have left; and what
--- a call did to it (this project's profile).
 
 -- All that a tape means to the code above it.
 pub record Meaning (S : Type 0) : Type 1 where

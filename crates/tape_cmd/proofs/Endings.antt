@@ -6,10 +6,10 @@ use Rattle.command_laws.proofs.CommandTable.{plain_is_function}
 use Rattle.command_spec.specs.Commands.{traits_of}
 use Rattle.command_spec.specs.Single.{DefectOutcome, LoseOutcome}
 use Rattle.command_spec.specs.Lines.{protected_line, lost_line, defect_line, upgraded_line}
-use Rattle.command_laws.specs.CommandTerms.{Yields, CommandPrints}
+use Rattle.command_laws.specs.CommandTerms.{Yields, CommandPrints, EndsBlind}
 use Rattle.command_spec.specs.Outcome.{CommandOutcome, refused, refused_behind, acted, carried_out}
 use Rattle.command_laws.specs.Terms.{ProtectOutcome, UpgradeOutcome}
-use Rattle.command_spec.specs.Machine.{InputLeft, IsOfBytes, may_come_from, IsCutOff, EndsBlind}
+use Rattle.command_spec.specs.Machine.{InputLeft, IsOfBytes, may_come_from, IsCutOff}
 use Rattle.command_spec.specs.declared.status.Status.{Status}
 use Rattle.command_spec.specs.declared.words.Words.{Words}
 use Rattle.qic_base.proofs.Joins.{broke_first}

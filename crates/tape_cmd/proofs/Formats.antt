@@ -28,7 +28,7 @@ use Rattle.tape_cmd.specs.Format.{format_status}
 use Rattle.tape_cmd.specs.Opening.{StartFails}
 use Rattle.store_opening.specs.Opening.{HasStarted}
 use Rattle.tape_cmd.specs.Writing.{printed_status}
-use Rattle.command_spec.specs.Machine.{EndsBlind}
+use Rattle.command_laws.specs.CommandTerms.{EndsBlind}
 use Rattle.tape_cmd.proofs.Endings.{IsBlind, printed, turned_down, turned_behind, cut_off, cut_off_first}
 use Rattle.command_laws.proofs.CommandEndings.{Rules}
 use Rattle.store_opening.proofs.Started.{Present, Knows, known_before, told_known, told_known_beside, told_at_start}

@@ -12,7 +12,7 @@ use Rattle.drive_states.specs.Unit.{UnitView}
 use Rattle.cartridge_laws.proofs.MountOnce.{mounts_is_function}
 use Rattle.command_spec.specs.Make.{made_length, MakeStep, AppendMade, WearSector, ScrubAll, SumVolume, after_item, making, Answer, made_answer, MayDo, MayRun, Making, make_status}
 use Rattle.command_spec.specs.Append.{has_promised_room, room_in}
-use Rattle.command_laws.specs.CommandTerms.{kept_in, Makes, RefusedPrints}
+use Rattle.command_laws.specs.CommandTerms.{kept_in, Makes, RefusedPrints, EndsBlind}
 use Rattle.volume_store.specs.Mounting.{StoreView}
 use Rattle.command_laws.proofs.StoreTaking.{both_true}
 use Rattle.made_volumes.specs.declared.fault.MakeFault.{MakeFault}
@@ -23,7 +23,7 @@ use Rattle.command_spec.specs.Outcome.{Going, Opened, OpenOutcome, WritableOutco
 use Rattle.tape_cmd.specs.Opening.{IsUnlocked, WritableEnds, is_opening}
 use Rattle.store_opening.specs.Opening.{IsOpened, HasOpened}
 use Rattle.tape_cmd.specs.Outcome.{first_steps}
-use Rattle.command_spec.specs.Machine.{EndsBlind, IsCutOff, fault_of, may_come_from}
+use Rattle.command_spec.specs.Machine.{IsCutOff, fault_of, may_come_from}
 use Rattle.command_laws.specs.Terms.{Prints}
 use Rattle.tape_cmd.proofs.Endings.{IsBlind, none_taken, turned_down, cut_off, told_map}
 use Rattle.tape_cmd.proofs.Mounted.{Settles, no_outcome, told_both, locked_is, unlocked_refused_is, writable_begins}

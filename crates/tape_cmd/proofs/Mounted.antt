@@ -29,9 +29,9 @@ use Rattle.command_laws.specs.Terms.{Printing, telling, listing}
 use Rattle.tape_cmd.specs.Opening.{IsRefusal, RefusesOpening, store_status, open_status, is_opening, StartFails, OpeningRefused, OpeningEnds, IsUnlocked, WritableEnds}
 use Rattle.store_opening.specs.Opening.{IsOpened, HasOpened, IsTurnedDown, OpenFails, StartFails as FailsToStart}
 use Rattle.store_opening.specs.declared.opening.OpenFault.{OpenFault}
-use Rattle.command_laws.specs.CommandTerms.{CommandPrints}
+use Rattle.command_laws.specs.CommandTerms.{CommandPrints, EndsBlind}
 use Rattle.tape_cmd.specs.Writing.{printed_status}
-use Rattle.command_spec.specs.Machine.{EndsBlind, may_come_from}
+use Rattle.command_spec.specs.Machine.{may_come_from}
 use Rattle.tape_cmd.proofs.Endings.{IsBlind, printed, turned_down, cut_off, told_map}
 use Rattle.command_laws.proofs.CommandEndings.{Rules}
 use Rattle.store_opening.proofs.Started.{Present, Knows, told_known_beside, told_at_start}

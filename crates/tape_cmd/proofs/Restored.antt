@@ -4,7 +4,7 @@ use Rattle.std.specs.Prelude.{◌==◌, ◌&&◌, nat_lt, nat_le, zero, suc}
 use Rattle.std.proofs.lemmas.Bool.{lt-ltb, le-leb, eq-eqb}
 use Rattle.std.proofs.lemmas.Option.{slice_get_cases, none-some}
 use Rattle.command_laws.proofs.StoreTaking.{both_true}
-use Rattle.command_laws.specs.CommandTerms.{EndsAt, RefusedPrints}
+use Rattle.command_laws.specs.CommandTerms.{EndsAt, RefusedPrints, EndsBlind}
 use Rattle.command_spec.specs.Restore.{Piece, GivingEnd, Restored, LostIn, MismatchIn, Restores, pieces, volume_at, Gives, RestoreOutcome, ending_status}
 use Rattle.qic_base.specs.Cartridge.{Cartridge}
 use Rattle.qic_base.specs.Step.{Step as TapeStep}
@@ -24,7 +24,7 @@ use Rattle.command_spec.specs.Outcome.{Opened, CommandOutcome, refused_behind}
 use Rattle.tape_cmd.specs.Opening.{OpeningEnds, is_opening, store_status}
 use Rattle.store_opening.specs.Opening.{IsOpened, HasOpened}
 use Rattle.tape_cmd.specs.Outcome.{first_steps}
-use Rattle.command_spec.specs.Machine.{EndsBlind, IsCutOff, fault_of, may_come_from}
+use Rattle.command_spec.specs.Machine.{IsCutOff, fault_of, may_come_from}
 use Rattle.command_laws.specs.Terms.{is_no_volume}
 use Rattle.tape_cmd.proofs.Endings.{none_taken, turned_behind, told_map}
 use Rattle.tape_cmd.proofs.Mounted.{Follows, Settles, opened_is, refuses}

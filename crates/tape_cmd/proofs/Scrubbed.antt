@@ -12,7 +12,7 @@ use Rattle.drive_spec.specs.Terms.{is_protected}
 use Rattle.drive_states.specs.Unit.{UnitView}
 use Rattle.cartridge_laws.proofs.MountOnce.{mounts_is_function}
 use Rattle.command_spec.specs.Commands.{traits_of}
-use Rattle.command_laws.specs.CommandTerms.{Yields, CommandPrints, FrontPrints}
+use Rattle.command_laws.specs.CommandTerms.{Yields, CommandPrints, FrontPrints, EndsBlind}
 use Rattle.command_spec.specs.Scrub.{Counts, IsScrubText, Scrubs, looked_at, IsTextFor, ScrubsAs}
 use Rattle.command_laws.specs.Terms.{counts_of, counts_for, MendsDeep, Mends}
 use Rattle.command_spec.specs.declared.depth.Depth.TheVariants.{Deep}
@@ -29,7 +29,7 @@ use Rattle.command_spec.specs.Outcome.{CommandOutcome, Going, Opened, WritableOu
 use Rattle.tape_cmd.specs.Opening.{IsUnlocked, WritableEnds, is_opening, store_status}
 use Rattle.store_opening.specs.Opening.{IsOpened, HasOpened}
 use Rattle.tape_cmd.specs.Outcome.{first_steps}
-use Rattle.command_spec.specs.Machine.{EndsBlind, IsCutOff, fault_of, may_come_from}
+use Rattle.command_spec.specs.Machine.{IsCutOff, fault_of, may_come_from}
 use Rattle.tape_cmd.proofs.Endings.{IsBlind, turned_behind, turned_down, cut_off, told_map}
 use Rattle.tape_cmd.proofs.Mounted.{Settles, no_outcome, told_both, locked_is, unlocked_refused_is, writable_begins}
 use Rattle.store_opening.proofs.Opened.{IsKnown, went_behind, cut_behind, settled_told, opened_known, known_before, found_locked, never_both, unlocked}

@@ -1,7 +1,8 @@
 //! The top calls, and the way to each command.
 
 ghost use Rattle.std.specs.Prelude.{◌≡◌, ◌≢◌, ◌⊎◌, ℕ, List, IfOk, OnErr, true, false, map, string_bytes};
-ghost use Rattle.command_spec.specs.Machine.{HasValues, Spells, ReadsCommand, CommandEnds};
+ghost use Rattle.command_spec.specs.Machine.{HasValues, Spells, CommandEnds};
+ghost use Rattle.command_laws.specs.CommandTerms.{ReadsCommand};
 ghost use Rattle.command_spec.specs.Promises.{Promises};
 ghost use Rattle.command_spec.specs.Commands.{traits_of};
 

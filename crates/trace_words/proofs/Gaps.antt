@@ -6,13 +6,12 @@ use Rattle.clap.specs.Lexer.{without_minus}
 use Rattle.clap.specs.Facts.{least_values, unwrap_or_range}
 use Rattle.clap.specs.Built.{IsParsedFrom}
 use Rattle.clap.specs.Matches.{ReadsOne, found_of, one_text}
-use Rattle.clap.specs.Values.{IsSignedIn}
+use Rattle.clap.specs.Values.{IsSignedIn, kind_of}
 use Rattle.clap.specs.Walk.{Rule, Text, one_of, rows_of}
 use Rattle.clap.specs.Simple.{HasMatchesOf, app_of, is_simple, matches_of, with_rule}
 use Rattle.clap.specs.Takes.{takes}
 use Rattle.clap.specs.Faults.{fault_of, is_simple_and_free}
 use Rattle.clap.specs.Kinds.{HasKind, IsAmong, Kinds}
-use Rattle.clap.specs.Values.{kind_of}
 use Rattle.clap.specs.declared.error.Error.{Error}
 use Rattle.clap.specs.declared.error.kind.ErrorKind.{ErrorKind}
 use Rattle.clap.specs.declared.error.kind.ErrorKind.TheVariants.{OutOfMemory}

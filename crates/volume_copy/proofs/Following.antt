@@ -24,8 +24,7 @@ use Rattle.qic_base.proofs.Steps.{Stops-nothing, Torn-all, Torn-front, Torn-noth
 use Rattle.qic_base.specs.Acts.{Act, SinkFails, TapeFails, next_steps, steps_of, text_of}
 use Rattle.qic_base.specs.Terms.{around, no_source, IsCartridge}
 use Rattle.qic_base.specs.Cartridge.{Cartridge}
-use Rattle.qic_base.specs.Step.{Step as TapeStep, effects}
-use Rattle.qic_base.specs.Step.{Torn}
+use Rattle.qic_base.specs.Step.{Step as TapeStep, effects, Torn}
 use Rattle.volume_copy.proofs.Ends.{AtStart}
 use Rattle.volume_copy.proofs.Text.{text_begins}
 use Rattle.volume_copy.specs.Printing.{PrintsMissing}

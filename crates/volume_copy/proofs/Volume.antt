@@ -21,8 +21,8 @@ use Rattle.command_laws.proofs.MountedSaying.{restores_anyway}
 use Rattle.command_laws.proofs.ScriptActs.{full_acts}
 use Rattle.command_spec.specs.Append.{Fits, Kept, Taking, TooLong, TooShort, append_acts, entry_acts, has_promised_room, input_writes, room_in, taking}
 use Rattle.command_laws.specs.CommandTerms.{entry_for, kept_in, silently}
-use Rattle.command_spec.specs.Copying.{CopiesVolume, Side, behind_copy, copied_behind, copied_entry, copied_line, copy_acts, giving_status, has_room_for, kept_on}
-use Rattle.command_spec.specs.Restore.{GivenBytes, GivingEnd, LostIn, MismatchIn, Restored, Restores, pieces}
+use Rattle.command_spec.specs.Copying.{CopiesVolume, Side, behind_copy, copied_behind, copied_entry, copied_line, copy_acts, giving_status, has_room_for, kept_on, GivenBytes}
+use Rattle.command_spec.specs.Restore.{GivingEnd, LostIn, MismatchIn, Restored, Restores, pieces}
 use Rattle.command_spec.specs.declared.copy_status.CopyStatus.{CopyStatus}
 use Rattle.qic_base.proofs.Joins.{text_of-append}
 use Rattle.qic_base.specs.Acts.{Act, Outside, SourceCut, SourceFails, TapeCut, TapeFails, steps_of, text_of}

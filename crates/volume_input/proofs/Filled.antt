@@ -6,9 +6,7 @@ use Rattle.std.proofs.lemmas.List.Elements.{All-head, All-tail}
 use Rattle.qic_base.specs.Acts.{Act}
 use Rattle.cartridge_laws.specs.Shape.{Carries}
 use Rattle.cartridge_spec.specs.Shape.{mask_at, usable_count, data_count, capacity}
-use Rattle.cartridge_spec.specs.Appending.{part_writes}
-use Rattle.cartridge_spec.specs.Appending.{in_sectors}
-use Rattle.cartridge_spec.specs.Appending.{taken_by}
+use Rattle.cartridge_spec.specs.Appending.{part_writes, in_sectors, taken_by}
 use Rattle.cartridge_laws.proofs.AppendBySegments.{sectors_take_theirs}
 use Rattle.cartridge_laws.proofs.AppendBytes.{capacity_of, capacity_cons, carried_all}
 use Rattle.command_spec.specs.Append.{segment_act, volume_acts, filled_acts}

@@ -5,7 +5,8 @@ use Rattle.std.proofs.lemmas.Option.{same_Some}
 use Rattle.cartridge_spec.specs.Appending.{bytes_in}
 use Rattle.cartridge_spec.specs.Says.{Says, Data}
 use Rattle.command_laws.proofs.RestoreGiven.{given_always, given_is_function}
-use Rattle.command_spec.specs.Restore.{Piece, GivenBytes, piece_cells}
+use Rattle.command_spec.specs.Restore.{Piece, piece_cells}
+use Rattle.command_spec.specs.Copying.{GivenBytes}
 use Rattle.qic_base.specs.Cartridge.{Cartridge}
 use Rattle.volume_source.specs.Given.{given_bytes}
 use Rattle.volume_source.specs.Source.{IsHeld, unread_in}

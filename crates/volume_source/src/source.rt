@@ -5,7 +5,7 @@ ghost use Rattle.std.specs.Option.{option_map};
 ghost use Rattle.qic_base.specs.Terms.{HasCause};
 ghost use Rattle.qic_base.specs.SourceCalls.{Gives, HasEnded};
 ghost use Rattle.qic_base.specs.TapeCalls.{Tells};
-ghost use Rattle.command_spec.specs.Restore.{GivenBytes};
+ghost use Rattle.command_spec.specs.Copying.{GivenBytes};
 ghost use Rattle.volume_store.specs.Mounting.{StoreFits};
 ghost use Rattle.volume_source.specs.Source.{IsSoundSource, KeepsVolume, count_after, first_refusal, keeps_itself, keeps_on, new_source, pieces_of_number, source_means, unread_in};
 

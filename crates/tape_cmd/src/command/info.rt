@@ -5,7 +5,7 @@ ghost use Rattle.command_spec.specs.declared.words.Words.TheVariants.{Info};
 ghost use Rattle.qic_base.specs.SinkCalls.{Writes};
 ghost use Rattle.header_segments.specs.Header.{header_of};
 ghost use Rattle.command_spec.specs.Lines.{label_lines, count_lines};
-ghost use Rattle.command_spec.specs.Machine.{EndsBlind};
+ghost use Rattle.command_laws.specs.CommandTerms.{EndsBlind};
 
 use crate::Status;
 use crate::lines::printed;
