@@ -20,6 +20,10 @@ use Rattle.command_spec.specs.declared.line.Line.{Line}
 use Rattle.command_spec.specs.declared.status.Status.{Status}
 use Rattle.qic_base.specs.Acts.{Act, text_of}
 use Rattle.qic_base.specs.Cartridge.{Cartridge, IsPlace}
+use Rattle.command_spec.specs.Machine.{CommandEnds, HasValues, Spells, SpellsNone}
+use Rattle.qic_base.specs.Terms.{around, no_source}
+use Rattle.qic_base.specs.Sink as sinks
+use Rattle.qic_base.specs.Tape as tapes
 use Rattle.command_spec.specs.declared.line.Line.TheVariants as line
 use Rattle.command_spec.specs.declared.status.Status.TheVariants as status
 
